@@ -1,0 +1,4 @@
+pub mod Counts
+pub mod Told
+pub mod Doors
+pub mod Numbers

@@ -1,0 +1,16 @@
+//! What every crate of the daemon stands on: faults, links and doors to the outside, small lists of bytes, number fields.
+#![tactic(auto)]
+
+mod door;
+mod faults;
+mod items;
+mod link;
+mod numbers;
+mod texts;
+
+pub use door::Door;
+pub use faults::{Failed, NoMemory, OpenFault, Or};
+pub use items::Items;
+pub use link::Link;
+pub use numbers::{put_u16, put_u32, put_u64, u16_at, u32_at, u64_at};
+pub use texts::{Name, Text, Word};
