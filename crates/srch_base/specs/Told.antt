@@ -1,5 +1,5 @@
 -- What a link tells: the bytes that went over it, in order, or nothing at all.
-use Rattle.std.specs.Prelude.{◌≡◌, ℕ, List, [], ◌++◌, Bool, false, ◌&&◌, ◌==◌, nat_lt, length, take, Option, Some, None, Result, Ok, Err}
+use Rattle.std.specs.Prelude.{ℕ, List, [], ◌++◌, Bool, false, ◌&&◌, ◌==◌, nat_lt, length, take, Option, Some, None, Result, Ok, Err}
 use Rattle.srch_base.specs.declared.faults.Failed.{Failed}
 
 -- what is told once these bytes have moved as well: where nothing was told, nothing is

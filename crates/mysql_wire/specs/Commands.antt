@@ -1,0 +1,27 @@
+-- "Command Phase": what a command packet's payload asks for.
+use Rattle.std.specs.Prelude.{ℕ, List, [], ◌∷◌, Option, Some, None, ◌==◌, ◌&&◌, length, if◌then◌else◌}
+use Rattle.srch_base.specs.Numbers.{number_of}
+
+-- a command
+pub data Asked : Type 0 where
+  Quit : Asked
+  InitDb : (name : List ℕ) → Asked
+  Query : (text : List ℕ) → Asked
+  Ping : Asked
+  SetOption : (option : ℕ) → Asked
+  Unknown : (code : Option ℕ) → Asked
+
+-- the command of a first byte and of what follows it: only COM_SET_OPTION has a stated length
+abbrev pub command_by : ℕ → List ℕ → Asked
+command_by code rest =
+    if code == 0x01 then Quit
+    else (if code == 0x02 then InitDb rest
+    else (if code == 0x03 then Query rest
+    else (if code == 0x0e then Ping
+    else (if (code == 0x1b) && (length rest == 2) then SetOption (number_of rest)
+    else Unknown (Some code)))))
+
+-- the command of a payload
+abbrev pub command_of : List ℕ → Asked
+command_of [] = Unknown None
+command_of (code ∷ rest) = command_by code rest
