@@ -1,6 +1,8 @@
 ghost use Rattle.std.specs.Prelude.{◌≡◌, ◌≤◌, ◌+◌, ◌==◌, length, IsErr, IsTrue, IfOk, is_err};
 ghost use Rattle.std.specs.List.{list_any};
-ghost use Rattle.srch_base.specs.Memory.{memory_over, memory_read, memory_written, one_more};
+ghost use Rattle.srch_base.specs.Counts.{HasCause};
+ghost use Rattle.srch_base.specs.Told.{then_bytes, moved_by};
+ghost use Rattle.srch_base.specs.Memory.{memory_over, memory_read, memory_written, one_more, fails_next, next_size, after_read, after_write};
 
 use std::alloc::{AllocError, Global};
 use std::marker::Model;
@@ -89,7 +91,14 @@ impl Link for MemoryLink {
 
     ghost write_faults = { λ m. m.write_faults };
 
-    fn read(&mut self, into: &mut [u8]) -> Result<usize, Failed> {
+    /// Fails exactly where this call's number is one of those. Otherwise it moves what the piece, the input and `into` allow.
+    fn read(&mut self, into: &mut [u8]) -> Result<usize, Failed>
+        ensures fails { is_err result ≡ fails_next self.old }
+        ensures size { IfOk result (λ n. n ≡ next_size self.old (length into.old)) }
+        ensures after { self.new ≡ after_read self.old (length into.old) result }
+        ensures reads { memory_read self.new ≡ then_bytes (memory_read self.old) (moved_by result into.new) }
+        ensures cause { HasCause self.old.read_faults self.new.read_faults result }
+    {
         if next_fails(&mut self.calls, self.failing.as_slice()) {
             self.read_faults = self.read_faults.saturating_add(1);
             return Err(Failed);
@@ -103,7 +112,13 @@ impl Link for MemoryLink {
         Ok(count)
     }
 
-    fn write(&mut self, piece: &[u8]) -> Result<usize, Failed> {
+    /// Fails where this call's number is one of those, or memory is refused. Otherwise it takes the whole piece.
+    fn write(&mut self, piece: &[u8]) -> Result<usize, Failed>
+        ensures fails { IsTrue (fails_next self.old) → IsErr result }
+        ensures size { IfOk result (λ n. n ≡ length piece.now) }
+        ensures after { self.new ≡ after_write self.old piece.now result }
+        ensures cause { HasCause self.old.write_faults self.new.write_faults result }
+    {
         let fails = next_fails(&mut self.calls, self.failing.as_slice());
         if fails || self.written.extend_from_slice(piece).is_err() {
             self.write_faults = self.write_faults.saturating_add(1);
