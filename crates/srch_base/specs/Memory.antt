@@ -1,5 +1,5 @@
 -- Links and doors over memory: what they hold, and what each call makes of it.
-use Rattle.std.specs.Prelude.{◌≡◌, ◌+◌, ◌-◌, ◌==◌, ◌||◌, ◌&&◌, ℕ, List, [], ◌∷◌, ◌++◌, Bool, false, Option, Some, Result, Ok, Err, length, take, filter, min, nat_lt, if◌then◌else◌}
+use Rattle.std.specs.Prelude.{◌≡◌, ◌+◌, ◌-◌, ◌==◌, ◌||◌, ◌&&◌, ℕ, List, [], ◌∷◌, ◌++◌, Bool, true, false, Option, Some, None, Result, Ok, Err, length, take, filter, min, nat_lt, if◌then◌else◌}
 use Rattle.std.specs.List.{list_any}
 use Rattle.srch_base.specs.Counts.{last_count}
 use Rattle.srch_base.specs.declared.faults.Failed.{Failed}
@@ -32,7 +32,7 @@ memory_over input cuts failing =
       written = [];
       ended = false;
       read_faults = 0;
-      write_faults = 0
+      write_faults = 0;
     }
 
 -- what such a link tells: everything
@@ -72,7 +72,7 @@ after_read m room (Ok count) =
       calls = one_more m.calls;
       at = m.at + count;
       pieces = pieces_after m.pieces count;
-      ended = m.ended || ((count == 0) && nat_lt 0 room)
+      ended = m.ended || ((count == 0) && nat_lt 0 room);
     }
 
 -- the link after a write of these bytes that failed, or took all of them
@@ -96,3 +96,9 @@ door_over lines = record { lines = lines; at = 0; returned = []; ended = false; 
 -- the lines that such a door gave
 abbrev pub lines_given : Lines → List Memory
 lines_given d = take d.at d.lines
+
+-- the door after a call of `next` that answered this
+abbrev pub after_next : Lines → Result (Option Memory) Failed → Lines
+after_next d (Ok None) = record d { ended = true }
+after_next d (Ok (Some line)) = record d { at = d.at + 1 }
+after_next d (Err e) = record d { faults = one_more d.faults }

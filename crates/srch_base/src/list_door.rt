@@ -1,10 +1,11 @@
-ghost use Rattle.std.specs.Prelude.{◌≡◌, IfOk};
-ghost use Rattle.srch_base.specs.Memory.{door_over, lines_given};
-
-use std::alloc::Global;
-use std::marker::Model;
+ghost use Rattle.std.specs.Prelude.{◌≡◌, ◌<◌, ◌==◌, [], ◌∷◌, ◌++◌, length, IfOk, IsTrue};
+ghost use Rattle.srch_base.specs.Counts.{HasCause};
+ghost use Rattle.srch_base.specs.Doors.{lines_in, says_end};
+ghost use Rattle.srch_base.specs.Memory.{door_over, lines_given, after_next};
 
 use crate::{Door, Failed, MemoryLink, NoMemory};
+use std::alloc::Global;
+use std::marker::Model;
 
 /// A door that gives the links of a list, each as it stands there. It is for tests and for trying things out.
 ///
@@ -26,11 +27,11 @@ impl Model for ListDoor {
     ghost Value = { Lines };
 
     ghost view = { λ a. record {
-        lines = a.lines.items;
-        at = a.at;
-        returned = a.returned.items;
-        ended = a.ended;
-        faults = a.faults
+      lines = a.lines.items;
+      at = a.at;
+      returned = a.returned.items;
+      ended = a.ended;
+      faults = a.faults;
     } };
 
     ghost invariant = { λ a. (a.at ≤ length a.lines.items) × (length a.lines.items ≤ vec_capacity a.returned) × OnTrue a.ended (a.at ≡ length a.lines.items) };
@@ -71,7 +72,14 @@ impl Door for ListDoor {
 
     ghost faults = { λ d. d.faults };
 
-    fn next(&mut self) -> Result<Option<MemoryLink>, Failed> {
+    /// None exactly where all lines were given.
+    fn next(&mut self) -> Result<Option<MemoryLink>, Failed>
+        ensures ends { says_end result ≡ (self.old.at == length self.old.lines) }
+        ensures after { self.new ≡ after_next self.old result }
+        ensures gives { lines_given self.new ≡ lines_given self.old ++ lines_in result }
+        ensures stays_ended { IsTrue self.old.ended → lines_in result ≡ [] }
+        ensures cause { HasCause self.old.faults self.new.faults result }
+    {
         let Some(line) = self.lines.get(self.at) else {
             self.ended = true;
             return Ok(None);
@@ -88,7 +96,10 @@ impl Door for ListDoor {
         }
     }
 
-    fn done(&mut self, line: MemoryLink) {
+    fn done(&mut self, line: MemoryLink)
+        requires { length self.old.returned < length (lines_given self.old) }
+        ensures { self.new ≡ record self.old { returned = self.old.returned ++ line ∷ [] } }
+    {
         self.returned.push_reserved(line);
     }
 }

@@ -1,14 +1,14 @@
 ghost use Rattle.std.specs.Prelude.{◌≡◌, ◌≤◌, ◌+◌, ◌==◌, length, IsErr, IsTrue, IfOk, is_err};
+ghost use Rattle.std.specs.Bool.{OnTrue};
 ghost use Rattle.std.specs.List.{list_any};
 ghost use Rattle.srch_base.specs.Counts.{HasCause};
 ghost use Rattle.srch_base.specs.Told.{then_bytes, moved_by};
 ghost use Rattle.srch_base.specs.Memory.{memory_over, memory_read, memory_written, one_more, fails_next, next_size, after_read, after_write};
 
-use std::alloc::{AllocError, Global};
-use std::marker::Model;
-
 use crate::pieces::Pieces;
 use crate::{Failed, Link};
+use std::alloc::{AllocError, Global};
+use std::marker::Model;
 
 /// A link over bytes in memory, which tells all that went over it. It is for tests and for trying things out.
 ///
@@ -37,15 +37,15 @@ impl Model for MemoryLink {
     ghost Value = { Memory };
 
     ghost view = { λ a. record {
-        input = a.input.items;
-        at = a.at;
-        pieces = a.pieces;
-        failing = a.failing.items;
-        calls = a.calls;
-        written = a.written.items;
-        ended = a.ended;
-        read_faults = a.read_faults;
-        write_faults = a.write_faults
+      input = a.input.items;
+      at = a.at;
+      pieces = a.pieces;
+      failing = a.failing.items;
+      calls = a.calls;
+      written = a.written.items;
+      ended = a.ended;
+      read_faults = a.read_faults;
+      write_faults = a.write_faults;
     } };
 
     ghost invariant = { λ a. (a.at ≤ length a.input.items) × OnTrue a.ended (a.at ≡ length a.input.items) };
@@ -96,6 +96,7 @@ impl Link for MemoryLink {
         ensures fails { is_err result ≡ fails_next self.old }
         ensures size { IfOk result (λ n. n ≡ next_size self.old (length into.old)) }
         ensures after { self.new ≡ after_read self.old (length into.old) result }
+        ensures whole { OnTrue self.new.ended (self.new.at ≡ length self.new.input) }
         ensures reads { memory_read self.new ≡ then_bytes (memory_read self.old) (moved_by result into.new) }
         ensures cause { HasCause self.old.read_faults self.new.read_faults result }
     {
