@@ -5,12 +5,17 @@ mod door;
 mod faults;
 mod items;
 mod link;
+mod list_door;
+mod memory_link;
 mod numbers;
+mod pieces;
 mod texts;
 
 pub use door::Door;
 pub use faults::{Failed, NoMemory, OpenFault, Or};
 pub use items::Items;
 pub use link::Link;
+pub use list_door::ListDoor;
+pub use memory_link::MemoryLink;
 pub use numbers::{put_u16, put_u32, put_u64, u16_at, u32_at, u64_at};
 pub use texts::{Name, Text, Word};
