@@ -4,3 +4,6 @@ pub mod Replies
 pub mod Handshake
 pub mod Commands
 pub mod Asked
+pub mod Framing
+pub mod Lending
+pub mod Fronts

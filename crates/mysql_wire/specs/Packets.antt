@@ -1,5 +1,5 @@
 -- Packets: "MySQL Packets" of the client/server protocol. A length of three bytes, the low one first, a sequence byte, the payload.
-use Rattle.std.specs.Prelude.{◌≡◌, ◌≢◌, ◌⊎◌, ℕ, ◌+◌, ◌*◌, ◌<◌, ◌≤◌, List, [], ◌∷◌, ◌++◌, length, take, Option, Some, None, IsNone}
+use Rattle.std.specs.Prelude.{◌≡◌, ◌≢◌, ◌⊎◌, ℕ, ◌+◌, ◌*◌, ◌<◌, ◌≤◌, List, ◌∷◌, ◌++◌, length, take, Option, Some, None, IsNone}
 use Rattle.std.specs.Int.{w32, to_le_bytes}
 
 -- the longest payload that is read, in bytes

@@ -2,5 +2,7 @@
 #![tactic(auto)]
 
 mod commands;
+mod framer;
 
 pub use commands::{Command, read_command};
+pub use framer::{Framer, Next, Refusal};

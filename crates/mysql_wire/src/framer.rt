@@ -1,0 +1,177 @@
+ghost use Rattle.std.specs.Prelude.{◌≡◌, ◌+◌, ◌≤◌, ◌<◌, ◌++◌, ◌↔◌, [], None, length, drop, vec_len, IsTrue, IfOk, OnOk, OnErr};
+ghost use Rattle.mysql_wire.specs.Framing.{refusal_answer};
+ghost use Rattle.mysql_wire.specs.Fronts.{IsFront};
+
+use srch_base::NoMemory;
+use std::alloc::Global;
+use std::marker::Model;
+
+/// The longest payload that is read, in bytes.
+const MAX_PAYLOAD: u32 = 8_388_608;
+
+/// What a framer answers.
+#[derive(Clone, Copy, Debug, PartialEq, Eq)]
+pub enum Next<'a> {
+    /// The bytes held are less than a whole packet.
+    NeedMore,
+    /// The next packet, which the framer holds no longer.
+    Packet { seq: u8, payload: &'a [u8] },
+    /// A header says a longer payload than is read.
+    TooLarge { length: u32, seq: u8 },
+    /// A packet has another sequence number than the one expected.
+    OutOfOrder { seq: u8 },
+}
+
+/// Why a stream of packets is read no further.
+#[derive(Clone, Copy, Debug, PartialEq, Eq)]
+pub enum Refusal {
+    TooLarge { length: u32, seq: u8 },
+    OutOfOrder { seq: u8 },
+}
+
+/// Cuts a stream of bytes, which comes in any pieces, into its packets ("MySQL Packets" of the protocol).
+///
+/// A contract sees the bytes held, and why nothing is read any more. Over its life a framer moves each byte a constant
+/// number of times, however many packets a piece holds, and a packet takes no memory.
+#[derive(Debug, Drop)]
+pub struct Framer {
+    /// The packets that were taken, up to `start`, and then the bytes held.
+    bytes: Vec<u8>,
+    start: usize,
+    refused: Option<Refusal>,
+}
+
+impl Model for Framer {
+    ghost use Rattle.std.specs.Prelude.{◌≤◌, length, drop};
+    ghost use Rattle.mysql_wire.specs.Framing.{Stream};
+
+    ghost Value = { Stream };
+
+    ghost view = { λ f. record { held = drop f.start f.bytes.items; refused = f.refused } };
+
+    ghost invariant = { λ f. f.start ≤ length f.bytes.items };
+}
+
+impl Framer {
+    ghost use Rattle.std.specs.Borrow.{sem};
+    ghost use Rattle.mysql_wire.specs.Framing.{Answers, Waits};
+    ghost use Rattle.mysql_wire.specs.Lending.{LeavesFramer};
+
+    /// A framer at the beginning of a stream.
+    pub fn new(alloc: Global) -> Result<Framer, NoMemory>
+        ensures { IfOk result (λ f. f ≡ record { held = []; refused = None }) }
+    {
+        Ok(Framer {
+            bytes: Vec::new(alloc),
+            start: 0,
+            refused: None,
+        })
+    }
+
+    /// How many bytes are held.
+    pub fn held(&self) -> usize
+        ensures { result ≡ length self.now.held }
+    {
+        self.bytes.len() - self.start
+    }
+
+    /// Takes the next bytes of the stream.
+    pub fn feed(&mut self, piece: &[u8]) -> Result<(), NoMemory>
+        requires { length self.old.held + length piece.now ≤ 16777216 }
+        ensures ok { OnOk result (self.new ≡ record self.old { held = self.old.held ++ piece.now }) }
+        ensures err { OnErr result (self.new ≡ self.old) }
+    {
+        if self.bytes.len() <= 2 * self.start {
+            drop_front(&mut self.bytes, self.start);
+            self.start = 0;
+        }
+        self.bytes.extend_from_slice(piece)?;
+        Ok(())
+    }
+
+    /// Whether `next` would answer `NeedMore`. Then a piece of up to 8,388,605 bytes may be fed.
+    pub fn needs_more(&self, expect: u8) -> bool
+        ensures waits { IsTrue result ↔ Waits expect self.now }
+        ensures few { IsTrue result → length self.now.held < 8388612 }
+    {
+        if self.refused.is_some() {
+            return false;
+        }
+        matches!(read_front(expect, &self.bytes[self.start..]), Front::Part)
+    }
+
+    /// The next packet, where it is whole, has the sequence number expected, and is within the limit.
+    ///
+    /// A refusal comes as soon as the four bytes of a header are there, and is answered for ever after.
+    pub fn next(&mut self, expect: u8) -> Next<'_>
+        ensures* leaves { sem 𝓛 (LeavesFramer self.entry expect result) }
+        ensures answers { Answers expect self.old result }
+    {
+        if let Some(refusal) = self.refused {
+            return refuse(refusal);
+        }
+        match read_front(expect, &self.bytes[self.start..]) {
+            Front::Part => Next::NeedMore,
+            Front::Whole(size) => {
+                let from = self.start + 4;
+                let to = from + size;
+                self.start = to;
+                Next::Packet {
+                    seq: expect,
+                    payload: &self.bytes[from..to],
+                }
+            }
+            Front::Refused(refusal) => {
+                self.refused = Some(refusal);
+                refuse(refusal)
+            }
+        }
+    }
+}
+
+/// What bytes begin with.
+#[derive(Clone, Copy)]
+enum Front {
+    Part,
+    /// A packet with a payload of this many bytes.
+    Whole(usize),
+    Refused(Refusal),
+}
+
+fn read_front(expect: u8, held: &[u8]) -> Front
+    ensures { IsFront expect held.now result }
+{
+    let [a, b, c, seq, payload @ ..] = held else {
+        return Front::Part;
+    };
+    let length = u32::from_le_bytes([*a, *b, *c, 0]);
+    if length > MAX_PAYLOAD {
+        return Front::Refused(Refusal::TooLarge { length, seq: *seq });
+    }
+    if *seq != expect {
+        return Front::Refused(Refusal::OutOfOrder { seq: *seq });
+    }
+    if payload.len() < length as usize {
+        return Front::Part;
+    }
+    Front::Whole(length as usize)
+}
+
+fn refuse(refusal: Refusal) -> Next<'static>
+    ensures { result ≡ refusal_answer refusal }
+{
+    match refusal {
+        Refusal::TooLarge { length, seq } => Next::TooLarge { length, seq },
+        Refusal::OutOfOrder { seq } => Next::OutOfOrder { seq },
+    }
+}
+
+/// Takes bytes off the front. The cost is that of moving the others.
+fn drop_front(bytes: &mut Vec<u8>, count: usize)
+    requires { count ≤ vec_len bytes.old }
+    ensures { bytes.new.items ≡ drop count bytes.old.items }
+{
+    let rest = bytes.len() - count;
+    bytes.copy_within(count.., 0);
+    bytes.truncate(rest);
+}
