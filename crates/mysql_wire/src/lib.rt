@@ -2,5 +2,16 @@
 #![tactic(auto)]
 
 mod commands;
+mod lengths;
+mod packets;
+mod rows;
+mod small;
 
 pub use commands::{Command, read_command};
+pub use lengths::put_lenenc;
+pub use packets::put_packet;
+pub use rows::{Cell, Column, ColumnKind, put_column, put_row};
+pub use small::{Small, eof_packet, err_packet, greeting, ok_packet};
+
+#[cfg(test)]
+mod reply_tests;
