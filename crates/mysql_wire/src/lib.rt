@@ -3,6 +3,17 @@
 
 mod commands;
 mod framer;
+mod lengths;
+mod packets;
+mod rows;
+mod small;
 
 pub use commands::{Command, read_command};
 pub use framer::{Framer, Next, Refusal};
+pub use lengths::put_lenenc;
+pub use packets::put_packet;
+pub use rows::{Cell, Column, ColumnKind, put_column, put_row};
+pub use small::{Small, eof_packet, err_packet, greeting, ok_packet};
+
+#[cfg(test)]
+mod reply_tests;
