@@ -1,2 +1,4 @@
-pub mod PacketLemmas
 mod Appends
+pub mod PacketLemmas
+mod HandshakeLemmas
+mod HandshakeLaws

@@ -8,3 +8,6 @@ pub mod Asked
 pub mod Framing
 pub mod Lending
 pub mod Fronts
+pub mod Numbers
+pub mod HandshakeReading
+pub mod Answered

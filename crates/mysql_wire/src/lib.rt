@@ -3,6 +3,7 @@
 
 mod commands;
 mod framer;
+mod handshake;
 mod lengths;
 mod packets;
 mod rows;
@@ -10,6 +11,7 @@ mod small;
 
 pub use commands::{Command, read_command};
 pub use framer::{Framer, Next, Refusal};
+pub use handshake::{BadHandshake, Response41, read_response41};
 pub use lengths::put_lenenc;
 pub use packets::put_packet;
 pub use rows::{Cell, Column, ColumnKind, put_column, put_row};
