@@ -1,0 +1,120 @@
+ghost use Rattle.std.specs.Prelude.{◌≡◌};
+ghost use Rattle.name_table.specs.Order.{IsInOrder};
+
+use crate::{NameTable, value_at, words_of};
+
+macro_rules! keywords {
+    ($form:ident $(, $argument:expr)*) => {
+        $form!($($argument,)* {
+            "and" => "AND",
+            "as" => "AS",
+            "asc" => "ASC",
+            "avg" => "AVG",
+            "begin" => "BEGIN",
+            "between" => "BETWEEN",
+            "by" => "BY",
+            "columns" => "COLUMNS",
+            "commit" => "COMMIT",
+            "count" => "COUNT",
+            "current" => "CURRENT",
+            "database" => "DATABASE",
+            "databases" => "DATABASES",
+            "delete" => "DELETE",
+            "desc" => "DESC",
+            "describe" => "DESCRIBE",
+            "distinct" => "DISTINCT",
+            "div" => "DIV",
+            "drop" => "DROP",
+            "facet" => "FACET",
+            "false" => "FALSE",
+            "flush" => "FLUSH",
+            "from" => "FROM",
+            "function" => "FUNCTION",
+            "global" => "GLOBAL",
+            "group" => "GROUP",
+            "groupby" => "GROUPBY",
+            "having" => "HAVING",
+            "id" => "ID",
+            "in" => "IN",
+            "index" => "INDEX",
+            "insert" => "INSERT",
+            "into" => "INTO",
+            "is" => "IS",
+            "isolation" => "ISOLATION",
+            "join" => "JOIN",
+            "key" => "KEY",
+            "killed" => "KILLED",
+            "like" => "LIKE",
+            "limit" => "LIMIT",
+            "local" => "LOCAL",
+            "match" => "MATCH",
+            "max" => "MAX",
+            "meta" => "META",
+            "min" => "MIN",
+            "mod" => "MOD",
+            "names" => "NAMES",
+            "not" => "NOT",
+            "null" => "NULL",
+            "offset" => "OFFSET",
+            "on" => "ON",
+            "optimize" => "OPTIMIZE",
+            "option" => "OPTION",
+            "or" => "OR",
+            "order" => "ORDER",
+            "plugin" => "PLUGIN",
+            "plugins" => "PLUGINS",
+            "queries" => "QUERIES",
+            "query" => "QUERY",
+            "quick" => "QUICK",
+        })
+    };
+}
+
+/// A table of 60 words: its order is proved by this one contract.
+fn keyword_table() -> NameTable<60>
+    ensures { IsInOrder result }
+{
+    NameTable::ordered(keywords!(words_of))
+}
+
+fn keyword_at(place: u16) -> Option<&'static str> {
+    Some(keywords!(value_at, place, return None))
+}
+
+#[test]
+fn finds_words_in_either_case(rt: HostRuntime) {
+    let cases: [(&str, Option<u16>); 12] = [
+        ("and", Some(0)),
+        ("AND", Some(0)),
+        ("BeTween", Some(5)),
+        ("FACET", Some(19)),
+        ("match", Some(41)),
+        ("Quick", Some(59)),
+        ("", None),
+        ("an", None),
+        ("andy", None),
+        ("AND ", None),
+        ("Z", None),
+        ("Änd", None),
+    ];
+    for (word, place) in cases {
+        assert!(rt; keyword_table().find(word.as_bytes()) == place);
+    }
+}
+
+#[test]
+fn gives_the_value_at_a_place(rt: HostRuntime) {
+    assert!(rt; keyword_at(0) == Some("AND"));
+    assert!(rt; keyword_at(19) == Some("FACET"));
+    assert!(rt; keyword_at(59) == Some("QUICK"));
+    assert!(rt; keyword_at(60).is_none());
+}
+
+#[test]
+fn checks_the_order(rt: HostRuntime) {
+    assert!(rt; NameTable::<0>::new(&[]).check());
+    assert!(rt; NameTable::<3>::new(&["a", "aa", "b"]).check());
+    assert!(rt; !NameTable::<3>::new(&["aa", "a", "b"]).check());
+    assert!(rt; !NameTable::<2>::new(&["a", "a"]).check());
+    assert!(rt; !NameTable::<2>::new(&["a", "B"]).check());
+}
