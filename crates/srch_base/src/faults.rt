@@ -27,18 +27,33 @@ pub enum Or<F> {
 }
 
 impl fmt::Display for Failed {
+    ghost use Rattle.std.specs.Prelude.{Some};
+    ghost use Rattle.srch_base.specs.Faults.{failed_text};
+
+    ghost output = { λ _. Some failed_text };
+
     fn fmt<W: fmt::Write>(&self, f: &mut fmt::Formatter<W>) -> fmt::Result {
         f.write_str("a device failed")
     }
 }
 
 impl fmt::Display for NoMemory {
+    ghost use Rattle.std.specs.Prelude.{Some};
+    ghost use Rattle.srch_base.specs.Faults.{no_memory_text};
+
+    ghost output = { λ _. Some no_memory_text };
+
     fn fmt<W: fmt::Write>(&self, f: &mut fmt::Formatter<W>) -> fmt::Result {
         f.write_str("out of memory")
     }
 }
 
 impl fmt::Display for OpenFault {
+    ghost use Rattle.std.specs.Prelude.{Some};
+    ghost use Rattle.srch_base.specs.Faults.{open_fault_text};
+
+    ghost output = { λ fault. Some (open_fault_text fault) };
+
     fn fmt<W: fmt::Write>(&self, f: &mut fmt::Formatter<W>) -> fmt::Result {
         match self {
             OpenFault::NoMemory => NoMemory.fmt(f),
@@ -48,6 +63,11 @@ impl fmt::Display for OpenFault {
 }
 
 impl<F: fmt::Display> fmt::Display for Or<F> {
+    ghost use Rattle.std.specs.Prelude.{Some};
+    ghost use Rattle.srch_base.specs.Faults.{or_text};
+
+    ghost output = { or_text F.output };
+
     fn fmt<W: fmt::Write>(&self, f: &mut fmt::Formatter<W>) -> fmt::Result {
         match self {
             Or::NoMemory => NoMemory.fmt(f),
