@@ -1,3 +1,4 @@
+pub mod Faults
 pub mod Counts
 pub mod Told
 pub mod Doors

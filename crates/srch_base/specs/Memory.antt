@@ -1,5 +1,5 @@
 -- Links and doors over memory: what they hold, and what each call makes of it.
-use Rattle.std.specs.Prelude.{◌≡◌, ◌+◌, ◌-◌, ◌==◌, ◌||◌, ◌&&◌, ℕ, List, [], ◌∷◌, ◌++◌, Bool, true, false, Option, Some, None, Result, Ok, Err, length, take, filter, min, nat_lt, if◌then◌else◌}
+use Rattle.std.specs.Prelude.{◌+◌, ◌-◌, ◌==◌, ◌||◌, ◌&&◌, ℕ, List, [], ◌∷◌, ◌++◌, Bool, true, false, Option, Some, None, Result, Ok, Err, length, take, filter, min, nat_lt, if◌then◌else◌}
 use Rattle.std.specs.List.{list_any}
 use Rattle.srch_base.specs.Counts.{last_count}
 use Rattle.srch_base.specs.declared.faults.Failed.{Failed}

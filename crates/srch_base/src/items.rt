@@ -1,5 +1,8 @@
 ghost use Rattle.std.specs.Prelude.{◌≡◌, length, IsTrue, ◌↔◌, []};
+ghost use Rattle.std.specs.List.{AllZip};
+ghost use Rattle.std.specs.Cmp.Lexicographic.{pointwise, lists_per, lists_equiv};
 
+use std::alloc::AllocError;
 use std::marker::Model;
 
 /// A `Vec` that contracts see as the list of its elements.
@@ -53,4 +56,28 @@ impl<T> Items<T> {
     {
         self.list.is_empty()
     }
+}
+
+impl<T: Clone> Clone for Items<T> {
+    ghost is_clone = { AllZip T.is_clone };
+
+    fn clone(&self) -> Result<Self, AllocError> {
+        Ok(Items {
+            list: self.list.clone()?,
+        })
+    }
+}
+
+impl<T: PartialEq> PartialEq for Items<T> {
+    ghost eq = { pointwise T.eq };
+
+    ghost laws = { lists_per T.laws };
+
+    fn eq(&self, other: &Self) -> bool {
+        self.list == other.list
+    }
+}
+
+impl<T: Eq> Eq for Items<T> {
+    ghost laws = { lists_equiv T.Eq.laws };
 }

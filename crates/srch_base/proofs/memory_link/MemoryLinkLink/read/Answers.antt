@@ -1,4 +1,4 @@
-use Rattle.std.proofs.Common.{rules, ap, Some, arith}
+use Rattle.std.proofs.Common.{ap, Some, arith}
 use Rattle.std.proofs.lemmas.Grind.{common_steps}
 use Rattle.srch_base.proofs.Moving.{read_on}
 use Rattle.srch_base.proofs.memory_link.MemoryLinkLink.read.Goals as goal

@@ -1,4 +1,4 @@
-use Rattle.std.proofs.Common.{rules, nat_lt, ◌<◌, ◌≡◌, ℕ, true}
+use Rattle.std.proofs.Common.{rules, nat_lt, ◌<◌}
 use Rattle.std.proofs.lemmas.Bool.Decides.{nat_tests}
 use Rattle.std.proofs.lemmas.Fn.{All-from_retain}
 use Rattle.std.proofs.lemmas.List.Elements.{filter_from_retain}

@@ -1,4 +1,4 @@
-use Rattle.std.proofs.Common.{rules, add-one, arith, ◌<◌}
+use Rattle.std.proofs.Common.{add-one, arith, ◌<◌}
 use Rattle.std.proofs.lemmas.Grind.{common_steps}
 use Rattle.srch_base.proofs.Shrinking.{positive_shrunk, positive_passed}
 use Rattle.srch_base.proofs.pieces.Pieces.pass.Goals as goal
