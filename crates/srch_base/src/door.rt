@@ -1,4 +1,4 @@
-ghost use Rattle.std.specs.Prelude.{◌≡◌, ◌<◌, ℕ, List, ◌∷◌, [], ◌++◌, Bool, true, ◌||◌, length};
+ghost use Rattle.std.specs.Prelude.{◌≡◌, ◌<◌, ℕ, List, ◌∷◌, [], ◌++◌, Bool, true, ◌||◌, length, OnOk};
 ghost use Rattle.srch_base.specs.Counts.{HasCause};
 ghost use Rattle.srch_base.specs.Doors.{lines_in, says_end};
 
@@ -28,6 +28,7 @@ pub trait Door {
         ensures ends { ended self.new ≡ (ended self.old || says_end result) }
         ensures stays_ended { ended self.old ≡ true → lines_in result ≡ [] }
         ensures cause { HasCause (faults self.old) (faults self.new) result }
+        ensures calm { OnOk result (faults self.new ≡ faults self.old) }
         ensures back { returned self.new ≡ returned self.old };
 
     /// Takes back a line that it gave.
