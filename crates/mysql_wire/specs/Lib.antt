@@ -2,6 +2,10 @@ pub mod Packets
 pub mod LengthEncoded
 pub mod Replies
 pub mod Rows
+pub mod Fields
+pub mod Payloads
+pub mod Reading
+pub mod Layouts
 pub mod Handshake
 pub mod Commands
 pub mod Asked

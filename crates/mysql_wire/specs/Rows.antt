@@ -10,23 +10,29 @@ use Rattle.mysql_wire.specs.declared.rows.ColumnKind.TheVariants.{Uint, Whole, U
 use Rattle.mysql_wire.specs.declared.rows.Cell.{Cell}
 use Rattle.mysql_wire.specs.declared.rows.Cell.TheVariants as cells
 
--- the character set, the length of the longest value, the type's code and its flags
-abbrev pub type_fields : ℕ → ℕ → ℕ → ℕ → List ℕ
-type_fields charset longest code flags = to_le_bytes w16 charset ++ to_le_bytes w32 longest ++ code ∷ to_le_bytes w16 flags
+-- what a client is told of a type
+pub record ColumnType : Type 0 where
+  pub charset : ℕ
+  pub longest : ℕ
+  pub code : ℕ
+  pub flags : ℕ
 
--- what a client is told of a kind: character set 33 is UTF-8, 63 binary; type 3 is LONG, 8 LONGLONG, 253 VAR_STRING; flag 32 is unsigned
-abbrev pub kind_fields : ColumnKind → List ℕ
-kind_fields Uint = type_fields 0x3f 11 0x03 0x20
-kind_fields Whole = type_fields 0x3f 20 0x08 0
-kind_fields Unsigned = type_fields 0x3f 20 0x08 0x20
-kind_fields Text = type_fields 0x21 255 0xfd 0
+-- character set 33 is UTF-8, 63 binary; type 3 is LONG, 8 LONGLONG, 253 VAR_STRING; flag 32 is unsigned
+abbrev pub type_of : ColumnKind → ColumnType
+type_of Uint = record { charset = 0x3f; longest = 11; code = 0x03; flags = 0x20 }
+type_of Whole = record { charset = 0x3f; longest = 20; code = 0x08; flags = 0 }
+type_of Unsigned = record { charset = 0x3f; longest = 20; code = 0x08; flags = 0x20 }
+type_of Text = record { charset = 0x21; longest = 255; code = 0xfd; flags = 0 }
+
+abbrev pub type_bytes : ColumnType → List ℕ
+type_bytes type = to_le_bytes w16 type.charset ++ to_le_bytes w32 type.longest ++ type.code ∷ to_le_bytes w16 type.flags
 
 -- the catalog, an empty schema and two empty tables' names, the name twice, how long the fixed fields are, these, no decimals, two bytes left free
 unfoldable pub column_payload : Column → List ℕ
 column_payload column =
     lenenc_text (codes "def") ++ 0 ∷ 0 ∷ 0 ∷ []
     ++ lenenc_text column.name ++ lenenc_text column.name
-    ++ 0x0c ∷ kind_fields column.kind ++ 0 ∷ 0 ∷ 0 ∷ []
+    ++ 0x0c ∷ type_bytes (type_of column.kind) ++ 0 ∷ 0 ∷ 0 ∷ []
 
 -- the text that stands for a value
 abbrev pub cell_text : Cell → List ℕ

@@ -1,11 +1,11 @@
 ghost use Rattle.std.specs.Prelude.{◌≡◌, ◌==◌, ◌+◌, ◌<◌, ◌^◌, ◌≤◌, length, drop, true, false, option_map, IfSome, IfOk, IfErr, MatchResult};
 ghost use Rattle.std.specs.List.{position};
-ghost use Rattle.mysql_wire.specs.Numbers.{lenenc_front};
 ghost use Rattle.mysql_wire.specs.Handshake.{speaks_41, flags_of, cut_place, IsResponse, IsBadResponse};
 ghost use Rattle.mysql_wire.specs.HandshakeReading.{text_front, behind_answer, database_of, response_with, response_behind};
 ghost use Rattle.mysql_wire.specs.Answered.{response_by, Reads};
 
-use srch_base::{u16_at, u32_at, u64_at};
+use crate::lengths::split_lenenc;
+use srch_base::u32_at;
 
 /// A response has a database.
 const CONNECT_WITH_DATABASE: u32 = 0x8;
@@ -137,29 +137,6 @@ fn skip_answer(flags: u32, bytes: &[u8]) -> Option<&[u8]>
     }
     let (_, rest) = split_text(bytes)?;
     Some(rest)
-}
-
-/// A length-encoded number, and what is behind it.
-fn split_lenenc(bytes: &[u8]) -> Option<(u64, &[u8])>
-    ensures { option_map (λ split. (split.0, split.1.now)) result ≡ lenenc_front bytes.now }
-{
-    let (first, rest) = bytes.split_first()?;
-    match *first {
-        0..=0xfa => Some((u64::from(*first), rest)),
-        0xfc => {
-            let number = u16_at(rest, 0)?;
-            Some((u64::from(number), &rest[2..]))
-        }
-        0xfd => {
-            let ([a, b, c], rest) = rest.split_first_chunk::<3>()?;
-            Some((u64::from(u32::from_le_bytes([*a, *b, *c, 0])), rest))
-        }
-        0xfe => {
-            let number = u64_at(rest, 0)?;
-            Some((number, &rest[8..]))
-        }
-        _ => None,
-    }
 }
 
 /// The database, where the client names one: up to a NUL or to the end.

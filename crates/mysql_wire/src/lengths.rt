@@ -1,8 +1,9 @@
-ghost use Rattle.std.specs.Prelude.{◌≡◌, ◌+◌, ◌<◌, ◌≤◌, ◌++◌, length, OnOk, OnErr, vec_len, vec_capacity};
+ghost use Rattle.std.specs.Prelude.{◌≡◌, ◌+◌, ◌<◌, ◌≤◌, ◌++◌, length, option_map, OnOk, OnErr, vec_len, vec_capacity};
 ghost use Rattle.mysql_wire.specs.LengthEncoded.{lenenc};
+ghost use Rattle.mysql_wire.specs.Numbers.{lenenc_front};
 
 use arrayvec::ArrayVec;
-use srch_base::NoMemory;
+use srch_base::{NoMemory, u16_at, u64_at};
 
 /// The shortest spelling of a number.
 #[tactic(auto, unfolding(crate::specs::LengthEncoded::lenenc))]
@@ -41,4 +42,27 @@ pub fn put_lenenc(value: u64, out: &mut Vec<u8>) -> Result<(), NoMemory>
 {
     out.extend_from_slice(spell(value).as_slice())?;
     Ok(())
+}
+
+/// A length-encoded number, and what is behind it.
+pub(crate) fn split_lenenc(bytes: &[u8]) -> Option<(u64, &[u8])>
+    ensures { option_map (λ split. (split.0, split.1.now)) result ≡ lenenc_front bytes.now }
+{
+    let (first, rest) = bytes.split_first()?;
+    match *first {
+        0..=0xfa => Some((u64::from(*first), rest)),
+        0xfc => {
+            let number = u16_at(rest, 0)?;
+            Some((u64::from(number), &rest[2..]))
+        }
+        0xfd => {
+            let ([a, b, c], rest) = rest.split_first_chunk::<3>()?;
+            Some((u64::from(u32::from_le_bytes([*a, *b, *c, 0])), rest))
+        }
+        0xfe => {
+            let number = u64_at(rest, 0)?;
+            Some((number, &rest[8..]))
+        }
+        _ => None,
+    }
 }

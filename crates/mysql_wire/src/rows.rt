@@ -1,6 +1,6 @@
 ghost use Rattle.std.specs.Prelude.{◌≡◌, ◌+◌, ◌<◌, ◌≤◌, ◌++◌, length, take, OnOk, OnErr, vec_len, vec_capacity};
 ghost use Rattle.mysql_wire.specs.LengthEncoded.{lenenc_text};
-ghost use Rattle.mysql_wire.specs.Rows.{kind_fields, column_payload, cell_text, row_payload};
+ghost use Rattle.mysql_wire.specs.Rows.{type_of, type_bytes, column_payload, cell_text, row_payload};
 
 use crate::lengths::put_lenenc;
 use itoa::Buffer;
@@ -77,7 +77,7 @@ fn put_definition(column: &Column, out: &mut Vec<u8>) -> Result<(), NoMemory>
 }
 
 fn fields_of(kind: ColumnKind) -> &'static [u8]
-    ensures { result.now ≡ kind_fields kind }
+    ensures { result.now ≡ type_bytes (type_of kind) }
 {
     match kind {
         ColumnKind::Uint => &[0x3f, 0, 11, 0, 0, 0, 0x03, 0x20, 0],
