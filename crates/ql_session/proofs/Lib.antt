@@ -1,0 +1,13 @@
+pub mod PieceLemmas
+pub mod Filling
+pub mod Adding
+pub mod Digits
+pub mod Frames
+pub mod Lookups
+pub mod Once
+pub mod Stating
+pub mod Decisions
+pub mod Whole
+pub mod Sets
+pub mod Replying
+pub mod Turning
