@@ -172,3 +172,19 @@ bad_again payload place (inr (inl (speaks, short, is))) = rw (speaks, lt-ltb (le
 bad_again payload place (inr (inr (inl (speaks, long, none, is)))) = rw (speaks, long_not_short (length payload) long, text_without (drop 32 payload) none, is)
 bad_again payload place (inr (inr (inr (speaks, long, (user, behind_user, ends, missing, is))))) =
     rw (speaks, long_not_short (length payload) long, ends.1, text_again user behind_user ends.0, none_found (flags_of payload) behind_user missing, is)
+
+pub one_response : (payload : List ℕ) (a b : Response) → IsResponse payload a → IsResponse payload b → a ≡ b
+one_response payload a b first second = cc (response_again payload a first, response_again payload b second)
+
+pub one_place : (payload : List ℕ) (m n : ℕ) → IsBadResponse payload m → IsBadResponse payload n → m ≡ n
+one_place payload m n first second = cc (bad_again payload m first, bad_again payload n second)
+
+pub not_both : (payload : List ℕ) (response : Response) (place : ℕ) → IsResponse payload response → IsBadResponse payload place → ⊥
+not_both payload response place is bad = cc (response_again payload response is, bad_again payload place bad)
+
+pub one_of_both : (payload : List ℕ) → ((response : Response) × IsResponse payload response) ⊎ ((place : ℕ) × IsBadResponse payload place)
+one_of_both payload = by_cases (response_of payload) (response_says payload)
+  where
+    by_cases : (read : Result Response ℕ) → Says payload read → ((response : Response) × IsResponse payload response) ⊎ ((place : ℕ) × IsBadResponse payload place)
+    by_cases (Ok response) says = inl (response, says)
+    by_cases (Err place) says = inr (place, says)

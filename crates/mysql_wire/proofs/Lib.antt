@@ -1,5 +1,6 @@
 mod Appends
 pub mod PacketLemmas
+pub mod FrontLaws
 mod HandshakeLemmas
 mod HandshakeLaws
 mod FieldLaws

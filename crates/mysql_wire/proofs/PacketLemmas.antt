@@ -1,27 +1,22 @@
 -- The front of a byte list, read as a packet.
-use Rattle.std.proofs.Common.{◌≡◌, ℕ, ◌+◌, ◌*◌, ◌-◌, ◌/◌, ◌%◌, ◌<◌, ◌≤◌, List, ◌∷◌, ◌++◌, Option, Some, unwrap_or, length, get_or, take, drop, refl, sym, ap, ◌∙◌, arith}
+use Rattle.std.proofs.Common.{◌≡◌, ℕ, ◌+◌, ◌*◌, ◌-◌, ◌/◌, ◌%◌, ◌<◌, ◌≤◌, List, ◌∷◌, ◌++◌, Option, Some, None, length, get_or, take, drop, refl, sym, ap, ◌∙◌, arith}
 use Rattle.std.proofs.lemmas.List.{take-append-drop, length-take, length-take-le, drop-drop}
+use Rattle.std.proofs.lemmas.Option.{some_pair_parts}
 use Rattle.mysql_wire.specs.Packets.{packet, header_of, max_payload, BeginsWith}
 
 -- each is a byte
-abbrev pub AreBytes : List ℕ → Type 0
+abbrev AreBytes : List ℕ → Type 0
 AreBytes bytes = (i : ℕ) → get_or bytes i 0 < 256
 
 digits : (a b c n : ℕ) → a < 256 → b < 256 → c < 256 → n ≡ a + 256 * b + 65536 * c → (a ≡ n % 256) × (b ≡ (n / 256) % 256) × (c ≡ (n / 65536) % 256)
 digits a b c n ha hb hc e = (omega (arith, e), omega (arith, e), omega (arith, e))
 
--- a header's fields
-header_fields : (a b c seq size expect : ℕ) → ◌≡◌ {A = Option (ℕ × ℕ)} (Some (a + 256 * b + 65536 * c, seq)) (Some (size, expect)) → (size ≡ a + 256 * b + 65536 * c) × (seq ≡ expect)
-header_fields a b c seq size expect e =
-    let inside : ◌≡◌ {A = ℕ × ℕ} (a + 256 * b + 65536 * c, seq) (size, expect) = ap (λ (o : Option (ℕ × ℕ)). unwrap_or o (0, 0)) e in
-    (sym (ap (λ (p : ℕ × ℕ). p.0) inside), ap (λ (p : ℕ × ℕ). p.1) inside)
-
 pub front_packet : (expect size : ℕ) (held : List ℕ) → AreBytes held → header_of held ≡ Some (size, expect) → 4 + size ≤ length held → held ≡ packet expect (take size (drop 4 held)) ++ drop size (drop 4 held)
 unfolding packet
 front_packet expect size (a ∷ b ∷ c ∷ seq ∷ rest) fits header whole =
-    let of = header_fields a b c seq size expect header in
+    let of = some_pair_parts (a + 256 * b + 65536 * c) size seq expect header in
     let n = length (take size rest) in
-    let long : n ≡ a + 256 * b + 65536 * c = length-take-le size rest (omega (arith, whole)) ∙ of.0 in
+    let long : n ≡ a + 256 * b + 65536 * c = length-take-le size rest (omega (arith, whole)) ∙ sym of.0 in
     let d = digits a b c n (fits 0) (fits 1) (fits 2) (omega (arith, long)) in
     let split : rest ≡ take size rest ++ drop size rest = sym (take-append-drop size rest) in
     cc (d.0, d.1, d.2, of.1, split)

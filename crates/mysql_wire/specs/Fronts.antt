@@ -1,12 +1,22 @@
--- What the bytes held begin with.
-use Rattle.std.specs.Prelude.{◌≡◌, ℕ, Some, ◌≤◌, ◌+◌, length, take, drop, List}
-use Rattle.mysql_wire.specs.Packets.{header_of, IsPartial, BeginsWith}
-use Rattle.mysql_wire.specs.Framing.{IsRefused}
-use Rattle.mysql_wire.specs.declared.framer.Front.{Front}
-use Rattle.mysql_wire.specs.declared.framer.Front.TheVariants.{Part, Whole, Refused}
+-- How the bytes of a stream begin.
+use Rattle.std.specs.Prelude.{ℕ, ◌<◌, List}
+use Rattle.std.specs.List.{All}
+use Rattle.mysql_wire.specs.Packets.{IsTooLarge, IsOutOfOrder, IsPartial, BeginsWith}
 
--- a part of a packet, a whole one whose payload has this size, or a header to refuse
-abbrev pub IsFront : ℕ → List ℕ → Front → Type 0
-IsFront expect bytes Part = IsPartial expect bytes
-IsFront expect bytes (Whole size) = (header_of bytes ≡ Some (size, expect)) × BeginsWith expect bytes (take size (drop 4 bytes)) (drop size (drop 4 bytes)) × (4 + size ≤ length bytes)
-IsFront expect bytes (Refused reason) = IsRefused expect bytes reason
+-- less than a packet, a packet and what follows it, or one of two headers to refuse
+pub data Front : Type 0 where
+  Part : Front
+  Packet : (payload rest : List ℕ) → Front
+  TooLarge : (size seq : ℕ) → Front
+  OutOfOrder : (seq : ℕ) → Front
+
+-- The bytes begin so, where this sequence number is expected.
+abbrev pub HasFront : ℕ → List ℕ → Front → Type 0
+HasFront expect bytes Part = IsPartial expect bytes
+HasFront expect bytes (Packet payload rest) = BeginsWith expect bytes payload rest
+HasFront expect bytes (TooLarge size seq) = IsTooLarge bytes size seq
+HasFront expect bytes (OutOfOrder seq) = IsOutOfOrder expect bytes seq
+
+-- Numbers that are bytes.
+abbrev pub AreBytes : List ℕ → Type 0
+AreBytes = All (λ byte. byte < 256)

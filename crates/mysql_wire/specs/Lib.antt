@@ -12,6 +12,7 @@ pub mod Asked
 pub mod Framing
 pub mod Lending
 pub mod Fronts
+pub mod Heads
 pub mod Numbers
 pub mod HandshakeReading
 pub mod Answered

@@ -1,6 +1,6 @@
 ghost use Rattle.std.specs.Prelude.{◌≡◌, ◌+◌, ◌≤◌, ◌<◌, ◌++◌, ◌↔◌, [], None, length, drop, vec_len, IsTrue, IfOk, OnOk, OnErr};
 ghost use Rattle.mysql_wire.specs.Framing.{refusal_answer};
-ghost use Rattle.mysql_wire.specs.Fronts.{IsFront};
+ghost use Rattle.mysql_wire.specs.Heads.{IsHead};
 
 use srch_base::NoMemory;
 use std::alloc::Global;
@@ -97,7 +97,7 @@ impl Framer {
         if self.refused.is_some() {
             return false;
         }
-        matches!(read_front(expect, &self.bytes[self.start..]), Front::Part)
+        matches!(read_head(expect, &self.bytes[self.start..]), Head::Part)
     }
 
     /// The next packet, where it is whole, has the sequence number expected, and is within the limit.
@@ -110,9 +110,9 @@ impl Framer {
         if let Some(refusal) = self.refused {
             return refuse(refusal);
         }
-        match read_front(expect, &self.bytes[self.start..]) {
-            Front::Part => Next::NeedMore,
-            Front::Whole(size) => {
+        match read_head(expect, &self.bytes[self.start..]) {
+            Head::Part => Next::NeedMore,
+            Head::Whole(size) => {
                 let from = self.start + 4;
                 let to = from + size;
                 self.start = to;
@@ -121,7 +121,7 @@ impl Framer {
                     payload: &self.bytes[from..to],
                 }
             }
-            Front::Refused(refusal) => {
+            Head::Refused(refusal) => {
                 self.refused = Some(refusal);
                 refuse(refusal)
             }
@@ -131,30 +131,30 @@ impl Framer {
 
 /// What bytes begin with.
 #[derive(Clone, Copy)]
-enum Front {
+enum Head {
     Part,
     /// A packet with a payload of this many bytes.
     Whole(usize),
     Refused(Refusal),
 }
 
-fn read_front(expect: u8, held: &[u8]) -> Front
-    ensures { IsFront expect held.now result }
+fn read_head(expect: u8, held: &[u8]) -> Head
+    ensures { IsHead expect held.now result }
 {
     let [a, b, c, seq, payload @ ..] = held else {
-        return Front::Part;
+        return Head::Part;
     };
     let length = u32::from_le_bytes([*a, *b, *c, 0]);
     if length > MAX_PAYLOAD {
-        return Front::Refused(Refusal::TooLarge { length, seq: *seq });
+        return Head::Refused(Refusal::TooLarge { length, seq: *seq });
     }
     if *seq != expect {
-        return Front::Refused(Refusal::OutOfOrder { seq: *seq });
+        return Head::Refused(Refusal::OutOfOrder { seq: *seq });
     }
     if payload.len() < length as usize {
-        return Front::Part;
+        return Head::Part;
     }
-    Front::Whole(length as usize)
+    Head::Whole(length as usize)
 }
 
 fn refuse(refusal: Refusal) -> Next<'static>

@@ -5,6 +5,7 @@ mod commands;
 mod fields;
 mod framer;
 mod handshake;
+mod laws;
 mod lengths;
 mod packets;
 mod readers;
@@ -16,6 +17,7 @@ pub use commands::{Command, read_command};
 pub use fields::WireFault;
 pub use framer::{Framer, Next, Refusal};
 pub use handshake::{BadHandshake, Response41, read_response41};
+pub use laws::{bytes_begin_in_one_way, payload_is_one_response_or_bad};
 pub use lengths::put_lenenc;
 pub use packets::put_packet;
 pub use readers::{
@@ -27,3 +29,5 @@ pub use small::{Small, eof_packet, err_packet, greeting, ok_packet};
 
 #[cfg(test)]
 mod reply_tests;
+#[cfg(test)]
+mod request_tests;

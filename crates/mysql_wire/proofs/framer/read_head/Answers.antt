@@ -1,7 +1,7 @@
 use Rattle.std.proofs.Common.{◌≡◌, ◌+◌, ◌≤◌, Some, length, arith, rules, length-drop}
 use Rattle.mysql_wire.specs.Packets.{header_of, max_payload}
 use Rattle.mysql_wire.proofs.PacketLemmas.{begins}
-use Rattle.mysql_wire.proofs.framer.read_front.Goals as goal
+use Rattle.mysql_wire.proofs.framer.read_head.Goals as goal
 
 pub returns : goal.returns
 returns c =
