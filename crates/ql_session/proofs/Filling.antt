@@ -53,7 +53,14 @@ pub no_more : (connection : ℕ) (before mid now : Meters) (phase : Phase) → H
     → ((after ≡ no_room (expected phase + 1)) ⊎ (Rose mid.write_faults now.write_faults × IsCut after (no_room (expected phase + 1))))
     → Ends connection before now NoMemory phase held read (written ++ after) []
 no_more connection before mid now phase greeted held read written after later none told = rw none (record {
-  turns = []; phase = phase; rest = held ++ read; last = after; last_events = []; run = refl;
+  turns = [];
+  phase = phase;
+  rest = held ++ read;
+  last = after;
+  last_events = [];
+  run = refl;
   stops = (greeted, ⊎_elim (λ whole. inl whole) (λ cut. inr (Rose-earlier _ _ _ later cut.0, cut.1)) told, refl);
-  is_read = refl; is_written = refl; happened = refl;
+  is_read = refl;
+  is_written = refl;
+  happened = refl;
 })

@@ -11,3 +11,4 @@ pub mod Whole
 pub mod Sets
 pub mod Replying
 pub mod Turning
+pub mod Reading

@@ -34,9 +34,13 @@ module _ {L : Type 0} (reads writes : L → Option (List ℕ)) (read_faults writ
       → P (meters_of read_faults write_faults ended link) (meters_of read_faults write_faults ended link) [] []
       → Moves reads writes read_faults write_faults ended link link P
   Moves-none link P holds = record {
-    read = []; written = [];
-    tells_read = sym (then_bytes-none (reads link)); tells_written = sym (then_bytes-none (writes link));
-    reads_later = omega arith; writes_later = omega arith; holds = holds;
+    read = [];
+    written = [];
+    tells_read = sym (then_bytes-none (reads link));
+    tells_written = sym (then_bytes-none (writes link));
+    reads_later = omega arith;
+    writes_later = omega arith;
+    holds = holds;
   }
 
   -- one read
@@ -46,9 +50,13 @@ module _ {L : Type 0} (reads writes : L → Option (List ℕ)) (read_faults writ
       → P (meters_of read_faults write_faults ended old) (meters_of read_faults write_faults ended new) moved []
       → Moves reads writes read_faults write_faults ended old new P
   Moves-from_read old new P moved tells same later still holds = record {
-    read = moved; written = [];
-    tells_read = tells; tells_written = same ∙ sym (then_bytes-none (writes old));
-    reads_later = later; writes_later = omega (arith, still); holds = holds;
+    read = moved;
+    written = [];
+    tells_read = tells;
+    tells_written = same ∙ sym (then_bytes-none (writes old));
+    reads_later = later;
+    writes_later = omega (arith, still);
+    holds = holds;
   }
 
   -- one write
@@ -58,22 +66,27 @@ module _ {L : Type 0} (reads writes : L → Option (List ℕ)) (read_faults writ
       → P (meters_of read_faults write_faults ended old) (meters_of read_faults write_faults ended new) [] moved
       → Moves reads writes read_faults write_faults ended old new P
   Moves-from_write old new P moved tells same later still holds = record {
-    read = []; written = moved;
-    tells_read = same ∙ sym (then_bytes-none (reads old)); tells_written = tells;
-    reads_later = omega (arith, still); writes_later = later; holds = holds;
+    read = [];
+    written = moved;
+    tells_read = same ∙ sym (then_bytes-none (reads old));
+    tells_written = tells;
+    reads_later = omega (arith, still);
+    writes_later = later;
+    holds = holds;
   }
 
   -- what moved first and what moved then
   pub Moves-then : (old mid new : L) (P Q R : Meters → Meters → List ℕ → List ℕ → Type 0)
       → Moves reads writes read_faults write_faults ended old mid P → Moves reads writes read_faults write_faults ended mid new Q
       → ((read written read' written' : List ℕ) → read_faults old ≤ read_faults mid → write_faults old ≤ write_faults mid
-          → read_faults mid ≤ read_faults new → write_faults mid ≤ write_faults new
-          → P (meters_of read_faults write_faults ended old) (meters_of read_faults write_faults ended mid) read written
-          → Q (meters_of read_faults write_faults ended mid) (meters_of read_faults write_faults ended new) read' written'
-          → R (meters_of read_faults write_faults ended old) (meters_of read_faults write_faults ended new) (read ++ read') (written ++ written'))
+      → read_faults mid ≤ read_faults new → write_faults mid ≤ write_faults new
+      → P (meters_of read_faults write_faults ended old) (meters_of read_faults write_faults ended mid) read written
+      → Q (meters_of read_faults write_faults ended mid) (meters_of read_faults write_faults ended new) read' written'
+      → R (meters_of read_faults write_faults ended old) (meters_of read_faults write_faults ended new) (read ++ read') (written ++ written'))
       → Moves reads writes read_faults write_faults ended old new R
   Moves-then old mid new P Q R first then join = record {
-    read = first.read ++ then.read; written = first.written ++ then.written;
+    read = first.read ++ then.read;
+    written = first.written ++ then.written;
     tells_read = then.tells_read ∙ ap (λ told. then_bytes told then.read) first.tells_read ∙ then_bytes-twice (reads old) first.read then.read;
     tells_written = then.tells_written ∙ ap (λ told. then_bytes told then.written) first.tells_written ∙ then_bytes-twice (writes old) first.written then.written;
     reads_later = omega (arith, first.reads_later, then.reads_later);
@@ -98,10 +111,14 @@ module _ {L : Type 0} (reads writes : L → Option (List ℕ)) (read_faults writ
   pub Moves-weaker : (old new : L) (P Q : Meters → Meters → List ℕ → List ℕ → Type 0)
       → Moves reads writes read_faults write_faults ended old new P
       → ((read written : List ℕ) → P (meters_of read_faults write_faults ended old) (meters_of read_faults write_faults ended new) read written
-          → Q (meters_of read_faults write_faults ended old) (meters_of read_faults write_faults ended new) read written)
+      → Q (meters_of read_faults write_faults ended old) (meters_of read_faults write_faults ended new) read written)
       → Moves reads writes read_faults write_faults ended old new Q
   Moves-weaker old new P Q moves weaker = record {
-    read = moves.read; written = moves.written; tells_read = moves.tells_read; tells_written = moves.tells_written;
-    reads_later = moves.reads_later; writes_later = moves.writes_later;
+    read = moves.read;
+    written = moves.written;
+    tells_read = moves.tells_read;
+    tells_written = moves.tells_written;
+    reads_later = moves.reads_later;
+    writes_later = moves.writes_later;
     holds = weaker moves.read moves.written moves.holds;
   }

@@ -30,8 +30,8 @@ pub packets_from-append : (seq : ℕ) (first more : List (List ℕ)) → seq < 2
 packets_from-append seq [] more small = ap (λ (n : ℕ). packets_from n more) (omega arith)
 packets_from-append seq (payload ∷ first) more small =
     ap (λ (bytes : List ℕ). packet seq payload ++ bytes)
-        (packets_from-append ((seq + 1) % 256) first more (omega arith)
-        ∙ ap (λ (n : ℕ). packets_from ((seq + 1) % 256) first ++ packets_from n more) (omega arith))
+    (packets_from-append ((seq + 1) % 256) first more (omega arith)
+    ∙ ap (λ (n : ℕ). packets_from ((seq + 1) % 256) first ++ packets_from n more) (omega arith))
     ∙ sym (append_assoc (packet seq payload) (packets_from ((seq + 1) % 256) first) (packets_from ((seq + length (payload ∷ first)) % 256) more))
 
 -- a result set of one column, packet by packet
@@ -41,8 +41,8 @@ packets_of_set : (status : ℕ) (column : Column) (cells : List Cell) (old : Lis
 unfolding lenenc
 packets_of_set status column cells old =
     simp append_assoc (ap (λ (bytes : List ℕ). old ++ (packet 1 (1 ∷ []) ++ (packet 2 (column_payload column) ++ (packet 3 (eof_payload status) ++ bytes))))
-        (ap (λ (bytes : List ℕ). packets_from 4 (map row cells) ++ bytes) (sym (append-nil (packet ((4 + length (map row cells)) % 256) (eof_payload status))))
-        ∙ sym (packets_from-append 4 (map row cells) (eof_payload status ∷ []) (omega arith))))
+    (ap (λ (bytes : List ℕ). packets_from 4 (map row cells) ++ bytes) (sym (append-nil (packet ((4 + length (map row cells)) % 256) (eof_payload status))))
+    ∙ sym (packets_from-append 4 (map row cells) (eof_payload status ∷ []) (omega arith))))
 
 -- the same, step by step
 pub set_by_packets : (status : ℕ) (column : Column) (cells : List Cell) (old o1 o2 o3 o4 o5 : List ℕ) (s2 s3 s4 s5 : ℕ)
@@ -79,12 +79,17 @@ length-column column short =
     let n : length name ≤ 73 = omega (arith, length-append (lenenc (length column.name)) column.name, length-lenenc (length column.name), short) in
     let h : length head ≤ 12 = omega (arith, length-append (lenenc (length (codes "def"))) (codes "def"), length-lenenc (length (codes "def"))) in
     let k = kind_fields column.kind in
-    omega (arith, n, h, length-kind_fields column.kind,
-        length-append ((((head ++ 0 ∷ 0 ∷ 0 ∷ []) ++ name) ++ name) ++ 0x0c ∷ k) (0 ∷ 0 ∷ 0 ∷ []),
-        length-append (((head ++ 0 ∷ 0 ∷ 0 ∷ []) ++ name) ++ name) (0x0c ∷ k),
-        length-append ((head ++ 0 ∷ 0 ∷ 0 ∷ []) ++ name) name,
-        length-append (head ++ 0 ∷ 0 ∷ 0 ∷ []) name,
-        length-append head (0 ∷ 0 ∷ 0 ∷ []))
+    omega (
+      arith,
+      n,
+      h,
+      length-kind_fields column.kind,
+      length-append ((((head ++ 0 ∷ 0 ∷ 0 ∷ []) ++ name) ++ name) ++ 0x0c ∷ k) (0 ∷ 0 ∷ 0 ∷ []),
+      length-append (((head ++ 0 ∷ 0 ∷ 0 ∷ []) ++ name) ++ name) (0x0c ∷ k),
+      length-append ((head ++ 0 ∷ 0 ∷ 0 ∷ []) ++ name) name,
+      length-append (head ++ 0 ∷ 0 ∷ 0 ∷ []) name,
+      length-append head (0 ∷ 0 ∷ 0 ∷ []),
+    )
 
 -- the row of a short text is short
 text_short : (text : List ℕ) → length text ≤ 64 → length (lenenc (length text) ++ text) < 16777215

@@ -70,7 +70,10 @@ goes_then connection first before now (Ok x) old mid new held read written kept 
 }
 goes_then connection first before now (Err end) old mid new held read written kept read' written' left events events' later one two = record {
   turns = one.turns ++ two.turns;
-  phase = two.phase; rest = two.rest; last = two.last; last_events = two.last_events;
+  phase = two.phase;
+  rest = two.rest;
+  last = two.last;
+  last_events = two.last_events;
   run = Run-append connection one.turns two.turns old mid two.phase one.run two.run;
   stops = Stops-earlier connection first before now end two.phase two.rest two.last two.last_events later two.stops;
   is_read = joined Turn (λ t. t.read) one.turns two.turns held read read' kept two.rest one.is_read two.is_read;
@@ -93,8 +96,16 @@ one_turn connection old new turn held kept step whole = record {
 pub ends_at : (connection : ℕ) (before now : Meters) (end : LinkEnd) (phase : Phase) (held last : List ℕ) (events : List Event)
     → Stops connection before now end phase held last events → Ends connection before now end phase held [] last events
 ends_at connection before now end phase held last events stops = record {
-  turns = []; phase = phase; rest = held; last = last; last_events = events; run = refl; stops = stops;
-  is_read = append-nil held; is_written = refl; happened = refl;
+  turns = [];
+  phase = phase;
+  rest = held;
+  last = last;
+  last_events = events;
+  run = refl;
+  stops = stops;
+  is_read = append-nil held;
+  is_written = refl;
+  happened = refl;
 }
 
 -- what a refusal's end is
@@ -116,9 +127,9 @@ pub refused : (connection : ℕ) (before now : Meters) (result end : LinkEnd) (p
     → Ends connection before now result phase held read written []
 refused connection before now result end phase held refusal read written refuses with =
     rw with.0 (⊎_elim
-        (λ whole. rw (whole.0, whole.1) (ends_at connection before now end phase held refusal [] (refusal_stops connection before now end phase held refusal refuses)))
-        (λ cut. rw cut.0 (ends_at connection before now WriteFault phase held written [] (cut.2, inr (refusal, end, refuses, cut.1, refl))))
-        with.1)
+    (λ whole. rw (whole.0, whole.1) (ends_at connection before now end phase held refusal [] (refusal_stops connection before now end phase held refusal refuses)))
+    (λ cut. rw cut.0 (ends_at connection before now WriteFault phase held written [] (cut.2, inr (refusal, end, refuses, cut.1, refl))))
+    with.1)
 
 -- a turn's answer was written in part
 pub cut_short : (connection : ℕ) (before now : Meters) (old new : Phase) (turn : Turn) (held kept written : List ℕ)
@@ -137,7 +148,7 @@ pub greeted_in_part : (connection : ℕ) (before now : Meters) (read written byt
     → (read ≡ []) × IsCut written bytes × Rose before.write_faults now.write_faults → Ends connection before now WriteFault Opened [] read written []
 greeted_in_part connection before now read written bytes is wrote =
     rw wrote.0 (cut_short connection before now Opened Greeted (record { read = []; written = greeting connection; events = [] }) [] [] written (refl, refl, refl) refl
-        (subst (λ (b : List ℕ). IsCut written b) is wrote.1) wrote.2)
+    (subst (λ (b : List ℕ). IsCut written b) is wrote.1) wrote.2)
 
 -- A packet is a turn's: the bytes held are the packet and what stays held.
 taken_whole : (seq : ℕ) (held payload kept : List ℕ) (turn : Turn) → turn.read ≡ packet seq payload → held ≡ packet seq payload ++ kept → held ≡ turn.read ++ kept
@@ -156,9 +167,9 @@ unfolding response_turn
 shaken connection state held read written mid kept read' written' bytes payload response goes begins is told wrote new =
     let m : Meters = record { read_faults = 0; write_faults = 0; input_ended = false } in
     rw (wrote.0, wrote.1, told) (goes_then {T = Unit {0}} connection m m m (Ok tt) Greeted Greeted (Talking state 0) held read written mid [] (ok_packet 2 0 2) kept [] []
-        (record { reads = omega arith; writes = omega arith }) goes
-        (one_turn connection Greeted (Talking state 0) (response_turn payload) mid kept
-            (payload, response, (begins.0, refl), is, refl, refl, new, refl) begins.1))
+    (record { reads = omega arith; writes = omega arith }) goes
+    (one_turn connection Greeted (Talking state 0) (response_turn payload) mid kept
+    (payload, response, (begins.0, refl), is, refl, refl, new, refl) begins.1))
 
 -- The response was accepted, and that was told in part.
 pub shaken_in_part : (connection : ℕ) (first before now : Meters) (held read written mid kept read' written' bytes payload : List ℕ) (response : Response) → Later first before
@@ -168,10 +179,10 @@ pub shaken_in_part : (connection : ℕ) (first before now : Meters) (held read w
 unfolding response_turn
 shaken_in_part connection first before now held read written mid kept read' written' bytes payload response later goes begins is told wrote =
     rw wrote.0 (goes_then {T = Unit {0}} connection first before now (Err WriteFault) Greeted Greeted Greeted held read written mid [] written' kept [] []
-        later goes
-        (cut_short connection before now Greeted (Talking new_state 0) (response_turn payload) mid kept written'
-            (payload, response, (begins.0, refl), is, refl, refl, refl, refl) begins.1
-            (subst (λ (b : List ℕ). IsCut written' b) told wrote.1) wrote.2))
+    later goes
+    (cut_short connection before now Greeted (Talking new_state 0) (response_turn payload) mid kept written'
+    (payload, response, (begins.0, refl), is, refl, refl, refl, refl) begins.1
+    (subst (λ (b : List ℕ). IsCut written' b) told wrote.1) wrote.2))
 
 -- After reading, the bytes were refused.
 pub refused_then : (connection : ℕ) (first before now : Meters) (result end : LinkEnd) (phase : Phase) (held read written mid refusal read' written' : List ℕ) → Later first before
@@ -179,7 +190,7 @@ pub refused_then : (connection : ℕ) (first before now : Meters) (result end : 
     → Ends connection first now result phase held (read ++ read') (written ++ written') []
 refused_then connection first before now result end phase held read written mid refusal read' written' later goes refuses with =
     goes_then {T = Unit {0}} connection first before now (Err result) phase phase phase held read written mid read' written' mid [] [] later goes
-        (refused connection before now result end phase mid refusal read' written' refuses with)
+    (refused connection before now result end phase mid refusal read' written' refuses with)
 
 -- what an answered command's turn is
 command_turn : List ℕ → List (List ℕ) → List Event → Turn
@@ -194,9 +205,9 @@ unfolding command_turn
 answered_then connection answered old new held read written mid kept read' written' bytes payload events payloads goes begins answers told wrote =
     let m : Meters = record { read_faults = 0; write_faults = 0; input_ended = false } in
     rw (wrote.0, wrote.1, told) (goes_then {T = Unit {0}} connection m m m (Ok tt) (Talking old answered) (Talking old answered) (Talking new (suc answered)) held read written mid [] (packets_from 1 payloads) kept [] events
-        (record { reads = omega arith; writes = omega arith }) goes
-        (one_turn connection (Talking old answered) (Talking new (suc answered)) (command_turn payload payloads events) mid kept
-            (payload, payloads, (begins.0, refl), answers, refl, refl) begins.1))
+    (record { reads = omega arith; writes = omega arith }) goes
+    (one_turn connection (Talking old answered) (Talking new (suc answered)) (command_turn payload payloads events) mid kept
+    (payload, payloads, (begins.0, refl), answers, refl, refl) begins.1))
 
 -- A command was answered in part.
 pub answered_in_part : (connection answered : ℕ) (first before now : Meters) (old new : State) (held read written mid kept read' written' bytes payload : List ℕ) (events : List Event) (payloads : List (List ℕ)) → Later first before
@@ -206,10 +217,10 @@ pub answered_in_part : (connection answered : ℕ) (first before now : Meters) (
 unfolding command_turn
 answered_in_part connection answered first before now old new held read written mid kept read' written' bytes payload events payloads later goes begins answers told wrote =
     rw wrote.0 (goes_then {T = Unit {0}} connection first before now (Err WriteFault) (Talking old answered) (Talking old answered) (Talking old answered) held read written mid [] written' kept [] events
-        later goes
-        (cut_short connection before now (Talking old answered) (Talking new (suc answered)) (command_turn payload payloads events) mid kept written'
-            (payload, payloads, (begins.0, refl), answers, refl, refl) begins.1
-            (subst (λ (b : List ℕ). IsCut written' b) told wrote.1) wrote.2))
+    later goes
+    (cut_short connection before now (Talking old answered) (Talking new (suc answered)) (command_turn payload payloads events) mid kept written'
+    (payload, payloads, (begins.0, refl), answers, refl, refl) begins.1
+    (subst (λ (b : List ℕ). IsCut written' b) told wrote.1) wrote.2))
 
 -- COM_QUIT was read.
 pub quit_then : (connection answered : ℕ) (first now : Meters) (state : State) (held read written mid kept payload : List ℕ)
@@ -219,8 +230,8 @@ quit_then connection answered first now state held read written mid kept payload
     subst (λ (r : List ℕ). Ends connection first now Quit (Talking state answered) held r written []) (append-nil read)
     (subst (λ (w : List ℕ). Ends connection first now Quit (Talking state answered) held (read ++ []) w []) (append-nil written)
     (goes_then {T = Unit {0}} connection first first now (Err Quit) (Talking state answered) (Talking state answered) (Talking state answered) held read written mid [] [] kept [] []
-        (record { reads = omega arith; writes = omega arith }) goes
-        (ends_at connection first now Quit (Talking state answered) mid [] [] (state, answered, payload, kept, refl, begins, is, refl, refl))))
+    (record { reads = omega arith; writes = omega arith }) goes
+    (ends_at connection first now Quit (Talking state answered) mid [] [] (state, answered, payload, kept, refl, begins, is, refl, refl))))
 
 -- events, and then more
 pub FollowAll-append : (events more : List Event) (old mid new : Documents) → FollowAll old events mid → FollowAll mid more new → FollowAll old (events ++ more) new
@@ -231,7 +242,12 @@ FollowAll-append (event ∷ events) more old mid new first then = (first.0, firs
 pub worn : (connection : ℕ) (first now : Meters) (state : State) (count : ℕ) (held read written kept : List ℕ) (events : List Event) → count ≡ 2 ^ 32
     → GoesOn connection Greeted held read written events (Talking state count) kept → Ends connection first now Worn Greeted held read written events
 worn connection first now state count held read written kept events all goes = record {
-  turns = goes.turns; phase = Talking state count; rest = kept; last = []; last_events = []; run = goes.run;
+  turns = goes.turns;
+  phase = Talking state count;
+  rest = kept;
+  last = [];
+  last_events = [];
+  run = goes.run;
   stops = (state, ap (λ (n : ℕ). Talking state n) all, refl, refl);
   is_read = goes.is_read;
   is_written = goes.is_written ∙ sym (append-nil (flat_map (λ t. t.written) goes.turns));

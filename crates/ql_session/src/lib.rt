@@ -11,6 +11,10 @@ mod statements;
 mod tables;
 mod words;
 
+pub use laws::{
+    a_document_takes_its_place, a_line_is_read_in_one_way, a_text_states_one_thing,
+    a_word_stands_whole,
+};
 pub use line::{LinkEnd, serve_link};
 pub use session::{Session, StepEnd};
 pub use tables::PlainTables;

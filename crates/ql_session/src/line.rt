@@ -175,7 +175,13 @@ fn turn<K: Link>(
         Err(end) => return Err(end),
     }
     room.out.clear();
-    match take_command(alloc, tables, &mut room.session, &mut room.framer, &mut room.out) {
+    match take_command(
+        alloc,
+        tables,
+        &mut room.session,
+        &mut room.framer,
+        &mut room.out,
+    ) {
         Taken::Reply => match write_all(link, &room.out) {
             Ok(()) => Ok(()),
             Err(Failed) => Err(LinkEnd::WriteFault),

@@ -115,11 +115,6 @@ pub(crate) fn too_large<K: Link>(link: &mut K, length: u32, seq: u8) -> LinkEnd
 pub(crate) fn out_of_order<K: Link>(link: &mut K, seq: u8) -> LinkEnd
     ensures { Moves K.read_bytes K.written_bytes K.read_faults K.write_faults K.input_ended link.old link.new (RefusesWith result (out_of_order_packet seq) (LinkEnd.OutOfOrder seq)) }
 {
-    let refusal = err_packet(
-        seq.wrapping_add(1),
-        1156,
-        *b"08S01",
-        b"packet out of order",
-    );
+    let refusal = err_packet(seq.wrapping_add(1), 1156, *b"08S01", b"packet out of order");
     refuse(link, &refusal, LinkEnd::OutOfOrder { seq })
 }

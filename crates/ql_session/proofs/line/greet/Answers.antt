@@ -11,17 +11,17 @@ pub returns-in-Ok : goal.returns-in-Ok
 returns-in-Ok g c =
     let K = g.K.Link in
     Moves-weaker K.read_bytes K.written_bytes K.read_faults K.write_faults K.input_ended c.args.link.now c.write_all.new.link
-        (Writes {T = Unit {0}} {E = Failed} (Ok c.in-Ok.field-0) c.bytes.result.now)
-        (λ before now read written. Goes {T = Unit {0}} c.args.connection before now (Ok tt) Opened [] read written [] Greeted [])
-        c.in-Ok.ensures
-        (λ r w p. greeted c.args.connection r w c.bytes.result.now (c.bytes.ensures.value ∙ c.greeting.ensures) p)
+    (Writes {T = Unit {0}} {E = Failed} (Ok c.in-Ok.field-0) c.bytes.result.now)
+    (λ before now read written. Goes {T = Unit {0}} c.args.connection before now (Ok tt) Opened [] read written [] Greeted [])
+    c.in-Ok.ensures
+    (λ r w p. greeted c.args.connection r w c.bytes.result.now (c.bytes.ensures.value ∙ c.greeting.ensures) p)
 
 pub returns-in-Err : goal.returns-in-Err
 returns-in-Err g c =
     let K = g.K.Link in
     let m = meters_of K.read_faults K.write_faults K.input_ended in
     Moves-weaker K.read_bytes K.written_bytes K.read_faults K.write_faults K.input_ended c.args.link.now c.write_all.new.link
-        (Writes {T = Unit {0}} {E = Failed} (Err c.in-Err.field-0) c.bytes.result.now)
-        (λ before now read written. Goes {T = Unit {0}} c.args.connection before now (Err WriteFault) Opened [] read written [] Greeted [])
-        c.in-Err.ensures
-        (λ r w p. greeted_in_part c.args.connection (m c.args.link.now) (m c.write_all.new.link) r w c.bytes.result.now (c.bytes.ensures.value ∙ c.greeting.ensures) p)
+    (Writes {T = Unit {0}} {E = Failed} (Err c.in-Err.field-0) c.bytes.result.now)
+    (λ before now read written. Goes {T = Unit {0}} c.args.connection before now (Err WriteFault) Opened [] read written [] Greeted [])
+    c.in-Err.ensures
+    (λ r w p. greeted_in_part c.args.connection (m c.args.link.now) (m c.write_all.new.link) r w c.bytes.result.now (c.bytes.ensures.value ∙ c.greeting.ensures) p)

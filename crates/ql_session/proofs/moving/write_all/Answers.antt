@@ -11,13 +11,14 @@ pub pieces-preserved : goal.pieces-preserved
 pieces-preserved g c =
     let h = c.in-Ok.ensures in
     let K = g.K.Link in
-    let within : c.pieces.done ≤ length c.args.bytes.now = omega (arith, c.pieces-test.true) in
-    (omega (arith, h.count, length-drop c.pieces.done c.args.bytes.now),
-     Moves-more K.read_bytes K.written_bytes K.read_faults K.write_faults K.input_ended c.args.link.now c.pieces.link c.write.new.self c.args.bytes.now
-         (take c.pieces.done c.args.bytes.now) (take c.in-Ok.count (take (length c.args.bytes.now - c.pieces.done) (drop c.pieces.done c.args.bytes.now)))
-         (λ before now read written. (read ≡ []) × (written ≡ take (c.pieces.done + c.in-Ok.count) c.args.bytes.now))
-         c.pieces.invariant.1 h.writes h.reads h.cause.later h.read_count
-         (λ later. (refl, take_next c.args.bytes.now c.pieces.done c.in-Ok.count within)))
+    let within : c.pieces.done ≤ length c.args.bytes.now = omega (arith, c.pieces-test.true) in (
+      omega (arith, h.count, length-drop c.pieces.done c.args.bytes.now),
+      Moves-more K.read_bytes K.written_bytes K.read_faults K.write_faults K.input_ended c.args.link.now c.pieces.link c.write.new.self c.args.bytes.now
+          (take c.pieces.done c.args.bytes.now) (take c.in-Ok.count (take (length c.args.bytes.now - c.pieces.done) (drop c.pieces.done c.args.bytes.now)))
+          (λ before now read written. (read ≡ []) × (written ≡ take (c.pieces.done + c.in-Ok.count) c.args.bytes.now))
+          c.pieces.invariant.1 h.writes h.reads h.cause.later h.read_count
+          (λ later. (refl, take_next c.args.bytes.now c.pieces.done c.in-Ok.count within)),
+    )
 
 pub returns-in-Ok-eq0 : goal.returns-in-Ok-eq0
 returns-in-Ok-eq0 g c =
@@ -27,11 +28,13 @@ returns-in-Ok-eq0 g c =
     let piece = take (length c.args.bytes.now - c.pieces.done) (drop c.pieces.done c.args.bytes.now) in
     let some : 0 < length piece = simp (length-take, length-drop) (omega (arith, c.pieces-test.true)) in
     Moves-more K.read_bytes K.written_bytes K.read_faults K.write_faults K.input_ended c.args.link.now c.pieces.link c.write.new.self c.args.bytes.now front (take c.in-Ok-eq0.field-0 piece)
-        (Writes {T = Unit {0}} {E = Failed} (Err (record {})) c.args.bytes.now)
-        c.pieces.invariant.1 h.writes h.reads h.cause.later h.read_count
-        (λ later. (refl,
-            rw c.in-Ok-eq0.field-0-test (subst (λ (w : List ℕ). IsCut w c.args.bytes.now) (sym (append-nil front)) (cut_at c.args.bytes.now c.pieces.done c.pieces-test.true)),
-            Rose-earlier _ _ _ later (stuck c.in-Ok-eq0.field-0 (length piece) _ c.in-Ok-eq0.field-0-test some h.stuck)))
+    (Writes {T = Unit {0}} {E = Failed} (Err (record {})) c.args.bytes.now)
+    c.pieces.invariant.1 h.writes h.reads h.cause.later h.read_count
+    (λ later. (
+      refl,
+      rw c.in-Ok-eq0.field-0-test (subst (λ (w : List ℕ). IsCut w c.args.bytes.now) (sym (append-nil front)) (cut_at c.args.bytes.now c.pieces.done c.pieces-test.true)),
+      Rose-earlier _ _ _ later (stuck c.in-Ok-eq0.field-0 (length piece) _ c.in-Ok-eq0.field-0-test some h.stuck),
+    ))
 
 pub returns-in-Err : goal.returns-in-Err
 returns-in-Err g c =
@@ -39,7 +42,10 @@ returns-in-Err g c =
     let K = g.K.Link in
     let front = take c.pieces.done c.args.bytes.now in
     Moves-more K.read_bytes K.written_bytes K.read_faults K.write_faults K.input_ended c.args.link.now c.pieces.link c.write.new.self c.args.bytes.now front []
-        (Writes {T = Unit {0}} (Err c.in-Err.failed) c.args.bytes.now)
-        c.pieces.invariant.1 h.writes h.reads h.cause.later h.read_count
-        (λ later. (refl, subst (λ (w : List ℕ). IsCut w c.args.bytes.now) (sym (append-nil front)) (cut_at c.args.bytes.now c.pieces.done c.pieces-test.true),
-            Rose-earlier _ _ _ later (h.cause.failed refl)))
+    (Writes {T = Unit {0}} (Err c.in-Err.failed) c.args.bytes.now)
+    c.pieces.invariant.1 h.writes h.reads h.cause.later h.read_count
+    (λ later. (
+      refl,
+      subst (λ (w : List ℕ). IsCut w c.args.bytes.now) (sym (append-nil front)) (cut_at c.args.bytes.now c.pieces.done c.pieces-test.true),
+      Rose-earlier _ _ _ later (h.cause.failed refl),
+    ))
