@@ -10,7 +10,7 @@ use Rattle.std.specs.Fmt.{decimal}
 use Rattle.mysql_wire.specs.Packets.{packet}
 use Rattle.mysql_wire.specs.LengthEncoded.{lenenc}
 use Rattle.mysql_wire.specs.Replies.{eof_payload}
-use Rattle.mysql_wire.specs.Rows.{column_payload, row_payload, kind_fields}
+use Rattle.mysql_wire.specs.Rows.{column_payload, row_payload, type_bytes, type_of}
 use Rattle.mysql_wire.specs.declared.rows.Column.{Column}
 use Rattle.mysql_wire.specs.declared.rows.ColumnKind.{ColumnKind}
 use Rattle.mysql_wire.specs.declared.rows.ColumnKind.TheVariants.{Uint, Whole, Unsigned, Text}
@@ -64,11 +64,11 @@ pub length-lenenc : (n : ℕ) → length (lenenc n) ≤ 9
 unfolding lenenc
 length-lenenc n = grind (arith, nat_tests)
 
-pub length-kind_fields : (kind : ColumnKind) → length (kind_fields kind) ≤ 9
-length-kind_fields Uint = omega arith
-length-kind_fields Whole = omega arith
-length-kind_fields Unsigned = omega arith
-length-kind_fields Text = omega arith
+pub length-type : (kind : ColumnKind) → length (type_bytes (type_of kind)) ≤ 9
+length-type Uint = omega arith
+length-type Whole = omega arith
+length-type Unsigned = omega arith
+length-type Text = omega arith
 
 -- a column's payload is short where its name is
 pub length-column : (column : Column) → length column.name ≤ 64 → length (column_payload column) < 16777215
@@ -78,12 +78,12 @@ length-column column short =
     let head = lenenc (length (codes "def")) ++ codes "def" in
     let n : length name ≤ 73 = omega (arith, length-append (lenenc (length column.name)) column.name, length-lenenc (length column.name), short) in
     let h : length head ≤ 12 = omega (arith, length-append (lenenc (length (codes "def"))) (codes "def"), length-lenenc (length (codes "def"))) in
-    let k = kind_fields column.kind in
+    let k = type_bytes (type_of column.kind) in
     omega (
       arith,
       n,
       h,
-      length-kind_fields column.kind,
+      length-type column.kind,
       length-append ((((head ++ 0 ∷ 0 ∷ 0 ∷ []) ++ name) ++ name) ++ 0x0c ∷ k) (0 ∷ 0 ∷ 0 ∷ []),
       length-append (((head ++ 0 ∷ 0 ∷ 0 ∷ []) ++ name) ++ name) (0x0c ∷ k),
       length-append ((head ++ 0 ∷ 0 ∷ 0 ∷ []) ++ name) name,

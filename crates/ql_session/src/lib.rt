@@ -20,4 +20,6 @@ pub use session::{Session, StepEnd};
 pub use tables::PlainTables;
 
 #[cfg(test)]
+mod step_tests;
+#[cfg(test)]
 mod tests;
