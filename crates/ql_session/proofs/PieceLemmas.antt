@@ -7,6 +7,7 @@ use Rattle.std.proofs.Math.Dec.{ltb}
 use Rattle.std.proofs.Math.Seq.{take-add}
 use Rattle.std.proofs.lemmas.List.{take_all, append-nil}
 use Rattle.srch_base.specs.Counts.{Rose, Rose-earlier}
+use Rattle.srch_base.specs.declared.link.Link.{Ghosts as LinkWords}
 use Rattle.srch_base.specs.Told.{then_bytes, then_bytes-none, then_bytes-twice}
 use Rattle.ql_session.specs.Session.{Meters, IsCut}
 use Rattle.ql_session.specs.Pieces.{Moves, meters_of}
@@ -28,47 +29,17 @@ stuck count size P none some holds =
     OnTrue_at (ap (λ (n : ℕ). (n == 0) && ltb 0 size) none ∙ lt-ltb 0 size some) holds
 
 -- a link's members
-module _ {L : Type 0} (reads writes : L → Option (List ℕ)) (read_faults write_faults : L → ℕ) (ended : L → Bool) where
-  -- nothing moved
-  pub Moves-none : (link : L) (P : Meters → Meters → List ℕ → List ℕ → Type 0)
-      → P (meters_of read_faults write_faults ended link) (meters_of read_faults write_faults ended link) [] []
-      → Moves reads writes read_faults write_faults ended link link P
-  Moves-none link P holds = record {
-    read = [];
-    written = [];
-    tells_read = sym (then_bytes-none (reads link));
-    tells_written = sym (then_bytes-none (writes link));
-    reads_later = omega arith;
-    writes_later = omega arith;
-    holds = holds;
-  }
-
-  -- one read
-  pub Moves-from_read : (old new : L) (P : Meters → Meters → List ℕ → List ℕ → Type 0) (moved : List ℕ)
-      → reads new ≡ then_bytes (reads old) moved → writes new ≡ writes old
-      → read_faults old ≤ read_faults new → write_faults new ≡ write_faults old
-      → P (meters_of read_faults write_faults ended old) (meters_of read_faults write_faults ended new) moved []
-      → Moves reads writes read_faults write_faults ended old new P
-  Moves-from_read old new P moved tells same later still holds = record {
-    read = moved;
-    written = [];
-    tells_read = tells;
-    tells_written = same ∙ sym (then_bytes-none (writes old));
-    reads_later = later;
-    writes_later = omega (arith, still);
-    holds = holds;
-  }
-
+module _ {L : Type 0} (words : LinkWords L) where
   -- one write
   pub Moves-from_write : (old new : L) (P : Meters → Meters → List ℕ → List ℕ → Type 0) (moved : List ℕ)
-      → writes new ≡ then_bytes (writes old) moved → reads new ≡ reads old
-      → write_faults old ≤ write_faults new → read_faults new ≡ read_faults old
-      → P (meters_of read_faults write_faults ended old) (meters_of read_faults write_faults ended new) [] moved
-      → Moves reads writes read_faults write_faults ended old new P
+      → words.written_bytes new ≡ then_bytes (words.written_bytes old) moved → words.read_bytes new ≡ words.read_bytes old
+      → words.write_faults old ≤ words.write_faults new → words.read_faults new ≡ words.read_faults old
+      → P (meters_of words old) (meters_of words new) [] moved
+      → Moves words old new P
   Moves-from_write old new P moved tells same later still holds = record {
     read = [];
     written = moved;
-    tells_read = same ∙ sym (then_bytes-none (reads old));
+    tells_read = same ∙ sym (then_bytes-none (words.read_bytes old));
     tells_written = tells;
     reads_later = omega (arith, still);
     writes_later = later;
@@ -77,18 +48,18 @@ module _ {L : Type 0} (reads writes : L → Option (List ℕ)) (read_faults writ
 
   -- what moved first and what moved then
   pub Moves-then : (old mid new : L) (P Q R : Meters → Meters → List ℕ → List ℕ → Type 0)
-      → Moves reads writes read_faults write_faults ended old mid P → Moves reads writes read_faults write_faults ended mid new Q
-      → ((read written read' written' : List ℕ) → read_faults old ≤ read_faults mid → write_faults old ≤ write_faults mid
-      → read_faults mid ≤ read_faults new → write_faults mid ≤ write_faults new
-      → P (meters_of read_faults write_faults ended old) (meters_of read_faults write_faults ended mid) read written
-      → Q (meters_of read_faults write_faults ended mid) (meters_of read_faults write_faults ended new) read' written'
-      → R (meters_of read_faults write_faults ended old) (meters_of read_faults write_faults ended new) (read ++ read') (written ++ written'))
-      → Moves reads writes read_faults write_faults ended old new R
+      → Moves words old mid P → Moves words mid new Q
+      → ((read written read' written' : List ℕ) → words.read_faults old ≤ words.read_faults mid → words.write_faults old ≤ words.write_faults mid
+      → words.read_faults mid ≤ words.read_faults new → words.write_faults mid ≤ words.write_faults new
+      → P (meters_of words old) (meters_of words mid) read written
+      → Q (meters_of words mid) (meters_of words new) read' written'
+      → R (meters_of words old) (meters_of words new) (read ++ read') (written ++ written'))
+      → Moves words old new R
   Moves-then old mid new P Q R first then join = record {
     read = first.read ++ then.read;
     written = first.written ++ then.written;
-    tells_read = then.tells_read ∙ ap (λ told. then_bytes told then.read) first.tells_read ∙ then_bytes-twice (reads old) first.read then.read;
-    tells_written = then.tells_written ∙ ap (λ told. then_bytes told then.written) first.tells_written ∙ then_bytes-twice (writes old) first.written then.written;
+    tells_read = then.tells_read ∙ ap (λ told. then_bytes told then.read) first.tells_read ∙ then_bytes-twice (words.read_bytes old) first.read then.read;
+    tells_written = then.tells_written ∙ ap (λ told. then_bytes told then.written) first.tells_written ∙ then_bytes-twice (words.written_bytes old) first.written then.written;
     reads_later = omega (arith, first.reads_later, then.reads_later);
     writes_later = omega (arith, first.writes_later, then.writes_later);
     holds = join first.read first.written then.read then.written first.reads_later first.writes_later then.reads_later then.writes_later first.holds then.holds;
@@ -96,11 +67,11 @@ module _ {L : Type 0} (reads writes : L → Option (List ℕ)) (read_faults writ
 
   -- A front was written before, and a write moved more.
   pub Moves-more : (first link new : L) (bytes : List ℕ) (front moved : List ℕ) (P : Meters → Meters → List ℕ → List ℕ → Type 0)
-      → Moves reads writes read_faults write_faults ended first link (λ before now read written. (read ≡ []) × (written ≡ front))
-      → writes new ≡ then_bytes (writes link) moved → reads new ≡ reads link
-      → write_faults link ≤ write_faults new → read_faults new ≡ read_faults link
-      → (write_faults first ≤ write_faults link → P (meters_of read_faults write_faults ended first) (meters_of read_faults write_faults ended new) [] (front ++ moved))
-      → Moves reads writes read_faults write_faults ended first new P
+      → Moves words first link (λ before now read written. (read ≡ []) × (written ≡ front))
+      → words.written_bytes new ≡ then_bytes (words.written_bytes link) moved → words.read_bytes new ≡ words.read_bytes link
+      → words.write_faults link ≤ words.write_faults new → words.read_faults new ≡ words.read_faults link
+      → (words.write_faults first ≤ words.write_faults link → P (meters_of words first) (meters_of words new) [] (front ++ moved))
+      → Moves words first new P
   Moves-more first link new bytes front moved P before tells same later still holds =
       Moves-then first link new (λ before now read written. (read ≡ []) × (written ≡ front)) (λ before now read written. (read ≡ []) × (written ≡ moved)) P
       before
@@ -109,10 +80,10 @@ module _ {L : Type 0} (reads writes : L → Option (List ℕ)) (read_faults writ
 
   -- The same moved, and more is known of it.
   pub Moves-weaker : (old new : L) (P Q : Meters → Meters → List ℕ → List ℕ → Type 0)
-      → Moves reads writes read_faults write_faults ended old new P
-      → ((read written : List ℕ) → P (meters_of read_faults write_faults ended old) (meters_of read_faults write_faults ended new) read written
-      → Q (meters_of read_faults write_faults ended old) (meters_of read_faults write_faults ended new) read written)
-      → Moves reads writes read_faults write_faults ended old new Q
+      → Moves words old new P
+      → ((read written : List ℕ) → P (meters_of words old) (meters_of words new) read written
+      → Q (meters_of words old) (meters_of words new) read written)
+      → Moves words old new Q
   Moves-weaker old new P Q moves weaker = record {
     read = moves.read;
     written = moves.written;

@@ -2,6 +2,7 @@
 use Rattle.std.specs.Prelude.{◌≡◌, ◌≢◌, ◌⊎◌, ⊤, ℕ, ◌≤◌, List, [], ◌++◌, Bool, true, Option, None, Result, Ok, Err}
 use Rattle.std.specs.List.{flat_map}
 use Rattle.srch_base.specs.Counts.{Rose}
+use Rattle.srch_base.specs.declared.link.Link.{Ghosts as LinkWords}
 use Rattle.srch_base.specs.declared.faults.Or.{Or}
 use Rattle.srch_base.specs.declared.faults.Or.TheVariants as want
 use Rattle.srch_base.specs.Told.{then_bytes}
@@ -34,19 +35,19 @@ abbrev pub Goes : {T : Type 0} → ℕ → Meters → Meters → Result T LinkEn
 Goes connection before now (Ok x) old held read written events new kept = GoesOn connection old held read written events new kept
 Goes connection before now (Err end) old held read written events new kept = Ends connection before now end old held read written events
 
--- a link's meters, by its members
-abbrev pub meters_of : {L : Type 0} → (L → ℕ) → (L → ℕ) → (L → Bool) → L → Meters
-meters_of read_faults write_faults input_ended link = record { read_faults = read_faults link; write_faults = write_faults link; input_ended = input_ended link }
+-- a link's meters
+abbrev pub meters_of : {L : Type 0} → LinkWords L → L → Meters
+meters_of words link = record { read_faults = words.read_faults link; write_faults = words.write_faults link; input_ended = words.input_ended link }
 
 -- Some bytes were read and written over a link, which tells them where it tells bytes; they and the link's meters have P.
-pub record Moves {L : Type 0} (reads writes : L → Option (List ℕ)) (read_faults write_faults : L → ℕ) (input_ended : L → Bool) (old new : L) (P : Meters → Meters → List ℕ → List ℕ → Type 0) : Type 0 where
+pub record Moves {L : Type 0} (words : LinkWords L) (old new : L) (P : Meters → Meters → List ℕ → List ℕ → Type 0) : Type 0 where
   pub read : List ℕ
   pub written : List ℕ
-  pub tells_read : reads new ≡ then_bytes (reads old) read
-  pub tells_written : writes new ≡ then_bytes (writes old) written
-  pub reads_later : read_faults old ≤ read_faults new
-  pub writes_later : write_faults old ≤ write_faults new
-  pub holds : P (meters_of read_faults write_faults input_ended old) (meters_of read_faults write_faults input_ended new) read written
+  pub tells_read : words.read_bytes new ≡ then_bytes (words.read_bytes old) read
+  pub tells_written : words.written_bytes new ≡ then_bytes (words.written_bytes old) written
+  pub reads_later : words.read_faults old ≤ words.read_faults new
+  pub writes_later : words.write_faults old ≤ words.write_faults new
+  pub holds : P (meters_of words old) (meters_of words new) read written
 
 -- All the bytes were written, or a front of them and the count of writes rose.
 abbrev pub Writes : {T E : Type 0} → Result T E → List ℕ → Meters → Meters → List ℕ → List ℕ → Type 0

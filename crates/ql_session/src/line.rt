@@ -80,7 +80,7 @@ pub fn serve_link<K: Link>(
     connection: u32,
     link: &mut K,
 ) -> LinkEnd
-    ensures { Moves K.read_bytes K.written_bytes K.read_faults K.write_faults K.input_ended link.old link.new (λ before now read written.
+    ensures { Moves K.Link link.old link.new (λ before now read written.
         (events : List Event) × IsSession connection before now read written result events × FollowAll tables.old events tables.new) }
 {
     match greet(connection, link) {
@@ -95,7 +95,7 @@ pub fn serve_link<K: Link>(
 
 /// Writes the greeting.
 fn greet<K: Link>(connection: u32, link: &mut K) -> Result<(), LinkEnd>
-    ensures { Moves K.read_bytes K.written_bytes K.read_faults K.write_faults K.input_ended link.old link.new (λ before now read written.
+    ensures { Moves K.Link link.old link.new (λ before now read written.
         Goes connection before now result Opened [] read written [] Greeted []) }
 {
     match write_all(link, greeting(connection).bytes()) {
@@ -113,7 +113,7 @@ fn converse<K: Link>(
 ) -> LinkEnd
     requires state { room.old.session ≡ new_state }
     requires good { room.old.framer.refused ≡ None }
-    ensures { Moves K.read_bytes K.written_bytes K.read_faults K.write_faults K.input_ended link.old link.new (λ before now read written.
+    ensures { Moves K.Link link.old link.new (λ before now read written.
         (events : List Event) × ((connection : ℕ) → Ends connection before now result Greeted room.old.framer.held read written events) × FollowAll tables.old events tables.new) }
 {
     match shake(link, room) {
@@ -133,7 +133,7 @@ fn converse<K: Link>(
 fn shake<K: Link>(link: &mut K, room: &mut Room) -> Result<(), LinkEnd>
     requires state { room.old.session ≡ new_state }
     requires good { room.old.framer.refused ≡ None }
-    ensures moves { Moves K.read_bytes K.written_bytes K.read_faults K.write_faults K.input_ended link.old link.new (λ before now read written.
+    ensures moves { Moves K.Link link.old link.new (λ before now read written.
         (connection : ℕ) → Goes connection before now result Greeted room.old.framer.held read written [] (Talking room.new.session 0) room.new.framer.held) }
     ensures good { OnOk result (room.new.framer.refused ≡ None) }
 {
@@ -164,7 +164,7 @@ fn turn<K: Link>(
     room: &mut Room,
 ) -> Result<(), LinkEnd>
     requires { room.old.framer.refused ≡ None }
-    ensures moves { Moves K.read_bytes K.written_bytes K.read_faults K.write_faults K.input_ended link.old link.new (λ before now read written.
+    ensures moves { Moves K.Link link.old link.new (λ before now read written.
         (events : List Event)
         × ((connection answered : ℕ) → Goes connection before now result (Talking room.old.session answered) room.old.framer.held read written events (Talking room.new.session (suc answered)) room.new.framer.held)
         × FollowAll tables.old events tables.new) }

@@ -11,7 +11,7 @@ use srch_base::{Failed, Link, NoMemory, Or};
 
 /// Writes all the bytes, in as many writes as the link takes.
 pub(crate) fn write_all<K: Link>(link: &mut K, bytes: &[u8]) -> Result<(), Failed>
-    ensures { Moves K.read_bytes K.written_bytes K.read_faults K.write_faults K.input_ended link.old link.new (Writes result bytes.now) }
+    ensures { Moves K.Link link.old link.new (Writes result bytes.now) }
 {
     let mut done = 0;
     'pieces: while done < bytes.len() {
@@ -26,7 +26,7 @@ pub(crate) fn write_all<K: Link>(link: &mut K, bytes: &[u8]) -> Result<(), Faile
 
 /// Writes the packet of a refusal, with which the line ends.
 pub(crate) fn refuse<K: Link>(link: &mut K, refusal: &Small, end: LinkEnd) -> LinkEnd
-    ensures { Moves K.read_bytes K.written_bytes K.read_faults K.write_faults K.input_ended link.old link.new (RefusesWith result refusal.now end) }
+    ensures { Moves K.Link link.old link.new (RefusesWith result refusal.now end) }
 {
     match write_all(link, refusal.bytes()) {
         Ok(()) => end,
@@ -37,7 +37,7 @@ pub(crate) fn refuse<K: Link>(link: &mut K, refusal: &Small, end: LinkEnd) -> Li
 /// Says that memory for reading was refused, where the link takes it. `seq` is the number of the packet.
 pub(crate) fn out_of_memory<K: Link>(link: &mut K, seq: u8) -> LinkEnd
     ensures end { result ≡ LinkEnd.NoMemory }
-    ensures moves { Moves K.read_bytes K.written_bytes K.read_faults K.write_faults K.input_ended link.old link.new (λ before now read written. (read ≡ [])
+    ensures moves { Moves K.Link link.old link.new (λ before now read written. (read ≡ [])
         × ((written ≡ no_room seq) ⊎ (Rose before.write_faults now.write_faults × IsCut written (no_room seq)))) }
 {
     match write_all(
@@ -59,7 +59,7 @@ pub(crate) fn fill<K: Link>(
     requires some { 0 < length buffer.old }
     requires few { length buffer.old ≤ 65536 }
     requires number { expect < 255 }
-    ensures moves { Moves K.read_bytes K.written_bytes K.read_faults K.write_faults K.input_ended link.old link.new (λ before now read written.
+    ensures moves { Moves K.Link link.old link.new (λ before now read written.
         (connection : ℕ) (phase : Phase) → HasGreeted phase → expected phase ≡ expect →
         Goes connection before now result phase framer.old.held read written [] phase framer.new.held) }
     ensures good { framer.new.refused ≡ None }
@@ -84,7 +84,7 @@ fn read_more<K: Link>(
     requires few { length framer.old.held < 8388612 }
     requires some { 0 < length buffer.old }
     requires fits { length buffer.old ≤ 65536 }
-    ensures moves { Moves K.read_bytes K.written_bytes K.read_faults K.write_faults K.input_ended link.old link.new (Feeds result framer.old.held framer.new.held) }
+    ensures moves { Moves K.Link link.old link.new (Feeds result framer.old.held framer.new.held) }
     ensures refused { framer.new.refused ≡ framer.old.refused }
 {
     match link.read(buffer) {
@@ -100,7 +100,7 @@ fn read_more<K: Link>(
 
 /// Refuses a packet for its length.
 pub(crate) fn too_large<K: Link>(link: &mut K, length: u32, seq: u8) -> LinkEnd
-    ensures { Moves K.read_bytes K.written_bytes K.read_faults K.write_faults K.input_ended link.old link.new (RefusesWith result (too_large_packet seq) (LinkEnd.TooLarge length)) }
+    ensures { Moves K.Link link.old link.new (RefusesWith result (too_large_packet seq) (LinkEnd.TooLarge length)) }
 {
     let refusal = err_packet(
         seq.wrapping_add(1),
@@ -113,7 +113,7 @@ pub(crate) fn too_large<K: Link>(link: &mut K, length: u32, seq: u8) -> LinkEnd
 
 /// Refuses a packet for its number.
 pub(crate) fn out_of_order<K: Link>(link: &mut K, seq: u8) -> LinkEnd
-    ensures { Moves K.read_bytes K.written_bytes K.read_faults K.write_faults K.input_ended link.old link.new (RefusesWith result (out_of_order_packet seq) (LinkEnd.OutOfOrder seq)) }
+    ensures { Moves K.Link link.old link.new (RefusesWith result (out_of_order_packet seq) (LinkEnd.OutOfOrder seq)) }
 {
     let refusal = err_packet(seq.wrapping_add(1), 1156, *b"08S01", b"packet out of order");
     refuse(link, &refusal, LinkEnd::OutOfOrder { seq })

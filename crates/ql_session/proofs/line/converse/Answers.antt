@@ -10,7 +10,7 @@ use Rattle.ql_session.proofs.line.converse.Goals as goal
 pub returns-in-Err : goal.returns-in-Err
 returns-in-Err g c =
     let K = g.K.Link in
-    Moves-weaker K.read_bytes K.written_bytes K.read_faults K.write_faults K.input_ended c.args.link.now c.shake.new.link
+    Moves-weaker K c.args.link.now c.shake.new.link
     (λ before now read written. (connection : ℕ) →
     Goes {T = Unit {0}} connection before now (Err c.in-Err.end) Greeted c.args.room.now.framer.held read written [] (Talking c.shake.new.room.session 0) c.shake.new.room.framer.held)
     (λ before now read written. (events : List Event)
@@ -24,7 +24,7 @@ commands-init g c =
     let K = g.K.Link in
     record {
       good = c.in-Ok.ensures.good;
-      talked = Moves-weaker K.read_bytes K.written_bytes K.read_faults K.write_faults K.input_ended c.args.link.now c.shake.new.link
+      talked = Moves-weaker K c.args.link.now c.shake.new.link
           (λ before now read written. (connection : ℕ) →
           Goes {T = Unit {0}} connection before now (Ok c.in-Ok.field-0) Greeted c.args.room.now.framer.held read written [] (Talking c.shake.new.room.session 0) c.shake.new.room.framer.held)
           (λ before now read written. (events : List Event)
@@ -40,8 +40,8 @@ turn-requires g c = c.commands.invariant.good
 pub returns-in-Err-turn : goal.returns-in-Err-turn
 returns-in-Err-turn g c =
     let K = g.K.Link in
-    let m = meters_of K.read_faults K.write_faults K.input_ended in
-    Moves-then K.read_bytes K.written_bytes K.read_faults K.write_faults K.input_ended c.args.link.now c.commands.link c.turn.new.link
+    let m = meters_of K in
+    Moves-then K c.args.link.now c.commands.link c.turn.new.link
     (λ before now read written. (events : List Event)
     × ((connection : ℕ) → GoesOn connection Greeted c.args.room.now.framer.held read written events (Talking c.commands.room.session c.commands.counter) c.commands.room.framer.held)
     × FollowAll c.args.tables.now events c.commands.tables)
@@ -62,10 +62,10 @@ returns-in-Err-turn g c =
 pub commands-preserved : goal.commands-preserved
 commands-preserved g c =
     let K = g.K.Link in
-    let m = meters_of K.read_faults K.write_faults K.input_ended in
+    let m = meters_of K in
     record {
       good = c.in-Ok-turn.ensures.good;
-      talked = Moves-then K.read_bytes K.written_bytes K.read_faults K.write_faults K.input_ended c.args.link.now c.commands.link c.turn.new.link
+      talked = Moves-then K c.args.link.now c.commands.link c.turn.new.link
           (λ before now read written. (events : List Event)
           × ((connection : ℕ) → GoesOn connection Greeted c.args.room.now.framer.held read written events (Talking c.commands.room.session c.commands.counter) c.commands.room.framer.held)
           × FollowAll c.args.tables.now events c.commands.tables)
@@ -87,8 +87,8 @@ commands-preserved g c =
 pub returns : goal.returns
 returns g c =
     let K = g.K.Link in
-    let m = meters_of K.read_faults K.write_faults K.input_ended in
-    Moves-weaker K.read_bytes K.written_bytes K.read_faults K.write_faults K.input_ended c.args.link.now c.commands.link
+    let m = meters_of K in
+    Moves-weaker K c.args.link.now c.commands.link
     (λ before now read written. (events : List Event)
     × ((connection : ℕ) → GoesOn connection Greeted c.args.room.now.framer.held read written events (Talking c.commands.room.session c.commands.counter) c.commands.room.framer.held)
     × FollowAll c.args.tables.now events c.commands.tables)

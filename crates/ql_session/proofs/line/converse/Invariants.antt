@@ -10,7 +10,7 @@ invariant-commands g l =
     let K = g.K.Link in
     record {
       good : l.room.framer.refused ≡ None;
-      talked : Moves K.read_bytes K.written_bytes K.read_faults K.write_faults K.input_ended l.fn.link l.link (λ before now read written. (events : List Event)
+      talked : Moves K l.fn.link l.link (λ before now read written. (events : List Event)
           × ((connection : ℕ) → GoesOn connection Greeted l.fn.room.framer.held read written events (Talking l.room.session l.counter) l.room.framer.held)
           × FollowAll l.fn.tables events l.tables);
     }

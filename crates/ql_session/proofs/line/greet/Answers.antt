@@ -10,7 +10,7 @@ use Rattle.ql_session.proofs.line.greet.Goals as goal
 pub returns-in-Ok : goal.returns-in-Ok
 returns-in-Ok g c =
     let K = g.K.Link in
-    Moves-weaker K.read_bytes K.written_bytes K.read_faults K.write_faults K.input_ended c.args.link.now c.write_all.new.link
+    Moves-weaker K c.args.link.now c.write_all.new.link
     (Writes {T = Unit {0}} {E = Failed} (Ok c.in-Ok.field-0) c.bytes.result.now)
     (λ before now read written. Goes {T = Unit {0}} c.args.connection before now (Ok tt) Opened [] read written [] Greeted [])
     c.in-Ok.ensures
@@ -19,8 +19,8 @@ returns-in-Ok g c =
 pub returns-in-Err : goal.returns-in-Err
 returns-in-Err g c =
     let K = g.K.Link in
-    let m = meters_of K.read_faults K.write_faults K.input_ended in
-    Moves-weaker K.read_bytes K.written_bytes K.read_faults K.write_faults K.input_ended c.args.link.now c.write_all.new.link
+    let m = meters_of K in
+    Moves-weaker K c.args.link.now c.write_all.new.link
     (Writes {T = Unit {0}} {E = Failed} (Err c.in-Err.field-0) c.bytes.result.now)
     (λ before now read written. Goes {T = Unit {0}} c.args.connection before now (Err WriteFault) Opened [] read written [] Greeted [])
     c.in-Err.ensures

@@ -13,7 +13,7 @@ use Rattle.ql_session.proofs.line.serve_link.Goals as goal
 pub returns-in-Err : goal.returns-in-Err
 returns-in-Err g c =
     let K = g.K.Link in
-    Moves-weaker K.read_bytes K.written_bytes K.read_faults K.write_faults K.input_ended c.args.link.now c.greet.new.link
+    Moves-weaker K c.args.link.now c.greet.new.link
     (λ before now read written. Goes {T = Unit {0}} c.args.connection before now (Err c.in-Err.end) Opened [] read written [] Greeted [])
     (λ before now read written. (events : List Event) × Ends c.args.connection before now (c.in-Err.end) Opened [] read written events × FollowAll c.args.tables.now events c.args.tables.now)
     c.in-Err.ensures
@@ -22,8 +22,8 @@ returns-in-Err g c =
 pub returns-in-Ok-new : goal.returns-in-Ok-new
 returns-in-Ok-new g c =
     let K = g.K.Link in
-    let m = meters_of K.read_faults K.write_faults K.input_ended in
-    Moves-then K.read_bytes K.written_bytes K.read_faults K.write_faults K.input_ended c.args.link.now c.greet.new.link c.converse.new.link
+    let m = meters_of K in
+    Moves-then K c.args.link.now c.greet.new.link c.converse.new.link
     (λ before now read written. Goes {T = Unit {0}} c.args.connection before now (Ok c.in-Ok.field-0) Opened [] read written [] Greeted [])
     (λ before now read written. (events : List Event) × ((connection : ℕ) → Ends connection before now c.converse.result Greeted [] read written events) × FollowAll c.args.tables.now events c.converse.new.tables)
     (λ before now read written. (events : List Event) × Ends c.args.connection before now (c.converse.result) Opened [] read written events × FollowAll c.args.tables.now events c.converse.new.tables)
@@ -39,8 +39,8 @@ returns-in-Ok-new g c =
 pub returns-in-Err-new : goal.returns-in-Err-new
 returns-in-Err-new g c =
     let K = g.K.Link in
-    let m = meters_of K.read_faults K.write_faults K.input_ended in
-    Moves-then K.read_bytes K.written_bytes K.read_faults K.write_faults K.input_ended c.args.link.now c.greet.new.link c.out_of_memory.new.link
+    let m = meters_of K in
+    Moves-then K c.args.link.now c.greet.new.link c.out_of_memory.new.link
     (λ before now read written. Goes {T = Unit {0}} c.args.connection before now (Ok c.in-Ok.field-0) Opened [] read written [] Greeted [])
     (λ before now read written. (read ≡ []) × ((written ≡ no_room 2) ⊎ (Rose before.write_faults now.write_faults × IsCut written (no_room 2))))
     (λ before now read written. (events : List Event) × Ends c.args.connection before now (c.out_of_memory.result) Opened [] read written events × FollowAll c.args.tables.now events c.args.tables.now)

@@ -16,7 +16,7 @@ returns-in-Ok-write_all g c =
     let K = g.K.Link in
     let t = c.in-Accepted.ensures in
     record {
-      moves = Moves-then K.read_bytes K.written_bytes K.read_faults K.write_faults K.input_ended c.args.link.now c.fill.new.link c.write_all.new.link
+      moves = Moves-then K c.args.link.now c.fill.new.link c.write_all.new.link
           (λ before now read written. (connection : ℕ) (phase : Phase) → HasGreeted phase → expected phase ≡ 1 →
           Goes {T = Unit {0}} connection before now (Ok c.in-Ok.field-0) phase c.args.room.now.framer.held read written [] phase c.fill.new.framer.held)
           (Writes {T = Unit {0}} {E = Failed} (Ok c.in-Ok-write_all.field-0) c.bytes.result.now)
@@ -32,9 +32,9 @@ returns-in-Ok-write_all g c =
 pub returns-in-Err-write_all-clause-moves : goal.returns-in-Err-write_all-clause-moves
 returns-in-Err-write_all-clause-moves g c =
     let K = g.K.Link in
-    let m = meters_of K.read_faults K.write_faults K.input_ended in
+    let m = meters_of K in
     let t = c.in-Accepted.ensures in
-    Moves-then K.read_bytes K.written_bytes K.read_faults K.write_faults K.input_ended c.args.link.now c.fill.new.link c.write_all.new.link
+    Moves-then K c.args.link.now c.fill.new.link c.write_all.new.link
     (λ before now read written. (connection : ℕ) (phase : Phase) → HasGreeted phase → expected phase ≡ 1 →
     Goes {T = Unit {0}} connection before now (Ok c.in-Ok.field-0) phase c.args.room.now.framer.held read written [] phase c.fill.new.framer.held)
     (Writes {T = Unit {0}} {E = Failed} (Err c.in-Err-write_all.field-0) c.bytes.result.now)
@@ -47,12 +47,12 @@ returns-in-Err-write_all-clause-moves g c =
 pub returns-in-Bad : goal.returns-in-Bad
 returns-in-Bad g c =
     let K = g.K.Link in
-    let m = meters_of K.read_faults K.write_faults K.input_ended in
+    let m = meters_of K in
     let t = c.in-Bad.ensures in
     let packet : c.err_packet-refusal.result ≡ bad_handshake_packet c.in-Bad.place =
     c.err_packet-refusal.ensures ∙ ap (λ (text : List ℕ). err_packet 2 1043 (codes "08S01") text) (c.deref.ensures.0 ∙ c.numbered-text.ensures.items ∙ ap (λ (n : ℕ). codes "bad handshake at " ++ decimal n) c.from.ensures) in
     record {
-      moves = Moves-then K.read_bytes K.written_bytes K.read_faults K.write_faults K.input_ended c.args.link.now c.fill.new.link c.refuse.new.link
+      moves = Moves-then K c.args.link.now c.fill.new.link c.refuse.new.link
           (λ before now read written. (connection : ℕ) (phase : Phase) → HasGreeted phase → expected phase ≡ 1 →
           Goes {T = Unit {0}} connection before now (Ok c.in-Ok.field-0) phase c.args.room.now.framer.held read written [] phase c.fill.new.framer.held)
           (RefusesWith c.refuse.result c.err_packet-refusal.result (BadHandshake c.in-Bad.place))
@@ -68,9 +68,9 @@ returns-in-Bad g c =
 pub returns-in-TooLarge : goal.returns-in-TooLarge
 returns-in-TooLarge g c =
     let K = g.K.Link in
-    let m = meters_of K.read_faults K.write_faults K.input_ended in
+    let m = meters_of K in
     record {
-      moves = Moves-then K.read_bytes K.written_bytes K.read_faults K.write_faults K.input_ended c.args.link.now c.fill.new.link c.too_large.new.link
+      moves = Moves-then K c.args.link.now c.fill.new.link c.too_large.new.link
           (λ before now read written. (connection : ℕ) (phase : Phase) → HasGreeted phase → expected phase ≡ 1 →
           Goes {T = Unit {0}} connection before now (Ok c.in-Ok.field-0) phase c.args.room.now.framer.held read written [] phase c.fill.new.framer.held)
           (RefusesWith c.too_large.result (too_large_packet c.in-TooLarge.seq) (TooLarge c.in-TooLarge.length))
@@ -86,8 +86,8 @@ returns-in-TooLarge g c =
 pub returns-in-OutOfOrder-clause-moves : goal.returns-in-OutOfOrder-clause-moves
 returns-in-OutOfOrder-clause-moves g c =
     let K = g.K.Link in
-    let m = meters_of K.read_faults K.write_faults K.input_ended in
-    Moves-then K.read_bytes K.written_bytes K.read_faults K.write_faults K.input_ended c.args.link.now c.fill.new.link c.out_of_order.new.link
+    let m = meters_of K in
+    Moves-then K c.args.link.now c.fill.new.link c.out_of_order.new.link
     (λ before now read written. (connection : ℕ) (phase : Phase) → HasGreeted phase → expected phase ≡ 1 →
     Goes {T = Unit {0}} connection before now (Ok c.in-Ok.field-0) phase c.args.room.now.framer.held read written [] phase c.fill.new.framer.held)
     (RefusesWith c.out_of_order.result (out_of_order_packet c.in-OutOfOrder.seq) (OutOfOrder c.in-OutOfOrder.seq))

@@ -13,7 +13,7 @@ pub returns-in-Err : goal.returns-in-Err
 returns-in-Err g c =
     let K = g.K.Link in
     record {
-      moves = Moves-weaker K.read_bytes K.written_bytes K.read_faults K.write_faults K.input_ended c.args.link.now c.fill.new.link
+      moves = Moves-weaker K c.args.link.now c.fill.new.link
           (λ before now read written. (connection : ℕ) (phase : Phase) → HasGreeted phase → expected phase ≡ 0 →
           Goes {T = Unit {0}} connection before now (Err c.in-Err.end) phase c.args.room.now.framer.held read written [] phase c.fill.new.framer.held)
           (λ before now read written. (events : List Event)
@@ -30,7 +30,7 @@ returns-in-Ok-write_all g c =
     let t = c.in-Reply.ensures.takes in
     let s = t.3 in
     record {
-      moves = Moves-then K.read_bytes K.written_bytes K.read_faults K.write_faults K.input_ended c.args.link.now c.fill.new.link c.write_all.new.link
+      moves = Moves-then K c.args.link.now c.fill.new.link c.write_all.new.link
           (λ before now read written. (connection : ℕ) (phase : Phase) → HasGreeted phase → expected phase ≡ 0 →
           Goes {T = Unit {0}} connection before now (Ok c.in-Ok.field-0) phase c.args.room.now.framer.held read written [] phase c.fill.new.framer.held)
           (Writes {T = Unit {0}} {E = Failed} (Ok c.in-Ok-write_all.field-0) c.deref.result.now)
@@ -50,11 +50,11 @@ returns-in-Ok-write_all g c =
 pub returns-in-Err-write_all : goal.returns-in-Err-write_all
 returns-in-Err-write_all g c =
     let K = g.K.Link in
-    let m = meters_of K.read_faults K.write_faults K.input_ended in
+    let m = meters_of K in
     let t = c.in-Reply.ensures.takes in
     let s = t.3 in
     record {
-      moves = Moves-then K.read_bytes K.written_bytes K.read_faults K.write_faults K.input_ended c.args.link.now c.fill.new.link c.write_all.new.link
+      moves = Moves-then K c.args.link.now c.fill.new.link c.write_all.new.link
           (λ before now read written. (connection : ℕ) (phase : Phase) → HasGreeted phase → expected phase ≡ 0 →
           Goes {T = Unit {0}} connection before now (Ok c.in-Ok.field-0) phase c.args.room.now.framer.held read written [] phase c.fill.new.framer.held)
           (Writes {T = Unit {0}} {E = Failed} (Err c.in-Err-write_all.field-0) c.deref.result.now)
@@ -74,10 +74,10 @@ returns-in-Err-write_all g c =
 pub returns-in-Quit : goal.returns-in-Quit
 returns-in-Quit g c =
     let K = g.K.Link in
-    let m = meters_of K.read_faults K.write_faults K.input_ended in
+    let m = meters_of K in
     let t = c.in-Quit.ensures.takes in
     record {
-      moves = Moves-weaker K.read_bytes K.written_bytes K.read_faults K.write_faults K.input_ended c.args.link.now c.fill.new.link
+      moves = Moves-weaker K c.args.link.now c.fill.new.link
           (λ before now read written. (connection : ℕ) (phase : Phase) → HasGreeted phase → expected phase ≡ 0 →
           Goes {T = Unit {0}} connection before now (Ok c.in-Ok.field-0) phase c.args.room.now.framer.held read written [] phase c.fill.new.framer.held)
           (λ before now read written. (events : List Event)
@@ -96,10 +96,10 @@ returns-in-Quit g c =
 pub returns-in-TooLarge : goal.returns-in-TooLarge
 returns-in-TooLarge g c =
     let K = g.K.Link in
-    let m = meters_of K.read_faults K.write_faults K.input_ended in
+    let m = meters_of K in
     let t = c.in-TooLarge.ensures.takes in
     record {
-      moves = Moves-then K.read_bytes K.written_bytes K.read_faults K.write_faults K.input_ended c.args.link.now c.fill.new.link c.too_large.new.link
+      moves = Moves-then K c.args.link.now c.fill.new.link c.too_large.new.link
           (λ before now read written. (connection : ℕ) (phase : Phase) → HasGreeted phase → expected phase ≡ 0 →
           Goes {T = Unit {0}} connection before now (Ok c.in-Ok.field-0) phase c.args.room.now.framer.held read written [] phase c.fill.new.framer.held)
           (RefusesWith c.too_large.result (too_large_packet c.in-TooLarge.seq) (TooLarge c.in-TooLarge.length))
@@ -119,10 +119,10 @@ returns-in-TooLarge g c =
 pub returns-in-OutOfOrder : goal.returns-in-OutOfOrder
 returns-in-OutOfOrder g c =
     let K = g.K.Link in
-    let m = meters_of K.read_faults K.write_faults K.input_ended in
+    let m = meters_of K in
     let t = c.in-OutOfOrder.ensures.takes in
     record {
-      moves = Moves-then K.read_bytes K.written_bytes K.read_faults K.write_faults K.input_ended c.args.link.now c.fill.new.link c.out_of_order.new.link
+      moves = Moves-then K c.args.link.now c.fill.new.link c.out_of_order.new.link
           (λ before now read written. (connection : ℕ) (phase : Phase) → HasGreeted phase → expected phase ≡ 0 →
           Goes {T = Unit {0}} connection before now (Ok c.in-Ok.field-0) phase c.args.room.now.framer.held read written [] phase c.fill.new.framer.held)
           (RefusesWith c.out_of_order.result (out_of_order_packet c.in-OutOfOrder.seq) (OutOfOrder c.in-OutOfOrder.seq))

@@ -12,15 +12,15 @@ use Rattle.ql_session.proofs.moving.fill.Goals as goal
 pub returns-in-Err-NoMemory-clause-moves : goal.returns-in-Err-NoMemory-clause-moves
 returns-in-Err-NoMemory-clause-moves g c =
     let K = g.K.Link in
-    let m = meters_of K.read_faults K.write_faults K.input_ended in
+    let m = meters_of K in
     let fed = rw c.in-Err-NoMemory.field-0-is at c.in-Err-NoMemory.ensures.moves in
-    let read = Moves-then K.read_bytes K.written_bytes K.read_faults K.write_faults K.input_ended c.args.link.now c.reads.link c.read_more.new.link
+    let read = Moves-then K c.args.link.now c.reads.link c.read_more.new.link
     (λ before now read written. (written ≡ []) × (c.reads.framer.held ≡ c.args.framer.now.held ++ read))
     (Feeds {T = Unit {0}} (Err NoMemory) c.reads.framer.held c.read_more.new.framer.held)
     (λ before now read written. written ≡ [])
     c.reads.invariant.moved fed
     (λ r w r' w' a b d e p q. rw (p.0, q) refl) in
-    Moves-then K.read_bytes K.written_bytes K.read_faults K.write_faults K.input_ended c.args.link.now c.read_more.new.link c.out_of_memory.new.link
+    Moves-then K c.args.link.now c.read_more.new.link c.out_of_memory.new.link
     (λ before now read written. written ≡ [])
     (λ before now read written. (read ≡ []) × ((written ≡ no_room (c.args.expect + 1)) ⊎ (Rose before.write_faults now.write_faults × IsCut written (no_room (c.args.expect + 1)))))
     (λ before now read written. (connection : ℕ) (phase : Phase) → HasGreeted phase → expected phase ≡ c.args.expect →
@@ -32,11 +32,11 @@ returns-in-Err-NoMemory-clause-moves g c =
 pub returns-in-Err-Fault : goal.returns-in-Err-Fault
 returns-in-Err-Fault g c =
     let K = g.K.Link in
-    let m = meters_of K.read_faults K.write_faults K.input_ended in
+    let m = meters_of K in
     let fed = rw c.in-Err-Fault.field-0-is at c.in-Err-Fault.ensures.moves in
     let partial : IsPartial c.args.expect c.reads.framer.held = (c.reads-test.ensures.waits.0 refl).1 in
     record {
-      moves = Moves-then K.read_bytes K.written_bytes K.read_faults K.write_faults K.input_ended c.args.link.now c.reads.link c.read_more.new.link
+      moves = Moves-then K c.args.link.now c.reads.link c.read_more.new.link
           (λ before now read written. (written ≡ []) × (c.reads.framer.held ≡ c.args.framer.now.held ++ read))
           (Feeds {T = Unit {0}} (Err (Fault c.in-Err-Fault.end)) c.reads.framer.held c.read_more.new.framer.held)
           (λ before now read written. (connection : ℕ) (phase : Phase) → HasGreeted phase → expected phase ≡ c.args.expect →

@@ -8,7 +8,7 @@ invariant-reads g l =
     let K = g.K.Link in
     record {
       good : l.framer.refused ≡ None;
-      moved : Moves K.read_bytes K.written_bytes K.read_faults K.write_faults K.input_ended l.fn.link l.link (λ before now read written. (written ≡ []) × (l.framer.held ≡ l.fn.framer.held ++ read));
+      moved : Moves K l.fn.link l.link (λ before now read written. (written ≡ []) × (l.framer.held ≡ l.fn.framer.held ++ read));
     }
 
 abbrev pub decreases-reads : goal.decreases-reads

@@ -13,7 +13,7 @@ pieces-preserved g c =
     let K = g.K.Link in
     let within : c.pieces.done ≤ length c.args.bytes.now = omega (arith, c.pieces-test.true) in (
       omega (arith, h.count, length-drop c.pieces.done c.args.bytes.now),
-      Moves-more K.read_bytes K.written_bytes K.read_faults K.write_faults K.input_ended c.args.link.now c.pieces.link c.write.new.self c.args.bytes.now
+      Moves-more K c.args.link.now c.pieces.link c.write.new.self c.args.bytes.now
           (take c.pieces.done c.args.bytes.now) (take c.in-Ok.count (take (length c.args.bytes.now - c.pieces.done) (drop c.pieces.done c.args.bytes.now)))
           (λ before now read written. (read ≡ []) × (written ≡ take (c.pieces.done + c.in-Ok.count) c.args.bytes.now))
           c.pieces.invariant.1 h.writes h.reads h.cause.later h.read_count
@@ -27,7 +27,7 @@ returns-in-Ok-eq0 g c =
     let front = take c.pieces.done c.args.bytes.now in
     let piece = take (length c.args.bytes.now - c.pieces.done) (drop c.pieces.done c.args.bytes.now) in
     let some : 0 < length piece = simp (length-take, length-drop) (omega (arith, c.pieces-test.true)) in
-    Moves-more K.read_bytes K.written_bytes K.read_faults K.write_faults K.input_ended c.args.link.now c.pieces.link c.write.new.self c.args.bytes.now front (take c.in-Ok-eq0.field-0 piece)
+    Moves-more K c.args.link.now c.pieces.link c.write.new.self c.args.bytes.now front (take c.in-Ok-eq0.field-0 piece)
     (Writes {T = Unit {0}} {E = Failed} (Err (record {})) c.args.bytes.now)
     c.pieces.invariant.1 h.writes h.reads h.cause.later h.read_count
     (λ later. (
@@ -41,7 +41,7 @@ returns-in-Err g c =
     let h = c.in-Err.ensures in
     let K = g.K.Link in
     let front = take c.pieces.done c.args.bytes.now in
-    Moves-more K.read_bytes K.written_bytes K.read_faults K.write_faults K.input_ended c.args.link.now c.pieces.link c.write.new.self c.args.bytes.now front []
+    Moves-more K c.args.link.now c.pieces.link c.write.new.self c.args.bytes.now front []
     (Writes {T = Unit {0}} (Err c.in-Err.failed) c.args.bytes.now)
     c.pieces.invariant.1 h.writes h.reads h.cause.later h.read_count
     (λ later. (

@@ -6,7 +6,7 @@ use Rattle.ql_session.proofs.moving.write_all.Given as goal
 abbrev pub invariant-pieces : goal.invariant-pieces
 invariant-pieces g l =
     let K = g.K.Link in
-    (l.done ≤ length l.bytes) × Moves K.read_bytes K.written_bytes K.read_faults K.write_faults K.input_ended l.fn.link l.link (λ before now read written. (read ≡ []) × (written ≡ take l.done l.bytes))
+    (l.done ≤ length l.bytes) × Moves K l.fn.link l.link (λ before now read written. (read ≡ []) × (written ≡ take l.done l.bytes))
 
 abbrev pub decreases-pieces : goal.decreases-pieces
 decreases-pieces g l = length l.bytes - l.done
