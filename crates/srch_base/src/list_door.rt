@@ -4,7 +4,7 @@ ghost use Rattle.srch_base.specs.Doors.{lines_in, says_end};
 ghost use Rattle.srch_base.specs.Memory.{door_over, lines_given, after_next};
 
 use crate::{Door, Failed, MemoryLink, NoMemory};
-use std::alloc::Global;
+use std::alloc::{AllocError, Global};
 use std::marker::Model;
 
 /// A door that gives the links of a list, each as it stands there. It is for tests and for trying things out.
@@ -34,7 +34,7 @@ impl Model for ListDoor {
       faults = a.faults;
     } };
 
-    ghost invariant = { λ a. (a.at ≤ length a.lines.items) × (length a.lines.items ≤ vec_capacity a.returned) × OnTrue a.ended (a.at ≡ length a.lines.items) };
+    ghost invariant = { λ a. (a.at ≤ length a.lines.items) × (length a.lines.items ≤ vec_capacity a.returned) × (length a.returned.items ≤ a.at) × OnTrue a.ended (a.at ≡ length a.lines.items) };
 }
 
 impl ListDoor {
@@ -101,5 +101,24 @@ impl Door for ListDoor {
         ensures { self.new ≡ record self.old { returned = self.old.returned ++ line ∷ [] } }
     {
         self.returned.push_reserved(line);
+    }
+}
+
+/// A copy stands as the door does. A door has no more lines back than it gave, and so has its copy.
+impl Clone for ListDoor {
+    ghost use Rattle.std.specs.Prelude.{◌≤◌};
+
+    ghost is_clone = { λ door other. (other ≡ door) × (length other.returned ≤ length (lines_given other)) };
+
+    fn clone(&self) -> Result<ListDoor, AllocError> {
+        let mut returned = self.returned.clone()?;
+        returned.reserve(self.lines.len() - self.returned.len())?;
+        Ok(ListDoor {
+            lines: self.lines.clone()?,
+            at: self.at,
+            returned,
+            ended: self.ended,
+            faults: self.faults,
+        })
     }
 }

@@ -1,0 +1,45 @@
+//! The program `searchd`: the top call over the standard streams.
+#![tactic(auto)]
+
+mod real_host;
+mod std_door;
+mod std_line;
+
+use real_host::RealHost;
+use searchd_top::{Host, Status, Stream, searchd};
+use srch_base::{Failed, NoMemory};
+use std::env;
+use std::io::ErrorKind;
+use std::process::ExitCode;
+
+fn main(rt: HostRuntime) -> ExitCode {
+    let mut host = RealHost::new(rt.alloc(), rt.stdin(), rt.stdout(), rt.stderr());
+    let status = match words(&rt) {
+        Ok(words) => searchd(rt.alloc(), words.as_slice(), &mut host),
+        Err(NoMemory) => without_memory(&mut host),
+    };
+    ExitCode::from(status.code())
+}
+
+/// The words after the program's name. Words that aren't all UTF-8 are taken for none, which no mode has.
+fn words(rt: &HostRuntime) -> Result<Vec<String>, NoMemory> {
+    let mut words = Vec::new(rt.alloc());
+    match env::args(rt) {
+        Ok(mut args) => {
+            let _program = args.next();
+            for word in args {
+                words.push(word)?;
+            }
+            Ok(words)
+        }
+        Err(error) if error.kind() == ErrorKind::OutOfMemory => Err(NoMemory),
+        Err(_) => Ok(words),
+    }
+}
+
+/// Says that the words couldn't be held.
+fn without_memory(host: &mut RealHost) -> Status {
+    match host.print(Stream::Err, Status::NoMemory.line()) {
+        Ok(()) | Err(Failed) => Status::NoMemory,
+    }
+}

@@ -1,0 +1,63 @@
+use srch_base::{Failed, Link};
+use std::io::{Read, Stdin, Stdout, Write};
+
+/// The line over the standard streams: it reads standard input and writes standard output, neither through a buffer.
+///
+/// A read takes what is there. It tells nothing of the bytes.
+#[derive(Clone, Copy)]
+pub struct StdLine {
+    input: Stdin,
+    output: Stdout,
+    ended: bool,
+    read_faults: u64,
+    write_faults: u64,
+}
+
+impl StdLine {
+    pub fn new(input: Stdin, output: Stdout) -> StdLine {
+        StdLine {
+            input,
+            output,
+            ended: false,
+            read_faults: 0,
+            write_faults: 0,
+        }
+    }
+}
+
+impl Link for StdLine {
+    ghost use Rattle.std.specs.Prelude.{None};
+
+    ghost read_bytes = { λ _. None };
+
+    ghost written_bytes = { λ _. None };
+
+    ghost input_ended = { λ line. line.ended };
+
+    ghost read_faults = { λ line. line.read_faults };
+
+    ghost write_faults = { λ line. line.write_faults };
+
+    fn read(&mut self, into: &mut [u8]) -> Result<usize, Failed> {
+        match self.input.read(into) {
+            Ok(count) => {
+                self.ended = self.ended || count == 0 && !into.is_empty();
+                Ok(count)
+            }
+            Err(_) => {
+                self.read_faults = self.read_faults.saturating_add(1);
+                Err(Failed)
+            }
+        }
+    }
+
+    fn write(&mut self, piece: &[u8]) -> Result<usize, Failed> {
+        match self.output.write(piece) {
+            Ok(count) if count > 0 || piece.is_empty() => Ok(count),
+            _ => {
+                self.write_faults = self.write_faults.saturating_add(1);
+                Err(Failed)
+            }
+        }
+    }
+}

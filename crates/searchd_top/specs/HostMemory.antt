@@ -1,0 +1,68 @@
+-- A host over memory: what it holds, and what each call makes of it.
+use Rattle.std.specs.Prelude.{◌+◌, ◌-◌, ◌==◌, ◌||◌, ℕ, List, [], ◌++◌, Bool, nat_lt, Option, Some, Result, Ok, Err, length, take}
+use Rattle.std.specs.List.{list_any}
+use Rattle.srch_base.specs.Memory.{Lines, one_more}
+use Rattle.srch_base.specs.declared.faults.OpenFault.{OpenFault}
+use Rattle.srch_base.specs.declared.faults.OpenFault.TheVariants as opening
+use Rattle.searchd_top.specs.declared.host.Stream.{Stream}
+use Rattle.searchd_top.specs.declared.host.Stream.TheVariants as streams
+
+-- A host over memory.
+pub record HostMemory : Type 0 where
+  -- all doors that it gives, and how many of them were given
+  pub doors : List Lines
+  pub at : ℕ
+  pub back : List Lines
+  -- the numbers of the calls that fail, the first call being 1, and the number of calls so far
+  pub failing : List ℕ
+  pub calls : ℕ
+  -- what was printed to each stream
+  pub out : List ℕ
+  pub errors : List ℕ
+  pub faults : ℕ
+
+-- the host over these doors before its first call
+abbrev pub host_over : List Lines → List ℕ → HostMemory
+host_over doors failing =
+    record { doors = doors; at = 0; back = []; failing = failing; calls = 0; out = []; errors = []; faults = 0 }
+
+-- what was printed to a stream
+abbrev pub printed_to : Stream → HostMemory → List ℕ
+printed_to streams.Out h = h.out
+printed_to streams.Err h = h.errors
+
+-- such a host tells it
+abbrev pub printed_of : HostMemory → Stream → Option (List ℕ)
+printed_of h stream = Some (printed_to stream h)
+
+-- the doors that it gave
+abbrev pub doors_of : HostMemory → List Lines
+doors_of h = take h.at h.doors
+
+-- the next call is one of those that fail
+abbrev pub fails_next : HostMemory → Bool
+fails_next h = list_any (λ number. number == h.calls + 1) h.failing
+
+-- the next call can't give so many doors
+abbrev pub opens_none : HostMemory → ℕ → Bool
+opens_none h n = fails_next h || nat_lt (length h.doors - h.at) n
+
+-- the host after a call that failed
+abbrev pub after_fault : HostMemory → HostMemory
+after_fault h = record h { calls = one_more h.calls; faults = one_more h.faults }
+
+-- the host that has printed this as well
+abbrev pub with_printed : HostMemory → Stream → List ℕ → HostMemory
+with_printed h streams.Out bytes = record h { out = h.out ++ bytes }
+with_printed h streams.Err bytes = record h { errors = h.errors ++ bytes }
+
+-- the host after a print that failed, or printed the whole line
+abbrev pub after_print : {T E : Type 0} → HostMemory → Stream → List ℕ → Result T E → HostMemory
+after_print h to line (Err e) = after_fault h
+after_print h to line (Ok x) = with_printed (record h { calls = one_more h.calls }) to line
+
+-- the host after a call that failed, was refused memory, or gave so many doors
+abbrev pub after_doors : {T : Type 0} → HostMemory → ℕ → Result T OpenFault → HostMemory
+after_doors h n (Err opening.Failed) = after_fault h
+after_doors h n (Err opening.NoMemory) = record h { calls = one_more h.calls }
+after_doors h n (Ok x) = record h { calls = one_more h.calls; at = h.at + n }

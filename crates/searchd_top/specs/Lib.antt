@@ -1,0 +1,6 @@
+pub mod Words
+pub mod Statuses
+pub mod Printing
+pub mod Lending
+pub mod Sessions
+pub mod HostMemory

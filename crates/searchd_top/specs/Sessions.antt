@@ -1,0 +1,55 @@
+-- What a run does with its doors and lines, and why it ends so.
+use Rattle.std.specs.Prelude.{◌≡◌, ◌⊎◌, ⊤, ℕ, ◌≤◌, List, [], ◌∷◌, ◌++◌, true, length}
+use Rattle.std.specs.List.{AllZip}
+use Rattle.srch_base.specs.Counts.{Rose}
+use Rattle.srch_base.specs.declared.link.Link.{Ghosts as LinkWords}
+use Rattle.srch_base.specs.declared.door.Door.{Ghosts as DoorWords}
+use Rattle.ql_session.specs.Documents.{Documents}
+use Rattle.ql_session.specs.Statements.{Event, FollowAll}
+use Rattle.ql_session.specs.Session.{Session}
+use Rattle.ql_session.specs.Pieces.{Moves}
+use Rattle.ql_session.specs.declared.line.LinkEnd.{LinkEnd}
+use Rattle.searchd_top.specs.Lending.{HandsBack, SomeZip}
+use Rattle.searchd_top.specs.declared.host.Host.{Ghosts as HostWords}
+use Rattle.searchd_top.specs.declared.status.Status.{Status}
+use Rattle.searchd_top.specs.declared.status.Status.TheVariants.{Done, Usage, HostFault, NoMemory}
+
+-- One whole session of this connection went over the line. Its documents began with none.
+abbrev pub Serves : {K : Type 0} → LinkWords K → ℕ → K → K → Type 0
+Serves link connection line served =
+    (end : LinkEnd) × (documents : Documents) × Moves link line served (λ before now read written.
+    (events : List Event) × Session connection before now read written end events × FollowAll [] events documents)
+
+-- The door gave at most one line, and it was handed back, served as connection 1.
+abbrev pub ServesOne : {D K : Type 0} → DoorWords D K → LinkWords K → D → D → Type 0
+ServesOne door link old new =
+    HandsBack (door.given old) (door.given new) (door.returned old) (door.returned new) (λ lines served. (length lines ≤ 1) × AllZip (Serves link 1) lines served)
+
+-- The door did its work: its count stands still, and it gave a line or has ended.
+abbrev pub DidWork : {D K : Type 0} → DoorWords D K → D → D → Type 0
+DidWork {D} {K} door old new =
+    (door.faults new ≡ door.faults old) × (((line : K) × (door.given new ≡ door.given old ++ line ∷ [])) ⊎ (door.ended new ≡ true))
+
+-- The door failed.
+abbrev pub DoorFailed : {D K : Type 0} → DoorWords D K → D → D → Type 0
+DoorFailed door old new = Rose (door.faults old) (door.faults new)
+
+-- What a status says of the host's count, and of its doors before and after.
+abbrev pub Says : {D K : Type 0} → Status → DoorWords D K → ℕ → ℕ → List D → List D → Type 0
+Says Done door before now doors after = (now ≡ before) × (length doors ≡ 1) × AllZip (DidWork door) doors after
+Says Usage door before now doors after = doors ≡ []
+Says HostFault door before now doors after = Rose before now ⊎ SomeZip (DoorFailed door) doors after
+Says NoMemory door before now doors after = ⊤
+
+-- what it says of one door
+abbrev pub SaysOfDoor : {D K : Type 0} → Status → DoorWords D K → D → D → Type 0
+SaysOfDoor Done door old new = DidWork door old new
+SaysOfDoor Usage door old new = ⊥
+SaysOfDoor HostFault door old new = DoorFailed door old new
+SaysOfDoor NoMemory door old new = ⊤
+
+-- A run: the doors that the host gave were served and handed back, and the status says how it went.
+abbrev pub Runs : {H D K : Type 0} → HostWords H D K → DoorWords D K → LinkWords K → Status → H → H → Type 0
+Runs host door link status old new =
+    HandsBack (host.doors_given old) (host.doors_given new) (host.doors_back old) (host.doors_back new) (λ doors after.
+    AllZip (ServesOne door link) doors after × Says status door (host.faults old) (host.faults new) doors after)

@@ -1,0 +1,59 @@
+ghost use Rattle.std.specs.Prelude.{◌≡◌, ◌+◌, ◌≤◌, ◌++◌, ℕ, List, Option, length, IfOk, OnOk, OnErr, MatchResult};
+ghost use Rattle.std.specs.List.{All};
+ghost use Rattle.searchd_top.specs.declared.host.Stream.{Stream};
+ghost use Rattle.srch_base.specs.Counts.{HasCause};
+ghost use Rattle.searchd_top.specs.Printing.{PrintsLine};
+ghost use Rattle.searchd_top.specs.Lending.{IsWithin, CountsOpening};
+
+use srch_base::{Door, Failed, OpenFault};
+
+/// The standard streams that are printed to.
+#[derive(Clone, Copy, Debug, PartialEq, Eq)]
+pub enum Stream {
+    Out,
+    Err,
+}
+
+/// All that the program needs of the outside: where it prints, and where its lines come from.
+///
+/// A host may tell what was printed; the real one tells nothing.
+pub trait Host {
+    type Entry: Door + Send;
+
+    /// What was printed so far to each stream, where it is told.
+    ghost printed: { Self → Stream → Option (List ℕ) };
+
+    /// The doors given so far, as they were when they were given.
+    ghost doors_given: { Self → List Self.Entry };
+
+    /// The doors handed back so far, as they were when they came back.
+    ghost doors_back: { Self → List Self.Entry };
+
+    /// How often the host has failed.
+    ghost faults: { Self → ℕ };
+
+    /// Prints a line. `line` has its LF at its end.
+    fn print(&mut self, to: Stream, line: &[u8]) -> Result<(), Failed>
+        ensures prints { PrintsLine result to line.now (printed self.old) (printed self.new) }
+        ensures cause { HasCause (faults self.old) (faults self.new) result }
+        ensures calm { OnOk result (faults self.new ≡ faults self.old) }
+        ensures gives { doors_given self.new ≡ doors_given self.old }
+        ensures back { doors_back self.new ≡ doors_back self.old };
+
+    /// Opens `n` doors, or none: with an address over its listener, and otherwise over the standard streams.
+    fn doors(&mut self, listen: Option<&str>, n: u32) -> Result<Vec<Self::Entry>, OpenFault>
+        ensures count { IfOk result (λ doors. length doors.items ≡ n) }
+        ensures within { IfOk result (λ doors. All (IsWithin Self.Entry.returned Self.Entry.given) doors.items) }
+        ensures gives { MatchResult result (λ doors. doors_given self.new ≡ doors_given self.old ++ doors.items) (λ fault. doors_given self.new ≡ doors_given self.old) }
+        ensures cause { CountsOpening result (faults self.old) (faults self.new) }
+        ensures back { doors_back self.new ≡ doors_back self.old }
+        ensures prints { printed self.new ≡ printed self.old };
+
+    /// Takes back doors that it gave.
+    fn give_doors(&mut self, doors: Vec<Self::Entry>)
+        requires { length (doors_back self.old) + length doors.items ≤ length (doors_given self.old) }
+        ensures back { doors_back self.new ≡ doors_back self.old ++ doors.items }
+        ensures gives { doors_given self.new ≡ doors_given self.old }
+        ensures count { faults self.new ≡ faults self.old }
+        ensures prints { printed self.new ≡ printed self.old };
+}

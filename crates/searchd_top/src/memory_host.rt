@@ -1,0 +1,181 @@
+ghost use Rattle.std.specs.Prelude.{◌≡◌, ◌+◌, ◌≤◌, ◌++◌, ◌==◌, length, take, drop, is_err, IfOk, OnOk, OnErr, IsTrue, IsErr, MatchResult};
+ghost use Rattle.std.specs.List.{All, list_any};
+ghost use Rattle.srch_base.specs.Counts.{HasCause, Rose};
+ghost use Rattle.srch_base.specs.Memory.{one_more, lines_given};
+ghost use Rattle.searchd_top.specs.Printing.{PrintsLine};
+ghost use Rattle.searchd_top.specs.Lending.{IsWithin, CountsOpening};
+ghost use Rattle.searchd_top.specs.HostMemory.{host_over, printed_to, with_printed, printed_of, doors_of, fails_next, opens_none, after_print, after_doors};
+
+use crate::{Host, Stream};
+use srch_base::{Failed, ListDoor, NoMemory, OpenFault};
+use std::alloc::Global;
+use std::marker::Model;
+
+/// A host over memory, which tells all that was printed. It is for tests and for trying things out.
+///
+/// Its prints and its calls for doors are counted together from 1, and those whose numbers it was given fail: they
+/// print and give nothing, and raise the count. A call for more doors than are left fails as well, and so does a print
+/// that no memory is left for.
+///
+/// Contracts see it as a `HostMemory`.
+#[derive(Debug, Drop)]
+pub struct MemoryHost {
+    alloc: Global,
+    doors: Vec<ListDoor>,
+    at: usize,
+    back: Vec<ListDoor>,
+    failing: Vec<u32>,
+    calls: u64,
+    out: Vec<u8>,
+    errors: Vec<u8>,
+    faults: u64,
+}
+
+impl Model for MemoryHost {
+    ghost use Rattle.std.specs.Prelude.{◌≤◌, length, vec_capacity};
+    ghost use Rattle.searchd_top.specs.HostMemory.{HostMemory};
+
+    ghost Value = { HostMemory };
+
+    ghost view = { λ a. record {
+      doors = a.doors.items;
+      at = a.at;
+      back = a.back.items;
+      failing = a.failing.items;
+      calls = a.calls;
+      out = a.out.items;
+      errors = a.errors.items;
+      faults = a.faults;
+    } };
+
+    ghost invariant = { λ a. (a.at ≤ length a.doors.items) × (length a.doors.items ≤ vec_capacity a.back) };
+}
+
+impl MemoryHost {
+    /// A host that gives these doors in their order, a copy of each. The calls with the numbers `failing` fail.
+    pub fn new(
+        alloc: Global,
+        doors: Vec<ListDoor>,
+        failing: Vec<u32>,
+    ) -> Result<MemoryHost, NoMemory>
+        ensures { IfOk result (λ host. host ≡ host_over doors.items failing.items) }
+    {
+        Ok(MemoryHost {
+            alloc,
+            back: Vec::with_capacity(alloc, doors.len())?,
+            doors,
+            at: 0,
+            failing,
+            calls: 0,
+            out: Vec::new(alloc),
+            errors: Vec::new(alloc),
+            faults: 0,
+        })
+    }
+
+    /// All that was printed to a stream so far.
+    pub fn printed(&self, to: Stream) -> &[u8]
+        ensures { result.now ≡ printed_to to self.now }
+    {
+        match to {
+            Stream::Out => self.out.as_slice(),
+            Stream::Err => self.errors.as_slice(),
+        }
+    }
+
+    /// The doors that were handed back so far, in that order.
+    pub fn doors_back(&self) -> &[ListDoor]
+        ensures { result.now ≡ self.now.back }
+    {
+        self.back.as_slice()
+    }
+
+    /// Counts one more call, and says whether it is one of those that fail.
+    fn next_fails(&mut self) -> bool
+        ensures answer { result ≡ fails_next self.old }
+        ensures count { self.new ≡ record self.old { calls = one_more self.old.calls } }
+    {
+        let call = u128::from(self.calls) + 1;
+        self.calls = self.calls.saturating_add(1);
+        self.failing
+            .iter()
+            .any(|number| u128::from(*number) == call)
+    }
+
+    /// Counts one more fault.
+    fn fail(&mut self) -> Failed
+        ensures after { self.new ≡ record self.old { faults = one_more self.old.faults } }
+        ensures later { self.old.faults ≤ self.new.faults }
+        ensures rose { Rose self.old.faults self.new.faults }
+    {
+        self.faults = self.faults.saturating_add(1);
+        Failed
+    }
+
+    /// Takes what is printed to a stream.
+    fn append(&mut self, to: Stream, line: &[u8]) -> Result<(), NoMemory>
+        ensures ok { OnOk result (self.new ≡ with_printed self.old to line.now) }
+        ensures err { OnErr result (self.new ≡ self.old) }
+    {
+        match to {
+            Stream::Out => self.out.extend_from_slice(line)?,
+            Stream::Err => self.errors.extend_from_slice(line)?,
+        }
+        Ok(())
+    }
+}
+
+impl Host for MemoryHost {
+    type Entry = ListDoor;
+
+    ghost printed = { printed_of };
+
+    ghost doors_given = { doors_of };
+
+    ghost doors_back = { λ h. h.back };
+
+    ghost faults = { λ h. h.faults };
+
+    /// Fails where this call's number is one of those, or memory is refused.
+    fn print(&mut self, to: Stream, line: &[u8]) -> Result<(), Failed>
+        ensures fails { IsTrue (fails_next self.old) → IsErr result }
+        ensures after { self.new ≡ after_print self.old to line.now result }
+        ensures prints { PrintsLine result to line.now (printed_of self.old) (printed_of self.new) }
+        ensures cause { HasCause self.old.faults self.new.faults result }
+    {
+        if self.next_fails() {
+            return Err(self.fail());
+        }
+        match self.append(to, line) {
+            Ok(()) => Ok(()),
+            Err(NoMemory) => Err(self.fail()),
+        }
+    }
+
+    /// Fails exactly where this call's number is one of those, or fewer doors are left.
+    fn doors(&mut self, _listen: Option<&str>, n: u32) -> Result<Vec<ListDoor>, OpenFault>
+        ensures fails { IsTrue (opens_none self.old n) → result ≡ Err OpenFault.Failed }
+        ensures opens { IfOk result (λ doors. doors.items ≡ take n (drop self.old.at self.old.doors)) }
+        ensures after { self.new ≡ after_doors self.old n result }
+        ensures count { IfOk result (λ doors. length doors.items ≡ n) }
+        ensures within { IfOk result (λ doors. All (IsWithin (λ door. door.returned) lines_given) doors.items) }
+        ensures gives { MatchResult result (λ doors. doors_of self.new ≡ doors_of self.old ++ doors.items) (λ fault. doors_of self.new ≡ doors_of self.old) }
+        ensures cause { CountsOpening result self.old.faults self.new.faults }
+    {
+        if self.next_fails() || self.doors.len() - self.at < n as usize {
+            return Err(OpenFault::from(self.fail()));
+        }
+        let end = self.at + n as usize;
+        let mut given = Vec::new(self.alloc);
+        VecCloneMethods::extend_from_slice(&mut given, &self.doors[self.at..end])?;
+        self.at = end;
+        Ok(given)
+    }
+
+    fn give_doors(&mut self, mut doors: Vec<ListDoor>)
+        requires { length self.old.back + length doors.items ≤ length (doors_of self.old) }
+        ensures { self.new ≡ record self.old { back = self.old.back ++ doors.items } }
+    {
+        let _appended = self.back.append(&mut doors);
+    }
+}
