@@ -1,11 +1,13 @@
 -- Reading from left to right against the grammar: what is read is in it, and what is in it is read.
-use Rattle.std.proofs.Common.{◌≡◌, ◌≢◌, ◌⊎◌, inl, inr, ℕ, ◌<◌, ◌≤◌, Bool, true, false, not, ◌==◌, nat_lt, nat_le, cond, List, [], ◌∷◌, ◌++◌, Option, Some, None, Result, Ok, Err, option_map, MatchOption, MatchResult, length, take, drop, refl, sym, ap, subst, ◌∙◌, arith, length-append, length-take-le}
+use Rattle.std.proofs.Common.{◌≡◌, ◌≢◌, ◌⊎◌, inl, inr, ℕ, ◌<◌, ◌≤◌, Bool, true, false, not, ◌==◌, nat_lt, nat_le, cond, List, [], ◌∷◌, ◌++◌, Option, Some, None, Result, Ok, Err, option_map, MatchOption, MatchResult, length, take, drop, refl, sym, ap, subst, ◌∙◌, arith, length-append, append_assoc, length-take-le}
 use Rattle.std.specs.Bool.{MatchBool}
 use Rattle.std.proofs.lemmas.Bool.{eqb-true, eqb-false, leb-true, le-leb, ltb-true, lt-ltb}
 use Rattle.std.proofs.lemmas.Bool.Decides.{nat_tests}
 use Rattle.std.proofs.lemmas.List.{take-append-drop, drop_at}
 use Rattle.std.proofs.lemmas.Option.{none-some}
 use Rattle.mysql_wire.specs.Numbers.{lenenc_front}
+use Rattle.mysql_wire.specs.Fields.{Lengthed, IsField}
+use Rattle.mysql_wire.proofs.FieldLaws.{number_takes, number_again}
 use Rattle.mysql_wire.specs.Handshake.{Response, has, connect_with_database, secure_connection, length_encoded_answer, flags_of, speaks_41, HasNoNul, EndsAtNul, HasAnswer, IsResponse, IsBadResponse, cut_place}
 use Rattle.mysql_wire.specs.Answered.{response_by, Reads}
 use Rattle.mysql_wire.specs.declared.handshake.Response41.{Response41}
@@ -40,6 +42,9 @@ text_without (byte ∷ bytes) none = rw (not_nul byte none.0, text_without bytes
 
 -- the authentication answer
 
+abbrev AnswerBy : Bool → Bool → List ℕ → List ℕ → Type 0
+AnswerBy encoded secure bytes rest = (answer : List ℕ) × MatchBool encoded ((part : List ℕ) × IsField (Lengthed answer) part × (bytes ≡ part ++ rest)) (MatchBool secure (bytes ≡ length answer ∷ answer ++ rest) (EndsAtNul bytes answer rest))
+
 -- bytes behind a size are an answer
 behind_says : {X : Type 0} (f : ℕ → List ℕ → X) (fits : Bool) (size : ℕ) (bytes : List ℕ) → (fits ≡ true → size ≤ length bytes)
     → MatchOption (cond fits (Some (drop size bytes)) None) (Unit {0}) (λ rest. (answer : List ℕ) × (f size bytes ≡ f (length answer) (answer ++ rest)))
@@ -50,6 +55,13 @@ counted_says : (counted : Option (ℕ × List ℕ)) → MatchOption (behind_coun
 counted_says None = tt
 counted_says (Some counted) = behind_says (λ n bytes. Some (n, bytes)) (nat_le counted.0 (length counted.1)) counted.0 counted.1 (leb-true counted.0 (length counted.1))
 
+encoded_says : (bytes : List ℕ) (behind : Option (List ℕ)) → MatchOption behind (Unit {0}) (λ rest. (answer : List ℕ) × (lenenc_front bytes ≡ Some (length answer, answer ++ rest)))
+    → MatchOption behind (Unit {0}) (λ rest. AnswerBy true false bytes rest)
+encoded_says bytes None says = tt
+encoded_says bytes (Some rest) (answer, is) =
+    let number = number_takes bytes (length answer) (answer ++ rest) is in
+    (answer, (number.part ++ answer, (number.part, number.spelled, refl), number.is ∙ sym (append_assoc number.part answer rest)))
+
 ended_says : (bytes : List ℕ) (split : Option (List ℕ × List ℕ)) → TextSays bytes split
     → MatchOption (option_map {T = List ℕ × List ℕ} (λ split. split.1) split) (Unit {0}) (λ rest. (answer : List ℕ) × EndsAtNul bytes answer rest)
 ended_says bytes None says = tt
@@ -58,9 +70,6 @@ ended_says bytes (Some split) says = (split.0, says)
 behind_again : (answer rest : List ℕ) → behind (length answer) (answer ++ rest) ≡ Some rest
 behind_again answer rest = rw (le-leb (length answer) (length (answer ++ rest)) (omega (arith, length-append answer rest)), drop_at answer rest (length answer) refl)
 
-abbrev AnswerBy : Bool → Bool → List ℕ → List ℕ → Type 0
-AnswerBy encoded secure bytes rest = (answer : List ℕ) × MatchBool encoded (lenenc_front bytes ≡ Some (length answer, answer ++ rest)) (MatchBool secure (bytes ≡ length answer ∷ answer ++ rest) (EndsAtNul bytes answer rest))
-
 abbrev behind_by : Bool → Bool → List ℕ → Option (List ℕ)
 behind_by encoded secure bytes = cond encoded (behind_counted (lenenc_front bytes)) (cond secure (behind_byte bytes) (option_map {T = List ℕ × List ℕ} (λ split. split.1) (text_front bytes)))
 
@@ -68,13 +77,15 @@ abbrev BehindSays : Bool → Bool → List ℕ → Type 0
 BehindSays encoded secure bytes = MatchOption (behind_by encoded secure bytes) (Unit {0}) (λ rest. AnswerBy encoded secure bytes rest)
 
 answer_says : (encoded secure : Bool) (bytes : List ℕ) → BehindSays encoded secure bytes
-answer_says true secure bytes = counted_says (lenenc_front bytes)
+answer_says true secure bytes = encoded_says bytes (behind_by true secure bytes) (counted_says (lenenc_front bytes))
 answer_says false true [] = tt
 answer_says false true (size ∷ bytes) = behind_says ◌∷◌ (nat_le size (length bytes)) size bytes (leb-true size (length bytes))
 answer_says false false bytes = ended_says bytes (text_front bytes) (text_says bytes)
 
 answer_again : (encoded secure : Bool) (bytes rest : List ℕ) → AnswerBy encoded secure bytes rest → behind_by encoded secure bytes ≡ Some rest
-answer_again true secure bytes rest (answer, is) = rw (is, behind_again answer rest)
+answer_again true secure bytes rest (answer, (part, (head, number, spelled), is)) =
+    let whole : bytes ≡ head ++ (answer ++ rest) = is ∙ ap (λ part. part ++ rest) spelled ∙ append_assoc head answer rest in
+    rw (whole, number_again head (length answer) (answer ++ rest) number, behind_again answer rest)
 answer_again false true bytes rest (answer, is) = rw (is, behind_again answer rest)
 answer_again false false bytes rest (answer, is) = rw (is.1, text_again answer rest is.0)
 

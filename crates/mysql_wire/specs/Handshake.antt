@@ -3,7 +3,7 @@ use Rattle.std.specs.Prelude.{◌≡◌, ◌≢◌, ◌⊎◌, ℕ, ◌+◌, ◌
 use Rattle.std.specs.Bool.{MatchBool}
 use Rattle.std.specs.List.{AllByRecursion}
 use Rattle.srch_base.specs.Numbers.{number_of}
-use Rattle.mysql_wire.specs.Numbers.{lenenc_front}
+use Rattle.mysql_wire.specs.Fields.{Lengthed, IsField}
 
 -- what a response says, as far as it is looked at
 pub record Response : Type 0 where
@@ -46,7 +46,7 @@ EndsAtNul bytes text rest = HasNoNul text × (bytes ≡ text ++ 0 ∷ rest)
 -- The authentication answer, and what follows it: behind its length, which is length-encoded or one byte, or up to a NUL.
 abbrev pub HasAnswer : ℕ → List ℕ → List ℕ → Type 0
 HasAnswer flags bytes rest = (answer : List ℕ) × MatchBool (has flags length_encoded_answer)
-    (lenenc_front bytes ≡ Some (length answer, answer ++ rest))
+    ((part : List ℕ) × IsField (Lengthed answer) part × (bytes ≡ part ++ rest))
     (MatchBool (has flags secure_connection) (bytes ≡ length answer ∷ answer ++ rest) (EndsAtNul bytes answer rest))
 
 -- the database, where its flag is set: up to a NUL or to the end
