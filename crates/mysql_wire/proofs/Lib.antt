@@ -7,3 +7,4 @@ mod FieldLaws
 mod ScanLaws
 mod LayoutLaws
 mod RowLaws
+mod WrittenLaws

@@ -6,7 +6,8 @@ use Rattle.mysql_wire.specs.declared.readers.WireGreeting.{WireGreeting}
 use Rattle.mysql_wire.specs.declared.readers.WireOk.{WireOk}
 use Rattle.mysql_wire.specs.declared.readers.WireErr.{WireErr}
 use Rattle.mysql_wire.specs.declared.readers.WireEof.{WireEof}
-use Rattle.mysql_wire.specs.Rows.{ColumnType, type_of}
+use Rattle.mysql_wire.specs.declared.rows.Cell.{Cell}
+use Rattle.mysql_wire.specs.Rows.{ColumnType, type_of, cell_text}
 use Rattle.mysql_wire.specs.Fields.{Field, Exactly, Sized, Plain, Number, Lengthed}
 
 -- one number, and nothing else
@@ -55,3 +56,7 @@ cell_field (Some text) = Lengthed text
 -- as many as the payload has
 abbrev pub row_fields : List (Option (List ℕ)) → List Field
 row_fields cells = map cell_field cells
+
+-- what a value that is written is read as
+abbrev pub value_of : Cell → Option (List ℕ)
+value_of cell = Some (cell_text cell)

@@ -1,6 +1,7 @@
 //! The MySQL client/server protocol 4.1, text queries: packets in any pieces, the handshake, commands, and the parts of replies, for both ends.
 #![tactic(auto)]
 
+mod both_ends;
 mod commands;
 mod fields;
 mod framer;
@@ -13,6 +14,7 @@ mod result_sets;
 mod rows;
 mod small;
 
+pub use both_ends::{replies_are_read, result_sets_are_read};
 pub use commands::{Command, read_command};
 pub use fields::WireFault;
 pub use framer::{Framer, Next, Refusal};
@@ -27,6 +29,8 @@ pub use result_sets::{read_column, read_row};
 pub use rows::{Cell, Column, ColumnKind, put_column, put_row};
 pub use small::{Small, eof_packet, err_packet, greeting, ok_packet};
 
+#[cfg(test)]
+mod reader_tests;
 #[cfg(test)]
 mod reply_tests;
 #[cfg(test)]

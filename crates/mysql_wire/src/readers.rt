@@ -156,7 +156,8 @@ pub fn read_err(alloc: Global, payload: &[u8]) -> Result<WireErr, Or<WireFault>>
 
 #[tactic(auto, unfolding(crate::specs::Layouts::err_layout))]
 fn err_in(payload: &[u8]) -> Result<(u16, [u8; 5], &[u8]), Stop>
-    ensures { Gives (λ err. record { code = err.0; state = err.1; text = err.2.now }) result (scan err_layout payload.now) }
+    ensures { Gives (λ err. record { code = err.0; state = err.1; text = err.2.now }) result
+        (scan err_layout payload.now) }
 {
     let rest = exactly(&[0xff], payload)?;
     let (code, rest) = number_of_2(rest)?;

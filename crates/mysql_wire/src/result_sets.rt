@@ -46,7 +46,8 @@ fn owned(alloc: Global, value: Option<&[u8]>) -> Result<Option<Text>, NoMemory>
 
 #[tactic(auto, unfolding(crate::specs::Layouts::column_layout))]
 fn column_in(payload: &[u8]) -> Result<(&[u8], ColumnKind), Stop>
-    ensures { Gives (λ column. record { name = column.0.now; kind = column.1 }) result (scan column_layout payload.now) }
+    ensures { Gives (λ column. record { name = column.0.now; kind = column.1 }) result
+        (scan column_layout payload.now) }
 {
     let rest = exactly(b"\x03def", payload)?;
     let rest = text_that_is(b"", rest)?;
@@ -60,7 +61,8 @@ fn column_in(payload: &[u8]) -> Result<(&[u8], ColumnKind), Stop>
 
 #[tactic(auto, unfolding(crate::specs::Layouts::type_layout))]
 fn type_in<'a>(name: &'a [u8], bytes: &[u8]) -> Result<(&'a [u8], ColumnKind), Stop>
-    ensures { Gives (λ column. record { name = column.0.now; kind = column.1 }) result (scan (type_layout name.now) bytes.now) }
+    ensures { Gives (λ column. record { name = column.0.now; kind = column.1 }) result
+        (scan (type_layout name.now) bytes.now) }
 {
     match exactly(&[0x3f, 0], bytes) {
         Ok(rest) => binary_in(name, rest),
@@ -76,7 +78,8 @@ fn type_in<'a>(name: &'a [u8], bytes: &[u8]) -> Result<(&'a [u8], ColumnKind), S
 
 #[tactic(auto, unfolding(crate::specs::Layouts::binary_layout))]
 fn binary_in<'a>(name: &'a [u8], bytes: &[u8]) -> Result<(&'a [u8], ColumnKind), Stop>
-    ensures { Gives (λ column. record { name = column.0.now; kind = column.1 }) result (scan (binary_layout name.now) bytes.now) }
+    ensures { Gives (λ column. record { name = column.0.now; kind = column.1 }) result
+        (scan (binary_layout name.now) bytes.now) }
 {
     match exactly(&[11, 0, 0, 0], bytes) {
         Ok(rest) => {
@@ -93,7 +96,8 @@ fn binary_in<'a>(name: &'a [u8], bytes: &[u8]) -> Result<(&'a [u8], ColumnKind),
 
 #[tactic(auto, unfolding(crate::specs::Layouts::long_layout))]
 fn long_in<'a>(name: &'a [u8], bytes: &[u8]) -> Result<(&'a [u8], ColumnKind), Stop>
-    ensures { Gives (λ column. record { name = column.0.now; kind = column.1 }) result (scan (long_layout name.now) bytes.now) }
+    ensures { Gives (λ column. record { name = column.0.now; kind = column.1 }) result
+        (scan (long_layout name.now) bytes.now) }
 {
     let rest = exactly(&[0x08], bytes)?;
     match exactly(&[0, 0], rest) {
@@ -107,7 +111,8 @@ fn long_in<'a>(name: &'a [u8], bytes: &[u8]) -> Result<(&'a [u8], ColumnKind), S
 
 /// What follows the type: no decimals, two bytes left free, and the payload's end.
 fn after<'a>(name: &'a [u8], kind: ColumnKind, bytes: &[u8]) -> Result<(&'a [u8], ColumnKind), Stop>
-    ensures { Gives (λ column. record { name = column.0.now; kind = column.1 }) result (scan (after_type (record { name = name.now; kind = kind })) bytes.now) }
+    ensures { Gives (λ column. record { name = column.0.now; kind = column.1 }) result
+        (scan (after_type (record { name = name.now; kind = kind })) bytes.now) }
 {
     let rest = exactly(&[0], bytes)?;
     let rest = exactly(&[0, 0], rest)?;
