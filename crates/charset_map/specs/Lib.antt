@@ -1,0 +1,9 @@
+pub mod Characters
+pub mod Entries
+pub mod Sides
+pub mod Table
+pub mod Reading
+pub mod Spans
+pub mod Placing
+pub mod Adding
+pub mod Ascii
