@@ -1,0 +1,94 @@
+use super::*;
+use srch_base::{Items, Name, Word};
+use std::alloc::Global;
+use std::test::Fail;
+
+/// `She left. He`, with the last two words in zone 0.
+fn three_words(alloc: Global) -> Result<FieldTokens, Fail> {
+    let mut words = Vec::new(alloc);
+    let cases: [(&[u8], u32, Gap); 3] = [
+        (b"she", 1, Gap::None),
+        (b"left", 2, Gap::None),
+        (b"he", 4, Gap::Sentence),
+    ];
+    for (word, position, gap) in cases {
+        words.push(TokenWord {
+            word: Word::from_slice(alloc, word)?,
+            position,
+            gap,
+        })?;
+    }
+    let span = ZoneSpan {
+        zone: 0,
+        first: 2,
+        last: 4,
+    };
+    Ok(FieldTokens {
+        words: Items::new(words),
+        spans: Items::new(Vec::from_slice(alloc, &[span])?),
+    })
+}
+
+fn one_document(alloc: Global, id: u64) -> Result<Doc, Fail> {
+    let mut fields = Vec::new(alloc);
+    fields.push(three_words(alloc)?)?;
+    Ok(Doc {
+        id,
+        fields: Items::new(fields),
+        values: Items::new(Vec::from_slice(alloc, &[Value::Whole(-5)])?),
+    })
+}
+
+#[test]
+fn a_schema_has_its_columns(rt: HostRuntime) -> Result<(), Fail> {
+    let alloc = rt.alloc();
+    let mut fields = Vec::new(alloc);
+    fields.push(Name::from_slice(alloc, b"title")?)?;
+    let mut attrs = Vec::new(alloc);
+    attrs.push((Name::from_slice(alloc, b"gid")?, AttrKind::Uint))?;
+    let schema = Schema {
+        name: Name::from_slice(alloc, b"rt")?,
+        fields: Items::new(fields),
+        attrs: Items::new(attrs),
+        zones: Items::new(Vec::new(alloc)),
+        sp: true,
+    };
+    assert!(rt; schema.clone()? == schema);
+    let (name, kind) = schema.attrs.as_slice().first().ok_or("no attribute")?;
+    assert_eq!(rt; name.as_bytes(), b"gid".as_slice());
+    assert_eq!(rt; *kind, AttrKind::Uint);
+    Ok(())
+}
+
+#[test]
+fn a_row_has_words_spans_and_values(rt: HostRuntime) -> Result<(), Fail> {
+    let alloc = rt.alloc();
+    let row = DocRow {
+        doc: one_document(alloc, 7)?,
+        born: 1,
+    };
+    assert!(rt; row.clone()? == row);
+    let tokens = row.doc.fields.as_slice().first().ok_or("no field")?;
+    let last = tokens.words.as_slice().last().ok_or("no word")?;
+    assert_eq!(rt; last.position, 2 + last.gap.step());
+    let span = tokens.spans.as_slice().first().ok_or("no span")?;
+    assert!(rt; span.precedes(&ZoneSpan { zone: 1, ..*span }));
+    assert!(rt; !span.precedes(span));
+    Ok(())
+}
+
+#[test]
+fn a_transaction_has_its_operations(rt: HostRuntime) -> Result<(), Fail> {
+    let alloc = rt.alloc();
+    let mut ops = Vec::new(alloc);
+    ops.push(TxnOp::Clear)?;
+    ops.push(TxnOp::Insert(one_document(alloc, 7)?))?;
+    ops.push(TxnOp::Put(one_document(alloc, 8)?))?;
+    ops.push(TxnOp::Kill(7))?;
+    let txn = Txn {
+        ops: Items::new(ops),
+    };
+    assert!(rt; txn.clone()? == txn);
+    assert_eq!(rt; txn.ops.len(), 4);
+    Ok(())
+}
