@@ -12,3 +12,6 @@ pub use host::{Host, Stream};
 pub use memory_host::MemoryHost;
 pub use program::searchd;
 pub use status::Status;
+
+#[cfg(test)]
+mod tests;
