@@ -6,3 +6,5 @@ pub mod Gathering
 pub mod Inserting
 pub mod EntryValues
 pub mod Readings
+pub mod Unique
+pub mod DefaultText

@@ -59,7 +59,7 @@ are_entries_more (p ∷ pieces) [] piece entry are is = absurd are
 are_entries_more (p ∷ pieces) (e ∷ entries) piece entry are is = (are.0, are_entries_more pieces entries piece entry are.1 is)
 
 -- the first piece of what is left
-first_piece : (start : ℕ) (rest : List ℕ) → (after : List Piece) × (pieces_from start (slice_split (λ b. eqb b 44) rest) ≡ piece_at start (take (place 44 rest) rest) ∷ after)
+pub first_piece : (start : ℕ) (rest : List ℕ) → (after : List Piece) × (pieces_from start (slice_split (λ b. eqb b 44) rest) ≡ piece_at start (take (place 44 rest) rest) ∷ after)
 first_piece start rest = elim (cases_lt (place 44 rest) (length rest)) [
   | inl within ↦ (pieces_from (start + length (take (place 44 rest) rest) + 1) (slice_split (λ b. eqb b 44) (drop (place 44 rest + 1) rest)), ap (pieces_from start) (next_part rest within))
   | inr end ↦ ([], ap (pieces_from start) (last_part rest (omega (arith, end, place_within 44 rest))))

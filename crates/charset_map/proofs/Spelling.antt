@@ -13,7 +13,7 @@ use Rattle.charset_map.proofs.Cutting.{place, lacks_cons, lacks_append, no_cut, 
 pub at_none : {A : Type 0} (o : Option A) (P : Type 0) (Q : A → Type 0) → o ≡ None → P → MatchOption o P Q
 at_none o P Q none holds = subst (λ r. MatchOption r P Q) (sym none) holds
 
-lacks_dot : (text : List ℕ) (c : ℕ) → IsCharacter text c → Lacks 46 text
+pub lacks_dot : (text : List ℕ) (c : ℕ) → IsCharacter text c → Lacks 46 text
 lacks_dot text c written = character_lacks 46 text c refl (omega arith) (omega arith) (omega arith) written
 
 lacks_dash : (text : List ℕ) (c : ℕ) → IsCharacter text c → Lacks 45 text
@@ -42,24 +42,24 @@ no_side_high text low high part lacks cut none (Range r) is =
     none r.last (subst (λ (t : List ℕ). IsCharacter t r.last) same is.last)
 
 -- ---- entries
-single_lacks : (text : List ℕ) (side : CharRange) → IsSingle text side → Lacks 45 text
+pub single_lacks : (text : List ℕ) (side : CharRange) → IsSingle text side → Lacks 45 text
 single_lacks text side is = lacks_dash text side.first is.0
 
-range_lacks : (text : List ℕ) (side : CharRange) → IsRange text side → Lacks 45 text
+pub range_lacks : (text : List ℕ) (side : CharRange) → IsRange text side → Lacks 45 text
 range_lacks text side is =
     subst (Lacks 45) (sym is.is) (lacks_append 45 is.low (46 ∷ 46 ∷ is.high) (lacks_dash is.low side.first is.first)
     (lacks_cons 45 46 (46 ∷ is.high) (omega arith) (lacks_cons 45 46 is.high (omega arith) (lacks_dash is.high side.last is.last))))
 
-not_both : (text : List ℕ) (one many : CharRange) → IsSingle text one → IsRange text many → ⊥
+pub not_both : (text : List ℕ) (one many : CharRange) → IsSingle text one → IsRange text many → ⊥
 not_both text one many is are =
     no_cut 46 text are.low (46 ∷ are.high) (place_of_lacking 46 text (lacks_dot text one.first is.0)) (lacks_dot are.low many.first are.first) are.is
 
 -- the side of a mapped entry by another cut at the same mark
-left_same : (text left right : List ℕ) (entry : Entry) (IsIt : List ℕ → CharRange → Type 0) (m : IsMapped IsIt text entry) → Lacks 45 m.left → Lacks 45 left → text ≡ left ++ 45 ∷ 62 ∷ right → IsIt left entry.from
+pub left_same : (text left right : List ℕ) (entry : Entry) (IsIt : List ℕ → CharRange → Type 0) (m : IsMapped IsIt text entry) → Lacks 45 m.left → Lacks 45 left → text ≡ left ++ 45 ∷ 62 ∷ right → IsIt left entry.from
 left_same text left right entry IsIt m lacks lacks' cut =
     subst (λ (t : List ℕ). IsIt t entry.from) (left_is 45 m.left (62 ∷ m.right) left (62 ∷ right) lacks lacks' (sym m.is ∙ cut)) m.from
 
-right_same : (text left right : List ℕ) (entry : Entry) (IsIt : List ℕ → CharRange → Type 0) (m : IsMapped IsIt text entry) → Lacks 45 m.left → Lacks 45 left → text ≡ left ++ 45 ∷ 62 ∷ right → IsIt right entry.to
+pub right_same : (text left right : List ℕ) (entry : Entry) (IsIt : List ℕ → CharRange → Type 0) (m : IsMapped IsIt text entry) → Lacks 45 m.left → Lacks 45 left → text ≡ left ++ 45 ∷ 62 ∷ right → IsIt right entry.to
 right_same text left right entry IsIt m lacks lacks' cut =
     let rest : 45 ∷ 62 ∷ m.right ≡ 45 ∷ 62 ∷ right = right_is 45 m.left (62 ∷ m.right) left (62 ∷ right) lacks lacks' (sym m.is ∙ cut) in
     let same : m.right ≡ right = cc in

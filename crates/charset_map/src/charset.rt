@@ -61,7 +61,8 @@ impl Charset {
     {
         match Charset::read(alloc, DEFAULT_TEXT) {
             Ok(table) => Ok(table),
-            Err(_) => Err(NoMemory),
+            Err(Or::NoMemory) => Err(NoMemory),
+            Err(Or::Fault(_)) => unreachable!(),
         }
     }
 

@@ -6,6 +6,7 @@ mod characters;
 mod charset;
 mod entries;
 mod fault;
+mod laws;
 mod pieces;
 mod span;
 mod spans;
@@ -14,3 +15,4 @@ mod tests;
 
 pub use charset::Charset;
 pub use fault::{CharsetFault, CharsetKind};
+pub use laws::a_text_is_read_in_one_way;
