@@ -1,0 +1,17 @@
+use Rattle.std.proofs.Common.{◌≡◌, ℕ, ◌+◌, List, length, map, IsUtf8}
+use Rattle.std.specs.Str.{chars}
+use Rattle.charset_map.specs.Spans.{folded}
+use Rattle.mark_scan.specs.Marks.{run_of}
+use Rattle.mark_scan.specs.Reading.{IsBefore, part_of}
+use Rattle.mark_scan.proofs.SentenceSteps.{Reached}
+use Rattle.mark_scan.proofs.sentences.push_sentences.Given as goal
+
+abbrev pub invariant-chars : goal.invariant-chars
+invariant-chars l = record {
+  utf8 : IsUtf8 l.rest;
+  size : l.place + length l.rest ≡ l.from + length l.text;
+  reached : (seen : List ℕ) → IsBefore (folded l.charset) l.fn.start seen → Reached (folded l.charset) (chars (run_of l.rules.zones (map part_of l.pieces))) l.from (chars l.text) seen l.fn.list.items l.before l.place (chars l.rest) l.list.items;
+}
+
+abbrev pub decreases-chars : goal.decreases-chars
+decreases-chars l = length l.rest

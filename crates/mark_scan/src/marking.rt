@@ -1,0 +1,149 @@
+ghost use Rattle.std.specs.Prelude.{Option, ◌≡◌, ◌<◌, ◌≤◌, ◌+◌, ◌^◌, ◌++◌, ℕ, List, [], ◌∷◌, length, map, reverse, IfOk, true, false};
+ghost use Rattle.std.specs.Str.{IsUtf8, chars};
+ghost use Rattle.charset_map.specs.Spans.{folded};
+ghost use Rattle.mark_scan.specs.Markup.{Part, part_bytes};
+ghost use Rattle.mark_scan.specs.Marks.{run_of, run_before, sentences_of, part_marks, PartsBy, AreMarks};
+ghost use Rattle.mark_scan.specs.Reading.{AreUtf8, IsBefore, Keeps, AddsPart, part_of, bytes_in};
+ghost use Rattle.mark_scan.specs.Tags.{span};
+ghost use Rattle.mark_scan.specs.declared.mark.Mark.{Mark};
+ghost use Rattle.mark_scan.specs.declared.mark.MarkRules.{MarkRules};
+ghost use Rattle.mark_scan.specs.declared.mark.MarkKind.TheVariants.{Text};
+
+use crate::cutting::pieces;
+use crate::mark::{Mark, MarkKind, MarkRules};
+use crate::piece::Piece;
+use crate::sentences::{Before, push_sentences};
+use crate::tags::{push_tag, removed};
+use charset_map::Charset;
+use srch_base::NoMemory;
+use std::alloc::Global;
+
+/// The pieces of a text by its rules.
+fn pieces_by<'a>(alloc: Global, strip: bool, text: &'a str) -> Result<Vec<Piece<'a>>, NoMemory>
+    ensures parts { IfOk result (λ list. PartsBy strip text.now (map part_of list.items)) }
+    ensures utf8 { IfOk result (λ list. AreUtf8 list.items) }
+    ensures bytes { IfOk result (λ list. bytes_in list.items ≡ length text.now) }
+{
+    if strip {
+        let list = pieces(alloc, text)?;
+        return Ok(list);
+    }
+    let mut list = Vec::new(alloc);
+    if !text.is_empty() {
+        list.push(Piece::Plain(text))?;
+    }
+    Ok(list)
+}
+
+/// Appends the marks of a piece of a text run, and gives what stands before its end.
+fn push_plain(
+    list: &mut Vec<Mark>,
+    charset: &Charset,
+    rules: &MarkRules,
+    before: Before,
+    from: u32,
+    text: &str,
+    rest: &[Piece<'_>],
+) -> Result<Before, NoMemory>
+    requires size { from + length text.now < 2 ^ 32 }
+    requires utf8 { AreUtf8 rest.now }
+    ensures { IfOk result (λ state. (seen : List ℕ) → Keeps rules.now.sp (folded charset.now) before seen
+        → (list.new.items ≡ list.old.items ++ span from (from + length text.now) Text
+        ∷ sentences_of rules.now.sp (folded charset.now) from seen (chars text.now) (chars (run_of rules.now.zones (map part_of rest.now))))
+        × Keeps rules.now.sp (folded charset.now) state (reverse (chars text.now) ++ seen)) }
+{
+    list.push(Mark {
+        kind: MarkKind::Text,
+        from,
+        to: from + text.len() as u32,
+    })?;
+    if !rules.sp {
+        return Ok(before);
+    }
+    push_sentences(list, charset, rules, before, from, text, rest)
+}
+
+/// How far a text was read: the place, and what stands before it.
+#[derive(Clone, Copy, Debug)]
+struct Reader {
+    place: u32,
+    before: Before,
+}
+
+/// Appends the marks of a piece, before the pieces behind it.
+fn push_piece(
+    list: &mut Vec<Mark>,
+    charset: &Charset,
+    rules: &MarkRules,
+    reader: Reader,
+    piece: Piece<'_>,
+    rest: &[Piece<'_>],
+) -> Result<Reader, NoMemory>
+    requires zones { length rules.now.zones ≤ 65536 }
+    requires size { reader.place + length (part_bytes (part_of piece)) < 2 ^ 32 }
+    requires utf8 { IsUtf8 (part_bytes (part_of piece)) }
+    requires rest_utf8 { AreUtf8 rest.now }
+    ensures { IfOk result (λ next. AddsPart (folded charset.now) rules.now reader list.old.items (part_of piece.entry) (map part_of rest.now) next list.new.items) }
+{
+    let from = reader.place;
+    match piece {
+        Piece::Plain(text) => {
+            let before = push_plain(list, charset, rules, reader.before, from, text, rest)?;
+            let place = from + text.len() as u32;
+            Ok(Reader { place, before })
+        }
+        Piece::Comment(text) => Ok(Reader {
+            place: from + text.len() as u32,
+            before: Before::start(),
+        }),
+        Piece::Tag(tag) => {
+            let place = from + tag.text.len() as u32;
+            push_tag(list, rules, &tag, from, place)?;
+            if removed(rules, tag.name) {
+                Ok(Reader {
+                    place,
+                    before: reader.before,
+                })
+            } else {
+                Ok(Reader {
+                    place,
+                    before: Before::start(),
+                })
+            }
+        }
+    }
+}
+
+/// The marks of a text, in the order of their places.
+///
+/// It takes a time linear in the text's length, whatever the markup, and memory for a list of the text's pieces and for the
+/// marks.
+pub fn marks(
+    alloc: Global,
+    charset: &Charset,
+    rules: &MarkRules,
+    text: &str,
+) -> Result<Vec<Mark>, NoMemory>
+    requires size { length text.now < 2 ^ 32 }
+    requires zones { length rules.now.zones ≤ 65536 }
+    ensures { IfOk result (λ list. AreMarks (folded charset.now) rules.now text.now list.items) }
+{
+    let pieces = pieces_by(alloc, rules.strip, text)?;
+    let pieces = pieces.as_slice();
+    let mut list = Vec::new(alloc);
+    let mut reader = Reader {
+        place: 0,
+        before: Before::start(),
+    };
+    for at in 0..pieces.len() {
+        let piece = pieces[at];
+        let (_, rest) = pieces.split_at(at + 1);
+        reader = push_piece(&mut list, charset, rules, reader, piece, rest)?;
+    }
+    Ok(list)
+}
+
+/// A text has one list of marks, so that it is no choice which parts it is taken to have.
+pub fn one_list_of_marks()
+    ensures { (fold : ℕ → Option ℕ) (rules : MarkRules) (text : List ℕ) (ms ns : List Mark) → AreMarks fold rules text ms → AreMarks fold rules text ns → ms ≡ ns }
+{}

@@ -1,0 +1,22 @@
+/// A part of a text. The parts of a text, one after the other, are the text.
+#[derive(Clone, Copy, Debug)]
+pub enum Piece<'a> {
+    /// Text between markup.
+    Plain(&'a str),
+    /// A comment, from `<!--` to its `-->`.
+    Comment(&'a str),
+    Tag(Tag<'a>),
+}
+
+/// A tag of a text.
+#[derive(Clone, Copy, Debug)]
+pub struct Tag<'a> {
+    /// The whole tag, from `<` to `>`.
+    pub text: &'a str,
+    /// The name, as the text has it.
+    pub name: &'a [u8],
+    /// Whether a `/` stands before the name.
+    pub closing: bool,
+    /// Whether a `/` stands before the `>`.
+    pub empty: bool,
+}

@@ -1,0 +1,246 @@
+ghost use Rattle.std.specs.Prelude.{Option, ◌≡◌, ◌<◌, ◌≤◌, ◌+◌, ◌-◌, ◌^◌, ◌++◌, ℕ, List, [], ◌∷◌, length, map, reverse, MatchOption, IfOk, OnOk, true, false};
+ghost use Rattle.std.specs.Char.{encode_utf8, IsScalar};
+ghost use Rattle.std.specs.Str.{IsUtf8, chars};
+ghost use Rattle.charset_map.specs.Spans.{folded};
+ghost use Rattle.mark_scan.specs.Marks.{run_of};
+ghost use Rattle.mark_scan.specs.Reading.{AreUtf8, IsBefore, part_of, next_of, then_of, run_from, IsNext, GoesOn};
+ghost use Rattle.mark_scan.specs.Markup.{part_bytes};
+ghost use Rattle.mark_scan.specs.Sentences.{is_blank, is_capital, is_small, dot_goes_on, ends_sentence, sentence_mark, sentence_marks};
+
+use crate::mark::{Mark, MarkKind, MarkRules};
+use crate::piece::Piece;
+use crate::tags::removed;
+use charset_map::Charset;
+use srch_base::NoMemory;
+
+/// What the end of a sentence asks of the characters before a place of a text run.
+#[derive(Clone, Copy, Debug)]
+pub(crate) struct Before {
+    /// Whether a blank stands before the place, or the run begins there.
+    pub gap: bool,
+    /// Whether a capital letter stands before the place that itself stands behind a blank or the run's start.
+    pub initial: bool,
+}
+
+fn blank(c: char) -> bool
+    ensures { result ≡ is_blank c }
+{
+    c == ' ' || c == '\t' || c == '\r' || c == '\n'
+}
+
+fn capital(charset: &Charset, c: char) -> bool
+    ensures { result ≡ is_capital (folded charset.now) c }
+{
+    match charset.fold(c) {
+        Some(value) => value != c,
+        None => false,
+    }
+}
+
+fn small(charset: &Charset, c: char) -> bool
+    ensures { result ≡ is_small (folded charset.now) c }
+{
+    match charset.fold(c) {
+        Some(value) => value == c && !(c.is_ascii_digit() || c == '_'),
+        None => false,
+    }
+}
+
+impl Before {
+    /// At the start of a run.
+    pub fn start() -> Before
+        ensures { (fold : ℕ → Option ℕ) → IsBefore fold result [] }
+    {
+        Before {
+            gap: true,
+            initial: false,
+        }
+    }
+
+    /// Behind one more character.
+    pub fn then(self, charset: &Charset, c: char) -> Before
+        ensures { (before : List ℕ) → IsBefore (folded charset.now) self before → IsBefore (folded charset.now) result (c ∷ before) }
+    {
+        Before {
+            gap: blank(c),
+            initial: capital(charset, c) && self.gap,
+        }
+    }
+}
+
+/// Whether the sentence goes on behind a dot, by the next two characters of the run.
+fn goes_on(charset: &Charset, initial: bool, next: Option<char>, then: Option<char>) -> bool
+    ensures { (after : List ℕ) → next ≡ next_of after → then ≡ then_of after → result ≡ dot_goes_on (folded charset.now) initial after }
+{
+    match next {
+        None => false,
+        Some(next) => {
+            let known = charset.fold(next).is_some();
+            let small = match then {
+                Some(then) => small(charset, then),
+                None => false,
+            };
+            known || next == ',' || (blank(next) && (small || initial))
+        }
+    }
+}
+
+/// The first character of a text, and the text behind it.
+fn first_char(text: &str) -> Option<(char, &str)>
+    ensures next { MatchOption result (text.now ≡ []) (λ first. text.now ≡ encode_utf8 first.0 ++ first.1.now) }
+    ensures utf8 { MatchOption result (IsUtf8 text.now) (λ first. IsUtf8 first.1.now) }
+{
+    let mut chars = text.chars();
+    match chars.next() {
+        Some(c) => Some((c, chars.as_str())),
+        None => None,
+    }
+}
+
+/// What a piece gives to the run that goes on before it.
+#[derive(Clone, Copy, Debug)]
+enum Onward<'a> {
+    /// A character, and the text of the piece behind it.
+    Char(char, &'a str),
+    /// Nothing: the run goes on behind the piece.
+    Nothing,
+    /// The run ends.
+    End,
+}
+
+/// What a piece gives to the run that goes on before it.
+fn start_of<'a>(rules: &MarkRules, piece: Piece<'a>) -> Onward<'a>
+    requires { IsUtf8 (part_bytes (part_of piece)) }
+    ensures { GoesOn rules.now.zones (part_of piece.entry) result }
+{
+    match piece {
+        Piece::Plain(text) => match first_char(text) {
+            Some((c, behind)) => Onward::Char(c, behind),
+            None => Onward::Nothing,
+        },
+        Piece::Comment(_) => Onward::End,
+        Piece::Tag(tag) => {
+            if removed(rules, tag.name) {
+                Onward::Nothing
+            } else {
+                Onward::End
+            }
+        }
+    }
+}
+
+/// The next character of a run, and the rest of the run behind it.
+fn next_char<'a, 'b>(
+    rules: &MarkRules,
+    text: &'a str,
+    pieces: &'b [Piece<'a>],
+) -> Option<(char, &'a str, &'b [Piece<'a>])>
+    requires { AreUtf8 pieces.now }
+    ensures { let run = run_from rules.now.zones text.now pieces.now in
+        MatchOption result (run ≡ []) (λ next. IsNext rules.now.zones run next.0 next.1.now next.2.now) }
+{
+    match first_char(text) {
+        Some((c, behind)) => return Some((c, behind, pieces)),
+        None => {}
+    }
+    for place in 0..pieces.len() {
+        let piece = pieces[place];
+        match start_of(rules, piece) {
+            Onward::Char(c, behind) => {
+                let (_, rest) = pieces.split_at(place + 1);
+                return Some((c, behind, rest));
+            }
+            Onward::Nothing => {}
+            Onward::End => return None,
+        }
+    }
+    None
+}
+
+/// The next two characters of a run.
+fn two_next(rules: &MarkRules, text: &str, pieces: &[Piece<'_>]) -> (Option<char>, Option<char>)
+    requires { AreUtf8 pieces.now }
+    ensures next { result.0 ≡ next_of (chars (run_from rules.now.zones text.now pieces.now)) }
+    ensures then { result.1 ≡ then_of (chars (run_from rules.now.zones text.now pieces.now)) }
+{
+    match next_char(rules, text, pieces) {
+        None => (None, None),
+        Some((next, behind, rest)) => match next_char(rules, behind, rest) {
+            None => (Some(next), None),
+            Some((then, _, _)) => (Some(next), Some(then)),
+        },
+    }
+}
+
+/// Whether a character ends a sentence, before the rest of its run.
+#[tactic(auto, unfolding(crate::specs::Sentences::ends_sentence))]
+fn ends(
+    charset: &Charset,
+    rules: &MarkRules,
+    before: Before,
+    c: char,
+    text: &str,
+    pieces: &[Piece<'_>],
+) -> bool
+    requires { AreUtf8 pieces.now }
+    ensures { (seen : List ℕ) → IsBefore (folded charset.now) before seen
+        → result ≡ ends_sentence (folded charset.now) seen c (chars (run_from rules.now.zones text.now pieces.now)) }
+{
+    if c == '?' || c == '!' {
+        return true;
+    }
+    if c != '.' {
+        return false;
+    }
+    let (next, then) = two_next(rules, text, pieces);
+    !goes_on(charset, before.initial, next, then)
+}
+
+/// Appends the marks of the ends of sentences in a piece of a run, the place of which is given with the pieces behind it.
+/// The answer is what stands before the end of the piece.
+pub(crate) fn push_sentences(
+    list: &mut Vec<Mark>,
+    charset: &Charset,
+    rules: &MarkRules,
+    start: Before,
+    from: u32,
+    text: &str,
+    pieces: &[Piece<'_>],
+) -> Result<Before, NoMemory>
+    requires size { from + length text.now < 2 ^ 32 }
+    requires utf8 { AreUtf8 pieces.now }
+    ensures { IfOk result (λ state. (seen : List ℕ) → IsBefore (folded charset.now) start seen
+        → (list.new.items ≡ list.old.items ++ sentence_marks (folded charset.now) from seen (chars text.now) (chars (run_of rules.now.zones (map part_of pieces.now))))
+        × IsBefore (folded charset.now) state (reverse (chars text.now) ++ seen)) }
+{
+    let mut before = start;
+    let mut place = from;
+    let mut rest = text;
+    'chars: loop {
+        match first_char(rest) {
+            None => return Ok(before),
+            Some((c, behind)) => {
+                let width = c.len_utf8() as u32;
+                push_end(list, ends(charset, rules, before, c, behind, pieces), place)?;
+                before = before.then(charset, c);
+                place += width;
+                rest = behind;
+            }
+        }
+    }
+}
+
+/// Appends the mark of the end of a sentence, where there is one.
+fn push_end(list: &mut Vec<Mark>, ends: bool, place: u32) -> Result<(), NoMemory>
+    requires { place < 2 ^ 32 - 1 }
+    ensures { OnOk result (list.new.items ≡ list.old.items ++ sentence_mark ends place) }
+{
+    if ends {
+        list.push(Mark {
+            kind: MarkKind::Sentence,
+            from: place,
+            to: place + 1,
+        })?;
+    }
+    Ok(())
+}
