@@ -1,3 +1,5 @@
+ghost use Rattle.std.specs.Prelude.{◌≡◌, false};
+
 use srch_base::{Failed, Link};
 use std::io::{Read, Stdin, Stdout, Write};
 
@@ -14,7 +16,12 @@ pub struct StdLine {
 }
 
 impl StdLine {
-    pub fn new(input: Stdin, output: Stdout) -> StdLine {
+    /// The line from its beginning: nothing was read or written over it.
+    pub fn new(input: Stdin, output: Stdout) -> StdLine
+        ensures open { result.ended ≡ false }
+        ensures reads { result.read_faults ≡ 0 }
+        ensures writes { result.write_faults ≡ 0 }
+    {
         StdLine {
             input,
             output,
