@@ -1,6 +1,8 @@
 //! The program `searchd`: the top call over the standard streams.
 #![tactic(auto)]
 
+ghost use Rattle.std.specs.Prelude.{◌≡◌};
+
 mod real_host;
 mod std_door;
 mod std_line;
@@ -38,7 +40,9 @@ fn words(rt: &HostRuntime) -> Result<Vec<String>, NoMemory> {
 }
 
 /// Says that the words couldn't be held.
-fn without_memory(host: &mut RealHost) -> Status {
+fn without_memory(host: &mut RealHost) -> Status
+    ensures { result ≡ Status.NoMemory }
+{
     match host.print(Stream::Err, Status::NoMemory.line()) {
         Ok(()) | Err(Failed) => Status::NoMemory,
     }

@@ -1,5 +1,6 @@
 -- What is printed on the two standard streams, where a host tells it.
-use Rattle.std.specs.Prelude.{◌≡◌, ◌⊎◌, ℕ, ◌≤◌, List, [], ◌++◌, Option, Result, Ok, Err}
+use Rattle.std.specs.Prelude.{◌≡◌, ◌⊎◌, ℕ, ◌≤◌, List, [], Option, Result, Ok, Err}
+use Rattle.std.specs.Io.{StartsWith}
 use Rattle.srch_base.specs.Counts.{Rose}
 use Rattle.srch_base.specs.Told.{then_bytes}
 use Rattle.searchd_top.specs.declared.host.Stream.{Stream}
@@ -16,19 +17,15 @@ pub record Prints (to : Stream) (bytes : List ℕ) (old new : Stream → Option 
   pub out : new Out ≡ then_bytes (old Out) (bytes_on to bytes Out)
   pub errors : new Errors ≡ then_bytes (old Errors) (bytes_on to bytes Errors)
 
--- a front of the bytes, maybe all of them
-abbrev pub IsFront : List ℕ → List ℕ → Type 0
-IsFront front bytes = (rest : List ℕ) × (bytes ≡ front ++ rest)
-
 -- The line was printed, or a front of it where printing failed.
 abbrev pub PrintsLine : {T E : Type 0} → Result T E → Stream → List ℕ → (Stream → Option (List ℕ)) → (Stream → Option (List ℕ)) → Type 0
 PrintsLine (Ok x) to line old new = Prints to line old new
-PrintsLine (Err e) to line old new = (front : List ℕ) × IsFront front line × Prints to front old new
+PrintsLine (Err e) to line old new = (front : List ℕ) × StartsWith line front × Prints to front old new
 
 -- The line was printed to the errors, or a front of it and the host's count rose. Nothing was printed to the output.
 abbrev pub Reports : List ℕ → (Stream → Option (List ℕ)) → (Stream → Option (List ℕ)) → ℕ → ℕ → Type 0
 Reports line old new before now =
-    (front : List ℕ) × ((front ≡ line) ⊎ (IsFront front line × Rose before now)) × Prints Errors front old new
+    (front : List ℕ) × ((front ≡ line) ⊎ (StartsWith line front × Rose before now)) × Prints Errors front old new
 
 -- The count didn't fall, and where there is no line it stands still.
 abbrev pub CountsReport : List ℕ → ℕ → ℕ → Type 0
