@@ -1,0 +1,8 @@
+//! The tokens of a SphinxQL text.
+#![tactic(auto)]
+
+mod fault;
+mod token;
+
+pub use fault::{LexFault, LexKind};
+pub use token::{Sign, Token, TokenKind};
