@@ -1,1 +1,4 @@
 pub mod Faults
+pub mod Shapes
+pub mod Tokens
+pub mod Values

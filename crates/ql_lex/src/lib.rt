@@ -2,6 +2,7 @@
 #![tactic(auto)]
 
 mod fault;
+mod part;
 mod token;
 
 pub use fault::{LexFault, LexKind};

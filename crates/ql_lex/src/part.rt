@@ -1,0 +1,10 @@
+use crate::token::TokenKind;
+
+/// A part of a text: a blank, a comment, or a token, with the place behind it.
+#[derive(Clone, Copy, Debug)]
+pub(crate) enum Part {
+    /// One blank byte.
+    Blank,
+    Comment(usize),
+    Token(TokenKind, usize),
+}
