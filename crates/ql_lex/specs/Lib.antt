@@ -2,3 +2,4 @@ pub mod Faults
 pub mod Shapes
 pub mod Tokens
 pub mod Values
+pub mod Reading

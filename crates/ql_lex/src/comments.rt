@@ -1,0 +1,46 @@
+ghost use Rattle.std.specs.Prelude.{◌≡◌, ◌<◌, ◌≤◌, ◌+◌, ◌^◌, ℕ, true, false, IfSome, IfNone, length, slice_index};
+ghost use Rattle.ql_lex.specs.Reading.{Reads};
+ghost use Rattle.ql_lex.specs.Tokens.{ClosesComment};
+
+use crate::bytes::byte_at;
+use crate::fault::LexKind;
+use crate::part::Part;
+
+/// Whether `*/` stands at a place.
+fn closes_comment(text: &[u8], place: usize) -> bool
+    requires { place < length text.now }
+    ensures yes { result ≡ true → ClosesComment text.now place }
+    ensures no { result ≡ false → ClosesComment text.now place → ⊥ }
+{
+    text[place] == b'*' && byte_at(text, place + 1) == b'/'
+}
+
+/// The place of the next `*/` from a place on.
+fn comment_end(text: &[u8], from: usize) -> Option<usize>
+    ensures found { IfSome result (λ last. (from ≤ last) × ClosesComment text.now last) }
+    ensures next { IfSome result (λ last. (k : ℕ) → from ≤ k → k < last → ClosesComment text.now k → ⊥) }
+    ensures none { IfNone result ((k : ℕ) → from ≤ k → ClosesComment text.now k → ⊥) }
+{
+    for place in from..text.len() {
+        if closes_comment(text, place) {
+            return Some(place);
+        }
+    }
+    None
+}
+
+/// Reads the comment whose `/` stands at a place.
+pub(crate) fn comment_at(text: &[u8], at: usize) -> Result<Part, LexKind>
+    requires size { length text.now < 2 ^ 32 }
+    requires within { at < length text.now }
+    requires slash { slice_index text.now at ≡ 47 }
+    ensures { Reads text.now at result }
+{
+    if byte_at(text, at + 1) != b'*' {
+        return Err(LexKind::BadCharacter);
+    }
+    match comment_end(text, at + 2) {
+        Some(last) => Ok(Part::Comment(last + 2)),
+        None => Err(LexKind::UnclosedComment),
+    }
+}

@@ -1,0 +1,77 @@
+ghost use Rattle.std.specs.Prelude.{◌≡◌, ◌<◌, ◌≤◌, ◌^◌, IfOk, length, map, slice_range};
+ghost use Rattle.ql_lex.specs.Reading.{Reads};
+ghost use Rattle.ql_lex.specs.Tokens.{end_of, lexeme_of, AreTokens, AreLexemes, FaultAt};
+
+use crate::bytes::{is_blank, is_letter, is_quote};
+use crate::comments::comment_at;
+use crate::fault::{LexFault, LexKind};
+use crate::names::{name_at, quoted_at, variable_at};
+use crate::numbers::number_at;
+use crate::part::Part;
+use crate::signs::sign_at;
+use crate::texts::text_at;
+use crate::token::{Token, TokenKind};
+use srch_base::Or;
+use std::alloc::Global;
+
+/// Reads the part of a text at a place.
+fn part_at(text: &[u8], at: usize) -> Result<Part, LexKind>
+    requires size { length text.now < 2 ^ 32 }
+    requires within { at < length text.now }
+    ensures { Reads text.now at result }
+{
+    let byte = text[at];
+    if is_blank(byte) {
+        Ok(Part::Blank)
+    } else if is_letter(byte) {
+        name_at(text, at)
+    } else if byte.is_ascii_digit() {
+        number_at(text, at)
+    } else if is_quote(byte) {
+        text_at(text, at)
+    } else if byte == b'`' {
+        quoted_at(text, at)
+    } else if byte == b'@' {
+        variable_at(text, at)
+    } else if byte == b'/' {
+        comment_at(text, at)
+    } else {
+        sign_at(text, at)
+    }
+}
+
+/// The tokens of a SphinxQL text.
+///
+/// It takes a time linear in the text's length, whatever the text, and memory for the list alone: tokens are slices of the text.
+pub fn lex<'a>(alloc: Global, text: &'a [u8]) -> Result<Vec<Token<'a>>, Or<LexFault>>
+    requires { length text.now < 2 ^ 32 }
+{
+    let mut tokens = Vec::new(alloc);
+    let mut at = 0;
+    while at < text.len() {
+        match part_at(text, at) {
+            Ok(Part::Blank) => at += 1,
+            Ok(Part::Comment(to)) => at = to,
+            Ok(Part::Token(kind, to)) => {
+                tokens.push(Token {
+                    kind,
+                    text: &text[at..to],
+                    at: at as u32,
+                })?;
+                at = to;
+            }
+            Err(kind) => {
+                return Err(Or::Fault(LexFault {
+                    place: at as u32,
+                    kind,
+                }));
+            }
+        }
+    }
+    tokens.push(Token {
+        kind: TokenKind::End,
+        text: &text[at..],
+        at: at as u32,
+    })?;
+    Ok(tokens)
+}

@@ -1,0 +1,39 @@
+ghost use Rattle.std.specs.Prelude.{◌≡◌, ◌<◌, ◌≤◌, ◌^◌, IsTrue, MatchOption, length, slice_index};
+ghost use Rattle.std.specs.Char.{is_ascii_digit as is_digit_byte};
+ghost use Rattle.std.specs.Str.Parse.{digits_value};
+ghost use Rattle.ql_lex.specs.Reading.{Reads};
+ghost use Rattle.ql_lex.specs.Shapes.{is_digits};
+
+use crate::bytes::{byte_at, digits_len};
+use crate::fault::LexKind;
+use crate::part::Part;
+use crate::token::TokenKind;
+
+/// The number that digits write, or none above the greatest one.
+pub(crate) fn value_of(digits: &[u8]) -> Option<u64>
+    requires { IsTrue (is_digits digits.now) }
+    ensures { MatchOption result (2 ^ 64 ≤ digits_value 10 digits.now) (λ value. value ≡ digits_value 10 digits.now) }
+{
+    let mut value: u64 = 0;
+    for byte in digits {
+        value = value.checked_mul(10)?.checked_add(u64::from(*byte - b'0'))?;
+    }
+    Some(value)
+}
+
+/// Reads the number whose first digit stands at a place.
+pub(crate) fn number_at(text: &[u8], at: usize) -> Result<Part, LexKind>
+    requires size { length text.now < 2 ^ 32 }
+    requires within { at < length text.now }
+    requires digit { IsTrue (is_digit_byte (slice_index text.now at)) }
+    ensures { Reads text.now at result }
+{
+    let to = at + digits_len(&text[at..]);
+    if byte_at(text, to) == b'.' {
+        return Err(LexKind::NumberWithPoint);
+    }
+    match value_of(&text[at..to]) {
+        Some(_) => Ok(Part::Token(TokenKind::Number, to)),
+        None => Err(LexKind::NumberTooLarge),
+    }
+}

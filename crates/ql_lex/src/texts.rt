@@ -1,0 +1,44 @@
+ghost use Rattle.std.specs.Prelude.{◌≡◌, ◌<◌, ◌≤◌, ◌+◌, ◌^◌, ℕ, IsTrue, IfSome, IfNone, length, slice_index, slice_range};
+ghost use Rattle.ql_lex.specs.Reading.{Reads};
+ghost use Rattle.ql_lex.specs.Shapes.{is_quote as is_quote_byte, is_inner};
+
+use crate::fault::LexKind;
+use crate::part::Part;
+use crate::token::TokenKind;
+
+/// The place of the next quote from a place on that isn't escaped.
+fn text_end(text: &[u8], from: usize, quote: u8) -> Option<usize>
+    requires within { from ≤ length text.now }
+    requires quote { IsTrue (is_quote_byte quote) }
+    ensures place { IfSome result (λ last. (from ≤ last) × (last < length text.now) × (slice_index text.now last ≡ quote)) }
+    ensures inner { IfSome result (λ last. IsTrue (is_inner quote (slice_range text.now from last))) }
+    ensures none { IfNone result ((last : ℕ) → from ≤ last → slice_index text.now last ≡ quote → IsTrue (is_inner quote (slice_range text.now from last)) → ⊥) }
+{
+    let mut escaped = false;
+    for place in from..text.len() {
+        if escaped {
+            escaped = false;
+        } else if text[place] == quote {
+            return Some(place);
+        } else {
+            escaped = text[place] == b'\\';
+        }
+    }
+    None
+}
+
+/// Reads the text whose first quote stands at a place.
+pub(crate) fn text_at(text: &[u8], at: usize) -> Result<Part, LexKind>
+    requires size { length text.now < 2 ^ 32 }
+    requires within { at < length text.now }
+    requires quote { IsTrue (is_quote_byte (slice_index text.now at)) }
+    ensures { Reads text.now at result }
+{
+    let Some(last) = text_end(text, at + 1, text[at]) else {
+        return Err(LexKind::UnclosedQuote);
+    };
+    match std::str::from_utf8(&text[at + 1..last]) {
+        Ok(_) => Ok(Part::Token(TokenKind::Text, last + 1)),
+        Err(_) => Err(LexKind::NotUtf8),
+    }
+}

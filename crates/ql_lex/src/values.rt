@@ -1,0 +1,64 @@
+ghost use Rattle.std.specs.Prelude.{◌≡◌, ◌++◌, OnOk, OnErr};
+ghost use Rattle.std.specs.Str.Parse.{digits_value};
+ghost use Rattle.ql_lex.specs.declared.token.TokenKind.TheVariants.{Number};
+ghost use Rattle.ql_lex.specs.Shapes.{bare_name, IsNamed, IsLexeme, IsText};
+ghost use Rattle.ql_lex.specs.Values.{escaped as escaped_byte, text_of};
+
+use crate::numbers::value_of;
+use crate::token::{Token, TokenKind};
+use srch_base::NoMemory;
+
+/// The name in a token, as the text has it: without backquotes, and without `@@`.
+pub fn token_name<'a>(token: &Token<'a>) -> &'a [u8]
+    requires { IsNamed token.now.kind token.now.text.now }
+    ensures { result.now ≡ bare_name token.now.kind token.now.text.now }
+{
+    match token.kind {
+        TokenKind::Quoted => &token.text[1..token.text.len() - 1],
+        TokenKind::SysVar => &token.text[2..],
+        _ => token.text,
+    }
+}
+
+/// The number that a token's digits write.
+pub fn number_of(digits: &[u8]) -> u64
+    requires { IsLexeme Number digits.now }
+    ensures { result ≡ digits_value 10 digits.now }
+{
+    value_of(digits).unwrap()
+}
+
+/// What `\` and this byte stand for.
+fn escaped(byte: u8) -> u8
+    ensures { result ≡ escaped_byte byte }
+{
+    match byte {
+        b'n' => b'\n',
+        b'r' => b'\r',
+        b't' => b'\t',
+        b'0' => 0,
+        other => other,
+    }
+}
+
+/// Appends the value of a text token: what stands between its quotes, with the escapes resolved.
+pub fn put_text(token: &[u8], out: &mut Vec<u8>) -> Result<(), NoMemory>
+    requires { IsText token.now }
+    ensures ok { OnOk result (out.new.items ≡ out.old.items ++ text_of token.now) }
+    ensures err { OnErr result (out.new.items ≡ out.old.items) }
+{
+    let inner = &token[1..token.len() - 1];
+    out.reserve(inner.len())?;
+    let mut after_backslash = false;
+    for byte in inner {
+        if after_backslash {
+            out.push_reserved(escaped(*byte));
+            after_backslash = false;
+        } else if *byte == b'\\' {
+            after_backslash = true;
+        } else {
+            out.push_reserved(*byte);
+        }
+    }
+    Ok(())
+}
