@@ -1,0 +1,5 @@
+use Rattle.std.proofs.Common.{◌≢◌, ℕ, ◌≤◌, ◌<◌, get_or}
+use Rattle.ql_lex.proofs.bytes.next_backquote.Given as goal
+
+abbrev pub invariant-loop-place : goal.invariant-loop-place
+invariant-loop-place l = (k : ℕ) → l.from ≤ k → k < l.place → get_or l.text k 0 ≢ 96
