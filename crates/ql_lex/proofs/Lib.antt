@@ -4,3 +4,6 @@ pub mod Heads
 pub mod Words
 pub mod Enclosed
 pub mod NameTokens
+pub mod PartHeads
+pub mod BadBytes
+pub mod SignTokens

@@ -63,9 +63,9 @@ slice_first text from to some =
     let e : from + 0 ≡ from = omega arith in
     (ordered, slice_byte text from to 0 place ∙ ap (λ n. get_or text n 0) e)
 
--- the second byte of a part, where it isn't 0
-pub slice_second : (text : List ℕ) (from to : ℕ) → 0 < get_or (slice_range text from to) 1 0 → (from + 1 < to) × (get_or (slice_range text from to) 1 0 ≡ get_or text (from + 1) 0)
-slice_second text from to some =
-    let full : 1 < length (slice_range text from to) = byte_within (slice_range text from to) 1 some in
-    let ordered : from + 1 < to = omega (arith, length-take (to - from) (drop from text)) in
-    (ordered, slice_byte text from to 1 ordered)
+-- a byte of a part, where it isn't 0
+pub slice_at : (text : List ℕ) (from to k : ℕ) → 0 < get_or (slice_range text from to) k 0 → (from + k < to) × (get_or (slice_range text from to) k 0 ≡ get_or text (from + k) 0)
+slice_at text from to k some =
+    let full : k < length (slice_range text from to) = byte_within (slice_range text from to) k some in
+    let ordered : from + k < to = omega (arith, length-take (to - from) (drop from text)) in
+    (ordered, slice_byte text from to k ordered)
