@@ -7,3 +7,5 @@ pub mod NameTokens
 pub mod PartHeads
 pub mod BadBytes
 pub mod SignTokens
+pub mod NumberValues
+pub mod Inner

@@ -1,26 +1,24 @@
-use Rattle.std.proofs.Common.{rules, ◌≡◌, ◌<◌, ◌≤◌, ◌^◌, IsTrue, MatchOption, length, slice_index, ℕ, ◌+◌, ◌-◌, ◌*◌, ◌/◌, ◌%◌, Bool, true, false, nat_eq, nat_lt, List, [], ◌∷◌, ◌++◌, slice_index_or, slice_set, bit_and, bit_or, Fits, w8, w32, w64, Bor, MutBor}
-use Rattle.std.specs.Char.{is_ascii_digit as is_digit_byte}
+use Rattle.std.proofs.Common.{◌≡◌, ℕ, ◌+◌, ◌*◌, ◌-◌, ◌<◌, length, get_or, take, arith, ap, sym, ◌∙◌}
 use Rattle.std.specs.Str.Parse.{digits_value}
-use Rattle.ql_lex.specs.Reading.{Reads}
-use Rattle.ql_lex.specs.Shapes.{is_digits}
+use Rattle.std.proofs.lemmas.List.{take_all}
+use Rattle.ql_lex.proofs.NumberValues.{value_more, value_grows}
 use Rattle.ql_lex.proofs.numbers.value_of.Goals as goal
 
--- src/numbers.rt:18:5
-pub loop-byte-init : goal.loop-byte-init
-loop-byte-init c = ?
-
--- src/numbers.rt:19:17
 pub returns-in_err-checked_mul : goal.returns-in_err-checked_mul
-returns-in_err-checked_mul c = ?
+returns-in_err-checked_mul c =
+    let more = value_more c.args.digits.now c.loop-byte.byte-index c.requires c.loop-byte-test.true in
+    rw c.from_residual.ensures (omega (arith, more, c.loop-byte.invariant, c.in_err-checked_mul.ensures, value_grows c.args.digits.now (c.loop-byte.byte-index + 1)))
 
--- src/numbers.rt:19:17
 pub returns-in_err-value : goal.returns-in_err-value
-returns-in_err-value c = ?
+returns-in_err-value c =
+    let more = value_more c.args.digits.now c.loop-byte.byte-index c.requires c.loop-byte-test.true in
+    rw c.from_residual-in_err-value.ensures (omega (arith, more, c.loop-byte.invariant, c.in_ok-checked_mul.ensures, c.from.ensures, c.in_err-value.ensures, value_grows c.args.digits.now (c.loop-byte.byte-index + 1)))
 
--- src/numbers.rt:18:5
 pub loop-byte-preserved : goal.loop-byte-preserved
-loop-byte-preserved c = ?
+loop-byte-preserved c =
+    let more = value_more c.args.digits.now c.loop-byte.byte-index c.requires c.loop-byte-test.true in
+    let is : c.in_ok-value.value ≡ digits_value 10 (take c.loop-byte.byte-index c.args.digits.now) * 10 + (get_or c.args.digits.now c.loop-byte.byte-index 0 - 48) = omega (arith, c.loop-byte.invariant, c.in_ok-checked_mul.ensures, c.from.ensures, c.in_ok-value.ensures) in
+    is ∙ sym more
 
--- src/numbers.rt:13:1
 pub returns : goal.returns
-returns c = ?
+returns c = c.loop-byte.invariant ∙ ap (digits_value 10) (take_all c.loop-byte.byte-index c.args.digits.now (omega arith))
