@@ -9,3 +9,4 @@ pub mod BadBytes
 pub mod SignTokens
 pub mod NumberValues
 pub mod Inner
+pub mod TextTokens

@@ -1,17 +1,18 @@
 -- The numbers that digits write.
-use Rattle.std.proofs.Common.{◌≡◌, ℕ, ◌+◌, ◌-◌, ◌*◌, ◌<◌, ◌≤◌, true, List, [], ◌∷◌, ◌++◌, length, get_or, take, drop, map, refl, sym, ap, ◌∙◌, subst, arith, take-append-drop}
+use Rattle.std.proofs.Common.{◌≡◌, ℕ, ◌+◌, ◌-◌, ◌*◌, ◌<◌, ◌≤◌, true, List, [], ◌∷◌, ◌++◌, length, get_or, take, drop, slice_range, map, refl, sym, ap, ◌∙◌, subst, arith, take-append-drop}
 use Rattle.std.specs.Char.{is_ascii_digit, digit_value}
 use Rattle.std.specs.Int.{IsInRange}
 use Rattle.std.specs.Int.Digits.{number_from_digits_after, number_from_digits}
-use Rattle.std.specs.List.{list_all}
+use Rattle.std.specs.List.{list_all, prefix_len}
 use Rattle.std.specs.Str.Parse.{digits_value}
-use Rattle.std.proofs.lemmas.Bool.{and_parts, leb-true}
+use Rattle.std.proofs.lemmas.Bool.{and_parts, and_from, leb-true}
 use Rattle.std.proofs.lemmas.Int.Digits.{digits_value_is, digits_value_more, number_after_append, number_after_ge}
 use Rattle.std.proofs.lemmas.List.{map-append}
 use Rattle.std.proofs.lemmas.List.Elements.{All-get_or}
 use Rattle.std.proofs.lemmas.List.Sums.{AllPass-from_list_all}
 use Rattle.std.proofs.lemmas.Str.{digit_value_digit}
 use Rattle.ql_lex.specs.Shapes.{is_digits}
+use Rattle.ql_lex.proofs.Words.{IsRun, run_is}
 
 -- each of some digits is one
 pub digit_at : (bytes : List ℕ) (k : ℕ) → is_digits bytes ≡ true → k < length bytes → IsInRange 48 57 (get_or bytes k 0)
@@ -36,5 +37,12 @@ value_grows bytes k =
       ∙ number_after_append 10 0 (map digit_value (take k bytes)) (map digit_value (drop k bytes)) in
     omega (arith, whole, digits_value_is 10 (take k bytes), number_after_ge 10 (number_from_digits 10 (map digit_value (take k bytes))) (map digit_value (drop k bytes)) (omega arith))
 
-pub value_none : digits_value 10 [] ≡ 0
-value_none = refl
+-- a run of digits
+pub run_digits : (text : List ℕ) (at to : ℕ) → is_ascii_digit (get_or text at 0) ≡ true → IsRun is_ascii_digit text at to → is_digits (slice_range text at to) ≡ true
+run_digits text at to digit run = and_from (is_ascii_digit (get_or (slice_range text at to) 0 0)) (list_all is_ascii_digit (slice_range text at to)) (ap is_ascii_digit run.first ∙ digit) run.passes
+
+pub number_run : (text : List ℕ) (at len : ℕ) → at < length text → is_ascii_digit (get_or text at 0) ≡ true → len ≡ prefix_len is_ascii_digit (slice_range text at (length text)) → IsRun is_ascii_digit text at (at + len)
+number_run text at len within digit is = run_is is_ascii_digit text at len refl within digit is
+
+pub number_digits : (text : List ℕ) (at len : ℕ) → at < length text → is_ascii_digit (get_or text at 0) ≡ true → len ≡ prefix_len is_ascii_digit (slice_range text at (length text)) → is_digits (slice_range text at (at + len)) ≡ true
+number_digits text at len within digit is = run_digits text at (at + len) digit (number_run text at len within digit is)

@@ -60,7 +60,8 @@ pub(crate) fn variable_len(bytes: &[u8]) -> usize
 
 /// How many digits stand at the front.
 pub(crate) fn digits_len(bytes: &[u8]) -> usize
-    ensures { result ≡ prefix_len is_digit_byte bytes.now }
+    ensures len { result ≡ prefix_len is_digit_byte bytes.now }
+    ensures within { result ≤ length bytes.now }
 {
     bytes.iter().take_while(|b| b.is_ascii_digit()).count()
 }

@@ -1,5 +1,6 @@
-ghost use Rattle.std.specs.Prelude.{◌≡◌, ◌<◌, ◌≤◌, ◌^◌, IsTrue, MatchOption, length, slice_index};
+ghost use Rattle.std.specs.Prelude.{◌<◌, ◌^◌, IsTrue, length, slice_index};
 ghost use Rattle.std.specs.Char.{is_ascii_digit as is_digit_byte};
+ghost use Rattle.std.specs.Option.{SomeIff};
 ghost use Rattle.std.specs.Str.Parse.{digits_value};
 ghost use Rattle.ql_lex.specs.Reading.{Reads};
 ghost use Rattle.ql_lex.specs.Shapes.{is_digits};
@@ -12,7 +13,7 @@ use crate::token::TokenKind;
 /// The number that digits write, or none above the greatest one.
 pub(crate) fn value_of(digits: &[u8]) -> Option<u64>
     requires { IsTrue (is_digits digits.now) }
-    ensures { MatchOption result (2 ^ 64 ≤ digits_value 10 digits.now) (λ value. value ≡ digits_value 10 digits.now) }
+    ensures { SomeIff result (digits_value 10 digits.now < 2 ^ 64) (digits_value 10 digits.now) }
 {
     let mut value: u64 = 0;
     for byte in digits {
