@@ -55,3 +55,6 @@ digit_some b is = grind (arith, nat_tests)
 
 pub quote_some : (b : ℕ) → is_quote b ≡ true → 0 < b
 quote_some b is = grind (arith, nat_tests)
+
+pub blank_some : (b : ℕ) → is_blank b ≡ true → 0 < b
+blank_some b is = grind (arith, nat_tests)

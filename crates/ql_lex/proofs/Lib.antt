@@ -10,3 +10,4 @@ pub mod SignTokens
 pub mod NumberValues
 pub mod Inner
 pub mod TextTokens
+pub mod Readings

@@ -123,7 +123,7 @@ two_second a b is =
     known : (x y : ℕ) → 0 < y → eqb x y ≡ true → 0 < x
     known x y some same = omega (arith, eqb-true x y same)
 
-signs_head : (bytes : List ℕ) → is_some (sign_of bytes) ≡ true → SignHead (get_or bytes 0 0)
+pub signs_head : (bytes : List ℕ) → is_some (sign_of bytes) ≡ true → SignHead (get_or bytes 0 0)
 signs_head [] is = absurd (cc)
 signs_head (a ∷ []) is = one_head a is
 signs_head (a ∷ b ∷ []) is = two_head a b is

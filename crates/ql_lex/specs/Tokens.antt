@@ -1,8 +1,11 @@
 -- The tokens of a text. Places are numbers of bytes; past its end a text has the byte 0.
-use Rattle.std.specs.Prelude.{◌≡◌, ◌≢◌, ℕ, ◌+◌, ◌^◌, ◌<◌, ◌≤◌, Bool, true, false, List, [], ◌∷◌, ◌++◌, Option, None, IsTrue, length, slice_index, slice_range}
+use Rattle.std.specs.Prelude.{◌≡◌, ◌≢◌, ℕ, ◌+◌, ◌^◌, ◌<◌, ◌≤◌, Bool, true, false, List, [], ◌∷◌, ◌++◌, All, map, Option, None, Result, Ok, Err, Vec, IsTrue, length, slice_index, slice_range}
 use Rattle.std.specs.Char.{is_ascii_digit}
 use Rattle.std.specs.Str.{IsUtf8}
 use Rattle.std.specs.Str.Parse.{digits_value}
+use Rattle.srch_base.specs.declared.faults.Or.{Or}
+use Rattle.srch_base.specs.declared.faults.Or.TheVariants.{NoMemory, Fault}
+use Rattle.ql_lex.specs.declared.fault.LexFault.{LexFault}
 use Rattle.ql_lex.specs.declared.fault.LexKind.{LexKind}
 use Rattle.ql_lex.specs.declared.fault.LexKind.TheVariants.{NotUtf8, UnclosedQuote, UnclosedComment, BadCharacter, NumberTooLarge, NumberWithPoint, NameTooLong}
 use Rattle.ql_lex.specs.declared.part.Part.{Part}
@@ -164,7 +167,16 @@ pub record FaultAt (text : List ℕ) (place : ℕ) (kind : LexKind) : Type 0 whe
   pub fails : Fails text place kind
 
 -- Each token is one of its kind, and the last one alone is the end.
-abbrev pub AreLexemes : List Lexeme → Type 0
-AreLexemes [] = ⊥
-AreLexemes (t ∷ []) = (t.kind ≡ End) × IsLexeme End t.text
-AreLexemes (t ∷ u ∷ tokens) = (t.kind ≢ End) × IsLexeme t.kind t.text × AreLexemes (u ∷ tokens)
+pub record AreLexemes (tokens : List Lexeme) : Type 0 where
+  pub each : All (λ t. IsLexeme t.kind t.text) tokens
+  pub front : List Lexeme
+  pub last : Lexeme
+  pub is : tokens ≡ front ++ last ∷ []
+  pub ends : last.kind ≡ End
+  pub others : All (λ t. t.kind ≢ End) front
+
+-- What is answered for a text: its tokens, or the first fault from the left. Without memory nothing is said.
+abbrev pub Lexes : {M : Type 0} → List ℕ → Result (Vec Token M) (Or LexFault) → Type 0
+Lexes text (Ok tokens) = AreTokens text (map lexeme_of tokens.items) × AreLexemes (map lexeme_of tokens.items)
+Lexes text (Err NoMemory) = Unit {0}
+Lexes text (Err (Fault fault)) = FaultAt text fault.place fault.kind

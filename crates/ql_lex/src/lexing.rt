@@ -1,6 +1,6 @@
-ghost use Rattle.std.specs.Prelude.{◌≡◌, ◌<◌, ◌≤◌, ◌^◌, IfOk, length, map, slice_range};
+ghost use Rattle.std.specs.Prelude.{◌<◌, ◌^◌, length};
 ghost use Rattle.ql_lex.specs.Reading.{Reads};
-ghost use Rattle.ql_lex.specs.Tokens.{end_of, lexeme_of, AreTokens, AreLexemes, FaultAt};
+ghost use Rattle.ql_lex.specs.Tokens.{Lexes};
 
 use crate::bytes::{is_blank, is_letter, is_quote};
 use crate::comments::comment_at;
@@ -45,6 +45,7 @@ fn part_at(text: &[u8], at: usize) -> Result<Part, LexKind>
 /// It takes a time linear in the text's length, whatever the text, and memory for the list alone: tokens are slices of the text.
 pub fn lex<'a>(alloc: Global, text: &'a [u8]) -> Result<Vec<Token<'a>>, Or<LexFault>>
     requires { length text.now < 2 ^ 32 }
+    ensures { Lexes text.now result }
 {
     let mut tokens = Vec::new(alloc);
     let mut at = 0;
@@ -70,8 +71,8 @@ pub fn lex<'a>(alloc: Global, text: &'a [u8]) -> Result<Vec<Token<'a>>, Or<LexFa
     }
     tokens.push(Token {
         kind: TokenKind::End,
-        text: &text[at..],
-        at: at as u32,
+        text: &text[text.len()..],
+        at: text.len() as u32,
     })?;
     Ok(tokens)
 }

@@ -1,11 +1,10 @@
-use Rattle.std.proofs.Common.{length, ◌-◌, ◌≡◌, ◌<◌, ◌≤◌, ◌^◌, IfOk, map, slice_range, ℕ, ◌+◌, ◌*◌}
-use Rattle.ql_lex.specs.Reading.{Reads}
-use Rattle.ql_lex.specs.Tokens.{end_of, lexeme_of, AreTokens, AreLexemes, FaultAt}
+use Rattle.std.proofs.Common.{◌-◌, length, map}
+use Rattle.ql_lex.specs.Tokens.{lexeme_of}
+use Rattle.ql_lex.proofs.Readings.{Read}
 use Rattle.ql_lex.proofs.lexing.lex.Given as goal
 
 abbrev pub invariant-loop-at : goal.invariant-loop-at
-invariant-loop-at l = ?
+invariant-loop-at l = Read l.text l.at (map lexeme_of l.tokens.items)
 
--- proposed from the loop's first test
 abbrev pub decreases-loop-at : goal.decreases-loop-at
 decreases-loop-at l = length l.text - l.at
