@@ -11,3 +11,4 @@ pub mod NumberValues
 pub mod Inner
 pub mod TextTokens
 pub mod Readings
+pub mod Unescaping
