@@ -12,3 +12,4 @@ pub mod Inner
 pub mod TextTokens
 pub mod Readings
 pub mod Unescaping
+pub mod TextValues

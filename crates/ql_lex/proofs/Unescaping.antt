@@ -12,7 +12,7 @@ left true rest = 92 ∷ rest
 left false rest = rest
 
 -- a byte that stands for itself
-unescaped_plain : (b : ℕ) (rest : List ℕ) → b ≢ 92 → unescaped (b ∷ rest) ≡ b ∷ unescaped rest
+pub unescaped_plain : (b : ℕ) (rest : List ℕ) → b ≢ 92 → unescaped (b ∷ rest) ≡ b ∷ unescaped rest
 unescaped_plain b [] plain = refl
 unescaped_plain b (c ∷ rest) plain = cond-false (eqb b 92) (escaped c ∷ unescaped rest) (b ∷ unescaped (c ∷ rest)) (ne_eqb b 92 plain)
 

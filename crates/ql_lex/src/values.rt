@@ -1,7 +1,8 @@
-ghost use Rattle.std.specs.Prelude.{◌≡◌, ◌++◌, OnOk, OnErr};
+ghost use Rattle.std.specs.Prelude.{◌≡◌, ◌++◌, ℕ, List, OnOk, OnErr};
+ghost use Rattle.std.specs.Str.{IsUtf8};
 ghost use Rattle.std.specs.Str.Parse.{digits_value};
 ghost use Rattle.ql_lex.specs.declared.token.TokenKind.TheVariants.{Number};
-ghost use Rattle.ql_lex.specs.Shapes.{bare_name, IsNamed, IsLexeme, IsText};
+ghost use Rattle.ql_lex.specs.Shapes.{bare_name, inside, IsNamed, IsLexeme, IsText};
 ghost use Rattle.ql_lex.specs.Values.{escaped as escaped_byte, text_of};
 
 use crate::numbers::value_of;
@@ -61,4 +62,10 @@ pub fn put_text(token: &[u8], out: &mut Vec<u8>) -> Result<(), NoMemory>
         }
     }
     Ok(())
+}
+
+/// The value of a text token is UTF-8.
+pub fn text_values_are_utf8()
+    ensures { (token : List ℕ) → IsUtf8 (inside token) → IsUtf8 (text_of token) }
+{
 }
