@@ -60,11 +60,16 @@ slash_bad text at within slash no_star = record {
     no_kind Sign e = omega arith
     no_kind End e = omega arith
 
+-- the first byte of the name of a system variable
+pub variable_letter : (text : List ℕ) (at to : ℕ) → IsNamed SysVar (slice_range text at to) → is_letter (get_or (slice_range text at to) 2 0) ≡ true
+variable_letter text at to named =
+    subst (λ b. is_letter b ≡ true) (get_or-drop 2 (slice_range text at to) 0 0) (and_parts (is_letter (get_or (drop 2 (slice_range text at to)) 0 0)) (list_all is_variable_byte (drop 2 (slice_range text at to))) named.2).0
+
 -- what begins a system variable
-named_variable : (text : List ℕ) (at to : ℕ) → IsNamed SysVar (slice_range text at to) → (get_or text (at + 1) 0 ≡ 64) × (is_letter (get_or text (at + 2) 0) ≡ true)
+pub named_variable : (text : List ℕ) (at to : ℕ) → IsNamed SysVar (slice_range text at to) → (get_or text (at + 1) 0 ≡ 64) × (is_letter (get_or text (at + 2) 0) ≡ true)
 named_variable text at to named =
     let second = slice_at text at to 1 (omega (arith, named.1)) in
-    let letter : is_letter (get_or (slice_range text at to) 2 0) ≡ true = subst (λ b. is_letter b ≡ true) (get_or-drop 2 (slice_range text at to) 0 0) (and_parts _ (list_all is_variable_byte (drop 2 (slice_range text at to))) named.2).0 in
+    let letter : is_letter (get_or (slice_range text at to) 2 0) ≡ true = variable_letter text at to named in
     let third = slice_at text at to 2 (letter_some (get_or (slice_range text at to) 2 0) letter) in
     (sym second.1 ∙ named.1, subst (λ b. is_letter b ≡ true) third.1 letter)
 

@@ -1,7 +1,8 @@
 -- What the first byte says of what stands at a place.
 use Rattle.std.proofs.Common.{◌≡◌, ◌≢◌, ℕ, ◌+◌, ◌-◌, ◌<◌, ◌≤◌, Bool, true, false, cond, ◌&&◌, eqb, List, [], ◌∷◌, refl, sym, ap, ◌∙◌, subst, arith, ⊎_elim}
+use Rattle.std.specs.Prelude.{not}
 use Rattle.std.specs.Char.{is_ascii_digit}
-use Rattle.std.proofs.lemmas.Bool.{agree_below, agree_below_at, and_parts, cases_lt, eqb-true}
+use Rattle.std.proofs.lemmas.Bool.{agree_below, agree_below_at, and_parts, cases_lt, eqb-true, not-true}
 use Rattle.std.proofs.lemmas.Bool.Decides.{nat_tests}
 use Rattle.ql_lex.specs.Shapes.{is_blank, is_letter, is_name_byte, is_variable_byte, is_quote}
 
@@ -58,3 +59,6 @@ quote_some b is = grind (arith, nat_tests)
 
 pub blank_some : (b : ℕ) → is_blank b ≡ true → 0 < b
 blank_some b is = grind (arith, nat_tests)
+
+pub quote_no_backslash : (b : ℕ) → is_quote b ≡ true → eqb b 92 ≡ false
+quote_no_backslash b is = not-true (eqb b 92) (each_ascii is_quote (λ c. not (eqb c 92)) refl b (quote_small b is) is)

@@ -13,3 +13,4 @@ pub mod TextTokens
 pub mod Readings
 pub mod Unescaping
 pub mod TextValues
+pub mod Ends

@@ -1,6 +1,6 @@
 -- Parts of a text from one place up to another.
-use Rattle.std.proofs.Common.{◌≡◌, ℕ, ◌+◌, ◌-◌, ◌<◌, ◌≤◌, List, [], ◌∷◌, ◌++◌, length, get_or, take, drop, slice_range, refl, sym, ap, ◌∙◌, subst, arith, length-drop, length-take, get_or-drop, get_or-take, ⊎_elim}
-use Rattle.std.proofs.lemmas.List.{get_or_past, drop-drop, take-take, drop-take, take_more, same_lists}
+use Rattle.std.proofs.Common.{◌≡◌, ℕ, ◌+◌, ◌-◌, ◌<◌, ◌≤◌, List, [], ◌∷◌, ◌++◌, length, get_or, take, drop, slice_range, refl, sym, ap, ◌∙◌, subst, arith, length-drop, length-take, get_or-drop, get_or-take, take-append-drop, ⊎_elim}
+use Rattle.std.proofs.lemmas.List.{get_or_past, drop-drop, take-take, drop-take, take_more, drop_more, same_lists}
 use Rattle.std.proofs.lemmas.Bool.{cases_lt}
 
 pub slice_length : (text : List ℕ) (from to : ℕ) → to ≤ length text → length (slice_range text from to) ≡ to - from
@@ -69,3 +69,18 @@ slice_at text from to k some =
     let full : k < length (slice_range text from to) = byte_within (slice_range text from to) k some in
     let ordered : from + k < to = omega (arith, length-take (to - from) (drop from text)) in
     (ordered, slice_byte text from to k ordered)
+
+-- a part is what stands before a place, the byte there, and what stands behind it
+pub slice_split : (text : List ℕ) (from at to : ℕ) → from ≤ at → at < to → to ≤ length text → slice_range text from to ≡ slice_range text from at ++ get_or text at 0 ∷ slice_range text (at + 1) to
+slice_split text from at to ordered before within =
+    let e : from + (at - from) ≡ at = omega arith in
+    let size : length (slice_range text from to) ≡ to - from = slice_length text from to within in
+    let here : at - from < length (slice_range text from to) = omega arith in
+    let place : from + (at - from) < to = omega arith in
+    let shorter : at - from ≤ to - from = omega arith in
+    let next : from + (at - from + 1) ≡ at + 1 = omega arith in
+    sym (take-append-drop (at - from) (slice_range text from to))
+    ∙ ap (λ (l : List ℕ). l ++ drop (at - from) (slice_range text from to)) (take-take (at - from) (to - from) (drop from text) shorter)
+    ∙ ap (λ (l : List ℕ). slice_range text from at ++ l) (drop_more (slice_range text from to) (at - from) 0 here)
+    ∙ ap (λ (b : ℕ). slice_range text from at ++ b ∷ drop (at - from + 1) (slice_range text from to)) (slice_byte text from to (at - from) place ∙ ap (λ k. get_or text k 0) e)
+    ∙ ap (λ (l : List ℕ). slice_range text from at ++ get_or text at 0 ∷ l) (slice_drop text from to (at - from + 1) within (omega arith) ∙ ap (λ k. slice_range text k to) next)

@@ -4,6 +4,7 @@
 mod bytes;
 mod comments;
 mod fault;
+mod laws;
 mod lexing;
 mod names;
 mod numbers;
@@ -14,10 +15,11 @@ mod token;
 mod values;
 
 pub use fault::{LexFault, LexKind};
+pub use laws::one_reading;
 pub use lexing::lex;
 pub use signs::sign_of;
 pub use token::{Sign, Token, TokenKind};
-pub use values::{number_of, put_text, token_name};
+pub use values::{number_of, put_text, text_values_are_utf8, token_name};
 
 #[cfg(test)]
 mod tests;
