@@ -115,3 +115,13 @@ token_end Text text at a b first second = text_end text at a b first.within seco
 token_end Sign text at a b first second =
     same_place a b (λ before. false≢true (ap is_some (sym (first.whole b before second.within)) ∙ second.lexeme)) (λ before. false≢true (ap is_some (sym (second.whole a before first.within)) ∙ first.lexeme))
 token_end End text at a b first second = absurd first.whole
+
+-- a name has bytes
+pub named_some : (kind : TokenKind) (text : List ℕ) (at to : ℕ) → IsNamed kind (slice_range text at to) → at < to
+named_some Name text at to named = (word_start is_name_byte text at to named).0
+named_some Quoted text at to named = (slice_first text at to (omega (arith, named.0.opens))).0
+named_some SysVar text at to named = (slice_first text at to (omega (arith, named.0))).0
+named_some Number text at to named = absurd named
+named_some Text text at to named = absurd named
+named_some Sign text at to named = absurd named
+named_some End text at to named = absurd named

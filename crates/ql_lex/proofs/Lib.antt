@@ -14,3 +14,4 @@ pub mod Readings
 pub mod Unescaping
 pub mod TextValues
 pub mod Ends
+pub mod Unique
