@@ -1,0 +1,14 @@
+//! The tokens of a field: its words with their positions and boundaries, and the spans of its zones.
+#![tactic(auto)]
+
+mod cover;
+mod field;
+mod reader;
+mod sign;
+mod spans;
+mod walk;
+
+pub use field::{TooLong, tokens};
+
+#[cfg(test)]
+mod tests;
