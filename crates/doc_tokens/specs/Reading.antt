@@ -80,7 +80,6 @@ pub record Holds (all : List Sign) (reader : Reader) (letters : List ℕ) (rest 
   pub count : reader.letters ≡ length (take MAX_WORD_CHARS letters)
   pub words : reader.found.words.items ++ words_behind reader.position reader.gap (pieces (signs_ahead letters rest)) ≡ all_words (pieces all)
   pub tags : reader.found.tags.items ++ tags_behind (length reader.found.words.items) (pieces (signs_ahead letters rest)) ≡ tags_behind 0 (pieces all)
-  pub position : reader.position ≤ MAX_POSITION
   pub below : All (λ word. word.position ≤ MAX_POSITION) reader.found.words.items
   pub sound : All (λ word. IsWord word.word) reader.found.words.items
 

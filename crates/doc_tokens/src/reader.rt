@@ -1,6 +1,7 @@
-ghost use Rattle.std.specs.Prelude.{◌≡◌, ℕ, List, [], ◌∷◌, ◌++◌, IfOk, OnOk};
+ghost use Rattle.std.specs.Prelude.{◌≡◌, ◌≤◌, ℕ, option_to_list, List, [], ◌∷◌, ◌++◌, IfOk, OnOk};
+ghost use Rattle.doc_types.specs.declared.tokens.TheConstants.{MAX_POSITION};
 ghost use Rattle.doc_tokens.specs.Words.{end_of, stronger};
-ghost use Rattle.doc_tokens.specs.Reading.{Wants, Holds, BeginApart, ReadsSign, EndsRun, Finds};
+ghost use Rattle.doc_tokens.specs.Spans.{tag_of};
 
 use crate::field::TooLong;
 use crate::sign::{Sign, ZoneTag};
@@ -27,6 +28,7 @@ pub(crate) struct Reader {
     position: u32,
     /// The boundary since the last word.
     gap: Gap,
+    ghost within: { position ≤ MAX_POSITION },
 }
 
 /// The boundary that a sign makes.
@@ -37,6 +39,38 @@ fn end(sign: Sign) -> Gap
         Sign::Sentence => Gap::Sentence,
         Sign::Paragraph => Gap::Paragraph,
         Sign::Letter(_) | Sign::Separator | Sign::Open(_) | Sign::Close(_) => Gap::None,
+    }
+}
+
+/// The tag of a zone that a sign is, behind so many words.
+fn zone_tag(sign: Sign, words: usize) -> Option<ZoneTag>
+    ensures { option_to_list result ≡ tag_of words sign }
+{
+    match sign {
+        Sign::Open(zone) => Some(ZoneTag {
+            zone,
+            opens: true,
+            words,
+        }),
+        Sign::Close(zone) => Some(ZoneTag {
+            zone,
+            opens: false,
+            words,
+        }),
+        Sign::Letter(_) | Sign::Separator | Sign::Sentence | Sign::Paragraph => None,
+    }
+}
+
+/// Appends a tag, if there is one.
+fn push_tag(tags: &mut Vec<ZoneTag>, tag: Option<ZoneTag>) -> Result<(), NoMemory>
+    ensures { OnOk result (tags.new.items ≡ tags.old.items ++ option_to_list tag) }
+{
+    match tag {
+        Some(tag) => {
+            tags.push(tag)?;
+            Ok(())
+        }
+        None => Ok(()),
     }
 }
 
@@ -52,6 +86,8 @@ fn stronger_of(first: Gap, second: Gap) -> Gap
 }
 
 impl Reader {
+    ghost use Rattle.doc_tokens.specs.Reading.{Wants, Holds, BeginApart, ReadsSign, EndsRun, Finds};
+
     /// Nothing was read.
     pub fn new(alloc: Global) -> Result<Reader, NoMemory>
         ensures { IfOk result (λ reader. (all : List Sign) → Wants all reader all) }
@@ -77,7 +113,7 @@ impl Reader {
                 self.letter(letter)?;
                 Ok(())
             }
-            _ => {
+            Sign::Separator | Sign::Sentence | Sign::Paragraph | Sign::Open(_) | Sign::Close(_) => {
                 self.end_run(alloc)?;
                 self.put(sign)?;
                 Ok(())
@@ -130,20 +166,8 @@ impl Reader {
         requires { BeginApart (sign ∷ []) }
         ensures { OnOk result ((all rest : List Sign) → Holds all self.old [] (sign ∷ rest) → Holds all self.new [] rest) }
     {
-        let words = self.found.words.len();
-        match sign {
-            Sign::Open(zone) => self.found.tags.push(ZoneTag {
-                zone,
-                opens: true,
-                words,
-            })?,
-            Sign::Close(zone) => self.found.tags.push(ZoneTag {
-                zone,
-                opens: false,
-                words,
-            })?,
-            _ => {}
-        }
+        let tag = zone_tag(sign, self.found.words.len());
+        push_tag(&mut self.found.tags, tag)?;
         self.gap = stronger_of(self.gap, end(sign));
         Ok(())
     }
