@@ -1,3 +1,4 @@
 pub mod Runs
 pub mod WordLists
 pub mod ReaderSteps
+pub mod Covers

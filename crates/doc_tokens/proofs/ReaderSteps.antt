@@ -1,5 +1,5 @@
 -- The reader, sign by sign.
-use Rattle.std.proofs.Common.{◌≡◌, ℕ, zero, suc, ◌+◌, ◌*◌, ◌<◌, ◌≤◌, Bool, true, false, cond, nat_lt, List, [], ◌∷◌, ◌++◌, All, length, map, take, Option, Some, None, IsUtf8, refl, sym, ◌∙◌, ap, subst, arith, append_assoc, append-nil, length-append, encode_utf8_all}
+use Rattle.std.proofs.Common.{◌≡◌, ℕ, zero, suc, ◌+◌, ◌*◌, ◌<◌, ◌≤◌, Bool, true, false, cond, nat_lt, List, [], ◌∷◌, ◌++◌, All, length, map, take, Option, Some, None, Err, IsUtf8, refl, sym, ◌∙◌, ap, subst, arith, append_assoc, append-nil, length-append, encode_utf8_all}
 use Rattle.std.specs.Prelude.{find}
 use Rattle.std.specs.Char.{encode_utf8}
 use Rattle.std.specs.String.{string_bytes}
@@ -14,6 +14,9 @@ use Rattle.doc_types.specs.declared.tokens.Gap.{Gap}
 use Rattle.doc_types.specs.declared.tokens.Gap.TheVariants as gaps
 use Rattle.doc_types.specs.declared.tokens.TokenWord.{TokenWord}
 use Rattle.doc_types.specs.Documents.{step, IsWord}
+use Rattle.srch_base.specs.declared.faults.Or.{Or}
+use Rattle.srch_base.specs.declared.faults.Or.TheVariants as causes
+use Rattle.doc_tokens.specs.declared.field.TooLong.{TooLong}
 use Rattle.doc_tokens.specs.declared.reader.Reader.{Reader}
 use Rattle.doc_tokens.specs.declared.sign.Sign.{Sign}
 use Rattle.doc_tokens.specs.declared.sign.Sign.TheVariants as signs
@@ -21,8 +24,8 @@ use Rattle.doc_tokens.specs.declared.sign.ZoneTag.{ZoneTag}
 use Rattle.doc_tokens.specs.Words.{Piece, run, other, pieces, word_of, end_of, stronger, positions_in}
 use Rattle.doc_tokens.specs.Spans.{tag_of, tags_behind}
 use Rattle.doc_tokens.specs.Tokens.{first_above}
-use Rattle.doc_tokens.specs.Reading.{gap_behind, word_behind, words_behind, all_words, signs_ahead, BeginApart, Holds}
-use Rattle.doc_tokens.proofs.Runs.{pieces_run, pieces_other, ahead_letter, word_more, word_cut, encodes_short}
+use Rattle.doc_tokens.specs.Reading.{gap_behind, word_behind, words_behind, all_words, signs_ahead, BeginApart, Holds, Wants, EndsRun, ReadsSign, Finds, IsFound}
+use Rattle.doc_tokens.proofs.Runs.{pieces_run, apart_before, ahead_letter, word_more, word_cut, encodes_short}
 use Rattle.doc_tokens.proofs.WordLists.{all_positions}
 
 -- tests of numbers
@@ -125,3 +128,63 @@ word_above all old c letters rest position apart above is holds =
     ∙ ap (λ (o : Option ℕ). option_or o (find test (map at (word ∷ later)))) (none_above found holds.below)
     ∙ ap (λ (b : Bool). cond b (Some word.position) (find test (map at later))) (is_below MAX_POSITION word.position (subst (λ (p : ℕ). MAX_POSITION < p) is above))
     ∙ ap Some (sym is)
+
+-- the same for any letters, of which the reader has some
+pub run_above : (all : List Sign) (old : Reader) (letters : List ℕ) (rest : List Sign) (position : ℕ) → (old.letters ≡ 0 → ⊥) → BeginApart rest
+    → MAX_POSITION < position → position ≡ old.position + step (gap_behind old.position old.gap)
+    → Holds all old letters rest → first_above (pieces all) ≡ Some position
+run_above all old [] rest position some apart above is holds = absurd (some holds.count)
+run_above all old (c ∷ letters) rest position some apart above is holds = word_above all old c letters rest position apart above is holds
+
+pub run_ended : (all : List Sign) (old new : Reader) (letters : List ℕ) (rest : List Sign) → (old.letters ≡ 0 → ⊥) → BeginApart rest → IsUtf8 (string_bytes old.run)
+    → old.position + step (gap_behind old.position old.gap) ≤ MAX_POSITION
+    → string_bytes new.run ≡ [] → new.letters ≡ 0 → new.position ≡ old.position + step (gap_behind old.position old.gap) → new.gap ≡ gaps.None
+    → new.found.tags.items ≡ old.found.tags.items
+    → new.found.words.items ≡ old.found.words.items ++ record (word_behind old.position old.gap []) { word = string_bytes old.run } ∷ []
+    → Holds all old letters rest → Holds all new [] rest
+run_ended all old new [] rest some apart utf8 within run_is count position gap tags words holds = absurd (some holds.count)
+run_ended all old new (c ∷ letters) rest some apart utf8 within run_is count position gap tags words holds = holds_word all old new c letters rest apart utf8 within run_is count position gap tags words holds
+
+-- a letter joins a run that isn't cut, and one that is
+pub letter_kept : (all : List Sign) (old new : Reader) (letters : List ℕ) (c : ℕ) (rest : List Sign)
+    → new.found ≡ old.found → new.position ≡ old.position → new.gap ≡ old.gap → old.letters < 42
+    → string_bytes new.run ≡ string_bytes old.run ++ encode_utf8 c → new.letters ≡ old.letters + 1
+    → Holds all old letters (signs.Letter c ∷ rest) → Holds all new (letters ++ c ∷ []) rest
+letter_kept all old new letters c rest found position gap below run_is count holds =
+    let size = length-take 42 letters in
+    let taken = length-take 42 (letters ++ c ∷ []) in
+    let had = holds.count in
+    let more = length_push letters c in
+    let short : length letters < 42 = omega (arith, size, had) in
+    holds_letter all old new letters c rest found position gap
+    (run_is ∙ ap (λ (bytes : List ℕ). bytes ++ encode_utf8 c) holds.run ∙ sym (word_more letters c short))
+    (omega (arith, size, taken, had, more, count))
+    holds
+
+pub letter_cut : (all : List Sign) (old : Reader) (letters : List ℕ) (c : ℕ) (rest : List Sign) → 42 ≤ old.letters → Holds all old letters (signs.Letter c ∷ rest) → Holds all old (letters ++ c ∷ []) rest
+letter_cut all old letters c rest full holds =
+    let size = length-take 42 letters in
+    let had = holds.count in
+    let long : 42 ≤ length letters = omega (arith, size, had) in
+    holds_letter all old old letters c rest refl refl refl
+    (holds.run ∙ ap encode_utf8_all (sym (word_cut letters c long)))
+    (holds.count ∙ ap length (sym (word_cut letters c long)))
+    holds
+
+-- a sign that can't be read for the word before it
+pub read_above : (old new : Reader) (sign : Sign) (fault : Or TooLong) → BeginApart (sign ∷ []) → EndsRun old new (Err fault) → ReadsSign old sign new (Err fault)
+read_above old new sign causes.NoMemory apart ends = tt
+read_above old new sign (causes.Fault too_long) apart ends = λ all rest wants. ends all wants.letters (sign ∷ rest) (apart_before sign rest apart) wants.holds
+
+pub finish_above : (old new : Reader) (fault : Or TooLong) (all : List Sign) → EndsRun old new (Err fault) → Wants all old [] → Finds all (Err fault)
+finish_above old new causes.NoMemory all ends wants = tt
+finish_above old new (causes.Fault too_long) all ends wants = ends all wants.letters [] tt wants.holds
+
+-- all was read
+pub all_found : (all : List Sign) (reader : Reader) → Holds all reader [] [] → IsFound all reader.found
+all_found all reader holds = record {
+  words = sym (append-nil reader.found.words.items) ∙ holds.words;
+  tags = sym (append-nil reader.found.tags.items) ∙ holds.tags;
+  below = holds.below;
+  sound = holds.sound;
+}

@@ -86,7 +86,7 @@ fn stronger_of(first: Gap, second: Gap) -> Gap
 }
 
 impl Reader {
-    ghost use Rattle.doc_tokens.specs.Reading.{Wants, Holds, BeginApart, ReadsSign, EndsRun, Finds};
+    ghost use Rattle.doc_tokens.specs.Reading.{gap_behind, Wants, Holds, BeginApart, ReadsSign, EndsRun, Finds};
 
     /// Nothing was read.
     pub fn new(alloc: Global) -> Result<Reader, NoMemory>
@@ -132,6 +132,17 @@ impl Reader {
         Ok(())
     }
 
+    /// The boundary before the next word.
+    fn gap_before(&self) -> Gap
+        ensures { result ≡ gap_behind self.now.position self.now.gap }
+    {
+        if self.position == 0 {
+            Gap::None
+        } else {
+            self.gap
+        }
+    }
+
     /// The run ends here, if there is one: it is a word.
     fn end_run(&mut self, alloc: Global) -> Result<(), Or<TooLong>>
         ensures { EndsRun self.old self.new result }
@@ -139,11 +150,7 @@ impl Reader {
         if self.letters == 0 {
             return Ok(());
         }
-        let gap = if self.position == 0 {
-            Gap::None
-        } else {
-            self.gap
-        };
+        let gap = self.gap_before();
         let position = self.position + gap.step();
         if position > MAX_POSITION {
             return Err(Or::Fault(TooLong { position }));

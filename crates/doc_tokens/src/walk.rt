@@ -39,10 +39,7 @@ fn read_some(reader: &mut Reader, alloc: Global, sign: Option<Sign>) -> Result<(
     ensures { ReadsSome reader.old (option_to_list sign) reader.new result }
 {
     match sign {
-        Some(sign) => {
-            reader.read(alloc, sign)?;
-            Ok(())
-        }
+        Some(sign) => reader.read(alloc, sign),
         None => Ok(()),
     }
 }
