@@ -2,3 +2,4 @@ pub mod Runs
 pub mod WordLists
 pub mod ReaderSteps
 pub mod Covers
+pub mod Passing

@@ -134,6 +134,17 @@ abbrev pub Ordered : ℕ → List Mark → Type 0
 Ordered place [] = Unit {0}
 Ordered place (mark ∷ marks) = (place ≤ mark.from) × Ordered mark.from marks
 
+-- the first of these marks, if there is one, begins at the place or behind it
+abbrev pub BeginFrom : ℕ → List Mark → Type 0
+BeginFrom place [] = Unit {0}
+BeginFrom place (mark ∷ marks) = place ≤ mark.from
+
+-- the mark stands at this index, and begins before the place
+pub record IsNext (marks : List Mark) (next place : ℕ) (mark : Mark) : Type 0 where
+  pub below : next < length marks
+  pub is : drop next marks ≡ mark ∷ drop (next + 1) marks
+  pub begins : mark.from < place
+
 -- The marks that begin before the place were passed, and no others.
 pub record HasPassed (marks : List Mark) (passed : Passed) (place : ℕ) : Type 0 where
   pub within : passed.next ≤ length marks

@@ -1,9 +1,9 @@
-ghost use Rattle.std.specs.Prelude.{◌≡◌, ◌<◌, ◌^◌, ◌++◌, [], length, MatchOption, option_to_list};
+ghost use Rattle.std.specs.Prelude.{◌≡◌, ◌<◌, ◌≤◌, ◌^◌, ◌++◌, [], length, drop, MatchOption, option_to_list};
 ghost use Rattle.std.specs.Char.{encode_utf8};
 ghost use Rattle.std.specs.Str.{IsUtf8, chars};
 ghost use Rattle.charset_map.specs.Spans.{folded};
 ghost use Rattle.doc_tokens.specs.Signs.{signs_from};
-ghost use Rattle.doc_tokens.specs.Reading.{ReadsSome, Ordered, PassesMarks, Finds};
+ghost use Rattle.doc_tokens.specs.Reading.{ReadsSome, Ordered, BeginFrom, IsNext, PassesMarks, Finds};
 
 use crate::cover::{Cover, tag_sign_of};
 use crate::field::TooLong;
@@ -34,6 +34,18 @@ fn first_char(text: &str) -> Option<(char, &str)>
     }
 }
 
+/// The next mark, if it begins before a place.
+fn next_before(marks: &[Mark], next: usize, place: u32) -> Option<Mark>
+    requires { next ≤ length marks.now }
+    ensures { MatchOption result (BeginFrom place (drop next marks.now)) (λ mark. IsNext marks.now next place mark) }
+{
+    if next < marks.len() && marks[next].from < place {
+        Some(marks[next])
+    } else {
+        None
+    }
+}
+
 /// Reads a sign, if there is one.
 fn read_some(reader: &mut Reader, alloc: Global, sign: Option<Sign>) -> Result<(), Or<TooLong>>
     ensures { ReadsSome reader.old (option_to_list sign) reader.new result }
@@ -52,11 +64,11 @@ fn pass_marks(
     start: Passed,
     end: u32,
 ) -> Result<Passed, Or<TooLong>>
+    requires { start.next ≤ length marks.now }
     ensures { PassesMarks marks.now reader.old start end reader.new result }
 {
     let mut passed = start;
-    'marks: while passed.next < marks.len() && marks[passed.next].from < end {
-        let mark = marks[passed.next];
+    'marks: while let Some(mark) = next_before(marks, passed.next, end) {
         read_some(reader, alloc, tag_sign_of(mark.kind))?;
         passed = Passed {
             next: passed.next + 1,
