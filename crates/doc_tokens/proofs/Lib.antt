@@ -3,3 +3,4 @@ pub mod WordLists
 pub mod ReaderSteps
 pub mod Covers
 pub mod Passing
+pub mod PassSteps

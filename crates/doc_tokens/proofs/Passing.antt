@@ -17,7 +17,7 @@ use Rattle.doc_tokens.specs.Signs.{is_text, is_removed_tag, is_sentence_end, cov
 use Rattle.doc_tokens.specs.Reading.{reaches, IsCover, sign_by, tag_sign, Ordered, BeginFrom, IsNext, HasPassed}
 
 -- marks behind a place are behind each place before it
-ordered_weaker : (low high : ℕ) (marks : List Mark) → low ≤ high → Ordered high marks → Ordered low marks
+pub ordered_weaker : (low high : ℕ) (marks : List Mark) → low ≤ high → Ordered high marks → Ordered low marks
 ordered_weaker low high [] below ordered = tt
 ordered_weaker low high (mark ∷ marks) below ordered = let from = ordered.0 in (omega (arith, from), ordered.1)
 

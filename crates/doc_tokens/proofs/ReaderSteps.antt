@@ -1,5 +1,5 @@
 -- The reader, sign by sign.
-use Rattle.std.proofs.Common.{◌≡◌, ℕ, zero, suc, ◌+◌, ◌*◌, ◌<◌, ◌≤◌, Bool, true, false, cond, nat_lt, List, [], ◌∷◌, ◌++◌, All, length, map, take, Option, Some, None, Err, IsUtf8, refl, sym, ◌∙◌, ap, subst, arith, append_assoc, append-nil, length-append, encode_utf8_all}
+use Rattle.std.proofs.Common.{◌≡◌, ℕ, zero, suc, ◌+◌, ◌*◌, ◌<◌, ◌≤◌, Bool, true, false, cond, nat_lt, List, [], ◌∷◌, ◌++◌, All, length, map, take, Option, Some, None, Result, Ok, Err, IsUtf8, refl, sym, ◌∙◌, ap, subst, arith, append_assoc, append-nil, length-append, encode_utf8_all}
 use Rattle.std.specs.Prelude.{find}
 use Rattle.std.specs.Char.{encode_utf8}
 use Rattle.std.specs.String.{string_bytes}
@@ -24,7 +24,7 @@ use Rattle.doc_tokens.specs.declared.sign.ZoneTag.{ZoneTag}
 use Rattle.doc_tokens.specs.Words.{Piece, run, other, pieces, word_of, end_of, stronger, positions_in}
 use Rattle.doc_tokens.specs.Spans.{tag_of, tags_behind}
 use Rattle.doc_tokens.specs.Tokens.{first_above}
-use Rattle.doc_tokens.specs.Reading.{gap_behind, word_behind, words_behind, all_words, signs_ahead, BeginApart, Holds, Wants, EndsRun, ReadsSign, Finds, IsFound}
+use Rattle.doc_tokens.specs.Reading.{gap_behind, word_behind, words_behind, all_words, signs_ahead, BeginApart, Holds, Wants, EndsRun, ReadsSign, ReadsSome, Finds, IsFound}
 use Rattle.doc_tokens.proofs.Runs.{pieces_run, apart_before, ahead_letter, word_more, word_cut, encodes_short}
 use Rattle.doc_tokens.proofs.WordLists.{all_positions}
 
@@ -188,3 +188,9 @@ all_found all reader holds = record {
   below = holds.below;
   sound = holds.sound;
 }
+
+-- a sign that was read is a list of one
+pub some_read : (old : Reader) (sign : Sign) (new : Reader) (result : Result (Unit {0}) (Or TooLong)) → ReadsSign old sign new result → ReadsSome old (sign ∷ []) new result
+some_read old sign new (Ok done) reads = reads
+some_read old sign new (Err causes.NoMemory) reads = tt
+some_read old sign new (Err (causes.Fault too_long)) reads = reads
