@@ -4,3 +4,4 @@ pub mod ReaderSteps
 pub mod Covers
 pub mod Passing
 pub mod PassSteps
+pub mod WalkSteps

@@ -1,5 +1,5 @@
 -- Reading: what the reader of a text keeps, and what its parts answer.
-use Rattle.std.specs.Prelude.{◌≡◌, ℕ, ◌+◌, ◌<◌, ◌≤◌, List, [], ◌∷◌, ◌++◌, ◌==◌, ◌&&◌, nat_lt, Bool, Option, Some, None, Result, Ok, Err, if◌then◌else◌, All, AllPairs, IsTrue, ◌↔◌, ◌⊎◌, Contains, length, map, take, drop, option_to_list}
+use Rattle.std.specs.Prelude.{◌≡◌, ℕ, ◌+◌, ◌<◌, ◌≤◌, List, [], ◌∷◌, ◌++◌, ◌==◌, ◌&&◌, nat_lt, Bool, true, false, ◌-◌, slice_index_or, Option, Some, None, Result, Ok, Err, if◌then◌else◌, All, AllPairs, IsTrue, ◌↔◌, ◌⊎◌, Contains, length, map, take, drop, option_to_list}
 use Rattle.std.specs.List.{list_any}
 use Rattle.std.specs.String.{string_bytes}
 use Rattle.srch_base.specs.declared.faults.NoMemory.{NoMemory}
@@ -162,7 +162,12 @@ PassesMarks marks old start to new (Err (causes.Fault too_long)) = (from : ℕ) 
 abbrev pub Descend : List ZoneSpan → Type 0
 Descend spans = AllPairs (λ a b. IsTrue (precedes b a)) spans
 
--- the span was put among the others, unless it was there
-pub record PutsSpan (old : List ZoneSpan) (span : ZoneSpan) (new : List ZoneSpan) : Type 0 where
+-- from the place on the spans precede this one, and the one before the place doesn't
+pub record IsPlaceFor (spans : List ZoneSpan) (span : ZoneSpan) (place : ℕ) : Type 0 where
+  pub behind : (k : ℕ) (d : ZoneSpan) → place ≤ k → k < length spans → precedes (slice_index_or spans k d) span ≡ true
+  pub before : (d : ZoneSpan) → 0 < place → precedes (slice_index_or spans (place - 1) d) span ≡ false
+
+-- the spans were put among the others, unless they were there
+pub record PutsSpans (old some new : List ZoneSpan) : Type 0 where
   pub descend : Descend new
-  pub same : (s : ZoneSpan) → Contains new s ↔ (Contains old s ⊎ (s ≡ span))
+  pub same : (span : ZoneSpan) → Contains new span ↔ (Contains old span ⊎ Contains some span)

@@ -36,11 +36,11 @@ abbrev pub span_over : ℕ → List ℕ → List ZoneSpan
 span_over zone [] = []
 span_over zone (first ∷ rest) = record { zone = zone; first = first; last = last_of first rest } ∷ []
 
--- the span that a tag begins, by the positions of all words and the tags behind it
-abbrev pub tag_span : List ℕ → ZoneTag → List ZoneTag → List ZoneSpan
-tag_span positions tag behind = if tag.opens then span_over tag.zone (slice_range positions tag.words (zone_end tag.zone (length positions) behind)) else []
+-- the span that a tag begins, by the positions of all words, where it ends before the word of this number
+abbrev pub span_within : List ℕ → ZoneTag → ℕ → List ZoneSpan
+span_within positions tag end = if tag.opens then span_over tag.zone (slice_range positions tag.words end) else []
 
--- the spans that hold a word, in the order of their opening tags
+-- the spans that hold a word, in the order of their opening tags, by the positions of all words
 abbrev pub spans_of : List ℕ → List ZoneTag → List ZoneSpan
 spans_of positions [] = []
-spans_of positions (tag ∷ tags) = tag_span positions tag tags ++ spans_of positions tags
+spans_of positions (tag ∷ tags) = span_within positions tag (zone_end tag.zone (length positions) tags) ++ spans_of positions tags
