@@ -5,3 +5,5 @@ pub mod Covers
 pub mod Passing
 pub mod PassSteps
 pub mod WalkSteps
+pub mod SpanOrder
+pub mod SpanLists
