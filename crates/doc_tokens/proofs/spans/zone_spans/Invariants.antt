@@ -9,6 +9,7 @@ use Rattle.doc_tokens.proofs.spans.zone_spans.Given as goal
 abbrev pub invariant-loop-left : goal.invariant-loop-left
 invariant-loop-left l = record {
   within : l.left ≤ length l.tags;
+  size : length l.ends ≡ 32;
   ends : (zone : ℕ) → zone < 32 → get_or l.ends zone 0 ≡ zone_end zone (length l.words) (drop l.left l.tags);
   descend : Descend l.spans.items;
   same : (span : ZoneSpan) → Contains l.spans.items span ↔ Contains (spans_of (map (λ (w : TokenWord). w.position) l.words) (drop l.left l.tags)) span;
