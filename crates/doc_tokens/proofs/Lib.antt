@@ -7,3 +7,4 @@ pub mod PassSteps
 pub mod WalkSteps
 pub mod SpanOrder
 pub mod SpanLists
+pub mod MarkOrder
