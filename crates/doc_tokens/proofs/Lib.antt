@@ -8,3 +8,5 @@ pub mod WalkSteps
 pub mod SpanOrder
 pub mod SpanLists
 pub mod MarkOrder
+pub mod ZoneNumbers
+pub mod Fields
