@@ -10,3 +10,4 @@ pub mod SpanLists
 pub mod MarkOrder
 pub mod ZoneNumbers
 pub mod Fields
+pub mod Unique

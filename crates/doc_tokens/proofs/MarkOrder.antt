@@ -83,10 +83,13 @@ behind_byte text bytes last byte utf8 is some ascii front =
 
 cut_at : (text : List ℕ) (part : Part) → IsUtf8 text → BeginsWith text part → CutAt text part
 cut_at text (plain bytes) utf8 begins = record {
-  boundary = (part_within text (plain bytes) begins, λ below high.
-      let opens = sym (get_or-drop (length bytes) text 0 0) ∙ markup_opens (drop (length bytes) text) (begins.up_to below) in
-      let same : get_or text (length bytes + 0) 0 ≡ get_or text (length bytes) 0 = ap (λ (n : ℕ). get_or text n 0) (omega arith) in
-      absurd (omega (arith, opens, same, high)));
+  boundary = (
+    part_within text (plain bytes) begins,
+    λ below high.
+        let opens = sym (get_or-drop (length bytes) text 0 0) ∙ markup_opens (drop (length bytes) text) (begins.up_to below) in
+        let same : get_or text (length bytes + 0) 0 ≡ get_or text (length bytes) 0 = ap (λ (n : ℕ). get_or text n 0) (omega arith) in
+        absurd (omega (arith, opens, same, high)),
+  );
   front = begins.front;
 }
 cut_at text (comment bytes) utf8 begins =

@@ -42,11 +42,11 @@ passing_next marks old reader new passed next mark from to is count cover reads 
     let ordered : Ordered from (mark ∷ drop (at + 1) marks) = subst (Ordered from) is.is passing.after in
     let here : get_or marks at mark ≡ mark = ap (λ (n : ℕ). get_or marks n mark) (omega arith) ∙ sym (get_or-drop at marks 0 mark) ∙ ap (λ (ms : List Mark). get_or ms 0 mark) is.is in
     let taken : take next.next marks ≡ take at marks ++ mark ∷ [] =
-        ap (λ (n : ℕ). take n marks) count ∙ take_more marks at mark is.below ∙ ap (λ (m : Mark). take at marks ++ m ∷ []) here in
+    ap (λ (n : ℕ). take n marks) count ∙ take_more marks at mark is.below ∙ ap (λ (m : Mark). take at marks ++ m ∷ []) here in
     let tags : tags_in (drop at marks) from to ≡ option_to_list (tag_sign mark.kind) ++ tags_in (drop next.next marks) from to =
-        ap (λ (ms : List Mark). tags_in ms from to) is.is
-        ∙ tags_next from to mark (drop (at + 1) marks) ordered.0 is.begins
-        ∙ (λ i. tag_sign-list mark.kind i ++ tags_in (drop (sym count i) marks) from to) in
+    ap (λ (ms : List Mark). tags_in ms from to) is.is
+    ∙ tags_next from to mark (drop (at + 1) marks) ordered.0 is.begins
+    ∙ (λ i. tag_sign-list mark.kind i ++ tags_in (drop (sym count i) marks) from to) in
     record {
       cover = subst (IsCover next.cover) (sym taken) (cover (take at marks) passing.cover);
       before = subst (All (λ (m : Mark). m.from < to)) (sym taken) (All-push (λ (m : Mark). m.from < to) (take at marks) mark passing.before is.begins);
@@ -75,9 +75,9 @@ passing_above marks old reader new start passed mark to (causes.Fault too_long) 
     let now = passing from below has in
     let ordered : Ordered from (mark ∷ drop (passed.next + 1) marks) = subst (Ordered from) is.is now.after in
     let tags : tags_in (drop passed.next marks) from to ≡ option_to_list (tag_sign mark.kind) ++ tags_in (drop (passed.next + 1) marks) from to =
-        ap (λ (ms : List Mark). tags_in ms from to) is.is
-        ∙ tags_next from to mark (drop (passed.next + 1) marks) ordered.0 is.begins
-        ∙ ap (λ (signs : List Sign). signs ++ tags_in (drop (passed.next + 1) marks) from to) (tag_sign-list mark.kind) in
+    ap (λ (ms : List Mark). tags_in ms from to) is.is
+    ∙ tags_next from to mark (drop (passed.next + 1) marks) ordered.0 is.begins
+    ∙ ap (λ (signs : List Sign). signs ++ tags_in (drop (passed.next + 1) marks) from to) (tag_sign-list mark.kind) in
     reads all (tags_in (drop (passed.next + 1) marks) from to ++ rest)
     (subst (Wants all reader) (append_assoc (option_to_list (tag_sign mark.kind)) _ rest)
     (subst (λ (signs : List Sign). Wants all reader (signs ++ rest)) tags (now.reads all rest wants)))

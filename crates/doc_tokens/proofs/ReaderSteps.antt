@@ -84,7 +84,7 @@ holds_word all old new c letters rest apart utf8 within run_is count position ga
     let is = pieces_run c letters rest apart in
     let word : TokenWord = word_behind old.position old.gap (c ∷ letters) in
     let words_are : new.found.words.items ≡ old.found.words.items ++ word ∷ [] =
-        words ∙ ap (λ (w : List ℕ). old.found.words.items ++ record word { word = w } ∷ []) holds.run in
+    words ∙ ap (λ (w : List ℕ). old.found.words.items ++ record word { word = w } ∷ []) holds.run in
     let sound = run_is_word c letters (subst IsUtf8 holds.run utf8) in
     record {
       run = run_is;
@@ -104,7 +104,7 @@ holds_word all old new c letters rest apart utf8 within run_is count position ga
     }
 
 -- no word up to the limit is above it
-none_above : (words : List TokenWord) → All (λ (w : TokenWord). w.position ≤ MAX_POSITION) words → find (λ (p : ℕ). nat_lt MAX_POSITION p) (map (λ (w : TokenWord). w.position) words) ≡ None
+pub none_above : (words : List TokenWord) → All (λ (w : TokenWord). w.position ≤ MAX_POSITION) words → find (λ (p : ℕ). nat_lt MAX_POSITION p) (map (λ (w : TokenWord). w.position) words) ≡ None
 none_above [] below = refl
 none_above (word ∷ words) below =
     let here : word.position ≤ MAX_POSITION = All-head (λ (w : TokenWord). w.position ≤ MAX_POSITION) word words below in
@@ -122,7 +122,7 @@ word_above all old c letters rest position apart above is holds =
     let word : TokenWord = word_behind old.position old.gap (c ∷ letters) in
     let later = words_behind word.position gaps.None (pieces rest) in
     let words : all_words (pieces all) ≡ found ++ word ∷ later =
-        sym holds.words ∙ ap (λ (ps : List Piece). found ++ words_behind old.position old.gap ps) (pieces_run c letters rest apart) in
+    sym holds.words ∙ ap (λ (ps : List Piece). found ++ words_behind old.position old.gap ps) (pieces_run c letters rest apart) in
     ap (find test) (sym (all_positions (pieces all)) ∙ ap (map at) words ∙ map-append at found (word ∷ later))
     ∙ find-append test (map at found) (map at (word ∷ later))
     ∙ ap (λ (o : Option ℕ). option_or o (find test (map at (word ∷ later)))) (none_above found holds.below)

@@ -36,19 +36,19 @@ span_found words tag end first last opens some within =
     let taken = length-take (end - tag.words) (drop tag.words positions) in
     let count : length part ≡ end - tag.words = omega (arith, size, dropped, taken) in
     let at_first : get_or part 0 0 ≡ (get_or words tag.words first).position =
-        get_or-take (end - tag.words) (drop tag.words positions) 0 0 (omega arith)
-        ∙ get_or-drop tag.words positions 0 0
-        ∙ ap (λ (n : ℕ). get_or positions n 0) (omega arith)
-        ∙ get_or-map at words tag.words first 0 (omega arith) in
+    get_or-take (end - tag.words) (drop tag.words positions) 0 0 (omega arith)
+    ∙ get_or-drop tag.words positions 0 0
+    ∙ ap (λ (n : ℕ). get_or positions n 0) (omega arith)
+    ∙ get_or-map at words tag.words first 0 (omega arith) in
     let at_last : get_or part (length part - 1) 0 ≡ (get_or words (end - 1) last).position =
-        ap (λ (n : ℕ). get_or part n 0) (omega (arith, count))
-        ∙ get_or-take (end - tag.words) (drop tag.words positions) (end - tag.words - 1) 0 (omega arith)
-        ∙ get_or-drop tag.words positions (end - tag.words - 1) 0
-        ∙ ap (λ (n : ℕ). get_or positions n 0) (omega arith)
-        ∙ get_or-map at words (end - 1) last 0 (omega arith) in
+    ap (λ (n : ℕ). get_or part n 0) (omega (arith, count))
+    ∙ get_or-take (end - tag.words) (drop tag.words positions) (end - tag.words - 1) 0 (omega arith)
+    ∙ get_or-drop tag.words positions (end - tag.words - 1) 0
+    ∙ ap (λ (n : ℕ). get_or positions n 0) (omega arith)
+    ∙ get_or-map at words (end - 1) last 0 (omega arith) in
     sym (ap (λ (b : Bool). cond b (span_over tag.zone part) []) opens
-        ∙ span_some tag.zone part (omega (arith, count))
-        ∙ (λ i. record { zone = tag.zone; first = at_first i; last = at_last i } ∷ []))
+    ∙ span_some tag.zone part (omega (arith, count))
+    ∙ (λ i. record { zone = tag.zone; first = at_first i; last = at_last i } ∷ []))
 
 -- where an open zone ends isn't beyond the text
 pub zone_end_within : (zone all : ℕ) (tags : List ZoneTag) → All (λ (t : ZoneTag). t.words ≤ all) tags → zone_end zone all tags ≤ all

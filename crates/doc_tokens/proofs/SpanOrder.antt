@@ -12,7 +12,7 @@ use Rattle.doc_types.specs.Documents.{precedes}
 use Rattle.doc_tokens.specs.Reading.{Descend, IsPlaceFor, PutsSpans}
 
 -- the order of spans
-precedes_trans : (a b c : ZoneSpan) → precedes a b ≡ true → precedes b c ≡ true → precedes a c ≡ true
+pub precedes_trans : (a b c : ZoneSpan) → precedes a b ≡ true → precedes b c ≡ true → precedes a c ≡ true
 precedes_trans a b c first second = grind (arith, nat_tests)
 
 same_first : (a b : ZoneSpan) → precedes a b ≡ false → precedes b a ≡ false → a.first ≡ b.first
@@ -62,9 +62,9 @@ from_insert : (spans : List ZoneSpan) (span s : ZoneSpan) (at : ℕ) → at ≤ 
 from_insert spans span s at within (k, below, is) =
     ⊎_elim (λ under. inl (place_below spans span s at k within under is))
     (λ over. ⊎_elim (λ beyond. inl (place_above spans span s at k within beyond below is))
-        (λ not_beyond. let same : at ≡ k = omega arith in
-            inr (subst (Contains (span ∷ [])) (sym (get_or-insert_at spans at span s within) ∙ ap (λ (n : ℕ). get_or (insert spans at span) n s) same ∙ is) (contains_one span)))
-        (cases_lt at k))
+    (λ not_beyond. let same : at ≡ k = omega arith in
+    inr (subst (Contains (span ∷ [])) (sym (get_or-insert_at spans at span s within) ∙ ap (λ (n : ℕ). get_or (insert spans at span) n s) same ∙ is) (contains_one span)))
+    (cases_lt at k))
     (cases_lt k at)
 
 to_insert : (spans : List ZoneSpan) (span s : ZoneSpan) (at : ℕ) → at ≤ length spans → Contains spans s → Contains (insert spans at span) s
@@ -94,15 +94,15 @@ descend_behind spans span at descend place within i k d over order below =
     ⊎_elim
     (λ under. subst (λ (s : ZoneSpan). precedes last s ≡ true) (sym (get_or-insert_below spans at span d i under within)) (descend i k d (omega arith) below))
     (λ not_under. ⊎_elim
-        (λ beyond.
-            let next : (i - 1) + 1 ≡ i = omega arith in
-            let is = ap (λ (n : ℕ). get_or (insert spans at span) n d) (sym next) ∙ get_or-insert_above spans at span d (i - 1) (omega arith) within in
-            subst (λ (s : ZoneSpan). precedes last s ≡ true) (sym is) (descend (i - 1) k d (omega arith) below))
-        (λ not_beyond.
-            let same : at ≡ i = omega arith in
-            let is = ap (λ (n : ℕ). get_or (insert spans at span) n d) (sym same) ∙ get_or-insert_at spans at span d within in
-            subst (λ (s : ZoneSpan). precedes last s ≡ true) (sym is) (place.behind k d over below))
-        (cases_lt at i))
+    (λ beyond.
+    let next : (i - 1) + 1 ≡ i = omega arith in
+    let is = ap (λ (n : ℕ). get_or (insert spans at span) n d) (sym next) ∙ get_or-insert_above spans at span d (i - 1) (omega arith) within in
+    subst (λ (s : ZoneSpan). precedes last s ≡ true) (sym is) (descend (i - 1) k d (omega arith) below))
+    (λ not_beyond.
+    let same : at ≡ i = omega arith in
+    let is = ap (λ (n : ℕ). get_or (insert spans at span) n d) (sym same) ∙ get_or-insert_at spans at span d within in
+    subst (λ (s : ZoneSpan). precedes last s ≡ true) (sym is) (place.behind k d over below))
+    (cases_lt at i))
     (cases_lt i at)
 
 descend_insert : (spans : List ZoneSpan) (span : ZoneSpan) (at : ℕ) → Descend spans → IsPlaceFor spans span at → at ≤ length spans → ((d : ZoneSpan) → 0 < at → precedes span (get_or spans (at - 1) d) ≡ true) → Descend (insert spans at span)
@@ -112,20 +112,20 @@ descend_insert spans span at descend place within above = λ i j d order below.
     let first = get_or list i d in
     ⊎_elim
     (λ under.
-        let last_is = get_or-insert_below spans at span d j under within in
-        let first_is = get_or-insert_below spans at span d i (omega arith) within in
-        subst (λ (s : ZoneSpan). precedes s first ≡ true) (sym last_is) (subst (λ (s : ZoneSpan). precedes (get_or spans j d) s ≡ true) (sym first_is) (descend i j d order (omega arith))))
+    let last_is = get_or-insert_below spans at span d j under within in
+    let first_is = get_or-insert_below spans at span d i (omega arith) within in
+    subst (λ (s : ZoneSpan). precedes s first ≡ true) (sym last_is) (subst (λ (s : ZoneSpan). precedes (get_or spans j d) s ≡ true) (sym first_is) (descend i j d order (omega arith))))
     (λ over. ⊎_elim
-        (λ beyond.
-            let next : (j - 1) + 1 ≡ j = omega arith in
-            let last_is = ap (λ (n : ℕ). get_or list n d) (sym next) ∙ get_or-insert_above spans at span d (j - 1) (omega arith) within in
-            subst (λ (s : ZoneSpan). precedes s first ≡ true) (sym last_is) (descend_behind spans span at descend place within i (j - 1) d (omega arith) (omega arith) (omega (arith, size))))
-        (λ not_beyond.
-            let same : at ≡ j = omega arith in
-            let last_is = ap (λ (n : ℕ). get_or list n d) (sym same) ∙ get_or-insert_at spans at span d within in
-            let first_is = get_or-insert_below spans at span d i (omega arith) within in
-            subst (λ (s : ZoneSpan). precedes s first ≡ true) (sym last_is) (subst (λ (s : ZoneSpan). precedes span s ≡ true) (sym first_is) (all_before spans span at descend within above i d (omega arith))))
-        (cases_lt at j))
+    (λ beyond.
+    let next : (j - 1) + 1 ≡ j = omega arith in
+    let last_is = ap (λ (n : ℕ). get_or list n d) (sym next) ∙ get_or-insert_above spans at span d (j - 1) (omega arith) within in
+    subst (λ (s : ZoneSpan). precedes s first ≡ true) (sym last_is) (descend_behind spans span at descend place within i (j - 1) d (omega arith) (omega arith) (omega (arith, size))))
+    (λ not_beyond.
+    let same : at ≡ j = omega arith in
+    let last_is = ap (λ (n : ℕ). get_or list n d) (sym same) ∙ get_or-insert_at spans at span d within in
+    let first_is = get_or-insert_below spans at span d i (omega arith) within in
+    subst (λ (s : ZoneSpan). precedes s first ≡ true) (sym last_is) (subst (λ (s : ZoneSpan). precedes span s ≡ true) (sym first_is) (all_before spans span at descend within above i d (omega arith))))
+    (cases_lt at j))
     (cases_lt j at)
 
 -- a span that isn't there is put at its place

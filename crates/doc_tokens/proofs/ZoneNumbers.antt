@@ -73,7 +73,7 @@ kinds_below : (sp : Bool) (zones : List (List ℕ)) (t : TagText) → KindsBelow
 unfolding tag_kinds paragraph_kind zone_kind
 kinds_below sp zones t =
     let kept : KindsBelow (length zones) (option_to_list (paragraph_kind sp t.name) ++ option_to_list (zone_kind zones t)) =
-        each_append (KindBelow (length zones)) (option_to_list (paragraph_kind sp t.name)) (option_to_list (zone_kind zones t)) (paragraph_below (length zones) (sp && is_among block_tags t.name)) (zone_below zones t t.empty) in
+    each_append (KindBelow (length zones)) (option_to_list (paragraph_kind sp t.name)) (option_to_list (zone_kind zones t)) (paragraph_below (length zones) (sp && is_among block_tags t.name)) (zone_below zones t t.empty) in
     elim (is_removed zones t.name) as (λ b. KindsBelow (length zones) (cond b (kinds.Inline ∷ []) (option_to_list (paragraph_kind sp t.name) ++ option_to_list (zone_kind zones t)))) [ true ↦ (tt, tt) | false ↦ kept ]
 
 spans_below : (n from to : ℕ) (list : List MarkKind) → KindsBelow n list → MarksBelow n (map (span from to) list)
@@ -135,8 +135,8 @@ signs_below n fold marks place (c ∷ cs) below =
     let end = place + len_utf8 c in
     each_append (SignBelow n) (tags_in marks place end) (char_signs fold marks place end c ++ signs_from fold marks end cs) (tags_below n marks place end below)
     (each_append (SignBelow n) (char_signs fold marks place end c) (signs_from fold marks end cs)
-        (choice_below n (is_covered is_text marks place end) (is_covered is_removed_tag marks place end) (run_sign (fold c) (is_covered is_sentence_end marks place end)) (run_below n (fold c) (is_covered is_sentence_end marks place end)))
-        (signs_below n fold marks end cs below))
+    (choice_below n (is_covered is_text marks place end) (is_covered is_removed_tag marks place end) (run_sign (fold c) (is_covered is_sentence_end marks place end)) (run_below n (fold c) (is_covered is_sentence_end marks place end)))
+    (signs_below n fold marks end cs below))
 
 -- the same of pieces
 abbrev PieceBelow : ℕ → Piece → Type 0

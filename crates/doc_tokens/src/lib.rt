@@ -3,12 +3,14 @@
 
 mod cover;
 mod field;
+mod laws;
 mod reader;
 mod sign;
 mod spans;
 mod walk;
 
 pub use field::{TooLong, tokens};
+pub use laws::a_text_has_one_answer;
 
 #[cfg(test)]
 mod tests;

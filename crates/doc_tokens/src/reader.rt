@@ -11,7 +11,7 @@ use std::alloc::Global;
 
 /// What was found among the signs that were read.
 #[derive(Debug, Drop)]
-pub struct Found {
+pub(crate) struct Found {
     pub words: Vec<TokenWord>,
     pub tags: Vec<ZoneTag>,
 }

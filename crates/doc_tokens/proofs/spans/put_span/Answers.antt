@@ -22,8 +22,8 @@ returns c =
     let place = subst (λ (l : List ZoneSpan). IsPlaceFor l c.args.span at) c.as_slice.ensures.value c.place_for-at.ensures.place in
     let within = subst (λ (l : List ZoneSpan). at ≤ length l) c.as_slice.ensures.value c.place_for-at.ensures.within in
     let above : (d : ZoneSpan) → 0 < at → precedes c.args.span (get_or spans (at - 1) d) ≡ true = λ d some.
-        elim c.else-at-gt0.branch [
-          else-at-gt0-via-then-at-gt0+else-not-precedes w ↦ ap (precedes c.args.span) (sym (get_or_read spans (at - 1) w.index.result.now (omega (arith, some, within)) w.index.ensures d)) ∙ sym w.precedes.ensures ∙ w.if-not-precedes.false
-        | else-at-gt0-via-else-at-gt0 w ↦ absurd (omega (arith, some))
-        ] in
+    elim c.else-at-gt0.branch [
+      | else-at-gt0-via-then-at-gt0+else-not-precedes w ↦ ap (precedes c.args.span) (sym (get_or_read spans (at - 1) w.index.result.now (omega (arith, some, within)) w.index.ensures d)) ∙ sym w.precedes.ensures ∙ w.if-not-precedes.false
+      | else-at-gt0-via-else-at-gt0 w ↦ absurd (omega (arith, some))
+    ] in
     subst (PutsSpans spans (c.args.span ∷ [])) (sym c.in_ok-insert.ensures.items) (span_put spans c.args.span at c.requires place within above)

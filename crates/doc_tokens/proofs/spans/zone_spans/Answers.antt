@@ -47,10 +47,10 @@ loop-left-preserved c =
     let next : drop at tags ≡ tag ∷ drop left tags = drop_more tags at _ within ∙ ap (λ (k : ℕ). tag ∷ drop k tags) (omega arith) in
     let ends = ends_next c.loop-left.ends n tag (drop left tags) c.loop-left.invariant.size c.loop-left.invariant.ends in
     let some : option_to_list c.span_from.result ≡ span_within positions tag (zone_end tag.zone (length positions) (drop left tags)) =
-        c.span_from.ensures
-        ∙ ap (λ (z : ℕ). span_within positions tag (get_or c.loop-left.ends z 0)) c.from-zone.ensures
-        ∙ ap (span_within positions tag) (c.loop-left.invariant.ends tag.zone zone)
-        ∙ ap (λ (k : ℕ). span_within positions tag (zone_end tag.zone k (drop left tags))) (sym (length-map c.args.words.now (λ (w : TokenWord). w.position))) in
+    c.span_from.ensures
+    ∙ ap (λ (z : ℕ). span_within positions tag (get_or c.loop-left.ends z 0)) c.from-zone.ensures
+    ∙ ap (span_within positions tag) (c.loop-left.invariant.ends tag.zone zone)
+    ∙ ap (λ (k : ℕ). span_within positions tag (zone_end tag.zone k (drop left tags))) (sym (length-map c.args.words.now (λ (w : TokenWord). w.position))) in
     let puts = c.in_ok-put_some.ensures in
     record {
       within = omega (arith, c.loop-left.invariant.within);
@@ -67,4 +67,4 @@ returns c =
     let none : 0 ≡ c.loop-left.left = omega arith in
     subst (AreSpans positions c.args.tags.now) (sym c.reverse.ensures.items)
     (all_spans positions c.args.tags.now c.loop-left.spans.items c.loop-left.invariant.descend
-        (subst (λ (k : ℕ). (s : ZoneSpan) → Contains c.loop-left.spans.items s ↔ Contains (spans_of positions (drop k c.args.tags.now)) s) (sym none) c.loop-left.invariant.same))
+    (subst (λ (k : ℕ). (s : ZoneSpan) → Contains c.loop-left.spans.items s ↔ Contains (spans_of positions (drop k c.args.tags.now)) s) (sym none) c.loop-left.invariant.same))

@@ -17,8 +17,8 @@ returns-in_err-read_some c =
     let p = err_from_is_err_and c.from_residual.result c.from_residual.ensures.1 in
     rw (p.1, p.2)
     (passing_above c.args.marks.now c.args.reader.now c.marks.reader c.read_some.new.reader c.args.start c.marks.passed c.in-Some.mark c.args.end c.in_err-read_some.field-0.0 c.in-Some.ensures
-        (subst (λ (o : Option Sign). ReadsSome c.marks.reader (option_to_list o) c.read_some.new.reader (Err c.in_err-read_some.field-0.0)) c.tag_sign_of.ensures c.in_err-read_some.ensures)
-        c.marks.invariant.passing)
+    (subst (λ (o : Option Sign). ReadsSome c.marks.reader (option_to_list o) c.read_some.new.reader (Err c.in_err-read_some.field-0.0)) c.tag_sign_of.ensures c.in_err-read_some.ensures)
+    c.marks.invariant.passing)
 
 pub marks-preserved : goal.marks-preserved
 marks-preserved c =

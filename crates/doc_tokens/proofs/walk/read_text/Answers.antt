@@ -41,7 +41,7 @@ returns-in_err-read_some-in-Some c =
     let p = err_from_is_err_and end.result end.ensures.1 in
     rw (p.1, p.2)
     (some_above all (signs_from fold marks (place + c.len_utf8.result) (chars c.in-Some.behind.now)) (option_to_list c.sign.result) c.pass_marks.new.reader c.read_some.new.reader c.in_err-read_some-in-Some.field-0.0 c.in_err-read_some-in-Some.ensures
-        (subst (λ (o : Option Sign). Wants all c.pass_marks.new.reader (option_to_list o ++ signs_from fold marks (place + c.len_utf8.result) (chars c.in-Some.behind.now))) (sym c.sign.ensures) read.1))
+    (subst (λ (o : Option Sign). Wants all c.pass_marks.new.reader (option_to_list o ++ signs_from fold marks (place + c.len_utf8.result) (chars c.in-Some.behind.now))) (sym c.sign.ensures) read.1))
 
 pub chars-preserved : goal.chars-preserved
 chars-preserved c =

@@ -24,6 +24,6 @@ pub returns-in_ok-put-in-Separator : goal.returns-in_ok-put-in-Separator
 returns-in_ok-put-in-Separator c = λ all rest wants.
     let apart : BeginApart (c.args.sign ∷ []) = search rules in
     record {
-  letters = [];
-  holds = c.in_ok-put-in-Separator.ensures all rest (c.in_ok-end_run-in-Separator.ensures all wants.letters (c.args.sign ∷ rest) (apart_before c.args.sign rest apart) wants.holds);
-}
+      letters = [];
+      holds = c.in_ok-put-in-Separator.ensures all rest (c.in_ok-end_run-in-Separator.ensures all wants.letters (c.args.sign ∷ rest) (apart_before c.args.sign rest apart) wants.holds);
+    }
