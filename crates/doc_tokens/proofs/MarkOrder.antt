@@ -1,5 +1,5 @@
 -- The marks of a text begin in the order of their places.
-use Rattle.std.proofs.Common.{◌≡◌, ℕ, suc, ◌+◌, ◌<◌, ◌≤◌, Bool, true, false, List, [], ◌∷◌, ◌++◌, length, map, take, drop, get_or, IsUtf8, refl, sym, ◌∙◌, ap, subst, arith, length-append, length-take-le, get_or-drop, encode_utf8_all}
+use Rattle.std.proofs.Common.{◌≡◌, ℕ, ◌+◌, ◌<◌, ◌≤◌, Bool, true, false, List, [], ◌∷◌, ◌++◌, length, map, take, drop, get_or, IsUtf8, sym, ◌∙◌, ap, subst, arith, length-append, length-take-le, get_or-drop, encode_utf8_all}
 use Rattle.std.specs.Prelude.{Option}
 use Rattle.std.specs.Char.{encode_utf8, len_utf8}
 use Rattle.std.specs.List.{AllByRecursion}
@@ -8,7 +8,7 @@ use Rattle.std.proofs.lemmas.Str.{encodes-chars, length-encode, IsUtf8-take, IsU
 use Rattle.mark_scan.specs.declared.mark.Mark.{Mark}
 use Rattle.mark_scan.specs.declared.mark.MarkKind.{MarkKind}
 use Rattle.mark_scan.specs.declared.mark.MarkRules.{MarkRules}
-use Rattle.mark_scan.specs.Markup.{Part, plain, comment, tag, part_bytes, BeginsWith, BeginsMarkup, Splits}
+use Rattle.mark_scan.specs.Markup.{Part, plain, comment, tag, part_bytes, BeginsWith, Splits}
 use Rattle.mark_scan.specs.Marks.{sentences_of, part_marks, marks_behind, run_before, run_of, IsWhole, PartsBy, AreMarks}
 use Rattle.mark_scan.specs.Sentences.{ends_sentence, sentence_mark, sentence_marks}
 use Rattle.mark_scan.specs.Tags.{span, tag_kinds}

@@ -1,5 +1,5 @@
 -- The loop over the marks that begin in a character.
-use Rattle.std.proofs.Common.{◌≡◌, ℕ, suc, ◌+◌, ◌<◌, ◌≤◌, List, [], ◌∷◌, ◌++◌, All, length, take, drop, get_or, Result, Ok, Err, Some, refl, sym, ◌∙◌, ap, subst, arith, append_assoc}
+use Rattle.std.proofs.Common.{◌≡◌, ℕ, ◌+◌, ◌<◌, ◌≤◌, List, [], ◌∷◌, ◌++◌, All, length, take, drop, get_or, Ok, Err, sym, ◌∙◌, ap, subst, arith, append_assoc}
 use Rattle.std.specs.Prelude.{option_to_list}
 use Rattle.std.proofs.lemmas.List.{take_more, get_or-drop}
 use Rattle.std.proofs.lemmas.List.Elements.{All-push, All-weaker}
@@ -10,9 +10,7 @@ use Rattle.doc_tokens.specs.declared.field.TooLong.{TooLong}
 use Rattle.doc_tokens.specs.declared.reader.Reader.{Reader}
 use Rattle.doc_tokens.specs.declared.walk.Passed.{Passed}
 use Rattle.doc_tokens.specs.declared.sign.Sign.{Sign}
-use Rattle.doc_tokens.specs.Signs.{tag_signs, tags_in}
-use Rattle.doc_tokens.specs.Words.{pieces}
-use Rattle.doc_tokens.specs.Tokens.{first_above}
+use Rattle.doc_tokens.specs.Signs.{tags_in}
 use Rattle.doc_tokens.specs.Reading.{IsCover, tag_sign, Ordered, BeginFrom, IsNext, HasPassed, Wants, ReadsSome, PassesMarks}
 use Rattle.doc_tokens.proofs.Passing.{ordered_from, ordered_weaker, tags_left, tags_late, tags_next, tag_sign-list}
 

@@ -1,20 +1,19 @@
 -- Marks in the order of their places, some of which were passed.
-use Rattle.std.proofs.Common.{◌≡◌, ℕ, suc, ◌+◌, ◌<◌, ◌≤◌, Bool, true, false, cond, nat_lt, nat_le, ◌||◌, ◌&&◌, List, [], ◌∷◌, ◌++◌, All, length, take, drop, refl, sym, ◌∙◌, ap, subst, arith, append-nil}
+use Rattle.std.proofs.Common.{◌≡◌, ℕ, ◌<◌, ◌≤◌, Bool, true, false, cond, nat_lt, nat_le, ◌||◌, ◌&&◌, List, [], ◌∷◌, ◌++◌, All, take, drop, refl, sym, ◌∙◌, ap, arith}
 use Rattle.std.specs.Prelude.{Option, Some, None, filter, option_to_list}
 use Rattle.std.specs.List.{list_any, flat_map}
 use Rattle.std.proofs.lemmas.Bool.Decides.{nat_tests}
-use Rattle.std.proofs.lemmas.List.{take-append-drop, drop-drop}
-use Rattle.std.proofs.lemmas.List.Elements.{All-push, All-head, All-tail, filter-append}
+use Rattle.std.proofs.lemmas.List.{take-append-drop}
+use Rattle.std.proofs.lemmas.List.Elements.{All-head, All-tail, filter-append}
 use Rattle.std.proofs.lemmas.List.Folds.{list_any-append}
 use Rattle.mark_scan.specs.declared.mark.Mark.{Mark}
 use Rattle.mark_scan.specs.declared.mark.MarkKind.{MarkKind}
 use Rattle.mark_scan.specs.declared.mark.MarkKind.TheVariants as kinds
 use Rattle.doc_tokens.specs.declared.walk.Passed.{Passed}
-use Rattle.doc_tokens.specs.declared.cover.Cover.{Cover}
 use Rattle.doc_tokens.specs.declared.sign.Sign.{Sign}
 use Rattle.doc_tokens.specs.declared.sign.Sign.TheVariants as signs
 use Rattle.doc_tokens.specs.Signs.{is_text, is_removed_tag, is_sentence_end, covers, is_covered, run_sign, char_signs, tag_signs, begins_in, tags_in}
-use Rattle.doc_tokens.specs.Reading.{reaches, IsCover, sign_by, tag_sign, Ordered, BeginFrom, IsNext, HasPassed}
+use Rattle.doc_tokens.specs.Reading.{reaches, sign_by, tag_sign, Ordered, BeginFrom, HasPassed}
 
 -- marks behind a place are behind each place before it
 pub ordered_weaker : (low high : ℕ) (marks : List Mark) → low ≤ high → Ordered high marks → Ordered low marks

@@ -1,16 +1,15 @@
 -- The reader, sign by sign.
-use Rattle.std.proofs.Common.{◌≡◌, ℕ, zero, suc, ◌+◌, ◌*◌, ◌<◌, ◌≤◌, Bool, true, false, cond, nat_lt, List, [], ◌∷◌, ◌++◌, All, length, map, take, Option, Some, None, Result, Ok, Err, IsUtf8, refl, sym, ◌∙◌, ap, subst, arith, append_assoc, append-nil, length-append, encode_utf8_all}
+use Rattle.std.proofs.Common.{◌≡◌, ℕ, ◌+◌, ◌<◌, ◌≤◌, Bool, true, false, cond, nat_lt, List, [], ◌∷◌, ◌++◌, All, length, map, take, Option, Some, None, Result, Ok, Err, IsUtf8, refl, sym, ◌∙◌, ap, subst, arith, append_assoc, append-nil, encode_utf8_all}
 use Rattle.std.specs.Prelude.{find}
 use Rattle.std.specs.Char.{encode_utf8}
 use Rattle.std.specs.String.{string_bytes}
-use Rattle.std.proofs.lemmas.List.{length-take, take_all, map-append, length_push}
+use Rattle.std.proofs.lemmas.List.{length-take, map-append, length_push}
 use Rattle.std.specs.Option.{option_or}
 use Rattle.std.proofs.lemmas.Bool.Decides.{nat_tests}
 use Rattle.std.proofs.lemmas.List.Elements.{All-push, All-head, All-tail}
 use Rattle.std.proofs.lemmas.List.Folds.{find-append}
 use Rattle.std.proofs.lemmas.Str.{length-le-encodes}
 use Rattle.doc_types.specs.declared.tokens.TheConstants.{MAX_POSITION}
-use Rattle.doc_types.specs.declared.tokens.Gap.{Gap}
 use Rattle.doc_types.specs.declared.tokens.Gap.TheVariants as gaps
 use Rattle.doc_types.specs.declared.tokens.TokenWord.{TokenWord}
 use Rattle.doc_types.specs.Documents.{step, IsWord}
@@ -20,11 +19,10 @@ use Rattle.doc_tokens.specs.declared.field.TooLong.{TooLong}
 use Rattle.doc_tokens.specs.declared.reader.Reader.{Reader}
 use Rattle.doc_tokens.specs.declared.sign.Sign.{Sign}
 use Rattle.doc_tokens.specs.declared.sign.Sign.TheVariants as signs
-use Rattle.doc_tokens.specs.declared.sign.ZoneTag.{ZoneTag}
-use Rattle.doc_tokens.specs.Words.{Piece, run, other, pieces, word_of, end_of, stronger, positions_in}
-use Rattle.doc_tokens.specs.Spans.{tag_of, tags_behind}
+use Rattle.doc_tokens.specs.Words.{Piece, pieces, word_of}
+use Rattle.doc_tokens.specs.Spans.{tags_behind}
 use Rattle.doc_tokens.specs.Tokens.{first_above}
-use Rattle.doc_tokens.specs.Reading.{gap_behind, word_behind, words_behind, all_words, signs_ahead, BeginApart, Holds, Wants, EndsRun, ReadsSign, ReadsSome, Finds, IsFound}
+use Rattle.doc_tokens.specs.Reading.{gap_behind, word_behind, words_behind, all_words, BeginApart, Holds, Wants, EndsRun, ReadsSign, ReadsSome, Finds, IsFound}
 use Rattle.doc_tokens.proofs.Runs.{pieces_run, apart_before, ahead_letter, word_more, word_cut, encodes_short}
 use Rattle.doc_tokens.proofs.WordLists.{all_positions}
 

@@ -1,11 +1,11 @@
 -- Pieces of signs, sign by sign.
-use Rattle.std.proofs.Common.{◌≡◌, ℕ, suc, ◌+◌, ◌*◌, ◌<◌, ◌≤◌, List, [], ◌∷◌, ◌++◌, length, map, take, refl, sym, ◌∙◌, ap, arith, append_assoc, append-nil, length-append, encode_utf8_all}
-use Rattle.std.specs.Char.{encode_utf8, len_utf8}
-use Rattle.std.proofs.lemmas.List.{map-append, length-take, take_all, take-append-le}
+use Rattle.std.proofs.Common.{◌≡◌, ℕ, ◌*◌, ◌<◌, ◌≤◌, List, [], ◌∷◌, ◌++◌, length, map, take, refl, sym, ◌∙◌, ap, arith, append_assoc, append-nil, length-append, encode_utf8_all}
+use Rattle.std.specs.Char.{encode_utf8}
+use Rattle.std.proofs.lemmas.List.{map-append, take_all, take-append-le}
 use Rattle.std.proofs.lemmas.Str.{encodes-append, length-encode, len_utf8_bounds}
 use Rattle.doc_tokens.specs.declared.sign.Sign.{Sign}
 use Rattle.doc_tokens.specs.declared.sign.Sign.TheVariants as signs
-use Rattle.doc_tokens.specs.Words.{Piece, run, other, pieces, with_letter, word_of}
+use Rattle.doc_tokens.specs.Words.{run, other, pieces, with_letter, word_of}
 use Rattle.doc_tokens.specs.Reading.{signs_ahead, BeginApart}
 
 -- one letter before signs that don't go on with a run

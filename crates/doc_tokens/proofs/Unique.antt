@@ -1,9 +1,8 @@
 -- A text has one answer.
-use Rattle.std.proofs.Common.{◌≡◌, ℕ, zero, suc, ◌+◌, ◌<◌, ◌≤◌, Bool, true, false, cond, nat_lt, List, [], ◌∷◌, All, length, map, get_or, Option, Some, None, refl, sym, ◌∙◌, ap, subst, inl, inr, ⊎_elim, arith, add-one}
-use Rattle.std.specs.Prelude.{Contains, ◌⊎◌, ◌↔◌, find}
+use Rattle.std.proofs.Common.{◌≡◌, ℕ, zero, suc, true, nat_lt, List, [], ◌∷◌, map, Option, Some, refl, sym, ◌∙◌, ap, subst, inl, inr, ⊎_elim, arith}
+use Rattle.std.specs.Prelude.{Contains, ◌⊎◌, find}
 use Rattle.std.proofs.lemmas.Bool.Decides.{nat_tests}
 use Rattle.std.proofs.lemmas.Option.{none-some}
-use Rattle.std.proofs.lemmas.List.Elements.{All-head, All-tail}
 use Rattle.mark_scan.specs.declared.mark.Mark.{Mark}
 use Rattle.mark_scan.specs.declared.mark.MarkRules.{MarkRules}
 use Rattle.mark_scan.proofs.Unique.{marks_unique}
@@ -12,7 +11,6 @@ use Rattle.doc_types.specs.declared.tokens.FieldTokens.{FieldTokens}
 use Rattle.doc_types.specs.declared.tokens.TokenWord.{TokenWord}
 use Rattle.doc_types.specs.declared.tokens.ZoneSpan.{ZoneSpan}
 use Rattle.doc_types.specs.Documents.{precedes, Ascend, IsField}
-use Rattle.doc_tokens.specs.Words.{Piece}
 use Rattle.doc_tokens.specs.Spans.{tags_behind}
 use Rattle.doc_tokens.specs.Words.{positions_in}
 use Rattle.doc_tokens.specs.Tokens.{pieces_of, first_above, AreWords, AreSpans, TokensOf, IsTooLong}

@@ -1,11 +1,11 @@
 -- The words of pieces: their spelling, their boundaries and their positions.
-use Rattle.std.proofs.Common.{◌≡◌, ℕ, suc, ◌+◌, ◌<◌, ◌≤◌, ◌==◌, Bool, true, false, cond, List, [], ◌∷◌, ◌++◌, length, map, refl, sym, ◌∙◌, ap, arith}
+use Rattle.std.proofs.Common.{◌≡◌, ℕ, ◌+◌, ◌<◌, ◌==◌, Bool, true, false, cond, List, [], ◌∷◌, map, refl, sym, ◌∙◌, ap, arith}
 use Rattle.std.proofs.lemmas.Bool.{ne_eqb}
 use Rattle.doc_types.specs.declared.tokens.Gap.{Gap}
 use Rattle.doc_types.specs.declared.tokens.Gap.TheVariants as gaps
 use Rattle.doc_types.specs.declared.tokens.TokenWord.{TokenWord}
 use Rattle.doc_types.specs.Documents.{step, Follow, BeginPlain, ArePlaced}
-use Rattle.doc_tokens.specs.Words.{Piece, run, other, word_of, words_in, end_of, stronger, with_end, ends_before, from_first, gaps_in, positions_behind, positions_in}
+use Rattle.doc_tokens.specs.Words.{Piece, run, other, word_of, words_in, end_of, stronger, with_end, ends_before, from_first, positions_behind, positions_in}
 use Rattle.doc_tokens.specs.Reading.{gap_behind, words_behind, all_words}
 use Rattle.doc_tokens.specs.Tokens.{AreWords}
 

@@ -1,8 +1,7 @@
 -- Reading: what the reader of a text keeps, and what its parts answer.
-use Rattle.std.specs.Prelude.{◌≡◌, ℕ, ◌+◌, ◌<◌, ◌≤◌, List, [], ◌∷◌, ◌++◌, ◌==◌, ◌&&◌, nat_lt, Bool, true, false, ◌-◌, slice_index_or, Option, Some, None, Result, Ok, Err, if◌then◌else◌, All, AllPairs, IsTrue, ◌↔◌, ◌⊎◌, Contains, length, map, take, drop, option_to_list}
+use Rattle.std.specs.Prelude.{◌≡◌, ℕ, ◌+◌, ◌<◌, ◌≤◌, List, [], ◌∷◌, ◌++◌, ◌==◌, ◌&&◌, nat_lt, Bool, true, false, ◌-◌, slice_index_or, Option, Some, None, Result, Ok, Err, if◌then◌else◌, All, AllPairs, IsTrue, ◌↔◌, ◌⊎◌, Contains, length, map, take, drop}
 use Rattle.std.specs.List.{list_any}
 use Rattle.std.specs.String.{string_bytes}
-use Rattle.srch_base.specs.declared.faults.NoMemory.{NoMemory}
 use Rattle.srch_base.specs.declared.faults.Or.{Or}
 use Rattle.srch_base.specs.declared.faults.Or.TheVariants as causes
 use Rattle.mark_scan.specs.declared.mark.Mark.{Mark}

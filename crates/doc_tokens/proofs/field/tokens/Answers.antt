@@ -1,18 +1,14 @@
-use Rattle.std.proofs.Common.{◌≡◌, ℕ, ◌<◌, ◌≤◌, List, All, length, map, sym, ◌∙◌, ap, subst, arith}
-use Rattle.std.specs.Str.{chars}
+use Rattle.std.proofs.Common.{ℕ, ◌<◌, ◌≤◌, List, All, length, map, sym, ◌∙◌, ap, subst, arith}
 use Rattle.std.proofs.lemmas.List.Elements.{All-weaker}
 use Rattle.charset_map.specs.Spans.{folded}
-use Rattle.mark_scan.specs.declared.mark.Mark.{Mark}
 use Rattle.mark_scan.specs.Marks.{AreMarks}
 use Rattle.doc_types.specs.declared.tokens.TokenWord.{TokenWord}
-use Rattle.doc_types.specs.declared.tokens.ZoneSpan.{ZoneSpan}
-use Rattle.doc_types.specs.declared.tokens.FieldTokens.{FieldTokens}
 use Rattle.doc_types.specs.declared.tokens.TheConstants.{MAX_POSITION}
-use Rattle.doc_types.specs.Documents.{IsField, IsWord}
+use Rattle.doc_types.specs.Documents.{IsWord}
 use Rattle.doc_tokens.specs.declared.sign.ZoneTag.{ZoneTag}
 use Rattle.doc_tokens.specs.Words.{positions_in}
 use Rattle.doc_tokens.specs.Spans.{tags_behind}
-use Rattle.doc_tokens.specs.Tokens.{pieces_of, AreWords, AreSpans, TokensOf}
+use Rattle.doc_tokens.specs.Tokens.{pieces_of, AreWords, AreSpans}
 use Rattle.doc_tokens.specs.Reading.{Ordered, all_words}
 use Rattle.doc_tokens.proofs.MarkOrder.{marks_ordered}
 use Rattle.doc_tokens.proofs.WordLists.{all_positions, all_are_words}

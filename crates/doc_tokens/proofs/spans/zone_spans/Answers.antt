@@ -1,4 +1,4 @@
-use Rattle.std.proofs.Common.{◌≡◌, ℕ, ◌+◌, ◌-◌, ◌<◌, ◌≤◌, List, All, [], ◌∷◌, length, map, drop, get_or, set, refl, sym, ◌∙◌, ap, subst, arith}
+use Rattle.std.proofs.Common.{◌≡◌, ℕ, ◌-◌, ◌<◌, ◌≤◌, List, ◌∷◌, length, map, drop, get_or, set, refl, sym, ◌∙◌, ap, subst, arith}
 use Rattle.std.specs.Prelude.{Contains, ◌↔◌, option_to_list, false}
 use Rattle.std.proofs.lemmas.List.{get_or-replicate, drop_more, length-set, length-map}
 use Rattle.std.proofs.lemmas.List.Elements.{All-get_or, All-drop}

@@ -1,8 +1,5 @@
-use Rattle.std.proofs.Common.{◌≡◌, ℕ, ◌+◌, ◌-◌, ◌<◌, ◌≤◌, ◌++◌, List, All, length, take, drop}
-use Rattle.mark_scan.specs.declared.mark.Mark.{Mark}
-use Rattle.doc_tokens.specs.declared.sign.Sign.{Sign}
-use Rattle.doc_tokens.specs.Signs.{tags_in}
-use Rattle.doc_tokens.specs.Reading.{IsCover, Ordered, HasPassed, Wants}
+use Rattle.std.proofs.Common.{ℕ, ◌-◌, ◌≤◌, length}
+use Rattle.doc_tokens.specs.Reading.{HasPassed}
 use Rattle.doc_tokens.proofs.PassSteps.{Passing}
 use Rattle.doc_tokens.proofs.walk.pass_marks.Given as goal
 

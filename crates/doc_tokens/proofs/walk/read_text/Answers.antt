@@ -1,13 +1,13 @@
-use Rattle.std.proofs.Common.{◌≡◌, ◌+◌, ◌≤◌, ◌++◌, List, [], length, sym, ◌∙◌, ap, subst, arith, length-append}
-use Rattle.std.specs.Prelude.{Option, Ok, option_to_list}
-use Rattle.std.specs.Char.{encode_utf8, len_utf8}
+use Rattle.std.proofs.Common.{◌≡◌, ◌+◌, ◌++◌, [], length, sym, ◌∙◌, ap, subst, arith, length-append}
+use Rattle.std.specs.Prelude.{Option, option_to_list}
+use Rattle.std.specs.Char.{encode_utf8}
 use Rattle.std.specs.Str.{chars}
 use Rattle.std.proofs.lemmas.Result.{err_from_is_err_and}
 use Rattle.std.proofs.lemmas.Str.{chars-nil}
 use Rattle.charset_map.specs.Spans.{folded}
 use Rattle.doc_tokens.specs.declared.sign.Sign.{Sign}
-use Rattle.doc_tokens.specs.Signs.{char_signs, tags_in, signs_from}
-use Rattle.doc_tokens.specs.Reading.{Wants, Finds}
+use Rattle.doc_tokens.specs.Signs.{char_signs, signs_from}
+use Rattle.doc_tokens.specs.Reading.{Wants}
 use Rattle.doc_tokens.proofs.WalkSteps.{signs_of_char, tags_read, tags_above, some_above}
 use Rattle.doc_tokens.proofs.walk.read_text.Goals as goal
 

@@ -1,7 +1,6 @@
-use Rattle.std.proofs.Common.{◌≡◌, ℕ, ◌+◌, List, length, IsUtf8}
+use Rattle.std.proofs.Common.{◌≡◌, ◌+◌, length, IsUtf8}
 use Rattle.std.specs.Str.{chars}
 use Rattle.charset_map.specs.Spans.{folded}
-use Rattle.doc_tokens.specs.declared.sign.Sign.{Sign}
 use Rattle.doc_tokens.specs.Signs.{signs_from}
 use Rattle.doc_tokens.specs.Reading.{HasPassed, Wants}
 use Rattle.doc_tokens.proofs.walk.read_text.Given as goal

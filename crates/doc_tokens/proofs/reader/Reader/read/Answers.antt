@@ -1,8 +1,7 @@
-use Rattle.std.proofs.Common.{rules, ◌++◌, [], ◌∷◌, List, ap, subst}
+use Rattle.std.proofs.Common.{rules, ◌++◌, [], ◌∷◌, subst}
 use Rattle.std.proofs.lemmas.Result.{err_from_is_err_and}
 use Rattle.doc_tokens.specs.declared.sign.Sign.{Sign}
-use Rattle.doc_tokens.specs.declared.sign.Sign.TheVariants as signs
-use Rattle.doc_tokens.specs.Reading.{BeginApart, Holds, Wants}
+use Rattle.doc_tokens.specs.Reading.{BeginApart, Holds}
 use Rattle.doc_tokens.proofs.Runs.{apart_before}
 use Rattle.doc_tokens.proofs.ReaderSteps.{read_above}
 use Rattle.doc_tokens.proofs.reader.Reader.read.Goals as goal
