@@ -1,0 +1,13 @@
+pub mod Runs
+pub mod WordLists
+pub mod ReaderSteps
+pub mod Covers
+pub mod Passing
+pub mod PassSteps
+pub mod WalkSteps
+pub mod SpanOrder
+pub mod SpanLists
+pub mod MarkOrder
+pub mod ZoneNumbers
+pub mod Fields
+pub mod Unique

@@ -1,0 +1,5 @@
+pub mod Signs
+pub mod Words
+pub mod Spans
+pub mod Tokens
+pub mod Reading

@@ -1,0 +1,92 @@
+ghost use Rattle.std.specs.Prelude.{◌≡◌, List, [], ◌∷◌, ◌++◌};
+ghost use Rattle.charset_map.specs.Spans.{folded};
+ghost use Rattle.mark_scan.specs.declared.mark.Mark.{Mark};
+ghost use Rattle.doc_tokens.specs.Signs.{run_sign};
+ghost use Rattle.doc_tokens.specs.Reading.{IsCover, sign_by, tag_sign};
+
+use crate::sign::Sign;
+use charset_map::Charset;
+use mark_scan::{Mark, MarkKind};
+
+/// How far the marks that were passed reach: for each kind the greatest place behind one.
+#[derive(Clone, Copy, Debug)]
+pub(crate) struct Cover {
+    pub text: u32,
+    pub removed: u32,
+    pub sentence: u32,
+}
+
+impl Cover {
+    /// No mark was passed.
+    pub fn none() -> Cover
+        ensures { IsCover result [] }
+    {
+        Cover {
+            text: 0,
+            removed: 0,
+            sentence: 0,
+        }
+    }
+
+    /// One more mark was passed.
+    pub fn then(self, mark: Mark) -> Cover
+        ensures { (passed : List Mark) → IsCover self passed → IsCover result (passed ++ mark ∷ []) }
+    {
+        match mark.kind {
+            MarkKind::Text => Cover {
+                text: self.text.max(mark.to),
+                ..self
+            },
+            MarkKind::Inline => Cover {
+                removed: self.removed.max(mark.to),
+                ..self
+            },
+            MarkKind::Sentence => Cover {
+                sentence: self.sentence.max(mark.to),
+                ..self
+            },
+            MarkKind::Paragraph | MarkKind::Open(_) | MarkKind::Close(_) => self,
+        }
+    }
+
+    /// What a character at a place is.
+    pub fn sign(self, charset: &Charset, place: u32, c: char) -> Option<Sign>
+        ensures { result ≡ sign_by (folded charset.now) self place c }
+    {
+        if place < self.text {
+            Some(in_run(charset.fold(c), place < self.sentence))
+        } else if place < self.removed {
+            None
+        } else {
+            Some(Sign::Separator)
+        }
+    }
+}
+
+/// What a character of a text run is.
+fn in_run(folded: Option<char>, ends: bool) -> Sign
+    ensures { result ≡ run_sign folded ends }
+{
+    match folded {
+        Some(letter) => Sign::Letter(letter),
+        None => {
+            if ends {
+                Sign::Sentence
+            } else {
+                Sign::Separator
+            }
+        }
+    }
+}
+
+/// What the tag of a mark is.
+pub(crate) fn tag_sign_of(kind: MarkKind) -> Option<Sign>
+    ensures { result ≡ tag_sign kind }
+{
+    match kind {
+        MarkKind::Text | MarkKind::Inline | MarkKind::Sentence => None,
+        MarkKind::Paragraph => Some(Sign::Paragraph),
+        MarkKind::Open(zone) => Some(Sign::Open(zone)),
+        MarkKind::Close(zone) => Some(Sign::Close(zone)),
+    }
+}

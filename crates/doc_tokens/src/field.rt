@@ -1,0 +1,45 @@
+ghost use Rattle.std.specs.Prelude.{◌<◌, ◌^◌, IfOk, length};
+ghost use Rattle.charset_map.specs.Spans.{folded};
+ghost use Rattle.doc_types.specs.Schemas.{AreZones};
+ghost use Rattle.doc_types.specs.Documents.{IsField};
+ghost use Rattle.doc_tokens.specs.Tokens.{Gives};
+
+use crate::reader::Found;
+use crate::spans::zone_spans;
+use crate::walk::read_text;
+use charset_map::Charset;
+use doc_types::FieldTokens;
+use mark_scan::{MarkRules, marks};
+use srch_base::{Items, Or};
+use std::alloc::Global;
+
+/// A text has a word whose position would be above the limit.
+#[derive(Clone, Copy, Debug, PartialEq, Eq)]
+pub struct TooLong {
+    /// The position of the first such word.
+    pub position: u32,
+}
+
+/// The tokens of a field's text.
+///
+/// The time is linear in the text's length, whatever the markup. Memory is taken for each word and for the lists of marks,
+/// words, zone tags and spans, and for no character.
+pub fn tokens(
+    alloc: Global,
+    charset: &Charset,
+    rules: &MarkRules,
+    text: &str,
+) -> Result<FieldTokens, Or<TooLong>>
+    requires size { length text.now < 2 ^ 32 }
+    requires zones { AreZones rules.now.zones }
+    ensures tokens { Gives (folded charset.now) rules.now text.now result }
+    ensures field { IfOk result IsField }
+{
+    let marks = marks(alloc, charset, rules, text)?;
+    let Found { words, tags } = read_text(alloc, charset, marks.as_slice(), text)?;
+    let spans = zone_spans(alloc, tags.as_slice(), words.as_slice())?;
+    Ok(FieldTokens {
+        words: Items::new(words),
+        spans: Items::new(spans),
+    })
+}

@@ -1,0 +1,11 @@
+ghost use Rattle.std.specs.Prelude.{Option, ◌≡◌, ℕ, List};
+ghost use Rattle.mark_scan.specs.declared.mark.MarkRules.{MarkRules};
+ghost use Rattle.doc_types.specs.declared.tokens.FieldTokens.{FieldTokens};
+ghost use Rattle.doc_types.specs.Documents.{IsField};
+ghost use Rattle.doc_tokens.specs.Tokens.{TokensOf, IsTooLong};
+
+/// A text has one answer: its tokens are determined, and where they are a field no position is above the limit.
+pub fn a_text_has_one_answer()
+    ensures same { (fold : ℕ → Option ℕ) (rules : MarkRules) (text : List ℕ) (a b : FieldTokens) → TokensOf fold rules text a → TokensOf fold rules text b → a ≡ b }
+    ensures apart { (fold : ℕ → Option ℕ) (rules : MarkRules) (text : List ℕ) (tokens : FieldTokens) (position : ℕ) → TokensOf fold rules text tokens → IsField tokens → IsTooLong fold rules text position → ⊥ }
+{}

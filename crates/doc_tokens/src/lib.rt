@@ -1,0 +1,16 @@
+//! The tokens of a field: its words with their positions and boundaries, and the spans of its zones.
+#![tactic(auto)]
+
+mod cover;
+mod field;
+mod laws;
+mod reader;
+mod sign;
+mod spans;
+mod walk;
+
+pub use field::{TooLong, tokens};
+pub use laws::a_text_has_one_answer;
+
+#[cfg(test)]
+mod tests;

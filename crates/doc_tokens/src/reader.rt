@@ -1,0 +1,196 @@
+ghost use Rattle.std.specs.Prelude.{◌≡◌, ◌≤◌, ℕ, option_to_list, List, [], ◌∷◌, ◌++◌, IfOk, OnOk};
+ghost use Rattle.doc_types.specs.declared.tokens.TheConstants.{MAX_POSITION};
+ghost use Rattle.doc_tokens.specs.Words.{end_of, stronger};
+ghost use Rattle.doc_tokens.specs.Spans.{tag_of};
+
+use crate::field::TooLong;
+use crate::sign::{Sign, ZoneTag};
+use doc_types::{Gap, MAX_POSITION, MAX_WORD_CHARS, TokenWord};
+use srch_base::{NoMemory, Or, Word};
+use std::alloc::Global;
+
+/// What was found among the signs that were read.
+#[derive(Debug, Drop)]
+pub(crate) struct Found {
+    pub words: Vec<TokenWord>,
+    pub tags: Vec<ZoneTag>,
+}
+
+/// A reader of signs: what was found up to here, and the run of letters that may go on.
+#[derive(Debug, Drop)]
+pub(crate) struct Reader {
+    found: Found,
+    /// The letters of the run up to here, cut after the limit.
+    run: String,
+    /// How many letters `run` has.
+    letters: usize,
+    /// The position of the last word, or 0.
+    position: u32,
+    /// The boundary since the last word.
+    gap: Gap,
+    ghost within: { position ≤ MAX_POSITION },
+}
+
+/// The boundary that a sign makes.
+fn end(sign: Sign) -> Gap
+    ensures { result ≡ end_of sign }
+{
+    match sign {
+        Sign::Sentence => Gap::Sentence,
+        Sign::Paragraph => Gap::Paragraph,
+        Sign::Letter(_) | Sign::Separator | Sign::Open(_) | Sign::Close(_) => Gap::None,
+    }
+}
+
+/// The tag of a zone that a sign is, behind so many words.
+fn zone_tag(sign: Sign, words: usize) -> Option<ZoneTag>
+    ensures { option_to_list result ≡ tag_of words sign }
+{
+    match sign {
+        Sign::Open(zone) => Some(ZoneTag {
+            zone,
+            opens: true,
+            words,
+        }),
+        Sign::Close(zone) => Some(ZoneTag {
+            zone,
+            opens: false,
+            words,
+        }),
+        Sign::Letter(_) | Sign::Separator | Sign::Sentence | Sign::Paragraph => None,
+    }
+}
+
+/// Appends a tag, if there is one.
+fn push_tag(tags: &mut Vec<ZoneTag>, tag: Option<ZoneTag>) -> Result<(), NoMemory>
+    ensures { OnOk result (tags.new.items ≡ tags.old.items ++ option_to_list tag) }
+{
+    match tag {
+        Some(tag) => {
+            tags.push(tag)?;
+            Ok(())
+        }
+        None => Ok(()),
+    }
+}
+
+/// The boundary that two in a row are.
+fn stronger_of(first: Gap, second: Gap) -> Gap
+    ensures { result ≡ stronger first second }
+{
+    match (first, second) {
+        (Gap::Paragraph, _) | (_, Gap::Paragraph) => Gap::Paragraph,
+        (Gap::Sentence, _) | (_, Gap::Sentence) => Gap::Sentence,
+        (Gap::None, Gap::None) => Gap::None,
+    }
+}
+
+impl Reader {
+    ghost use Rattle.doc_tokens.specs.Reading.{gap_behind, Wants, Holds, BeginApart, ReadsSign, EndsRun, Finds};
+
+    /// Nothing was read.
+    pub fn new(alloc: Global) -> Result<Reader, NoMemory>
+        ensures { IfOk result (λ reader. (all : List Sign) → Wants all reader all) }
+    {
+        Ok(Reader {
+            found: Found {
+                words: Vec::new(alloc),
+                tags: Vec::new(alloc),
+            },
+            run: String::with_capacity(alloc, 4 * MAX_WORD_CHARS)?,
+            letters: 0,
+            position: 0,
+            gap: Gap::None,
+        })
+    }
+
+    /// Reads one more sign.
+    pub fn read(&mut self, alloc: Global, sign: Sign) -> Result<(), Or<TooLong>>
+        ensures { ReadsSign self.old sign self.new result }
+    {
+        match sign {
+            Sign::Letter(letter) => {
+                self.letter(letter)?;
+                Ok(())
+            }
+            Sign::Separator | Sign::Sentence | Sign::Paragraph | Sign::Open(_) | Sign::Close(_) => {
+                self.end_run(alloc)?;
+                self.put(sign)?;
+                Ok(())
+            }
+        }
+    }
+
+    /// A letter joins the run.
+    fn letter(&mut self, letter: char) -> Result<(), NoMemory>
+        ensures { OnOk result ((all : List Sign) (letters : List ℕ) (rest : List Sign) → Holds all self.old letters (Sign.Letter letter ∷ rest) → Holds all self.new (letters ++ letter ∷ []) rest) }
+    {
+        if self.letters < MAX_WORD_CHARS {
+            self.run.push(letter)?;
+            self.letters += 1;
+        }
+        Ok(())
+    }
+
+    /// The boundary before the next word.
+    fn gap_before(&self) -> Gap
+        ensures { result ≡ gap_behind self.now.position self.now.gap }
+    {
+        if self.position == 0 {
+            Gap::None
+        } else {
+            self.gap
+        }
+    }
+
+    /// The run ends here, if there is one: it is a word.
+    fn end_run(&mut self, alloc: Global) -> Result<(), Or<TooLong>>
+        ensures { EndsRun self.old self.new result }
+    {
+        if self.letters == 0 {
+            return Ok(());
+        }
+        let gap = self.gap_before();
+        let position = self.position + gap.step();
+        if position > MAX_POSITION {
+            return Err(Or::Fault(TooLong { position }));
+        }
+        let word = Word::from_slice(alloc, self.run.as_bytes())?;
+        self.found.words.push(TokenWord {
+            word,
+            position,
+            gap,
+        })?;
+        self.run.clear();
+        self.letters = 0;
+        self.position = position;
+        self.gap = Gap::None;
+        Ok(())
+    }
+
+    /// A sign that is no letter stands between two words.
+    fn put(&mut self, sign: Sign) -> Result<(), NoMemory>
+        requires { BeginApart (sign ∷ []) }
+        ensures { OnOk result ((all rest : List Sign) → Holds all self.old [] (sign ∷ rest) → Holds all self.new [] rest) }
+    {
+        let tag = zone_tag(sign, self.found.words.len());
+        push_tag(&mut self.found.tags, tag)?;
+        self.gap = stronger_of(self.gap, end(sign));
+        Ok(())
+    }
+
+    /// The text ends here.
+    pub fn finish(mut self, alloc: Global) -> Result<Found, Or<TooLong>>
+        ensures { (all : List Sign) → Wants all self [] → Finds all result }
+    {
+        self.end_run(alloc)?;
+        let Reader {
+            found,
+            run: _,
+            letters: _,
+            position: _,
+            gap: _,
+        } = self;
+        Ok(found)
+    }
+}

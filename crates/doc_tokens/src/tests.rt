@@ -1,0 +1,253 @@
+ghost use Rattle.std.specs.Prelude.{◌≡◌, [], ◌∷◌, codes, IfOk};
+ghost use Rattle.doc_types.specs.Schemas.{AreZones};
+
+use crate::{TooLong, tokens};
+use charset_map::Charset;
+use doc_types::{FieldTokens, Gap, ZoneSpan};
+use mark_scan::MarkRules;
+use srch_base::{Items, Name, NoMemory, Or};
+use std::alloc::Global;
+use std::test::Fail;
+
+/// A text with markup in an index with the zones `th` and `i`; whether sentences and paragraphs are looked for; its words,
+/// each with its position and, behind it, `s` or `p` for the boundary before it; its spans by zone, first and last position.
+const MARKUP: [(&str, bool, &str, &[(u16, u32, u32)]); 31] = [
+    ("", true, "", &[]),
+    (" <p>.<!-- a -->", true, "", &[]),
+    // An inline tag joins, all other tags and comments separate.
+    ("te<B>st</B>", false, "test 1", &[]),
+    ("te<P>st</P>", false, "te 1, st 2", &[]),
+    ("te<P>st</P>", true, "te 1, st 3p", &[]),
+    ("te<x:y z>st", true, "te 1, st 2", &[]),
+    ("te<!-- x. -->st", true, "te 1, st 2", &[]),
+    ("te<!--<b></b>-->st", true, "te 1, st 2", &[]),
+    // An inline tag that is a zone separates.
+    ("te<i>st</i>", true, "te 1, st 2", &[(1, 2, 2)]),
+    // What is no comment is plain text, with the end of a sentence.
+    ("a<!-->b", true, "a 1, b 3s", &[]),
+    ("a<!-->b", false, "a 1, b 2", &[]),
+    ("a<!-->-->b", true, "a 1, b 2", &[]),
+    // Letters are folded.
+    ("ПРИ<b>В</b>ЕТ Мир", true, "привет 1, мир 2", &[]),
+    // Several ends in a row are one boundary, of a paragraph if one of them is.
+    ("a!? b", true, "a 1, b 3s", &[]),
+    ("a. <p>b", true, "a 1, b 3p", &[]),
+    ("a<p>! b", true, "a 1, b 3p", &[]),
+    ("a<p></p><p>b", true, "a 1, b 3p", &[]),
+    // Ends before the first word and behind the last one are no boundaries.
+    ("!<p>a b!</p>", true, "a 1, b 2", &[]),
+    // Each element of a zone is a span of its own.
+    (
+        "<th>hello</th> x <th>world</th>",
+        false,
+        "hello 1, x 2, world 3",
+        &[(0, 1, 1), (0, 3, 3)],
+    ),
+    ("<th>hello world", false, "hello 1, world 2", &[(0, 1, 2)]),
+    ("<th>a<TH>b", false, "a 1, b 2", &[(0, 1, 1), (0, 2, 2)]),
+    ("a <th> b </th> c", true, "a 1, b 3p, c 5p", &[(0, 3, 3)]),
+    // A tag that closes itself does nothing to zones, but ends a paragraph.
+    ("<th>a<th/>b", true, "a 1, b 3p", &[(0, 1, 3)]),
+    // Spans without a word are dropped, and a closing tag without an open span does nothing.
+    ("<th></th>a<th>", false, "a 1", &[]),
+    ("</th>a</i>", false, "a 1", &[]),
+    // A closing tag ends the span of its own zone.
+    ("<th>a</i>b", false, "a 1, b 2", &[(0, 1, 2)]),
+    ("<th>a</th>b</th>c", false, "a 1, b 2, c 3", &[(0, 1, 1)]),
+    // Spans of different zones may overlap. They stand by first position, last position and zone.
+    (
+        "<th>a<i>b</th>c</i>d",
+        false,
+        "a 1, b 2, c 3, d 4",
+        &[(0, 1, 2), (1, 2, 3)],
+    ),
+    (
+        "<th><i>a</i>b</th>",
+        false,
+        "a 1, b 2",
+        &[(1, 1, 1), (0, 1, 2)],
+    ),
+    ("<i><th>a</th></i>", false, "a 1", &[(0, 1, 1), (1, 1, 1)]),
+    (
+        "<i>a<th>b<i>c</th>d",
+        false,
+        "a 1, b 2, c 3, d 4",
+        &[(1, 1, 2), (0, 2, 3), (1, 3, 4)],
+    ),
+];
+
+/// A text whose markup isn't looked at, and its words with and without boundaries.
+const PLAIN: [(&str, &str, &str); 4] = [
+    (
+        "John D. Doe met S.T.A.L.K.E.R. He left!",
+        "john 1, d 2, doe 3, met 4, s 5, t 6, a 7, l 8, k 9, e 10, r 11, he 13s, left 14",
+        "john 1, d 2, doe 3, met 4, s 5, t 6, a 7, l 8, k 9, e 10, r 11, he 12, left 13",
+    ),
+    ("te<B>st", "te 1, b 2, st 3", "te 1, b 2, st 3"),
+    ("a. B. c! d", "a 1, b 3s, c 4, d 6s", "a 1, b 2, c 3, d 4"),
+    (
+        "123456789-123456789_123456789_123456789_12345",
+        "123456789 1, 123456789_123456789_123456789_12345 2",
+        "123456789 1, 123456789_123456789_123456789_12345 2",
+    ),
+];
+
+fn letter(gap: Gap) -> &'static str {
+    match gap {
+        Gap::None => "",
+        Gap::Sentence => "s",
+        Gap::Paragraph => "p",
+    }
+}
+
+/// The words of tokens, as the tables above write them.
+fn written(alloc: Global, tokens: &FieldTokens) -> Result<String, Fail> {
+    let mut text = String::new(alloc);
+    for word in tokens.words.as_slice() {
+        if !text.is_empty() {
+            text.push_str(", ")?;
+        }
+        text.push_str(std::str::from_utf8(word.word.as_bytes()).or(Err("no UTF-8"))?)?;
+        let position = word.position;
+        let gap = letter(word.gap);
+        text.push_str(format!(in alloc; " {position}{gap}")?.as_str())?;
+    }
+    Ok(text)
+}
+
+/// The rules of an index with the zones `th` and `i`.
+fn rules(alloc: Global, strip: bool, sp: bool) -> Result<MarkRules, NoMemory>
+    ensures { IfOk result (λ rules. AreZones rules.zones) }
+{
+    let mut zones = Vec::new(alloc);
+    zones.push(Name::from_slice(alloc, b"th")?)?;
+    zones.push(Name::from_slice(alloc, b"i")?)?;
+    let zones = Items::new(zones);
+    Ok(MarkRules { strip, sp, zones })
+}
+
+/// The tokens of a text by a table and these rules.
+fn read(
+    alloc: Global,
+    charset: &Charset,
+    strip: bool,
+    sp: bool,
+    text: &str,
+) -> Result<FieldTokens, Or<TooLong>> {
+    if text.len() > 10_000_000 {
+        return Err(Or::NoMemory);
+    }
+    let rules = rules(alloc, strip, sp)?;
+    tokens(alloc, charset, &rules, text)
+}
+
+/// Whether spans are these, by zone, first and last position.
+fn same_spans(found: &[ZoneSpan], expected: &[(u16, u32, u32)]) -> bool {
+    let same = found.iter().zip(expected).all(|(span, (zone, first, last))| {
+        *span
+            == ZoneSpan {
+                zone: *zone,
+                first: *first,
+                last: *last,
+            }
+    });
+    same && found.len() == expected.len()
+}
+
+/// Whether a text has these words and spans by the default table.
+fn has(
+    alloc: Global,
+    strip: bool,
+    sp: bool,
+    text: &str,
+    words: &str,
+    spans: &[(u16, u32, u32)],
+) -> Result<bool, Fail> {
+    let charset = Charset::default_table(alloc).or(Err("no table"))?;
+    let found = read(alloc, &charset, strip, sp, text).or(Err("no tokens"))?;
+    let list = written(alloc, &found)?;
+    Ok(list.as_str() == words && same_spans(found.spans.as_slice(), spans))
+}
+
+#[test]
+fn texts_have_their_words(rt: HostRuntime) -> Result<(), Fail> {
+    for (text, sp, words, spans) in MARKUP {
+        assert!(rt; has(rt.alloc(), true, sp, text, words, spans)?, "in {text}");
+    }
+    for (text, with, without) in PLAIN {
+        assert!(rt; has(rt.alloc(), false, true, text, with, &[])?, "in {text}");
+        assert!(rt;
+            has(rt.alloc(), false, false, text, without, &[])?,
+            "in {text}"
+        );
+    }
+    Ok(())
+}
+
+/// A `!` that is in the table ends a sentence for the marks, but is no boundary of a word.
+#[test]
+fn letters_make_no_boundary(rt: HostRuntime) -> Result<(), Fail> {
+    let alloc = rt.alloc();
+    let charset = Charset::read(alloc, "a..z, !").or(Err("no table"))?;
+    let found = read(alloc, &charset, true, true, "ab!cd e! f? g").or(Err("no tokens"))?;
+    let list = written(alloc, &found)?;
+    assert_eq!(rt; list.as_str(), "ab!cd 1, e! 2, f 3, g 5s");
+    Ok(())
+}
+
+/// The position of the last word of a text that ends like this behind so many words, or the position that is too great.
+fn last_position(alloc: Global, count: u32, end: &str) -> Result<Result<u32, u32>, Fail> {
+    let mut text = String::new(alloc);
+    for _ in 0..count {
+        text.push_str("ab ")?;
+    }
+    text.push_str(end)?;
+    let charset = Charset::default_table(alloc).or(Err("no table"))?;
+    match read(alloc, &charset, true, true, text.as_str()) {
+        Ok(found) => {
+            let last = found.words.as_slice().last().ok_or("no word")?;
+            Ok(Ok(last.position))
+        }
+        Err(Or::Fault(fault)) => Ok(Err(fault.position)),
+        Err(Or::NoMemory) => Err("no memory")?,
+    }
+}
+
+#[test]
+fn positions_have_a_limit(rt: HostRuntime) -> Result<(), Fail> {
+    for (count, end, last) in [
+        (65_535, "!", Ok(65_535)),
+        (65_533, "! a", Ok(65_535)),
+        (65_536, "", Err(65_536)),
+        (70_000, "", Err(65_536)),
+        (65_533, "! a b", Err(65_536)),
+        (65_534, "! a", Err(65_536)),
+        (65_535, "! a", Err(65_537)),
+    ] {
+        assert!(rt; last_position(rt.alloc(), count, end)? == last);
+    }
+    Ok(())
+}
+
+/// How many words and spans a text repeated so often has.
+fn counts(alloc: Global, count: u32, part: &str) -> Result<(usize, usize), Fail> {
+    let mut text = String::new(alloc);
+    for _ in 0..count {
+        text.push_str(part)?;
+    }
+    let charset = Charset::default_table(alloc).or(Err("no table"))?;
+    let found = read(alloc, &charset, true, false, text.as_str()).or(Err("no tokens"))?;
+    Ok((found.words.len(), found.spans.len()))
+}
+
+#[test]
+fn long_texts_are_read(rt: HostRuntime) -> Result<(), Fail> {
+    for (count, part, words, spans) in [
+        (50_000, "Я", 1, 0),
+        (10_000, "<th>", 0, 0),
+        (5_000, "<th><i>a</i></th>", 5_000, 10_000),
+    ] {
+        assert!(rt; counts(rt.alloc(), count, part)? == (words, spans));
+    }
+    Ok(())
+}
