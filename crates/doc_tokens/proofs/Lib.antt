@@ -11,3 +11,4 @@ pub mod MarkOrder
 pub mod ZoneNumbers
 pub mod Fields
 pub mod Unique
+pub mod MaximalRuns

@@ -1,5 +1,5 @@
 -- Words: the maximal runs of letters, the boundaries between them, and their positions.
-use Rattle.std.specs.Prelude.{ℕ, ◌+◌, List, [], ◌∷◌, take, encode_utf8_all}
+use Rattle.std.specs.Prelude.{ℕ, ◌+◌, List, [], ◌∷◌, ◌++◌, map, take, encode_utf8_all}
 use Rattle.doc_types.specs.declared.tokens.TheConstants.{MAX_WORD_CHARS}
 use Rattle.doc_types.specs.declared.tokens.Gap.{Gap}
 use Rattle.doc_types.specs.declared.tokens.Gap.TheVariants as gaps
@@ -31,6 +31,26 @@ with_sign (signs.Close zone) pieces = other (signs.Close zone) ∷ pieces
 abbrev pub pieces : List Sign → List Piece
 pieces [] = []
 pieces (sign ∷ rest) = with_sign sign (pieces rest)
+
+-- the signs of pieces, one after the other
+abbrev pub signs_of : List Piece → List Sign
+signs_of [] = []
+signs_of (run letters ∷ pieces) = map signs.Letter letters ++ signs_of pieces
+signs_of (other sign ∷ pieces) = sign ∷ signs_of pieces
+
+-- Each run has letters, and none stands behind another; what stands between runs is no letter.
+abbrev pub AreMaximal : List Piece → Type 0
+AreMaximal [] = Unit {0}
+AreMaximal (run [] ∷ pieces) = ⊥
+AreMaximal (run (c ∷ letters) ∷ []) = Unit {0}
+AreMaximal (run (c ∷ letters) ∷ run more ∷ pieces) = ⊥
+AreMaximal (run (c ∷ letters) ∷ other sign ∷ pieces) = AreMaximal (other sign ∷ pieces)
+AreMaximal (other (signs.Letter c) ∷ pieces) = ⊥
+AreMaximal (other signs.Separator ∷ pieces) = AreMaximal pieces
+AreMaximal (other signs.Sentence ∷ pieces) = AreMaximal pieces
+AreMaximal (other signs.Paragraph ∷ pieces) = AreMaximal pieces
+AreMaximal (other (signs.Open zone) ∷ pieces) = AreMaximal pieces
+AreMaximal (other (signs.Close zone) ∷ pieces) = AreMaximal pieces
 
 -- the word of a run: its letters, cut, in UTF-8
 abbrev pub word_of : List ℕ → List ℕ

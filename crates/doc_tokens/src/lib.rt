@@ -10,7 +10,7 @@ mod spans;
 mod walk;
 
 pub use field::{TooLong, tokens};
-pub use laws::a_text_has_one_answer;
+pub use laws::{a_text_has_one_answer, pieces_are_maximal_runs};
 
 #[cfg(test)]
 mod tests;
