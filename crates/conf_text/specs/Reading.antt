@@ -1,0 +1,44 @@
+-- What the reader of lines answers.
+use Rattle.std.specs.Prelude.{◌≡◌, ℕ, ◌+◌, ◌<◌, List, [], ◌∷◌, ◌++◌, Bool, true, false, Option, Some, None, length}
+use Rattle.std.specs.Str.{IsUtf8}
+use Rattle.std.specs.Str.Lines.{lines}
+use Rattle.conf_text.specs.declared.lines.LineHead.{LineHead}
+use Rattle.conf_text.specs.declared.lines.Lines.{Lines}
+use Rattle.conf_text.specs.declared.lines.PartHead.{PartHead}
+use Rattle.conf_text.specs.Confs.{IsText}
+use Rattle.conf_text.specs.Lines.{Line, is_joined, joined_parts, lines_from, unjoined}
+
+-- the lines that aren't read yet
+abbrev pub left : Lines → List Line
+left reader = lines_from reader.number (lines reader.rest.now)
+
+-- the bound of the numbers of the lines that aren't read yet
+abbrev pub bound : Lines → ℕ
+bound reader = reader.number + length reader.rest.now
+
+-- a part was read, and added to what stood in the buffer
+pub record IsPartRead (old : Lines) (before : List ℕ) (new : Lines) (after : List ℕ) (head : PartHead) : Type 0 where
+  pub part : List ℕ
+  pub parts : lines old.rest.now ≡ part ∷ lines new.rest.now
+  pub number : new.number ≡ old.number + 1
+  pub shorter : length new.rest.now < length old.rest.now
+  pub buffer : after ≡ before ++ unjoined part
+  pub joined : head.joined ≡ is_joined part
+  pub text : head.utf8 ≡ true → IsUtf8 part
+  pub no_text : head.utf8 ≡ false → ¬ (IsUtf8 part)
+
+-- a line was read, and the buffer has its parts
+pub record IsLineRead (old new : Lines) (buffer : List ℕ) (head : LineHead) : Type 0 where
+  pub line : Line
+  pub are : left old ≡ line ∷ left new
+  pub number : head.number ≡ line.number
+  pub buffer_is : buffer ≡ joined_parts line.parts
+  pub text : head.utf8 ≡ true → IsText line
+  pub no_text : head.utf8 ≡ false → ¬ (IsText line)
+  pub shorter : length new.rest.now < length old.rest.now
+  pub bounded : bound new < bound old + 1
+
+-- the next line was read, or there is none
+abbrev pub ReadsLine : Lines → Lines → List ℕ → Option LineHead → Type 0
+ReadsLine old new buffer None = left old ≡ []
+ReadsLine old new buffer (Some head) = IsLineRead old new buffer head
