@@ -1,6 +1,6 @@
 -- What is wrong with a line: the kinds of faults, each by the line and those before it, which are given from the last one on.
-use Rattle.std.specs.Prelude.{◌≡◌, ℕ, ◌<◌, ◌≤◌, ◌⊎◌, List, [], ◌∷◌, ◌++◌, Bool, true, false, ◌==◌, ◌&&◌, ◌||◌, not, nat_lt, nat_le, Option, Some, None, is_some, codes, length, map, if◌then◌else◌}
-use Rattle.std.specs.List.{list_all, list_any}
+use Rattle.std.specs.Prelude.{◌≡◌, ℕ, List, [], ◌∷◌, ◌++◌, Bool, true, false, ◌==◌, ◌&&◌, ◌||◌, not, nat_lt, nat_le, Option, Some, None, is_some, codes, length, map}
+use Rattle.std.specs.List.{list_any}
 use Rattle.std.specs.Str.{bytes_eq}
 use Rattle.doc_types.specs.declared.schema.TheConstants.{MAX_FIELDS, MAX_ATTRS, MAX_ZONES, MAX_NAME_BYTES}
 use Rattle.conf_text.specs.declared.conf.TheConstants.{MAX_INDEXES}
@@ -8,8 +8,8 @@ use Rattle.conf_text.specs.declared.fault.ConfKind.{ConfKind}
 use Rattle.conf_text.specs.declared.fault.ConfKind.TheVariants as kinds
 use Rattle.conf_text.specs.declared.keys.Key.{Key}
 use Rattle.conf_text.specs.declared.keys.Key.TheVariants as keys
-use Rattle.conf_text.specs.Sections.{Section, index, other, Place, outside, headed, inside, place_in, Entry, entries_in, IndexText, indexes_in, given, fields_in, attrs_in}
-use Rattle.conf_text.specs.Shapes.{Shape, blank, index_head, other_head, unknown_head, opening, closing, entry, misformed, small}
+use Rattle.conf_text.specs.Sections.{index, Place, outside, headed, inside, place_in, Entry, entries_in, IndexText, indexes_in, given, fields_in, attrs_in}
+use Rattle.conf_text.specs.Shapes.{Shape, blank, index_head, other_head, unknown_head, opening, closing, entry, small}
 use Rattle.conf_text.specs.Values.{IsValue, zones_in}
 
 -- the grammar can have a line of this shape at the place; the head of an unknown section is told apart

@@ -1,5 +1,5 @@
 -- The lines of a configuration.
-use Rattle.std.specs.Prelude.{ℕ, ◌+◌, ◌-◌, List, [], ◌∷◌, Bool, ◌==◌, ◌&&◌, ◌||◌, if◌then◌else◌, length, map, take, drop, slice_index}
+use Rattle.std.specs.Prelude.{ℕ, ◌+◌, ◌-◌, List, [], ◌∷◌, Bool, ◌==◌, ◌&&◌, ◌||◌, if◌then◌else◌, length, map, take, slice_index}
 use Rattle.std.specs.List.{concat}
 use Rattle.std.specs.Str.Lines.{lines}
 use Rattle.charset_map.specs.Reading.{without_back, without_front}
@@ -38,10 +38,14 @@ lines_of text = lines_from 1 (lines text)
 abbrev pub joined_parts : List (List ℕ) → List ℕ
 joined_parts parts = concat (map unjoined parts)
 
--- What stands before the comment of a text that stands behind a byte: a comment begins with `#` behind a space or a tab.
+-- a comment begins with `#` behind a space or a tab
+abbrev pub begins_comment : ℕ → ℕ → Bool
+begins_comment before b = (b == 35) && ((before == 32) || (before == 9))
+
+-- what stands before the comment of a text that stands behind a byte
 abbrev pub uncommented_behind : ℕ → List ℕ → List ℕ
 uncommented_behind before [] = []
-uncommented_behind before (b ∷ bytes) = if (b == 35) && ((before == 32) || (before == 9)) then [] else b ∷ uncommented_behind b bytes
+uncommented_behind before (b ∷ bytes) = if begins_comment before b then [] else b ∷ uncommented_behind b bytes
 
 -- a line without its comment, which may begin at its front too
 abbrev pub uncommented : List ℕ → List ℕ

@@ -1,5 +1,5 @@
 -- What the reader of lines answers.
-use Rattle.std.specs.Prelude.{◌≡◌, ℕ, ◌+◌, ◌<◌, List, [], ◌∷◌, ◌++◌, Bool, true, false, Option, Some, None, length}
+use Rattle.std.specs.Prelude.{◌≡◌, ℕ, ◌+◌, ◌<◌, List, [], ◌∷◌, ◌++◌, true, false, not, ◌&&◌, ◌==◌, Option, Some, None, length}
 use Rattle.std.specs.Str.{IsUtf8}
 use Rattle.std.specs.Str.Lines.{lines}
 use Rattle.conf_text.specs.declared.lines.LineHead.{LineHead}
@@ -23,7 +23,7 @@ pub record IsPartRead (old : Lines) (before : List ℕ) (new : Lines) (after : L
   pub number : new.number ≡ old.number + 1
   pub shorter : length new.rest.now < length old.rest.now
   pub buffer : after ≡ before ++ unjoined part
-  pub joined : head.joined ≡ is_joined part
+  pub goes_on : head.goes_on ≡ is_joined part && not (length new.rest.now == 0)
   pub text : head.utf8 ≡ true → IsUtf8 part
   pub no_text : head.utf8 ≡ false → ¬ (IsUtf8 part)
 

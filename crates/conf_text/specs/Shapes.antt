@@ -1,5 +1,5 @@
 -- What a line is, by what it says.
-use Rattle.std.specs.Prelude.{ℕ, ◌+◌, ◌-◌, List, [], ◌∷◌, Bool, true, false, ◌==◌, ◌||◌, ◌&&◌, nat_lt, Option, if◌then◌else◌, codes, length, take, drop, slice_index}
+use Rattle.std.specs.Prelude.{ℕ, ◌-◌, List, [], ◌∷◌, Bool, true, false, ◌==◌, ◌||◌, ◌&&◌, nat_lt, Option, if◌then◌else◌, codes, length, take, drop, slice_index}
 use Rattle.std.specs.List.{position_or_len, before_first, after_first}
 use Rattle.std.specs.Str.{bytes_eq, str_to_ascii_lowercase}
 use Rattle.charset_map.specs.Characters.{is_blank}
@@ -94,11 +94,14 @@ before_equals text = trimmed (before_first (λ b. b == 61) text)
 abbrev pub behind_equals : List ℕ → List ℕ
 behind_equals text = trimmed (after_first (λ b. b == 61) text)
 
+-- the shape of a line that is no brace and not empty
+abbrev pub words_shape : List ℕ → Shape
+words_shape text = if has_equals text then entry_shape (before_equals text) (behind_equals text) else head_shape text
+
 -- the shape of a line that says this
 unfoldable pub shape_of : List ℕ → Shape
 shape_of text =
     if length text == 0 then blank
     else (if bytes_eq text (codes "{") then opening
     else (if bytes_eq text (codes "}") then closing
-    else (if has_equals text then entry_shape (before_equals text) (behind_equals text)
-    else head_shape text)))
+    else words_shape text))

@@ -1,6 +1,6 @@
 ghost use Rattle.std.specs.Prelude.{◌≡◌, ◌==◌, ◌<◌, ◌+◌, ◌^◌, ◌∷◌, length, IfOk};
 ghost use Rattle.std.specs.Str.Lines.{lines, strip_carriage_return};
-ghost use Rattle.conf_text.specs.Lines.{content_of, is_joined, joined_parts, uncommented, unjoined};
+ghost use Rattle.conf_text.specs.Lines.{begins_comment, content_of, is_joined, joined_parts, uncommented, unjoined};
 ghost use Rattle.conf_text.specs.Reading.{IsPartRead, ReadsLine, bound, left};
 
 use crate::text::{place_of, trim};
@@ -27,7 +27,7 @@ pub struct LineHead {
 #[derive(Clone, Copy, Debug)]
 struct PartHead {
     /// Whether the next part belongs to the same line.
-    joined: bool,
+    goes_on: bool,
     utf8: bool,
 }
 
@@ -77,10 +77,18 @@ fn without_join(part: &[u8]) -> &[u8]
 }
 
 /// What a line says: its text without the comment and the blanks around it.
+#[tactic(auto, unfolding(crate::specs::Lines::content_of))]
 pub fn content(line: &[u8]) -> &[u8]
     ensures { result.now ≡ content_of line.now }
 {
     trim(before_comment(line))
+}
+
+/// Whether a comment begins with a byte that stands behind another one.
+fn opens_comment(before: u8, byte: u8) -> bool
+    ensures { result ≡ begins_comment before byte }
+{
+    byte == b'#' && (before == b' ' || before == b'\t')
 }
 
 /// What stands before a line's comment.
@@ -90,7 +98,7 @@ fn before_comment(line: &[u8]) -> &[u8]
     let mut before = b' ';
     for place in 0..line.len() {
         let byte = line[place];
-        if byte == b'#' && (before == b' ' || before == b'\t') {
+        if opens_comment(before, byte) {
             return line.split_at(place).0;
         }
         before = byte;
@@ -128,7 +136,7 @@ impl<'a> Lines<'a> {
         self.rest = behind;
         self.number += 1;
         Ok(PartHead {
-            joined: joins(part),
+            goes_on: joins(part) && !behind.is_empty(),
             utf8: str::from_utf8(part).is_ok(),
         })
     }
@@ -146,8 +154,8 @@ impl<'a> Lines<'a> {
         buffer.clear();
         'parts: loop {
             let part = self.read_part(buffer)?;
-            utf8 = utf8 && part.utf8;
-            if !part.joined || self.rest.is_empty() {
+            utf8 &= part.utf8;
+            if !part.goes_on {
                 return Ok(Some(LineHead { number, utf8 }));
             }
         }

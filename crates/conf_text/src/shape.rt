@@ -2,7 +2,7 @@ ghost use Rattle.std.specs.Prelude.{◌≡◌, ◌&&◌};
 ghost use Rattle.std.specs.Str.{bytes_eq};
 ghost use Rattle.charset_map.specs.Characters.{is_blank};
 ghost use Rattle.std.specs.List.{position_or_len};
-ghost use Rattle.conf_text.specs.Shapes.{bare_head, entry_shape, has_name, has_no_name, head, head_of, head_shape, named_head, shape_of, small};
+ghost use Rattle.conf_text.specs.Shapes.{bare_head, entry_shape, has_name, has_no_name, head, head_of, head_shape, named_head, shape_of, small, words_shape};
 ghost use Rattle.conf_text.specs.Shaping.{seen};
 
 use crate::keys::Key;
@@ -129,21 +129,30 @@ fn entry_line<'a>(key: &[u8], value: &'a [u8]) -> Shape<'a>
     }
 }
 
-/// The shape of a line that says this.
-#[tactic(auto, unfolding(crate::specs::Shapes::shape_of))]
-pub fn shape_of(text: &[u8]) -> Shape<'_>
-    ensures { seen result ≡ shape_of text.now }
+/// A line that is no brace and not empty.
+fn words_line(text: &[u8]) -> Shape<'_>
+    ensures { seen result ≡ words_shape text.now }
 {
-    match text {
-        b"" => return Shape::Blank,
-        b"{" => return Shape::Opening,
-        b"}" => return Shape::Closing,
-        _ => {}
-    }
     let end = place_of(b'=', text);
     if end == text.len() {
         return head_line(text);
     }
     let (key, value) = text.split_at(end);
     entry_line(trim(key), trim(value.split_at(1).1))
+}
+
+/// The shape of a line that says this.
+#[tactic(auto, unfolding(crate::specs::Shapes::shape_of))]
+pub fn shape_of(text: &[u8]) -> Shape<'_>
+    ensures { seen result ≡ shape_of text.now }
+{
+    if text.is_empty() {
+        Shape::Blank
+    } else if text == b"{".as_slice() {
+        Shape::Opening
+    } else if text == b"}".as_slice() {
+        Shape::Closing
+    } else {
+        words_line(text)
+    }
 }

@@ -1,5 +1,6 @@
 ghost use Rattle.std.specs.Prelude.{◌≡◌, ◌==◌, IfOk};
-ghost use Rattle.std.specs.List.{position_or_len, prefix_len, suffix_len};
+ghost use Rattle.std.specs.Char.{to_ascii_lowercase};
+ghost use Rattle.std.specs.List.{list_all, position_or_len, prefix_len, suffix_len};
 ghost use Rattle.charset_map.specs.Characters.{is_blank};
 ghost use Rattle.charset_map.specs.Reading.{without_back, without_front};
 ghost use Rattle.doc_types.specs.Schemas.{begins_name, goes_on_in_name};
@@ -72,16 +73,21 @@ fn goes_on(byte: u8) -> bool
     begins(byte) || byte.is_ascii_digit()
 }
 
+/// Whether each byte can stand in a name behind its first, in either case.
+fn all_go_on(bytes: &[u8]) -> bool
+    ensures { result ≡ list_all (λ b. goes_on_in_name (to_ascii_lowercase b)) bytes.now }
+{
+    bytes.iter().all(|byte| goes_on(byte.to_ascii_lowercase()))
+}
+
 /// Whether a text is a name, in either case.
+#[tactic(auto, using(crate::proofs::Names::name_is))]
 pub fn name_like(word: &[u8]) -> bool
     ensures { result ≡ is_name word.now }
 {
     match word.split_first() {
         None => false,
-        Some((first, rest)) => {
-            begins(first.to_ascii_lowercase())
-                && rest.iter().all(|byte| goes_on(byte.to_ascii_lowercase()))
-        }
+        Some((first, rest)) => begins(first.to_ascii_lowercase()) && all_go_on(rest),
     }
 }
 

@@ -1,0 +1,5 @@
+pub mod Names
+pub mod Parts
+pub mod Comments
+pub mod Joins
+pub mod Flags
