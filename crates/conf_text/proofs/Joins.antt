@@ -83,9 +83,9 @@ joined_next old now number buffer utf8 new after head joined read goes =
     let other : length new.rest.now ≢ 0 = eqb-false (length new.rest.now) 0 (not_yes (length new.rest.now == 0) (and_right (is_joined read.part) (not (length new.rest.now == 0)) both)) in
     let some : 0 < length new.rest.now = omega arith in
     let here : left now ≡ onto_line now.number read.part (left new) =
-        ap (lines_from now.number) read.parts
-        ∙ ap (λ t. cond t (onto_line now.number read.part (lines_from (now.number + 1) (lines new.rest.now))) (line_of now.number (read.part ∷ []) ∷ lines_from (now.number + 1) (lines new.rest.now))) is
-        ∙ ap (λ n. onto_line now.number read.part (lines_from n (lines new.rest.now))) (sym read.number) in
+    ap (lines_from now.number) read.parts
+    ∙ ap (λ t. cond t (onto_line now.number read.part (lines_from (now.number + 1) (lines new.rest.now))) (line_of now.number (read.part ∷ []) ∷ lines_from (now.number + 1) (lines new.rest.now))) is
+    ∙ ap (λ n. onto_line now.number read.part (lines_from n (lines new.rest.now))) (sym read.number) in
     record {
       front = joined.front ++ read.part ∷ [];
       count = omega (arith, joined.count, read.number, length-append joined.front (read.part ∷ []));
@@ -124,9 +124,9 @@ pub joined_end : (old now : Lines) (number : ℕ) (buffer : List ℕ) (utf8 : Bo
 joined_end old now number buffer utf8 new after head joined read ends =
     let stop = ends_here read.part new.rest.now (sym read.goes_on ∙ ends) in
     let here : left now ≡ line_of now.number (read.part ∷ []) ∷ left new =
-        ap (lines_from now.number) read.parts
-        ∙ lines_here now.number read.part new.rest.now stop
-        ∙ ap (λ n. line_of now.number (read.part ∷ []) ∷ lines_from n (lines new.rest.now)) (sym read.number) in
+    ap (lines_from now.number) read.parts
+    ∙ lines_here now.number read.part new.rest.now stop
+    ∙ ap (λ n. line_of now.number (read.part ∷ []) ∷ lines_from n (lines new.rest.now)) (sym read.number) in
     record {
       line = line_of number (joined.front ++ read.part ∷ []);
       are = joined.are ∙ ap (onto_lines number joined.front) here ∙ last_one number now.number joined.front read.part (left new) joined.count;

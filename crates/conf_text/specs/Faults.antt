@@ -71,11 +71,11 @@ is_long name = nat_lt MAX_NAME_BYTES (length name)
 
 -- an entry passes a limit
 abbrev pub passes_limit : List Entry → Key → List ℕ → Bool
-passes_limit entries keys.RtField value = is_long value || nat_le MAX_FIELDS (length (fields_in entries))
-passes_limit entries keys.RtAttrUint value = is_long value || nat_le MAX_ATTRS (length (attrs_in entries))
-passes_limit entries keys.RtAttrBool value = is_long value || nat_le MAX_ATTRS (length (attrs_in entries))
-passes_limit entries keys.RtAttrBigint value = is_long value || nat_le MAX_ATTRS (length (attrs_in entries))
-passes_limit entries keys.RtAttrTimestamp value = is_long value || nat_le MAX_ATTRS (length (attrs_in entries))
+passes_limit entries keys.RtField value = is_long (small value) || nat_le MAX_FIELDS (length (fields_in entries))
+passes_limit entries keys.RtAttrUint value = is_long (small value) || nat_le MAX_ATTRS (length (attrs_in entries))
+passes_limit entries keys.RtAttrBool value = is_long (small value) || nat_le MAX_ATTRS (length (attrs_in entries))
+passes_limit entries keys.RtAttrBigint value = is_long (small value) || nat_le MAX_ATTRS (length (attrs_in entries))
+passes_limit entries keys.RtAttrTimestamp value = is_long (small value) || nat_le MAX_ATTRS (length (attrs_in entries))
 passes_limit entries keys.IndexZones value = list_any is_long (zones_in value) || nat_lt MAX_ZONES (length (zones_in value))
 passes_limit entries key value = false
 

@@ -8,3 +8,5 @@ pub mod Faults
 pub mod Confs
 pub mod Shaping
 pub mod Reading
+pub mod Settings
+pub mod Drafts

@@ -1,5 +1,5 @@
 -- What the keys of an index may have as their values.
-use Rattle.std.specs.Prelude.{◌≡◌, ◌≢◌, ℕ, List, [], ◌∷◌, Bool, true, false, ◌==◌, ◌&&◌, ◌||◌, Option, codes, map}
+use Rattle.std.specs.Prelude.{not, ◌≡◌, ◌≢◌, ℕ, List, [], ◌∷◌, Bool, true, false, ◌==◌, ◌&&◌, ◌||◌, Option, codes, map}
 use Rattle.std.specs.Char.{is_ascii_alphabetic}
 use Rattle.std.specs.List.{list_all, slice_split}
 use Rattle.std.specs.Str.{IsUtf8, bytes_eq}
@@ -20,10 +20,9 @@ is_tag_name (first ∷ rest) = is_ascii_alphabetic first && list_all is_name_byt
 abbrev pub zones_in : List ℕ → List (List ℕ)
 zones_in value = map (λ piece. small (trimmed piece)) (slice_split (λ b. b == 44) value)
 
--- a column's name, which isn't `id`
-pub record IsColumn (value : List ℕ) : Type 0 where
-  pub form : is_name value ≡ true
-  pub other : bytes_eq (small value) (codes "id") ≡ false
+-- a column can have this name: it isn't `id`
+abbrev pub can_be_column : List ℕ → Bool
+can_be_column value = is_name value && not (bytes_eq (small value) (codes "id"))
 
 -- 0 or 1
 abbrev pub is_switch : List ℕ → Bool
@@ -44,11 +43,11 @@ pub record AreZoneNames (zones : List (List ℕ)) : Type 0 where
 abbrev pub IsValue : Key → List ℕ → Type 0
 IsValue keys.Type value = bytes_eq value (codes "rt") ≡ true
 IsValue keys.Path value = value ≢ []
-IsValue keys.RtField value = IsColumn value
-IsValue keys.RtAttrUint value = IsColumn value
-IsValue keys.RtAttrBool value = IsColumn value
-IsValue keys.RtAttrBigint value = IsColumn value
-IsValue keys.RtAttrTimestamp value = IsColumn value
+IsValue keys.RtField value = can_be_column value ≡ true
+IsValue keys.RtAttrUint value = can_be_column value ≡ true
+IsValue keys.RtAttrBool value = can_be_column value ≡ true
+IsValue keys.RtAttrBigint value = can_be_column value ≡ true
+IsValue keys.RtAttrTimestamp value = can_be_column value ≡ true
 IsValue keys.CharsetTable value = IsCharsetText value
 IsValue keys.HtmlStrip value = is_switch value ≡ true
 IsValue keys.IndexSp value = is_switch value ≡ true

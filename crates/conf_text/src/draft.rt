@@ -1,8 +1,18 @@
+ghost use Rattle.std.specs.Prelude.{◌≡◌, ◌++◌, ◌∷◌, ◌&&◌, ◌||◌, ◌==◌, ◌<◌, ◌^◌, [], Bool, List, ℕ, IfOk, IsSome, OnOk, false, length, not};
+ghost use Rattle.std.specs.List.{list_any};
+ghost use Rattle.std.specs.Option.{is_some};
+ghost use Rattle.std.specs.Str.{bytes_eq};
+ghost use Rattle.conf_text.specs.declared.keys.Key.TheVariants.{IndexZones, Type};
+ghost use Rattle.conf_text.specs.Drafts.{AreIndexes, EndsIndex, IsDraft, IsFinished, IsTableIn, Sets, TakesEntry, entry_with, exceeds, has_column, has_key, repeats};
+ghost use Rattle.conf_text.specs.Faults.{is_repeated};
+ghost use Rattle.conf_text.specs.Sections.{Entry, IndexText};
+ghost use Rattle.conf_text.specs.Settings.{IsSetting};
+
 use crate::conf::IndexConf;
 use crate::fault::ConfKind;
 use crate::keys::Key;
-use crate::text::{name_like, small_name};
-use crate::zones::{long, read_zones, stands_among};
+use crate::setting::{Setting, read_setting};
+use crate::zones::{long, some_long, stands_among};
 use charset_map::Charset;
 use doc_types::{AttrKind, MAX_ATTRS, MAX_FIELDS, MAX_ZONES, Schema};
 use mark_scan::MarkRules;
@@ -25,34 +35,26 @@ pub struct Draft {
 }
 
 /// Whether an index has this name.
-pub fn name_is_taken(indexes: &[IndexConf], name: &[u8]) -> bool {
+pub fn name_is_taken(indexes: &[IndexConf], name: &[u8]) -> bool
+    ensures { result ≡ list_any (λ index. bytes_eq index.schema.name name.now) indexes.now }
+{
     indexes
         .iter()
         .any(|index| index.schema.name.as_bytes() == name)
 }
 
 /// Whether an index has this path.
-fn path_is_taken(indexes: &[IndexConf], path: &[u8]) -> bool {
+fn path_is_taken(indexes: &[IndexConf], path: &[u8]) -> bool
+    ensures { result ≡ list_any (λ index. bytes_eq index.path path.now) indexes.now }
+{
     indexes.iter().any(|index| index.path.as_bytes() == path)
-}
-
-/// Whether a column can have this name.
-fn column_like(value: &[u8]) -> bool {
-    name_like(value) && !value.eq_ignore_ascii_case(b"id")
-}
-
-/// What a switch is set to, by its value.
-fn switch(value: &[u8]) -> Option<bool> {
-    match value {
-        b"0" => Some(false),
-        b"1" => Some(true),
-        _ => None,
-    }
 }
 
 impl Draft {
     /// An index without entries.
-    pub fn of(alloc: Global, name: Name) -> Draft {
+    pub fn of(alloc: Global, name: Name) -> Draft
+        ensures { IsDraft name [] result }
+    {
         Draft {
             name,
             given: Vec::new(alloc),
@@ -67,14 +69,76 @@ impl Draft {
     }
 
     /// Whether an entry has this key.
-    fn has(&self, key: Key) -> bool {
+    fn has(&self, key: Key) -> bool
+        ensures { result ≡ has_key self.now.given.items key }
+    {
         self.given.iter().any(|other| other.same(key))
     }
 
+    /// Whether an attribute has this name.
+    fn has_attr(&self, name: &[u8]) -> bool
+        ensures { result ≡ list_any (λ attr. bytes_eq attr.0 name.now) self.now.attrs.items }
+    {
+        self.attrs.iter().any(|attr| attr.0.as_bytes() == name)
+    }
+
     /// Whether a column has this name.
-    fn has_column(&self, name: &[u8]) -> bool {
-        stands_among(name, self.fields.as_slice())
-            || self.attrs.iter().any(|attr| attr.0.as_bytes() == name)
+    fn has_column(&self, name: &[u8]) -> bool
+        ensures { result ≡ has_column self.now name.now }
+    {
+        stands_among(name, self.fields.as_slice()) || self.has_attr(name)
+    }
+
+    /// Whether an entry repeats what an index or an earlier entry has.
+    fn repeats(&self, indexes: &[IndexConf], key: Key, setting: &Setting) -> bool
+        ensures { result ≡ repeats self.now indexes.now key setting.now }
+    {
+        match setting {
+            Setting::Field(name) => self.has_column(name.as_bytes()),
+            Setting::Attr(name, _) => self.has_column(name.as_bytes()),
+            Setting::Path(path) => self.has(key) || path_is_taken(indexes, path.as_bytes()),
+            _ => self.has(key),
+        }
+    }
+
+    /// Whether an entry passes a limit.
+    fn exceeds(&self, setting: &Setting) -> bool
+        ensures { result ≡ exceeds self.now setting.now }
+    {
+        match setting {
+            Setting::Field(name) => long(name.as_bytes()) || self.fields.len() >= MAX_FIELDS,
+            Setting::Attr(name, _) => long(name.as_bytes()) || self.attrs.len() >= MAX_ATTRS,
+            Setting::Zones(zones) => some_long(zones.as_slice()) || zones.len() > MAX_ZONES,
+            _ => false,
+        }
+    }
+
+    /// Sets what an entry sets.
+    fn set(&mut self, setting: Setting) -> Result<(), NoMemory>
+        ensures { OnOk result (Sets setting self.old self.new) }
+    {
+        match setting {
+            Setting::Plain => {}
+            Setting::Path(path) => self.path = Some(path),
+            Setting::Field(name) => self.fields.push(name)?,
+            Setting::Attr(name, kind) => self.attrs.push((name, kind))?,
+            Setting::Charset(charset) => self.charset = Some(charset),
+            Setting::Strip(on) => self.strip = on,
+            Setting::Sp(on) => self.sp = on,
+            Setting::Zones(zones) => self.zones = zones,
+        }
+        Ok(())
+    }
+
+    /// Keeps an entry that isn't repeated.
+    fn keep(&mut self, key: Key, setting: Setting) -> Result<(), NoMemory>
+        ensures { (texts : List IndexText) (name : List ℕ) (entries : List Entry) (value : List ℕ)
+            → IsDraft name entries self.old → IsSetting key value setting → is_repeated texts entries key value ≡ false
+            → OnOk result (IsDraft name (entries ++ entry_with key value ∷ []) self.new) }
+    {
+        self.set(setting)?;
+        self.given.push(key)?;
+        Ok(())
     }
 
     /// Takes an entry.
@@ -84,201 +148,85 @@ impl Draft {
         indexes: &[IndexConf],
         key: Key,
         value: &[u8],
-    ) -> Result<(), Or<ConfKind>> {
-        match key {
-            Key::Type => self.take_word(key, value, b"rt"),
-            Key::Morphology => self.take_word(key, value, b"none"),
-            Key::MinWordLen => self.take_word(key, value, b"1"),
-            Key::Path => self.take_path(alloc, indexes, value),
-            Key::RtField => self.take_field(alloc, value),
-            Key::RtAttrUint => self.take_attr(alloc, key, AttrKind::Uint, value),
-            Key::RtAttrBool => self.take_attr(alloc, key, AttrKind::Bool, value),
-            Key::RtAttrBigint => self.take_attr(alloc, key, AttrKind::Bigint, value),
-            Key::RtAttrTimestamp => self.take_attr(alloc, key, AttrKind::Timestamp, value),
-            Key::CharsetTable => self.take_charset(alloc, value),
-            Key::HtmlStrip => self.take_strip(value),
-            Key::IndexSp => self.take_sp(value),
-            Key::IndexZones => self.take_zones(alloc, value),
-            Key::RtMemLimit
-            | Key::Dict
-            | Key::Docinfo
-            | Key::Mlock
-            | Key::Preopen
-            | Key::OndiskAttrs
-            | Key::CharsetType => self.take_unused(key),
-        }
-    }
-
-    /// Notes that an entry has this key, which may stand once.
-    fn note_once(&mut self, key: Key) -> Result<(), Or<ConfKind>> {
-        if self.has(key) {
+    ) -> Result<(), Or<ConfKind>>
+        requires { length value.now < 2 ^ 32 }
+        ensures { (texts : List IndexText) (name : List ℕ) (entries : List Entry)
+            → AreIndexes texts indexes.now → IsDraft name entries self.old
+            → TakesEntry texts name entries key value.now self.new result }
+    {
+        let setting = read_setting(alloc, key, value)?;
+        if self.repeats(indexes, key, &setting) {
             return Err(Or::Fault(ConfKind::Repeated));
         }
-        self.given.push(key)?;
-        Ok(())
-    }
-
-    fn take_unused(&mut self, key: Key) -> Result<(), Or<ConfKind>> {
-        self.note_once(key)
-    }
-
-    fn take_word(&mut self, key: Key, value: &[u8], wanted: &[u8]) -> Result<(), Or<ConfKind>> {
-        if value != wanted {
-            return Err(Or::Fault(ConfKind::BadValue));
-        }
-        self.note_once(key)
-    }
-
-    fn take_path(
-        &mut self,
-        alloc: Global,
-        indexes: &[IndexConf],
-        value: &[u8],
-    ) -> Result<(), Or<ConfKind>> {
-        if value.is_empty() {
-            return Err(Or::Fault(ConfKind::BadValue));
-        }
-        if path_is_taken(indexes, value) {
-            return Err(Or::Fault(ConfKind::Repeated));
-        }
-        let path = Text::from_slice(alloc, value)?;
-        self.note_once(Key::Path)?;
-        self.path = Some(path);
-        Ok(())
-    }
-
-    fn take_field(&mut self, alloc: Global, value: &[u8]) -> Result<(), Or<ConfKind>> {
-        let name = self.new_column(alloc, value)?;
-        if self.fields.len() >= MAX_FIELDS {
+        if self.exceeds(&setting) {
             return Err(Or::Fault(ConfKind::Limit));
         }
-        self.given.push(Key::RtField)?;
-        self.fields.push(name)?;
+        self.keep(key, setting)?;
         Ok(())
     }
 
-    fn take_attr(
-        &mut self,
-        alloc: Global,
-        key: Key,
-        kind: AttrKind,
-        value: &[u8],
-    ) -> Result<(), Or<ConfKind>> {
-        let name = self.new_column(alloc, value)?;
-        if self.attrs.len() >= MAX_ATTRS {
-            return Err(Or::Fault(ConfKind::Limit));
-        }
-        self.given.push(key)?;
-        self.attrs.push((name, kind))?;
-        Ok(())
+    /// Whether it has zones, but its markup isn't stripped.
+    fn lacks_strip(&self) -> bool
+        ensures { result ≡ has_key self.now.given.items IndexZones && not self.now.strip }
+    {
+        self.has(Key::IndexZones) && !self.strip
     }
 
-    /// The name of a column that isn't there yet.
-    fn new_column(&self, alloc: Global, value: &[u8]) -> Result<Name, Or<ConfKind>> {
-        if !column_like(value) {
-            return Err(Or::Fault(ConfKind::BadValue));
-        }
-        let name = small_name(alloc, value)?;
-        if self.has_column(name.as_bytes()) {
-            return Err(Or::Fault(ConfKind::Repeated));
-        }
-        if long(value) {
-            return Err(Or::Fault(ConfKind::Limit));
-        }
-        Ok(name)
-    }
-
-    fn take_charset(&mut self, alloc: Global, value: &[u8]) -> Result<(), Or<ConfKind>> {
-        let charset = read_charset(alloc, value)?;
-        self.note_once(Key::CharsetTable)?;
-        self.charset = Some(charset);
-        Ok(())
-    }
-
-    fn take_strip(&mut self, value: &[u8]) -> Result<(), Or<ConfKind>> {
-        match switch(value) {
-            None => Err(Or::Fault(ConfKind::BadValue)),
-            Some(on) => {
-                self.note_once(Key::HtmlStrip)?;
-                self.strip = on;
-                Ok(())
-            }
-        }
-    }
-
-    fn take_sp(&mut self, value: &[u8]) -> Result<(), Or<ConfKind>> {
-        match switch(value) {
-            None => Err(Or::Fault(ConfKind::BadValue)),
-            Some(on) => {
-                self.note_once(Key::IndexSp)?;
-                self.sp = on;
-                Ok(())
-            }
-        }
-    }
-
-    fn take_zones(&mut self, alloc: Global, value: &[u8]) -> Result<(), Or<ConfKind>> {
-        match read_zones(alloc, value)? {
-            None => Err(Or::Fault(ConfKind::BadValue)),
-            Some(zones) => {
-                if self.has(Key::IndexZones) {
-                    return Err(Or::Fault(ConfKind::Repeated));
-                }
-                if zones.len() > MAX_ZONES || zones.iter().any(|zone| long(zone.as_bytes())) {
-                    return Err(Or::Fault(ConfKind::Limit));
-                }
-                self.given.push(Key::IndexZones)?;
-                self.zones = zones;
-                Ok(())
-            }
-        }
+    /// Whether it lacks a type, a path or a field.
+    fn lacks_key(&self) -> bool
+        ensures { result ≡ not (has_key self.now.given.items Type) || not (is_some self.now.path) || (length self.now.fields.items == 0) }
+    {
+        !self.has(Key::Type) || self.path.is_none() || self.fields.is_empty()
     }
 
     /// The index, at the end of its section.
-    pub fn end(self, alloc: Global) -> Result<IndexConf, Or<ConfKind>> {
-        if self.has(Key::IndexZones) && !self.strip {
+    pub fn end(self, alloc: Global) -> Result<IndexConf, Or<ConfKind>>
+        ensures { (name : List ℕ) (entries : List Entry) → IsDraft name entries self → EndsIndex name entries result }
+    {
+        if self.lacks_strip() {
             return Err(Or::Fault(ConfKind::BadValue));
         }
-        if !self.has(Key::Type) || self.fields.is_empty() {
+        if self.lacks_key() {
             return Err(Or::Fault(ConfKind::Missing));
         }
-        match self.path {
-            None => Err(Or::Fault(ConfKind::Missing)),
-            Some(path) => {
-                let charset = match self.charset {
-                    Some(charset) => charset,
-                    None => Charset::default_table(alloc)?,
-                };
-                let zones = Items::new(self.zones);
-                Ok(IndexConf {
-                    rules: MarkRules {
-                        strip: self.strip,
-                        sp: self.sp,
-                        zones: zones.clone()?,
-                    },
-                    schema: Schema {
-                        name: self.name,
-                        fields: Items::new(self.fields),
-                        attrs: Items::new(self.attrs),
-                        zones,
-                        sp: self.sp,
-                    },
-                    charset,
-                    path,
-                })
-            }
-        }
+        let index = self.finish(alloc)?;
+        Ok(index)
+    }
+
+    /// The index that has all it needs.
+    fn finish(self, alloc: Global) -> Result<IndexConf, NoMemory>
+        requires { IsSome self.path }
+        ensures { IfOk result (λ index. IsFinished self index) }
+    {
+        let charset = table_or_default(alloc, self.charset)?;
+        let zones = Items::new(self.zones);
+        let rules = MarkRules {
+            strip: self.strip,
+            sp: self.sp,
+            zones: zones.clone()?,
+        };
+        let schema = Schema {
+            name: self.name,
+            fields: Items::new(self.fields),
+            attrs: Items::new(self.attrs),
+            zones,
+            sp: self.sp,
+        };
+        Ok(IndexConf {
+            schema,
+            charset,
+            rules,
+            path: self.path.unwrap(),
+        })
     }
 }
 
-/// The character table that a text is.
-fn read_charset(alloc: Global, value: &[u8]) -> Result<Charset, Or<ConfKind>> {
-    match str::from_utf8(value) {
-        Err(_) => Err(Or::Fault(ConfKind::BadValue)),
-        Ok(text) => match Charset::read(alloc, text) {
-            Ok(charset) => Ok(charset),
-            Err(Or::NoMemory) => Err(Or::NoMemory),
-            Err(Or::Fault(_)) => Err(Or::Fault(ConfKind::BadValue)),
-        },
+/// A table of its own, or the default one.
+fn table_or_default(alloc: Global, own: Option<Charset>) -> Result<Charset, NoMemory>
+    ensures { IfOk result (λ charset. IsTableIn own charset) }
+{
+    match own {
+        Some(charset) => Ok(charset),
+        None => Charset::default_table(alloc),
     }
 }

@@ -7,6 +7,7 @@ mod fault;
 mod keys;
 mod lines;
 mod reading;
+mod setting;
 mod shape;
 mod text;
 mod zones;

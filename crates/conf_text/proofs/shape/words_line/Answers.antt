@@ -16,7 +16,7 @@ returns c =
     let has : has_equals text ≡ true = lt-ltb _ _ within in
     let key : c.trim.result.now ≡ before_equals text = c.trim.ensures ∙ ap trimmed (c.split_at.ensures.front ∙ ap (λ n. take n text) c.place_of-end.ensures) in
     let value : c.trim-2.result.now ≡ behind_equals text =
-        c.trim-2.ensures ∙ ap trimmed (c.split_at-2.ensures.back ∙ ap (drop 1) c.split_at.ensures.back ∙ drop-drop 1 c.place_of-end.result text ∙ ap (λ n. drop (n + 1) text) c.place_of-end.ensures) in
+    c.trim-2.ensures ∙ ap trimmed (c.split_at-2.ensures.back ∙ ap (drop 1) c.split_at.ensures.back ∙ drop-drop 1 c.place_of-end.result text ∙ ap (λ n. drop (n + 1) text) c.place_of-end.ensures) in
     c.entry_line.ensures
     ∙ ap (λ (k : List ℕ). entry_shape k c.trim-2.result.now) key
     ∙ ap (λ (v : List ℕ). entry_shape (before_equals text) v) value
