@@ -5,3 +5,6 @@ pub mod Joins
 pub mod Flags
 pub mod Among
 pub mod ZoneLists
+pub mod Entries
+pub mod DraftLemmas
+pub mod Keeping

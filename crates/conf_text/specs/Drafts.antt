@@ -1,8 +1,10 @@
 -- Indexes that are being read.
-use Rattle.std.specs.Prelude.{◌≡◌, ℕ, List, [], ◌∷◌, ◌++◌, Bool, true, false, Option, Some, None, Result, Ok, Err, map}
-use Rattle.std.specs.List.{AllZip}
+use Rattle.std.specs.Prelude.{◌||◌, nat_le, nat_lt, length, ◌≡◌, ℕ, List, [], ◌∷◌, ◌++◌, Bool, true, false, Option, Some, None, Result, Ok, Err, map}
+use Rattle.std.specs.List.{AllZip, list_any}
+use Rattle.std.specs.Str.{bytes_eq}
+use Rattle.doc_types.specs.declared.schema.TheConstants.{MAX_FIELDS, MAX_ATTRS, MAX_ZONES}
 use Rattle.charset_map.specs.declared.span.Span.{Span}
-use Rattle.charset_map.specs.Reading.{IsTableOf}
+use Rattle.charset_map.specs.Reading.{IsTableOf, default_text}
 use Rattle.charset_map.specs.Spans.{folded}
 use Rattle.srch_base.specs.declared.faults.Or.{Or}
 use Rattle.srch_base.specs.declared.faults.Or.TheVariants as causes
@@ -12,8 +14,11 @@ use Rattle.conf_text.specs.declared.fault.ConfKind.{ConfKind}
 use Rattle.conf_text.specs.declared.fault.ConfKind.TheVariants as kinds
 use Rattle.conf_text.specs.declared.keys.Key.{Key}
 use Rattle.conf_text.specs.declared.keys.Key.TheVariants as keys
+use Rattle.conf_text.specs.declared.setting.Setting.{Setting}
+use Rattle.conf_text.specs.declared.setting.Setting.TheVariants as settings
+use Rattle.conf_text.specs.Keys.{same_key}
 use Rattle.conf_text.specs.Confs.{IsIndexOf, zones_by}
-use Rattle.conf_text.specs.Faults.{is_on, is_repeated, lacks_key, lacks_strip, passes_limit}
+use Rattle.conf_text.specs.Faults.{is_among, is_long, is_on, is_repeated, lacks_key, lacks_strip, passes_limit}
 use Rattle.conf_text.specs.Sections.{Entry, IndexText, attrs_in, fields_in, given}
 use Rattle.conf_text.specs.Values.{IsValue}
 
@@ -37,7 +42,7 @@ pub record IsDraft (name : List ℕ) (entries : List Entry) (draft : Draft) : Ty
 
 -- one of the keys is this one
 abbrev pub has_key : List Key → Key → Bool
-has_key given key = list_any (λ k. same_key k key) given
+has_key keys key = list_any (λ k. same_key k key) keys
 
 -- a column of a draft has this name
 abbrev pub has_column : Draft → List ℕ → Bool

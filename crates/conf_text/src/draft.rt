@@ -2,7 +2,7 @@ ghost use Rattle.std.specs.Prelude.{◌≡◌, ◌++◌, ◌∷◌, ◌&&◌, �
 ghost use Rattle.std.specs.List.{list_any};
 ghost use Rattle.std.specs.Option.{is_some};
 ghost use Rattle.std.specs.Str.{bytes_eq};
-ghost use Rattle.conf_text.specs.declared.keys.Key.TheVariants.{IndexZones, Type};
+ghost use Rattle.conf_text.specs.declared.keys.Key.TheVariants as keys;
 ghost use Rattle.conf_text.specs.Drafts.{AreIndexes, EndsIndex, IsDraft, IsFinished, IsTableIn, Sets, TakesEntry, entry_with, exceeds, has_column, has_key, repeats};
 ghost use Rattle.conf_text.specs.Faults.{is_repeated};
 ghost use Rattle.conf_text.specs.Sections.{Entry, IndexText};
@@ -167,14 +167,14 @@ impl Draft {
 
     /// Whether it has zones, but its markup isn't stripped.
     fn lacks_strip(&self) -> bool
-        ensures { result ≡ has_key self.now.given.items IndexZones && not self.now.strip }
+        ensures { result ≡ has_key self.now.given.items keys.IndexZones && not self.now.strip }
     {
         self.has(Key::IndexZones) && !self.strip
     }
 
     /// Whether it lacks a type, a path or a field.
     fn lacks_key(&self) -> bool
-        ensures { result ≡ not (has_key self.now.given.items Type) || not (is_some self.now.path) || (length self.now.fields.items == 0) }
+        ensures { result ≡ not (has_key self.now.given.items keys.Type) || not (is_some self.now.path) || (length self.now.fields.items == 0) }
     {
         !self.has(Key::Type) || self.path.is_none() || self.fields.is_empty()
     }
