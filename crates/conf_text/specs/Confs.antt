@@ -16,7 +16,7 @@ use Rattle.conf_text.specs.declared.fault.ConfKind.TheVariants as kinds
 use Rattle.conf_text.specs.declared.keys.Key.TheVariants as keys
 use Rattle.conf_text.specs.Faults.{is_outside, is_on, IsFaultAt, AreGood}
 use Rattle.conf_text.specs.Lines.{Line, lines_of, content}
-use Rattle.conf_text.specs.Sections.{place_in, IndexText, indexes_in, given, fields_in, attrs_in}
+use Rattle.conf_text.specs.Sections.{place_in, IndexText, indexes_in, spot_in, given, fields_in, attrs_in}
 use Rattle.conf_text.specs.Shapes.{Shape, shape_of}
 use Rattle.conf_text.specs.Values.{zones_in}
 
@@ -54,7 +54,7 @@ pub record IsFirstFault (lines : List Line) (fault : ConfFault) : Type 0 where
   pub are : lines ≡ before ++ line ∷ after
   pub good : AreGood (shapes_back before)
   pub at : fault.line ≡ line.number
-  pub kind : IsFaultAt fault.kind (shapes_back before) (shape line) (is_last after)
+  pub kind : IsFaultAt fault.kind (spot_in (shapes_back before)) (shape line) (is_last after)
 
 -- the lines of a text that may be a configuration: it isn't too long, and each is UTF-8
 pub record AreLinesOf (text : List ℕ) (lines : List Line) : Type 0 where

@@ -1,4 +1,4 @@
--- What is wrong with a line: the kinds of faults, each by the line and those before it, which are given from the last one on.
+-- What is wrong with a line: the kinds of faults, each by the line and what stands before it.
 use Rattle.std.specs.Prelude.{◌≡◌, ℕ, List, [], ◌∷◌, ◌++◌, Bool, true, false, ◌==◌, ◌&&◌, ◌||◌, not, nat_lt, nat_le, Option, Some, None, is_some, codes, length, map}
 use Rattle.std.specs.List.{list_any}
 use Rattle.std.specs.Str.{bytes_eq}
@@ -8,7 +8,7 @@ use Rattle.conf_text.specs.declared.fault.ConfKind.{ConfKind}
 use Rattle.conf_text.specs.declared.fault.ConfKind.TheVariants as kinds
 use Rattle.conf_text.specs.declared.keys.Key.{Key}
 use Rattle.conf_text.specs.declared.keys.Key.TheVariants as keys
-use Rattle.conf_text.specs.Sections.{index, Place, outside, headed, inside, place_in, Entry, entries_in, IndexText, indexes_in, given, fields_in, attrs_in}
+use Rattle.conf_text.specs.Sections.{index, Place, outside, headed, inside, place_behind, Entry, IndexText, Spot, spot_in, given, fields_in, attrs_in}
 use Rattle.conf_text.specs.Shapes.{Shape, blank, index_head, other_head, unknown_head, opening, closing, entry, small}
 use Rattle.conf_text.specs.Values.{IsValue, zones_in}
 
@@ -32,8 +32,8 @@ is_outside (headed section) = false
 is_outside (inside section) = false
 
 -- the line is misplaced, or it is the last one and a section is left open
-abbrev pub is_syntax : List Shape → Shape → Bool → Bool
-is_syntax before line last = not (fits (place_in before) line) || (last && not (is_outside (place_in (line ∷ before))))
+abbrev pub is_syntax : Place → Shape → Bool → Bool
+is_syntax place line last = not (fits place line) || (last && not (is_outside (place_behind place line)))
 
 -- a name stands among others
 abbrev pub is_among : List ℕ → List (List ℕ) → Bool
@@ -128,10 +128,10 @@ StandsAt kind indexes entries (inside (index name)) (entry (Some key) value) = S
 StandsAt kind indexes entries (inside (index name)) closing = StandsAtEnd kind entries
 StandsAt _ _ _ _ _ = ⊥
 
--- A fault of this kind stands at a line, behind these lines; the line may be the last one.
-abbrev pub Stands : ConfKind → List Shape → Shape → Bool → Type 0
-Stands kinds.Syntax before line last = is_syntax before line last ≡ true
-Stands kind before line last = StandsAt kind (indexes_in before) (entries_in before) (place_in before) line
+-- A fault of this kind stands at a line, which may be the last one.
+abbrev pub Stands : ConfKind → Spot → Shape → Bool → Type 0
+Stands kinds.Syntax spot line last = is_syntax spot.place line last ≡ true
+Stands kind spot line last = StandsAt kind spot.indexes spot.entries spot.place line
 
 -- The kinds that are looked for before this one.
 abbrev pub kinds_before : ConfKind → List ConfKind
@@ -145,20 +145,20 @@ kinds_before kinds.Missing = kinds.Repeated ∷ kinds.BadValue ∷ kinds.Unknown
 kinds_before kinds.Limit = kinds.Missing ∷ kinds.Repeated ∷ kinds.BadValue ∷ kinds.UnknownKey ∷ kinds.UnknownSection ∷ kinds.Syntax ∷ kinds.NotText ∷ []
 
 -- None of these kinds stands at a line.
-abbrev pub NoneStands : List ConfKind → List Shape → Shape → Bool → Type 0
-NoneStands [] before line last = Unit {0}
-NoneStands (kind ∷ kinds) before line last = ¬ (Stands kind before line last) × NoneStands kinds before line last
+abbrev pub NoneStands : List ConfKind → Spot → Shape → Bool → Type 0
+NoneStands [] spot line last = Unit {0}
+NoneStands (kind ∷ kinds) spot line last = ¬ (Stands kind spot line last) × NoneStands kinds spot line last
 
 -- The fault of a line is of this kind: no kind that is looked for before it stands there.
-pub record IsFaultAt (kind : ConfKind) (before : List Shape) (line : Shape) (last : Bool) : Type 0 where
-  pub stands : Stands kind before line last
-  pub first : NoneStands (kinds_before kind) before line last
+pub record IsFaultAt (kind : ConfKind) (spot : Spot) (line : Shape) (last : Bool) : Type 0 where
+  pub stands : Stands kind spot line last
+  pub first : NoneStands (kinds_before kind) spot line last
 
 -- No fault stands at a line.
-abbrev pub IsGoodAt : List Shape → Shape → Bool → Type 0
-IsGoodAt before line last = NoneStands (kinds.Limit ∷ kinds_before kinds.Limit) before line last
+abbrev pub IsGoodAt : Spot → Shape → Bool → Type 0
+IsGoodAt spot line last = NoneStands (kinds.Limit ∷ kinds_before kinds.Limit) spot line last
 
--- No fault stands at any of these lines, which others follow.
+-- No fault stands at any of these lines, which others follow. They are given from the last one on.
 abbrev pub AreGood : List Shape → Type 0
 AreGood [] = Unit {0}
-AreGood (line ∷ before) = IsGoodAt before line false × AreGood before
+AreGood (line ∷ before) = IsGoodAt (spot_in before) line false × AreGood before

@@ -10,3 +10,4 @@ pub mod Shaping
 pub mod Reading
 pub mod Settings
 pub mod Drafts
+pub mod Taking

@@ -29,17 +29,21 @@ behind_opening outside = outside
 behind_opening (headed section) = inside section
 behind_opening (inside section) = inside section
 
+-- where the line behind a line stands
+abbrev pub place_behind : Place → Shape → Place
+place_behind place blank = place
+place_behind place (index_head name opens) = behind_head (index name) opens
+place_behind place (other_head opens) = behind_head other opens
+place_behind place unknown_head = place
+place_behind place opening = behind_opening place
+place_behind place closing = outside
+place_behind place (entry key value) = place
+place_behind place misformed = place
+
 -- where the line behind these lines stands
 abbrev pub place_in : List Shape → Place
 place_in [] = outside
-place_in (blank ∷ before) = place_in before
-place_in (index_head name opens ∷ before) = behind_head (index name) opens
-place_in (other_head opens ∷ before) = behind_head other opens
-place_in (unknown_head ∷ before) = place_in before
-place_in (opening ∷ before) = behind_opening (place_in before)
-place_in (closing ∷ before) = outside
-place_in (entry key value ∷ before) = place_in before
-place_in (misformed ∷ before) = place_in before
+place_in (line ∷ before) = place_behind (place_in before) line
 
 -- a key of an index, and its value
 pub record Entry : Type 0 where
@@ -51,17 +55,21 @@ abbrev pub entry_of : Option Key → List ℕ → List Entry
 entry_of None value = []
 entry_of (Some key) value = record { key = key; value = value } ∷ []
 
+-- the entries of a section with a line: a head begins a new one
+abbrev pub entries_behind : List Entry → Shape → List Entry
+entries_behind entries blank = entries
+entries_behind entries (index_head name opens) = []
+entries_behind entries (other_head opens) = []
+entries_behind entries unknown_head = entries
+entries_behind entries opening = entries
+entries_behind entries closing = entries
+entries_behind entries (entry key value) = entries ++ entry_of key value
+entries_behind entries misformed = entries
+
 -- the entries since the last head, in order
 abbrev pub entries_in : List Shape → List Entry
 entries_in [] = []
-entries_in (blank ∷ before) = entries_in before
-entries_in (index_head name opens ∷ before) = []
-entries_in (other_head opens ∷ before) = []
-entries_in (unknown_head ∷ before) = entries_in before
-entries_in (opening ∷ before) = entries_in before
-entries_in (closing ∷ before) = entries_in before
-entries_in (entry key value ∷ before) = entries_in before ++ entry_of key value
-entries_in (misformed ∷ before) = entries_in before
+entries_in (line ∷ before) = entries_behind (entries_in before) line
 
 -- an index as the text has it: its name in small letters, and its entries in order
 pub record IndexText : Type 0 where
@@ -75,17 +83,34 @@ ended (headed section) entries = []
 ended (inside (index name)) entries = record { name = name; entries = entries } ∷ []
 ended (inside other) entries = []
 
+-- the indexes with the one that a line ends
+abbrev pub indexes_behind : List IndexText → Place → List Entry → Shape → List IndexText
+indexes_behind indexes place entries blank = indexes
+indexes_behind indexes place entries (index_head name opens) = indexes
+indexes_behind indexes place entries (other_head opens) = indexes
+indexes_behind indexes place entries unknown_head = indexes
+indexes_behind indexes place entries opening = indexes
+indexes_behind indexes place entries closing = indexes ++ ended place entries
+indexes_behind indexes place entries (entry key value) = indexes
+indexes_behind indexes place entries misformed = indexes
+
 -- the indexes that these lines have whole, in order
 abbrev pub indexes_in : List Shape → List IndexText
 indexes_in [] = []
-indexes_in (blank ∷ before) = indexes_in before
-indexes_in (index_head name opens ∷ before) = indexes_in before
-indexes_in (other_head opens ∷ before) = indexes_in before
-indexes_in (unknown_head ∷ before) = indexes_in before
-indexes_in (opening ∷ before) = indexes_in before
-indexes_in (closing ∷ before) = indexes_in before ++ ended (place_in before) (entries_in before)
-indexes_in (entry key value ∷ before) = indexes_in before
-indexes_in (misformed ∷ before) = indexes_in before
+indexes_in (line ∷ before) = indexes_behind (indexes_in before) (place_in before) (entries_in before) line
+
+-- what stands before a line: the indexes that are whole, the entries since the last head, and the place of the line
+pub record Spot : Type 0 where
+  pub indexes : List IndexText
+  pub entries : List Entry
+  pub place : Place
+
+abbrev pub spot_at : List IndexText → List Entry → Place → Spot
+spot_at indexes entries place = record { indexes = indexes; entries = entries; place = place }
+
+-- what these lines are before the line behind them
+abbrev pub spot_in : List Shape → Spot
+spot_in before = spot_at (indexes_in before) (entries_in before) (place_in before)
 
 -- the value of the first entry with this key
 abbrev pub given : Key → List Entry → Option (List ℕ)

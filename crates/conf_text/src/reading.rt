@@ -1,9 +1,17 @@
-ghost use Rattle.std.specs.Prelude.{IfOk};
+ghost use Rattle.std.specs.Prelude.{◌≡◌, ◌<◌, ◌^◌, List, ℕ, IfOk, length, if◌then◌else◌};
+ghost use Rattle.conf_text.specs.declared.reading.Place.TheVariants.{Headed, Inside};
 ghost use Rattle.conf_text.specs.Confs.{IsSound, ReadsConf};
+ghost use Rattle.conf_text.specs.Drafts.{AreIndexes, IsDraft};
+ghost use Rattle.conf_text.specs.Faults.{fits, is_outside, is_syntax};
+ghost use Rattle.conf_text.specs.Sections.{Entry, IndexText, behind_opening, place_behind, spot_at};
+ghost use Rattle.conf_text.specs.Shapes.{small};
+ghost use Rattle.conf_text.specs.Shaping.{seen, value_length};
+ghost use Rattle.conf_text.specs.Taking.{Begins, Closes, Enters, EntersIndex, Leads, PlaceHas, TakesLine, place_of};
 
 use crate::conf::{Conf, IndexConf, MAX_CONF_BYTES, MAX_INDEXES};
 use crate::draft::{Draft, name_is_taken};
 use crate::fault::{ConfFault, ConfKind};
+use crate::keys::Key;
 use crate::lines::{Lines, content};
 use crate::shape::{Shape, shape_of};
 use crate::text::small_name;
@@ -97,54 +105,51 @@ fn take_line(
     place: Place,
     line: Shape<'_>,
     last: bool,
-) -> Result<Place, Or<ConfKind>> {
-    if !fitting(&place, &line) || (last && !ends_outside(&place, &line)) {
+) -> Result<Place, Or<ConfKind>>
+    requires { value_length (seen line) < 2 ^ 32 }
+    ensures { (texts : List IndexText) (entries : List Entry) → AreIndexes texts indexes.old.items → PlaceHas entries place
+        → TakesLine (spot_at texts entries (place_of place)) (seen line.entry) last indexes.new.items result }
+{
+    if misplaced(&place, &line, last) {
         return Err(Or::Fault(ConfKind::Syntax));
     }
-    match (place, line) {
-        (place, Shape::Blank) => Ok(place),
-        (Place::Outside, Shape::IndexHead(name, opens)) => {
-            let draft = start_index(alloc, indexes.as_slice(), name)?;
-            Ok(behind_head(Section::Index(draft), opens))
-        }
-        (Place::Outside, Shape::OtherHead(opens)) => Ok(behind_head(Section::Other, opens)),
-        (Place::Headed(section), Shape::Opening) => Ok(Place::Inside(section)),
-        (Place::Inside(Section::Other), Shape::Entry(..)) => Ok(Place::Inside(Section::Other)),
-        (Place::Inside(Section::Other), Shape::Closing) => Ok(Place::Outside),
-        (Place::Inside(Section::Index(draft)), Shape::Entry(key, value)) => {
-            let draft = take_entry(alloc, indexes.as_slice(), draft, key, value)?;
-            Ok(Place::Inside(Section::Index(draft)))
-        }
-        (Place::Inside(Section::Index(draft)), Shape::Closing) => {
-            indexes.push(draft.end(alloc)?)?;
-            Ok(Place::Outside)
-        }
-        _ => Err(Or::Fault(ConfKind::UnknownSection)),
+    match line {
+        Shape::Blank => Ok(place),
+        Shape::IndexHead(name, opens) => start_index(alloc, indexes.as_slice(), name, opens),
+        Shape::OtherHead(opens) => Ok(behind_head(Section::Other, opens)),
+        Shape::UnknownHead => Err(Or::Fault(ConfKind::UnknownSection)),
+        Shape::Opening => Ok(behind_opening(place)),
+        Shape::Closing => close_section(alloc, indexes, place),
+        Shape::Entry(key, value) => take_entry(alloc, indexes.as_slice(), place, key, value),
+        Shape::Misformed => Err(Or::Fault(ConfKind::Syntax)),
     }
 }
 
-/// The place behind a head.
-fn behind_head(section: Section, opens: bool) -> Place {
-    if opens {
-        Place::Inside(section)
-    } else {
-        Place::Headed(section)
-    }
+/// Whether the grammar can't have a line at the place, or it is the last one and leaves a section open.
+fn misplaced(place: &Place, line: &Shape<'_>, last: bool) -> bool
+    ensures { result ≡ is_syntax (place_of place.now) (seen line.now) last }
+{
+    !fitting(place, line) || (last && !ends_outside(place, line))
 }
 
 /// Whether the grammar can have a line of this shape at the place.
-fn fitting(place: &Place, line: &Shape<'_>) -> bool {
-    match (place, line) {
-        (_, Shape::Blank) => true,
-        (Place::Outside, Shape::IndexHead(..) | Shape::OtherHead(_) | Shape::UnknownHead) => true,
-        (Place::Headed(_), Shape::Opening) => true,
-        (Place::Inside(_), Shape::Entry(..) | Shape::Closing) => true,
-        _ => false,
+fn fitting(place: &Place, line: &Shape<'_>) -> bool
+    ensures { result ≡ fits (place_of place.now) (seen line.now) }
+{
+    match place {
+        Place::Outside => matches!(
+            line,
+            Shape::Blank | Shape::IndexHead(..) | Shape::OtherHead(_) | Shape::UnknownHead
+        ),
+        Place::Headed(_) => matches!(line, Shape::Blank | Shape::Opening),
+        Place::Inside(_) => matches!(line, Shape::Blank | Shape::Entry(..) | Shape::Closing),
     }
 }
 
 /// Whether the line behind this one stands outside of sections.
-fn ends_outside(place: &Place, line: &Shape<'_>) -> bool {
+fn ends_outside(place: &Place, line: &Shape<'_>) -> bool
+    ensures { result ≡ is_outside (place_behind (place_of place.now) (seen line.now)) }
+{
     match line {
         Shape::IndexHead(..) | Shape::OtherHead(_) => false,
         Shape::Closing => true,
@@ -152,26 +157,82 @@ fn ends_outside(place: &Place, line: &Shape<'_>) -> bool {
     }
 }
 
-/// An index behind its head.
-fn start_index(alloc: Global, indexes: &[IndexConf], name: &[u8]) -> Result<Draft, Or<ConfKind>> {
-    let small = small_name(alloc, name)?;
-    if name_is_taken(indexes, small.as_bytes()) {
-        return Err(Or::Fault(ConfKind::Repeated));
+/// The place behind a head.
+fn behind_head(section: Section, opens: bool) -> Place
+    ensures { result ≡ (if opens then Inside section else Headed section) }
+{
+    if opens {
+        Place::Inside(section)
+    } else {
+        Place::Headed(section)
     }
-    if long(name) || indexes.len() >= MAX_INDEXES {
-        return Err(Or::Fault(ConfKind::Limit));
-    }
-    Ok(Draft::of(alloc, small))
 }
 
-/// An index with one more entry.
+/// The place behind `{`.
+fn behind_opening(place: Place) -> Place
+    ensures { (entries : List Entry) → PlaceHas entries place → Leads (behind_opening (place_of place)) entries result }
+{
+    match place {
+        Place::Outside => Place::Outside,
+        Place::Headed(section) => Place::Inside(section),
+        Place::Inside(section) => Place::Inside(section),
+    }
+}
+
+/// Begins an index.
+fn start_index(
+    alloc: Global,
+    indexes: &[IndexConf],
+    name: &[u8],
+    opens: bool,
+) -> Result<Place, Or<ConfKind>>
+    ensures { (texts : List IndexText) → AreIndexes texts indexes.now → Begins texts (small name.now) opens result }
+{
+    let name = small_name(alloc, name)?;
+    if name_is_taken(indexes, name.as_bytes()) {
+        return Err(Or::Fault(ConfKind::Repeated));
+    }
+    if long(name.as_bytes()) || indexes.len() >= MAX_INDEXES {
+        return Err(Or::Fault(ConfKind::Limit));
+    }
+    Ok(behind_head(Section::Index(Draft::of(alloc, name)), opens))
+}
+
+/// Takes an entry of a section.
 fn take_entry(
     alloc: Global,
     indexes: &[IndexConf],
-    draft: Draft,
-    key: Option<crate::keys::Key>,
+    place: Place,
+    key: Option<Key>,
     value: &[u8],
-) -> Result<Draft, Or<ConfKind>> {
+) -> Result<Place, Or<ConfKind>>
+    requires { length value.now < 2 ^ 32 }
+    ensures { (texts : List IndexText) (entries : List Entry) → AreIndexes texts indexes.now → PlaceHas entries place
+        → Enters texts entries (place_of place) key value.now result }
+{
+    match place {
+        Place::Inside(Section::Index(draft)) => {
+            let draft = take_index_entry(alloc, indexes, draft, key, value)?;
+            Ok(Place::Inside(Section::Index(draft)))
+        }
+        Place::Inside(Section::Other) => Ok(Place::Inside(Section::Other)),
+        Place::Headed(section) => Ok(Place::Headed(section)),
+        Place::Outside => Ok(Place::Outside),
+    }
+}
+
+/// An index with one more entry.
+fn take_index_entry(
+    alloc: Global,
+    indexes: &[IndexConf],
+    draft: Draft,
+    key: Option<Key>,
+    value: &[u8],
+) -> Result<Draft, Or<ConfKind>>
+    requires { length value.now < 2 ^ 32 }
+    ensures { (texts : List IndexText) (entries : List Entry) → AreIndexes texts indexes.now → IsDraft draft.name entries draft
+        → EntersIndex texts entries draft.name key value.now result }
+{
     match key {
         None => Err(Or::Fault(ConfKind::UnknownKey)),
         Some(key) => {
@@ -179,5 +240,23 @@ fn take_entry(
             draft.take(alloc, indexes, key, value)?;
             Ok(draft)
         }
+    }
+}
+
+/// Ends a section.
+fn close_section(
+    alloc: Global,
+    indexes: &mut Vec<IndexConf>,
+    place: Place,
+) -> Result<Place, Or<ConfKind>>
+    ensures { (texts : List IndexText) (entries : List Entry) → AreIndexes texts indexes.old.items → PlaceHas entries place
+        → Closes texts entries (place_of place) indexes.new.items result }
+{
+    match place {
+        Place::Inside(Section::Index(draft)) => {
+            indexes.push(draft.end(alloc)?)?;
+            Ok(Place::Outside)
+        }
+        _ => Ok(Place::Outside),
     }
 }
