@@ -1,6 +1,6 @@
 -- What drafts have, by the entries that they took.
-use Rattle.std.proofs.Common.{◌≡◌, ℕ, true, false, List, map, length, refl, sym, ◌∙◌, ap}
-use Rattle.std.specs.Prelude.{Some, ◌||◌, nat_le, nat_lt}
+use Rattle.std.proofs.Common.{◌≡◌, ℕ, true, false, List, map, length, refl, sym, ◌∙◌, ap, subst}
+use Rattle.std.specs.Prelude.{Option, Some, None, ◌||◌, ◌&&◌, ◌==◌, not, nat_le, nat_lt, IsSome}
 use Rattle.std.specs.List.{list_any}
 use Rattle.std.specs.Option.{is_some}
 use Rattle.std.specs.Str.{bytes_eq}
@@ -13,8 +13,12 @@ use Rattle.conf_text.specs.declared.keys.Key.{Key}
 use Rattle.conf_text.specs.declared.keys.Key.TheVariants as keys
 use Rattle.conf_text.specs.declared.setting.Setting.{Setting}
 use Rattle.conf_text.specs.declared.setting.Setting.TheVariants as settings
-use Rattle.conf_text.specs.Drafts.{AreIndexes, IsDraft, exceeds, has_column, has_key, repeats}
-use Rattle.conf_text.specs.Faults.{has_path, is_among, is_column, is_long, is_repeated, passes_limit}
+use Rattle.charset_map.specs.declared.span.Span.{Span}
+use Rattle.charset_map.specs.Reading.{IsTableOf}
+use Rattle.charset_map.specs.Spans.{folded}
+use Rattle.conf_text.specs.Confs.{IsCharsetBy, IsIndexOf}
+use Rattle.conf_text.specs.Drafts.{AreIndexes, HasCharset, IsDraft, IsFinished, IsTableIn, exceeds, has_column, has_key, repeats}
+use Rattle.conf_text.specs.Faults.{has_path, is_among, is_column, is_long, is_repeated, lacks_key, lacks_strip, passes_limit}
 use Rattle.conf_text.specs.Keys.{attr_kind}
 use Rattle.conf_text.specs.Sections.{Entry, IndexText, attrs_in, fields_in, given}
 use Rattle.conf_text.specs.Settings.{IsSetting, is_plain}
@@ -109,3 +113,35 @@ exceeds_is name entries draft key value (settings.Strip on) is sets = ap (λ k. 
 exceeds_is name entries draft key value (settings.Sp on) is sets = ap (λ k. passes_limit entries k value) (sym sets.0)
 exceeds_is name entries draft key value (settings.Zones zones) is sets =
     ap (λ (zs : List (List ℕ)). list_any is_long zs || nat_lt MAX_ZONES (length zs)) sets.1 ∙ ap (λ k. passes_limit entries k value) (sym sets.0)
+
+-- what a draft lacks
+pub strip_lacks : (name : List ℕ) (entries : List Entry) (draft : Draft) → IsDraft name entries draft → (has_key draft.given.items keys.IndexZones && not draft.strip) ≡ lacks_strip entries
+strip_lacks name entries draft is =
+    ap (λ b. b && not draft.strip) (key_has name entries draft keys.IndexZones is) ∙ ap (λ s. is_some (given keys.IndexZones entries) && not s) is.strip
+
+pub key_lacks : (name : List ℕ) (entries : List Entry) (draft : Draft) → IsDraft name entries draft → (not (has_key draft.given.items keys.Type) || not (is_some draft.path) || (length draft.fields.items == 0)) ≡ lacks_key entries
+key_lacks name entries draft is =
+    ap (λ b. not b || not (is_some draft.path) || (length draft.fields.items == 0)) (key_has name entries draft keys.Type is)
+    ∙ ap (λ (p : Option (List ℕ)). not (is_some (given keys.Type entries)) || not (is_some p) || (length draft.fields.items == 0)) is.path
+    ∙ ap (λ (fs : List (List ℕ)). not (is_some (given keys.Type entries)) || not (is_some (given keys.Path entries)) || (length fs == 0)) is.fields
+
+charset_by : (value : Option (List ℕ)) (own : Option (List Span)) (charset : List Span) → HasCharset value own → IsTableIn own charset → IsCharsetBy value charset
+charset_by None None charset has is = is
+charset_by None (Some own) charset has is = absurd has
+charset_by (Some value) None charset has is = absurd has
+charset_by (Some value) (Some own) charset has is = subst (λ (cs : List Span). IsTableOf value (folded cs)) (sym is) has
+
+-- what is made of a draft is the index of its entries
+pub finished : (name : List ℕ) (entries : List Entry) (draft : Draft) (made : IndexConf) → IsDraft name entries draft → IsFinished draft made → IsIndexOf (record { name = name; entries = entries }) made
+finished name entries draft made is done = record {
+  name = done.name ∙ is.named;
+  fields = done.fields ∙ is.fields;
+  attrs = done.attrs ∙ is.attrs;
+  zones = done.zones ∙ is.zones;
+  sp = done.sp ∙ is.sp;
+  charset = charset_by (given keys.CharsetTable entries) draft.charset made.charset is.charset done.charset;
+  strip = done.strip ∙ is.strip;
+  rules_zones = done.rules_zones;
+  rules_sp = done.rules_sp;
+  path = sym is.path ∙ done.path;
+}

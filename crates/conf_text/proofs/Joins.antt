@@ -45,6 +45,7 @@ pub record Joined (old now : Lines) (number : ℕ) (buffer : List ℕ) (utf8 : B
   pub some : 0 < length now.rest.now
   pub shorter : length now.rest.now ≤ length old.rest.now
   pub bounded : bound now ≤ bound old
+  pub size : length buffer + length now.rest.now ≤ length old.rest.now
 
 pub joined_none : (old : Lines) (buffer : List ℕ) → 0 < length old.rest.now → buffer ≡ [] → Joined old old old.number buffer true
 joined_none old buffer some empty = record {
@@ -57,6 +58,7 @@ joined_none old buffer some empty = record {
   some = some;
   shorter = omega arith;
   bounded = omega arith;
+  size = omega (arith, ap length empty);
 }
 
 all_front : {X : Type 0} (P : X → Type 0) (xs : List X) (y : X) → All P (xs ++ y ∷ []) → All P xs
@@ -96,6 +98,7 @@ joined_next old now number buffer utf8 new after head joined read goes =
       some = some;
       shorter = omega (arith, read.shorter, joined.shorter);
       bounded = omega (arith, read.shorter, read.number, joined.bounded);
+      size = omega (arith, read.size, joined.size);
     }
 
 -- a line, and those behind it
@@ -136,4 +139,5 @@ joined_end old now number buffer utf8 new after head joined read ends =
       no_text = some_no_text joined.front read.part utf8 head.utf8 joined.no_text read.no_text;
       shorter = omega (arith, read.shorter, joined.shorter);
       bounded = omega (arith, read.shorter, read.number, joined.bounded);
+      size = omega (arith, read.size, joined.size);
     }

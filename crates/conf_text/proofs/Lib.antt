@@ -8,3 +8,5 @@ pub mod ZoneLists
 pub mod Entries
 pub mod DraftLemmas
 pub mod Keeping
+pub mod Spots
+pub mod TakenLines

@@ -1,4 +1,4 @@
-ghost use Rattle.std.specs.Prelude.{◌≡◌, ◌==◌, ◌<◌, ◌+◌, ◌^◌, ◌∷◌, length, IfOk};
+ghost use Rattle.std.specs.Prelude.{◌≡◌, ◌==◌, ◌<◌, ◌≤◌, ◌+◌, ◌^◌, ◌∷◌, length, IfOk};
 ghost use Rattle.std.specs.Str.Lines.{lines, strip_carriage_return};
 ghost use Rattle.conf_text.specs.Lines.{begins_comment, content_of, is_joined, joined_parts, uncommented, unjoined};
 ghost use Rattle.conf_text.specs.Reading.{IsPartRead, ReadsLine, bound, left};
@@ -36,6 +36,7 @@ fn next_part(text: &[u8]) -> (&[u8], &[u8])
     requires { 0 < length text.now }
     ensures parts { lines text.now ≡ result.0.now ∷ lines result.1.now }
     ensures shorter { length result.1.now < length text.now }
+    ensures size { length result.0.now + length result.1.now ≤ length text.now }
 {
     let end = place_of(b'\n', text);
     if end == text.len() {
@@ -47,7 +48,8 @@ fn next_part(text: &[u8]) -> (&[u8], &[u8])
 
 /// A part without the CR that it ends with.
 fn without_return(part: &[u8]) -> &[u8]
-    ensures { result.now ≡ strip_carriage_return part.now }
+    ensures part { result.now ≡ strip_carriage_return part.now }
+    ensures size { length result.now ≤ length part.now }
 {
     let count = part.len();
     if count > 0 && part[count - 1] == b'\r' {
@@ -67,7 +69,8 @@ fn joins(part: &[u8]) -> bool
 
 /// A part without the backslash that it ends with.
 fn without_join(part: &[u8]) -> &[u8]
-    ensures { result.now ≡ unjoined part.now }
+    ensures part { result.now ≡ unjoined part.now }
+    ensures size { length result.now ≤ length part.now }
 {
     if joins(part) {
         part.split_at(part.len() - 1).0

@@ -1,8 +1,11 @@
-ghost use Rattle.std.specs.Prelude.{◌≡◌, ◌<◌, ◌^◌, List, ℕ, IfOk, length, if◌then◌else◌};
+ghost use Rattle.std.specs.Prelude.{◌≡◌, ◌||◌, nat_le, ◌<◌, ◌≤◌, ◌^◌, List, ℕ, IfOk, length, if◌then◌else◌};
 ghost use Rattle.conf_text.specs.declared.reading.Place.TheVariants.{Headed, Inside};
 ghost use Rattle.conf_text.specs.Confs.{IsSound, ReadsConf};
 ghost use Rattle.conf_text.specs.Drafts.{AreIndexes, IsDraft};
-ghost use Rattle.conf_text.specs.Faults.{fits, is_outside, is_syntax};
+ghost use Rattle.conf_text.specs.Faults.{fits, is_long, is_outside, is_syntax};
+ghost use Rattle.conf_text.specs.Lines.{lines_of};
+ghost use Rattle.conf_text.specs.Reading.{FindsBadLine, ReadsIndexes};
+ghost use Rattle.srch_base.specs.declared.faults.Or.TheVariants.{Fault};
 ghost use Rattle.conf_text.specs.Sections.{Entry, IndexText, behind_opening, place_behind, spot_at};
 ghost use Rattle.conf_text.specs.Shapes.{small};
 ghost use Rattle.conf_text.specs.Shaping.{seen, value_length};
@@ -50,19 +53,23 @@ pub fn read_conf(alloc: Global, text: &[u8]) -> Result<Conf, Or<ConfFault>>
             if indexes.is_empty() {
                 return Err(fault_at(1, ConfKind::Missing));
             }
-            Ok(Conf {
-                indexes: Items::new(indexes),
-            })
+            Ok(Conf { indexes })
         }
     }
 }
 
-fn fault_at(line: u32, kind: ConfKind) -> Or<ConfFault> {
+/// A fault of a line.
+fn fault_at(line: u32, kind: ConfKind) -> Or<ConfFault>
+    ensures { result ≡ Fault (record { line = line; kind = kind }) }
+{
     Or::Fault(ConfFault { line, kind })
 }
 
 /// The number of the first line that isn't UTF-8.
-fn first_bad_line(alloc: Global, text: &[u8]) -> Result<Option<u32>, NoMemory> {
+fn first_bad_line(alloc: Global, text: &[u8]) -> Result<Option<u32>, NoMemory>
+    requires { length text.now ≤ MAX_CONF_BYTES }
+    ensures { IfOk result (λ found. FindsBadLine (lines_of text.now) found) }
+{
     let mut lines = Lines::of(text);
     let mut buffer = Vec::new(alloc);
     'lines: loop {
@@ -78,14 +85,17 @@ fn first_bad_line(alloc: Global, text: &[u8]) -> Result<Option<u32>, NoMemory> {
 }
 
 /// The indexes of a text.
-fn read_indexes(alloc: Global, text: &[u8]) -> Result<Vec<IndexConf>, Or<ConfFault>> {
+fn read_indexes(alloc: Global, text: &[u8]) -> Result<Items<IndexConf>, Or<ConfFault>>
+    requires { length text.now ≤ MAX_CONF_BYTES }
+    ensures { ReadsIndexes (lines_of text.now) result }
+{
     let mut lines = Lines::of(text);
     let mut buffer = Vec::new(alloc);
     let mut indexes = Vec::new(alloc);
     let mut place = Place::Outside;
     'lines: loop {
         match lines.next_line(&mut buffer)? {
-            None => return Ok(indexes),
+            None => return Ok(Items::new(indexes)),
             Some(head) => {
                 let line = shape_of(content(buffer.as_slice()));
                 match take_line(alloc, &mut indexes, place, line, lines.is_empty()) {
@@ -179,6 +189,13 @@ fn behind_opening(place: Place) -> Place
     }
 }
 
+/// Whether the head of an index passes a limit.
+fn head_exceeds(indexes: &[IndexConf], name: &[u8]) -> bool
+    ensures { result ≡ is_long name.now || nat_le MAX_INDEXES (length indexes.now) }
+{
+    long(name) || indexes.len() >= MAX_INDEXES
+}
+
 /// Begins an index.
 fn start_index(
     alloc: Global,
@@ -192,7 +209,7 @@ fn start_index(
     if name_is_taken(indexes, name.as_bytes()) {
         return Err(Or::Fault(ConfKind::Repeated));
     }
-    if long(name.as_bytes()) || indexes.len() >= MAX_INDEXES {
+    if head_exceeds(indexes, name.as_bytes()) {
         return Err(Or::Fault(ConfKind::Limit));
     }
     Ok(behind_head(Section::Index(Draft::of(alloc, name)), opens))

@@ -21,7 +21,7 @@ returns-clause-parts c =
     let text = c.args.text.now in
     let within : place 10 text < length text = omega (arith, c.place_of-end.ensures, place_within 10 text, c.if-end-text.false) in
     let part : c.without_return.result.now ≡ strip_carriage_return (take (place 10 text) text) =
-    c.without_return.ensures ∙ ap strip_carriage_return (c.split_at-2.ensures.front ∙ ap (λ n. take n text) c.place_of-end.ensures) in
+    c.without_return.ensures.part ∙ ap strip_carriage_return (c.split_at-2.ensures.front ∙ ap (λ n. take n text) c.place_of-end.ensures) in
     let rest : c.split_at-3.result.1.now ≡ drop (place 10 text + 1) text =
     c.split_at-3.ensures.back ∙ ap (drop 1) c.split_at-2.ensures.back ∙ drop-drop 1 c.place_of-end.result text ∙ ap (λ n. drop (n + 1) text) c.place_of-end.ensures in
     first_line text within ∙ ap (λ (p : List ℕ). p ∷ lines (drop (place 10 text + 1) text)) (sym part)
