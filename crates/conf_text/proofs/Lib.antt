@@ -10,3 +10,5 @@ pub mod DraftLemmas
 pub mod Keeping
 pub mod Spots
 pub mod TakenLines
+pub mod Sizes
+pub mod LineRuns
