@@ -12,3 +12,6 @@ pub mod Spots
 pub mod TakenLines
 pub mod Sizes
 pub mod LineRuns
+pub mod Pairs
+pub mod Soundness
+pub mod SoundLines

@@ -31,7 +31,7 @@ unfolding content_of
 content_size text = omega (arith, trimmed_size (uncommented text), uncommented_size 32 text)
 
 -- what holds of both holds of either
-either_way : (P : Shape → Type 0) (test : Bool) (a b : Shape) → P a → P b → P (cond test a b)
+pub either_way : (P : Shape → Type 0) (test : Bool) (a b : Shape) → P a → P b → P (cond test a b)
 either_way P true a b first second = first
 either_way P false a b first second = second
 

@@ -48,13 +48,16 @@ pub fn read_conf(alloc: Global, text: &[u8]) -> Result<Conf, Or<ConfFault>>
     }
     match first_bad_line(alloc, text)? {
         Some(line) => Err(fault_at(line, ConfKind::NotText)),
-        None => {
-            let indexes = read_indexes(alloc, text)?;
-            if indexes.is_empty() {
-                return Err(fault_at(1, ConfKind::Missing));
+        None => match read_indexes(alloc, text) {
+            Err(Or::NoMemory) => Err(Or::NoMemory),
+            Err(Or::Fault(fault)) => Err(Or::Fault(fault)),
+            Ok(indexes) => {
+                if indexes.is_empty() {
+                    return Err(fault_at(1, ConfKind::Missing));
+                }
+                Ok(Conf { indexes })
             }
-            Ok(Conf { indexes })
-        }
+        },
     }
 }
 
