@@ -67,18 +67,18 @@ all_stay name entries e draft is other = record {
 
 draft_more : (name : List ℕ) (entries : List Entry) (e : Entry) (old mid : Draft) (after : Draft) → IsDraft name entries old → mid.name ≡ old.name → after.given.items ≡ old.given.items ++ e.key ∷ [] → mid.fields.items ≡ old.fields.items ++ cons_option (field_by e.key e.value) [] → mid.attrs.items ≡ old.attrs.items ++ cons_option (attr_by e.key e.value) [] → HasValues (entries ++ e ∷ []) mid → after ≡ record mid { given = after.given } → IsDraft name (entries ++ e ∷ []) after
 draft_more name entries e old mid after is named keys_are fields attrs values shape =
-  let made : IsDraft name (entries ++ e ∷ []) (record mid { given = after.given }) = record {
-  named = named ∙ is.named;
-  given_are = keys_are ∙ ap (λ ks. ks ++ e.key ∷ []) is.given_are ∙ sym (map_more (λ (x : Entry). x.key) entries e);
-  fields = fields ∙ ap (λ fs. fs ++ cons_option (field_by e.key e.value) []) is.fields ∙ sym (filter_map_more (λ (x : Entry). field_by x.key x.value) entries e);
-  attrs = attrs ∙ ap (λ all. all ++ cons_option (attr_by e.key e.value) []) is.attrs ∙ sym (filter_map_more (λ (x : Entry). attr_by x.key x.value) entries e);
-  path = values.path;
-  charset = values.charset;
-  zones = values.zones;
-  strip = values.strip;
-  sp = values.sp;
-} in
-  subst (λ (d : Draft). IsDraft name (entries ++ e ∷ []) d) (sym shape) made
+    let made : IsDraft name (entries ++ e ∷ []) (record mid { given = after.given }) = record {
+      named = named ∙ is.named;
+      given_are = keys_are ∙ ap (λ ks. ks ++ e.key ∷ []) is.given_are ∙ sym (map_more (λ (x : Entry). x.key) entries e);
+      fields = fields ∙ ap (λ fs. fs ++ cons_option (field_by e.key e.value) []) is.fields ∙ sym (filter_map_more (λ (x : Entry). field_by x.key x.value) entries e);
+      attrs = attrs ∙ ap (λ all. all ++ cons_option (attr_by e.key e.value) []) is.attrs ∙ sym (filter_map_more (λ (x : Entry). attr_by x.key x.value) entries e);
+      path = values.path;
+      charset = values.charset;
+      zones = values.zones;
+      strip = values.strip;
+      sp = values.sp;
+    } in
+    subst (λ (d : Draft). IsDraft name (entries ++ e ∷ []) d) (sym shape) made
 
 plain_other : (key : Key) → is_plain key ≡ true → IsOther key
 plain_other keys.CharsetTable plain = absurd (true≢false (sym plain))

@@ -160,7 +160,7 @@ lines_more text old new buffer head indexes more place next line last read one s
     let before : List Shape = shapes_back read.before in
     let now : Line = one.line in
     let made : IsBehind (spot_in before) (shape now) last more next =
-        subst (λ (l : Shape). IsBehind (spot_in before) l last more next) shaped (subst (λ (s : Spot). IsBehind s line last more next) (spot_is text old indexes place read) behind) in
+    subst (λ (l : Shape). IsBehind (spot_in before) l last more next) shaped (subst (λ (s : Spot). IsBehind s line last more next) (spot_is text old indexes place read) behind) in
     let shapes : shapes_back (read.before ++ now ∷ []) ≡ shape now ∷ before = shapes_more read.before now in
     record {
       before = read.before ++ now ∷ [];
@@ -180,7 +180,7 @@ lines_fault text old new buffer head indexes place line last kind read one shape
     let before : List Shape = shapes_back read.before in
     let now : Line = one.line in
     let made : IsFaultAt kind (spot_in before) (shape now) last =
-        subst (λ (l : Shape). IsFaultAt kind (spot_in before) l last) shaped (subst (λ (s : Spot). IsFaultAt kind s line last) (spot_is text old indexes place read) fault) in
+    subst (λ (l : Shape). IsFaultAt kind (spot_in before) l last) shaped (subst (λ (s : Spot). IsFaultAt kind s line last) (spot_is text old indexes place read) fault) in
     record {
       before = read.before;
       line = now;
@@ -195,6 +195,7 @@ lines_fault text old new buffer head indexes place line last kind read one shape
 pub lines_all : (text : List ℕ) (reader : Lines) (indexes : List IndexConf) (place : CodePlace) → LinesRead text reader indexes place → left reader ≡ [] → AreFaultless (lines_of text) × AreIndexes (indexes_in (shapes_back (lines_of text))) indexes
 lines_all text reader indexes place read end =
     let all : lines_of text ≡ read.before = read.are ∙ ap (λ ls. read.before ++ ls) end ∙ append-nil read.before in
-    let empty : length reader.rest.now ≡ 0 = eqb-true (length reader.rest.now) 0 (sym (left_none reader) ∙ ap is_last end) in
-    (subst AreFaultless (sym all) (record { good = read.good; ended = read.ends empty }),
-    subst (λ (ls : List Line). AreIndexes (indexes_in (shapes_back ls)) indexes) (sym all) read.indexes_are)
+    let empty : length reader.rest.now ≡ 0 = eqb-true (length reader.rest.now) 0 (sym (left_none reader) ∙ ap is_last end) in (
+      subst AreFaultless (sym all) (record { good = read.good; ended = read.ends empty }),
+      subst (λ (ls : List Line). AreIndexes (indexes_in (shapes_back ls)) indexes) (sym all) read.indexes_are,
+    )

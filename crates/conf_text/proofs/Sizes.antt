@@ -63,13 +63,13 @@ pub shape_size : (text : List ℕ) → value_length (shape_of text) ≤ length t
 unfolding shape_of
 shape_size text =
     let keyed : IsWithin (length text) (entry_shape (before_equals text) (behind_equals text)) =
-        either_way (IsWithin (length text)) (is_name (before_equals text)) (entry (key_named (small (before_equals text))) (behind_equals text)) misformed (behind_size text) (omega arith) in
+    either_way (IsWithin (length text)) (is_name (before_equals text)) (entry (key_named (small (before_equals text))) (behind_equals text)) misformed (behind_size text) (omega arith) in
     let headed : IsWithin (length text) (head_shape text) =
-        either_way (IsWithin (length text)) (opens_section text) (head_of (before_brace text) true) (head_of text false)
-        (head_within (length text) (first_word (before_brace text)) (behind_word (before_brace text)) true)
-        (head_within (length text) (first_word text) (behind_word text) false) in
+    either_way (IsWithin (length text)) (opens_section text) (head_of (before_brace text) true) (head_of text false)
+    (head_within (length text) (first_word (before_brace text)) (behind_word (before_brace text)) true)
+    (head_within (length text) (first_word text) (behind_word text) false) in
     let worded : IsWithin (length text) (words_shape text) =
-        either_way (IsWithin (length text)) (has_equals text) (entry_shape (before_equals text) (behind_equals text)) (head_shape text) keyed headed in
+    either_way (IsWithin (length text)) (has_equals text) (entry_shape (before_equals text) (behind_equals text)) (head_shape text) keyed headed in
     either_way (IsWithin (length text)) (length text == 0) blank (cond (bytes_eq text (codes "{")) opening (cond (bytes_eq text (codes "}")) closing (words_shape text))) (omega arith)
     (either_way (IsWithin (length text)) (bytes_eq text (codes "{")) opening (cond (bytes_eq text (codes "}")) closing (words_shape text)) (omega arith)
     (either_way (IsWithin (length text)) (bytes_eq text (codes "}")) closing (words_shape text) (omega arith) worded))

@@ -85,7 +85,7 @@ pub record NoFault (texts : List IndexText) (entries : List Entry) (key : Key) (
   pub within : ¬ (passes_limit entries key value ≡ true)
 
 -- a test that isn't true is false, and one that isn't not true is true
-is_false : (b : Bool) → ¬ (b ≡ true) → b ≡ false
+pub is_false : (b : Bool) → ¬ (b ≡ true) → b ≡ false
 is_false true other = absurd (other refl)
 is_false false other = refl
 

@@ -33,7 +33,7 @@ pub closes_index : (texts : List IndexText) (entries : List Entry) (place : Code
 closes_index texts entries place draft old new made is ends added are has =
     subst (λ (p : CodePlace). PlaceHas entries p → Closes texts entries (place_of p) new (Ok places.Outside)) (sym is)
     (λ is_draft. let end = ends draft.name entries is_draft in
-        (end.0, subst (AreIndexes (texts ++ record { name = draft.name; entries = entries } ∷ [])) (sym added) (zip_more IsIndexOf texts old (record { name = draft.name; entries = entries }) made are end.1), refl))
+    (end.0, subst (AreIndexes (texts ++ record { name = draft.name; entries = entries } ∷ [])) (sym added) (zip_more IsIndexOf texts old (record { name = draft.name; entries = entries }) made are end.1), refl))
     has
 
 -- `{` was taken

@@ -31,7 +31,7 @@ line_size text old new buffer said head line read within is shaped =
 pub returns-in-None : goal.returns-in-None
 returns-in-None c =
     let all = lines_all c.args.text.now c.lines.lines c.lines.indexes.items c.lines.place c.lines.invariant
-        (subst (λ (o : Option LineHead). ReadsLine c.lines.lines c.next_line.new.self c.next_line.new.buffer.items o) c.in-None.is c.in_ok-next_line.ensures) in
+    (subst (λ (o : Option LineHead). ReadsLine c.lines.lines c.next_line.new.self c.next_line.new.buffer.items o) c.in-None.is c.in_ok-next_line.ensures) in
     (all.0, subst (AreIndexes (indexes_in (shapes_back (lines_of c.args.text.now)))) (sym c.new.ensures) all.1)
 
 pub take_line-requires : goal.take_line-requires

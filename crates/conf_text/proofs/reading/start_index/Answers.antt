@@ -26,14 +26,16 @@ returns-then-name_is_taken c = λ texts are.
     taken_is texts c.args.indexes.now (small c.args.name.now) c.as_bytes.result.now c.name_is_taken.result true are (c.as_bytes.ensures ∙ c.in_ok-name.ensures) c.name_is_taken.ensures c.if-name_is_taken.true
 
 pub returns-then-head_exceeds : goal.returns-then-head_exceeds
-returns-then-head_exceeds c = λ texts are.
-    (taken_is texts c.args.indexes.now (small c.args.name.now) c.as_bytes.result.now c.name_is_taken.result false are (c.as_bytes.ensures ∙ c.in_ok-name.ensures) c.name_is_taken.ensures c.if-name_is_taken.false,
-    exceeds_is texts c.args.indexes.now (small c.args.name.now) c.as_bytes-2.result.now c.head_exceeds.result true are (c.as_bytes-2.ensures ∙ c.in_ok-name.ensures) c.head_exceeds.ensures c.if-head_exceeds.true)
+returns-then-head_exceeds c = λ texts are. (
+  taken_is texts c.args.indexes.now (small c.args.name.now) c.as_bytes.result.now c.name_is_taken.result false are (c.as_bytes.ensures ∙ c.in_ok-name.ensures) c.name_is_taken.ensures c.if-name_is_taken.false,
+  exceeds_is texts c.args.indexes.now (small c.args.name.now) c.as_bytes-2.result.now c.head_exceeds.result true are (c.as_bytes-2.ensures ∙ c.in_ok-name.ensures) c.head_exceeds.ensures c.if-head_exceeds.true,
+)
 
 pub returns : goal.returns
-returns c = λ texts are.
-    (record {
-      new = taken_is texts c.args.indexes.now (small c.args.name.now) c.as_bytes.result.now c.name_is_taken.result false are (c.as_bytes.ensures ∙ c.in_ok-name.ensures) c.name_is_taken.ensures c.if-name_is_taken.false;
-      within = exceeds_is texts c.args.indexes.now (small c.args.name.now) c.as_bytes-2.result.now c.head_exceeds.result false are (c.as_bytes-2.ensures ∙ c.in_ok-name.ensures) c.head_exceeds.ensures c.if-head_exceeds.false;
-    },
-    begins_index (small c.args.name.now) c.of.result c.args.opens c.behind_head.result (subst (λ (n : List ℕ). IsDraft n [] c.of.result) c.in_ok-name.ensures c.of.ensures) c.behind_head.ensures)
+returns c = λ texts are. (
+  record {
+    new = taken_is texts c.args.indexes.now (small c.args.name.now) c.as_bytes.result.now c.name_is_taken.result false are (c.as_bytes.ensures ∙ c.in_ok-name.ensures) c.name_is_taken.ensures c.if-name_is_taken.false;
+    within = exceeds_is texts c.args.indexes.now (small c.args.name.now) c.as_bytes-2.result.now c.head_exceeds.result false are (c.as_bytes-2.ensures ∙ c.in_ok-name.ensures) c.head_exceeds.ensures c.if-head_exceeds.false;
+  },
+  begins_index (small c.args.name.now) c.of.result c.args.opens c.behind_head.result (subst (λ (n : List ℕ). IsDraft n [] c.of.result) c.in_ok-name.ensures c.of.ensures) c.behind_head.ensures,
+)
