@@ -17,4 +17,8 @@ pub use fault::{ConfFault, ConfKind};
 pub use reading::read_conf;
 
 #[cfg(test)]
+mod fault_tests;
+#[cfg(test)]
+mod samples;
+#[cfg(test)]
 mod tests;
