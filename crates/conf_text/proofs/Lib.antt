@@ -1,0 +1,17 @@
+pub mod Names
+pub mod Parts
+pub mod Comments
+pub mod Joins
+pub mod Flags
+pub mod Among
+pub mod ZoneLists
+pub mod Entries
+pub mod DraftLemmas
+pub mod Keeping
+pub mod Spots
+pub mod TakenLines
+pub mod Sizes
+pub mod LineRuns
+pub mod Pairs
+pub mod Soundness
+pub mod SoundLines

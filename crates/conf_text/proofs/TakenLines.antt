@@ -1,0 +1,86 @@
+-- Lines that were taken.
+use Rattle.std.proofs.Common.{◌≡◌, ℕ, Bool, true, false, List, [], ◌∷◌, ◌++◌, append-nil, refl, sym, ◌∙◌, ap, subst}
+use Rattle.std.specs.Prelude.{Option, Some, None, Result, Ok, Err}
+use Rattle.std.specs.List.{AllZip}
+use Rattle.std.proofs.lemmas.Bool.{true≢false}
+use Rattle.srch_base.specs.declared.faults.Or.{Or}
+use Rattle.srch_base.specs.declared.faults.Or.TheVariants as causes
+use Rattle.conf_text.specs.declared.conf.IndexConf.{IndexConf}
+use Rattle.conf_text.specs.declared.draft.Draft.{Draft}
+use Rattle.conf_text.specs.declared.fault.ConfKind.{ConfKind}
+use Rattle.conf_text.specs.declared.fault.ConfKind.TheVariants as kinds
+use Rattle.conf_text.specs.declared.keys.Key.{Key}
+use Rattle.conf_text.specs.declared.reading.Place.{Place as CodePlace}
+use Rattle.conf_text.specs.declared.reading.Place.TheVariants as places
+use Rattle.conf_text.specs.declared.reading.Section.TheVariants as sections
+use Rattle.conf_text.specs.Confs.{IsIndexOf}
+use Rattle.conf_text.specs.Drafts.{AreIndexes, EndsIndex, IsDraft}
+use Rattle.conf_text.specs.Faults.{IsFaultAt, is_syntax}
+use Rattle.conf_text.specs.Sections.{Entry, IndexText, Place, behind_opening, entries_behind, headed, index, inside, other, outside, spot_at}
+use Rattle.conf_text.specs.Shapes.{Shape, closing, entry, opening}
+use Rattle.conf_text.specs.Taking.{Closes, Enters, Leads, PlaceHas, TakesLine, place_of}
+use Rattle.conf_text.proofs.Spots.{faulty_end, faulty_entry, good_closing, good_entry, good_opening, good_other_closing, good_other_entry, unknown_entry}
+
+-- two lists side by side, with one more
+zip_more : {A B : Type 0} (R : A → B → Type 0) (xs : List A) (ys : List B) (x : A) (y : B) → AllZip R xs ys → R x y → AllZip R (xs ++ x ∷ []) (ys ++ y ∷ [])
+zip_more R [] [] x y all is = (is, tt)
+zip_more R [] (b ∷ ys) x y all is = absurd all
+zip_more R (a ∷ xs) [] x y all is = absurd all
+zip_more R (a ∷ xs) (b ∷ ys) x y all is = (all.0, zip_more R xs ys x y all.1 is)
+
+-- an index that ended
+pub closes_index : (texts : List IndexText) (entries : List Entry) (place : CodePlace) (draft : Draft) (old new : List IndexConf) (made : IndexConf) → place ≡ places.Inside (sections.Index draft) → ((name : List ℕ) (es : List Entry) → IsDraft name es draft → EndsIndex name es (Ok made)) → new ≡ old ++ made ∷ [] → AreIndexes texts old → PlaceHas entries place → Closes texts entries (place_of place) new (Ok places.Outside)
+closes_index texts entries place draft old new made is ends added are has =
+    subst (λ (p : CodePlace). PlaceHas entries p → Closes texts entries (place_of p) new (Ok places.Outside)) (sym is)
+    (λ is_draft. let end = ends draft.name entries is_draft in
+    (end.0, subst (AreIndexes (texts ++ record { name = draft.name; entries = entries } ∷ [])) (sym added) (zip_more IsIndexOf texts old (record { name = draft.name; entries = entries }) made are end.1), refl))
+    has
+
+-- `{` was taken
+pub opened : (texts : List IndexText) (entries : List Entry) (place : Place) (last : Bool) (old : List IndexConf) (next : CodePlace) → is_syntax place opening last ≡ false → AreIndexes texts old → Leads (behind_opening place) entries next → TakesLine (spot_at texts entries place) opening last old (Ok next)
+opened texts entries place last old next fine are leads = record { good = good_opening (spot_at texts entries place) last fine; indexes = are; leads = leads }
+
+-- `}` was taken
+pub closed : (texts : List IndexText) (entries : List Entry) (place : Place) (last : Bool) (new : List IndexConf) (result : Result CodePlace (Or ConfKind)) → is_syntax place closing last ≡ false → Closes texts entries place new result → TakesLine (spot_at texts entries place) closing last new result
+closed texts entries outside last new result fine closes = absurd (true≢false fine)
+closed texts entries (headed section) last new result fine closes = absurd (true≢false fine)
+closed texts entries (inside (index name)) last new (Ok next) fine closes = record {
+  good = good_closing texts entries name last fine closes.0;
+  indexes = closes.1;
+  leads = record { place_is = ap place_of closes.2; has = subst (PlaceHas entries) (sym closes.2) tt };
+}
+closed texts entries (inside (index name)) last new (Err causes.NoMemory) fine closes = tt
+closed texts entries (inside (index name)) last new (Err (causes.Fault kind)) fine closes = faulty_end texts entries name last kind fine closes
+closed texts entries (inside other) last new (Ok next) fine closes = record {
+  good = good_other_closing texts entries last fine;
+  indexes = subst (λ (ts : List IndexText). AreIndexes ts new) (sym (append-nil texts)) closes.0;
+  leads = record { place_is = ap place_of closes.1; has = subst (PlaceHas entries) (sym closes.1) tt };
+}
+closed texts entries (inside other) last new (Err causes.NoMemory) fine closes = tt
+closed texts entries (inside other) last new (Err (causes.Fault kind)) fine closes = absurd closes
+
+unknown_key : (texts : List IndexText) (entries : List Entry) (name value : List ℕ) (last : Bool) (kind : ConfKind) → is_syntax (inside (index name)) (entry None value) last ≡ false → kind ≡ kinds.UnknownKey → IsFaultAt kind (spot_at texts entries (inside (index name))) (entry None value) last
+unknown_key texts entries name value last kind fine is =
+    subst (λ (k : ConfKind). IsFaultAt k (spot_at texts entries (inside (index name))) (entry None value) last) (sym is) (unknown_entry texts entries name value last fine)
+
+-- an entry was taken
+pub entered : (texts : List IndexText) (entries : List Entry) (place : Place) (key : Option Key) (value : List ℕ) (last : Bool) (old : List IndexConf) (result : Result CodePlace (Or ConfKind)) → is_syntax place (entry key value) last ≡ false → AreIndexes texts old → Enters texts entries place key value result → TakesLine (spot_at texts entries place) (entry key value) last old result
+entered texts entries outside key value last old result fine are enters = absurd (true≢false fine)
+entered texts entries (headed section) key value last old result fine are enters = absurd (true≢false fine)
+entered texts entries (inside (index name)) None value last old (Ok next) fine are enters = absurd enters
+entered texts entries (inside (index name)) None value last old (Err causes.NoMemory) fine are enters = tt
+entered texts entries (inside (index name)) None value last old (Err (causes.Fault kind)) fine are enters = unknown_key texts entries name value last kind fine enters
+entered texts entries (inside (index name)) (Some key) value last old (Ok next) fine are enters = record {
+  good = good_entry texts entries name key value last fine enters.0;
+  indexes = are;
+  leads = enters.1;
+}
+entered texts entries (inside (index name)) (Some key) value last old (Err causes.NoMemory) fine are enters = tt
+entered texts entries (inside (index name)) (Some key) value last old (Err (causes.Fault kind)) fine are enters = faulty_entry texts entries name key value last kind fine enters
+entered texts entries (inside other) key value last old (Ok next) fine are enters = record {
+  good = good_other_entry texts entries key value last fine;
+  indexes = are;
+  leads = record { place_is = ap place_of enters; has = subst (PlaceHas (entries_behind entries (entry key value))) (sym enters) tt };
+}
+entered texts entries (inside other) key value last old (Err causes.NoMemory) fine are enters = tt
+entered texts entries (inside other) key value last old (Err (causes.Fault kind)) fine are enters = absurd enters

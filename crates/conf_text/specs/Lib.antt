@@ -1,0 +1,13 @@
+pub mod FaultTexts
+pub mod Keys
+pub mod Lines
+pub mod Shapes
+pub mod Sections
+pub mod Values
+pub mod Faults
+pub mod Confs
+pub mod Shaping
+pub mod Reading
+pub mod Settings
+pub mod Drafts
+pub mod Taking

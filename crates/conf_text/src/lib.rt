@@ -1,0 +1,24 @@
+//! The configuration: its lines, its sections, and the indexes that it describes.
+#![tactic(auto)]
+
+mod conf;
+mod draft;
+mod fault;
+mod keys;
+mod lines;
+mod reading;
+mod setting;
+mod shape;
+mod text;
+mod zones;
+
+pub use conf::{Conf, IndexConf, MAX_CONF_BYTES, MAX_INDEXES};
+pub use fault::{ConfFault, ConfKind};
+pub use reading::read_conf;
+
+#[cfg(test)]
+mod fault_tests;
+#[cfg(test)]
+mod samples;
+#[cfg(test)]
+mod tests;

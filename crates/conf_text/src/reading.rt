@@ -1,0 +1,282 @@
+ghost use Rattle.std.specs.Prelude.{◌≡◌, ◌||◌, nat_le, ◌<◌, ◌≤◌, ◌^◌, List, ℕ, IfOk, length, if◌then◌else◌};
+ghost use Rattle.conf_text.specs.declared.reading.Place.TheVariants.{Headed, Inside};
+ghost use Rattle.conf_text.specs.Confs.{IsSound, ReadsConf};
+ghost use Rattle.conf_text.specs.Drafts.{AreIndexes, IsDraft};
+ghost use Rattle.conf_text.specs.Faults.{fits, is_long, is_outside, is_syntax};
+ghost use Rattle.conf_text.specs.Lines.{lines_of};
+ghost use Rattle.conf_text.specs.Reading.{FindsBadLine, ReadsIndexes};
+ghost use Rattle.srch_base.specs.declared.faults.Or.TheVariants.{Fault};
+ghost use Rattle.conf_text.specs.Sections.{Entry, IndexText, behind_opening, place_behind, spot_at};
+ghost use Rattle.conf_text.specs.Shapes.{small};
+ghost use Rattle.conf_text.specs.Shaping.{seen, value_length};
+ghost use Rattle.conf_text.specs.Taking.{Begins, Closes, Enters, EntersIndex, Leads, PlaceHas, TakesLine, place_of};
+
+use crate::conf::{Conf, IndexConf, MAX_CONF_BYTES, MAX_INDEXES};
+use crate::draft::{Draft, name_is_taken};
+use crate::fault::{ConfFault, ConfKind};
+use crate::keys::Key;
+use crate::lines::{Lines, content};
+use crate::shape::{Shape, shape_of};
+use crate::text::small_name;
+use crate::zones::long;
+use srch_base::{Items, NoMemory, Or};
+use std::alloc::Global;
+
+/// A section: an index with what it has so far, or another one.
+#[derive(Debug, Drop)]
+enum Section {
+    Index(Draft),
+    Other,
+}
+
+/// Where a line stands.
+#[derive(Debug, Drop)]
+enum Place {
+    Outside,
+    /// Behind the head of a section, before its `{`.
+    Headed(Section),
+    Inside(Section),
+}
+
+/// The configuration that a text is, or its first fault.
+pub fn read_conf(alloc: Global, text: &[u8]) -> Result<Conf, Or<ConfFault>>
+    ensures reads { ReadsConf text.now result }
+    ensures sound { IfOk result IsSound }
+{
+    if text.len() > MAX_CONF_BYTES {
+        return Err(fault_at(1, ConfKind::Limit));
+    }
+    match first_bad_line(alloc, text)? {
+        Some(line) => Err(fault_at(line, ConfKind::NotText)),
+        None => match read_indexes(alloc, text) {
+            Err(Or::NoMemory) => Err(Or::NoMemory),
+            Err(Or::Fault(fault)) => Err(Or::Fault(fault)),
+            Ok(indexes) => {
+                if indexes.is_empty() {
+                    return Err(fault_at(1, ConfKind::Missing));
+                }
+                Ok(Conf { indexes })
+            }
+        },
+    }
+}
+
+/// A fault of a line.
+fn fault_at(line: u32, kind: ConfKind) -> Or<ConfFault>
+    ensures { result ≡ Fault (record { line = line; kind = kind }) }
+{
+    Or::Fault(ConfFault { line, kind })
+}
+
+/// The number of the first line that isn't UTF-8.
+fn first_bad_line(alloc: Global, text: &[u8]) -> Result<Option<u32>, NoMemory>
+    requires { length text.now ≤ MAX_CONF_BYTES }
+    ensures { IfOk result (λ found. FindsBadLine (lines_of text.now) found) }
+{
+    let mut lines = Lines::of(text);
+    let mut buffer = Vec::new(alloc);
+    'lines: loop {
+        match lines.next_line(&mut buffer)? {
+            None => return Ok(None),
+            Some(head) => {
+                if !head.utf8 {
+                    return Ok(Some(head.number));
+                }
+            }
+        }
+    }
+}
+
+/// The indexes of a text.
+fn read_indexes(alloc: Global, text: &[u8]) -> Result<Items<IndexConf>, Or<ConfFault>>
+    requires { length text.now ≤ MAX_CONF_BYTES }
+    ensures { ReadsIndexes (lines_of text.now) result }
+{
+    let mut lines = Lines::of(text);
+    let mut buffer = Vec::new(alloc);
+    let mut indexes = Vec::new(alloc);
+    let mut place = Place::Outside;
+    'lines: loop {
+        match lines.next_line(&mut buffer)? {
+            None => return Ok(Items::new(indexes)),
+            Some(head) => {
+                let line = shape_of(content(buffer.as_slice()));
+                match take_line(alloc, &mut indexes, place, line, lines.is_empty()) {
+                    Ok(next) => place = next,
+                    Err(Or::NoMemory) => return Err(Or::NoMemory),
+                    Err(Or::Fault(kind)) => return Err(fault_at(head.number, kind)),
+                }
+            }
+        }
+    }
+}
+
+/// Takes a line, which may be the last one, and gives the place behind it.
+fn take_line(
+    alloc: Global,
+    indexes: &mut Vec<IndexConf>,
+    place: Place,
+    line: Shape<'_>,
+    last: bool,
+) -> Result<Place, Or<ConfKind>>
+    requires { value_length (seen line) < 2 ^ 32 }
+    ensures { (texts : List IndexText) (entries : List Entry) → AreIndexes texts indexes.old.items → PlaceHas entries place
+        → TakesLine (spot_at texts entries (place_of place)) (seen line.entry) last indexes.new.items result }
+{
+    if misplaced(&place, &line, last) {
+        return Err(Or::Fault(ConfKind::Syntax));
+    }
+    match line {
+        Shape::Blank => Ok(place),
+        Shape::IndexHead(name, opens) => start_index(alloc, indexes.as_slice(), name, opens),
+        Shape::OtherHead(opens) => Ok(behind_head(Section::Other, opens)),
+        Shape::UnknownHead => Err(Or::Fault(ConfKind::UnknownSection)),
+        Shape::Opening => Ok(behind_opening(place)),
+        Shape::Closing => close_section(alloc, indexes, place),
+        Shape::Entry(key, value) => take_entry(alloc, indexes.as_slice(), place, key, value),
+        Shape::Misformed => Err(Or::Fault(ConfKind::Syntax)),
+    }
+}
+
+/// Whether the grammar can't have a line at the place, or it is the last one and leaves a section open.
+fn misplaced(place: &Place, line: &Shape<'_>, last: bool) -> bool
+    ensures { result ≡ is_syntax (place_of place.now) (seen line.now) last }
+{
+    !fitting(place, line) || (last && !ends_outside(place, line))
+}
+
+/// Whether the grammar can have a line of this shape at the place.
+fn fitting(place: &Place, line: &Shape<'_>) -> bool
+    ensures { result ≡ fits (place_of place.now) (seen line.now) }
+{
+    match place {
+        Place::Outside => matches!(
+            line,
+            Shape::Blank | Shape::IndexHead(..) | Shape::OtherHead(_) | Shape::UnknownHead
+        ),
+        Place::Headed(_) => matches!(line, Shape::Blank | Shape::Opening),
+        Place::Inside(_) => matches!(line, Shape::Blank | Shape::Entry(..) | Shape::Closing),
+    }
+}
+
+/// Whether the line behind this one stands outside of sections.
+fn ends_outside(place: &Place, line: &Shape<'_>) -> bool
+    ensures { result ≡ is_outside (place_behind (place_of place.now) (seen line.now)) }
+{
+    match line {
+        Shape::IndexHead(..) | Shape::OtherHead(_) => false,
+        Shape::Closing => true,
+        _ => matches!(place, Place::Outside),
+    }
+}
+
+/// The place behind a head.
+fn behind_head(section: Section, opens: bool) -> Place
+    ensures { result ≡ (if opens then Inside section else Headed section) }
+{
+    if opens {
+        Place::Inside(section)
+    } else {
+        Place::Headed(section)
+    }
+}
+
+/// The place behind `{`.
+fn behind_opening(place: Place) -> Place
+    ensures { (entries : List Entry) → PlaceHas entries place → Leads (behind_opening (place_of place)) entries result }
+{
+    match place {
+        Place::Outside => Place::Outside,
+        Place::Headed(section) => Place::Inside(section),
+        Place::Inside(section) => Place::Inside(section),
+    }
+}
+
+/// Whether the head of an index passes a limit.
+fn head_exceeds(indexes: &[IndexConf], name: &[u8]) -> bool
+    ensures { result ≡ is_long name.now || nat_le MAX_INDEXES (length indexes.now) }
+{
+    long(name) || indexes.len() >= MAX_INDEXES
+}
+
+/// Begins an index.
+fn start_index(
+    alloc: Global,
+    indexes: &[IndexConf],
+    name: &[u8],
+    opens: bool,
+) -> Result<Place, Or<ConfKind>>
+    ensures { (texts : List IndexText) → AreIndexes texts indexes.now → Begins texts (small name.now) opens result }
+{
+    let name = small_name(alloc, name)?;
+    if name_is_taken(indexes, name.as_bytes()) {
+        return Err(Or::Fault(ConfKind::Repeated));
+    }
+    if head_exceeds(indexes, name.as_bytes()) {
+        return Err(Or::Fault(ConfKind::Limit));
+    }
+    Ok(behind_head(Section::Index(Draft::of(alloc, name)), opens))
+}
+
+/// Takes an entry of a section.
+fn take_entry(
+    alloc: Global,
+    indexes: &[IndexConf],
+    place: Place,
+    key: Option<Key>,
+    value: &[u8],
+) -> Result<Place, Or<ConfKind>>
+    requires { length value.now < 2 ^ 32 }
+    ensures { (texts : List IndexText) (entries : List Entry) → AreIndexes texts indexes.now → PlaceHas entries place
+        → Enters texts entries (place_of place) key value.now result }
+{
+    match place {
+        Place::Inside(Section::Index(draft)) => {
+            let draft = take_index_entry(alloc, indexes, draft, key, value)?;
+            Ok(Place::Inside(Section::Index(draft)))
+        }
+        Place::Inside(Section::Other) => Ok(Place::Inside(Section::Other)),
+        Place::Headed(section) => Ok(Place::Headed(section)),
+        Place::Outside => Ok(Place::Outside),
+    }
+}
+
+/// An index with one more entry.
+fn take_index_entry(
+    alloc: Global,
+    indexes: &[IndexConf],
+    draft: Draft,
+    key: Option<Key>,
+    value: &[u8],
+) -> Result<Draft, Or<ConfKind>>
+    requires { length value.now < 2 ^ 32 }
+    ensures { (texts : List IndexText) (entries : List Entry) → AreIndexes texts indexes.now → IsDraft draft.name entries draft
+        → EntersIndex texts entries draft.name key value.now result }
+{
+    match key {
+        None => Err(Or::Fault(ConfKind::UnknownKey)),
+        Some(key) => {
+            let mut draft = draft;
+            draft.take(alloc, indexes, key, value)?;
+            Ok(draft)
+        }
+    }
+}
+
+/// Ends a section.
+fn close_section(
+    alloc: Global,
+    indexes: &mut Vec<IndexConf>,
+    place: Place,
+) -> Result<Place, Or<ConfKind>>
+    ensures { (texts : List IndexText) (entries : List Entry) → AreIndexes texts indexes.old.items → PlaceHas entries place
+        → Closes texts entries (place_of place) indexes.new.items result }
+{
+    match place {
+        Place::Inside(Section::Index(draft)) => {
+            indexes.push(draft.end(alloc)?)?;
+            Ok(Place::Outside)
+        }
+        _ => Ok(Place::Outside),
+    }
+}
