@@ -1,9 +1,8 @@
 -- How reading until a packet is whole goes on or ends.
-use Rattle.std.proofs.Common.{◌≡◌, ◌≢◌, ◌⊎◌, ℕ, ◌+◌, ◌<◌, ◌≤◌, Bool, List, [], ◌∷◌, ◌++◌, Result, Ok, Err, length, refl, sym, ◌∙◌, ap, subst, arith, append_assoc, inl, inr, ⊎_elim}
+use Rattle.std.proofs.Common.{◌≡◌, ◌⊎◌, ℕ, ◌+◌, ◌≤◌, List, [], ◌++◌, Err, refl, sym, ◌∙◌, ap, inl, inr, ⊎_elim}
 use Rattle.std.proofs.lemmas.List.{append-nil}
 use Rattle.srch_base.specs.Counts.{Rose, Rose-earlier}
 use Rattle.mysql_wire.specs.Packets.{IsPartial}
-use Rattle.ql_session.specs.Statements.{Event}
 use Rattle.ql_session.specs.Session.{Phase, HasGreeted, expected, Meters, Stops, Ends, IsCut, no_room}
 use Rattle.ql_session.specs.Pieces.{Feeds, GoesOn}
 use Rattle.srch_base.specs.declared.faults.Or.TheVariants.{Fault}

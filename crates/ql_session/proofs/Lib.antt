@@ -4,10 +4,11 @@ pub mod Adding
 pub mod Digits
 pub mod Frames
 pub mod Lookups
+pub mod Making
+pub mod Committing
 pub mod Once
 pub mod Stating
 pub mod Decisions
-pub mod Whole
 pub mod Sets
 pub mod Replying
 pub mod Turning

@@ -2,7 +2,7 @@
 use Rattle.std.proofs.Common.{◌≡◌, ℕ, zero, suc, ◌≤◌, List, [], ◌∷◌, ◌++◌, length, take, map, refl, sym, ◌∙◌, ap, subst, arith, append_assoc}
 use Rattle.std.specs.List.{flat_map}
 use Rattle.mysql_wire.specs.Packets.{packet, max_payload, BeginsWith}
-use Rattle.ql_session.specs.Session.{Phase, Opened, Greeted, Talking, Turn, Reads, Step, Run}
+use Rattle.ql_session.specs.Session.{Phase, Opened, Greeted, Talking, Turn, Step, Run}
 
 -- Bytes begin with one packet at most.
 abbrev pub OnePacket : Type 0

@@ -2,7 +2,7 @@
 use Rattle.std.proofs.Common.{◌≡◌, ℕ, List, [], ◌∷◌, ◌++◌, Result, Ok, Err, OnOk, refl, sym, ap, ◌∙◌}
 use Rattle.std.proofs.lemmas.List.{append-nil}
 use Rattle.mysql_wire.specs.Packets.{packet}
-use Rattle.ql_session.specs.Documents.{Documents}
+use Rattle.ql_session.specs.Documents.{Tables}
 use Rattle.ql_session.specs.Texts.{Stated}
 use Rattle.ql_session.specs.Statements.{State, Event, NoMemory, CanHave, Follows, packets_from, reply}
 use Rattle.ql_session.specs.Steps.{Runs}
@@ -13,7 +13,7 @@ one_packet old new put payload none whole is =
     whole ∙ ap (λ (front : List ℕ). front ++ put) none ∙ is ∙ sym (append-nil (packet 1 payload))
 
 -- A statement whose reply was appended, or memory for it refused.
-pub runs_by : {T E : Type 0} (r : Result T E) (state : State) (statement : Stated) (event : Event) (documents : Documents) (old new : List ℕ)
+pub runs_by : {T E : Type 0} (r : Result T E) (state : State) (statement : Stated) (event : Event) (documents : Tables) (old new : List ℕ)
     → CanHave statement event → CanHave statement NoMemory → Follows documents event documents → old ≡ []
     → OnOk r (new ≡ old ++ packets_from 1 (reply state statement event)) → Runs r state statement documents documents new
 runs_by (Ok x) state statement event documents old new can want follows none whole =

@@ -1,5 +1,5 @@
 -- How turns join into a session.
-use Rattle.std.proofs.Common.{◌≡◌, ◌≢◌, ◌⊎◌, ℕ, suc, ◌+◌, ◌%◌, ◌^◌, ◌<◌, ◌≤◌, Bool, false, List, [], ◌∷◌, ◌++◌, Result, Ok, Err, length, refl, sym, ◌∙◌, ap, subst, arith, append_assoc, inl, inr, ⊎_elim}
+use Rattle.std.proofs.Common.{◌≡◌, ℕ, suc, ◌^◌, false, List, [], ◌∷◌, ◌++◌, Result, Ok, Err, refl, sym, ◌∙◌, ap, subst, arith, append_assoc, inl, inr, ⊎_elim}
 use Rattle.std.proofs.lemmas.List.{append-nil}
 use Rattle.std.proofs.lemmas.List.Concat.{flat_map-append}
 use Rattle.std.specs.List.{flat_map}
@@ -8,10 +8,10 @@ use Rattle.mysql_wire.specs.Packets.{packet, BeginsWith}
 use Rattle.mysql_wire.specs.Commands.{command_of, Quit as asks_quit}
 use Rattle.mysql_wire.specs.Handshake.{Response, IsResponse}
 use Rattle.mysql_wire.specs.Replies.{ok_packet, greeting}
-use Rattle.ql_session.specs.Documents.{Documents}
-use Rattle.ql_session.specs.Statements.{State, Event, FollowAll, new_state, status_of, packets_from}
-use Rattle.ql_session.specs.Session.{Phase, Opened, Greeted, Talking, HasGreeted, expected, Turn, Step, Run, Refuses, Meters, Stops, Ends, IsCut, Answers}
-use Rattle.ql_session.specs.Pieces.{Goes, GoesOn, RefusesWith, Writes}
+use Rattle.ql_session.specs.Documents.{Tables}
+use Rattle.ql_session.specs.Statements.{State, Event, FollowAll, new_state, packets_from}
+use Rattle.ql_session.specs.Session.{Phase, Opened, Greeted, Talking, Turn, Step, Run, Refuses, Meters, Stops, Ends, IsCut, Answers}
+use Rattle.ql_session.specs.Pieces.{Goes, GoesOn, RefusesWith}
 use Rattle.ql_session.specs.declared.line.LinkEnd.{LinkEnd}
 use Rattle.ql_session.specs.declared.line.LinkEnd.TheVariants.{Quit, End, Truncated, BadHandshake, TooLarge, OutOfOrder, ReadFault, WriteFault, Worn, NoMemory}
 use Rattle.ql_session.proofs.Filling.{Later}
@@ -234,8 +234,8 @@ quit_then connection answered first now state held read written mid kept payload
     (ends_at connection first now Quit (Talking state answered) mid [] [] (state, answered, payload, kept, refl, begins, is, refl, refl))))
 
 -- events, and then more
-pub FollowAll-append : (events more : List Event) (old mid new : Documents) → FollowAll old events mid → FollowAll mid more new → FollowAll old (events ++ more) new
-FollowAll-append [] more old mid new first then = subst (λ (d : Documents). FollowAll d more new) first then
+pub FollowAll-append : (events more : List Event) (old mid new : Tables) → FollowAll old events mid → FollowAll mid more new → FollowAll old (events ++ more) new
+FollowAll-append [] more old mid new first then = subst (λ (d : Tables). FollowAll d more new) first then
 FollowAll-append (event ∷ events) more old mid new first then = (first.0, first.1, FollowAll-append events more first.0 mid new first.2 then)
 
 -- As many commands were answered as a line may send.

@@ -1,5 +1,5 @@
 -- Pieces of a session, as the functions that serve a line make them.
-use Rattle.std.specs.Prelude.{◌≡◌, ◌≢◌, ◌⊎◌, ⊤, ℕ, ◌≤◌, List, [], ◌++◌, Bool, true, Option, None, Result, Ok, Err}
+use Rattle.std.specs.Prelude.{◌≡◌, ◌≢◌, ◌⊎◌, ℕ, ◌≤◌, List, [], ◌++◌, true, None, Result, Ok, Err}
 use Rattle.std.specs.List.{flat_map}
 use Rattle.srch_base.specs.Counts.{Rose}
 use Rattle.srch_base.specs.declared.link.Link.{Ghosts as LinkWords}
@@ -8,11 +8,11 @@ use Rattle.srch_base.specs.declared.faults.Or.TheVariants as want
 use Rattle.srch_base.specs.Told.{then_bytes}
 use Rattle.mysql_wire.specs.Packets.{BeginsWith, IsTooLarge, IsOutOfOrder}
 use Rattle.mysql_wire.specs.Framing.{Stream}
-use Rattle.mysql_wire.specs.Commands.{Asked, Quit as asks_quit, command_of}
+use Rattle.mysql_wire.specs.Commands.{command_of}
 use Rattle.mysql_wire.specs.Handshake.{Response, IsResponse, IsBadResponse}
-use Rattle.ql_session.specs.Documents.{Documents}
-use Rattle.ql_session.specs.Statements.{State, Event, FollowAll, packets_from}
-use Rattle.ql_session.specs.Session.{Phase, Turn, Run, Meters, Ends, Answers, IsCut}
+use Rattle.ql_session.specs.Documents.{Tables}
+use Rattle.ql_session.specs.Statements.{State, Event}
+use Rattle.ql_session.specs.Session.{Phase, Turn, Run, Meters, Ends, IsCut}
 use Rattle.ql_session.specs.declared.line.LinkEnd.{LinkEnd}
 use Rattle.ql_session.specs.declared.line.LinkEnd.TheVariants as ends
 use Rattle.ql_session.specs.Steps.{Steps}
@@ -69,7 +69,7 @@ Feeds (Err (want.Fault ends.ReadFault)) held kept before now read written = (wri
 Feeds (Err (want.Fault end)) held kept before now read written = ⊥
 
 -- A command's packet was taken from the bytes held and answered, or the bytes are refused.
-abbrev pub TakesCommand : Taken → List ℕ → Stream → State → State → Documents → Documents → List ℕ → Type 0
+abbrev pub TakesCommand : Taken → List ℕ → Stream → State → State → Tables → Tables → List ℕ → Type 0
 TakesCommand takes.Reply held kept old new documents left out =
     (payload : List ℕ) × BeginsWith 0 held payload kept.held × (kept.refused ≡ None) × Steps Reply old (command_of payload) documents left out new
 TakesCommand takes.Quit held kept old new documents left out =

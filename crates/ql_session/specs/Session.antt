@@ -1,6 +1,6 @@
 -- A session over a line: what was read, what was written, and how it ended. It knows nothing of how the bytes were
 -- cut into reads. "Connection Lifecycle" of the protocol: the greeting, the client's response, a packet a command.
-use Rattle.std.specs.Prelude.{◌≡◌, ◌≢◌, ◌⊎◌, ⊤, ℕ, suc, ◌+◌, ◌%◌, ◌^◌, ◌<◌, ◌≤◌, List, [], ◌∷◌, ◌++◌, Bool, true, length, codes, decimal, Result, Ok, Err}
+use Rattle.std.specs.Prelude.{◌≡◌, ◌≢◌, ◌⊎◌, ⊤, ℕ, suc, ◌+◌, ◌%◌, ◌^◌, ◌≤◌, List, [], ◌∷◌, ◌++◌, Bool, true, length, codes, decimal}
 use Rattle.std.specs.List.{flat_map}
 use Rattle.srch_base.specs.Counts.{Rose}
 use Rattle.mysql_wire.specs.Packets.{packet, max_payload, BeginsWith, IsPartial, IsTooLarge, IsOutOfOrder}

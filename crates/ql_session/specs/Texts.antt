@@ -1,12 +1,13 @@
 -- The texts of statements that are known.
 use Rattle.std.specs.Prelude.{◌≡◌, ℕ, ◌+◌, ◌-◌, ◌*◌, ◌^◌, ◌<◌, ◌≤◌, List, [], ◌∷◌, ◌++◌, Bool, ◌&&◌, ◌==◌, nat_le, false, not, length, map, codes, fold}
-use Rattle.std.specs.Char.{is_ascii_alphanumeric, is_ascii_digit, to_ascii_lowercase}
+use Rattle.std.specs.Char.{is_ascii_digit, to_ascii_lowercase}
 use Rattle.std.specs.List.{AllPass}
+use Rattle.std.specs.Str.{IsUtf8}
 
 -- a statement
 pub data Stated : Type 0 where
   Insert : (id : ℕ) (title : List ℕ) → Stated
-  Search : (word : List ℕ) → Stated
+  Search : (text : List ℕ) → Stated
   VersionComment : Stated
   SetNames : Stated
   CurrentDatabase : Stated
@@ -26,16 +27,15 @@ has_leading_zero (d ∷ digits) = d == 48
 abbrev pub IsId : List ℕ → ℕ → Type 0
 IsId digits id = AllPass is_ascii_digit digits × (has_leading_zero digits ≡ false) × (id ≡ digits_value digits) × (1 ≤ id) × (id < 2 ^ 64)
 
--- printable ASCII without quotes and backslashes
-abbrev pub is_title_byte : ℕ → Bool
-is_title_byte b = (nat_le 32 b && nat_le b 126) && (not (b == 39) && not (b == 92))
+-- a byte between quotes: no control, no quote and no backslash
+abbrev pub is_plain_byte : ℕ → Bool
+is_plain_byte b = (nat_le 32 b && not (b == 127)) && (not (b == 39) && not (b == 92))
 
-abbrev pub IsTitle : List ℕ → Type 0
-IsTitle title = (length title ≤ 60000) × AllPass is_title_byte title
-
--- 1 to 42 ASCII letters and digits
-abbrev pub IsQueryWord : List ℕ → Type 0
-IsQueryWord word = (1 ≤ length word) × (length word ≤ 42) × AllPass is_ascii_alphanumeric word
+-- what stands between quotes: at most 60,000 bytes of UTF-8
+pub record IsQuoted (text : List ℕ) : Type 0 where
+  pub short : length text ≤ 60000
+  pub plain : AllPass is_plain_byte text
+  pub utf8 : IsUtf8 text
 
 -- the text begins with a digit
 abbrev pub begins_with_digit : List ℕ → Bool
@@ -43,11 +43,11 @@ begins_with_digit [] = false
 begins_with_digit (d ∷ text) = is_ascii_digit d
 
 abbrev pub IsInsert : List ℕ → ℕ → List ℕ → Type 0
-IsInsert text id title = (digits : List ℕ) × IsId digits id × IsTitle title
+IsInsert text id title = (digits : List ℕ) × IsId digits id × IsQuoted title
     × (text ≡ codes "INSERT INTO rt (id,title) VALUES (" ++ digits ++ codes ",'" ++ title ++ codes "')")
 
 abbrev pub IsSearch : List ℕ → List ℕ → Type 0
-IsSearch text word = IsQueryWord word × (text ≡ codes "SELECT id FROM rt WHERE MATCH('" ++ word ++ codes "')")
+IsSearch text inner = IsQuoted inner × (text ≡ codes "SELECT id FROM rt WHERE MATCH('" ++ inner ++ codes "')")
 
 -- the text is this one, ASCII case aside
 abbrev pub IsInAnyCase : List ℕ → List ℕ → Type 0
@@ -56,7 +56,7 @@ IsInAnyCase text small = map to_ascii_lowercase text ≡ small
 -- The text states this. It is `Other` where it states nothing else.
 abbrev pub StatesSome : List ℕ → Stated → Type 0
 StatesSome text (Insert id title) = IsInsert text id title
-StatesSome text (Search word) = IsSearch text word
+StatesSome text (Search inner) = IsSearch text inner
 StatesSome text VersionComment = IsInAnyCase text (codes "select @@version_comment limit 1")
 StatesSome text SetNames = IsInAnyCase text (codes "set names utf8")
 StatesSome text CurrentDatabase = IsInAnyCase text (codes "select database()")

@@ -1,8 +1,9 @@
 //! Laws of the definitions. Each function does nothing: its contract is the law.
-ghost use Rattle.std.specs.Prelude.{◌≡◌, ◌≤◌, ◌++◌, ℕ, List, ◌∷◌, false, IsTrue, ◌↔◌, length, map, take};
-ghost use Rattle.std.specs.List.{AllPass, flat_map};
+ghost use Rattle.std.specs.Prelude.{◌≡◌, ◌≤◌, ◌++◌, ℕ, List, ◌∷◌, false, length, map, take};
+ghost use Rattle.std.specs.List.{flat_map};
 ghost use Rattle.std.specs.List.Sorted.{IsPermutation};
-ghost use Rattle.ql_session.specs.Documents.{Documents, IdsAscend, StandsWhole, has_id, has_word, is_word_byte, with_document};
+ghost use Rattle.doc_types.specs.declared.documents.Doc.{Doc};
+ghost use Rattle.ql_session.specs.Documents.{Documents, IdsAscend, has_id, with_document};
 ghost use Rattle.ql_session.specs.Session.{Opened, Phase, Run, Turn};
 ghost use Rattle.ql_session.specs.Texts.{Stated, States};
 
@@ -12,20 +13,13 @@ pub fn a_text_states_one_thing()
     ensures { (text : List ℕ) (s t : Stated) → States text s → States text t → s ≡ t }
 {}
 
-/// A title has a word exactly where the word stands in it, in small letters or not, and no character of words is next to it.
-#[tactic(auto, using(crate::proofs::Whole::stands_whole))]
-pub fn a_word_stands_whole()
-    ensures { (word title : List ℕ) → AllPass is_word_byte word
-        → IsTrue (has_word word title) ↔ StandsWhole word title }
-{}
-
 /// Documents with one more are the documents and that one, and their ids ascend if they did.
 #[tactic(auto, using(crate::proofs::Adding::adds_one))]
 pub fn a_document_takes_its_place()
-    ensures { (documents : Documents) (id : ℕ) (title : List ℕ)
+    ensures { (documents : Documents) (id : ℕ) (doc : Doc)
         → IdsAscend documents → has_id id documents ≡ false
-        → IdsAscend (with_document documents id title)
-        × IsPermutation ((id, title) ∷ documents) (with_document documents id title) }
+        → IdsAscend (with_document documents id doc)
+        × IsPermutation ((id, doc) ∷ documents) (with_document documents id doc) }
 {}
 
 /// The bytes of a line are read in one way: two runs of turns over the same bytes read the same packets, as far as both go.

@@ -1,6 +1,7 @@
 //! Statements and sessions: what is replied to the bytes of a line, over the documents of the one index.
 #![tactic(auto)]
 
+mod documents;
 mod laws;
 mod line;
 mod moving;
@@ -9,12 +10,8 @@ mod replies;
 mod session;
 mod statements;
 mod tables;
-mod words;
 
-pub use laws::{
-    a_document_takes_its_place, a_line_is_read_in_one_way, a_text_states_one_thing,
-    a_word_stands_whole,
-};
+pub use laws::{a_document_takes_its_place, a_line_is_read_in_one_way, a_text_states_one_thing};
 pub use line::{LinkEnd, serve_link};
 pub use session::{Session, StepEnd};
 pub use tables::PlainTables;

@@ -1,14 +1,18 @@
-ghost use Rattle.std.specs.Prelude.{◌≡◌, ◌≤◌, [], vec_capacity};
+ghost use Rattle.std.specs.Prelude.{◌≡◌, ◌≤◌, ◌<◌, ◌^◌, [], codes, length, vec_capacity};
 ghost use Rattle.mysql_wire.specs.Asked.{asked_by};
 ghost use Rattle.ql_session.specs.Statements.{status_of};
-ghost use Rattle.ql_session.specs.Stating.{stated_by};
-ghost use Rattle.ql_session.specs.Texts.{Insert};
+ghost use Rattle.ql_session.specs.Stating.{HasShortTitle, stated_by};
+ghost use Rattle.ql_session.specs.Texts.{Insert, Search};
+ghost use Rattle.ql_session.specs.Building.{Commits};
+ghost use Rattle.mysql_wire.specs.Replies.{err_packet};
 
 use crate::PlainTables;
+use crate::documents::{document, folded_word, has_title, searches};
 use crate::replies::{numbered, put, put_ids, put_text};
 use crate::statements::{Statement, read_statement};
-use mysql_wire::{Command, eof_packet, err_packet, ok_packet};
-use srch_base::NoMemory;
+use doc_types::Doc;
+use mysql_wire::{Command, Small, eof_packet, err_packet, ok_packet};
+use srch_base::{NoMemory, Or};
 use std::alloc::Global;
 use std::marker::Model;
 
@@ -104,6 +108,7 @@ impl Session {
         statement: Statement<'_>,
         out: &mut Vec<u8>,
     ) -> Result<(), NoMemory>
+        requires short { HasShortTitle (stated_by statement) }
         requires empty { out.old.items ≡ [] }
         requires room { 1024 ≤ vec_capacity out.old }
         ensures runs { Runs result self.now (stated_by statement.entry) tables.old tables.new out.new.items }
@@ -112,10 +117,7 @@ impl Session {
         let status = self.status();
         match statement {
             Statement::Insert { id, title } => self.insert(alloc, tables, id, title, out),
-            Statement::Search { word } => {
-                let ids = tables.ids_with(alloc, word, PAGE)?;
-                put_ids(alloc, status, &ids, out)
-            }
+            Statement::Search { text } => self.search(alloc, tables, text, out),
             Statement::VersionComment => {
                 put_text(alloc, status, b"@@version_comment", Some(b"searchd"), out)
             }
@@ -126,33 +128,85 @@ impl Session {
                 Ok(())
             }
             Statement::Other => {
-                put(&err_packet(1, 1064, *b"42000", b"not offered yet"), out);
+                put(&not_offered(), out);
                 Ok(())
             }
         }
     }
 
-    /// Adds a document where its id is new.
+    /// Adds a document where the index has titles, the title isn't too long and the id is new.
     fn insert(
         &self,
         alloc: Global,
         tables: &mut PlainTables,
         id: u64,
-        title: &[u8],
+        title: &str,
         out: &mut Vec<u8>,
     ) -> Result<(), NoMemory>
+        requires short { length title.now < 2 ^ 32 }
         requires empty { out.old.items ≡ [] }
         requires room { 1024 ≤ vec_capacity out.old }
         ensures runs { Runs result self.now (Insert id title.now) tables.old tables.new out.new.items }
         ensures room { 1024 ≤ vec_capacity out.new }
     {
-        if tables.contains(id) {
-            let text = numbered(b"duplicate id ", id);
+        if !has_title(tables.conf()) {
+            put(&not_offered(), out);
+            return Ok(());
+        }
+        match document(alloc, tables.conf(), id, title) {
+            Ok(doc) => self.commit(tables, doc, out),
+            Err(Or::Fault(_)) => {
+                let text = b"field 'title' above 65535 positions";
+                put(&err_packet(1, 1064, *b"42000", text), out);
+                Ok(())
+            }
+            Err(Or::NoMemory) => Err(NoMemory),
+        }
+    }
+
+    /// Puts a document among the others where its id is new.
+    fn commit(&self, tables: &mut PlainTables, doc: Doc, out: &mut Vec<u8>) -> Result<(), NoMemory>
+        requires empty { out.old.items ≡ [] }
+        requires room { 1024 ≤ vec_capacity out.old }
+        ensures runs { Commits result self.now doc tables.old tables.new out.new.items }
+        ensures room { 1024 ≤ vec_capacity out.new }
+    {
+        if tables.contains(doc.id) {
+            let text = numbered(b"duplicate id ", doc.id);
             put(&err_packet(1, 1064, *b"42000", &text), out);
         } else {
-            tables.insert(alloc, id, title)?;
+            tables.insert(doc)?;
             put(&ok_packet(1, 1, self.status()), out);
         }
         Ok(())
     }
+
+    /// Answers the ids of the documents that have the word which a text is.
+    fn search(
+        &self,
+        alloc: Global,
+        tables: &PlainTables,
+        text: &str,
+        out: &mut Vec<u8>,
+    ) -> Result<(), NoMemory>
+        requires empty { out.old.items ≡ [] }
+        requires room { 1024 ≤ vec_capacity out.old }
+        ensures runs { Runs result self.now (Search text.now) tables.now tables.now out.new.items }
+        ensures room { 1024 ≤ vec_capacity out.new }
+    {
+        if !searches(tables.conf(), text) {
+            put(&not_offered(), out);
+            return Ok(());
+        }
+        let word = folded_word(alloc, tables.conf(), text)?;
+        let ids = tables.ids_with(alloc, word.as_bytes(), PAGE)?;
+        put_ids(alloc, self.status(), &ids, out)
+    }
+}
+
+/// ERR 1064 for what is known and not built yet.
+fn not_offered() -> Small
+    ensures { result ≡ err_packet 1 1064 (codes "42000") (codes "not offered yet") }
+{
+    err_packet(1, 1064, *b"42000", b"not offered yet")
 }

@@ -1,14 +1,14 @@
 ghost use Rattle.std.specs.Prelude.{◌≡◌, ◌≢◌, ℕ, ◌≤◌, ◌^◌, List, ◌++◌, IsTrue, ◌↔◌, MatchOption, false};
 ghost use Rattle.std.specs.List.{AllPass};
 ghost use Rattle.std.specs.Char.{is_ascii_digit};
-ghost use Rattle.ql_session.specs.Texts.{IsId, IsInsert, IsSearch, IsTitle, IsQueryWord, States, begins_with_digit, digits_value};
+ghost use Rattle.ql_session.specs.Texts.{IsId, IsInsert, IsSearch, IsQuoted, States, begins_with_digit, digits_value, is_plain_byte};
 ghost use Rattle.ql_session.specs.Stating.{stated_by};
 
 /// A statement of one of the forms that are known, or any other.
 #[derive(Clone, Copy, Debug, PartialEq, Eq)]
 pub(crate) enum Statement<'a> {
-    Insert { id: u64, title: &'a [u8] },
-    Search { word: &'a [u8] },
+    Insert { id: u64, title: &'a str },
+    Search { text: &'a str },
     VersionComment,
     SetNames,
     CurrentDatabase,
@@ -16,7 +16,7 @@ pub(crate) enum Statement<'a> {
     Other,
 }
 
-/// The statement of a text, which lends the title and the word.
+/// The statement of a text, which lends the title and the text that is searched for.
 ///
 /// Linear in the text; it takes no memory. INSERT and SELECT are known exactly as they are spelled, with one blank where
 /// one stands. The other four are what clients of MySQL ask when they connect, in small letters or not.
@@ -26,7 +26,7 @@ pub(crate) fn read_statement(text: &[u8]) -> Statement<'_>
     match read_insert(text) {
         Some((id, title)) => Statement::Insert { id, title },
         None => match read_search(text) {
-            Some(word) => Statement::Search { word },
+            Some(text) => Statement::Search { text },
             None => read_fixed(text),
         },
     }
@@ -34,7 +34,7 @@ pub(crate) fn read_statement(text: &[u8]) -> Statement<'_>
 
 fn read_fixed(text: &[u8]) -> Statement<'_>
     requires insert { (id : ℕ) (title : List ℕ) → IsInsert text.now id title → ⊥ }
-    requires search { (word : List ℕ) → IsSearch text.now word → ⊥ }
+    requires search { (inner : List ℕ) → IsSearch text.now inner → ⊥ }
     ensures { States text.now (stated_by result) }
 {
     if text.eq_ignore_ascii_case(b"select @@version_comment limit 1") {
@@ -51,7 +51,7 @@ fn read_fixed(text: &[u8]) -> Statement<'_>
 }
 
 /// The id and the title of an INSERT.
-fn read_insert(text: &[u8]) -> Option<(u64, &[u8])>
+fn read_insert(text: &[u8]) -> Option<(u64, &str)>
     ensures { MatchOption result
         ((id : ℕ) (title : List ℕ) → IsInsert text.now id title → ⊥)
         (λ found. IsInsert text.now found.0 found.1.now) }
@@ -59,26 +59,18 @@ fn read_insert(text: &[u8]) -> Option<(u64, &[u8])>
     let inner = between(text, b"INSERT INTO rt (id,title) VALUES (", b"')")?;
     let (digits, rest) = split_digits(inner);
     let id = read_id(digits)?;
-    let title = after(rest, b",'")?;
-    if is_title(title) {
-        Some((id, title))
-    } else {
-        None
-    }
+    let title = quoted(after(rest, b",'")?)?;
+    Some((id, title))
 }
 
-/// The word of a SELECT.
-fn read_search(text: &[u8]) -> Option<&[u8]>
+/// The text that a SELECT searches for.
+fn read_search(text: &[u8]) -> Option<&str>
     ensures { MatchOption result
-        ((word : List ℕ) → IsSearch text.now word → ⊥)
-        (λ word. IsSearch text.now word.now) }
+        ((inner : List ℕ) → IsSearch text.now inner → ⊥)
+        (λ inner. IsSearch text.now inner.now) }
 {
-    let word = between(text, b"SELECT id FROM rt WHERE MATCH('", b"')")?;
-    if is_query_word(word) {
-        Some(word)
-    } else {
-        None
-    }
+    let inner = between(text, b"SELECT id FROM rt WHERE MATCH('", b"')")?;
+    quoted(inner)
 }
 
 /// What stands between the prefix and the suffix.
@@ -154,17 +146,23 @@ fn number_of(digits: &[u8]) -> Option<u64>
     Some(number)
 }
 
-fn is_title(title: &[u8]) -> bool
-    ensures { IsTrue result ↔ IsTitle title.now }
+/// The bytes as a text between quotes, where they are one.
+fn quoted(bytes: &[u8]) -> Option<&str>
+    ensures { MatchOption result
+        (IsQuoted bytes.now → ⊥)
+        (λ text. (text.now ≡ bytes.now) × IsQuoted bytes.now) }
 {
-    title.len() <= 60_000
-        && title
-            .iter()
-            .all(|b| matches!(*b, 32..=126) && *b != b'\'' && *b != b'\\')
+    if bytes.len() > 60_000 || !are_plain(bytes) {
+        return None;
+    }
+    str::from_utf8(bytes).ok()
 }
 
-fn is_query_word(word: &[u8]) -> bool
-    ensures { IsTrue result ↔ IsQueryWord word.now }
+/// Whether no byte is a control, a quote or a backslash.
+fn are_plain(bytes: &[u8]) -> bool
+    ensures { IsTrue result ↔ AllPass is_plain_byte bytes.now }
 {
-    !word.is_empty() && word.len() <= 42 && word.iter().all(|b| b.is_ascii_alphanumeric())
+    bytes
+        .iter()
+        .all(|b| *b >= 32 && *b != 127 && *b != b'\'' && *b != b'\\')
 }

@@ -1,12 +1,58 @@
+use crate::tests::tables_of;
 use crate::{PlainTables, Session, StepEnd};
 use mysql_wire::Command;
+use std::alloc::Global;
 use std::test::Fail;
+
+/// The index that the known texts name, as small as it can be.
+const PLAIN: &[u8] = b"index rt\n{\ntype = rt\npath = .\nrt_field = title\n}\n";
+
+/// A shop's index: two fields, two attributes, English and Russian letters.
+const SHOP: &[u8] = b"index rt\n{\ntype = rt\npath = shop\nrt_field = title\nrt_field = content\n\
+rt_attr_uint = price\nrt_attr_timestamp = added\n\
+charset_table = 0..9, A..Z->a..z, a..z, U+410..U+42F->U+430..U+44F, U+430..U+44F\n\
+html_strip = 1\n}\n";
+
+/// An index with another name.
+const OTHER: &[u8] = b"index goods\n{\ntype = rt\npath = .\nrt_field = title\n}\n";
+
+/// An index with another field.
+const UNTITLED: &[u8] = b"index rt\n{\ntype = rt\npath = .\nrt_field = content\n}\n";
+
+const INSERTED: &[u8] = b"\x07\0\0\x01\0\x01\0\x02\0\0\0";
+
+const NOT_OFFERED: &[u8] = b"\x18\0\0\x01\xff\x28\x04#42000not offered yet";
+
+/// The id 1 in one row.
+const ROW_1: &[u8] =
+    b"\x01\0\0\x01\x01\x1a\0\0\x02\x03def\0\0\0\x02id\x02id\x0c\x3f\0\x14\0\0\0\x08\x20\0\0\0\0\x05\0\0\x03\xfe\0\0\x02\0\x02\0\0\x04\x011\x05\0\0\x05\xfe\0\0\x02\0";
+
+/// No row.
+const NO_ROW: &[u8] =
+    b"\x01\0\0\x01\x01\x1a\0\0\x02\x03def\0\0\0\x02id\x02id\x0c\x3f\0\x14\0\0\0\x08\x20\0\0\0\0\x05\0\0\x03\xfe\0\0\x02\0\x05\0\0\x04\xfe\0\0\x02\0";
+
+/// Answers commands one after another, and says which of them isn't answered by its bytes.
+fn first_wrong(
+    alloc: Global,
+    tables: &mut PlainTables,
+    cases: &[(Command<'_>, &[u8])],
+) -> Result<Option<usize>, Fail> {
+    let mut session = Session::new();
+    for (at, (command, reply)) in cases.iter().enumerate() {
+        let mut out = Vec::with_capacity(alloc, 1024)?;
+        let end = session.step(alloc, tables, *command, &mut out);
+        if (end == StepEnd::Quit) != (*command == Command::Quit) || out.as_slice() != *reply {
+            return Ok(Some(at));
+        }
+    }
+    Ok(None)
+}
 
 // Each command, and the bytes of its reply by the protocol.
 #[test]
 fn commands_are_answered_by_these_bytes(rt: HostRuntime) -> Result<(), Fail> {
     let alloc = rt.alloc();
-    let cases: [(Command<'_>, &[u8]); 11] = [
+    let cases: [(Command<'_>, &[u8]); 13] = [
         (Command::Ping, b"\x07\0\0\x01\0\0\0\x02\0\0\0"),
         (Command::InitDb(b"rt"), b"\x07\0\0\x01\0\0\0\x02\0\0\0"),
         (Command::SetOption(0), b"\x05\0\0\x01\xfe\0\0\x02\0"),
@@ -22,13 +68,10 @@ fn commands_are_answered_by_these_bytes(rt: HostRuntime) -> Result<(), Fail> {
             Command::Query(b"SHOW DATABASES"),
             b"\x01\0\0\x01\x01\x26\0\0\x02\x03def\0\0\0\x08Database\x08Database\x0c\x21\0\xff\0\0\0\xfd\0\0\0\0\0\x05\0\0\x03\xfe\0\0\x02\0\x05\0\0\x04\xfe\0\0\x02\0",
         ),
-        (
-            Command::Query(b"SELEC 1"),
-            b"\x18\0\0\x01\xff\x28\x04#42000not offered yet",
-        ),
+        (Command::Query(b"SELEC 1"), NOT_OFFERED),
         (
             Command::Query(b"INSERT INTO rt (id,title) VALUES (1,'hello')"),
-            b"\x07\0\0\x01\0\x01\0\x02\0\0\0",
+            INSERTED,
         ),
         (
             Command::Query(b"INSERT INTO rt (id,title) VALUES (1,'again')"),
@@ -36,17 +79,94 @@ fn commands_are_answered_by_these_bytes(rt: HostRuntime) -> Result<(), Fail> {
         ),
         (
             Command::Query(b"SELECT id FROM rt WHERE MATCH('HELLO')"),
-            b"\x01\0\0\x01\x01\x1a\0\0\x02\x03def\0\0\0\x02id\x02id\x0c\x3f\0\x14\0\0\0\x08\x20\0\0\0\0\x05\0\0\x03\xfe\0\0\x02\0\x02\0\0\x04\x011\x05\0\0\x05\xfe\0\0\x02\0",
+            ROW_1,
+        ),
+        (
+            Command::Query(b"SELECT id FROM rt WHERE MATCH('again')"),
+            NO_ROW,
+        ),
+        (
+            Command::Query(b"SELECT id FROM rt WHERE MATCH('hello world')"),
+            NOT_OFFERED,
         ),
         (Command::Quit, b""),
     ];
-    let mut session = Session::new();
-    let mut tables = PlainTables::new(alloc)?;
-    for (command, reply) in cases {
-        let mut out = Vec::with_capacity(alloc, 1024)?;
-        let end = session.step(alloc, &mut tables, command, &mut out);
-        assert_eq!(rt; end == StepEnd::Quit, command == Command::Quit);
-        assert_eq!(rt; out.as_slice(), reply, "to {command:?}");
+    let mut tables = tables_of(alloc, PLAIN)?;
+    assert_eq!(rt; first_wrong(alloc, &mut tables, &cases)?, None);
+    Ok(())
+}
+
+// A title's words are those of the index's table, without markup.
+#[test]
+fn words_are_those_of_the_index(rt: HostRuntime) -> Result<(), Fail> {
+    let alloc = rt.alloc();
+    let cases: [(Command<'_>, &[u8]); 7] = [
+        (
+            // Большой <b>Чай</b>-ник
+            Command::Query(
+                b"INSERT INTO rt (id,title) VALUES (1,'\xd0\x91\xd0\xbe\xd0\xbb\xd1\x8c\xd1\x88\xd0\xbe\xd0\xb9 <b>\xd0\xa7\xd0\xb0\xd0\xb9</b>-\xd0\xbd\xd0\xb8\xd0\xba')",
+            ),
+            INSERTED,
+        ),
+        (
+            // БОЛЬШОЙ
+            Command::Query(
+                b"SELECT id FROM rt WHERE MATCH('\xd0\x91\xd0\x9e\xd0\x9b\xd0\xac\xd0\xa8\xd0\x9e\xd0\x99')",
+            ),
+            ROW_1,
+        ),
+        (
+            // чай
+            Command::Query(b"SELECT id FROM rt WHERE MATCH('\xd1\x87\xd0\xb0\xd0\xb9')"),
+            ROW_1,
+        ),
+        (
+            Command::Query(b"SELECT id FROM rt WHERE MATCH('b')"),
+            NO_ROW,
+        ),
+        // `_` is no letter of this table
+        (
+            Command::Query(b"SELECT id FROM rt WHERE MATCH('a_b')"),
+            NOT_OFFERED,
+        ),
+        (
+            Command::Query(
+                b"SELECT id FROM rt WHERE MATCH('abcdefghijklmnopqrstuvwxyzABCDEFGHIJKLMNOP')",
+            ),
+            NO_ROW,
+        ),
+        (
+            Command::Query(
+                b"SELECT id FROM rt WHERE MATCH('abcdefghijklmnopqrstuvwxyzABCDEFGHIJKLMNOPQ')",
+            ),
+            NOT_OFFERED,
+        ),
+    ];
+    let mut tables = tables_of(alloc, SHOP)?;
+    assert_eq!(rt; first_wrong(alloc, &mut tables, &cases)?, None);
+    Ok(())
+}
+
+#[test]
+fn another_index_has_no_titles(rt: HostRuntime) -> Result<(), Fail> {
+    let alloc = rt.alloc();
+    let cases: [(Command<'_>, &[u8]); 3] = [
+        (
+            Command::Query(b"INSERT INTO rt (id,title) VALUES (1,'hello')"),
+            NOT_OFFERED,
+        ),
+        (
+            Command::Query(b"SELECT id FROM rt WHERE MATCH('hello')"),
+            NOT_OFFERED,
+        ),
+        (
+            Command::Query(b"SET NAMES utf8"),
+            b"\x07\0\0\x01\0\0\0\x02\0\0\0",
+        ),
+    ];
+    for conf in [OTHER, UNTITLED] {
+        let mut tables = tables_of(alloc, conf)?;
+        assert_eq!(rt; first_wrong(alloc, &mut tables, &cases)?, None);
     }
     Ok(())
 }

@@ -1,48 +1,70 @@
+use crate::documents::document;
 use crate::statements::{Statement, read_statement};
 use crate::tables::PlainTables;
-use crate::words::has_word;
+use conf_text::read_conf;
+use std::alloc::Global;
 use std::test::Fail;
 
 #[test]
 fn texts_state_what_the_forms_say(rt: HostRuntime) -> Result<(), Fail> {
-    let cases: [(&[u8], Statement<'_>); 15] = [
+    let cases: [(&[u8], Statement<'_>); 20] = [
         (
             b"INSERT INTO rt (id,title) VALUES (1,'hello')",
             Statement::Insert {
                 id: 1,
-                title: b"hello",
+                title: "hello",
             },
         ),
         (
             b"INSERT INTO rt (id,title) VALUES (10,'')",
-            Statement::Insert { id: 10, title: b"" },
+            Statement::Insert { id: 10, title: "" },
         ),
         (
             b"INSERT INTO rt (id,title) VALUES (18446744073709551615,'Hello, (wide) ~world')",
             Statement::Insert {
                 id: u64::MAX,
-                title: b"Hello, (wide) ~world",
+                title: "Hello, (wide) ~world",
             },
         ),
         (
             b"INSERT INTO rt (id,title) VALUES (2,',)')",
+            Statement::Insert { id: 2, title: ",)" },
+        ),
+        (
+            b"INSERT INTO rt (id,title) VALUES (3,'caf\xc3\xa9 \"x\" <b>')",
             Statement::Insert {
-                id: 2,
-                title: b",)",
+                id: 3,
+                title: "caf\u{e9} \"x\" <b>",
             },
         ),
         (
             b"SELECT id FROM rt WHERE MATCH('hello')",
-            Statement::Search { word: b"hello" },
+            Statement::Search { text: "hello" },
         ),
         (
             b"SELECT id FROM rt WHERE MATCH('0')",
-            Statement::Search { word: b"0" },
+            Statement::Search { text: "0" },
         ),
         (
-            b"SELECT id FROM rt WHERE MATCH('abcdefghijklmnopqrstuvwxyzABCDEFGHIJKLMNOP')",
+            b"SELECT id FROM rt WHERE MATCH('')",
+            Statement::Search { text: "" },
+        ),
+        (
+            b"SELECT id FROM rt WHERE MATCH('hello world')",
             Statement::Search {
-                word: b"abcdefghijklmnopqrstuvwxyzABCDEFGHIJKLMNOP",
+                text: "hello world",
+            },
+        ),
+        (
+            b"SELECT id FROM rt WHERE MATCH('abcdefghijklmnopqrstuvwxyzABCDEFGHIJKLMNOPQ')",
+            Statement::Search {
+                text: "abcdefghijklmnopqrstuvwxyzABCDEFGHIJKLMNOPQ",
+            },
+        ),
+        (
+            b"SELECT id FROM rt WHERE MATCH('\xd0\x96\xd1\x83\xd0\xba')",
+            Statement::Search {
+                text: "\u{416}\u{443}\u{43a}",
             },
         ),
         (
@@ -59,6 +81,7 @@ fn texts_state_what_the_forms_say(rt: HostRuntime) -> Result<(), Fail> {
         (b"select database()", Statement::CurrentDatabase),
         (b"SHOW DATABASES", Statement::ShowDatabases),
         (b"show databases", Statement::ShowDatabases),
+        (b"show databases ", Statement::Other),
     ];
     for (text, want) in cases {
         assert_eq!(rt; read_statement(text), want, "{text:?}");
@@ -68,7 +91,7 @@ fn texts_state_what_the_forms_say(rt: HostRuntime) -> Result<(), Fail> {
 
 #[test]
 fn other_texts_are_not_known(rt: HostRuntime) {
-    let texts: [&[u8]; 40] = [
+    let texts: [&[u8]; 38] = [
         b"",
         b"INSERT INTO rt (id,title) VALUES (0,'hello')",
         b"INSERT INTO rt (id,title) VALUES (01,'hello')",
@@ -84,8 +107,9 @@ fn other_texts_are_not_known(rt: HostRuntime) {
         b"INSERT INTO rt (id,title) VALUES (1,'it's')",
         b"INSERT INTO rt (id,title) VALUES (1,'a\\b')",
         b"INSERT INTO rt (id,title) VALUES (1,'a\tb')",
+        b"INSERT INTO rt (id,title) VALUES (1,'a\x1fb')",
         b"INSERT INTO rt (id,title) VALUES (1,'a\x7f')",
-        b"INSERT INTO rt (id,title) VALUES (1,'caf\xc3\xa9')",
+        b"INSERT INTO rt (id,title) VALUES (1,'caf\xe9')",
         b"INSERT INTO rt (id,title) VALUES (1,'hello') ",
         b"INSERT INTO rt (id,title) VALUES (1,'hello');",
         b"INSERT INTO rt (id,title) VALUES (1,'hello'",
@@ -96,11 +120,8 @@ fn other_texts_are_not_known(rt: HostRuntime) {
         b" INSERT INTO rt (id,title) VALUES (1,'hello')",
         b"insert into rt (id,title) values (1,'hello')",
         b"INSERT INTO RT (id,title) VALUES (1,'hello')",
-        b"SELECT id FROM rt WHERE MATCH('')",
         b"SELECT id FROM rt WHERE MATCH(')",
-        b"SELECT id FROM rt WHERE MATCH('abcdefghijklmnopqrstuvwxyzABCDEFGHIJKLMNOPQ')",
-        b"SELECT id FROM rt WHERE MATCH('hello_x')",
-        b"SELECT id FROM rt WHERE MATCH('hello world')",
+        b"SELECT id FROM rt WHERE MATCH('\xd0')",
         b"SELECT id FROM rt WHERE MATCH('hello') ",
         b"SELECT id FROM rt  WHERE MATCH('hello')",
         b"SELECT id FROM rt WHERE MATCH ('hello')",
@@ -116,7 +137,7 @@ fn other_texts_are_not_known(rt: HostRuntime) {
 }
 
 #[test]
-fn a_title_has_at_most_60000_characters(rt: HostRuntime) -> Result<(), Fail> {
+fn a_title_has_at_most_60000_bytes(rt: HostRuntime) -> Result<(), Fail> {
     let alloc = rt.alloc();
     for (count, known) in [(60_000, true), (60_001, false)] {
         let mut text = Vec::new(alloc);
@@ -134,43 +155,29 @@ fn a_title_has_at_most_60000_characters(rt: HostRuntime) -> Result<(), Fail> {
     Ok(())
 }
 
-#[test]
-fn a_word_is_a_whole_run(rt: HostRuntime) {
-    let cases: [(&[u8], &[u8], bool); 15] = [
-        (b"Hello, world", b"hello", true),
-        (b"Hello, world", b"WORLD", true),
-        (b"hello", b"hello", true),
-        (b"hello_x", b"hello", false),
-        (b"x_hello", b"hello", false),
-        (b"hello2", b"hello", false),
-        (b"hellohello", b"hello", false),
-        (b"hell o", b"hello", false),
-        (b"", b"hello", false),
-        (b" -- ", b"hello", false),
-        (b"x/hello:x", b"hello", true),
-        (b"x@hello[x", b"hello", true),
-        (b"x`hello{x", b"hello", true),
-        (b"caf\xc3\xa9hello", b"hello", true),
-        (b"route 66", b"66", true),
-    ];
-    for (title, word, want) in cases {
-        assert_eq!(rt; has_word(title, word), want, "{word:?} in {title:?}");
-    }
+/// The tables of the first index of a configuration.
+pub(crate) fn tables_of(alloc: Global, text: &[u8]) -> Result<PlainTables, Fail> {
+    let conf = read_conf(alloc, text).map_err(|_| "no configuration")?;
+    Ok(PlainTables::new(alloc, conf.indexes.into_vec())?)
 }
 
 #[test]
 fn the_first_ids_come_ascending(rt: HostRuntime) -> Result<(), Fail> {
     let alloc = rt.alloc();
-    let mut tables = PlainTables::new(alloc)?;
-    let documents: [(u64, &[u8]); 4] = [
-        (3, b"hello again"),
-        (u64::MAX, b"Hello"),
-        (1, b"Hello, world"),
-        (2, b"wide world"),
+    let mut tables = tables_of(
+        alloc,
+        b"index rt\n{\ntype = rt\npath = .\nrt_field = title\n}\n",
+    )?;
+    let documents: [(u64, &str); 4] = [
+        (3, "hello again"),
+        (u64::MAX, "Hello"),
+        (1, "Hello, world"),
+        (2, "wide world"),
     ];
     for (id, title) in documents {
         assert!(rt; !tables.contains(id), "{id}");
-        tables.insert(alloc, id, title)?;
+        let doc = document(alloc, tables.conf(), id, title).map_err(|_| "no document")?;
+        tables.insert(doc)?;
         assert!(rt; tables.contains(id), "{id}");
     }
     let cases: [(&[u8], usize, &[u64]); 5] = [

@@ -1,5 +1,4 @@
-use Rattle.std.proofs.Common.{◌≡◌, ℕ, List, refl, ap}
-use Rattle.mysql_wire.specs.Packets.{BeginsWith}
+use Rattle.std.proofs.Common.{◌≡◌, refl}
 use Rattle.mysql_wire.specs.Fronts.{Packet}
 use Rattle.ql_session.specs.Session.{Opened}
 use Rattle.ql_session.proofs.Reading.{OnePacket, runs_once}

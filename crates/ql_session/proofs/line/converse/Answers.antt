@@ -1,4 +1,4 @@
-use Rattle.std.proofs.Common.{◌≡◌, ℕ, suc, ◌^◌, List, [], ◌++◌, Ok, Err, refl, arith, add-one, ◌+◌}
+use Rattle.std.proofs.Common.{ℕ, suc, List, [], ◌++◌, Ok, Err, refl, arith, add-one, ◌+◌}
 use Rattle.ql_session.specs.Statements.{Event, FollowAll}
 use Rattle.ql_session.specs.Session.{Greeted, Talking, Ends}
 use Rattle.ql_session.specs.Pieces.{Goes, GoesOn, meters_of}

@@ -1,4 +1,4 @@
-use Rattle.std.proofs.Common.{◌≡◌, ℕ, List, [], Ok, Err, ◌∙◌}
+use Rattle.std.proofs.Common.{[], Ok, Err, ◌∙◌}
 use Rattle.srch_base.specs.declared.faults.Failed.{Failed}
 use Rattle.ql_session.specs.Session.{Opened, Greeted}
 use Rattle.ql_session.specs.Pieces.{Goes, Writes, meters_of}

@@ -1,10 +1,8 @@
-use Rattle.std.proofs.Common.{◌≡◌, ◌⊎◌, ℕ, List, [], ◌++◌, Ok, Err, refl, sym, ap, subst, arith}
+use Rattle.std.proofs.Common.{◌≡◌, ◌⊎◌, ℕ, List, [], Ok, Err, refl, arith}
 use Rattle.srch_base.specs.Counts.{Rose}
 use Rattle.ql_session.specs.Statements.{Event, FollowAll}
 use Rattle.ql_session.specs.Session.{Opened, Greeted, Ends, IsCut, no_room}
 use Rattle.ql_session.specs.Pieces.{Goes, meters_of}
-use Rattle.ql_session.specs.declared.line.LinkEnd.{LinkEnd}
-use Rattle.ql_session.specs.declared.line.LinkEnd.TheVariants.{NoMemory}
 use Rattle.ql_session.proofs.PieceLemmas.{Moves-then, Moves-weaker}
 use Rattle.ql_session.proofs.Turning.{goes_then}
 use Rattle.ql_session.proofs.Filling.{no_more}

@@ -5,7 +5,6 @@ use Rattle.srch_base.specs.declared.faults.Failed.{Failed}
 use Rattle.mysql_wire.specs.Replies.{err_packet}
 use Rattle.ql_session.specs.Session.{Phase, HasGreeted, expected, Greeted, Talking, Ends, bad_handshake_packet, too_large_packet, out_of_order_packet}
 use Rattle.ql_session.specs.Pieces.{Goes, Writes, RefusesWith, meters_of}
-use Rattle.ql_session.specs.declared.line.LinkEnd.{LinkEnd}
 use Rattle.ql_session.specs.declared.line.LinkEnd.TheVariants.{WriteFault, BadHandshake, TooLarge, OutOfOrder}
 use Rattle.ql_session.proofs.PieceLemmas.{Moves-then}
 use Rattle.ql_session.proofs.Turning.{shaken, shaken_in_part, refused_then}

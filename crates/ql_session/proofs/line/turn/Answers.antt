@@ -1,9 +1,8 @@
-use Rattle.std.proofs.Common.{◌≡◌, ℕ, suc, List, [], ◌++◌, Ok, Err, refl, ap, ◌∙◌}
+use Rattle.std.proofs.Common.{◌≡◌, ℕ, suc, List, [], Ok, Err, refl, ◌∙◌}
 use Rattle.srch_base.specs.declared.faults.Failed.{Failed}
 use Rattle.ql_session.specs.Statements.{Event, FollowAll}
 use Rattle.ql_session.specs.Session.{Phase, HasGreeted, expected, Talking, Ends, too_large_packet, out_of_order_packet}
 use Rattle.ql_session.specs.Pieces.{Goes, Writes, RefusesWith, meters_of}
-use Rattle.ql_session.specs.declared.line.LinkEnd.{LinkEnd}
 use Rattle.ql_session.specs.declared.line.LinkEnd.TheVariants.{Quit, WriteFault, TooLarge, OutOfOrder}
 use Rattle.ql_session.proofs.PieceLemmas.{Moves-then, Moves-weaker}
 use Rattle.ql_session.proofs.Turning.{answered_then, answered_in_part, quit_then, refused_then}

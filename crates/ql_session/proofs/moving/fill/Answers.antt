@@ -1,10 +1,9 @@
-use Rattle.std.proofs.Common.{◌≡◌, ◌⊎◌, ℕ, ◌+◌, [], ◌++◌, List, Ok, Err, refl, sym, ap, subst, ◌∙◌, arith}
+use Rattle.std.proofs.Common.{◌≡◌, ◌⊎◌, ℕ, ◌+◌, [], ◌++◌, Err, refl, ◌∙◌}
 use Rattle.mysql_wire.specs.Packets.{IsPartial}
 use Rattle.srch_base.specs.Counts.{Rose}
 use Rattle.srch_base.specs.declared.faults.Or.TheVariants.{Fault, NoMemory}
 use Rattle.ql_session.specs.Session.{Phase, HasGreeted, expected, Ends, IsCut, no_room}
-use Rattle.ql_session.specs.Pieces.{Moves, Feeds, meters_of}
-use Rattle.ql_session.specs.declared.line.LinkEnd.TheVariants as ends
+use Rattle.ql_session.specs.Pieces.{Feeds, meters_of}
 use Rattle.ql_session.proofs.PieceLemmas.{Moves-then}
 use Rattle.ql_session.proofs.Filling.{starved, no_more}
 use Rattle.ql_session.proofs.moving.fill.Goals as goal

@@ -1,9 +1,9 @@
 use Rattle.srch_base.specs.declared.faults.Failed.{Failed}
-use Rattle.std.proofs.Common.{◌≡◌, ◌⊎◌, ℕ, ◌+◌, ◌-◌, ◌<◌, ◌≤◌, List, [], ◌++◌, length, take, drop, refl, sym, subst, arith, length-drop, length-take, Err}
+use Rattle.std.proofs.Common.{◌≡◌, ℕ, ◌+◌, ◌-◌, ◌<◌, ◌≤◌, List, [], length, take, drop, refl, sym, subst, arith, length-drop, length-take, Err}
 use Rattle.std.proofs.lemmas.List.{append-nil}
 use Rattle.srch_base.specs.Counts.{Rose-earlier}
 use Rattle.ql_session.specs.Session.{IsCut}
-use Rattle.ql_session.specs.Pieces.{Moves, Writes}
+use Rattle.ql_session.specs.Pieces.{Writes}
 use Rattle.ql_session.proofs.PieceLemmas.{cut_at, take_next, stuck, Moves-more}
 use Rattle.ql_session.proofs.moving.write_all.Goals as goal
 

@@ -1,4 +1,3 @@
-use Rattle.std.proofs.Common.{◌≡◌}
 use Rattle.mysql_wire.specs.Answered.{response_by}
 use Rattle.ql_session.proofs.packets.take_response.Goals as goal
 

@@ -1,9 +1,7 @@
-use Rattle.std.proofs.Common.{◌≡◌, ◌<◌, ℕ, List, length, sym, ap, subst, arith, ◌∙◌}
+use Rattle.std.proofs.Common.{◌<◌, length, sym, ap, subst, arith, ◌∙◌}
 use Rattle.std.specs.Prelude.{All}
 use Rattle.mysql_wire.specs.declared.rows.Column.{Column}
-use Rattle.mysql_wire.specs.declared.rows.Cell.{Cell}
-use Rattle.mysql_wire.specs.Rows.{column_payload}
-use Rattle.ql_session.specs.Statements.{row, id_cell}
+use Rattle.ql_session.specs.Statements.{row}
 use Rattle.ql_session.proofs.Sets.{length-column, ids_short}
 use Rattle.ql_session.proofs.replies.put_ids.Goals as goal
 

@@ -1,4 +1,4 @@
-use Rattle.std.proofs.Common.{◌≡◌, ℕ, List, ◌++◌, ap, ◌∙◌}
+use Rattle.std.proofs.Common.{ℕ, List, ◌++◌, ap, ◌∙◌}
 use Rattle.mysql_wire.specs.Packets.{packet}
 use Rattle.mysql_wire.specs.Rows.{column_payload}
 use Rattle.ql_session.proofs.Sets.{set_by_packets}

@@ -1,20 +1,11 @@
-use Rattle.std.proofs.Common.{◌≡◌, ℕ, List, [], ◌∷◌, ◌++◌, Some, None, OnOk, take, refl, sym, ap, subst, ◌∙◌}
+use Rattle.std.proofs.Common.{ℕ, [], ◌++◌, Some, None, refl, ap, ◌∙◌}
 use Rattle.std.proofs.lemmas.Result.{on_ok_weaker}
-use Rattle.std.specs.Prelude.{codes, ⊤}
-use Rattle.mysql_wire.specs.Replies.{err_payload}
-use Rattle.ql_session.specs.Documents.{ids_with}
-use Rattle.ql_session.specs.Texts.{Search, VersionComment, CurrentDatabase}
-use Rattle.ql_session.specs.Statements.{Read, Nothing, status_of, packets_from, id_set, text_set}
+use Rattle.std.specs.Prelude.{codes}
+use Rattle.mysql_wire.specs.Replies.{err_payload, ok_packet, ok_payload}
+use Rattle.ql_session.specs.Texts.{VersionComment, CurrentDatabase, ShowDatabases}
+use Rattle.ql_session.specs.Statements.{Nothing, status_of, packets_from, text_set}
 use Rattle.ql_session.proofs.Replying.{one_packet, runs_by}
 use Rattle.ql_session.proofs.session.Session.run.Goals as goal
-
-pub returns-in_ok-ids-in-Search-clause-runs : goal.returns-in_ok-ids-in-Search-clause-runs
-returns-in_ok-ids-in-Search-clause-runs c =
-    let ids = c.deref.ensures.value ∙ c.in_ok-ids-in-Search.ensures in
-    rw c.in-Search.is (runs_by c.put_ids.result c.args.self.now (Search c.in-Search.word.now) (Read c.args.tables.now) c.args.tables.now c.args.out.now.items c.put_ids.new.out.items
-    tt tt (refl, refl) c.requires.empty
-    (on_ok_weaker c.put_ids.result (λ e. e ∙ ap (λ (status : ℕ). c.args.out.now.items ++ packets_from 1 (id_set status c.deref.result.now)) c.status-status.ensures
-    ∙ ap (λ (ids : List ℕ). c.args.out.now.items ++ packets_from 1 (id_set (status_of c.args.self.now) ids)) ids) c.put_ids.ensures.ok))
 
 pub returns-in-VersionComment-clause-runs : goal.returns-in-VersionComment-clause-runs
 returns-in-VersionComment-clause-runs c =
@@ -34,5 +25,21 @@ returns-in-Other-clause-runs c =
       Nothing,
       tt,
       refl,
-      one_packet c.args.out.now.items c.put-in-Other.new.out.items c.err_packet.result (err_payload 1064 (codes "42000") (codes "not offered yet")) c.requires.empty c.put-in-Other.ensures.items c.err_packet.ensures,
+      one_packet c.args.out.now.items c.put-in-Other.new.out.items c.not_offered.result (err_payload 1064 (codes "42000") (codes "not offered yet")) c.requires.empty c.put-in-Other.ensures.items c.not_offered.ensures,
+    ))
+
+pub returns-in-ShowDatabases-clause-runs : goal.returns-in-ShowDatabases-clause-runs
+returns-in-ShowDatabases-clause-runs c =
+    rw c.in-ShowDatabases.is (runs_by c.put_text-in-ShowDatabases.result c.args.self.now ShowDatabases Nothing c.args.tables.now c.args.out.now.items c.put_text-in-ShowDatabases.new.out.items
+    tt tt refl c.requires.empty
+    (on_ok_weaker c.put_text-in-ShowDatabases.result (λ e. e ∙ ap (λ (status : ℕ). c.args.out.now.items ++ packets_from 1 (text_set status (codes "Database") None)) c.status-status.ensures) c.put_text-in-ShowDatabases.ensures.ok))
+
+pub returns-in-SetNames-clause-runs : goal.returns-in-SetNames-clause-runs
+returns-in-SetNames-clause-runs c =
+    rw c.in-SetNames.is ((
+      Nothing,
+      tt,
+      refl,
+      one_packet c.args.out.now.items c.put.new.out.items c.ok_packet.result (ok_payload 0 (status_of c.args.self.now)) c.requires.empty c.put.ensures.items
+          (c.ok_packet.ensures ∙ ap (λ (status : ℕ). ok_packet 1 0 status) c.status-status.ensures),
     ))

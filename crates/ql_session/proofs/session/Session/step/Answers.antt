@@ -1,6 +1,6 @@
-use Rattle.std.proofs.Common.{◌≡◌, ℕ, List, [], ◌∷◌, ◌++◌, refl, ap, ◌∙◌, ⊎_elim}
+use Rattle.std.proofs.Common.{ℕ, [], ◌∷◌, refl, ap, ◌∙◌, ⊎_elim}
 use Rattle.std.specs.Prelude.{codes}
-use Rattle.mysql_wire.specs.Replies.{err_packet, err_payload, ok_packet, ok_payload, eof_packet, eof_payload}
+use Rattle.mysql_wire.specs.Replies.{err_payload, ok_packet, ok_payload, eof_packet, eof_payload}
 use Rattle.ql_session.specs.Statements.{reply, status_of}
 use Rattle.ql_session.proofs.Replying.{one_packet}
 use Rattle.ql_session.proofs.session.Session.step.Goals as goal
