@@ -15,9 +15,12 @@ use std::io::ErrorKind;
 use std::process::ExitCode;
 
 fn main(rt: HostRuntime) -> ExitCode {
-    let mut host = RealHost::new(rt.alloc(), rt.stdin(), rt.stdout(), rt.stderr());
-    let status = match words(&rt) {
-        Ok(words) => searchd(rt.alloc(), words.as_slice(), &mut host),
+    let alloc = rt.alloc();
+    let words = words(&rt);
+    let (input, output, errors) = (rt.stdin(), rt.stdout(), rt.stderr());
+    let mut host = RealHost::new(rt, alloc, input, output, errors);
+    let status = match words {
+        Ok(words) => searchd(alloc, words.as_slice(), &mut host),
         Err(NoMemory) => without_memory(&mut host),
     };
     ExitCode::from(status.code())
@@ -40,10 +43,10 @@ fn words(rt: &HostRuntime) -> Result<Vec<String>, NoMemory> {
 }
 
 /// Says that the words couldn't be held.
-fn without_memory(host: &mut RealHost) -> Status
+fn without_memory<H: Host>(host: &mut H) -> Status
     ensures { result ≡ Status.NoMemory }
 {
-    match host.print(Stream::Err, Status::NoMemory.line()) {
+    match host.print(Stream::Err, &Status::NoMemory.line()) {
         Ok(()) | Err(Failed) => Status::NoMemory,
     }
 }

@@ -1,14 +1,18 @@
-ghost use Rattle.std.specs.Prelude.{◌≡◌, ◌≤◌, ◌+◌, ◌++◌, [], length, option_to_list};
+ghost use Rattle.std.specs.Prelude.{◌≡◌, ◌≤◌, ◌+◌, ◌++◌, [], length, option_to_list, IfOk};
 
 use crate::std_door::StdDoor;
 use searchd_top::{Host, Stream};
 use srch_base::{Failed, OpenFault};
 use std::alloc::Global;
-use std::io::{Stderr, Stdin, Stdout, Write};
+use std::fs;
+use std::io::{self, ErrorKind, Read, Stderr, Stdin, Stdout, Write};
+use std::rt::Files;
 
-/// The host of the program: the standard streams, and one door over them. It tells nothing of what was printed.
+/// The host of the program: files, the standard streams, and one door over them. It tells nothing of texts or of what was
+/// printed.
 #[derive(Drop)]
-pub struct RealHost {
+pub struct RealHost<R> {
+    files: R,
     alloc: Global,
     input: Stdin,
     output: Stdout,
@@ -18,12 +22,13 @@ pub struct RealHost {
     faults: u64,
 }
 
-impl RealHost {
-    pub fn new(alloc: Global, input: Stdin, output: Stdout, errors: Stderr) -> RealHost
+impl<R> RealHost<R> {
+    pub fn new(files: R, alloc: Global, input: Stdin, output: Stdout, errors: Stderr) -> RealHost<R>
         ensures gave { option_to_list result.gave ≡ [] }
         ensures back { option_to_list result.back ≡ [] }
     {
         RealHost {
+            files,
             alloc,
             input,
             output,
@@ -35,10 +40,12 @@ impl RealHost {
     }
 }
 
-impl Host for RealHost {
+impl<R: Files> Host for RealHost<R> {
     ghost use Rattle.std.specs.Prelude.{None};
 
     type Entry = StdDoor;
+
+    ghost text = { λ _ _. None };
 
     ghost printed = { λ _ _. None };
 
@@ -47,6 +54,17 @@ impl Host for RealHost {
     ghost doors_back = { λ host. option_to_list host.back };
 
     ghost faults = { λ host. host.faults };
+
+    fn read_text(&mut self, path: &str, limit: u32) -> Result<Vec<u8>, OpenFault> {
+        match read_front(self.alloc, &self.files, path, limit) {
+            Ok(bytes) => Ok(bytes),
+            Err(error) if error.kind() == ErrorKind::OutOfMemory => Err(OpenFault::NoMemory),
+            Err(_) => {
+                self.faults = self.faults.saturating_add(1);
+                Err(OpenFault::Failed)
+            }
+        }
+    }
 
     fn print(&mut self, to: Stream, line: &[u8]) -> Result<(), Failed> {
         let printed = match to {
@@ -84,4 +102,22 @@ impl Host for RealHost {
             self.back = Some(door);
         }
     }
+}
+
+/// The first `limit + 1` bytes of a file, or all of a shorter one.
+fn read_front<R: Files>(alloc: Global, files: &R, path: &str, limit: u32) -> io::Result<Vec<u8>>
+    ensures { IfOk result (λ bytes. length bytes.items ≤ limit + 1) }
+{
+    let mut file = fs::open(files, path)?;
+    let mut bytes = vec![in alloc; 0; limit as usize + 1]?;
+    let mut at = 0;
+    'reading: for _ in 0..=limit {
+        let count = file.read(&mut bytes[at..])?;
+        if count == 0 {
+            break;
+        }
+        at += count;
+    }
+    bytes.truncate(at);
+    Ok(bytes)
 }

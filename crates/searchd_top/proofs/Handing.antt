@@ -1,52 +1,142 @@
--- Runs that take no door, and a run whose status is reported.
-use Rattle.std.proofs.Common.{◌≡◌, ℕ, ◌≤◌, List, [], sym, ◌∙◌, inl, inr, append-nil}
-use Rattle.std.specs.Prelude.{Err}
+-- Runs that take no door, a run whose door is served, and a run whose status is reported.
+use Rattle.std.proofs.Common.{◌≡◌, ℕ, ◌≤◌, ◌<◌, List, [], ◌∷◌, ◌++◌, length, arith, refl, sym, ap, subst, ◌∙◌, inl, inr, append-nil}
+use Rattle.std.specs.Prelude.{Some, Err, slice_get}
 use Rattle.srch_base.specs.Counts.{Rose-later}
 use Rattle.srch_base.specs.declared.link.Link.{Ghosts as LinkWords}
 use Rattle.srch_base.specs.declared.door.Door.{Ghosts as DoorWords}
 use Rattle.srch_base.specs.declared.faults.OpenFault.{OpenFault}
 use Rattle.srch_base.specs.declared.faults.OpenFault.TheVariants as opening
+use Rattle.conf_text.specs.Confs.{IsConfOf}
+use Rattle.conf_text.specs.declared.conf.Conf.{Conf}
+use Rattle.conf_text.specs.declared.conf.IndexConf.{IndexConf}
+use Rattle.conf_text.specs.declared.conf.TheConstants.{MAX_CONF_BYTES}
+use Rattle.searchd_top.specs.Words.{session}
+use Rattle.searchd_top.specs.Configuring.{Texts, AreReadOf}
 use Rattle.searchd_top.specs.Lending.{CountsOpening}
 use Rattle.searchd_top.specs.Printing.{CountsReport}
-use Rattle.searchd_top.specs.Sessions.{Says, Runs}
+use Rattle.searchd_top.specs.Sessions.{Says, SaysOfDoor, ServesOne, Runs}
+use Rattle.searchd_top.specs.Serving.{Configures, SaysServing, ServesFirst}
 use Rattle.searchd_top.specs.Statuses.{line_of, status_of}
 use Rattle.searchd_top.specs.declared.host.Host.{Ghosts as HostWords}
 use Rattle.searchd_top.specs.declared.status.Status.{Status}
-use Rattle.searchd_top.specs.declared.status.Status.TheVariants.{Done, Usage, HostFault, NoMemory}
+use Rattle.searchd_top.specs.declared.status.Status.TheVariants.{Done, Usage, Config, HostFault, NoMemory}
 
 module _ {H D K : Type 0} (host : HostWords H D K) (door : DoorWords D K) (link : LinkWords K) where
   -- no door was taken
-  pub runs_none : (status : Status) (old new : H) → host.doors_given new ≡ host.doors_given old → host.doors_back new ≡ host.doors_back old
-      → Says status door (host.faults old) (host.faults new) [] [] → Runs host door link status old new
-  runs_none status old new given back says = record {
+  pub runs_none : (words : List (List ℕ)) (status : Status) (old new : H) → host.doors_given new ≡ host.doors_given old → host.doors_back new ≡ host.doors_back old
+      → Says status (host.text old) words door (host.faults old) (host.faults new) [] [] → Runs host door link words status old new
+  runs_none words status old new given back says = record {
     taken = [];
     returned = [];
     gives = given ∙ sym (append-nil (host.doors_given old));
     takes = back ∙ sym (append-nil (host.doors_back old));
-    holds = (tt, says);
+    holds = (inl (refl, refl), says);
   }
 
+  -- no door was served
+  pub serves_none : (indexes : List IndexConf) (status : Status) (old new : H) → 0 < length indexes → host.doors_given new ≡ host.doors_given old → host.doors_back new ≡ host.doors_back old
+      → SaysServing status door (host.faults old) (host.faults new) [] [] → ServesFirst host door link indexes status old new
+  serves_none [] status old new some given back says = absurd (omega (arith, some))
+  serves_none (index ∷ indexes) status old new some given back says = (
+    index,
+    refl,
+    record {
+      taken = [];
+      returned = [];
+      gives = given ∙ sym (append-nil (host.doors_given old));
+      takes = back ∙ sym (append-nil (host.doors_back old));
+      holds = (tt, says);
+    },
+  )
+
+  -- what is said of the one door
+  served_one : (status : Status) (before now : ℕ) (d d' : D) → now ≡ before → SaysOfDoor status door d d' → SaysServing status door before now (d ∷ []) (d' ∷ [])
+  served_one Done before now d d' still says = (still, refl, (says, tt))
+  served_one HostFault before now d d' still says = inr (inl says)
+  served_one NoMemory before now d d' still says = tt
+  served_one Usage before now d d' still says = absurd says
+  served_one (Config line kind) before now d d' still says = absurd says
+
+  -- the one door was served and handed back
+  pub serves_door : (indexes : List IndexConf) (index : IndexConf) (status : Status) (old mid new : H) (doors after : List D) (d d' : D)
+      → slice_get indexes 0 ≡ Some index → doors ≡ d ∷ [] → after ≡ d' ∷ []
+      → host.doors_given new ≡ host.doors_given mid → host.doors_given mid ≡ host.doors_given old ++ doors
+      → host.doors_back new ≡ host.doors_back mid ++ after → host.doors_back mid ≡ host.doors_back old → host.faults new ≡ host.faults old
+      → ServesOne door link index d d' → SaysOfDoor status door d d' → ServesFirst host door link indexes status old new
+  serves_door indexes index status old mid new doors after d d' first one one' given gives back backs still serves says = (
+    index,
+    first,
+    record {
+      taken = d ∷ [];
+      returned = d' ∷ [];
+      gives = given ∙ gives ∙ ap (λ (xs : List D). host.doors_given old ++ xs) one;
+      takes = back ∙ ap (λ (xs : List D). xs ++ after) backs ∙ ap (λ (xs : List D). host.doors_back old ++ xs) one';
+      holds = ((serves, tt), served_one status (host.faults old) (host.faults new) d d' still says);
+    },
+  )
+
   -- a host that opened none
-  pub says_refused : (fault : OpenFault) (before now : ℕ) → CountsOpening {T = ℕ} (Err fault) before now → Says (status_of fault) door before now [] []
+  pub says_refused : (fault : OpenFault) (before now : ℕ) → CountsOpening {T = ℕ} (Err fault) before now → SaysServing (status_of fault) door before now [] []
   says_refused opening.NoMemory before now cause = tt
   says_refused opening.Failed before now cause = inl cause.1
 
-  -- a report changes nothing of what a status says
-  pub says_still : (status : Status) (before between now : ℕ) (doors after : List D) → before ≤ between → CountsReport (line_of status) between now
-      → Says status door before between doors after → Says status door before now doors after
-  says_still Done before between now doors after later still says = (still ∙ says.0, says.1, says.2)
-  says_still Usage before between now doors after later still says = says
-  says_still HostFault before between now doors after later still (inl rose) = inl (Rose-later before between now later still rose)
-  says_still HostFault before between now doors after later still (inr failed) = inr failed
-  says_still NoMemory before between now doors after later still says = tt
+  -- a file that gave no configuration
+  pub says_unconfigured : (texts : Texts) (file : List ℕ) (status : Status) (before now : ℕ) → Configures (texts file) (Err status) before now
+      → Says status texts (session file) door before now [] []
+  says_unconfigured texts file (Config line kind) before now (bytes, read, fault) =
+      (refl, record { bytes = bytes; read = record { file = file; named = refl; read = read }; is = fault })
+  says_unconfigured texts file HostFault before now rose = inl rose
+  says_unconfigured texts file NoMemory before now c = tt
+  says_unconfigured texts file Done before now c = absurd c
+  says_unconfigured texts file Usage before now c = absurd c
 
-  pub runs_reported : (status : Status) (old between new : H) → host.doors_given new ≡ host.doors_given between → host.doors_back new ≡ host.doors_back between
+  -- what is said once doors are asked for
+  says_served : (texts : Texts) (words : List (List ℕ)) (status : Status) (before now : ℕ) (doors after : List D)
+      → SaysServing status door before now doors after → Says status texts words door before now doors after
+  says_served texts words Done before now doors after says = says
+  says_served texts words HostFault before now doors after says = says
+  says_served texts words NoMemory before now doors after says = tt
+  says_served texts words Usage before now doors after says = absurd says
+  says_served texts words (Config line kind) before now doors after says = absurd says
+
+  -- a file's configuration was read, and then its first index served
+  pub runs_configured : (file bytes : List ℕ) (conf : Conf) (status : Status) (old between new : H)
+      → AreReadOf (host.text old file) MAX_CONF_BYTES bytes → IsConfOf bytes conf
+      → host.doors_given between ≡ host.doors_given old → host.doors_back between ≡ host.doors_back old → host.faults between ≡ host.faults old
+      → ServesFirst host door link conf.indexes status between new → Runs host door link (session file) status old new
+  runs_configured file bytes conf status old between new read is given back still (index, first, hands) = record {
+    taken = hands.taken;
+    returned = hands.returned;
+    gives = hands.gives ∙ ap (λ (xs : List D). xs ++ hands.taken) given;
+    takes = hands.takes ∙ ap (λ (xs : List D). xs ++ hands.returned) back;
+    holds = (
+      inr (
+        index,
+        record { bytes = bytes; read = record { file = file; named = refl; read = read }; conf = conf; is = is; first = first },
+        hands.holds.0,
+      ),
+      says_served (host.text old) (session file) status (host.faults old) (host.faults new) hands.taken hands.returned
+          (subst (λ (n : ℕ). SaysServing status door n (host.faults new) hands.taken hands.returned) still hands.holds.1),
+    );
+  }
+
+  -- a report changes nothing of what a status says
+  pub says_still : (texts : Texts) (words : List (List ℕ)) (status : Status) (before between now : ℕ) (doors after : List D) → before ≤ between → CountsReport (line_of status) between now
+      → Says status texts words door before between doors after → Says status texts words door before now doors after
+  says_still texts words Done before between now doors after later still says = (still ∙ says.0, says.1, says.2)
+  says_still texts words Usage before between now doors after later still says = says
+  says_still texts words (Config line kind) before between now doors after later still says = says
+  says_still texts words HostFault before between now doors after later still (inl rose) = inl (Rose-later before between now later still rose)
+  says_still texts words HostFault before between now doors after later still (inr failed) = inr failed
+  says_still texts words NoMemory before between now doors after later still says = tt
+
+  pub runs_reported : (words : List (List ℕ)) (status : Status) (old between new : H) → host.doors_given new ≡ host.doors_given between → host.doors_back new ≡ host.doors_back between
       → host.faults old ≤ host.faults between → CountsReport (line_of status) (host.faults between) (host.faults new)
-      → Runs host door link status old between → Runs host door link status old new
-  runs_reported status old between new given back later still runs = record {
+      → Runs host door link words status old between → Runs host door link words status old new
+  runs_reported words status old between new given back later still runs = record {
     taken = runs.taken;
     returned = runs.returned;
     gives = given ∙ runs.gives;
     takes = back ∙ runs.takes;
-    holds = (runs.holds.0, says_still status _ _ _ runs.taken runs.returned later still runs.holds.1);
+    holds = (runs.holds.0, says_still (host.text old) words status _ _ _ runs.taken runs.returned later still runs.holds.1);
   }

@@ -1,3 +1,4 @@
 pub mod Handing
 pub mod Copies
 pub mod Arguments
+pub mod Lines

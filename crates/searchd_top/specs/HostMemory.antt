@@ -1,5 +1,6 @@
 -- A host over memory: what it holds, and what each call makes of it.
-use Rattle.std.specs.Prelude.{◌+◌, ◌-◌, ◌==◌, ◌||◌, ℕ, List, [], ◌++◌, Bool, nat_lt, Option, Some, Result, Ok, Err, length, take}
+use Rattle.std.specs.Prelude.{◌+◌, ◌-◌, ◌==◌, ◌||◌, ℕ, List, [], ◌++◌, Bool, nat_lt, Option, Some, is_none, find, option_map, Result, Ok, Err, length, take}
+use Rattle.std.specs.Str.{bytes_eq}
 use Rattle.std.specs.List.{list_any}
 use Rattle.srch_base.specs.Memory.{Lines, one_more}
 use Rattle.srch_base.specs.declared.faults.OpenFault.{OpenFault}
@@ -9,6 +10,8 @@ use Rattle.searchd_top.specs.declared.host.Stream.TheVariants as streams
 
 -- A host over memory.
 pub record HostMemory : Type 0 where
+  -- its files: the path and the text of each
+  pub texts : List (List ℕ × List ℕ)
   -- all doors that it gives, and how many of them were given
   pub doors : List Lines
   pub at : ℕ
@@ -21,10 +24,18 @@ pub record HostMemory : Type 0 where
   pub errors : List ℕ
   pub faults : ℕ
 
--- the host over these doors before its first call
-abbrev pub host_over : List Lines → List ℕ → HostMemory
-host_over doors failing =
-    record { doors = doors; at = 0; back = []; failing = failing; calls = 0; out = []; errors = []; faults = 0 }
+-- the host over these files and doors before its first call
+abbrev pub host_over : List (List ℕ × List ℕ) → List Lines → List ℕ → HostMemory
+host_over texts doors failing =
+    record { texts = texts; doors = doors; at = 0; back = []; failing = failing; calls = 0; out = []; errors = []; faults = 0 }
+
+-- the text of the first file with this path
+abbrev pub text_at : List (List ℕ × List ℕ) → List ℕ → Option (List ℕ)
+text_at files path = option_map (λ file. file.1) (find (λ file. bytes_eq file.0 path) files)
+
+-- such a host tells it
+abbrev pub text_of : HostMemory → List ℕ → Option (List ℕ)
+text_of h path = text_at h.texts path
 
 -- what was printed to a stream
 abbrev pub printed_to : Stream → HostMemory → List ℕ
@@ -43,6 +54,10 @@ doors_of h = take h.at h.doors
 abbrev pub fails_next : HostMemory → Bool
 fails_next h = list_any (λ number. number == h.calls + 1) h.failing
 
+-- the next call can't read a file with this path
+abbrev pub reads_none : HostMemory → List ℕ → Bool
+reads_none h path = fails_next h || is_none (text_of h path)
+
 -- the next call can't give so many doors
 abbrev pub opens_none : HostMemory → ℕ → Bool
 opens_none h n = fails_next h || nat_lt (length h.doors - h.at) n
@@ -60,6 +75,12 @@ with_printed h streams.Err bytes = record h { errors = h.errors ++ bytes }
 abbrev pub after_print : {T E : Type 0} → HostMemory → Stream → List ℕ → Result T E → HostMemory
 after_print h to line (Err e) = after_fault h
 after_print h to line (Ok x) = with_printed (record h { calls = one_more h.calls }) to line
+
+-- the host after a call that failed, was refused memory, or read a text
+abbrev pub after_read : {T : Type 0} → HostMemory → Result T OpenFault → HostMemory
+after_read h (Err opening.Failed) = after_fault h
+after_read h (Err opening.NoMemory) = record h { calls = one_more h.calls }
+after_read h (Ok x) = record h { calls = one_more h.calls }
 
 -- the host after a call that failed, was refused memory, or gave so many doors
 abbrev pub after_doors : {T : Type 0} → HostMemory → ℕ → Result T OpenFault → HostMemory

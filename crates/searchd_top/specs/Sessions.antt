@@ -4,26 +4,32 @@ use Rattle.std.specs.List.{AllZip}
 use Rattle.srch_base.specs.Counts.{Rose}
 use Rattle.srch_base.specs.declared.link.Link.{Ghosts as LinkWords}
 use Rattle.srch_base.specs.declared.door.Door.{Ghosts as DoorWords}
-use Rattle.ql_session.specs.Documents.{Documents}
+use Rattle.conf_text.specs.declared.conf.IndexConf.{IndexConf}
+use Rattle.ql_session.specs.Documents.{Tables}
 use Rattle.ql_session.specs.Statements.{Event, FollowAll}
 use Rattle.ql_session.specs.Session.{Session}
 use Rattle.ql_session.specs.Pieces.{Moves}
 use Rattle.ql_session.specs.declared.line.LinkEnd.{LinkEnd}
+use Rattle.searchd_top.specs.Configuring.{Texts, IsConfigured, IsMisconfigured}
 use Rattle.searchd_top.specs.Lending.{HandsBack, SomeZip}
 use Rattle.searchd_top.specs.declared.host.Host.{Ghosts as HostWords}
 use Rattle.searchd_top.specs.declared.status.Status.{Status}
-use Rattle.searchd_top.specs.declared.status.Status.TheVariants.{Done, Usage, HostFault, NoMemory}
+use Rattle.searchd_top.specs.declared.status.Status.TheVariants.{Done, Usage, Config, HostFault, NoMemory}
 
--- One whole session of this connection went over the line. Its documents began with none.
-abbrev pub Serves : {K : Type 0} → LinkWords K → ℕ → K → K → Type 0
-Serves link connection line served =
-    (end : LinkEnd) × (documents : Documents) × Moves link line served (λ before now read written.
-    (events : List Event) × Session connection before now read written end events × FollowAll [] events documents)
+-- an index without documents
+abbrev pub empty_index : IndexConf → Tables
+empty_index index = record { conf = index; documents = [] }
+
+-- One whole session of this connection went over the line, by this index, which had no documents at its beginning.
+abbrev pub Serves : {K : Type 0} → LinkWords K → ℕ → IndexConf → K → K → Type 0
+Serves link connection index line served =
+    (end : LinkEnd) × (tables : Tables) × Moves link line served (λ before now read written.
+    (events : List Event) × Session connection before now read written end events × FollowAll (empty_index index) events tables)
 
 -- The door gave at most one line, and it was handed back, served as connection 1.
-abbrev pub ServesOne : {D K : Type 0} → DoorWords D K → LinkWords K → D → D → Type 0
-ServesOne door link old new =
-    HandsBack (door.given old) (door.given new) (door.returned old) (door.returned new) (λ lines served. (length lines ≤ 1) × AllZip (Serves link 1) lines served)
+abbrev pub ServesOne : {D K : Type 0} → DoorWords D K → LinkWords K → IndexConf → D → D → Type 0
+ServesOne door link index old new =
+    HandsBack (door.given old) (door.given new) (door.returned old) (door.returned new) (λ lines served. (length lines ≤ 1) × AllZip (Serves link 1 index) lines served)
 
 -- The door did its work: its count stands still, and it gave a line or has ended.
 abbrev pub DidWork : {D K : Type 0} → DoorWords D K → D → D → Type 0
@@ -34,22 +40,29 @@ DidWork {D} {K} door old new =
 abbrev pub DoorFailed : {D K : Type 0} → DoorWords D K → D → D → Type 0
 DoorFailed door old new = Rose (door.faults old) (door.faults new)
 
--- What a status says of the host's count, and of its doors before and after.
-abbrev pub Says : {D K : Type 0} → Status → DoorWords D K → ℕ → ℕ → List D → List D → Type 0
-Says Done door before now doors after = (now ≡ before) × (length doors ≡ 1) × AllZip (DidWork door) doors after
-Says Usage door before now doors after = doors ≡ []
-Says HostFault door before now doors after = Rose before now ⊎ SomeZip (DoorFailed door) doors after
-Says NoMemory door before now doors after = ⊤
+-- What a status says of the words and the host's texts, of the host's count, and of its doors before and after.
+abbrev pub Says : {D K : Type 0} → Status → Texts → List (List ℕ) → DoorWords D K → ℕ → ℕ → List D → List D → Type 0
+Says Done texts words door before now doors after = (now ≡ before) × (length doors ≡ 1) × AllZip (DidWork door) doors after
+Says Usage texts words door before now doors after = doors ≡ []
+Says (Config line kind) texts words door before now doors after = (doors ≡ []) × IsMisconfigured texts words (record { line = line; kind = kind })
+Says HostFault texts words door before now doors after = Rose before now ⊎ SomeZip (DoorFailed door) doors after
+Says NoMemory texts words door before now doors after = ⊤
 
 -- what it says of one door
 abbrev pub SaysOfDoor : {D K : Type 0} → Status → DoorWords D K → D → D → Type 0
 SaysOfDoor Done door old new = DidWork door old new
 SaysOfDoor Usage door old new = ⊥
+SaysOfDoor (Config line kind) door old new = ⊥
 SaysOfDoor HostFault door old new = DoorFailed door old new
 SaysOfDoor NoMemory door old new = ⊤
 
+-- No door was taken, or the words' file is a configuration, by whose first index each door was served.
+abbrev pub ServesAll : {D K : Type 0} → Texts → List (List ℕ) → DoorWords D K → LinkWords K → List D → List D → Type 0
+ServesAll texts words door link doors after =
+    ((doors ≡ []) × (after ≡ [])) ⊎ ((index : IndexConf) × IsConfigured texts words index × AllZip (ServesOne door link index) doors after)
+
 -- A run: the doors that the host gave were served and handed back, and the status says how it went.
-abbrev pub Runs : {H D K : Type 0} → HostWords H D K → DoorWords D K → LinkWords K → Status → H → H → Type 0
-Runs host door link status old new =
+abbrev pub Runs : {H D K : Type 0} → HostWords H D K → DoorWords D K → LinkWords K → List (List ℕ) → Status → H → H → Type 0
+Runs host door link words status old new =
     HandsBack (host.doors_given old) (host.doors_given new) (host.doors_back old) (host.doors_back new) (λ doors after.
-    AllZip (ServesOne door link) doors after × Says status door (host.faults old) (host.faults new) doors after)
+    ServesAll (host.text old) words door link doors after × Says status (host.text old) words door (host.faults old) (host.faults new) doors after)

@@ -2,6 +2,7 @@ ghost use Rattle.std.specs.Prelude.{◌≡◌, ◌+◌, ◌≤◌, ◌++◌, ℕ
 ghost use Rattle.std.specs.List.{All};
 ghost use Rattle.searchd_top.specs.declared.host.Stream.{Stream};
 ghost use Rattle.srch_base.specs.Counts.{HasCause};
+ghost use Rattle.searchd_top.specs.Configuring.{AreReadOf};
 ghost use Rattle.searchd_top.specs.Printing.{PrintsLine};
 ghost use Rattle.searchd_top.specs.Lending.{IsWithin, CountsOpening};
 
@@ -14,9 +15,9 @@ pub enum Stream {
     Err,
 }
 
-/// All that the program needs of the outside: where it prints, and where its lines come from.
+/// All that the program needs of the outside: its texts, where it prints, and where its lines come from.
 ///
-/// A host may tell what was printed; the real one tells nothing.
+/// A host may tell its texts and what was printed; the real one tells nothing.
 pub trait Host {
     type Entry: Door + Send;
 
@@ -31,6 +32,19 @@ pub trait Host {
 
     /// How often the host has failed.
     ghost faults: { Self → ℕ };
+
+    /// The text of each file, as a path names it, where it is told.
+    ghost text: { Self → List ℕ → Option (List ℕ) };
+
+    /// Reads the text that a path names: all of it, or its first `limit + 1` bytes where it is longer.
+    fn read_text(&mut self, path: &str, limit: u32) -> Result<Vec<u8>, OpenFault>
+        ensures reads { IfOk result (λ bytes. AreReadOf (text self.old path.now) limit bytes.items) }
+        ensures short { IfOk result (λ bytes. length bytes.items ≤ limit + 1) }
+        ensures cause { CountsOpening result (faults self.old) (faults self.new) }
+        ensures tells { text self.new ≡ text self.old }
+        ensures gives { doors_given self.new ≡ doors_given self.old }
+        ensures back { doors_back self.new ≡ doors_back self.old }
+        ensures prints { printed self.new ≡ printed self.old };
 
     /// Prints a line. `line` has its LF at its end.
     fn print(&mut self, to: Stream, line: &[u8]) -> Result<(), Failed>

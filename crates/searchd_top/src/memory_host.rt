@@ -1,26 +1,28 @@
-ghost use Rattle.std.specs.Prelude.{◌≡◌, ◌+◌, ◌≤◌, ◌++◌, ◌==◌, length, take, drop, is_err, IfOk, OnOk, OnErr, IsTrue, IsErr, MatchResult};
+ghost use Rattle.std.specs.Prelude.{◌≡◌, ◌+◌, ◌≤◌, ◌++◌, ◌==◌, length, take, drop, is_err, option_copied, IfOk, OnOk, OnErr, IsTrue, IsErr, MatchResult};
 ghost use Rattle.std.specs.List.{All, list_any};
 ghost use Rattle.srch_base.specs.Counts.{HasCause, Rose};
 ghost use Rattle.srch_base.specs.Memory.{one_more, lines_given};
+ghost use Rattle.searchd_top.specs.Configuring.{AreReadOf};
 ghost use Rattle.searchd_top.specs.Printing.{PrintsLine};
 ghost use Rattle.searchd_top.specs.Lending.{IsWithin, CountsOpening};
-ghost use Rattle.searchd_top.specs.HostMemory.{host_over, printed_to, with_printed, printed_of, doors_of, fails_next, opens_none, after_print, after_doors};
+ghost use Rattle.searchd_top.specs.HostMemory.{host_over, text_of, printed_to, with_printed, printed_of, doors_of, fails_next, opens_none, reads_none, after_print, after_doors, after_read};
 
 use crate::{Host, Stream};
-use srch_base::{Failed, ListDoor, NoMemory, OpenFault};
+use srch_base::{Failed, ListDoor, NoMemory, OpenFault, Text};
 use std::alloc::Global;
 use std::marker::Model;
 
-/// A host over memory, which tells all that was printed. It is for tests and for trying things out.
+/// A host over memory, which tells its texts and all that was printed. It is for tests and for trying things out.
 ///
-/// Its prints and its calls for doors are counted together from 1, and those whose numbers it was given fail: they
-/// print and give nothing, and raise the count. A call for more doors than are left fails as well, and so does a print
-/// that no memory is left for.
+/// Its calls for texts and doors and its prints are counted together from 1, and those whose numbers it was given fail:
+/// they give and print nothing, and raise the count. A call for a text that isn't there or for more doors than are left
+/// fails as well, and so does a print that no memory is left for.
 ///
 /// Contracts see it as a `HostMemory`.
 #[derive(Debug, Drop)]
 pub struct MemoryHost {
     alloc: Global,
+    texts: Vec<(Text, Text)>,
     doors: Vec<ListDoor>,
     at: usize,
     back: Vec<ListDoor>,
@@ -38,6 +40,7 @@ impl Model for MemoryHost {
     ghost Value = { HostMemory };
 
     ghost view = { λ a. record {
+      texts = a.texts.items;
       doors = a.doors.items;
       at = a.at;
       back = a.back.items;
@@ -52,16 +55,19 @@ impl Model for MemoryHost {
 }
 
 impl MemoryHost {
-    /// A host that gives these doors in their order, a copy of each. The calls with the numbers `failing` fail.
+    /// A host with these files, each a path and a text, that gives these doors in their order, a copy of each. The calls
+    /// with the numbers `failing` fail.
     pub fn new(
         alloc: Global,
+        texts: Vec<(Text, Text)>,
         doors: Vec<ListDoor>,
         failing: Vec<u32>,
     ) -> Result<MemoryHost, NoMemory>
-        ensures { IfOk result (λ host. host ≡ host_over doors.items failing.items) }
+        ensures { IfOk result (λ host. host ≡ host_over texts.items doors.items failing.items) }
     {
         Ok(MemoryHost {
             alloc,
+            texts,
             back: Vec::with_capacity(alloc, doors.len())?,
             doors,
             at: 0,
@@ -102,6 +108,16 @@ impl MemoryHost {
             .any(|number| u128::from(*number) == call)
     }
 
+    /// The text of the first file with this path.
+    fn text_at(&self, path: &str) -> Option<&[u8]>
+        ensures { option_copied result ≡ text_of self.now path.now }
+    {
+        self.texts
+            .iter()
+            .find(|(name, _)| name.as_bytes() == path.as_bytes())
+            .map(|(_, text)| text.as_bytes())
+    }
+
     /// Counts one more fault.
     fn fail(&mut self) -> Failed
         ensures after { self.new ≡ record self.old { faults = one_more self.old.faults } }
@@ -128,6 +144,8 @@ impl MemoryHost {
 impl Host for MemoryHost {
     type Entry = ListDoor;
 
+    ghost text = { text_of };
+
     ghost printed = { printed_of };
 
     ghost doors_given = { doors_of };
@@ -135,6 +153,23 @@ impl Host for MemoryHost {
     ghost doors_back = { λ h. h.back };
 
     ghost faults = { λ h. h.faults };
+
+    /// Fails exactly where this call's number is one of those, or no file has this path.
+    fn read_text(&mut self, path: &str, limit: u32) -> Result<Vec<u8>, OpenFault>
+        ensures fails { IsTrue (reads_none self.old path.now) → result ≡ Err OpenFault.Failed }
+        ensures after { self.new ≡ after_read self.old result }
+        ensures reads { IfOk result (λ bytes. AreReadOf (text_of self.old path.now) limit bytes.items) }
+        ensures short { IfOk result (λ bytes. length bytes.items ≤ limit + 1) }
+        ensures cause { CountsOpening result self.old.faults self.new.faults }
+    {
+        if self.next_fails() {
+            return Err(OpenFault::from(self.fail()));
+        }
+        match self.text_at(path) {
+            Some(text) => Ok(Vec::from_slice(self.alloc, front(text, limit))?),
+            None => Err(OpenFault::from(self.fail())),
+        }
+    }
 
     /// Fails where this call's number is one of those, or memory is refused.
     fn print(&mut self, to: Stream, line: &[u8]) -> Result<(), Failed>
@@ -177,5 +212,15 @@ impl Host for MemoryHost {
         ensures { self.new ≡ record self.old { back = self.old.back ++ doors.items } }
     {
         let _appended = self.back.append(&mut doors);
+    }
+}
+
+/// The first `limit + 1` bytes of a text, or all of a shorter one.
+fn front(text: &[u8], limit: u32) -> &[u8]
+    ensures { result.now ≡ take (limit + 1) text.now }
+{
+    match text.get(..=limit as usize) {
+        Some(front) => front,
+        None => text,
     }
 }

@@ -1,44 +1,80 @@
 ghost use Rattle.std.specs.Prelude.{◌≡◌, ◌↔◌, ◌≤◌, length, map, string_bytes};
-ghost use Rattle.searchd_top.specs.Words.{AsksSession};
+ghost use Rattle.conf_text.specs.Confs.{IsSound};
+ghost use Rattle.searchd_top.specs.Words.{AsksSession, session};
 ghost use Rattle.searchd_top.specs.Statuses.{line_of};
 ghost use Rattle.searchd_top.specs.Printing.{Reports, CountsReport};
 ghost use Rattle.searchd_top.specs.Sessions.{Runs};
+ghost use Rattle.searchd_top.specs.Serving.{Configures, ServesFirst};
 
 use crate::serving::serve_one;
-use crate::words::asks_session;
+use crate::words::session_file;
 use crate::{Host, Status, Stream};
+use conf_text::{Conf, ConfFault, MAX_CONF_BYTES, read_conf};
 use ql_session::PlainTables;
-use srch_base::{Failed, NoMemory};
+use srch_base::{Failed, NoMemory, Or};
 use std::alloc::Global;
 
 /// Does what the words ask. `words` are those after the program's name.
 ///
-/// `session --config F` serves one line, from no documents; the documents that it commits are gone with the call. The
-/// file isn't opened. A line may end in any way: the status tells of the host and its door alone.
+/// `session --config F` reads the configuration in the file F and serves one line by its first index, from no documents; the
+/// documents that it commits are gone with the call. A line may end in any way: the status tells of the configuration, the
+/// host and its door alone.
 pub fn searchd<H: Host>(alloc: Global, words: &[String], host: &mut H) -> Status
     requires { length (H.doors_back host.old) ≤ length (H.doors_given host.old) }
     ensures usage { (result ≡ Status.Usage) ↔ ¬ AsksSession (map string_bytes words.now) }
-    ensures runs { Runs H.Host H.Entry.Door H.Entry.Line.Link result host.old host.new }
+    ensures runs { Runs H.Host H.Entry.Door H.Entry.Line.Link (map string_bytes words.now) result host.old host.new }
     ensures prints { Reports (line_of result) (H.printed host.old) (H.printed host.new) (H.faults host.old) (H.faults host.new) }
 {
-    let status = if asks_session(words) {
-        session(alloc, host)
-    } else {
-        Status::Usage
+    let status = match session_file(words) {
+        Some(file) => run_session(alloc, file, host),
+        None => Status::Usage,
     };
     report(status, host);
     status
 }
 
-/// Serves one line of one door.
-fn session<H: Host>(alloc: Global, host: &mut H) -> Status
+/// Reads the configuration, and serves one line of one door by it.
+fn run_session<H: Host>(alloc: Global, file: &str, host: &mut H) -> Status
     requires { length (H.doors_back host.old) ≤ length (H.doors_given host.old) }
-    ensures runs { Runs H.Host H.Entry.Door H.Entry.Line.Link result host.old host.new }
+    ensures runs { Runs H.Host H.Entry.Door H.Entry.Line.Link (session file.now) result host.old host.new }
     ensures asked { ¬ (result ≡ Status.Usage) }
     ensures later { H.faults host.old ≤ H.faults host.new }
     ensures prints { H.printed host.new ≡ H.printed host.old }
 {
-    let mut tables = match PlainTables::new(alloc) {
+    match configure(alloc, file, host) {
+        Ok(conf) => serve(alloc, conf, host),
+        Err(status) => status,
+    }
+}
+
+/// The configuration in a file.
+fn configure<H: Host>(alloc: Global, file: &str, host: &mut H) -> Result<Conf, Status>
+    ensures configures { Configures (H.text host.old file.now) result (H.faults host.old) (H.faults host.new) }
+    ensures later { H.faults host.old ≤ H.faults host.new }
+    ensures gives { H.doors_given host.new ≡ H.doors_given host.old }
+    ensures back { H.doors_back host.new ≡ H.doors_back host.old }
+    ensures prints { H.printed host.new ≡ H.printed host.old }
+{
+    let text = match host.read_text(file, MAX_CONF_BYTES as u32) {
+        Ok(text) => text,
+        Err(fault) => return Err(Status::from(fault)),
+    };
+    match read_conf(alloc, text.as_slice()) {
+        Ok(conf) => Ok(conf),
+        Err(Or::NoMemory) => Err(Status::NoMemory),
+        Err(Or::Fault(ConfFault { line, kind })) => Err(Status::Config { line, kind }),
+    }
+}
+
+/// Serves one line of one door by the first index.
+fn serve<H: Host>(alloc: Global, conf: Conf, host: &mut H) -> Status
+    requires sound { IsSound conf }
+    requires back { length (H.doors_back host.old) ≤ length (H.doors_given host.old) }
+    ensures serves { ServesFirst H.Host H.Entry.Door H.Entry.Line.Link conf.indexes result host.old host.new }
+    ensures later { H.faults host.old ≤ H.faults host.new }
+    ensures prints { H.printed host.new ≡ H.printed host.old }
+{
+    let mut tables = match PlainTables::new(alloc, conf.indexes.into_vec()) {
         Ok(tables) => tables,
         Err(NoMemory) => return Status::NoMemory,
     };
@@ -61,7 +97,7 @@ fn report<H: Host>(status: Status, host: &mut H)
     if let Status::Done = status {
         return;
     }
-    match host.print(Stream::Err, status.line()) {
+    match host.print(Stream::Err, &status.line()) {
         Ok(()) | Err(Failed) => {}
     }
 }

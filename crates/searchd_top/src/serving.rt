@@ -12,9 +12,9 @@ const CONNECTION: u32 = 1;
 
 /// Takes one line from the door, serves it to its end and hands it back.
 pub(crate) fn serve_one<D: Door>(alloc: Global, tables: &mut PlainTables, door: &mut D) -> Status
-    requires empty { tables.old ≡ [] }
+    requires empty { tables.old.documents ≡ [] }
     requires within { IsWithin D.returned D.given door.old }
-    ensures serves { ServesOne D.Door D.Line.Link door.old door.new }
+    ensures serves { ServesOne D.Door D.Line.Link tables.old.conf door.old door.new }
     ensures says { SaysOfDoor result D.Door door.old door.new }
 {
     match door.next() {

@@ -1,7 +1,13 @@
-ghost use Rattle.std.specs.Prelude.{◌≡◌};
+ghost use Rattle.std.specs.Prelude.{◌≡◌, ◌+◌, ◌≤◌, ◌++◌, [], length};
 ghost use Rattle.searchd_top.specs.Statuses.{code_of, line_of};
 
+use arrayvec::ArrayVec;
+use conf_text::ConfKind;
+use itoa::Buffer;
 use srch_base::OpenFault;
+
+/// The most bytes of a status's line.
+const MAX_LINE_BYTES: usize = 64;
 
 /// How a run ended.
 #[derive(Clone, Copy, Debug, PartialEq, Eq)]
@@ -10,6 +16,8 @@ pub enum Status {
     Done,
     /// The words aren't those that the program knows.
     Usage,
+    /// The file isn't a configuration: its first fault is of this kind, at this line, counted from 1.
+    Config { line: u32, kind: ConfKind },
     /// The host failed, or a door.
     HostFault,
     NoMemory,
@@ -23,22 +31,47 @@ impl Status {
         match self {
             Status::Done => 0,
             Status::Usage => 2,
+            Status::Config { .. } => 3,
             Status::HostFault => 4,
             Status::NoMemory => 6,
         }
     }
 
     /// The line that is printed to the errors, with the LF at its end. It is empty where the work was done.
-    pub fn line(self) -> &'static [u8]
-        ensures { result.now ≡ line_of self }
+    pub fn line(self) -> ArrayVec<u8, MAX_LINE_BYTES>
+        ensures { result.items ≡ line_of self }
     {
+        let mut line = ArrayVec::new();
         match self {
-            Status::Done => b"",
-            Status::Usage => b"searchd: bad arguments\n",
-            Status::HostFault => b"searchd: host fault\n",
-            Status::NoMemory => b"searchd: out of memory\n",
+            Status::Done => {}
+            Status::Usage => put(&mut line, b"searchd: bad arguments\n"),
+            Status::Config { line: number, kind } => put_config(&mut line, number, kind),
+            Status::HostFault => put(&mut line, b"searchd: host fault\n"),
+            Status::NoMemory => put(&mut line, b"searchd: out of memory\n"),
         }
+        line
     }
+}
+
+/// Appends a text where there is room for it.
+fn put(line: &mut ArrayVec<u8, MAX_LINE_BYTES>, text: &[u8])
+    requires { length line.old.items + length text.now ≤ MAX_LINE_BYTES }
+    ensures { line.new.items ≡ line.old.items ++ text.now }
+{
+    let _ = line.try_extend_from_slice(text);
+}
+
+/// Appends the line of a configuration's fault.
+fn put_config(line: &mut ArrayVec<u8, MAX_LINE_BYTES>, number: u32, kind: ConfKind)
+    requires { line.old.items ≡ [] }
+    ensures { line.new.items ≡ line_of (Status.Config number kind) }
+{
+    let mut digits = Buffer::new();
+    put(line, b"searchd: config line ");
+    put(line, digits.format(number).as_bytes());
+    put(line, b": ");
+    put(line, kind.text().as_bytes());
+    put(line, b"\n");
 }
 
 impl From<OpenFault> for Status {

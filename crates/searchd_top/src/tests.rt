@@ -1,5 +1,6 @@
 use super::*;
-use srch_base::{ListDoor, MemoryLink};
+use conf_text::ConfKind;
+use srch_base::{ListDoor, MemoryLink, Text};
 use std::alloc::Global;
 use std::test::Fail;
 
@@ -55,8 +56,38 @@ fn words_of(alloc: Global, text: &str) -> Result<Vec<String>, Fail> {
     Ok(words)
 }
 
-/// Runs a session over one line of these bytes, and gives what was written to it.
-fn written(alloc: Global, input: &[u8], cuts: &[u32], failing: &[u32]) -> Result<Vec<u8>, Fail> {
+/// The file of the words of a session.
+const FILE: &[u8] = b"searchd.conf";
+
+/// The index that the known texts name, as small as it can be.
+const PLAIN: &[u8] = b"index rt\n{\ntype = rt\npath = .\nrt_field = title\n}\n";
+
+/// A shop: two fields, four attributes, English and Russian letters.
+const SHOP: &[u8] =
+    b"# the shop\r\nindex rt {\r\n  type = rt\r\n  path = data/shop\r\n  rt_field = title\r\n\
+  rt_field = content\r\n  rt_attr_uint = gid\r\n  rt_attr_bool = in_stock\r\n  rt_attr_bigint = price\r\n\
+  rt_attr_timestamp = added\r\n\
+  charset_table = 0..9, A..Z->a..z, a..z, \\\r\n    U+410..U+42F->U+430..U+44F, U+430..U+44F\r\n\
+  html_strip = 1\r\n}\r\nsearchd\r\n{\r\n  listen = 9306:mysql41\r\n}\r\n";
+
+/// The files of a host: one, with this text.
+fn files(alloc: Global, text: &[u8]) -> Result<Vec<(Text, Text)>, Fail> {
+    let mut files = Vec::new(alloc);
+    files.push((
+        Text::from_slice(alloc, FILE)?,
+        Text::from_slice(alloc, text)?,
+    ))?;
+    Ok(files)
+}
+
+/// Runs a session by a configuration over one line of these bytes, and gives what was written to it.
+fn written_by(
+    alloc: Global,
+    conf: &[u8],
+    input: &[u8],
+    cuts: &[u32],
+    failing: &[u32],
+) -> Result<Vec<u8>, Fail> {
     let mut lines = Vec::new(alloc);
     lines.push(MemoryLink::new(
         alloc,
@@ -66,7 +97,7 @@ fn written(alloc: Global, input: &[u8], cuts: &[u32], failing: &[u32]) -> Result
     ))?;
     let mut doors = Vec::new(alloc);
     doors.push(ListDoor::new(alloc, lines)?)?;
-    let mut host = MemoryHost::new(alloc, doors, Vec::new(alloc))?;
+    let mut host = MemoryHost::new(alloc, files(alloc, conf)?, doors, Vec::new(alloc))?;
     let words = words_of(alloc, SESSION)?;
     if searchd(alloc, words.as_slice(), &mut host) != Status::Done {
         return Err(Fail::from("not done"));
@@ -77,6 +108,11 @@ fn written(alloc: Global, input: &[u8], cuts: &[u32], failing: &[u32]) -> Result
     let door = host.doors_back().first().ok_or("no door came back")?;
     let line = door.returned().first().ok_or("no line came back")?;
     Ok(Vec::from_slice(alloc, line.written())?)
+}
+
+/// Runs a session over one line of these bytes, and gives what was written to it.
+fn written(alloc: Global, input: &[u8], cuts: &[u32], failing: &[u32]) -> Result<Vec<u8>, Fail> {
+    written_by(alloc, PLAIN, input, cuts, failing)
 }
 
 #[test]
@@ -167,13 +203,30 @@ fn each_line_ends_with_its_bytes(rt: HostRuntime) -> Result<(), Fail> {
     Ok(())
 }
 
+/// INSERT of `Большой <b>Чай</b>ник`.
+const INSERT_KETTLE: &[u8] =
+    b"\x4a\0\0\0\x03INSERT INTO rt (id,title) VALUES (1,'\xd0\x91\xd0\xbe\xd0\xbb\xd1\x8c\xd1\x88\xd0\xbe\xd0\xb9 <b>\xd0\xa7\xd0\xb0\xd0\xb9</b>\xd0\xbd\xd0\xb8\xd0\xba')";
+
+/// SELECT of `ЧАЙНИК`.
+const SELECT_KETTLE: &[u8] =
+    b"\x2e\0\0\0\x03SELECT id FROM rt WHERE MATCH('\xd0\xa7\xd0\x90\xd0\x99\xd0\x9d\xd0\x98\xd0\x9a')";
+
+#[test]
+fn a_shop_finds_a_russian_title_by_capitals(rt: HostRuntime) -> Result<(), Fail> {
+    let alloc = rt.alloc();
+    let input = joined(alloc, &[RESPONSE, INSERT_KETTLE, SELECT_KETTLE, QUIT])?;
+    let replies = joined(alloc, &[GREETING, ACCEPTED, INSERTED, FOUND])?;
+    assert_eq!(rt; written_by(alloc, SHOP, &input, &[], &[])?, replies);
+    Ok(())
+}
+
 #[test]
 fn a_status_says_why(rt: HostRuntime) -> Result<(), Fail> {
     let alloc = rt.alloc();
     let bad: &[u8] = b"searchd: bad arguments\n";
     let fault: &[u8] = b"searchd: host fault\n";
     // the words, how many doors without a line the host has, its calls that fail, the status, what is printed
-    let cases: [(&str, usize, &[u32], Status, &[u8]); 10] = [
+    let cases: [(&str, usize, &[u32], Status, &[u8]); 13] = [
         ("", 1, &[], Status::Usage, bad),
         ("session --config", 1, &[], Status::Usage, bad),
         ("serve --config f", 1, &[], Status::Usage, bad),
@@ -181,8 +234,11 @@ fn a_status_says_why(rt: HostRuntime) -> Result<(), Fail> {
         ("session --config f g", 1, &[], Status::Usage, bad),
         ("session", 1, &[1], Status::Usage, b""),
         (SESSION, 1, &[], Status::Done, b""),
+        ("session --config other", 1, &[], Status::HostFault, fault),
         (SESSION, 1, &[1], Status::HostFault, fault),
+        (SESSION, 1, &[2], Status::HostFault, fault),
         (SESSION, 1, &[1, 2], Status::HostFault, b""),
+        (SESSION, 1, &[2, 3], Status::HostFault, b""),
         (SESSION, 0, &[], Status::HostFault, fault),
     ];
     for (text, count, failing, want, printed) in cases {
@@ -190,25 +246,117 @@ fn a_status_says_why(rt: HostRuntime) -> Result<(), Fail> {
         for _ in 0..count {
             doors.push(ListDoor::new(alloc, Vec::new(alloc))?)?;
         }
-        let mut host = MemoryHost::new(alloc, doors, Vec::from_slice(alloc, failing)?)?;
+        let failing = Vec::from_slice(alloc, failing)?;
+        let mut host = MemoryHost::new(alloc, files(alloc, PLAIN)?, doors, failing)?;
         let words = words_of(alloc, text)?;
         let status = searchd(alloc, words.as_slice(), &mut host);
-        assert_eq!(rt; status, want, "{text}, {failing:?}");
-        assert_eq!(rt; host.printed(Stream::Err), printed, "{text}, {failing:?}");
+        assert_eq!(rt; status, want, "{text}");
+        assert_eq!(rt; host.printed(Stream::Err), printed, "{text}");
         assert!(rt; host.printed(Stream::Out).is_empty());
     }
     Ok(())
 }
 
 #[test]
+fn a_file_that_is_no_configuration_is_refused(rt: HostRuntime) -> Result<(), Fail> {
+    let alloc = rt.alloc();
+    // the text of the file, its first fault, what is printed; the host opens no door
+    let cases: [(&[u8], u32, ConfKind, &[u8]); 4] = [
+        (
+            b"index rt\n{\ntype = rt\npath = data/rt\nrt_field = title\nrt_feld = content\n}\n",
+            6,
+            ConfKind::UnknownKey,
+            b"searchd: config line 6: unknown key\n",
+        ),
+        (
+            b"",
+            1,
+            ConfKind::Missing,
+            b"searchd: config line 1: missing key\n",
+        ),
+        (
+            b"index rt\n{\npath = \xff\n}\n",
+            3,
+            ConfKind::NotText,
+            b"searchd: config line 3: not UTF-8\n",
+        ),
+        (
+            b"indx rt {\n}\n",
+            1,
+            ConfKind::UnknownSection,
+            b"searchd: config line 1: unknown section\n",
+        ),
+    ];
+    for (text, line, kind, printed) in cases {
+        let mut host = MemoryHost::new(
+            alloc,
+            files(alloc, text)?,
+            Vec::new(alloc),
+            Vec::new(alloc),
+        )?;
+        let words = words_of(alloc, SESSION)?;
+        let status = searchd(alloc, words.as_slice(), &mut host);
+        assert_eq!(rt; status, Status::Config { line, kind });
+        assert_eq!(rt; host.printed(Stream::Err), printed);
+        assert!(rt; host.printed(Stream::Out).is_empty());
+    }
+    Ok(())
+}
+
+#[test]
+fn a_file_above_the_limit_is_read_no_further(rt: HostRuntime) -> Result<(), Fail> {
+    let alloc = rt.alloc();
+    for (length, want) in [
+        (1_048_576, Status::Done),
+        (
+            1_048_577,
+            Status::Config {
+                line: 1,
+                kind: ConfKind::Limit,
+            },
+        ),
+        (
+            2_000_000,
+            Status::Config {
+                line: 1,
+                kind: ConfKind::Limit,
+            },
+        ),
+    ] {
+        let mut text = Vec::from_slice(alloc, PLAIN)?;
+        text.push(b'#')?;
+        text.resize(length, b' ')?;
+        let mut doors = Vec::new(alloc);
+        doors.push(ListDoor::new(alloc, Vec::new(alloc))?)?;
+        let mut host = MemoryHost::new(alloc, files(alloc, &text)?, doors, Vec::new(alloc))?;
+        let words = words_of(alloc, SESSION)?;
+        assert_eq!(rt;
+            searchd(alloc, words.as_slice(), &mut host),
+            want,
+            "{length}"
+        );
+    }
+    Ok(())
+}
+
+#[test]
 fn a_status_has_its_number(rt: HostRuntime) {
+    let fault = Status::Config {
+        line: 4_294_967_295,
+        kind: ConfKind::UnknownSection,
+    };
     let numbers = [
         (Status::Done, 0),
         (Status::Usage, 2),
+        (fault, 3),
         (Status::HostFault, 4),
         (Status::NoMemory, 6),
     ];
     for (status, number) in numbers {
         assert_eq!(rt; status.code(), number);
     }
+    assert_eq!(rt;
+        fault.line().as_slice(),
+        b"searchd: config line 4294967295: unknown section\n".as_slice()
+    );
 }

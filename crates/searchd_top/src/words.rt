@@ -1,12 +1,16 @@
-ghost use Rattle.std.specs.Prelude.{◌↔◌, IsTrue, map, string_bytes};
-ghost use Rattle.searchd_top.specs.Words.{AsksSession};
+ghost use Rattle.std.specs.Prelude.{◌≡◌, MatchOption, map, string_bytes};
+ghost use Rattle.searchd_top.specs.Words.{AsksSession, session};
 
-/// Whether the words are `session --config F`. Any text is taken for the file's name.
-pub(crate) fn asks_session(words: &[String]) -> bool
-    ensures { IsTrue result ↔ AsksSession (map string_bytes words.now) }
+/// The file that the words `session --config F` name. Any text is taken for its name.
+pub(crate) fn session_file(words: &[String]) -> Option<&str>
+    ensures { MatchOption result
+        (AsksSession (map string_bytes words.now) → ⊥)
+        (λ file. map string_bytes words.now ≡ session file.now) }
 {
     match words {
-        [mode, option, _file] => mode.as_str() == "session" && option.as_str() == "--config",
-        _ => false,
+        [mode, option, file] if mode.as_str() == "session" && option.as_str() == "--config" => {
+            Some(file.as_str())
+        }
+        _ => None,
     }
 }

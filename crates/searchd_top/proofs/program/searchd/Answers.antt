@@ -1,17 +1,21 @@
-use Rattle.std.proofs.Common.{refl, ◌∙◌, ap}
+use Rattle.std.proofs.Common.{ℕ, List, string_bytes, map, refl, sym, subst, ◌∙◌, ap}
+use Rattle.searchd_top.specs.Sessions.{Runs}
 use Rattle.searchd_top.specs.declared.status.Status.TheVariants.{Usage}
 use Rattle.searchd_top.proofs.Handing.{runs_none, runs_reported}
-use Rattle.searchd_top.proofs.program.searchd.Goals.{then-asks_session, else-asks_session}
+use Rattle.searchd_top.proofs.program.searchd.Goals.{in-Some, in-None}
 use Rattle.searchd_top.proofs.program.searchd.Goals as goal
 
 pub returns-clause-runs : goal.returns-clause-runs
-returns-clause-runs g c = elim c.if-asks_session.branch [
-  | then-asks_session w ↦
-      let r = w.session-status.ensures in
-      rw w.status-is (runs_reported g.H.Host g.H.Entry.Door g.H.Entry.Line.Link w.session-status.result c.args.host.now w.session-status.new.host c.report.new.host
-      (c.report.ensures.gives ∙ ap g.H.Host.doors_given w.host-is) (c.report.ensures.back ∙ ap g.H.Host.doors_back w.host-is)
-      r.later (rw (w.status-is, w.host-is) at c.report.ensures.count) r.runs)
-  | else-asks_session w ↦
-      rw w.status-is (runs_none g.H.Host g.H.Entry.Door g.H.Entry.Line.Link Usage c.args.host.now c.report.new.host
-      (c.report.ensures.gives ∙ ap g.H.Host.doors_given w.host-is) (c.report.ensures.back ∙ ap g.H.Host.doors_back w.host-is) refl)
-]
+returns-clause-runs g c =
+    let words = map string_bytes c.args.words.now in
+    elim c.match-session_file.branch [
+      | in-Some w ↦
+          let r = w.run_session-status.ensures in
+          rw w.status-is (runs_reported g.H.Host g.H.Entry.Door g.H.Entry.Line.Link words w.run_session-status.result c.args.host.now w.run_session-status.new.host c.report.new.host
+          (c.report.ensures.gives ∙ ap g.H.Host.doors_given w.host-is) (c.report.ensures.back ∙ ap g.H.Host.doors_back w.host-is)
+          r.later (rw (w.status-is, w.host-is) at c.report.ensures.count)
+          (subst (λ (ws : List (List ℕ)). Runs g.H.Host g.H.Entry.Door g.H.Entry.Line.Link ws w.run_session-status.result c.args.host.now w.run_session-status.new.host) (sym w.in-Some.ensures) r.runs))
+      | in-None w ↦
+          rw w.status-is (runs_none g.H.Host g.H.Entry.Door g.H.Entry.Line.Link words Usage c.args.host.now c.report.new.host
+          (c.report.ensures.gives ∙ ap g.H.Host.doors_given w.host-is) (c.report.ensures.back ∙ ap g.H.Host.doors_back w.host-is) refl)
+    ]

@@ -1,0 +1,41 @@
+-- A line that was served, a fault that was read, and lists of one.
+use Rattle.std.proofs.Common.{◌≡◌, ℕ, List, [], ◌∷◌, length, get_or, set, ap, arith, refl, subst, Err}
+use Rattle.srch_base.specs.declared.link.Link.{Ghosts as LinkWords}
+use Rattle.srch_base.specs.declared.faults.Or.{Or}
+use Rattle.srch_base.specs.declared.faults.Or.TheVariants as causes
+use Rattle.conf_text.specs.Confs.{IsFaultOf, ReadsConf}
+use Rattle.conf_text.specs.declared.fault.ConfFault.{ConfFault}
+use Rattle.ql_session.specs.Documents.{Documents, Tables}
+use Rattle.ql_session.specs.Statements.{Event, FollowAll}
+use Rattle.ql_session.specs.Session.{Session}
+use Rattle.ql_session.specs.Pieces.{Moves}
+use Rattle.ql_session.specs.declared.line.LinkEnd.{LinkEnd}
+use Rattle.searchd_top.specs.Sessions.{Serves, empty_index}
+
+-- tables without documents are those of an index that has none
+empty_same : (tables : Tables) → tables.documents ≡ [] → tables ≡ empty_index tables.conf
+empty_same tables none = ap (λ (documents : Documents). let t : Tables = record tables { documents = documents } in t) none
+
+-- a line was served over tables without documents
+pub serves_line : {K : Type 0} (link : LinkWords K) (tables left : Tables) (end : LinkEnd) (line served : K) → tables.documents ≡ []
+    → Moves link line served (λ before now read written. (events : List Event) × Session 1 before now read written end events × FollowAll tables events left)
+    → Serves link 1 tables.conf line served
+serves_line {K} link tables left end line served none moves = (
+  end,
+  left,
+  let P : Tables → Type 0 = λ t. Moves link line served (λ before now read written. (events : List Event) × Session 1 before now read written end events × FollowAll t events left) in
+      subst P (empty_same tables none) moves,
+)
+
+-- a fault of a configuration is that of its text
+pub fault_read : (bytes : List ℕ) (e : Or ConfFault) (fault : ConfFault) → e ≡ causes.Fault fault → ReadsConf bytes (Err e) → IsFaultOf bytes fault
+fault_read bytes e fault is reads = let P : Or ConfFault → Type 0 = λ e. ReadsConf bytes (Err e) in subst P is reads
+
+-- a list of one
+pub single : {A : Type 0} (xs : List A) (x d : A) → length xs ≡ 1 → x ≡ get_or xs 0 d → xs ≡ x ∷ []
+single [] x d l e = absurd (omega (arith, l))
+single (y ∷ []) x d l e = cc
+single (y ∷ z ∷ xs) x d l e = absurd (omega (arith, l))
+
+pub single_set : {A : Type 0} (xs : List A) (x y : A) → xs ≡ x ∷ [] → set xs 0 y ≡ y ∷ []
+single_set xs x y one = rw one refl

@@ -1,0 +1,38 @@
+-- The configuration of a run: what is read of its file, and what that says.
+use Rattle.std.specs.Prelude.{◌≡◌, ⊤, ℕ, ◌+◌, List, Option, Some, None, slice_get, take}
+use Rattle.conf_text.specs.Confs.{IsConfOf, IsFaultOf}
+use Rattle.conf_text.specs.declared.conf.Conf.{Conf}
+use Rattle.conf_text.specs.declared.conf.IndexConf.{IndexConf}
+use Rattle.conf_text.specs.declared.conf.TheConstants.{MAX_CONF_BYTES}
+use Rattle.conf_text.specs.declared.fault.ConfFault.{ConfFault}
+use Rattle.searchd_top.specs.Words.{session}
+
+-- what a host tells of the texts of its files
+abbrev pub Texts : Type 0
+Texts = List ℕ → Option (List ℕ)
+
+-- These bytes were read of a text, up to a limit: all of it, or the limit and one byte more. Where the text isn't told they
+-- may be any.
+abbrev pub AreReadOf : Option (List ℕ) → ℕ → List ℕ → Type 0
+AreReadOf None limit bytes = ⊤
+AreReadOf (Some text) limit bytes = bytes ≡ take (limit + 1) text
+
+-- The words name a file, of which these bytes were read.
+pub record IsFileRead (texts : Texts) (words : List (List ℕ)) (bytes : List ℕ) : Type 0 where
+  pub file : List ℕ
+  pub named : words ≡ session file
+  pub read : AreReadOf (texts file) MAX_CONF_BYTES bytes
+
+-- The file is a configuration, of which this is the first index.
+pub record IsConfigured (texts : Texts) (words : List (List ℕ)) (index : IndexConf) : Type 0 where
+  pub bytes : List ℕ
+  pub read : IsFileRead texts words bytes
+  pub conf : Conf
+  pub is : IsConfOf bytes conf
+  pub first : slice_get conf.indexes 0 ≡ Some index
+
+-- The file is no configuration: this fault comes first.
+pub record IsMisconfigured (texts : Texts) (words : List (List ℕ)) (fault : ConfFault) : Type 0 where
+  pub bytes : List ℕ
+  pub read : IsFileRead texts words bytes
+  pub is : IsFaultOf bytes fault
