@@ -1,5 +1,5 @@
 -- What stands before a comment.
-use Rattle.std.proofs.Common.{◌≡◌, ℕ, suc, ◌+◌, ◌<◌, Bool, true, false, cond, List, [], ◌∷◌, ◌++◌, length, take, take_all, drop, drop-cons, add-one, get_or, append_assoc, append-nil, refl, sym, ◌∙◌, ap, subst, arith}
+use Rattle.std.proofs.Common.{◌≡◌, ℕ, ◌+◌, ◌<◌, true, false, cond, List, [], ◌∷◌, ◌++◌, length, take, take_all, drop, drop-cons, add-one, get_or, append_assoc, append-nil, refl, sym, ◌∙◌, ap, arith}
 use Rattle.std.proofs.lemmas.List.{drop_all, take_more}
 use Rattle.conf_text.specs.Lines.{begins_comment, uncommented, uncommented_behind}
 

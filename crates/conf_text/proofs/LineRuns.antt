@@ -1,15 +1,12 @@
 -- Runs of lines.
-use Rattle.std.proofs.Common.{◌≡◌, ◌≢◌, ℕ, ◌+◌, ◌<◌, ◌≤◌, Bool, true, false, cond, eqb, List, [], ◌∷◌, ◌++◌, append_assoc, append-nil, length, take, drop, map, refl, sym, ◌∙◌, ap, subst, arith, inl, inr}
-use Rattle.std.specs.Prelude.{All, ◌&&◌, ◌||◌, ◌==◌, not, reverse, Result, Ok, Err}
+use Rattle.std.proofs.Common.{◌≡◌, ◌≢◌, ℕ, ◌+◌, ◌<◌, ◌≤◌, Bool, true, false, cond, List, [], ◌∷◌, ◌++◌, append_assoc, append-nil, length, take, drop, map, refl, sym, ◌∙◌, ap, subst, arith, inl, inr}
+use Rattle.std.specs.Prelude.{All, ◌&&◌, ◌||◌, ◌==◌, not, reverse}
 use Rattle.std.specs.Str.Lines.{lines, strip_carriage_return}
-use Rattle.std.proofs.lemmas.Bool.{cases_Bool, cases_lt, true≢false, eq-eqb, eqb-true, ne_eqb}
+use Rattle.std.proofs.lemmas.Bool.{cases_lt, true≢false, eq-eqb, eqb-true, ne_eqb}
 use Rattle.std.proofs.lemmas.List.{map-append, reverse-append}
 use Rattle.std.proofs.lemmas.List.Elements.{All-push}
-use Rattle.srch_base.specs.declared.faults.Or.{Or}
-use Rattle.srch_base.specs.declared.faults.Or.TheVariants as causes
 use Rattle.conf_text.specs.declared.conf.IndexConf.{IndexConf}
 use Rattle.conf_text.specs.declared.conf.TheConstants.{MAX_CONF_BYTES}
-use Rattle.conf_text.specs.declared.fault.ConfFault.{ConfFault}
 use Rattle.conf_text.specs.declared.fault.ConfKind.{ConfKind}
 use Rattle.conf_text.specs.declared.lines.LineHead.{LineHead}
 use Rattle.conf_text.specs.declared.lines.Lines.{Lines}
@@ -18,12 +15,11 @@ use Rattle.conf_text.specs.declared.reading.Place.TheVariants as places
 use Rattle.conf_text.specs.Confs.{AreFaultless, IsFirstBadLine, IsFirstFault, IsText, is_last, shape, shapes_back}
 use Rattle.conf_text.specs.Drafts.{AreIndexes}
 use Rattle.conf_text.specs.Faults.{AreGood, IsFaultAt, IsGoodAt, fits, is_outside, is_syntax}
-use Rattle.conf_text.specs.Lines.{Line, content, content_of, is_joined, joined_parts, lines_from, lines_of, onto_line}
+use Rattle.conf_text.specs.Lines.{Line, content_of, is_joined, lines_from, lines_of, onto_line}
 use Rattle.conf_text.specs.Reading.{IsLineRead, bound, left}
-use Rattle.conf_text.specs.Sections.{Place, Spot, entries_in, indexes_in, place_behind, place_in, spot_at, spot_in}
+use Rattle.conf_text.specs.Sections.{Spot, entries_in, indexes_in, place_behind, place_in, spot_at, spot_in}
 use Rattle.conf_text.specs.Shapes.{Shape, shape_of}
-use Rattle.conf_text.specs.Taking.{IsBehind, Leads, PlaceHas, TakesLine, place_of}
-use Rattle.conf_text.proofs.Flags.{and_right, not_no, or_no_left, or_no_right}
+use Rattle.conf_text.specs.Taking.{IsBehind, Leads, place_of}
 use Rattle.conf_text.proofs.Joins.{line_of}
 use Rattle.conf_text.proofs.Parts.{first_line, last_line, place, place_within}
 

@@ -1,7 +1,7 @@
 -- No line says more than its text has.
-use Rattle.std.proofs.Common.{◌≡◌, ℕ, ◌+◌, ◌-◌, ◌≤◌, Bool, true, false, cond, List, [], ◌∷◌, length, length-take, length-drop, take, drop, sym, subst, arith}
-use Rattle.std.specs.Prelude.{Option, ◌&&◌, ◌==◌, codes}
-use Rattle.std.specs.List.{after_first, before_first, position_or_len, prefix_len, suffix_len}
+use Rattle.std.proofs.Common.{ℕ, ◌+◌, ◌-◌, ◌≤◌, Bool, true, false, cond, List, [], ◌∷◌, length, length-take, length-drop, arith}
+use Rattle.std.specs.Prelude.{◌&&◌, ◌==◌, codes}
+use Rattle.std.specs.List.{after_first, position_or_len, prefix_len, suffix_len}
 use Rattle.std.specs.Str.{bytes_eq}
 use Rattle.charset_map.specs.Characters.{is_blank}
 use Rattle.charset_map.specs.Reading.{without_back, without_front}

@@ -1,10 +1,9 @@
 -- The indexes of good lines are sound.
-use Rattle.std.proofs.Common.{◌≡◌, ◌≢◌, ℕ, zero, suc, ◌+◌, ◌<◌, ◌≤◌, Bool, true, false, cond, List, [], ◌∷◌, ◌++◌, append-nil, length, length-append, map, refl, sym, ◌∙◌, ap, subst, arith, get_or}
+use Rattle.std.proofs.Common.{◌≡◌, ◌≢◌, ℕ, ◌<◌, ◌≤◌, Bool, true, false, cond, List, [], ◌∷◌, ◌++◌, append-nil, length, length-append, map, refl, sym, ◌∙◌, ap, subst, arith, get_or}
 use Rattle.std.specs.Prelude.{All, Option, Some, None, ◌&&◌, ◌||◌, ◌==◌, not, nat_le, codes, reverse}
 use Rattle.std.specs.List.{list_all, list_any, filter_map, cons_option}
-use Rattle.std.specs.Option.{is_some}
 use Rattle.std.specs.Str.{bytes_eq}
-use Rattle.std.proofs.lemmas.Bool.{true≢false, leb-false, ltb-false}
+use Rattle.std.proofs.lemmas.Bool.{leb-false, ltb-false}
 use Rattle.std.proofs.lemmas.List.{map-append, reverse-append, length-map}
 use Rattle.doc_types.specs.declared.schema.AttrKind.{AttrKind}
 use Rattle.conf_text.specs.declared.conf.Conf.{Conf}
@@ -12,13 +11,12 @@ use Rattle.std.proofs.lemmas.List.Elements.{All-nil, All-push, All-append, All-m
 use Rattle.doc_types.specs.Schemas.{AreDistinct, AreZones, IsName, IsSchema, columns, is_capital, is_column_name}
 use Rattle.conf_text.specs.declared.conf.IndexConf.{IndexConf}
 use Rattle.conf_text.specs.declared.conf.TheConstants.{MAX_INDEXES}
-use Rattle.conf_text.specs.declared.keys.Key.{Key}
 use Rattle.conf_text.specs.declared.keys.Key.TheVariants as keys
 use Rattle.conf_text.specs.Confs.{IsIndexOf, IsSound, shape, shapes_back}
 use Rattle.conf_text.specs.Drafts.{AreIndexes, entry_with}
 use Rattle.conf_text.specs.Faults.{AreGood, IsGoodAt, has_name, has_path, is_among, is_long, is_text}
 use Rattle.conf_text.specs.Lines.{Line, content}
-use Rattle.conf_text.specs.Sections.{Entry, IndexText, Place, Section, Spot, attrs_in, behind_head, entry_of, fields_in, entries_behind, entries_in, given, headed, index, indexes_behind, indexes_in, inside, other, outside, place_behind, place_in, spot_at, spot_in}
+use Rattle.conf_text.specs.Sections.{Entry, IndexText, Place, Spot, attrs_in, behind_head, entry_of, fields_in, entries_behind, entries_in, given, headed, index, indexes_behind, indexes_in, inside, other, outside, place_behind, place_in, spot_at, spot_in}
 use Rattle.conf_text.specs.Shapes.{Shape, bare_head, before_brace, before_equals, behind_equals, behind_word, blank, closing, entry, entry_shape, first_word, has_equals, has_no_name, head, head_of, head_shape, index_head, is_name, misformed, named_head, opening, opens_section, other_head, shape_of, small, unknown_head, words_shape}
 use Rattle.conf_text.specs.Shapes.{has_name as wants_name}
 use Rattle.conf_text.specs.Keys.{key_named}
@@ -28,7 +26,7 @@ use Rattle.conf_text.proofs.Entries.{filter_map_more, list_any_map}
 use Rattle.conf_text.proofs.Flags.{or_no_left, or_no_right}
 use Rattle.conf_text.proofs.Spots.{as_many}
 use Rattle.conf_text.proofs.Sizes.{either_way}
-use Rattle.conf_text.proofs.Soundness.{GoodEntries, GoodParts, NoFault, attr_names_in, good_more, good_none, is_false, small_name}
+use Rattle.conf_text.proofs.Soundness.{GoodEntries, attr_names_in, good_more, good_none, is_false, small_name}
 
 -- the name of a head is in small letters
 abbrev pub HasSmall : Shape → Type 0

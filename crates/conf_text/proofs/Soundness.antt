@@ -1,6 +1,6 @@
 -- What holds of the indexes of lines at which no fault stands.
-use Rattle.std.proofs.Common.{◌≡◌, ◌≢◌, ℕ, zero, suc, ◌+◌, ◌<◌, ◌≤◌, Bool, true, false, cond, List, [], ◌∷◌, ◌++◌, append-nil, length, length-append, get_or, map, refl, sym, ◌∙◌, ap, subst, arith, inl, inr}
-use Rattle.std.specs.Prelude.{All, Option, Some, None, ◌&&◌, ◌||◌, not, nat_le, nat_lt, ◌==◌, codes}
+use Rattle.std.proofs.Common.{◌≡◌, ◌≢◌, ℕ, ◌+◌, ◌≤◌, Bool, true, false, List, [], ◌∷◌, ◌++◌, append-nil, length, length-append, get_or, map, refl, sym, ◌∙◌, ap, subst, arith}
+use Rattle.std.specs.Prelude.{All, Option, Some, None, ◌&&◌, ◌||◌, not, nat_le, nat_lt, ◌==◌}
 use Rattle.std.specs.Char.{to_ascii_lowercase}
 use Rattle.std.specs.List.{cons_option, list_all, list_any, slice_split}
 use Rattle.std.specs.Option.{is_some}
@@ -8,17 +8,14 @@ use Rattle.std.specs.Str.{bytes_eq}
 use Rattle.std.proofs.lemmas.Bool.Decides.{nat_tests}
 use Rattle.std.proofs.lemmas.Bool.{true≢false, ltb-false, leb-false}
 use Rattle.std.proofs.lemmas.List.{map-append, length-map}
-use Rattle.std.proofs.lemmas.List.Elements.{All-nil, All-push, All-append, All-map}
-use Rattle.doc_types.specs.declared.schema.TheConstants.{MAX_FIELDS, MAX_ATTRS, MAX_ZONES, MAX_NAME_BYTES}
+use Rattle.std.proofs.lemmas.List.Elements.{All-nil, All-push}
+use Rattle.doc_types.specs.declared.schema.TheConstants.{MAX_FIELDS, MAX_ATTRS, MAX_ZONES}
 use Rattle.doc_types.specs.Schemas.{AreDistinct, AreZones, IsName, is_capital, is_column_name}
-use Rattle.conf_text.specs.declared.conf.TheConstants.{MAX_INDEXES}
-use Rattle.conf_text.specs.declared.fault.ConfKind.{ConfKind}
-use Rattle.conf_text.specs.declared.fault.ConfKind.TheVariants as kinds
 use Rattle.conf_text.specs.declared.keys.Key.{Key}
 use Rattle.conf_text.specs.declared.keys.Key.TheVariants as keys
 use Rattle.conf_text.specs.Confs.{zones_by}
 use Rattle.conf_text.specs.Drafts.{entry_with}
-use Rattle.conf_text.specs.Faults.{has_name, has_path, is_among, is_column, is_long, is_repeated, passes_limit}
+use Rattle.conf_text.specs.Faults.{has_path, is_among, is_column, is_long, is_repeated, passes_limit}
 use Rattle.conf_text.specs.Keys.{same_key}
 use Rattle.conf_text.specs.Sections.{Entry, IndexText, attr_by, attrs_in, field_by, fields_in, given}
 use Rattle.conf_text.specs.Lines.{trimmed}
@@ -28,7 +25,7 @@ use Rattle.doc_types.specs.declared.schema.AttrKind.{AttrKind}
 use Rattle.conf_text.proofs.Among.{among_no, distinct_more}
 use Rattle.conf_text.proofs.Entries.{filter_map_more, given_new, given_other, list_any_append}
 use Rattle.conf_text.proofs.Flags.{and_left, or_no_left, or_no_right}
-use Rattle.conf_text.proofs.Pairs.{AreApart, all_cons, all_differ, distinct_both}
+use Rattle.conf_text.proofs.Pairs.{AreApart, all_cons, all_differ}
 
 -- names in small letters
 no_capital : (b : ℕ) → not (is_capital (to_ascii_lowercase b)) ≡ true

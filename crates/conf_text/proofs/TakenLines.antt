@@ -1,5 +1,5 @@
 -- Lines that were taken.
-use Rattle.std.proofs.Common.{◌≡◌, ℕ, Bool, true, false, List, [], ◌∷◌, ◌++◌, append-nil, refl, sym, ◌∙◌, ap, subst}
+use Rattle.std.proofs.Common.{◌≡◌, ℕ, Bool, false, List, [], ◌∷◌, ◌++◌, append-nil, refl, sym, ap, subst}
 use Rattle.std.specs.Prelude.{Option, Some, None, Result, Ok, Err}
 use Rattle.std.specs.List.{AllZip}
 use Rattle.std.proofs.lemmas.Bool.{true≢false}
@@ -17,7 +17,7 @@ use Rattle.conf_text.specs.Confs.{IsIndexOf}
 use Rattle.conf_text.specs.Drafts.{AreIndexes, EndsIndex, IsDraft}
 use Rattle.conf_text.specs.Faults.{IsFaultAt, is_syntax}
 use Rattle.conf_text.specs.Sections.{Entry, IndexText, Place, behind_opening, entries_behind, headed, index, inside, other, outside, spot_at}
-use Rattle.conf_text.specs.Shapes.{Shape, closing, entry, opening}
+use Rattle.conf_text.specs.Shapes.{closing, entry, opening}
 use Rattle.conf_text.specs.Taking.{Closes, Enters, Leads, PlaceHas, TakesLine, place_of}
 use Rattle.conf_text.proofs.Spots.{faulty_end, faulty_entry, good_closing, good_entry, good_opening, good_other_closing, good_other_entry, unknown_entry}
 

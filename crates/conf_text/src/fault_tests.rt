@@ -1,6 +1,7 @@
-use crate::samples::{PLAIN, at, at_limit, fault};
+use crate::samples::{at, at_limit, fault};
 use crate::{ConfFault, ConfKind};
 use std::alloc::Global;
+use std::fmt::Write;
 use std::test::Fail;
 
 /// The index with its head, a line `type = rt`, a path, a field, then these lines and `}`.
@@ -8,33 +9,59 @@ fn with_lines(alloc: Global, lines: &str) -> Result<String, Fail> {
     Ok(format!(in alloc; "index rt {{\ntype = rt\npath = p\nrt_field = f\n{lines}}}\n")?)
 }
 
-/// Lines `key = name0`, `key = name1` and so on.
-fn numbered(alloc: Global, key: &str, name: &str, count: u32) -> Result<String, Fail> {
-    let mut lines = String::new(alloc);
+/// Appends a text before each of the numbers from 0 on, and one behind it.
+fn push_numbered(text: &mut String, before: &str, behind: &str, count: u32) -> Result<(), Fail> {
     for number in 0..count {
-        lines.push_str(format!(in alloc; "{key} = {name}{number}\n")?.as_str())?;
+        write!(text, "{before}{number}{behind}")?;
     }
-    Ok(lines)
+    Ok(())
 }
 
-/// A letter, so many times.
-fn long(alloc: Global, count: u32) -> Result<String, Fail> {
-    let mut name = String::new(alloc);
+/// Appends a letter, so many times.
+fn push_long(text: &mut String, count: u32) -> Result<(), Fail> {
     for _ in 0..count {
-        name.push_str("n")?;
+        text.push_str("n")?;
     }
-    Ok(name)
+    Ok(())
 }
 
-/// So many indexes of five lines each, `i0`, `i1` and so on, and then a text.
-fn indexes(alloc: Global, count: u32, rest: &str) -> Result<String, Fail> {
-    let mut text = String::new(alloc);
-    for number in 0..count {
-        text.push_str(format!(in alloc;
+/// Appends eight indexes of five lines each, `i0` to `i7`.
+fn push_indexes(text: &mut String) -> Result<(), Fail> {
+    for number in 0..8 {
+        write!(
+            text,
             "index i{number} {{\ntype = rt\npath = p{number}\nrt_field = f\n}}\n"
-        )?.as_str())?;
+        )?;
     }
-    text.push_str(rest)?;
+    Ok(())
+}
+
+/// Appends what a letter stands for: the head of an index with its first three entries, 31 more fields, 32 attributes,
+/// 32 zones, a name of 64 bytes and one of 65, and eight indexes.
+fn push_sample(text: &mut String, letter: char) -> Result<(), Fail> {
+    match letter {
+        'H' => Ok(text.push_str("index rt {\ntype = rt\npath = p\nrt_field = f\n")?),
+        'F' => push_numbered(text, "rt_field = a", "\n", 31),
+        'A' => push_numbered(text, "rt_attr_uint = b", "\n", 32),
+        'Z' => push_numbered(text, "z", ",", 32),
+        'N' => push_long(text, 64),
+        'L' => push_long(text, 65),
+        _ => push_indexes(text),
+    }
+}
+
+/// A text in which `%` and a letter stand for samples.
+fn expanded(alloc: Global, template: &str) -> Result<String, Fail> {
+    let mut text = String::new(alloc);
+    let mut marked = false;
+    for c in template.chars() {
+        if marked {
+            push_sample(&mut text, c)?;
+        } else if c != '%' {
+            text.push(c)?;
+        }
+        marked = c == '%';
+    }
     Ok(text)
 }
 
@@ -241,115 +268,41 @@ fn tells_which_values_are_bad(rt: HostRuntime) -> Result<(), Fail> {
 
 #[test]
 fn tells_where_a_limit_is_passed(rt: HostRuntime) -> Result<(), Fail> {
-    let alloc = rt.alloc();
-    let n64 = long(alloc, 64)?;
-    let n65 = long(alloc, 65)?;
-    let fields = numbered(alloc, "rt_field", "a", 31)?;
-    let attrs = numbered(alloc, "rt_attr_uint", "b", 32)?;
-    let mut zones = String::new(alloc);
-    for number in 0..32 {
-        zones.push_str(format!(in alloc; "z{number},")?.as_str())?;
-    }
-    let cases: [(String, Option<ConfFault>); 23] = [
-        (with_lines(alloc, fields.as_str())?, None),
-        (with_lines(alloc, attrs.as_str())?, None),
-        (
-            with_lines(alloc, format!(in alloc; "{fields}rt_field = c\n")?.as_str())?,
-            at_limit(36),
-        ),
-        (
-            with_lines(
-                alloc,
-                format!(in alloc; "{attrs}rt_attr_bool = c\n")?.as_str(),
-            )?,
-            at_limit(37),
-        ),
-        (
-            with_lines(alloc, format!(in alloc; "rt_field = {n64}\n")?.as_str())?,
-            None,
-        ),
-        (
-            with_lines(alloc, format!(in alloc; "rt_field = {n65}\n")?.as_str())?,
-            at_limit(5),
-        ),
-        (
-            with_lines(alloc, format!(in alloc; "rt_attr_bool = {n65}\n")?.as_str())?,
-            at_limit(5),
-        ),
-        (
-            with_lines(
-                alloc,
-                format!(in alloc; "html_strip = 1\nindex_zones = {zones}{n65}\n")?.as_str(),
-            )?,
-            at_limit(6),
-        ),
-        (
-            with_lines(
-                alloc,
-                format!(in alloc; "html_strip = 1\nindex_zones = {n64}\n")?.as_str(),
-            )?,
-            None,
-        ),
-        (
-            with_lines(
-                alloc,
-                format!(in alloc; "html_strip = 1\nindex_zones = {n65}\n")?.as_str(),
-            )?,
-            at_limit(6),
-        ),
-        (
-            with_lines(
-                alloc,
-                format!(in alloc; "html_strip = 1\nindex_zones = {zones}z\n")?.as_str(),
-            )?,
-            at_limit(6),
-        ),
-        (format!(in alloc; "index {n65} {{\n}}\n")?, at_limit(1)),
-        (
-            format!(in alloc; "index {n64} {{\n}}\n")?,
-            at(2, ConfKind::Missing),
-        ),
-        (indexes(alloc, 8, "")?, None),
-        (indexes(alloc, 8, "index i8 {\n}\n")?, at_limit(41)),
+    let cases: [(&str, Option<ConfFault>); 23] = [
+        ("%H%F}\n", None),
+        ("%H%A}\n", None),
+        ("%H%Frt_field = c\n}\n", at_limit(36)),
+        ("%H%Art_attr_bool = c\n}\n", at_limit(37)),
+        ("%Hrt_field = %N\n}\n", None),
+        ("%Hrt_field = %L\n}\n", at_limit(5)),
+        ("%Hrt_attr_bool = %L\n}\n", at_limit(5)),
+        ("%Hhtml_strip = 1\nindex_zones = %N\n}\n", None),
+        ("%Hhtml_strip = 1\nindex_zones = %L\n}\n", at_limit(6)),
+        ("%Hhtml_strip = 1\nindex_zones = %Zz\n}\n", at_limit(6)),
+        ("%Hhtml_strip = 1\nindex_zones = %Z%L\n}\n", at_limit(6)),
+        ("index %N {\n}\n", at(2, ConfKind::Missing)),
+        ("index %L {\n}\n", at_limit(1)),
+        ("source %L {\n}\n%H}\n", None),
+        ("%I", None),
+        ("%Iindex i8 {\n}\n", at_limit(41)),
         // of two kinds on one line the first in their order
+        ("%Iindex i7 {\n}\n", at(41, ConfKind::Repeated)),
+        ("%Iindex i8 {\n", at(41, ConfKind::Syntax)),
+        ("%H%Frt_field = F\n}\n", at(36, ConfKind::Repeated)),
+        ("%H%Frt_field = id\n}\n", at(36, ConfKind::BadValue)),
+        ("%Hrt_field = %L-\n}\n", at(5, ConfKind::BadValue)),
+        ("%Hindex_zones = %Zz,Z0\n}\n", at(5, ConfKind::BadValue)),
         (
-            indexes(alloc, 8, "index i7 {\n}\n")?,
-            at(41, ConfKind::Repeated),
-        ),
-        (indexes(alloc, 8, "index i8 {\n")?, at(41, ConfKind::Syntax)),
-        (
-            with_lines(alloc, format!(in alloc; "{fields}rt_field = F\n")?.as_str())?,
-            at(36, ConfKind::Repeated),
-        ),
-        (
-            with_lines(
-                alloc,
-                format!(in alloc; "{fields}rt_field = id\n")?.as_str(),
-            )?,
-            at(36, ConfKind::BadValue),
-        ),
-        (
-            with_lines(alloc, format!(in alloc; "rt_field = {n65}-\n")?.as_str())?,
-            at(5, ConfKind::BadValue),
-        ),
-        (
-            with_lines(
-                alloc,
-                format!(in alloc; "index_zones = {zones}z,Z0\n")?.as_str(),
-            )?,
-            at(5, ConfKind::BadValue),
-        ),
-        (
-            with_lines(
-                alloc,
-                format!(in alloc; "index_zones = a\nindex_zones = {n65}\n")?.as_str(),
-            )?,
+            "%Hindex_zones = a\nindex_zones = %L\n}\n",
             at(6, ConfKind::Repeated),
         ),
-        (format!(in alloc; "source {n65} {{\n}}\n{PLAIN}")?, None),
     ];
-    for (text, wanted) in &cases {
-        assert!(rt; fault(alloc, text.as_bytes()) == *wanted, "at {text}");
+    for (template, wanted) in cases {
+        let text = expanded(rt.alloc(), template)?;
+        assert!(rt;
+            fault(rt.alloc(), text.as_bytes()) == wanted,
+            "at {template}"
+        );
     }
     Ok(())
 }

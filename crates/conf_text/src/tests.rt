@@ -136,7 +136,8 @@ fn reads_lines_as_the_text_has_them(rt: HostRuntime) -> Result<(), Fail> {
 #[test]
 fn reads_texts_up_to_the_limit(rt: HostRuntime) -> Result<(), Fail> {
     let mut text = Vec::from_slice(rt.alloc(), PLAIN.as_bytes())?;
-    text.resize(MAX_CONF_BYTES, b'\n')?;
+    text.push(b'#')?;
+    text.resize(MAX_CONF_BYTES, b' ')?;
     assert!(rt; read_conf(rt.alloc(), text.as_slice()).is_ok());
     text.push(0xff)?;
     assert!(rt; fault(rt.alloc(), text.as_slice()) == at_limit(1));

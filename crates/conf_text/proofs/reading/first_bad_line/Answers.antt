@@ -1,4 +1,4 @@
-use Rattle.std.proofs.Common.{ℕ, subst}
+use Rattle.std.proofs.Common.{subst}
 use Rattle.std.specs.Prelude.{Option}
 use Rattle.conf_text.specs.declared.lines.LineHead.{LineHead}
 use Rattle.conf_text.specs.Reading.{ReadsLine}

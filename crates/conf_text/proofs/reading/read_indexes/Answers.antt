@@ -1,13 +1,12 @@
-use Rattle.std.proofs.Common.{◌≡◌, ◌<◌, ◌≤◌, ◌^◌, ◌∙◌, ℕ, List, Err, ap, arith, length, subst, sym}
+use Rattle.std.proofs.Common.{◌≡◌, ◌≤◌, ◌∙◌, ℕ, List, Err, ap, arith, length, subst, sym}
 use Rattle.std.specs.Prelude.{Option, Some}
 use Rattle.srch_base.specs.declared.faults.Or.{Or}
 use Rattle.srch_base.specs.declared.faults.Or.TheVariants.{Fault}
-use Rattle.conf_text.specs.declared.conf.IndexConf.{IndexConf}
 use Rattle.conf_text.specs.declared.fault.ConfFault.{ConfFault}
 use Rattle.conf_text.specs.declared.fault.ConfKind.{ConfKind}
 use Rattle.conf_text.specs.declared.lines.LineHead.{LineHead}
 use Rattle.conf_text.specs.declared.lines.Lines.{Lines}
-use Rattle.conf_text.specs.Confs.{AreFaultless, shape, shapes_back}
+use Rattle.conf_text.specs.Confs.{shapes_back}
 use Rattle.conf_text.specs.Drafts.{AreIndexes}
 use Rattle.conf_text.specs.Lines.{content_of, lines_of}
 use Rattle.conf_text.specs.Reading.{IsLineRead, ReadsIndexes, ReadsLine}
