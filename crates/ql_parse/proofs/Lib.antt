@@ -1,0 +1,7 @@
+pub mod KeywordNumbers
+pub mod KeywordEquality
+pub mod Laws
+pub mod Samples
+pub mod Verdicts
+pub mod Apart
+pub mod Steps

@@ -1,0 +1,145 @@
+-- What a reader of a part of the grammar makes of the tokens that lie before it.
+use Rattle.std.specs.Prelude.{◌≡◌, ℕ, List, [], ◌∷◌, ◌++◌, Bool, true, false, not, ◌&&◌, ◌||◌, Option, Some, None, Result, Ok, Err}
+use Rattle.srch_base.specs.declared.faults.Or.{Or}
+use Rattle.srch_base.specs.declared.faults.Or.TheVariants.{NoMemory, Fault}
+use Rattle.ql_lex.specs.declared.token.Sign.{Sign}
+use Rattle.ql_parse.specs.declared.keyword.Keyword.{Keyword}
+use Rattle.ql_parse.specs.declared.kind.Kind.{Kind}
+use Rattle.ql_parse.specs.Tokens.{Piece, kind}
+use Rattle.ql_parse.specs.Classes.{Class, fits, the_word, any_name, name_but, a_number, a_text, a_sysvar, the_sign, the_end, same_sign}
+use Rattle.ql_parse.specs.Keywords.{is_reserved, same_keyword}
+use Rattle.ql_parse.specs.Grammar.{listed, sign}
+use Rattle.ql_parse.specs.Parts.{AreListed}
+use Rattle.ql_parse.specs.Language.{Re, empty, one, seq, alt, many, In, nullable, verdict}
+
+-- a token of this kind is of one of the classes
+abbrev pub fits_some : List Class → Kind → Bool
+fits_some [] k = false
+fits_some (c ∷ cs) k = fits c k || fits_some cs k
+
+-- some token may be of both classes
+abbrev pub meets_word : Keyword → Class → Bool
+meets_word v (the_word w) = same_keyword v w
+meets_word v any_name = not (is_reserved v)
+meets_word v (name_but a b) = not (is_reserved v)
+meets_word v a_number = false
+meets_word v a_text = false
+meets_word v a_sysvar = false
+meets_word v (the_sign s) = false
+meets_word v the_end = false
+
+abbrev pub meets_name : Class → Bool
+meets_name (the_word w) = not (is_reserved w)
+meets_name any_name = true
+meets_name (name_but a b) = true
+meets_name a_number = false
+meets_name a_text = false
+meets_name a_sysvar = false
+meets_name (the_sign s) = false
+meets_name the_end = false
+
+abbrev pub meets_sign : Sign → Class → Bool
+meets_sign v (the_word w) = false
+meets_sign v any_name = false
+meets_sign v (name_but a b) = false
+meets_sign v a_number = false
+meets_sign v a_text = false
+meets_sign v a_sysvar = false
+meets_sign v (the_sign s) = same_sign v s
+meets_sign v the_end = false
+
+abbrev pub meets : Class → Class → Bool
+meets (the_word v) d = meets_word v d
+meets any_name d = meets_name d
+meets (name_but a b) d = meets_name d
+meets a_number d = true
+meets a_text d = true
+meets a_sysvar d = true
+meets (the_sign s) d = meets_sign s d
+meets the_end d = true
+
+abbrev pub meets_some : List Class → Class → Bool
+meets_some [] d = false
+meets_some (c ∷ cs) d = meets c d || meets_some cs d
+
+-- no text begins with a token of these classes
+abbrev pub apart : List Class → Re → Bool
+apart cs empty = true
+apart cs (one d) = not (meets_some cs d)
+apart cs (seq r s) = apart cs r && (not (nullable r) || apart cs s)
+apart cs (alt r s) = apart cs r && apart cs s
+apart cs (many r) = apart cs r
+
+-- some text begins with a token of this kind
+abbrev pub begins : Kind → Re → Bool
+begins k empty = false
+begins k (one c) = fits c k
+begins k (seq r s) = begins k r || (nullable r && begins k s)
+begins k (alt r s) = begins k r || begins k s
+begins k (many r) = begins k r
+
+abbrev pub same_class : Class → Class → Bool
+same_class (the_word v) (the_word w) = same_keyword v w
+same_class any_name any_name = true
+same_class (the_sign v) (the_sign w) = same_sign v w
+same_class _ _ = false
+
+abbrev pub is_in : Class → List Class → Bool
+is_in c [] = false
+is_in c (d ∷ ds) = same_class c d || is_in c ds
+
+abbrev pub all_in : List Class → List Class → Bool
+all_in [] ds = true
+all_in (c ∷ cs) ds = is_in c ds && all_in cs ds
+
+-- what goes on with the one isn't taken for what follows it, the part s and then what goes on with neither of the others
+abbrev pub may_follow : List Class → Re → List Class → Bool
+may_follow cs s ds = apart cs s && (not (nullable s) || all_in cs ds)
+
+-- The part r has been read, whatever follows it, unless that can begin with one of the tokens with which r may go on: then
+-- what lies before now leaves the rest of the grammar exactly where what lay before left it. The tokens in between have the
+-- property.
+pub record Takes (r : Re) (goes_on : List Class) (P : List Piece → Type 0) (before now : List Piece) : Type 0 where
+  pub takes : (rest : Re) → apart goes_on rest ≡ true → verdict (seq r rest) before ≡ verdict rest now
+  pub used : List Piece
+  pub is : before ≡ used ++ now
+  pub has : P used
+
+-- The part r can't be read, whatever follows it: this is the place of the first token with which no text goes on, unless
+-- memory was refused.
+pub record Fails (r : Re) (goes_on : List Class) (before : List Piece) (error : Or ℕ) : Type 0 where
+  pub fails : (place : ℕ) → error ≡ Fault place → (rest : Re) → apart goes_on rest ≡ true → verdict (seq r rest) before ≡ Some place
+
+-- A reader of the part r, whose values are such tokens, answered so.
+abbrev pub Reads : {T : Type 0} → Re → List Class → (T → List Piece → Type 0) → List Piece → Result T (Or ℕ) → List Piece → Type 0
+Reads r goes_on Is before (Ok value) now = Takes r goes_on (Is value) before now
+Reads r goes_on Is before (Err error) now = Fails r goes_on before error
+
+-- the next token is of this kind
+pub record IsNext (k : Kind) (tokens : List Piece) : Type 0 where
+  pub next : Piece
+  pub behind : List Piece
+  pub is : tokens ≡ next ∷ behind
+  pub kind_is : kind next ≡ k
+
+-- no text of the grammar is empty or begins with a token of this kind
+abbrev pub misses : Kind → Re → Bool
+misses k r = not (nullable r) && not (begins k r)
+
+-- Whether the next token is of the class.
+pub record IsNextOf (c : Class) (tokens : List Piece) (answer : Bool) : Type 0 where
+  pub kind : Kind
+  pub next : IsNext kind tokens
+  pub fits : fits c kind ≡ answer
+
+-- Whether the next token was of the class: then it was taken.
+abbrev pub TakesIf : Class → (List Piece → Type 0) → List Piece → Bool → List Piece → Type 0
+TakesIf c P before true now = Takes (one c) [] P before now × IsNextOf c before true
+TakesIf c P before false now = (now ≡ before) × IsNextOf c before false
+
+-- Of parts in a row with this sign between them these have been read, and others may follow.
+pub record TakesListed {A : Type 0} (s : Sign) (r : Re) (goes_on : List Class) (Is : A → List Piece → Type 0) (before : List Piece) (items : List A) (now : List Piece) : Type 0 where
+  pub takes : (rest : Re) → apart goes_on rest ≡ true → verdict (seq (listed s r) rest) before ≡ verdict (seq (many (seq (sign s) r)) rest) now
+  pub used : List Piece
+  pub is : before ≡ used ++ now
+  pub has : AreListed s Is items used

@@ -1,0 +1,167 @@
+ghost use Rattle.std.specs.Prelude.{◌≡◌, ◌≢◌, [], ◌∷◌};
+ghost use Rattle.ql_parse.specs.declared.kind.Kind.TheVariants as kinds;
+ghost use Rattle.ql_parse.specs.Tokens.{kind, piece_of, pieces, AreWhole, sign_of, first_kind, first_place};
+ghost use Rattle.ql_parse.specs.Classes.{the_word, any_name, a_number, the_sign};
+ghost use Rattle.ql_parse.specs.Language.{one};
+ghost use Rattle.ql_parse.specs.Grammar.{words, name, number};
+ghost use Rattle.ql_parse.specs.Parts.{IsWord, AreWords, IsSign, IsName, IsNumber};
+ghost use Rattle.ql_parse.specs.Progress.{IsNext, IsNextOf, Reads, TakesIf};
+
+use crate::keyword::keyword_named;
+use crate::{Keyword, Kind};
+use ql_lex::{Sign, Token, TokenKind};
+use srch_base::{Name, Or};
+use std::alloc::Global;
+use std::marker::Model;
+
+/// The tokens of a text from a place on, of which the last is the end.
+pub(crate) struct Cursor<'a> {
+    rest: &'a [Token<'a>],
+}
+
+impl<'a> Model for Cursor<'a> {
+    ghost use Rattle.std.specs.Prelude.{List};
+    ghost use Rattle.ql_parse.specs.Tokens.{Piece, pieces, AreWhole};
+
+    ghost Value = { List Piece };
+
+    ghost view = { λ a. pieces a.rest.now };
+
+    ghost invariant = { λ a. AreWhole (pieces a.rest.now) };
+}
+
+/// The sign that a token spells.
+fn sign_at(text: &[u8]) -> Sign
+    ensures { result ≡ sign_of text.now }
+{
+    Sign::Minus
+}
+
+/// What the grammar sees of a token.
+fn kind_of(token: &Token<'_>) -> Kind
+    ensures { result ≡ kind (piece_of token.now) }
+{
+    match token.kind {
+        TokenKind::Name => match keyword_named(token.text) {
+            Some(word) => Kind::Keyword(word),
+            None => Kind::Name,
+        },
+        TokenKind::Quoted => Kind::Name,
+        TokenKind::Number => Kind::Number,
+        TokenKind::Text => Kind::Text,
+        TokenKind::SysVar => Kind::SysVar,
+        TokenKind::Sign => Kind::Sign(sign_at(token.text)),
+        TokenKind::End => Kind::End,
+    }
+}
+
+impl<'a> Cursor<'a> {
+    pub(crate) fn new(tokens: &'a [Token<'a>]) -> Self
+        requires { AreWhole (pieces tokens.now) }
+        ensures { result ≡ pieces tokens.now }
+    {
+        Cursor { rest: tokens }
+    }
+
+    /// What the next token is. At the end it is the end.
+    pub(crate) fn kind(&self) -> Kind
+        ensures { IsNext result self.now }
+    {
+        kind_of(&self.rest[0])
+    }
+
+    /// Goes on behind the next token.
+    fn skip(&mut self) -> &'a Token<'a>
+        requires { first_kind self.old ≢ kinds.End }
+        ensures { self.old ≡ piece_of result.now ∷ self.new }
+    {
+        let rest = self.rest;
+        self.rest = &rest[1..];
+        &rest[0]
+    }
+
+    /// The place of the next token.
+    pub(crate) fn place(&self) -> u32
+        ensures { result ≡ first_place self.now }
+    {
+        self.rest[0].at
+    }
+
+    /// Whether a keyword is next.
+    pub(crate) fn is_word(&self, word: Keyword) -> bool
+        ensures { IsNextOf (the_word word) self.now result }
+    {
+        match self.kind() {
+            Kind::Keyword(next) => word == next,
+            _ => false,
+        }
+    }
+
+    /// Whether a sign is next.
+    pub(crate) fn is_sign(&self, sign: Sign) -> bool
+        ensures { IsNextOf (the_sign sign) self.now result }
+    {
+        match self.kind() {
+            Kind::Sign(next) => sign == next,
+            _ => false,
+        }
+    }
+
+    /// Takes a keyword.
+    pub(crate) fn word(&mut self, word: Keyword) -> Result<(), Or<u32>>
+        ensures { Reads (one (the_word word)) [] (λ _. IsWord word) self.old result self.new }
+    {
+        if self.is_word(word) {
+            self.skip();
+            Ok(())
+        } else {
+            Err(Or::Fault(self.place()))
+        }
+    }
+
+    /// Takes a sign.
+    pub(crate) fn sign(&mut self, sign: Sign) -> Result<(), Or<u32>>
+        ensures { Reads (one (the_sign sign)) [] (λ _. IsSign sign) self.old result self.new }
+    {
+        if self.is_sign(sign) {
+            self.skip();
+            Ok(())
+        } else {
+            Err(Or::Fault(self.place()))
+        }
+    }
+
+    /// Takes a sign, if it is the next token.
+    pub(crate) fn takes_sign(&mut self, sign: Sign) -> bool
+        ensures { TakesIf (the_sign sign) (IsSign sign) self.old result self.new }
+    {
+        let found = self.is_sign(sign);
+        if found {
+            self.skip();
+        }
+        found
+    }
+
+    /// Takes two keywords in a row.
+    pub(crate) fn words(&mut self, first: Keyword, second: Keyword) -> Result<(), Or<u32>>
+        ensures { Reads (words first second) [] (λ _. AreWords first second) self.old result self.new }
+    {
+        self.word(first)?;
+        self.word(second)?;
+        Ok(())
+    }
+
+    /// Takes a name.
+    pub(crate) fn name(&mut self, alloc: Global) -> Result<Name, Or<u32>>
+        ensures { Reads name [] IsName self.old result self.new }
+    {
+        Err(Or::NoMemory)
+    }
+
+    /// Takes a number.
+    pub(crate) fn number(&mut self) -> Result<u64, Or<u32>>
+        ensures { Reads number [] IsNumber self.old result self.new }
+    {
+        Err(Or::NoMemory)
+    }
+}
