@@ -7,7 +7,8 @@ use Rattle.ql_parse.specs.declared.keyword.Keyword.{Keyword}
 use Rattle.ql_parse.specs.declared.kind.Kind.{Kind}
 use Rattle.ql_parse.specs.declared.kind.Kind.TheVariants as kinds
 use Rattle.ql_parse.specs.Keywords.{is_reserved, keyword_number, same_keyword}
-use Rattle.ql_parse.specs.Tokens.{Piece, kind}
+use Rattle.ql_lex.specs.Tokens.{Lexeme}
+use Rattle.ql_parse.specs.Tokens.{kind}
 use Rattle.ql_parse.specs.Classes.{Class, the_word, any_name, name_but, a_number, a_text, a_sysvar, the_sign, the_end, fits, is_name, is_word, is_sign, sign_number, same_sign, kind_number}
 use Rattle.ql_parse.specs.Language.{Re, empty, one, seq, alt, many, Repeats, none, more, In, nullable}
 use Rattle.ql_parse.specs.Progress.{fits_some, meets, meets_word, meets_name, meets_sign, meets_some, apart, begins}
@@ -174,25 +175,25 @@ apart_after cs r s nil e = behind (nullable r) (apart cs s) nil e
     behind true c is e = e
     behind false c is e = cc
 
-first_of_many : (r : Re) (t : Piece) (u w : List Piece) → w ≡ (t ∷ u) → Repeats (In r) w → ((v : List Piece) → In r (t ∷ v) → ⊥) → ⊥
+first_of_many : (r : Re) (t : Lexeme) (u w : List Lexeme) → w ≡ (t ∷ u) → Repeats (In r) w → ((v : List Lexeme) → In r (t ∷ v) → ⊥) → ⊥
 first_of_many r t u w is (none e) never = cc
 first_of_many r t u w is (more [] b e first rest) never = first_of_many r t u b (sym e ∙ is) rest never
 first_of_many r t u w is (more (x ∷ a) b e first rest) never =
     let same : x ≡ t = cc in
-    never a (subst (λ (y : Piece). In r (y ∷ a)) same first)
+    never a (subst (λ (y : Lexeme). In r (y ∷ a)) same first)
 
-first_of_two : (r s : Re) (t : Piece) (u a b : List Piece) → (t ∷ u) ≡ a ++ b → In r a → In s b → ((v : List Piece) → In r (t ∷ v) → ⊥) → (nullable r ≡ true → (v : List Piece) → In s (t ∷ v) → ⊥) → ⊥
+first_of_two : (r s : Re) (t : Lexeme) (u a b : List Lexeme) → (t ∷ u) ≡ a ++ b → In r a → In s b → ((v : List Lexeme) → In r (t ∷ v) → ⊥) → (nullable r ≡ true → (v : List Lexeme) → In s (t ∷ v) → ⊥) → ⊥
 first_of_two r s t u [] b e first second left right = right (has_nullable r first) u (subst (λ v. In s v) (sym e) second)
 first_of_two r s t u (x ∷ a) b e first second left right =
     let same : x ≡ t = cc in
-    left a (subst (λ (y : Piece). In r (y ∷ a)) same first)
+    left a (subst (λ (y : Lexeme). In r (y ∷ a)) same first)
 
-pub apart_no : (cs : List Class) (r : Re) (t : Piece) → apart cs r ≡ true → fits_some cs (kind t) ≡ true → (u : List Piece) → In r (t ∷ u) → ⊥
+pub apart_no : (cs : List Class) (r : Re) (t : Lexeme) → apart cs r ≡ true → fits_some cs (kind t) ≡ true → (u : List Lexeme) → In r (t ∷ u) → ⊥
 unfolding In
 apart_no cs empty t e f u h = cc
 apart_no cs (one d) t e f u (x, is, g) =
     let same : x ≡ t = cc in
-    clash (meets_some cs d) (meets_one cs d (kind t) f (subst (λ (y : Piece). fits d (kind y) ≡ true) same g)) (not_true (meets_some cs d) e)
+    clash (meets_some cs d) (meets_one cs d (kind t) f (subst (λ (y : Lexeme). fits d (kind y) ≡ true) same g)) (not_true (meets_some cs d) e)
 apart_no cs (seq r s) t e f u (a, b, is, first, second) =
     first_of_two r s t u a b is first second (apart_no cs r t (and_first (apart cs r) (not (nullable r) || apart cs s) e) f) (λ nil. apart_no cs s t (apart_after cs r s nil (and_second (apart cs r) (not (nullable r) || apart cs s) e)) f)
 apart_no cs (alt r s) t e f u (inl first) = apart_no cs r t (and_first (apart cs r) (apart cs s) e) f u first
@@ -200,12 +201,12 @@ apart_no cs (alt r s) t e f u (inr second) = apart_no cs s t (and_second (apart 
 apart_no cs (many r) t e f u h = first_of_many r t u (t ∷ u) refl h (apart_no cs r t e f)
 
 -- no text begins with a token of a kind with which the grammar doesn't begin
-pub begins_no : (r : Re) (t : Piece) → begins (kind t) r ≡ false → (u : List Piece) → In r (t ∷ u) → ⊥
+pub begins_no : (r : Re) (t : Lexeme) → begins (kind t) r ≡ false → (u : List Lexeme) → In r (t ∷ u) → ⊥
 unfolding In
 begins_no empty t e u h = cc
 begins_no (one d) t e u (x, is, g) =
     let same : x ≡ t = cc in
-    clash (fits d (kind t)) (subst (λ (y : Piece). fits d (kind y) ≡ true) same g) e
+    clash (fits d (kind t)) (subst (λ (y : Lexeme). fits d (kind y) ≡ true) same g) e
 begins_no (seq r s) t e u (a, b, is, first, second) =
     first_of_two r s t u a b is first second (begins_no r t (or_first (begins (kind t) r) (nullable r && begins (kind t) s) e)) (λ nil. begins_no s t (behind (nullable r) (begins (kind t) s) nil (or_second (begins (kind t) r) (nullable r && begins (kind t) s) e)))
   where
@@ -215,3 +216,10 @@ begins_no (seq r s) t e u (a, b, is, first, second) =
 begins_no (alt r s) t e u (inl first) = begins_no r t (or_first (begins (kind t) r) (begins (kind t) s) e) u first
 begins_no (alt r s) t e u (inr second) = begins_no s t (or_second (begins (kind t) r) (begins (kind t) s) e) u second
 begins_no (many r) t e u h = first_of_many r t u (t ∷ u) refl h (begins_no r t e)
+
+-- a token of some classes is of no class that meets none of them
+pub not_meeting : (cs : List Class) (d : Class) (k : Kind) → not (meets_some cs d) ≡ true → fits_some cs k ≡ true → fits d k ≡ false
+not_meeting cs d k e f = elim (cases_Bool (fits d k)) [
+      | inl fit ↦ absurd (clash (meets_some cs d) (meets_one cs d k f fit) (not_true (meets_some cs d) e))
+      | inr other ↦ other
+    ]

@@ -5,3 +5,4 @@ pub mod Samples
 pub mod Verdicts
 pub mod Apart
 pub mod Steps
+pub mod Cursors

@@ -12,16 +12,17 @@ use Rattle.ql_parse.specs.declared.keyword.Keyword.TheVariants as keywords
 use Rattle.ql_parse.specs.declared.kind.Kind.{Kind}
 use Rattle.ql_parse.specs.declared.kind.Kind.TheVariants as kinds
 use Rattle.ql_parse.specs.Keywords.{keyword_named}
-use Rattle.ql_parse.specs.Tokens.{Piece, kind, sign_of}
+use Rattle.ql_lex.specs.Tokens.{Lexeme}
+use Rattle.ql_parse.specs.Tokens.{kind, kind_by}
 use Rattle.ql_parse.specs.Classes.{Class, the_word, any_name, name_but, a_number, a_text, a_sysvar, the_sign, the_end, fits, is_word, is_sign}
 use Rattle.ql_parse.specs.Language.{Re, empty, one, seq, alt, many, Repeats, none, more, In}
 use Rattle.ql_parse.proofs.KeywordNumbers.{same_to_itself}
 
-abbrev token : TokenKind → List ℕ → Piece
+abbrev token : TokenKind → List ℕ → Lexeme
 token form text = record { kind = form; text = text; at = 0 }
 
-some_word : (w : Keyword) → (t : Piece) × (kind t ≡ kinds.Keyword w)
-unfolding keyword_named value_named
+some_word : (w : Keyword) → (t : Lexeme) × (kind t ≡ kinds.Keyword w)
+unfolding kind_by keyword_named value_named
 some_word keywords.And = (token forms.Name (codes "and"), refl)
 some_word keywords.As = (token forms.Name (codes "as"), refl)
 some_word keywords.Asc = (token forms.Name (codes "asc"), refl)
@@ -81,8 +82,8 @@ some_word keywords.Weight = (token forms.Name (codes "weight"), refl)
 some_word keywords.Where = (token forms.Name (codes "where"), refl)
 some_word keywords.Within = (token forms.Name (codes "within"), refl)
 
-some_sign : (s : Sign) → (t : Piece) × (fits (the_sign s) (kind t) ≡ true)
-unfolding sign_of
+some_sign : (s : Sign) → (t : Lexeme) × (fits (the_sign s) (kind t) ≡ true)
+unfolding kind_by
 some_sign signs.OpenParen = (token forms.Sign (codes "("), refl)
 some_sign signs.CloseParen = (token forms.Sign (codes ")"), refl)
 some_sign signs.Comma = (token forms.Sign (codes ","), refl)
@@ -96,7 +97,8 @@ some_sign signs.Greater = (token forms.Sign (codes ">"), refl)
 some_sign signs.LessOrEqual = (token forms.Sign (codes "<="), refl)
 some_sign signs.GreaterOrEqual = (token forms.Sign (codes ">="), refl)
 
-some_token : (c : Class) → (t : Piece) × (fits c (kind t) ≡ true)
+some_token : (c : Class) → (t : Lexeme) × (fits c (kind t) ≡ true)
+unfolding kind_by
 some_token (the_word w) = let (t, is) = some_word w in (t, ap (is_word w) is ∙ same_to_itself w)
 some_token any_name = (token forms.Quoted (codes "`a`"), refl)
 some_token (name_but v w) = (token forms.Quoted (codes "`a`"), refl)
@@ -106,7 +108,7 @@ some_token a_sysvar = (token forms.SysVar (codes "@@a"), refl)
 some_token (the_sign s) = some_sign s
 some_token the_end = (token forms.End [], refl)
 
-pub some_text : (r : Re) → (u : List Piece) × In r u
+pub some_text : (r : Re) → (u : List Lexeme) × In r u
 unfolding In
 some_text empty = ([], refl)
 some_text (one c) = let (t, f) = some_token c in (t ∷ [], (t, refl, f))

@@ -1,5 +1,5 @@
 -- What the readers of parts make of a grammar of these parts.
-use Rattle.std.proofs.Common.{arith, ◌<◌, ◌≡◌, ℕ, suc, ◌==◌, List, [], ◌∷◌, ◌++◌, Bool, true, false, cond, Option, Some, None, ◌⊎◌, inl, inr, refl, sym, ◌∙◌, ap, subst, append_assoc, append-nil}
+use Rattle.std.proofs.Common.{arith, ◌<◌, ◌≤◌, length, length-append, ◌≡◌, ℕ, suc, ◌==◌, List, [], ◌∷◌, ◌++◌, Bool, true, false, cond, Option, Some, None, ◌⊎◌, inl, inr, refl, sym, ◌∙◌, ap, subst, append_assoc, append-nil}
 use Rattle.std.specs.Prelude.{◌&&◌, ◌||◌, IsTrue, not, if◌then◌else◌, Result, Ok, Err, slice_get}
 use Rattle.std.specs.Result.{IsErrAnd}
 use Rattle.std.proofs.lemmas.Result.{err_from_is_err_and}
@@ -12,13 +12,14 @@ use Rattle.ql_parse.specs.declared.keyword.Keyword.{Keyword}
 use Rattle.ql_parse.specs.declared.kind.Kind.{Kind}
 use Rattle.ql_parse.specs.declared.kind.Kind.TheVariants as kinds
 use Rattle.ql_parse.specs.Keywords.{same_keyword}
-use Rattle.ql_parse.specs.Tokens.{Piece, kind, first_kind, first_place}
+use Rattle.ql_lex.specs.Tokens.{Lexeme}
+use Rattle.ql_parse.specs.Tokens.{kind, first_kind, first_place}
 use Rattle.ql_parse.specs.Classes.{Class, the_word, any_name, name_but, a_number, a_text, a_sysvar, the_sign, the_end, fits, same_sign, sign_number}
 use Rattle.ql_parse.specs.Language.{Re, empty, one, seq, alt, many, Repeats, none, more, In, nullable, chain, either, joined, after, verdict, next}
-use Rattle.ql_parse.specs.Grammar.{optional}
+use Rattle.ql_parse.specs.Grammar.{optional, listed}
 use Rattle.ql_parse.specs.Parts.{◌then◌, IsWord, IsSign, AreListed}
-use Rattle.ql_parse.specs.Progress.{fits_some, meets, meets_some, apart, begins, same_class, is_in, all_in, may_follow, misses, Takes, Fails, Reads, IsNext, IsNextOf, TakesIf, TakesListed}
-use Rattle.ql_parse.proofs.Apart.{and_first, and_second, or_first, or_second, apart_no, begins_no}
+use Rattle.ql_parse.specs.Progress.{fits_some, meets, meets_some, apart, begins, same_class, is_in, all_in, may_follow, misses, begun, excludes, Takes, Fails, Reads, IsNext, IsNextOf, TakesIf, TakesListed}
+use Rattle.ql_parse.proofs.Apart.{and_first, and_second, or_first, or_second, apart_no, begins_no, not_meeting}
 use Rattle.ql_parse.proofs.KeywordNumbers.{keyword_same}
 use Rattle.ql_parse.proofs.Laws.{nullable_has, has_nullable}
 use Rattle.ql_parse.proofs.Verdicts.{Within, verdict_same, verdict_begun}
@@ -50,6 +51,9 @@ sign_same v w e =
 class_same : (c d : Class) → same_class c d ≡ true → c ≡ d
 class_same (the_word v) (the_word w) e = ap the_word (keyword_same v w e)
 class_same any_name any_name e = refl
+class_same a_number a_number e = refl
+class_same a_text a_text e = refl
+class_same a_sysvar a_sysvar e = refl
 class_same (the_sign v) (the_sign w) e = ap the_sign (sign_same v w e)
 class_same _ _ e = cc
 
@@ -109,7 +113,7 @@ assoc_from : (r s k : Re) → Within (seq r (seq s k)) (seq (seq r s) k)
 unfolding In
 assoc_from r s k u (a, bc, e, first, (b, c, f, second, third)) = (a ++ b, c, e ∙ ap (λ v. a ++ v) f ∙ sym (append_assoc a b c), (a, b, refl, first, second), third)
 
-pub regroup : (r s k : Re) (u : List Piece) → verdict (seq (seq r s) k) u ≡ verdict (seq r (seq s k)) u
+pub regroup : (r s k : Re) (u : List Lexeme) → verdict (seq (seq r s) k) u ≡ verdict (seq r (seq s k)) u
 regroup r s k u = verdict_same u (seq (seq r s) k) (seq r (seq s k)) (assoc_to r s k) (assoc_from r s k)
 
 empty_to : (k : Re) → Within (seq empty k) k
@@ -121,7 +125,7 @@ unfolding In
 empty_from k u h = ([], u, refl, refl, h)
 
 -- In a row: one part, then another.
-pub takes_seq : {r s : Re} {cs ds : List Class} {P Q : List Piece → Type 0} {before mid now : List Piece} → Takes r cs P before mid → may_follow cs s ds ≡ true → Takes s ds Q mid now → Takes (seq r s) ds (P then Q) before now
+pub takes_seq : {r s : Re} {cs ds : List Class} {P Q : List Lexeme → Type 0} {before mid now : List Lexeme} → Takes r cs P before mid → may_follow cs s ds ≡ true → Takes s ds Q mid now → Takes (seq r s) ds (P then Q) before now
 takes_seq {r} {s} {cs} {ds} {P} {Q} {before} {mid} {now} first follows second = record {
     takes = λ rest free. regroup r s rest before ∙ first.takes (seq s rest) (apart_rest cs s ds rest follows free) ∙ second.takes rest free;
     used = first.used ++ second.used;
@@ -129,18 +133,18 @@ takes_seq {r} {s} {cs} {ds} {P} {Q} {before} {mid} {now} first follows second = 
     has = (first.used, second.used, refl, first.has, second.has);
   }
 
-pub fails_first : {r s : Re} {cs ds : List Class} {before : List Piece} {e : Or ℕ} → Fails r cs before e → may_follow cs s ds ≡ true → Fails (seq r s) ds before e
+pub fails_first : {r s : Re} {cs ds : List Class} {before : List Lexeme} {e : Or ℕ} → Fails r cs before e → may_follow cs s ds ≡ true → Fails (seq r s) ds before e
 fails_first {r} {s} {cs} {ds} {before} {e} first follows = record {
     fails = λ place is rest free. regroup r s rest before ∙ first.fails place is (seq s rest) (apart_rest cs s ds rest follows free);
   }
 
-pub fails_next : {r s : Re} {cs ds : List Class} {P : List Piece → Type 0} {before mid : List Piece} {e : Or ℕ} → Takes r cs P before mid → may_follow cs s ds ≡ true → Fails s ds mid e → Fails (seq r s) ds before e
+pub fails_next : {r s : Re} {cs ds : List Class} {P : List Lexeme → Type 0} {before mid : List Lexeme} {e : Or ℕ} → Takes r cs P before mid → may_follow cs s ds ≡ true → Fails s ds mid e → Fails (seq r s) ds before e
 fails_next {r} {s} {cs} {ds} {P} {before} {mid} {e} first follows second = record {
     fails = λ place is rest free. regroup r s rest before ∙ first.takes (seq s rest) (apart_rest cs s ds rest follows free) ∙ second.fails place is rest free;
   }
 
 -- the exit of a `?`
-pub fails_with : {T : Type 0} {r : Re} {cs : List Class} (Is : T → List Piece → Type 0) {before : List Piece} (now : List Piece) {e : Or ℕ} (result : Result T (Or ℕ)) → IsErrAnd result (λ y. y ≡ e) → Fails r cs before e → Reads r cs Is before result now
+pub fails_with : {T : Type 0} {r : Re} {cs : List Class} (Is : T → List Lexeme → Type 0) {before : List Lexeme} (now : List Lexeme) {e : Or ℕ} (result : Result T (Or ℕ)) → IsErrAnd result (λ y. y ≡ e) → Fails r cs before e → Reads r cs Is before result now
 fails_with {T} {r} {cs} Is {before} now {e} result err h =
     let (y, is, same) = err_from_is_err_and result err in
     subst (λ (x : Result T (Or ℕ)). Reads r cs Is before x now) (sym (is ∙ ap Err same)) h
@@ -154,151 +158,151 @@ clash true e f = cc
 clash false e f = cc
 
 -- no text of a part and something else begins with a token that the part misses
-missed : (s k : Re) (t : Piece) → misses (kind t) s ≡ true → (v : List Piece) → In (seq s k) (t ∷ v) → ⊥
+missed : (s k : Re) (t : Lexeme) → misses (kind t) s ≡ true → (v : List Lexeme) → In (seq s k) (t ∷ v) → ⊥
 unfolding In
 missed s k t e v ([], b, is, first, second) = clash (nullable s) (has_nullable s first) (misses_both (kind t) s e).0
 missed s k t e v (x ∷ a, b, is, first, second) =
     let same : x ≡ t = cc in
-    begins_no s t (misses_both (kind t) s e).1 a (subst (λ (y : Piece). In s (y ∷ a)) same first)
+    begins_no s t (misses_both (kind t) s e).1 a (subst (λ (y : Lexeme). In s (y ∷ a)) same first)
 
-choose_left : (r s k : Re) (t : Piece) (u : List Piece) → misses (kind t) s ≡ true → verdict (seq (alt r s) k) (t ∷ u) ≡ verdict (seq r k) (t ∷ u)
+choose_left : (r s k : Re) (t : Lexeme) (u : List Lexeme) → misses (kind t) s ≡ true → verdict (seq (alt r s) k) (t ∷ u) ≡ verdict (seq r k) (t ∷ u)
 unfolding In
 choose_left r s k t u e = verdict_begun t u (seq (alt r s) k) (seq r k) there back
   where
-    there : (v : List Piece) → In (seq (alt r s) k) (t ∷ v) → In (seq r k) (t ∷ v)
+    there : (v : List Lexeme) → In (seq (alt r s) k) (t ∷ v) → In (seq r k) (t ∷ v)
     there v (a, b, is, inl first, second) = (a, b, is, first, second)
     there v (a, b, is, inr first, second) = absurd (missed s k t e v (a, b, is, first, second))
-    back : (v : List Piece) → In (seq r k) (t ∷ v) → In (seq (alt r s) k) (t ∷ v)
+    back : (v : List Lexeme) → In (seq r k) (t ∷ v) → In (seq (alt r s) k) (t ∷ v)
     back v (a, b, is, first, second) = (a, b, is, inl first, second)
 
-choose_right : (r s k : Re) (t : Piece) (u : List Piece) → misses (kind t) r ≡ true → verdict (seq (alt r s) k) (t ∷ u) ≡ verdict (seq s k) (t ∷ u)
+choose_right : (r s k : Re) (t : Lexeme) (u : List Lexeme) → misses (kind t) r ≡ true → verdict (seq (alt r s) k) (t ∷ u) ≡ verdict (seq s k) (t ∷ u)
 unfolding In
 choose_right r s k t u e = verdict_begun t u (seq (alt r s) k) (seq s k) there back
   where
-    there : (v : List Piece) → In (seq (alt r s) k) (t ∷ v) → In (seq s k) (t ∷ v)
+    there : (v : List Lexeme) → In (seq (alt r s) k) (t ∷ v) → In (seq s k) (t ∷ v)
     there v (a, b, is, inl first, second) = absurd (missed r k t e v (a, b, is, first, second))
     there v (a, b, is, inr first, second) = (a, b, is, first, second)
-    back : (v : List Piece) → In (seq s k) (t ∷ v) → In (seq (alt r s) k) (t ∷ v)
+    back : (v : List Lexeme) → In (seq s k) (t ∷ v) → In (seq (alt r s) k) (t ∷ v)
     back v (a, b, is, first, second) = (a, b, is, inr first, second)
 
 -- the same at what lies before, whose next token is of a kind
-left_at : (r s k : Re) (kd : Kind) (before : List Piece) → IsNext kd before → misses kd s ≡ true → verdict (seq (alt r s) k) before ≡ verdict (seq r k) before
+left_at : (r s k : Re) (kd : Kind) (before : List Lexeme) → IsNext kd before → misses kd s ≡ true → verdict (seq (alt r s) k) before ≡ verdict (seq r k) before
 left_at r s k kd before n e =
     subst (λ u. verdict (seq (alt r s) k) u ≡ verdict (seq r k) u) (sym n.is) (choose_left r s k n.next n.behind (ap (λ d. misses d s) n.kind_is ∙ e))
 
-right_at : (r s k : Re) (kd : Kind) (before : List Piece) → IsNext kd before → misses kd r ≡ true → verdict (seq (alt r s) k) before ≡ verdict (seq s k) before
+right_at : (r s k : Re) (kd : Kind) (before : List Lexeme) → IsNext kd before → misses kd r ≡ true → verdict (seq (alt r s) k) before ≡ verdict (seq s k) before
 right_at r s k kd before n e =
     subst (λ u. verdict (seq (alt r s) k) u ≡ verdict (seq s k) u) (sym n.is) (choose_right r s k n.next n.behind (ap (λ d. misses d r) n.kind_is ∙ e))
 
-pub takes_left : {r s : Re} {cs : List Class} {P : List Piece → Type 0} {before now : List Piece} {k : Kind} → IsNext k before → misses k s ≡ true → Takes r cs P before now → Takes (alt r s) cs P before now
+pub takes_left : {r s : Re} {cs : List Class} {P : List Lexeme → Type 0} {before now : List Lexeme} {k : Kind} → IsNext k before → misses k s ≡ true → Takes r cs P before now → Takes (alt r s) cs P before now
 takes_left {r} {s} {cs} {P} {before} {now} {k} n e h = record { takes = λ rest free. left_at r s rest k before n e ∙ h.takes rest free; used = h.used; is = h.is; has = h.has }
 
-pub takes_right : {r s : Re} {cs : List Class} {P : List Piece → Type 0} {before now : List Piece} {k : Kind} → IsNext k before → misses k r ≡ true → Takes s cs P before now → Takes (alt r s) cs P before now
+pub takes_right : {r s : Re} {cs : List Class} {P : List Lexeme → Type 0} {before now : List Lexeme} {k : Kind} → IsNext k before → misses k r ≡ true → Takes s cs P before now → Takes (alt r s) cs P before now
 takes_right {r} {s} {cs} {P} {before} {now} {k} n e h = record { takes = λ rest free. right_at r s rest k before n e ∙ h.takes rest free; used = h.used; is = h.is; has = h.has }
 
-pub fails_left : {r s : Re} {cs : List Class} {before : List Piece} {e : Or ℕ} {k : Kind} → IsNext k before → misses k s ≡ true → Fails r cs before e → Fails (alt r s) cs before e
+pub fails_left : {r s : Re} {cs : List Class} {before : List Lexeme} {e : Or ℕ} {k : Kind} → IsNext k before → misses k s ≡ true → Fails r cs before e → Fails (alt r s) cs before e
 fails_left {r} {s} {cs} {before} {e} {k} n miss h = record { fails = λ place is rest free. left_at r s rest k before n miss ∙ h.fails place is rest free }
 
-pub fails_right : {r s : Re} {cs : List Class} {before : List Piece} {e : Or ℕ} {k : Kind} → IsNext k before → misses k r ≡ true → Fails s cs before e → Fails (alt r s) cs before e
+pub fails_right : {r s : Re} {cs : List Class} {before : List Lexeme} {e : Or ℕ} {k : Kind} → IsNext k before → misses k r ≡ true → Fails s cs before e → Fails (alt r s) cs before e
 fails_right {r} {s} {cs} {before} {e} {k} n miss h = record { fails = λ place is rest free. right_at r s rest k before n miss ∙ h.fails place is rest free }
 
 -- A part that may be left out: taken where the next token begins it, if what follows doesn't begin so.
-free_no : (cs : List Class) (k : Re) (t : Piece) → apart cs k ≡ true → fits_some cs (kind t) ≡ true → (v : List Piece) → In (seq empty k) (t ∷ v) → ⊥
+free_no : (cs : List Class) (k : Re) (t : Lexeme) → apart cs k ≡ true → fits_some cs (kind t) ≡ true → (v : List Lexeme) → In (seq empty k) (t ∷ v) → ⊥
 free_no cs k t e f v h = apart_no cs k t e f v (empty_to k (t ∷ v) h)
 
-taken_at : (r k : Re) (cs : List Class) (kd : Kind) (before : List Piece) → IsNext kd before → fits_some cs kd ≡ true → apart cs k ≡ true → verdict (seq (optional r) k) before ≡ verdict (seq r k) before
+taken_at : (r k : Re) (cs : List Class) (kd : Kind) (before : List Lexeme) → IsNext kd before → fits_some cs kd ≡ true → apart cs k ≡ true → verdict (seq (optional r) k) before ≡ verdict (seq r k) before
 unfolding In
 taken_at r k cs kd before n f e =
     subst (λ u. verdict (seq (optional r) k) u ≡ verdict (seq r k) u) (sym n.is) (verdict_begun n.next n.behind (seq (optional r) k) (seq r k) there back)
   where
-    there : (v : List Piece) → In (seq (optional r) k) (n.next ∷ v) → In (seq r k) (n.next ∷ v)
+    there : (v : List Lexeme) → In (seq (optional r) k) (n.next ∷ v) → In (seq r k) (n.next ∷ v)
     there v (a, b, is, inl first, second) = (a, b, is, first, second)
     there v (a, b, is, inr first, second) = absurd (free_no cs k n.next e (ap (fits_some cs) n.kind_is ∙ f) v (a, b, is, first, second))
-    back : (v : List Piece) → In (seq r k) (n.next ∷ v) → In (seq (optional r) k) (n.next ∷ v)
+    back : (v : List Lexeme) → In (seq r k) (n.next ∷ v) → In (seq (optional r) k) (n.next ∷ v)
     back v (a, b, is, first, second) = (a, b, is, inl first, second)
 
 -- a text of r and then k that begins with a token with which r doesn't begin is a text of k
-past : (r k : Re) (t : Piece) → begins (kind t) r ≡ false → (v : List Piece) → In (seq r k) (t ∷ v) → In k (t ∷ v)
+past : (r k : Re) (t : Lexeme) → begins (kind t) r ≡ false → (v : List Lexeme) → In (seq r k) (t ∷ v) → In k (t ∷ v)
 unfolding In
 past r k t e v ([], b, is, first, second) = subst (λ u. In k u) (sym is) second
 past r k t e v (x ∷ a, b, is, first, second) =
     let same : x ≡ t = cc in
-    absurd (begins_no r t e a (subst (λ (y : Piece). In r (y ∷ a)) same first))
+    absurd (begins_no r t e a (subst (λ (y : Lexeme). In r (y ∷ a)) same first))
 
-skipped_at : (r k : Re) (kd : Kind) (before : List Piece) → IsNext kd before → begins kd r ≡ false → verdict (seq (optional r) k) before ≡ verdict k before
+skipped_at : (r k : Re) (kd : Kind) (before : List Lexeme) → IsNext kd before → begins kd r ≡ false → verdict (seq (optional r) k) before ≡ verdict k before
 unfolding In
 skipped_at r k kd before n e =
     subst (λ u. verdict (seq (optional r) k) u ≡ verdict k u) (sym n.is) (verdict_begun n.next n.behind (seq (optional r) k) k there back)
   where
-    there : (v : List Piece) → In (seq (optional r) k) (n.next ∷ v) → In k (n.next ∷ v)
+    there : (v : List Lexeme) → In (seq (optional r) k) (n.next ∷ v) → In k (n.next ∷ v)
     there v (a, b, is, inl first, second) = past r k n.next (ap (λ d. begins d r) n.kind_is ∙ e) v (a, b, is, first, second)
     there v (a, b, is, inr first, second) = empty_to k (n.next ∷ v) (a, b, is, first, second)
-    back : (v : List Piece) → In k (n.next ∷ v) → In (seq (optional r) k) (n.next ∷ v)
+    back : (v : List Lexeme) → In k (n.next ∷ v) → In (seq (optional r) k) (n.next ∷ v)
     back v h = ([], n.next ∷ v, refl, inr refl, h)
 
-pub takes_optional : {r : Re} {cs : List Class} {P : List Piece → Type 0} {before now : List Piece} {k : Kind} → IsNext k before → fits_some cs k ≡ true → Takes r cs P before now → Takes (optional r) cs P before now
+pub takes_optional : {r : Re} {cs : List Class} {P : List Lexeme → Type 0} {before now : List Lexeme} {k : Kind} → IsNext k before → fits_some cs k ≡ true → Takes r cs P before now → Takes (optional r) cs P before now
 takes_optional {r} {cs} {P} {before} {now} {k} n f h = record { takes = λ rest free. taken_at r rest cs k before n f free ∙ h.takes rest free; used = h.used; is = h.is; has = h.has }
 
-pub fails_optional : {r : Re} {cs : List Class} {before : List Piece} {e : Or ℕ} {k : Kind} → IsNext k before → fits_some cs k ≡ true → Fails r cs before e → Fails (optional r) cs before e
+pub fails_optional : {r : Re} {cs : List Class} {before : List Lexeme} {e : Or ℕ} {k : Kind} → IsNext k before → fits_some cs k ≡ true → Fails r cs before e → Fails (optional r) cs before e
 fails_optional {r} {cs} {before} {e} {k} n f h = record { fails = λ place is rest free. taken_at r rest cs k before n f free ∙ h.fails place is rest free }
 
-pub takes_nothing : {r : Re} {cs : List Class} {P : List Piece → Type 0} {before : List Piece} {k : Kind} → IsNext k before → begins k r ≡ false → P [] → Takes (optional r) cs P before before
+pub takes_nothing : {r : Re} {cs : List Class} {P : List Lexeme → Type 0} {before : List Lexeme} {k : Kind} → IsNext k before → begins k r ≡ false → P [] → Takes (optional r) cs P before before
 takes_nothing {r} {cs} {P} {before} {k} n e h = record { takes = λ rest free. skipped_at r rest k before n e; used = []; is = refl; has = h }
 
 -- A part that may be repeated: once more where the next token begins it.
-more_at : (r k : Re) (cs : List Class) (kd : Kind) (before : List Piece) → IsNext kd before → fits_some cs kd ≡ true → apart cs k ≡ true → verdict (seq (many r) k) before ≡ verdict (seq r (seq (many r) k)) before
+more_at : (r k : Re) (cs : List Class) (kd : Kind) (before : List Lexeme) → IsNext kd before → fits_some cs kd ≡ true → apart cs k ≡ true → verdict (seq (many r) k) before ≡ verdict (seq r (seq (many r) k)) before
 unfolding In
 more_at r k cs kd before n f e =
     subst (λ u. verdict (seq (many r) k) u ≡ verdict (seq r (seq (many r) k)) u) (sym n.is) (verdict_begun n.next n.behind (seq (many r) k) (seq r (seq (many r) k)) (λ v h. there v h) back)
   where
-    go : (v a b : List Piece) → (n.next ∷ v) ≡ a ++ b → Repeats (In r) a → In k b → In (seq r (seq (many r) k)) (n.next ∷ v)
+    go : (v a b : List Lexeme) → (n.next ∷ v) ≡ a ++ b → Repeats (In r) a → In k b → In (seq r (seq (many r) k)) (n.next ∷ v)
     go v a b is (none e') second = absurd (apart_no cs k n.next e (ap (fits_some cs) n.kind_is ∙ f) v (subst (λ u. In k u) (sym (is ∙ ap (λ w. w ++ b) e')) second))
     go v a b is (more c d e' first rest) second = (c, d ++ b, is ∙ ap (λ w. w ++ b) e' ∙ append_assoc c d b, first, (d, b, refl, rest, second))
-    there : (v : List Piece) → In (seq (many r) k) (n.next ∷ v) → In (seq r (seq (many r) k)) (n.next ∷ v)
+    there : (v : List Lexeme) → In (seq (many r) k) (n.next ∷ v) → In (seq r (seq (many r) k)) (n.next ∷ v)
     there v (a, b, is, first, second) = go v a b is first second
-    back : (v : List Piece) → In (seq r (seq (many r) k)) (n.next ∷ v) → In (seq (many r) k) (n.next ∷ v)
+    back : (v : List Lexeme) → In (seq r (seq (many r) k)) (n.next ∷ v) → In (seq (many r) k) (n.next ∷ v)
     back v (c, db, is, first, (d, b, e', rest, second)) = (c ++ d, b, is ∙ ap (λ w. c ++ w) e' ∙ sym (append_assoc c d b), more c d refl first rest, second)
 
-ended_at : (r k : Re) (kd : Kind) (before : List Piece) → IsNext kd before → begins kd r ≡ false → verdict (seq (many r) k) before ≡ verdict k before
+ended_at : (r k : Re) (kd : Kind) (before : List Lexeme) → IsNext kd before → begins kd r ≡ false → verdict (seq (many r) k) before ≡ verdict k before
 unfolding In
 ended_at r k kd before n e =
     subst (λ u. verdict (seq (many r) k) u ≡ verdict k u) (sym n.is) (verdict_begun n.next n.behind (seq (many r) k) k there back)
   where
-    there : (v : List Piece) → In (seq (many r) k) (n.next ∷ v) → In k (n.next ∷ v)
+    there : (v : List Lexeme) → In (seq (many r) k) (n.next ∷ v) → In k (n.next ∷ v)
     there v h = past (many r) k n.next (ap (λ d. begins d r) n.kind_is ∙ e) v h
-    back : (v : List Piece) → In k (n.next ∷ v) → In (seq (many r) k) (n.next ∷ v)
+    back : (v : List Lexeme) → In k (n.next ∷ v) → In (seq (many r) k) (n.next ∷ v)
     back v h = ([], n.next ∷ v, refl, none refl, h)
 
 -- One token.
-one_taken : (c : Class) (k : Re) (t : Piece) (u : List Piece) → fits c (kind t) ≡ true → verdict (seq (one c) k) (t ∷ u) ≡ verdict k u
+one_taken : (c : Class) (k : Re) (t : Lexeme) (u : List Lexeme) → fits c (kind t) ≡ true → verdict (seq (one c) k) (t ∷ u) ≡ verdict k u
 unfolding verdict
 one_taken c k t u e = ap (λ b. next t.at (either (chain (if b then Some empty else None) k) None) (λ s. verdict s u)) e
 
-one_refused : (c : Class) (k : Re) (t : Piece) (u : List Piece) → fits c (kind t) ≡ false → verdict (seq (one c) k) (t ∷ u) ≡ Some t.at
+one_refused : (c : Class) (k : Re) (t : Lexeme) (u : List Lexeme) → fits c (kind t) ≡ false → verdict (seq (one c) k) (t ∷ u) ≡ Some t.at
 unfolding verdict
 one_refused c k t u e = ap (λ b. next t.at (either (chain (if b then Some empty else None) k) None) (λ s. verdict s u)) e
 
-pub takes_one : {c : Class} {cs : List Class} {P : List Piece → Type 0} {t : Piece} {now : List Piece} → fits c (kind t) ≡ true → P (t ∷ []) → Takes (one c) cs P (t ∷ now) now
+pub takes_one : {c : Class} {cs : List Class} {P : List Lexeme → Type 0} {t : Lexeme} {now : List Lexeme} → fits c (kind t) ≡ true → P (t ∷ []) → Takes (one c) cs P (t ∷ now) now
 takes_one {c} {cs} {P} {t} {now} e h = record { takes = λ rest free. one_taken c rest t now e; used = t ∷ []; is = refl; has = h }
 
 fault_same : (m n : ℕ) → Fault m ≡ Fault n → m ≡ n
 fault_same m n e = cc
 
-pub fails_one : {c : Class} {cs : List Class} {t : Piece} {behind : List Piece} → fits c (kind t) ≡ false → Fails (one c) cs (t ∷ behind) (Fault t.at)
+pub fails_one : {c : Class} {cs : List Class} {t : Lexeme} {behind : List Lexeme} → fits c (kind t) ≡ false → Fails (one c) cs (t ∷ behind) (Fault t.at)
 fails_one {c} {cs} {t} {behind} e = record { fails = λ place is rest free. one_refused c rest t behind e ∙ ap Some (fault_same t.at place is) }
 
 -- The next token, which is of a kind.
-next_at : (before : List Piece) (t : Piece) (now : List Piece) (k : Kind) → IsNext k before → before ≡ t ∷ now → kind t ≡ k
+next_at : (before : List Lexeme) (t : Lexeme) (now : List Lexeme) (k : Kind) → IsNext k before → before ≡ t ∷ now → kind t ≡ k
 next_at before t now k n is =
     let same : n.next ≡ t = cc (n.is, is) in
-    subst (λ (x : Piece). kind x ≡ k) same n.kind_is
+    subst (λ (x : Lexeme). kind x ≡ k) same n.kind_is
 
-pub takes_next : {c : Class} {cs : List Class} {P : List Piece → Type 0} {t : Piece} {before now : List Piece} → IsNextOf c before true → before ≡ t ∷ now → (fits c (kind t) ≡ true → P (t ∷ [])) → Takes (one c) cs P before now
+pub takes_next : {c : Class} {cs : List Class} {P : List Lexeme → Type 0} {t : Lexeme} {before now : List Lexeme} → IsNextOf c before true → before ≡ t ∷ now → (fits c (kind t) ≡ true → P (t ∷ [])) → Takes (one c) cs P before now
 takes_next {c} {cs} {P} {t} {before} {now} n is h =
     let fit : fits c (kind t) ≡ true = ap (fits c) (next_at before t now n.kind n.next is) ∙ n.fits in
     subst (λ u. Takes (one c) cs P u now) (sym is) (takes_one fit (h fit))
 
-pub fails_at : {c : Class} {cs : List Class} {before : List Piece} {place : ℕ} → IsNextOf c before false → place ≡ first_place before → Fails (one c) cs before (Fault place)
+pub fails_at : {c : Class} {cs : List Class} {before : List Lexeme} {place : ℕ} → IsNextOf c before false → place ≡ first_place before → Fails (one c) cs before (Fault place)
 fails_at {c} {cs} {before} {place} n at =
     let is = n.next.is in
     let at_next : place ≡ n.next.next.at = at ∙ ap first_place is in
@@ -322,27 +326,197 @@ sign_is v kinds.SysVar e = cc
 sign_is v (kinds.Sign s) e = ap kinds.Sign (sym (sign_same v s e))
 sign_is v kinds.End e = cc
 
-pub takes_word : {w : Keyword} {cs : List Class} {t : Piece} {before now : List Piece} → IsNextOf (the_word w) before true → before ≡ t ∷ now → Takes (one (the_word w)) cs (IsWord w) before now
+pub takes_word : {w : Keyword} {cs : List Class} {t : Lexeme} {before now : List Lexeme} → IsNextOf (the_word w) before true → before ≡ t ∷ now → Takes (one (the_word w)) cs (IsWord w) before now
 takes_word {w} {cs} {t} {before} {now} n is = takes_next n is (λ fit. (t, refl, word_is w (kind t) fit))
 
-pub takes_sign : {s : Sign} {cs : List Class} {t : Piece} {before now : List Piece} → IsNextOf (the_sign s) before true → before ≡ t ∷ now → Takes (one (the_sign s)) cs (IsSign s) before now
+pub takes_sign : {s : Sign} {cs : List Class} {t : Lexeme} {before now : List Lexeme} → IsNextOf (the_sign s) before true → before ≡ t ∷ now → Takes (one (the_sign s)) cs (IsSign s) before now
 takes_sign {s} {cs} {t} {before} {now} n is = takes_next n is (λ fit. (t, refl, sign_is s (kind t) fit))
 
 -- an answer that the next token is of a class rules out the end
-pub not_end : {c : Class} {before : List Piece} → IsNextOf c before true → fits c kinds.End ≡ false → first_kind before ≡ kinds.End → ⊥
+pub not_end : {c : Class} {before : List Lexeme} → IsNextOf c before true → fits c kinds.End ≡ false → first_kind before ≡ kinds.End → ⊥
 not_end {c} {before} n other end =
     let k : kind n.next.next ≡ kinds.End = ap first_kind (sym n.next.is) ∙ end in
     clash (fits c kinds.End) (ap (fits c) (sym k ∙ n.next.kind_is) ∙ n.fits) other
 
+or_left : (b c : Bool) → b ≡ true → (b || c) ≡ true
+or_left true c e = refl
+or_left false c e = cc
+
+or_false : (b : Bool) → b ≡ false → (b || false) ≡ false
+or_false true e = cc
+or_false false e = refl
+
+pub apart_none : (r : Re) → apart [] r ≡ true
+apart_none empty = refl
+apart_none (one d) = refl
+apart_none (seq r s) = both_true (apart [] r) (not (nullable r) || apart [] s) (apart_none r) (right_true (not (nullable r)) (apart [] s) (apart_none s))
+  where
+    right_true : (b c : Bool) → c ≡ true → (b || c) ≡ true
+    right_true true c e = refl
+    right_true false c e = e
+apart_none (alt r s) = both_true (apart [] r) (apart [] s) (apart_none r) (apart_none s)
+apart_none (many r) = apart_none r
+
 -- One part or more with a sign between them.
-listed_last : {A : Type 0} (s : Sign) (Is : A → List Piece → Type 0) (items : List A) (x : A) (u v w : List Piece) → AreListed s Is items u → IsSign s v → Is x w → AreListed s Is (items ++ x ∷ []) (u ++ (v ++ w))
+listed_last : {A : Type 0} (s : Sign) (Is : A → List Lexeme → Type 0) (items : List A) (x : A) (u v w : List Lexeme) → AreListed s Is items u → IsSign s v → Is x w → AreListed s Is (items ++ x ∷ []) (u ++ (v ++ w))
 listed_last s Is [] x u v w has between next = absurd has
 listed_last s Is (y ∷ []) x u v w has between next = (u, v ++ w, refl, has, (v, w, refl, between, next))
 listed_last s Is (y ∷ z ∷ items) x u v w (a, bc, is, first, (b, c, is', sep, rest)) between next =
     (a, b ++ (c ++ (v ++ w)), ap (λ t. t ++ (v ++ w)) (is ∙ ap (λ t. a ++ t) is') ∙ append_assoc a (b ++ c) (v ++ w) ∙ ap (λ t. a ++ t) (append_assoc b c (v ++ w)), first, (b, c ++ (v ++ w), refl, sep, listed_last s Is (z ∷ items) x c v w rest between next))
 
-pub listed_one : {A : Type 0} {s : Sign} {r : Re} {cs : List Class} {Is : A → List Piece → Type 0} {x : A} {before now : List Piece} → Takes r cs (Is x) before now → may_follow cs (many (seq (one (the_sign s)) r)) (the_sign s ∷ cs) ≡ true → TakesListed s r (the_sign s ∷ cs) Is before (x ∷ []) now
+pub listed_one : {A : Type 0} {s : Sign} {r : Re} {cs : List Class} {Is : A → List Lexeme → Type 0} {x : A} {before now : List Lexeme} → Takes r cs (Is x) before now → may_follow cs (many (seq (one (the_sign s)) r)) (the_sign s ∷ cs) ≡ true → TakesListed s r (the_sign s ∷ cs) Is before (x ∷ []) now
 listed_one {A} {s} {r} {cs} {Is} {x} {before} {now} h follows = record {
     takes = λ rest free. regroup r (many (seq (one (the_sign s)) r)) rest before ∙ h.takes (seq (many (seq (one (the_sign s)) r)) rest) (apart_rest cs (many (seq (one (the_sign s)) r)) (the_sign s ∷ cs) rest follows free);
     used = h.used; is = h.is; has = h.has;
   }
+
+-- One more, behind a sign.
+pub listed_more : {A : Type 0} {s : Sign} {r : Re} {cs : List Class} {Is : A → List Lexeme → Type 0} {items : List A} {x : A} {before mid there now : List Lexeme} → TakesListed s r (the_sign s ∷ cs) Is before items mid → Takes (one (the_sign s)) [] (IsSign s) mid there → IsNextOf (the_sign s) mid true → Takes r cs (Is x) there now → may_follow cs (many (seq (one (the_sign s)) r)) (the_sign s ∷ cs) ≡ true → TakesListed s r (the_sign s ∷ cs) Is before (items ++ x ∷ []) now
+listed_more {A} {s} {r} {cs} {Is} {items} {x} {before} {mid} {there} {now} list between n next follows = record {
+    takes = λ rest free.
+      list.takes rest free
+      ∙ more_at (seq (one (the_sign s)) r) rest (the_sign s ∷ cs) n.kind mid n.next (or_left (fits (the_sign s) n.kind) (fits_some cs n.kind) n.fits) free
+      ∙ regroup (one (the_sign s)) r (seq (many (seq (one (the_sign s)) r)) rest) mid
+      ∙ between.takes (seq r (seq (many (seq (one (the_sign s)) r)) rest)) (apart_none (seq r (seq (many (seq (one (the_sign s)) r)) rest)))
+      ∙ next.takes (seq (many (seq (one (the_sign s)) r)) rest) (apart_rest cs (many (seq (one (the_sign s)) r)) (the_sign s ∷ cs) rest follows free);
+    used = list.used ++ (between.used ++ next.used);
+    is = list.is ∙ ap (λ u. list.used ++ u) (between.is ∙ ap (λ u. between.used ++ u) next.is ∙ sym (append_assoc between.used next.used now)) ∙ sym (append_assoc list.used (between.used ++ next.used) now);
+    has = listed_last s Is items x list.used between.used next.used list.has between.has next.has;
+  }
+
+-- No more.
+pub listed_done : {A : Type 0} {s : Sign} {r : Re} {cs : List Class} {Is : A → List Lexeme → Type 0} {items : List A} {before now : List Lexeme} → TakesListed s r (the_sign s ∷ cs) Is before items now → IsNextOf (the_sign s) now false → Takes (listed s r) (the_sign s ∷ cs) (AreListed s Is items) before now
+listed_done {A} {s} {r} {cs} {Is} {items} {before} {now} list n = record {
+    takes = λ rest free. list.takes rest free ∙ ended_at (seq (one (the_sign s)) r) rest n.kind now n.next (or_false (fits (the_sign s) n.kind) n.fits);
+    used = list.used; is = list.is; has = list.has;
+  }
+
+-- The sign, and no further part behind it.
+pub listed_fails : {A : Type 0} {s : Sign} {r : Re} {cs : List Class} {Is : A → List Lexeme → Type 0} {items : List A} {e : Or ℕ} {before mid there : List Lexeme} → TakesListed s r (the_sign s ∷ cs) Is before items mid → Takes (one (the_sign s)) [] (IsSign s) mid there → IsNextOf (the_sign s) mid true → Fails r cs there e → may_follow cs (many (seq (one (the_sign s)) r)) (the_sign s ∷ cs) ≡ true → Fails (listed s r) (the_sign s ∷ cs) before e
+listed_fails {A} {s} {r} {cs} {Is} {items} {e} {before} {mid} {there} list between n next follows = record {
+    fails = λ place is rest free.
+      list.takes rest free
+      ∙ more_at (seq (one (the_sign s)) r) rest (the_sign s ∷ cs) n.kind mid n.next (or_left (fits (the_sign s) n.kind) (fits_some cs n.kind) n.fits) free
+      ∙ regroup (one (the_sign s)) r (seq (many (seq (one (the_sign s)) r)) rest) mid
+      ∙ between.takes (seq r (seq (many (seq (one (the_sign s)) r)) rest)) (apart_none (seq r (seq (many (seq (one (the_sign s)) r)) rest)))
+      ∙ next.fails place is (seq (many (seq (one (the_sign s)) r)) rest) (apart_rest cs (many (seq (one (the_sign s)) r)) (the_sign s ∷ cs) rest follows free);
+  }
+
+-- A list is no longer before than it is now.
+pub takes_shorter : {r : Re} {cs : List Class} {P : List Lexeme → Type 0} {before now : List Lexeme} → Takes r cs P before now → length now ≤ length before
+takes_shorter {r} {cs} {P} {before} {now} h = omega (arith, ap length h.is, length-append h.used now)
+
+-- what can't go on isn't taken for what follows
+pub follows : (s : Re) (ds : List Class) → may_follow [] s ds ≡ true
+follows s ds = both_true (apart [] s) (not (nullable s) || true) (apart_none s) (right (not (nullable s)))
+  where
+    right : (b : Bool) → (b || true) ≡ true
+    right true = refl
+    right false = refl
+
+-- In a row, where the first part can't go on.
+pub plain_seq : {r s : Re} {ds : List Class} {P Q : List Lexeme → Type 0} {before mid now : List Lexeme} → Takes r [] P before mid → Takes s ds Q mid now → Takes (seq r s) ds (P then Q) before now
+plain_seq {r} {s} {ds} first second = takes_seq first (follows s ds) second
+
+pub plain_first : {r s : Re} {ds : List Class} {before : List Lexeme} {e : Or ℕ} → Fails r [] before e → Fails (seq r s) ds before e
+plain_first {r} {s} {ds} first = fails_first first (follows s ds)
+
+pub plain_next : {r s : Re} {ds : List Class} {P : List Lexeme → Type 0} {before mid : List Lexeme} {e : Or ℕ} → Takes r [] P before mid → Fails s ds mid e → Fails (seq r s) ds before e
+plain_next {r} {s} {ds} first second = fails_next first (follows s ds) second
+
+-- What goes on may be given too largely.
+pub takes_wider : {r : Re} {cs ds : List Class} {P : List Lexeme → Type 0} {before now : List Lexeme} → all_in cs ds ≡ true → Takes r cs P before now → Takes r ds P before now
+takes_wider {r} {cs} {ds} {P} {before} {now} wide h = record { takes = λ rest free. h.takes rest (apart_fewer cs ds rest wide free); used = h.used; is = h.is; has = h.has }
+
+pub fails_wider : {r : Re} {cs ds : List Class} {before : List Lexeme} {e : Or ℕ} → all_in cs ds ≡ true → Fails r cs before e → Fails r ds before e
+fails_wider {r} {cs} {ds} {before} {e} wide h = record { fails = λ place is rest free. h.fails place is rest (apart_fewer cs ds rest wide free) }
+
+-- the tokens may be said in other words
+pub takes_as : {r : Re} {cs : List Class} {P Q : List Lexeme → Type 0} {before now : List Lexeme} → ((u : List Lexeme) → P u → Q u) → Takes r cs P before now → Takes r cs Q before now
+takes_as {r} {cs} {P} {Q} {before} {now} f h = record { takes = h.takes; used = h.used; is = h.is; has = f h.used h.has }
+
+-- a token of the class is of one of the classes
+fits_in : (c : Class) (cs : List Class) (k : Kind) → is_in c cs ≡ true → fits c k ≡ true → fits_some cs k ≡ true
+fits_in c [] k e f = cc
+fits_in c (d ∷ cs) k e f = elim (or_cases (same_class c d) (is_in c cs) e) [
+      | inl same ↦ or_left (fits d k) (fits_some cs k) (subst (λ (x : Class). fits x k ≡ true) (class_same c d same) f)
+      | inr later ↦ or_right (fits d k) (fits_some cs k) (fits_in c cs k later f)
+    ]
+  where
+    or_right : (b c : Bool) → c ≡ true → (b || c) ≡ true
+    or_right true c e = refl
+    or_right false c e = e
+
+-- what begins with a class alone misses every other token
+begun_misses : (c : Class) (r : Re) (k : Kind) → begun c r ≡ true → fits c k ≡ false → (nullable r ≡ false) × (begins k r ≡ false)
+begun_misses c empty k e f = cc
+begun_misses c (one d) k e f = (refl, subst (λ (x : Class). fits x k ≡ false) (class_same c d e) f)
+begun_misses c (seq r s) k e f =
+    let both = begun_misses c r k e f in
+    (no_and (nullable r) (nullable s) both.0, both_false (begins k r) (nullable r && begins k s) both.1 (no_and (nullable r) (begins k s) both.0))
+  where
+    no_and : (b c : Bool) → b ≡ false → (b && c) ≡ false
+    no_and true c e = cc
+    no_and false c e = refl
+begun_misses c (alt r s) k e f =
+    let left = begun_misses c r k (and_first (begun c r) (begun c s) e) f in
+    let right = begun_misses c s k (and_second (begun c r) (begun c s) e) f in
+    (both_false (nullable r) (nullable s) left.0 right.0, both_false (begins k r) (begins k s) left.1 right.1)
+begun_misses c (many r) k e f = cc
+
+misses_other : (c : Class) (r : Re) (k : Kind) → begun c r ≡ true → fits c k ≡ false → misses k r ≡ true
+misses_other c r k e f =
+    let both = begun_misses c r k e f in
+    both_true (not (nullable r)) (not (begins k r)) (ap not both.0) (ap not both.1)
+
+-- what excludes a class misses its tokens
+apart_begins : (cs : List Class) (r : Re) (k : Kind) → apart cs r ≡ true → fits_some cs k ≡ true → begins k r ≡ false
+apart_begins cs empty k e f = refl
+apart_begins cs (one d) k e f = not_meeting cs d k e f
+apart_begins cs (seq r s) k e f =
+    both_false (begins k r) (nullable r && begins k s) (apart_begins cs r k (and_first (apart cs r) (not (nullable r) || apart cs s) e) f) (behind (nullable r) (apart cs s) (begins k s) (and_second (apart cs r) (not (nullable r) || apart cs s) e) (λ free. apart_begins cs s k free f))
+  where
+    behind : (n b c : Bool) → (not n || b) ≡ true → (b ≡ true → c ≡ false) → (n && c) ≡ false
+    behind true b c e f = f e
+    behind false b c e f = refl
+apart_begins cs (alt r s) k e f = both_false (begins k r) (begins k s) (apart_begins cs r k (and_first (apart cs r) (apart cs s) e) f) (apart_begins cs s k (and_second (apart cs r) (apart cs s) e) f)
+apart_begins cs (many r) k e f = apart_begins cs r k e f
+
+excluded_misses : (c : Class) (r : Re) (k : Kind) → excludes c r ≡ true → fits c k ≡ true → misses k r ≡ true
+excluded_misses c r k e f =
+    both_true (not (nullable r)) (not (begins k r)) (and_first (not (nullable r)) (apart (c ∷ []) r) e) (ap not (apart_begins (c ∷ []) r k (and_second (not (nullable r)) (apart (c ∷ []) r) e) (or_left (fits c k) false f)))
+
+-- A choice by a test of the next token: it is of the class, which the other part excludes.
+pub takes_if : {r s : Re} {c : Class} {cs : List Class} {P : List Lexeme → Type 0} {before now : List Lexeme} → IsNextOf c before true → excludes c s ≡ true → Takes r cs P before now → Takes (alt r s) cs P before now
+takes_if {r} {s} {c} n e h = takes_left n.next (excluded_misses c s n.kind e n.fits) h
+
+pub fails_if : {r s : Re} {c : Class} {cs : List Class} {before : List Lexeme} {e : Or ℕ} → IsNextOf c before true → excludes c s ≡ true → Fails r cs before e → Fails (alt r s) cs before e
+fails_if {r} {s} {c} n e h = fails_left n.next (excluded_misses c s n.kind e n.fits) h
+
+-- It isn't of the class with which the first part begins.
+pub takes_else : {r s : Re} {c : Class} {cs : List Class} {P : List Lexeme → Type 0} {before now : List Lexeme} → IsNextOf c before false → begun c r ≡ true → Takes s cs P before now → Takes (alt r s) cs P before now
+takes_else {r} {s} {c} n e h = takes_right n.next (misses_other c r n.kind e n.fits) h
+
+pub fails_else : {r s : Re} {c : Class} {cs : List Class} {before : List Lexeme} {e : Or ℕ} → IsNextOf c before false → begun c r ≡ true → Fails s cs before e → Fails (alt r s) cs before e
+fails_else {r} {s} {c} n e h = fails_right n.next (misses_other c r n.kind e n.fits) h
+
+-- A part that may be left out, by such a test.
+pub optional_if : {r : Re} {c : Class} {cs ds : List Class} {P : List Lexeme → Type 0} {before now : List Lexeme} → IsNextOf c before true → (is_in c ds && all_in cs ds) ≡ true → Takes r cs P before now → Takes (optional r) ds P before now
+optional_if {r} {c} {cs} {ds} n e h = takes_optional n.next (fits_in c ds n.kind (and_first (is_in c ds) (all_in cs ds) e) n.fits) (takes_wider (and_second (is_in c ds) (all_in cs ds) e) h)
+
+pub optional_fails : {r : Re} {c : Class} {cs ds : List Class} {before : List Lexeme} {e : Or ℕ} → IsNextOf c before true → (is_in c ds && all_in cs ds) ≡ true → Fails r cs before e → Fails (optional r) ds before e
+optional_fails {r} {c} {cs} {ds} n e h = fails_optional n.next (fits_in c ds n.kind (and_first (is_in c ds) (all_in cs ds) e) n.fits) (fails_wider (and_second (is_in c ds) (all_in cs ds) e) h)
+
+pub optional_else : {r : Re} {c : Class} {cs : List Class} {P : List Lexeme → Type 0} {before now : List Lexeme} → IsNextOf c before false → begun c r ≡ true → P [] → now ≡ before → Takes (optional r) cs P before now
+optional_else {r} {c} {cs} {P} {before} {now} n e h same =
+    subst (λ u. Takes (optional r) cs P before u) (sym same) (takes_nothing n.next (begun_misses c r n.kind e n.fits).1 h)
+
+-- what follows begins where this ends
+pub from_there : {r : Re} {cs : List Class} {P : List Lexeme → Type 0} {before there now : List Lexeme} → there ≡ before → Takes r cs P there now → Takes r cs P before now
+from_there {r} {cs} {P} {before} {there} {now} same h = subst (λ u. Takes r cs P u now) same h
+
+pub fails_there : {r : Re} {cs : List Class} {before there : List Lexeme} {e : Or ℕ} → there ≡ before → Fails r cs there e → Fails r cs before e
+fails_there {r} {cs} {before} {there} {e} same h = subst (λ u. Fails r cs u e) same h
+
+pub now_there : {r : Re} {cs : List Class} {P : List Lexeme → Type 0} {before there now : List Lexeme} → now ≡ there → Takes r cs P before there → Takes r cs P before now
+now_there {r} {cs} {P} {before} {there} {now} same h = subst (λ u. Takes r cs P before u) (sym same) h

@@ -2,7 +2,8 @@
 use Rattle.std.proofs.Common.{◌≡◌, ℕ, List, [], ◌∷◌, ◌++◌, Bool, true, false, cond, Option, Some, None, ◌⊎◌, inl, inr, refl, sym, ◌∙◌, ap, subst, append_assoc, append-nil}
 use Rattle.std.specs.Prelude.{◌&&◌, ◌||◌, IsTrue, not, if◌then◌else◌}
 use Rattle.ql_parse.specs.declared.kind.Kind.{Kind}
-use Rattle.ql_parse.specs.Tokens.{Piece, kind}
+use Rattle.ql_lex.specs.Tokens.{Lexeme}
+use Rattle.ql_parse.specs.Tokens.{kind}
 use Rattle.ql_parse.specs.Classes.{Class, fits}
 use Rattle.ql_parse.specs.Language.{Re, empty, one, seq, alt, many, Repeats, none, more, In, nullable, joined, chain, either, after, next, verdict}
 use Rattle.ql_parse.proofs.Laws.{InAny, after_from, after_to}
@@ -10,13 +11,13 @@ use Rattle.ql_parse.proofs.Samples.{some_text}
 
 -- each text of the one is a text of the other
 abbrev pub Within : Re → Re → Type 0
-Within r s = (u : List Piece) → In r u → In s u
+Within r s = (u : List Lexeme) → In r u → In s u
 
 -- the same of what follows a token
 WithinAny : Option Re → Option Re → Type 0
-WithinAny o p = (u : List Piece) → InAny o u → InAny p u
+WithinAny o p = (u : List Lexeme) → InAny o u → InAny p u
 
-next_same : (place : ℕ) (o p : Option Re) (u : List Piece) → WithinAny o p → WithinAny p o → ((r s : Re) → Within r s → Within s r → verdict r u ≡ verdict s u) → next place o (λ r. verdict r u) ≡ next place p (λ r. verdict r u)
+next_same : (place : ℕ) (o p : Option Re) (u : List Lexeme) → WithinAny o p → WithinAny p o → ((r s : Re) → Within r s → Within s r → verdict r u ≡ verdict s u) → next place o (λ r. verdict r u) ≡ next place p (λ r. verdict r u)
 unfolding WithinAny
 next_same place None None u there back same = refl
 next_same place None (Some s) u there back same = absurd (back (some_text s).0 (some_text s).1)
@@ -24,44 +25,44 @@ next_same place (Some r) None u there back same = absurd (there (some_text r).0 
 next_same place (Some r) (Some s) u there back same = same r s there back
 
 -- grammars with the same texts leave a list of tokens at the same place
-pub verdict_same : (u : List Piece) (r s : Re) → Within r s → Within s r → verdict r u ≡ verdict s u
+pub verdict_same : (u : List Lexeme) (r s : Re) → Within r s → Within s r → verdict r u ≡ verdict s u
 unfolding verdict WithinAny
 verdict_same [] r s there back = refl
 verdict_same (t ∷ u) r s there back =
     next_same t.at (after (kind t) r) (after (kind t) s) u (λ v h. after_from s t v (there (t ∷ v) (after_to r t v h))) (λ v h. after_from r t v (back (t ∷ v) (after_to s t v h))) (verdict_same u)
 
 -- only the texts that begin with the first token count
-pub verdict_begun : (t : Piece) (u : List Piece) (r s : Re) → ((v : List Piece) → In r (t ∷ v) → In s (t ∷ v)) → ((v : List Piece) → In s (t ∷ v) → In r (t ∷ v)) → verdict r (t ∷ u) ≡ verdict s (t ∷ u)
+pub verdict_begun : (t : Lexeme) (u : List Lexeme) (r s : Re) → ((v : List Lexeme) → In r (t ∷ v) → In s (t ∷ v)) → ((v : List Lexeme) → In s (t ∷ v) → In r (t ∷ v)) → verdict r (t ∷ u) ≡ verdict s (t ∷ u)
 unfolding verdict WithinAny
 verdict_begun t u r s there back =
     next_same t.at (after (kind t) r) (after (kind t) s) u (λ v h. after_from s t v (there v (after_to r t v h))) (λ v h. after_from r t v (back v (after_to s t v h))) (verdict_same u)
 
 -- a list of tokens that leaves a grammar nowhere begins a text
-pub verdict_none : (u : List Piece) (r : Re) → verdict r u ≡ None → (w : List Piece) × In r (u ++ w)
+pub verdict_none : (u : List Lexeme) (r : Re) → verdict r u ≡ None → (w : List Lexeme) × In r (u ++ w)
 unfolding verdict
 verdict_none [] r e = some_text r
 verdict_none (t ∷ u) r e = go (after (kind t) r) (after_to r t) e (verdict_none u)
   where
-    go : (o : Option Re) → ((v : List Piece) → InAny o v → In r (t ∷ v)) → next t.at o (λ s. verdict s u) ≡ None → ((s : Re) → verdict s u ≡ None → (w : List Piece) × In s (u ++ w)) → (w : List Piece) × In r (t ∷ (u ++ w))
+    go : (o : Option Re) → ((v : List Lexeme) → InAny o v → In r (t ∷ v)) → next t.at o (λ s. verdict s u) ≡ None → ((s : Re) → verdict s u ≡ None → (w : List Lexeme) × In s (u ++ w)) → (w : List Lexeme) × In r (t ∷ (u ++ w))
     go None back is rest = cc
     go (Some s) back is rest = let (w, h) = rest s is in (w, back (u ++ w) h)
 
 -- Where a list of tokens leaves a grammar: the tokens before this one begin a text, and none goes on with it.
-pub record Leaves (r : Re) (u : List Piece) (place : ℕ) : Type 0 where
-  pub before : List Piece
-  pub at : Piece
-  pub behind : List Piece
+pub record Leaves (r : Re) (u : List Lexeme) (place : ℕ) : Type 0 where
+  pub before : List Lexeme
+  pub at : Lexeme
+  pub behind : List Lexeme
   pub is : u ≡ before ++ at ∷ behind
   pub place_is : place ≡ at.at
-  pub goes : (w : List Piece) × In r (before ++ w)
-  pub stops : (w : List Piece) → In r (before ++ at ∷ w) → ⊥
+  pub goes : (w : List Lexeme) × In r (before ++ w)
+  pub stops : (w : List Lexeme) → In r (before ++ at ∷ w) → ⊥
 
-pub verdict_some : (u : List Piece) (r : Re) (place : ℕ) → verdict r u ≡ Some place → Leaves r u place
+pub verdict_some : (u : List Lexeme) (r : Re) (place : ℕ) → verdict r u ≡ Some place → Leaves r u place
 unfolding verdict
 verdict_some [] r place e = cc
 verdict_some (t ∷ u) r place e = go (after (kind t) r) (after_to r t) (after_from r t) e (verdict_some u)
   where
-    go : (o : Option Re) → ((v : List Piece) → InAny o v → In r (t ∷ v)) → ((v : List Piece) → In r (t ∷ v) → InAny o v) → next t.at o (λ s. verdict s u) ≡ Some place → ((s : Re) (p : ℕ) → verdict s u ≡ Some p → Leaves s u p) → Leaves r (t ∷ u) place
+    go : (o : Option Re) → ((v : List Lexeme) → InAny o v → In r (t ∷ v)) → ((v : List Lexeme) → In r (t ∷ v) → InAny o v) → next t.at o (λ s. verdict s u) ≡ Some place → ((s : Re) (p : ℕ) → verdict s u ≡ Some p → Leaves s u p) → Leaves r (t ∷ u) place
     go None back there is rest = record { before = []; at = t; behind = u; is = refl; place_is = cc; goes = some_text r; stops = λ w h. there w h }
     go (Some s) back there is rest =
         let l = rest s place is in

@@ -22,9 +22,13 @@ name = one any_name
 abbrev pub number : Re
 number = one a_number
 
+-- any number, each behind this sign
+abbrev pub repeated : Sign → Re → Re
+repeated s r = many (seq (sign s) r)
+
 -- one or more, with this sign between them
 abbrev pub listed : Sign → Re → Re
-listed s r = seq r (many (seq (sign s) r))
+listed s r = seq r (repeated s r)
 
 -- a part that may be left out
 abbrev pub optional : Re → Re

@@ -1,7 +1,8 @@
 -- Regular expressions over classes of tokens: their texts, and where a list of tokens can't go on to one of them.
 use Rattle.std.specs.Prelude.{◌≡◌, ℕ, List, [], ◌∷◌, ◌++◌, Bool, true, false, ◌&&◌, ◌||◌, IsTrue, Option, Some, None, ◌⊎◌, if◌then◌else◌}
 use Rattle.ql_parse.specs.declared.kind.Kind.{Kind}
-use Rattle.ql_parse.specs.Tokens.{Piece, kind}
+use Rattle.ql_lex.specs.Tokens.{Lexeme}
+use Rattle.ql_parse.specs.Tokens.{kind}
 use Rattle.ql_parse.specs.Classes.{Class, fits}
 
 -- A grammar without recursion: each has some text.
@@ -13,15 +14,15 @@ pub data Re : Type 0 where
   many : Re → Re
 
 -- any number of tokens lists with a property, one after the other
-pub data Repeats (P : List Piece → Type 0) : List Piece → Type 0 where
-  none : {u : List Piece} → u ≡ [] → Repeats P u
-  more : {u : List Piece} (a b : List Piece) → u ≡ a ++ b → P a → Repeats P b → Repeats P u
+pub data Repeats (P : List Lexeme → Type 0) : List Lexeme → Type 0 where
+  none : {u : List Lexeme} → u ≡ [] → Repeats P u
+  more : {u : List Lexeme} (a b : List Lexeme) → u ≡ a ++ b → P a → Repeats P b → Repeats P u
 
 -- these tokens are a text of the grammar
-unfoldable pub In : Re → List Piece → Type 0
+unfoldable pub In : Re → List Lexeme → Type 0
 In empty u = u ≡ []
-In (one c) u = (t : Piece) × (u ≡ t ∷ []) × IsTrue (fits c (kind t))
-In (seq r s) u = (a : List Piece) × (b : List Piece) × (u ≡ a ++ b) × In r a × In s b
+In (one c) u = (t : Lexeme) × (u ≡ t ∷ []) × IsTrue (fits c (kind t))
+In (seq r s) u = (a : List Lexeme) × (b : List Lexeme) × (u ≡ a ++ b) × In r a × In s b
 In (alt r s) u = In r u ⊎ In s u
 In (many r) u = Repeats (In r) u
 
@@ -63,6 +64,6 @@ next place None go = Some place
 next place (Some r) go = go r
 
 -- the place of the first token with which no text goes on, where there is one
-unfoldable pub verdict : Re → List Piece → Option ℕ
+unfoldable pub verdict : Re → List Lexeme → Option ℕ
 verdict r [] = None
 verdict r (t ∷ ts) = next t.at (after (kind t) r) (λ s. verdict s ts)

@@ -5,7 +5,8 @@ use Rattle.srch_base.specs.declared.faults.Or.TheVariants.{NoMemory, Fault}
 use Rattle.ql_lex.specs.declared.token.Sign.{Sign}
 use Rattle.ql_parse.specs.declared.keyword.Keyword.{Keyword}
 use Rattle.ql_parse.specs.declared.kind.Kind.{Kind}
-use Rattle.ql_parse.specs.Tokens.{Piece, kind}
+use Rattle.ql_lex.specs.Tokens.{Lexeme}
+use Rattle.ql_parse.specs.Tokens.{kind}
 use Rattle.ql_parse.specs.Classes.{Class, fits, the_word, any_name, name_but, a_number, a_text, a_sysvar, the_sign, the_end, same_sign}
 use Rattle.ql_parse.specs.Keywords.{is_reserved, same_keyword}
 use Rattle.ql_parse.specs.Grammar.{listed, sign}
@@ -81,6 +82,9 @@ begins k (many r) = begins k r
 abbrev pub same_class : Class → Class → Bool
 same_class (the_word v) (the_word w) = same_keyword v w
 same_class any_name any_name = true
+same_class a_number a_number = true
+same_class a_text a_text = true
+same_class a_sysvar a_sysvar = true
 same_class (the_sign v) (the_sign w) = same_sign v w
 same_class _ _ = false
 
@@ -99,47 +103,59 @@ may_follow cs s ds = apart cs s && (not (nullable s) || all_in cs ds)
 -- The part r has been read, whatever follows it, unless that can begin with one of the tokens with which r may go on: then
 -- what lies before now leaves the rest of the grammar exactly where what lay before left it. The tokens in between have the
 -- property.
-pub record Takes (r : Re) (goes_on : List Class) (P : List Piece → Type 0) (before now : List Piece) : Type 0 where
+pub record Takes (r : Re) (goes_on : List Class) (P : List Lexeme → Type 0) (before now : List Lexeme) : Type 0 where
   pub takes : (rest : Re) → apart goes_on rest ≡ true → verdict (seq r rest) before ≡ verdict rest now
-  pub used : List Piece
+  pub used : List Lexeme
   pub is : before ≡ used ++ now
   pub has : P used
 
 -- The part r can't be read, whatever follows it: this is the place of the first token with which no text goes on, unless
 -- memory was refused.
-pub record Fails (r : Re) (goes_on : List Class) (before : List Piece) (error : Or ℕ) : Type 0 where
+pub record Fails (r : Re) (goes_on : List Class) (before : List Lexeme) (error : Or ℕ) : Type 0 where
   pub fails : (place : ℕ) → error ≡ Fault place → (rest : Re) → apart goes_on rest ≡ true → verdict (seq r rest) before ≡ Some place
 
 -- A reader of the part r, whose values are such tokens, answered so.
-abbrev pub Reads : {T : Type 0} → Re → List Class → (T → List Piece → Type 0) → List Piece → Result T (Or ℕ) → List Piece → Type 0
+abbrev pub Reads : {T : Type 0} → Re → List Class → (T → List Lexeme → Type 0) → List Lexeme → Result T (Or ℕ) → List Lexeme → Type 0
 Reads r goes_on Is before (Ok value) now = Takes r goes_on (Is value) before now
 Reads r goes_on Is before (Err error) now = Fails r goes_on before error
 
 -- the next token is of this kind
-pub record IsNext (k : Kind) (tokens : List Piece) : Type 0 where
-  pub next : Piece
-  pub behind : List Piece
+pub record IsNext (k : Kind) (tokens : List Lexeme) : Type 0 where
+  pub next : Lexeme
+  pub behind : List Lexeme
   pub is : tokens ≡ next ∷ behind
   pub kind_is : kind next ≡ k
+
+-- every text begins with a token of this class
+abbrev pub begun : Class → Re → Bool
+begun c empty = false
+begun c (one d) = same_class c d
+begun c (seq r s) = begun c r
+begun c (alt r s) = begun c r && begun c s
+begun c (many r) = false
+
+-- no text of the grammar is empty or begins with a token of this class
+abbrev pub excludes : Class → Re → Bool
+excludes c r = not (nullable r) && apart (c ∷ []) r
 
 -- no text of the grammar is empty or begins with a token of this kind
 abbrev pub misses : Kind → Re → Bool
 misses k r = not (nullable r) && not (begins k r)
 
 -- Whether the next token is of the class.
-pub record IsNextOf (c : Class) (tokens : List Piece) (answer : Bool) : Type 0 where
+pub record IsNextOf (c : Class) (tokens : List Lexeme) (answer : Bool) : Type 0 where
   pub kind : Kind
   pub next : IsNext kind tokens
   pub fits : fits c kind ≡ answer
 
 -- Whether the next token was of the class: then it was taken.
-abbrev pub TakesIf : Class → (List Piece → Type 0) → List Piece → Bool → List Piece → Type 0
+abbrev pub TakesIf : Class → (List Lexeme → Type 0) → List Lexeme → Bool → List Lexeme → Type 0
 TakesIf c P before true now = Takes (one c) [] P before now × IsNextOf c before true
 TakesIf c P before false now = (now ≡ before) × IsNextOf c before false
 
 -- Of parts in a row with this sign between them these have been read, and others may follow.
-pub record TakesListed {A : Type 0} (s : Sign) (r : Re) (goes_on : List Class) (Is : A → List Piece → Type 0) (before : List Piece) (items : List A) (now : List Piece) : Type 0 where
+pub record TakesListed {A : Type 0} (s : Sign) (r : Re) (goes_on : List Class) (Is : A → List Lexeme → Type 0) (before : List Lexeme) (items : List A) (now : List Lexeme) : Type 0 where
   pub takes : (rest : Re) → apart goes_on rest ≡ true → verdict (seq (listed s r) rest) before ≡ verdict (seq (many (seq (sign s) r)) rest) now
-  pub used : List Piece
+  pub used : List Lexeme
   pub is : before ≡ used ++ now
   pub has : AreListed s Is items used

@@ -1,6 +1,7 @@
 ghost use Rattle.std.specs.Prelude.{◌≡◌, ◌≢◌, [], ◌∷◌};
 ghost use Rattle.ql_parse.specs.declared.kind.Kind.TheVariants as kinds;
-ghost use Rattle.ql_parse.specs.Tokens.{kind, piece_of, pieces, AreWhole, sign_of, first_kind, first_place};
+ghost use Rattle.ql_lex.specs.Tokens.{lexeme_of, AreLexemes};
+ghost use Rattle.ql_parse.specs.Tokens.{kind, lexemes, first_kind, first_place};
 ghost use Rattle.ql_parse.specs.Classes.{the_word, any_name, a_number, the_sign};
 ghost use Rattle.ql_parse.specs.Language.{one};
 ghost use Rattle.ql_parse.specs.Grammar.{words, name, number};
@@ -9,7 +10,7 @@ ghost use Rattle.ql_parse.specs.Progress.{IsNext, IsNextOf, Reads, TakesIf};
 
 use crate::keyword::keyword_named;
 use crate::{Keyword, Kind};
-use ql_lex::{Sign, Token, TokenKind};
+use ql_lex::{Sign, Token, TokenKind, sign_of};
 use srch_base::{Name, Or};
 use std::alloc::Global;
 use std::marker::Model;
@@ -21,25 +22,20 @@ pub(crate) struct Cursor<'a> {
 
 impl<'a> Model for Cursor<'a> {
     ghost use Rattle.std.specs.Prelude.{List};
-    ghost use Rattle.ql_parse.specs.Tokens.{Piece, pieces, AreWhole};
+    ghost use Rattle.ql_lex.specs.Tokens.{Lexeme, AreLexemes};
+    ghost use Rattle.ql_parse.specs.Tokens.{lexemes};
 
-    ghost Value = { List Piece };
+    ghost Value = { List Lexeme };
 
-    ghost view = { λ a. pieces a.rest.now };
+    ghost view = { λ a. lexemes a.rest.now };
 
-    ghost invariant = { λ a. AreWhole (pieces a.rest.now) };
-}
-
-/// The sign that a token spells.
-fn sign_at(text: &[u8]) -> Sign
-    ensures { result ≡ sign_of text.now }
-{
-    Sign::Minus
+    ghost invariant = { λ a. AreLexemes (lexemes a.rest.now) };
 }
 
 /// What the grammar sees of a token.
+#[tactic(auto, unfolding(crate::specs::Tokens::kind_by))]
 fn kind_of(token: &Token<'_>) -> Kind
-    ensures { result ≡ kind (piece_of token.now) }
+    ensures { result ≡ kind (lexeme_of token.now) }
 {
     match token.kind {
         TokenKind::Name => match keyword_named(token.text) {
@@ -50,15 +46,18 @@ fn kind_of(token: &Token<'_>) -> Kind
         TokenKind::Number => Kind::Number,
         TokenKind::Text => Kind::Text,
         TokenKind::SysVar => Kind::SysVar,
-        TokenKind::Sign => Kind::Sign(sign_at(token.text)),
+        TokenKind::Sign => match sign_of(token.text) {
+            Some(sign) => Kind::Sign(sign),
+            None => Kind::End,
+        },
         TokenKind::End => Kind::End,
     }
 }
 
 impl<'a> Cursor<'a> {
     pub(crate) fn new(tokens: &'a [Token<'a>]) -> Self
-        requires { AreWhole (pieces tokens.now) }
-        ensures { result ≡ pieces tokens.now }
+        requires { AreLexemes (lexemes tokens.now) }
+        ensures { result ≡ lexemes tokens.now }
     {
         Cursor { rest: tokens }
     }
@@ -73,7 +72,7 @@ impl<'a> Cursor<'a> {
     /// Goes on behind the next token.
     fn skip(&mut self) -> &'a Token<'a>
         requires { first_kind self.old ≢ kinds.End }
-        ensures { self.old ≡ piece_of result.now ∷ self.new }
+        ensures { self.old ≡ lexeme_of result.now ∷ self.new }
     {
         let rest = self.rest;
         self.rest = &rest[1..];

@@ -1,30 +1,15 @@
 ghost use Rattle.std.specs.Prelude.{[]};
-ghost use Rattle.ql_lex.specs.declared.token.Sign.TheVariants as signs;
-ghost use Rattle.ql_parse.specs.Grammar.{ids, delete, number, listed, enclosed};
-ghost use Rattle.ql_parse.specs.Parts.{IsNumber, IsEnclosed, AreListed};
+ghost use Rattle.ql_parse.specs.Grammar.{ids, delete};
 ghost use Rattle.ql_parse.specs.Progress.{Reads};
 ghost use Rattle.ql_parse.specs.Statements.{AreIds, IsStatement};
 
 use crate::cursor::Cursor;
+use crate::part::enclosed;
 use crate::statement::{Ids, Statement};
 use crate::Keyword;
 use ql_lex::Sign;
-use srch_base::{Items, Or};
+use srch_base::Or;
 use std::alloc::Global;
-
-/// Numbers in parentheses.
-fn numbers(alloc: Global, input: &mut Cursor<'_>) -> Result<Items<u64>, Or<u32>>
-    ensures { Reads (enclosed (listed signs.Comma number)) [] (λ ns. IsEnclosed (AreListed signs.Comma IsNumber ns)) input.old result input.new }
-{
-    input.sign(Sign::OpenParen)?;
-    let mut list = Vec::new(alloc);
-    list.push(input.number()?)?;
-    while input.takes_sign(Sign::Comma) {
-        list.push(input.number()?)?;
-    }
-    input.sign(Sign::CloseParen)?;
-    Ok(Items::new(list))
-}
 
 fn ids(alloc: Global, input: &mut Cursor<'_>) -> Result<Ids, Or<u32>>
     ensures { Reads ids [] AreIds input.old result input.new }
@@ -33,7 +18,7 @@ fn ids(alloc: Global, input: &mut Cursor<'_>) -> Result<Ids, Or<u32>>
         return Ok(Ids::One(input.number()?));
     }
     input.word(Keyword::In)?;
-    Ok(Ids::Several(numbers(alloc, input)?))
+    Ok(Ids::Several(enclosed(alloc, input)?))
 }
 
 /// Reads a DELETE.

@@ -5,6 +5,7 @@ mod cursor;
 mod delete;
 mod keyword;
 mod kind;
+mod part;
 mod statement;
 
 pub use keyword::Keyword;
