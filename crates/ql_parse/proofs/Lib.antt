@@ -5,4 +5,5 @@ pub mod Samples
 pub mod Verdicts
 pub mod Apart
 pub mod Steps
+pub mod Agreement
 pub mod Cursors

@@ -135,12 +135,12 @@ takes_seq {r} {s} {cs} {ds} {P} {Q} {before} {mid} {now} first follows second = 
 
 pub fails_first : {r s : Re} {cs ds : List Class} {before : List Lexeme} {e : Or ℕ} → Fails r cs before e → may_follow cs s ds ≡ true → Fails (seq r s) ds before e
 fails_first {r} {s} {cs} {ds} {before} {e} first follows = record {
-    fails = λ place is rest free. regroup r s rest before ∙ first.fails place is (seq s rest) (apart_rest cs s ds rest follows free);
+    fails = λ place is. let f = first.fails place is in record { rest = f.rest; place_is = f.place_is; leaves = λ rest free. regroup r s rest before ∙ f.leaves (seq s rest) (apart_rest cs s ds rest follows free) };
   }
 
 pub fails_next : {r s : Re} {cs ds : List Class} {P : List Lexeme → Type 0} {before mid : List Lexeme} {e : Or ℕ} → Takes r cs P before mid → may_follow cs s ds ≡ true → Fails s ds mid e → Fails (seq r s) ds before e
 fails_next {r} {s} {cs} {ds} {P} {before} {mid} {e} first follows second = record {
-    fails = λ place is rest free. regroup r s rest before ∙ first.takes (seq s rest) (apart_rest cs s ds rest follows free) ∙ second.fails place is rest free;
+    fails = λ place is. let f = second.fails place is in record { rest = f.rest; place_is = f.place_is; leaves = λ rest free. regroup r s rest before ∙ first.takes (seq s rest) (apart_rest cs s ds rest follows free) ∙ f.leaves rest free };
   }
 
 -- the exit of a `?`
@@ -201,10 +201,10 @@ pub takes_right : {r s : Re} {cs : List Class} {P : List Lexeme → Type 0} {bef
 takes_right {r} {s} {cs} {P} {before} {now} {k} n e h = record { takes = λ rest free. right_at r s rest k before n e ∙ h.takes rest free; used = h.used; is = h.is; has = h.has }
 
 pub fails_left : {r s : Re} {cs : List Class} {before : List Lexeme} {e : Or ℕ} {k : Kind} → IsNext k before → misses k s ≡ true → Fails r cs before e → Fails (alt r s) cs before e
-fails_left {r} {s} {cs} {before} {e} {k} n miss h = record { fails = λ place is rest free. left_at r s rest k before n miss ∙ h.fails place is rest free }
+fails_left {r} {s} {cs} {before} {e} {k} n miss h = record { fails = λ place is. let f = h.fails place is in record { rest = f.rest; place_is = f.place_is; leaves = λ rest free. left_at r s rest k before n miss ∙ f.leaves rest free } }
 
 pub fails_right : {r s : Re} {cs : List Class} {before : List Lexeme} {e : Or ℕ} {k : Kind} → IsNext k before → misses k r ≡ true → Fails s cs before e → Fails (alt r s) cs before e
-fails_right {r} {s} {cs} {before} {e} {k} n miss h = record { fails = λ place is rest free. right_at r s rest k before n miss ∙ h.fails place is rest free }
+fails_right {r} {s} {cs} {before} {e} {k} n miss h = record { fails = λ place is. let f = h.fails place is in record { rest = f.rest; place_is = f.place_is; leaves = λ rest free. right_at r s rest k before n miss ∙ f.leaves rest free } }
 
 -- A part that may be left out: taken where the next token begins it, if what follows doesn't begin so.
 free_no : (cs : List Class) (k : Re) (t : Lexeme) → apart cs k ≡ true → fits_some cs (kind t) ≡ true → (v : List Lexeme) → In (seq empty k) (t ∷ v) → ⊥
@@ -244,7 +244,7 @@ pub takes_optional : {r : Re} {cs : List Class} {P : List Lexeme → Type 0} {be
 takes_optional {r} {cs} {P} {before} {now} {k} n f h = record { takes = λ rest free. taken_at r rest cs k before n f free ∙ h.takes rest free; used = h.used; is = h.is; has = h.has }
 
 pub fails_optional : {r : Re} {cs : List Class} {before : List Lexeme} {e : Or ℕ} {k : Kind} → IsNext k before → fits_some cs k ≡ true → Fails r cs before e → Fails (optional r) cs before e
-fails_optional {r} {cs} {before} {e} {k} n f h = record { fails = λ place is rest free. taken_at r rest cs k before n f free ∙ h.fails place is rest free }
+fails_optional {r} {cs} {before} {e} {k} n f h = record { fails = λ place is. let l = h.fails place is in record { rest = l.rest; place_is = l.place_is; leaves = λ rest free. taken_at r rest cs k before n f free ∙ l.leaves rest free } }
 
 pub takes_nothing : {r : Re} {cs : List Class} {P : List Lexeme → Type 0} {before : List Lexeme} {k : Kind} → IsNext k before → begins k r ≡ false → P [] → Takes (optional r) cs P before before
 takes_nothing {r} {cs} {P} {before} {k} n e h = record { takes = λ rest free. skipped_at r rest k before n e; used = []; is = refl; has = h }
@@ -276,11 +276,11 @@ ended_at r k kd before n e =
 -- One token.
 one_taken : (c : Class) (k : Re) (t : Lexeme) (u : List Lexeme) → fits c (kind t) ≡ true → verdict (seq (one c) k) (t ∷ u) ≡ verdict k u
 unfolding verdict
-one_taken c k t u e = ap (λ b. next t.at (either (chain (if b then Some empty else None) k) None) (λ s. verdict s u)) e
+one_taken c k t u e = ap (λ b. next (t ∷ u) (either (chain (if b then Some empty else None) k) None) (λ s. verdict s u)) e
 
-one_refused : (c : Class) (k : Re) (t : Lexeme) (u : List Lexeme) → fits c (kind t) ≡ false → verdict (seq (one c) k) (t ∷ u) ≡ Some t.at
+one_refused : (c : Class) (k : Re) (t : Lexeme) (u : List Lexeme) → fits c (kind t) ≡ false → verdict (seq (one c) k) (t ∷ u) ≡ Some (t ∷ u)
 unfolding verdict
-one_refused c k t u e = ap (λ b. next t.at (either (chain (if b then Some empty else None) k) None) (λ s. verdict s u)) e
+one_refused c k t u e = ap (λ b. next (t ∷ u) (either (chain (if b then Some empty else None) k) None) (λ s. verdict s u)) e
 
 pub takes_one : {c : Class} {cs : List Class} {P : List Lexeme → Type 0} {t : Lexeme} {now : List Lexeme} → fits c (kind t) ≡ true → P (t ∷ []) → Takes (one c) cs P (t ∷ now) now
 takes_one {c} {cs} {P} {t} {now} e h = record { takes = λ rest free. one_taken c rest t now e; used = t ∷ []; is = refl; has = h }
@@ -289,7 +289,7 @@ fault_same : (m n : ℕ) → Fault m ≡ Fault n → m ≡ n
 fault_same m n e = cc
 
 pub fails_one : {c : Class} {cs : List Class} {t : Lexeme} {behind : List Lexeme} → fits c (kind t) ≡ false → Fails (one c) cs (t ∷ behind) (Fault t.at)
-fails_one {c} {cs} {t} {behind} e = record { fails = λ place is rest free. one_refused c rest t behind e ∙ ap Some (fault_same t.at place is) }
+fails_one {c} {cs} {t} {behind} e = record { fails = λ place is. record { rest = t ∷ behind; place_is = sym (fault_same t.at place is); leaves = λ rest free. one_refused c rest t behind e } }
 
 -- The next token, which is of a kind.
 next_at : (before : List Lexeme) (t : Lexeme) (now : List Lexeme) (k : Kind) → IsNext k before → before ≡ t ∷ now → kind t ≡ k
@@ -308,7 +308,7 @@ fails_at {c} {cs} {before} {place} n at =
     let at_next : place ≡ n.next.next.at = at ∙ ap first_place is in
     subst (λ (p : ℕ). Fails (one c) cs before (Fault p)) (sym at_next) (subst (λ u. Fails (one c) cs u (Fault n.next.next.at)) (sym is) (fails_one (ap (fits c) n.next.kind_is ∙ n.fits)))
 
-word_is : (w : Keyword) (k : Kind) → fits (the_word w) k ≡ true → k ≡ kinds.Keyword w
+pub word_is : (w : Keyword) (k : Kind) → fits (the_word w) k ≡ true → k ≡ kinds.Keyword w
 word_is w (kinds.Keyword x) e = ap kinds.Keyword (sym (keyword_same w x e))
 word_is w kinds.Name e = cc
 word_is w kinds.Number e = cc
@@ -317,7 +317,7 @@ word_is w kinds.SysVar e = cc
 word_is w (kinds.Sign s) e = cc
 word_is w kinds.End e = cc
 
-sign_is : (v : Sign) (k : Kind) → fits (the_sign v) k ≡ true → k ≡ kinds.Sign v
+pub sign_is : (v : Sign) (k : Kind) → fits (the_sign v) k ≡ true → k ≡ kinds.Sign v
 sign_is v (kinds.Keyword x) e = cc
 sign_is v kinds.Name e = cc
 sign_is v kinds.Number e = cc
@@ -394,12 +394,12 @@ listed_done {A} {s} {r} {cs} {Is} {items} {before} {now} list n = record {
 -- The sign, and no further part behind it.
 pub listed_fails : {A : Type 0} {s : Sign} {r : Re} {cs : List Class} {Is : A → List Lexeme → Type 0} {items : List A} {e : Or ℕ} {before mid there : List Lexeme} → TakesListed s r (the_sign s ∷ cs) Is before items mid → Takes (one (the_sign s)) [] (IsSign s) mid there → IsNextOf (the_sign s) mid true → Fails r cs there e → may_follow cs (many (seq (one (the_sign s)) r)) (the_sign s ∷ cs) ≡ true → Fails (listed s r) (the_sign s ∷ cs) before e
 listed_fails {A} {s} {r} {cs} {Is} {items} {e} {before} {mid} {there} list between n next follows = record {
-    fails = λ place is rest free.
+    fails = λ place is. let f = next.fails place is in record { rest = f.rest; place_is = f.place_is; leaves = λ rest free.
       list.takes rest free
       ∙ more_at (seq (one (the_sign s)) r) rest (the_sign s ∷ cs) n.kind mid n.next (or_left (fits (the_sign s) n.kind) (fits_some cs n.kind) n.fits) free
       ∙ regroup (one (the_sign s)) r (seq (many (seq (one (the_sign s)) r)) rest) mid
       ∙ between.takes (seq r (seq (many (seq (one (the_sign s)) r)) rest)) (apart_none (seq r (seq (many (seq (one (the_sign s)) r)) rest)))
-      ∙ next.fails place is (seq (many (seq (one (the_sign s)) r)) rest) (apart_rest cs (many (seq (one (the_sign s)) r)) (the_sign s ∷ cs) rest follows free);
+      ∙ f.leaves (seq (many (seq (one (the_sign s)) r)) rest) (apart_rest cs (many (seq (one (the_sign s)) r)) (the_sign s ∷ cs) rest follows free) };
   }
 
 -- A list is no longer before than it is now.
@@ -429,7 +429,7 @@ pub takes_wider : {r : Re} {cs ds : List Class} {P : List Lexeme → Type 0} {be
 takes_wider {r} {cs} {ds} {P} {before} {now} wide h = record { takes = λ rest free. h.takes rest (apart_fewer cs ds rest wide free); used = h.used; is = h.is; has = h.has }
 
 pub fails_wider : {r : Re} {cs ds : List Class} {before : List Lexeme} {e : Or ℕ} → all_in cs ds ≡ true → Fails r cs before e → Fails r ds before e
-fails_wider {r} {cs} {ds} {before} {e} wide h = record { fails = λ place is rest free. h.fails place is rest (apart_fewer cs ds rest wide free) }
+fails_wider {r} {cs} {ds} {before} {e} wide h = record { fails = λ place is. let f = h.fails place is in record { rest = f.rest; place_is = f.place_is; leaves = λ rest free. f.leaves rest (apart_fewer cs ds rest wide free) } }
 
 -- the tokens may be said in other words
 pub takes_as : {r : Re} {cs : List Class} {P Q : List Lexeme → Type 0} {before now : List Lexeme} → ((u : List Lexeme) → P u → Q u) → Takes r cs P before now → Takes r cs Q before now
@@ -520,3 +520,6 @@ fails_there {r} {cs} {before} {there} {e} same h = subst (λ u. Fails r cs u e) 
 
 pub now_there : {r : Re} {cs : List Class} {P : List Lexeme → Type 0} {before there now : List Lexeme} → now ≡ there → Takes r cs P before there → Takes r cs P before now
 now_there {r} {cs} {P} {before} {there} {now} same h = subst (λ u. Takes r cs P before u) (sym same) h
+
+pub sign_to_itself : (s : Sign) → same_sign s s ≡ true
+sign_to_itself s = eq-eqb (sign_number s) (sign_number s) refl

@@ -1,5 +1,5 @@
 -- The grammar, line by line.
-use Rattle.std.specs.Prelude.{List, [], ◌∷◌}
+use Rattle.std.specs.Prelude.{ℕ, zero, suc, List, [], ◌∷◌}
 use Rattle.ql_lex.specs.declared.token.Sign.{Sign}
 use Rattle.ql_lex.specs.declared.token.Sign.TheVariants as signs
 use Rattle.ql_parse.specs.declared.keyword.Keyword.{Keyword}
@@ -45,3 +45,15 @@ ids = alt (seq (sign signs.Equal) number) (seq (word keywords.In) (enclosed (lis
 -- DELETE FROM name WHERE ID ids
 abbrev pub delete : Re
 delete = seq (words keywords.Delete keywords.From) (seq name (seq (words keywords.Where keywords.Id) ids))
+
+abbrev pub statement : Re
+statement = delete
+
+-- what may follow a statement, where so many more are allowed
+abbrev pub more_statements : ℕ → Re
+more_statements zero = alt (seq (sign signs.Semicolon) (one the_end)) (one the_end)
+more_statements (suc n) = alt (seq (sign signs.Semicolon) (alt (seq statement (more_statements n)) (one the_end))) (one the_end)
+
+-- a packet of at most so many statements, and one more
+abbrev pub packet : ℕ → Re
+packet n = seq statement (more_statements n)

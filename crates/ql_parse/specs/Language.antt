@@ -59,11 +59,11 @@ after k (seq r s) = either (chain (after k r) s) (if nullable r then after k s e
 after k (alt r s) = either (after k r) (after k s)
 after k (many r) = chain (after k r) (many r)
 
-abbrev pub next : ℕ → Option Re → (Re → Option ℕ) → Option ℕ
-next place None go = Some place
-next place (Some r) go = go r
+abbrev pub next : List Lexeme → Option Re → (Re → Option (List Lexeme)) → Option (List Lexeme)
+next rest None go = Some rest
+next rest (Some r) go = go r
 
--- the place of the first token with which no text goes on, where there is one
-unfoldable pub verdict : Re → List Lexeme → Option ℕ
+-- The rest of the tokens from the first one on with which no text goes on, where there is one.
+unfoldable pub verdict : Re → List Lexeme → Option (List Lexeme)
 verdict r [] = None
-verdict r (t ∷ ts) = next t.at (after (kind t) r) (λ s. verdict s ts)
+verdict r (t ∷ ts) = next (t ∷ ts) (after (kind t) r) (λ s. verdict s ts)

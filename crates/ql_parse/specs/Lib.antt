@@ -6,3 +6,4 @@ pub mod Grammar
 pub mod Parts
 pub mod Progress
 pub mod Statements
+pub mod Packets

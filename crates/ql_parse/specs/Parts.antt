@@ -1,5 +1,5 @@
 -- What the parts of a text say: tokens that are these words, this name, this number, and lists of them.
-use Rattle.std.specs.Prelude.{◌≡◌, ℕ, List, [], ◌∷◌, ◌++◌, IsTrue}
+use Rattle.std.specs.Prelude.{◌≡◌, ℕ, List, [], ◌∷◌, ◌++◌, IsTrue, ◌⊎◌}
 use Rattle.ql_lex.specs.declared.token.Sign.{Sign}
 use Rattle.ql_lex.specs.declared.token.Sign.TheVariants as signs
 use Rattle.ql_parse.specs.declared.keyword.Keyword.{Keyword}
@@ -43,3 +43,7 @@ abbrev pub AreListed : {A : Type 0} → Sign → (A → List Lexeme → Type 0) 
 AreListed s Is [] u = ⊥
 AreListed s Is (x ∷ []) u = Is x u
 AreListed s Is (x ∷ y ∷ xs) u = (Is x then IsSign s then AreListed s Is (y ∷ xs)) u
+
+-- these tokens, or none
+abbrev pub IsPerhaps : (List Lexeme → Type 0) → List Lexeme → Type 0
+IsPerhaps P u = P u ⊎ (u ≡ [])

@@ -6,7 +6,7 @@ use Rattle.ql_lex.specs.declared.token.Sign.{Sign}
 use Rattle.ql_parse.specs.declared.keyword.Keyword.{Keyword}
 use Rattle.ql_parse.specs.declared.kind.Kind.{Kind}
 use Rattle.ql_lex.specs.Tokens.{Lexeme}
-use Rattle.ql_parse.specs.Tokens.{kind}
+use Rattle.ql_parse.specs.Tokens.{kind, first_place}
 use Rattle.ql_parse.specs.Classes.{Class, fits, the_word, any_name, name_but, a_number, a_text, a_sysvar, the_sign, the_end, same_sign}
 use Rattle.ql_parse.specs.Keywords.{is_reserved, same_keyword}
 use Rattle.ql_parse.specs.Grammar.{listed, sign}
@@ -109,10 +109,15 @@ pub record Takes (r : Re) (goes_on : List Class) (P : List Lexeme → Type 0) (b
   pub is : before ≡ used ++ now
   pub has : P used
 
--- The part r can't be read, whatever follows it: this is the place of the first token with which no text goes on, unless
--- memory was refused.
+-- The part r can't be read, whatever follows it: no text goes on with the token at this place.
+pub record Leaves (r : Re) (goes_on : List Class) (before : List Lexeme) (place : ℕ) : Type 0 where
+  pub rest : List Lexeme
+  pub place_is : place ≡ first_place rest
+  pub leaves : (more : Re) → apart goes_on more ≡ true → verdict (seq r more) before ≡ Some rest
+
+-- So it is where a reader answered with this error, unless memory was refused.
 pub record Fails (r : Re) (goes_on : List Class) (before : List Lexeme) (error : Or ℕ) : Type 0 where
-  pub fails : (place : ℕ) → error ≡ Fault place → (rest : Re) → apart goes_on rest ≡ true → verdict (seq r rest) before ≡ Some place
+  pub fails : (place : ℕ) → error ≡ Fault place → Leaves r goes_on before place
 
 -- A reader of the part r, whose values are such tokens, answered so.
 abbrev pub Reads : {T : Type 0} → Re → List Class → (T → List Lexeme → Type 0) → List Lexeme → Result T (Or ℕ) → List Lexeme → Type 0
