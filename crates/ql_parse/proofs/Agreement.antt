@@ -80,32 +80,32 @@ agree_as h there back = record {
     value = λ u i. let (x, p) = h.value u i in there x u p;
   }
 
-list_text : {A : Type 0} (s : Sign) (r : Re) (P : A → List Lexeme → Type 0) → Agree r P → (xs : List A) (u : List Lexeme) → AreListed s P xs u → In (listed s r) u
+list_text : {A : Type 0} (c : Class) (S : List Lexeme → Type 0) (r : Re) (P : A → List Lexeme → Type 0) → Agrees (one c) S → Agree r P → (xs : List A) (u : List Lexeme) → AreListed S P xs u → In (listed c r) u
 unfolding In
-list_text s r P h [] u p = absurd p
-list_text s r P h (x ∷ []) u p = (u, [], sym (append-nil u), h.text x u p, none refl)
-list_text s r P h (x ∷ y ∷ xs) u (a, bc, e, p, (b, c, f, q, rest)) =
-    let (d, ds, g, i, is) = list_text s r P h (y ∷ xs) c rest in
-    (a, bc, e, h.text x a p, more (b ++ d) ds (f ∙ ap (λ v. b ++ v) g ∙ sym (append_assoc b d ds)) (b, d, refl, (agree_sign s).text tt b q, i) is)
+list_text c S r P m h [] u p = absurd p
+list_text c S r P m h (x ∷ []) u p = (u, [], sym (append-nil u), h.text x u p, none refl)
+list_text c S r P m h (x ∷ y ∷ xs) u (a, bd, e, p, (b, d, f, q, rest)) =
+    let (v, vs, g, i, is) = list_text c S r P m h (y ∷ xs) d rest in
+    (a, bd, e, h.text x a p, more (b ++ v) vs (f ∙ ap (λ w. b ++ w) g ∙ sym (append_assoc b v vs)) (b, v, refl, m.text tt b q, i) is)
 
-list_value : {A : Type 0} (s : Sign) (r : Re) (P : A → List Lexeme → Type 0) → Agree r P → (a bs : List Lexeme) → In r a → Repeats (In (seq (sign s) r)) bs → (xs : List A) × AreListed s P xs (a ++ bs)
+list_value : {A : Type 0} (c : Class) (S : List Lexeme → Type 0) (r : Re) (P : A → List Lexeme → Type 0) → Agrees (one c) S → Agree r P → (a bs : List Lexeme) → In r a → Repeats (In (seq (one c) r)) bs → (xs : List A) × AreListed S P xs (a ++ bs)
 unfolding In
-list_value {A} s r P h a bs i (none e) =
+list_value {A} c S r P m h a bs i (none e) =
     let (x, p) = h.value a i in
     (x ∷ [], subst (λ v. P x v) (sym (ap (λ v. a ++ v) e ∙ append-nil a)) p)
-list_value {A} s r P h a bs i (more b cs e (c, d, f, j, k) rest) =
+list_value {A} c S r P m h a bs i (more b vs e (w, d, f, j, k) rest) =
     let (x, p) = h.value a i in
-    let (ys, q) = list_value s r P h d cs k rest in
-    let g : bs ≡ c ++ (d ++ cs) = e ∙ ap (λ v. v ++ cs) f ∙ append_assoc c d cs in
-    grow ys q x p g ((agree_sign s).value c j).1
+    let (ys, q) = list_value c S r P m h d vs k rest in
+    let g : bs ≡ w ++ (d ++ vs) = e ∙ ap (λ v. v ++ vs) f ∙ append_assoc w d vs in
+    grow ys q x p g (m.value w j).1
   where
-    grow : (ys : List A) → AreListed s P ys (d ++ cs) → (x : A) → P x a → bs ≡ c ++ (d ++ cs) → IsSign s c → (xs : List A) × AreListed s P xs (a ++ bs)
-    grow [] q x p g m = absurd q
-    grow (y ∷ ys) q x p g m = (x ∷ y ∷ ys, (a, bs, refl, p, (c, d ++ cs, g, m, q)))
+    grow : (ys : List A) → AreListed S P ys (d ++ vs) → (x : A) → P x a → bs ≡ w ++ (d ++ vs) → S w → (xs : List A) × AreListed S P xs (a ++ bs)
+    grow [] q x p g n = absurd q
+    grow (y ∷ ys) q x p g n = (x ∷ y ∷ ys, (a, bs, refl, p, (w, d ++ vs, g, n, q)))
 
-pub agree_listed : {A : Type 0} {s : Sign} {r : Re} {P : A → List Lexeme → Type 0} → Agree r P → Agree (listed s r) (AreListed s P)
+pub agree_listed : {A : Type 0} {c : Class} {S : List Lexeme → Type 0} {r : Re} {P : A → List Lexeme → Type 0} → Agrees (one c) S → Agree r P → Agree (listed c r) (AreListed S P)
 unfolding In
-agree_listed {A} {s} {r} {P} h = record {
-    text = list_text s r P h;
-    value = λ u (a, bs, e, i, is). let (xs, p) = list_value s r P h a bs i is in (xs, subst (λ v. AreListed s P xs v) (sym e) p);
+agree_listed {A} {c} {S} {r} {P} m h = record {
+    text = list_text c S r P m h;
+    value = λ u (a, bs, e, i, is). let (xs, p) = list_value c S r P m h a bs i is in (xs, subst (λ v. AreListed S P xs v) (sym e) p);
   }

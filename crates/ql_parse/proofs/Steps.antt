@@ -16,7 +16,7 @@ use Rattle.ql_lex.specs.Tokens.{Lexeme}
 use Rattle.ql_parse.specs.Tokens.{kind, first_kind, first_place}
 use Rattle.ql_parse.specs.Classes.{Class, the_word, any_name, name_but, a_number, a_text, a_sysvar, the_sign, the_end, fits, same_sign, sign_number}
 use Rattle.ql_parse.specs.Language.{Re, empty, one, seq, alt, many, Repeats, none, more, In, nullable, chain, either, joined, after, verdict, next}
-use Rattle.ql_parse.specs.Grammar.{optional, listed}
+use Rattle.ql_parse.specs.Grammar.{optional, listed, repeated}
 use Rattle.ql_parse.specs.Parts.{◌then◌, IsWord, IsSign, AreListed}
 use Rattle.ql_parse.specs.Progress.{fits_some, meets, meets_some, apart, begins, same_class, is_in, all_in, may_follow, misses, begun, excludes, Takes, Fails, Reads, IsNext, IsNextOf, TakesIf, TakesListed}
 use Rattle.ql_parse.proofs.Apart.{and_first, and_second, or_first, or_second, apart_no, begins_no, not_meeting}
@@ -357,49 +357,49 @@ apart_none (seq r s) = both_true (apart [] r) (not (nullable r) || apart [] s) (
 apart_none (alt r s) = both_true (apart [] r) (apart [] s) (apart_none r) (apart_none s)
 apart_none (many r) = apart_none r
 
--- One part or more with a sign between them.
-listed_last : {A : Type 0} (s : Sign) (Is : A → List Lexeme → Type 0) (items : List A) (x : A) (u v w : List Lexeme) → AreListed s Is items u → IsSign s v → Is x w → AreListed s Is (items ++ x ∷ []) (u ++ (v ++ w))
-listed_last s Is [] x u v w has between next = absurd has
-listed_last s Is (y ∷ []) x u v w has between next = (u, v ++ w, refl, has, (v, w, refl, between, next))
-listed_last s Is (y ∷ z ∷ items) x u v w (a, bc, is, first, (b, c, is', sep, rest)) between next =
-    (a, b ++ (c ++ (v ++ w)), ap (λ t. t ++ (v ++ w)) (is ∙ ap (λ t. a ++ t) is') ∙ append_assoc a (b ++ c) (v ++ w) ∙ ap (λ t. a ++ t) (append_assoc b c (v ++ w)), first, (b, c ++ (v ++ w), refl, sep, listed_last s Is (z ∷ items) x c v w rest between next))
+-- One part or more with a separator between them.
+listed_last : {A : Type 0} (S : List Lexeme → Type 0) (Is : A → List Lexeme → Type 0) (items : List A) (x : A) (u v w : List Lexeme) → AreListed S Is items u → S v → Is x w → AreListed S Is (items ++ x ∷ []) (u ++ (v ++ w))
+listed_last S Is [] x u v w has between next = absurd has
+listed_last S Is (y ∷ []) x u v w has between next = (u, v ++ w, refl, has, (v, w, refl, between, next))
+listed_last S Is (y ∷ z ∷ items) x u v w (a, bc, is, first, (b, c, is', sep, rest)) between next =
+    (a, b ++ (c ++ (v ++ w)), ap (λ t. t ++ (v ++ w)) (is ∙ ap (λ t. a ++ t) is') ∙ append_assoc a (b ++ c) (v ++ w) ∙ ap (λ t. a ++ t) (append_assoc b c (v ++ w)), first, (b, c ++ (v ++ w), refl, sep, listed_last S Is (z ∷ items) x c v w rest between next))
 
-pub listed_one : {A : Type 0} {s : Sign} {r : Re} {cs : List Class} {Is : A → List Lexeme → Type 0} {x : A} {before now : List Lexeme} → Takes r cs (Is x) before now → may_follow cs (many (seq (one (the_sign s)) r)) (the_sign s ∷ cs) ≡ true → TakesListed s r (the_sign s ∷ cs) Is before (x ∷ []) now
-listed_one {A} {s} {r} {cs} {Is} {x} {before} {now} h follows = record {
-    takes = λ rest free. regroup r (many (seq (one (the_sign s)) r)) rest before ∙ h.takes (seq (many (seq (one (the_sign s)) r)) rest) (apart_rest cs (many (seq (one (the_sign s)) r)) (the_sign s ∷ cs) rest follows free);
+pub listed_one : {A : Type 0} {c : Class} {S : List Lexeme → Type 0} {r : Re} {cs : List Class} {Is : A → List Lexeme → Type 0} {x : A} {before now : List Lexeme} → Takes r cs (Is x) before now → may_follow cs (repeated c r) (c ∷ cs) ≡ true → TakesListed c S r (c ∷ cs) Is before (x ∷ []) now
+listed_one {A} {c} {S} {r} {cs} {Is} {x} {before} {now} h follows = record {
+    takes = λ rest free. regroup r (repeated c r) rest before ∙ h.takes (seq (repeated c r) rest) (apart_rest cs (repeated c r) (c ∷ cs) rest follows free);
     used = h.used; is = h.is; has = h.has;
   }
 
--- One more, behind a sign.
-pub listed_more : {A : Type 0} {s : Sign} {r : Re} {cs : List Class} {Is : A → List Lexeme → Type 0} {items : List A} {x : A} {before mid there now : List Lexeme} → TakesListed s r (the_sign s ∷ cs) Is before items mid → Takes (one (the_sign s)) [] (IsSign s) mid there → IsNextOf (the_sign s) mid true → Takes r cs (Is x) there now → may_follow cs (many (seq (one (the_sign s)) r)) (the_sign s ∷ cs) ≡ true → TakesListed s r (the_sign s ∷ cs) Is before (items ++ x ∷ []) now
-listed_more {A} {s} {r} {cs} {Is} {items} {x} {before} {mid} {there} {now} list between n next follows = record {
+-- One more, behind a separator.
+pub listed_more : {A : Type 0} {c : Class} {S : List Lexeme → Type 0} {r : Re} {cs : List Class} {Is : A → List Lexeme → Type 0} {items : List A} {x : A} {before mid there now : List Lexeme} → TakesListed c S r (c ∷ cs) Is before items mid → Takes (one c) [] S mid there → IsNextOf c mid true → Takes r cs (Is x) there now → may_follow cs (repeated c r) (c ∷ cs) ≡ true → TakesListed c S r (c ∷ cs) Is before (items ++ x ∷ []) now
+listed_more {A} {c} {S} {r} {cs} {Is} {items} {x} {before} {mid} {there} {now} list between n next follows = record {
     takes = λ rest free.
       list.takes rest free
-      ∙ more_at (seq (one (the_sign s)) r) rest (the_sign s ∷ cs) n.kind mid n.next (or_left (fits (the_sign s) n.kind) (fits_some cs n.kind) n.fits) free
-      ∙ regroup (one (the_sign s)) r (seq (many (seq (one (the_sign s)) r)) rest) mid
-      ∙ between.takes (seq r (seq (many (seq (one (the_sign s)) r)) rest)) (apart_none (seq r (seq (many (seq (one (the_sign s)) r)) rest)))
-      ∙ next.takes (seq (many (seq (one (the_sign s)) r)) rest) (apart_rest cs (many (seq (one (the_sign s)) r)) (the_sign s ∷ cs) rest follows free);
+      ∙ more_at (seq (one c) r) rest (c ∷ cs) n.kind mid n.next (or_left (fits c n.kind) (fits_some cs n.kind) n.fits) free
+      ∙ regroup (one c) r (seq (repeated c r) rest) mid
+      ∙ between.takes (seq r (seq (repeated c r) rest)) (apart_none (seq r (seq (repeated c r) rest)))
+      ∙ next.takes (seq (repeated c r) rest) (apart_rest cs (repeated c r) (c ∷ cs) rest follows free);
     used = list.used ++ (between.used ++ next.used);
     is = list.is ∙ ap (λ u. list.used ++ u) (between.is ∙ ap (λ u. between.used ++ u) next.is ∙ sym (append_assoc between.used next.used now)) ∙ sym (append_assoc list.used (between.used ++ next.used) now);
-    has = listed_last s Is items x list.used between.used next.used list.has between.has next.has;
+    has = listed_last S Is items x list.used between.used next.used list.has between.has next.has;
   }
 
 -- No more.
-pub listed_done : {A : Type 0} {s : Sign} {r : Re} {cs : List Class} {Is : A → List Lexeme → Type 0} {items : List A} {before now : List Lexeme} → TakesListed s r (the_sign s ∷ cs) Is before items now → IsNextOf (the_sign s) now false → Takes (listed s r) (the_sign s ∷ cs) (AreListed s Is items) before now
-listed_done {A} {s} {r} {cs} {Is} {items} {before} {now} list n = record {
-    takes = λ rest free. list.takes rest free ∙ ended_at (seq (one (the_sign s)) r) rest n.kind now n.next (or_false (fits (the_sign s) n.kind) n.fits);
+pub listed_done : {A : Type 0} {c : Class} {S : List Lexeme → Type 0} {r : Re} {cs : List Class} {Is : A → List Lexeme → Type 0} {items : List A} {before now : List Lexeme} → TakesListed c S r (c ∷ cs) Is before items now → IsNextOf c now false → Takes (listed c r) (c ∷ cs) (AreListed S Is items) before now
+listed_done {A} {c} {S} {r} {cs} {Is} {items} {before} {now} list n = record {
+    takes = λ rest free. list.takes rest free ∙ ended_at (seq (one c) r) rest n.kind now n.next (or_false (fits c n.kind) n.fits);
     used = list.used; is = list.is; has = list.has;
   }
 
--- The sign, and no further part behind it.
-pub listed_fails : {A : Type 0} {s : Sign} {r : Re} {cs : List Class} {Is : A → List Lexeme → Type 0} {items : List A} {e : Or ℕ} {before mid there : List Lexeme} → TakesListed s r (the_sign s ∷ cs) Is before items mid → Takes (one (the_sign s)) [] (IsSign s) mid there → IsNextOf (the_sign s) mid true → Fails r cs there e → may_follow cs (many (seq (one (the_sign s)) r)) (the_sign s ∷ cs) ≡ true → Fails (listed s r) (the_sign s ∷ cs) before e
-listed_fails {A} {s} {r} {cs} {Is} {items} {e} {before} {mid} {there} list between n next follows = record {
+-- The separator, and no further part behind it.
+pub listed_fails : {A : Type 0} {c : Class} {S : List Lexeme → Type 0} {r : Re} {cs : List Class} {Is : A → List Lexeme → Type 0} {items : List A} {e : Or ℕ} {before mid there : List Lexeme} → TakesListed c S r (c ∷ cs) Is before items mid → Takes (one c) [] S mid there → IsNextOf c mid true → Fails r cs there e → may_follow cs (repeated c r) (c ∷ cs) ≡ true → Fails (listed c r) (c ∷ cs) before e
+listed_fails {A} {c} {S} {r} {cs} {Is} {items} {e} {before} {mid} {there} list between n next follows = record {
     fails = λ place is. let f = next.fails place is in record { rest = f.rest; place_is = f.place_is; leaves = λ rest free.
       list.takes rest free
-      ∙ more_at (seq (one (the_sign s)) r) rest (the_sign s ∷ cs) n.kind mid n.next (or_left (fits (the_sign s) n.kind) (fits_some cs n.kind) n.fits) free
-      ∙ regroup (one (the_sign s)) r (seq (many (seq (one (the_sign s)) r)) rest) mid
-      ∙ between.takes (seq r (seq (many (seq (one (the_sign s)) r)) rest)) (apart_none (seq r (seq (many (seq (one (the_sign s)) r)) rest)))
-      ∙ f.leaves (seq (many (seq (one (the_sign s)) r)) rest) (apart_rest cs (many (seq (one (the_sign s)) r)) (the_sign s ∷ cs) rest follows free) };
+      ∙ more_at (seq (one c) r) rest (c ∷ cs) n.kind mid n.next (or_left (fits c n.kind) (fits_some cs n.kind) n.fits) free
+      ∙ regroup (one c) r (seq (repeated c r) rest) mid
+      ∙ between.takes (seq r (seq (repeated c r) rest)) (apart_none (seq r (seq (repeated c r) rest)))
+      ∙ f.leaves (seq (repeated c r) rest) (apart_rest cs (repeated c r) (c ∷ cs) rest follows free) };
   }
 
 -- A list is no longer before than it is now.

@@ -4,14 +4,25 @@ use Rattle.ql_lex.specs.declared.token.Sign.{Sign}
 use Rattle.ql_lex.specs.declared.token.Sign.TheVariants as signs
 use Rattle.ql_parse.specs.declared.keyword.Keyword.{Keyword}
 use Rattle.ql_parse.specs.declared.keyword.Keyword.TheVariants as keywords
-use Rattle.ql_parse.specs.Classes.{the_word, any_name, name_but, a_number, a_text, a_sysvar, the_sign, the_end}
+use Rattle.ql_parse.specs.Classes.{Class, the_word, any_name, name_but, a_number, a_text, a_sysvar, the_sign, the_end}
 use Rattle.ql_parse.specs.Language.{Re, empty, one, seq, alt, many}
+
+-- one behind the other
+infixr 30 ◌⨾◌
+abbrev pub ◌⨾◌ : Re → Re → Re
+r ⨾ s = seq r s
+
+-- the one or the other
+infixr 25 ◌∣◌
+abbrev pub ◌∣◌ : Re → Re → Re
+r ∣ s = alt r s
 
 abbrev pub word : Keyword → Re
 word w = one (the_word w)
 
+-- two keywords in a row
 abbrev pub words : Keyword → Keyword → Re
-words v w = seq (word v) (word w)
+words v w = word v ⨾ word w
 
 abbrev pub sign : Sign → Re
 sign s = one (the_sign s)
@@ -22,38 +33,227 @@ name = one any_name
 abbrev pub number : Re
 number = one a_number
 
--- any number, each behind this sign
-abbrev pub repeated : Sign → Re → Re
-repeated s r = many (seq (sign s) r)
+abbrev pub text : Re
+text = one a_text
 
--- one or more, with this sign between them
-abbrev pub listed : Sign → Re → Re
-listed s r = seq r (repeated s r)
+abbrev pub sysvar : Re
+sysvar = one a_sysvar
+
+abbrev pub comma : Class
+comma = the_sign signs.Comma
 
 -- a part that may be left out
 abbrev pub optional : Re → Re
-optional r = alt r empty
+optional r = r ∣ empty
+
+-- any number, each behind a separator
+abbrev pub repeated : Class → Re → Re
+repeated c r = many (one c ⨾ r)
+
+-- one or more, with a separator between them
+abbrev pub listed : Class → Re → Re
+listed c r = r ⨾ repeated c r
 
 -- a part in parentheses
 abbrev pub enclosed : Re → Re
-enclosed r = seq (sign signs.OpenParen) (seq r (sign signs.CloseParen))
+enclosed r = sign signs.OpenParen ⨾ r ⨾ sign signs.CloseParen
+
+-- nothing in parentheses
+abbrev pub parens : Re
+parens = sign signs.OpenParen ⨾ sign signs.CloseParen
+
+-- [-] n
+abbrev pub whole : Re
+whole = number ∣ sign signs.Minus ⨾ number
+
+-- num | text
+abbrev pub val : Re
+val = whole ∣ text
+
+-- name | COUNT(*) | COUNT(DISTINCT name) | MIN(name) | MAX(name) | SUM(name) | WEIGHT() | GROUPBY()
+abbrev pub expr : Re
+expr =
+    name
+    ∣ word keywords.Count ⨾ enclosed (sign signs.Star)
+    ∣ word keywords.Count ⨾ enclosed (word keywords.Distinct ⨾ name)
+    ∣ word keywords.Min ⨾ enclosed name
+    ∣ word keywords.Max ⨾ enclosed name
+    ∣ word keywords.Sum ⨾ enclosed name
+    ∣ word keywords.Weight ⨾ parens
+    ∣ word keywords.GroupBy ⨾ parens
+
+-- [AS] name
+abbrev pub alias : Re
+alias = optional (word keywords.As) ⨾ name
+
+-- * | expr [[AS] name]
+abbrev pub item : Re
+item = sign signs.Star ∣ expr ⨾ optional alias
+
+-- = != <> < > <= >=
+abbrev pub comparison : Re
+comparison = sign signs.Equal ∣ sign signs.NotEqual ∣ sign signs.Less ∣ sign signs.Greater ∣ sign signs.LessOrEqual ∣ sign signs.GreaterOrEqual
+
+-- MATCH(text) | name op num | name [NOT] IN (num, ..) | name BETWEEN num AND num
+abbrev pub cond : Re
+cond =
+    word keywords.Match ⨾ enclosed text
+    ∣ name ⨾ comparison ⨾ whole
+    ∣ name ⨾ optional (word keywords.Not) ⨾ word keywords.In ⨾ enclosed (listed comma whole)
+    ∣ name ⨾ word keywords.Between ⨾ whole ⨾ word keywords.And ⨾ whole
+
+abbrev pub weight : Re
+weight = word keywords.Weight ⨾ parens
+
+abbrev pub count : Re
+count = word keywords.Count ⨾ enclosed (sign signs.Star)
+
+-- [ASC | DESC]
+abbrev pub direction : Re
+direction = optional (word keywords.Asc ∣ word keywords.Desc)
+
+-- (name | WEIGHT() | COUNT(*)) [ASC | DESC]
+abbrev pub key : Re
+key = (name ∣ weight ∣ count) ⨾ direction
+
+-- (name | WEIGHT()) [ASC | DESC]
+abbrev pub inner_key : Re
+inner_key = (name ∣ weight) ⨾ direction
+
+-- (name | COUNT(*)) [ASC | DESC]
+abbrev pub group_key : Re
+group_key = (name ∣ count) ⨾ direction
+
+-- (name | COUNT(*)) op num
+abbrev pub having : Re
+having = (name ∣ count) ⨾ comparison ⨾ whole
+
+-- LIMIT n [, n]
+abbrev pub limit : Re
+limit = word keywords.Limit ⨾ number ⨾ optional (one comma ⨾ number)
+
+-- name = n
+abbrev pub field_weight : Re
+field_weight = name ⨾ sign signs.Equal ⨾ number
+
+-- name = (name | n | text) | name = ( name = n (, name = n)* )
+abbrev pub option : Re
+option = name ⨾ sign signs.Equal ⨾ (name ∣ number ∣ text ∣ enclosed (listed comma field_weight))
+
+-- FACET name [ORDER BY group_key] [LIMIT n [, n]]
+abbrev pub facet : Re
+facet = word keywords.Facet ⨾ name ⨾ optional (words keywords.Order keywords.By ⨾ group_key) ⨾ optional limit
+
+-- [WHERE ..]
+abbrev pub conds : Re
+conds = optional (word keywords.Where ⨾ listed (the_word keywords.And) cond)
+
+-- [GROUP BY ..]
+abbrev pub group : Re
+group = optional (words keywords.Group keywords.By ⨾ name)
+
+-- [WITHIN GROUP ORDER BY ..]
+abbrev pub within : Re
+within = optional (words keywords.Within keywords.Group ⨾ words keywords.Order keywords.By ⨾ listed comma inner_key)
+
+-- [HAVING ..]
+abbrev pub having_part : Re
+having_part = optional (word keywords.Having ⨾ having)
+
+-- [ORDER BY ..]
+abbrev pub order : Re
+order = optional (words keywords.Order keywords.By ⨾ listed comma key)
+
+-- [OPTION ..]
+abbrev pub options : Re
+options = optional (word keywords.Option ⨾ listed comma option)
+
+-- what may follow the index of a SELECT
+abbrev pub select_parts : Re
+select_parts = conds ⨾ group ⨾ within ⨾ having_part ⨾ order ⨾ optional limit ⨾ options ⨾ many facet
+
+abbrev pub select : Re
+select = word keywords.Select ⨾ listed comma item ⨾ word keywords.From ⨾ name ⨾ select_parts
+
+-- SELECT sysvar [LIMIT n]
+abbrev pub select_variable : Re
+select_variable = word keywords.Select ⨾ sysvar ⨾ optional (word keywords.Limit ⨾ number)
+
+-- SELECT DATABASE ( )
+abbrev pub select_database : Re
+select_database = words keywords.Select keywords.Database ⨾ parens
+
+-- ( val, .. )
+abbrev pub row : Re
+row = enclosed (listed comma val)
+
+-- (INSERT | REPLACE) INTO name [( name, .. )] VALUES ( val, .. ) (, ( val, .. ))*
+abbrev pub insert : Re
+insert =
+    (word keywords.Insert ∣ word keywords.Replace) ⨾ word keywords.Into ⨾ name
+    ⨾ optional (enclosed (listed comma name)) ⨾ word keywords.Values ⨾ listed comma row
 
 -- = n | IN (n, ..)
 abbrev pub ids : Re
-ids = alt (seq (sign signs.Equal) number) (seq (word keywords.In) (enclosed (listed signs.Comma number)))
+ids = sign signs.Equal ⨾ number ∣ word keywords.In ⨾ enclosed (listed comma number)
 
--- DELETE FROM name WHERE ID ids
+-- DELETE FROM name WHERE ID = n | DELETE FROM name WHERE ID IN (n, ..)
 abbrev pub delete : Re
-delete = seq (words keywords.Delete keywords.From) (seq name (seq (words keywords.Where keywords.Id) ids))
+delete = words keywords.Delete keywords.From ⨾ name ⨾ words keywords.Where keywords.Id ⨾ ids
+
+-- SET AUTOCOMMIT = n
+abbrev pub set_autocommit : Re
+set_autocommit = words keywords.Set keywords.Autocommit ⨾ sign signs.Equal ⨾ number
+
+-- SET NAMES (name | text)
+abbrev pub set_names : Re
+set_names = words keywords.Set keywords.Names ⨾ (name ∣ text)
+
+-- [GLOBAL | SESSION]
+abbrev pub scope : Re
+scope = optional (word keywords.Global ∣ word keywords.Session)
+
+-- name | num | text | NULL
+abbrev pub setting : Re
+setting = name ∣ whole ∣ text ∣ word keywords.Null
+
+-- SET [GLOBAL | SESSION] (name | sysvar) = (name | num | text | NULL)
+abbrev pub set_other : Re
+set_other = word keywords.Set ⨾ scope ⨾ (one (name_but keywords.Autocommit keywords.Names) ∣ sysvar) ⨾ sign signs.Equal ⨾ setting
+
+abbrev pub flush : Re
+flush = words keywords.Flush keywords.RamChunk ⨾ name ∣ words keywords.Flush keywords.RtIndex ⨾ name
+
+abbrev pub show : Re
+show =
+    words keywords.Show keywords.Index ⨾ name ⨾ word keywords.Status
+    ∣ words keywords.Show keywords.Meta
+    ∣ words keywords.Show keywords.Tables
+    ∣ words keywords.Show keywords.Warnings
+    ∣ words keywords.Show keywords.Variables
+    ∣ words keywords.Show keywords.Databases
 
 abbrev pub statement : Re
-statement = delete
+statement =
+    select ∣ select_variable ∣ select_database
+    ∣ insert
+    ∣ delete
+    ∣ word keywords.Begin
+    ∣ words keywords.Start keywords.Transaction
+    ∣ word keywords.Commit
+    ∣ word keywords.Rollback
+    ∣ set_autocommit ∣ set_names ∣ set_other
+    ∣ flush
+    ∣ words keywords.Optimize keywords.Index ⨾ name
+    ∣ words keywords.Truncate keywords.RtIndex ⨾ name
+    ∣ word keywords.Describe ⨾ name
+    ∣ show
 
 -- what may follow a statement, where so many more are allowed
 abbrev pub more_statements : ℕ → Re
-more_statements zero = alt (seq (sign signs.Semicolon) (one the_end)) (one the_end)
-more_statements (suc n) = alt (seq (sign signs.Semicolon) (alt (seq statement (more_statements n)) (one the_end))) (one the_end)
+more_statements zero = sign signs.Semicolon ⨾ one the_end ∣ one the_end
+more_statements (suc n) = sign signs.Semicolon ⨾ (statement ⨾ more_statements n ∣ one the_end) ∣ one the_end
 
--- a packet of at most so many statements, and one more
+-- a packet of a statement and at most so many more
 abbrev pub packet : ℕ → Re
-packet n = seq statement (more_statements n)
+packet n = statement ⨾ more_statements n

@@ -1,9 +1,10 @@
 pub mod Keywords
 pub mod Tokens
 pub mod Classes
-pub mod Language
-pub mod Grammar
 pub mod Parts
-pub mod Progress
+pub mod Selects
 pub mod Statements
 pub mod Packets
+pub mod Language
+pub mod Grammar
+pub mod Progress

@@ -20,7 +20,7 @@ IsEnd = IsOne (λ t. kind t ≡ kinds.End)
 
 -- statement (; statement)* [;]
 abbrev pub IsPacket : List Statement → List Lexeme → Type 0
-IsPacket list = AreListed signs.Semicolon IsStatement list then IsPerhaps (IsSign signs.Semicolon) then IsEnd
+IsPacket list = AreListed (IsSign signs.Semicolon) IsStatement list then IsPerhaps (IsSign signs.Semicolon) then IsEnd
 
 -- Some packet begins with these tokens, however many statements it has.
 pub record BeginsLong (front : List Lexeme) : Type 0 where

@@ -9,7 +9,7 @@ use Rattle.ql_lex.specs.Tokens.{Lexeme}
 use Rattle.ql_parse.specs.Tokens.{kind, first_place}
 use Rattle.ql_parse.specs.Classes.{Class, fits, the_word, any_name, name_but, a_number, a_text, a_sysvar, the_sign, the_end, same_sign}
 use Rattle.ql_parse.specs.Keywords.{is_reserved, same_keyword}
-use Rattle.ql_parse.specs.Grammar.{listed, sign}
+use Rattle.ql_parse.specs.Grammar.{listed, repeated}
 use Rattle.ql_parse.specs.Parts.{AreListed}
 use Rattle.ql_parse.specs.Language.{Re, empty, one, seq, alt, many, In, nullable, verdict}
 
@@ -158,9 +158,9 @@ abbrev pub TakesIf : Class → (List Lexeme → Type 0) → List Lexeme → Bool
 TakesIf c P before true now = Takes (one c) [] P before now × IsNextOf c before true
 TakesIf c P before false now = (now ≡ before) × IsNextOf c before false
 
--- Of parts in a row with this sign between them these have been read, and others may follow.
-pub record TakesListed {A : Type 0} (s : Sign) (r : Re) (goes_on : List Class) (Is : A → List Lexeme → Type 0) (before : List Lexeme) (items : List A) (now : List Lexeme) : Type 0 where
-  pub takes : (rest : Re) → apart goes_on rest ≡ true → verdict (seq (listed s r) rest) before ≡ verdict (seq (many (seq (sign s) r)) rest) now
+-- Of parts in a row with a separator between them these have been read, and others may follow.
+pub record TakesListed {A : Type 0} (c : Class) (Between : List Lexeme → Type 0) (r : Re) (goes_on : List Class) (Is : A → List Lexeme → Type 0) (before : List Lexeme) (items : List A) (now : List Lexeme) : Type 0 where
+  pub takes : (rest : Re) → apart goes_on rest ≡ true → verdict (seq (listed c r) rest) before ≡ verdict (seq (repeated c r) rest) now
   pub used : List Lexeme
   pub is : before ≡ used ++ now
-  pub has : AreListed s Is items used
+  pub has : AreListed Between Is items used

@@ -8,10 +8,15 @@ mod keyword;
 mod kind;
 mod parsing;
 mod part;
+mod select;
 mod statement;
 
 pub use fault::{ParseFault, ParseKind};
 pub use keyword::Keyword;
 pub use kind::Kind;
 pub use parsing::{MAX_STATEMENTS, parse};
-pub use statement::{Ids, Statement};
+pub use select::{
+    Comparison, Cond, FacetPart, Having, LimitPart, OptionValue, Select, SelectExpr, SelectItem,
+    SelectOption, SortKey, SortName,
+};
+pub use statement::{Ids, Plain, Scope, SetValue, Statement, Target, Val};

@@ -1,9 +1,9 @@
 ghost use Rattle.std.specs.Prelude.{◌≡◌, ◌∷◌, [], true};
 ghost use Rattle.ql_lex.specs.declared.token.Sign.TheVariants as signs;
 ghost use Rattle.ql_parse.specs.Classes.{the_sign};
-ghost use Rattle.ql_parse.specs.Grammar.{sign, listed, number, enclosed, repeated};
+ghost use Rattle.ql_parse.specs.Grammar.{comma, sign, listed, number, enclosed, repeated};
 ghost use Rattle.ql_parse.specs.Language.{many, seq, one};
-ghost use Rattle.ql_parse.specs.Parts.{AreListed, IsEnclosed, IsNumber};
+ghost use Rattle.ql_parse.specs.Parts.{AreListed, IsEnclosed, IsSign, IsComma, IsNumber};
 ghost use Rattle.ql_parse.specs.Progress.{Reads, may_follow};
 
 use crate::cursor::Cursor;
@@ -46,8 +46,8 @@ impl Part for u64 {
 
 /// Reads one part or more, with a sign between them.
 pub(crate) fn listed<T: Part>(alloc: Global, input: &mut Cursor<'_>, sign: Sign) -> Result<Items<T>, Or<u32>>
-    requires { may_follow T.goes_on (repeated sign T.grammar) (the_sign sign ∷ T.goes_on) ≡ true }
-    ensures { Reads (listed sign T.grammar) (the_sign sign ∷ T.goes_on) (AreListed sign T.is) input.old result input.new }
+    requires { may_follow T.goes_on (repeated (the_sign sign) T.grammar) (the_sign sign ∷ T.goes_on) ≡ true }
+    ensures { Reads (listed (the_sign sign) T.grammar) (the_sign sign ∷ T.goes_on) (AreListed (IsSign sign) T.is) input.old result input.new }
 {
     let mut list = Vec::new(alloc);
     list.push(T::read(alloc, input)?)?;
@@ -59,9 +59,9 @@ pub(crate) fn listed<T: Part>(alloc: Global, input: &mut Cursor<'_>, sign: Sign)
 
 /// Reads one part or more in parentheses, with commas between them.
 pub(crate) fn enclosed<T: Part>(alloc: Global, input: &mut Cursor<'_>) -> Result<Items<T>, Or<u32>>
-    requires more { may_follow T.goes_on (repeated signs.Comma T.grammar) (the_sign signs.Comma ∷ T.goes_on) ≡ true }
-    requires closes { may_follow (the_sign signs.Comma ∷ T.goes_on) (sign signs.CloseParen) [] ≡ true }
-    ensures { Reads (enclosed (listed signs.Comma T.grammar)) [] (λ v. IsEnclosed (AreListed signs.Comma T.is v)) input.old result input.new }
+    requires more { may_follow T.goes_on (repeated comma T.grammar) (comma ∷ T.goes_on) ≡ true }
+    requires closes { may_follow (comma ∷ T.goes_on) (sign signs.CloseParen) [] ≡ true }
+    ensures { Reads (enclosed (listed comma T.grammar)) [] (λ v. IsEnclosed (AreListed IsComma T.is v)) input.old result input.new }
 {
     input.sign(Sign::OpenParen)?;
     let list = listed(alloc, input, Sign::Comma)?;

@@ -1,0 +1,149 @@
+-- The tokens of a SELECT from an index.
+use Rattle.std.specs.Prelude.{◌≡◌, ℕ, Bool, true, false, List, [], ◌⊎◌, Option, Some, None}
+use Rattle.ql_lex.specs.declared.token.Sign.TheVariants as signs
+use Rattle.ql_lex.specs.Tokens.{Lexeme}
+use Rattle.ql_parse.specs.declared.keyword.Keyword.TheVariants as keywords
+use Rattle.ql_parse.specs.declared.select.Comparison.{Comparison}
+use Rattle.ql_parse.specs.declared.select.Comparison.TheVariants as comparisons
+use Rattle.ql_parse.specs.declared.select.Cond.{Cond}
+use Rattle.ql_parse.specs.declared.select.Cond.TheVariants as conds
+use Rattle.ql_parse.specs.declared.select.FacetPart.{FacetPart}
+use Rattle.ql_parse.specs.declared.select.Having.{Having}
+use Rattle.ql_parse.specs.declared.select.LimitPart.{LimitPart}
+use Rattle.ql_parse.specs.declared.select.OptionValue.{OptionValue}
+use Rattle.ql_parse.specs.declared.select.OptionValue.TheVariants as values
+use Rattle.ql_parse.specs.declared.select.Select.{Select}
+use Rattle.ql_parse.specs.declared.select.SelectExpr.{SelectExpr}
+use Rattle.ql_parse.specs.declared.select.SelectExpr.TheVariants as exprs
+use Rattle.ql_parse.specs.declared.select.SelectItem.{SelectItem}
+use Rattle.ql_parse.specs.declared.select.SelectItem.TheVariants as items
+use Rattle.ql_parse.specs.declared.select.SelectOption.{SelectOption}
+use Rattle.ql_parse.specs.declared.select.SortKey.{SortKey}
+use Rattle.ql_parse.specs.declared.select.SortName.{SortName}
+use Rattle.ql_parse.specs.declared.select.SortName.TheVariants as sorts
+use Rattle.ql_parse.specs.Parts.{◌then◌, IsAbsent, IsWord, AreWords, IsSign, IsComma, IsName, IsNumber, IsText, IsWhole, IsEnclosed, AreParens, IsPerhaps, IsGiven, AreGiven, AreListed, AreInRow}
+
+-- name | COUNT(*) | COUNT(DISTINCT name) | MIN(name) | MAX(name) | SUM(name) | WEIGHT() | GROUPBY()
+abbrev pub IsExpr : SelectExpr → List Lexeme → Type 0
+IsExpr (exprs.Column name) = IsName name
+IsExpr exprs.CountAll = IsWord keywords.Count then IsEnclosed (IsSign signs.Star)
+IsExpr (exprs.CountDistinct name) = IsWord keywords.Count then IsEnclosed (IsWord keywords.Distinct then IsName name)
+IsExpr (exprs.Least name) = IsWord keywords.Min then IsEnclosed (IsName name)
+IsExpr (exprs.Greatest name) = IsWord keywords.Max then IsEnclosed (IsName name)
+IsExpr (exprs.Sum name) = IsWord keywords.Sum then IsEnclosed (IsName name)
+IsExpr exprs.Weight = IsWord keywords.Weight then AreParens
+IsExpr exprs.GroupBy = IsWord keywords.GroupBy then AreParens
+
+-- [AS] name
+abbrev pub IsAlias : List ℕ → List Lexeme → Type 0
+IsAlias name = IsPerhaps (IsWord keywords.As) then IsName name
+
+-- * | expr [[AS] name]
+abbrev pub IsItem : SelectItem → List Lexeme → Type 0
+IsItem items.All = IsSign signs.Star
+IsItem (items.One expr alias) = IsExpr expr then IsGiven IsAlias alias
+
+-- = != <> < > <= >=
+abbrev pub IsComparison : Comparison → List Lexeme → Type 0
+IsComparison comparisons.Equal = IsSign signs.Equal
+IsComparison comparisons.NotEqual = IsSign signs.NotEqual
+IsComparison comparisons.Less = IsSign signs.Less
+IsComparison comparisons.Greater = IsSign signs.Greater
+IsComparison comparisons.AtMost = IsSign signs.LessOrEqual
+IsComparison comparisons.AtLeast = IsSign signs.GreaterOrEqual
+
+-- [NOT]
+abbrev pub IsNegation : Bool → List Lexeme → Type 0
+IsNegation true = IsWord keywords.Not
+IsNegation false = IsAbsent
+
+-- MATCH(text) | name op num | name [NOT] IN (num, ..) | name BETWEEN num AND num
+abbrev pub IsCond : Cond → List Lexeme → Type 0
+IsCond (conds.Match text) = IsWord keywords.Match then IsEnclosed (IsText text)
+IsCond (conds.Compare name op value) = IsName name then IsComparison op then IsWhole value
+IsCond (conds.Among name values negated) = IsName name then IsNegation negated then IsWord keywords.In then IsEnclosed (AreListed IsComma IsWhole values)
+IsCond (conds.Between name low high) = IsName name then IsWord keywords.Between then IsWhole low then IsWord keywords.And then IsWhole high
+
+-- WEIGHT()
+abbrev pub IsWeight : List Lexeme → Type 0
+IsWeight = IsWord keywords.Weight then AreParens
+
+-- COUNT(*)
+abbrev pub IsCount : List Lexeme → Type 0
+IsCount = IsWord keywords.Count then IsEnclosed (IsSign signs.Star)
+
+-- name | WEIGHT() | COUNT(*)
+abbrev pub IsSort : SortName → List Lexeme → Type 0
+IsSort (sorts.Column name) = IsName name
+IsSort sorts.Weight = IsWeight
+IsSort sorts.CountAll = IsCount
+
+-- name | WEIGHT()
+abbrev pub IsInnerSort : SortName → List Lexeme → Type 0
+IsInnerSort (sorts.Column name) = IsName name
+IsInnerSort sorts.Weight = IsWeight
+IsInnerSort sorts.CountAll = λ u. ⊥
+
+-- name | COUNT(*)
+abbrev pub IsGroupSort : SortName → List Lexeme → Type 0
+IsGroupSort (sorts.Column name) = IsName name
+IsGroupSort sorts.Weight = λ u. ⊥
+IsGroupSort sorts.CountAll = IsCount
+
+-- ASC | DESC
+abbrev pub IsDirection : Bool → List Lexeme → Type 0
+IsDirection false = IsWord keywords.Asc
+IsDirection true = IsWord keywords.Desc
+
+-- what is sorted by, with its direction
+abbrev pub IsKeyBy : (SortName → List Lexeme → Type 0) → SortKey → List Lexeme → Type 0
+IsKeyBy Is key = Is key.by then IsGiven IsDirection key.descending
+
+-- (name | COUNT(*)) op num
+abbrev pub IsHaving : Having → List Lexeme → Type 0
+IsHaving having = IsGroupSort having.left then IsComparison having.op then IsWhole having.value
+
+-- , n
+abbrev pub IsSecond : ℕ → List Lexeme → Type 0
+IsSecond n = IsComma then IsNumber n
+
+-- LIMIT n [, n]
+abbrev pub IsLimit : LimitPart → List Lexeme → Type 0
+IsLimit limit = IsWord keywords.Limit then IsNumber limit.first then IsGiven IsSecond limit.second
+
+-- name = n
+abbrev pub IsFieldWeight : List ℕ × ℕ → List Lexeme → Type 0
+IsFieldWeight pair = IsName pair.0 then IsSign signs.Equal then IsNumber pair.1
+
+-- name | n | text | ( name = n (, name = n)* )
+abbrev pub IsOptionValue : OptionValue → List Lexeme → Type 0
+IsOptionValue (values.Name name) = IsName name
+IsOptionValue (values.Number n) = IsNumber n
+IsOptionValue (values.Text text) = IsText text
+IsOptionValue (values.List pairs) = IsEnclosed (AreListed IsComma IsFieldWeight pairs)
+
+-- name = value
+abbrev pub IsOption : SelectOption → List Lexeme → Type 0
+IsOption option = IsName option.name then IsSign signs.Equal then IsOptionValue option.value
+
+-- FACET name [ORDER BY key] [LIMIT n [, n]]
+abbrev pub IsFacet : FacetPart → List Lexeme → Type 0
+IsFacet facet =
+    IsWord keywords.Facet then IsName facet.column
+    then IsGiven (λ key. AreWords keywords.Order keywords.By then IsKeyBy IsGroupSort key) facet.order
+    then IsGiven IsLimit facet.limit
+
+-- SELECT item (, item)* FROM name [WHERE cond (AND cond)*] [GROUP BY name] [WITHIN GROUP ORDER BY inner (, inner)*]
+-- [HAVING have] [ORDER BY key (, key)*] [LIMIT n [, n]] [OPTION opt (, opt)*] facet*
+abbrev pub IsSelect : Select → List Lexeme → Type 0
+IsSelect select =
+    IsWord keywords.Select then AreListed IsComma IsItem select.items
+    then IsWord keywords.From then IsName select.index
+    then AreGiven (λ conds. IsWord keywords.Where then AreListed (IsWord keywords.And) IsCond conds) select.conds
+    then IsGiven (λ name. AreWords keywords.Group keywords.By then IsName name) select.group
+    then AreGiven (λ keys. AreWords keywords.Within keywords.Group then AreWords keywords.Order keywords.By then AreListed IsComma (IsKeyBy IsInnerSort) keys) select.within
+    then IsGiven (λ having. IsWord keywords.Having then IsHaving having) select.having
+    then AreGiven (λ keys. AreWords keywords.Order keywords.By then AreListed IsComma (IsKeyBy IsSort) keys) select.order
+    then IsGiven IsLimit select.limit
+    then AreGiven (λ options. IsWord keywords.Option then AreListed IsComma IsOption options) select.options
+    then AreInRow IsFacet select.facets
