@@ -12,7 +12,7 @@ use Rattle.ql_parse.specs.Language.{Re, empty, one, seq, alt, many, Repeats, non
 use Rattle.ql_parse.specs.Grammar.{word, words, sign, name, number, listed, repeated, optional, enclosed}
 use Rattle.ql_parse.specs.Parts.{◌then◌, IsOne, IsWord, IsSign, IsName, IsNumber, AreWords, IsEnclosed, AreListed}
 use Rattle.ql_parse.proofs.KeywordNumbers.{same_to_itself}
-use Rattle.ql_parse.proofs.Steps.{word_is, sign_is, sign_to_itself}
+use Rattle.ql_parse.proofs.Steps.{word_is, sign_is, number_is, text_is, variable_is, sign_to_itself}
 
 pub record Agree {A : Type 0} (r : Re) (P : A → List Lexeme → Type 0) : Type 0 where
   pub text : (x : A) (u : List Lexeme) → P x u → In r u
@@ -42,15 +42,6 @@ agree_name = record {
     text = λ x u (t, e, (f, v)). (t, e, f);
     value = λ u (t, e, f). (name_value t, (t, e, (f, refl)));
   }
-
-number_is : (k : Kind) → fits a_number k ≡ true → k ≡ kinds.Number
-number_is (kinds.Keyword w) e = cc
-number_is kinds.Name e = cc
-number_is kinds.Number e = refl
-number_is kinds.Text e = cc
-number_is kinds.SysVar e = cc
-number_is (kinds.Sign s) e = cc
-number_is kinds.End e = cc
 
 pub agree_number : Agree number IsNumber
 unfolding In

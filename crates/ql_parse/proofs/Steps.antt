@@ -326,6 +326,46 @@ sign_is v kinds.SysVar e = cc
 sign_is v (kinds.Sign s) e = ap kinds.Sign (sym (sign_same v s e))
 sign_is v kinds.End e = cc
 
+pub number_is : (k : Kind) → fits a_number k ≡ true → k ≡ kinds.Number
+number_is (kinds.Keyword w) e = cc
+number_is kinds.Name e = cc
+number_is kinds.Number e = refl
+number_is kinds.Text e = cc
+number_is kinds.SysVar e = cc
+number_is (kinds.Sign s) e = cc
+number_is kinds.End e = cc
+
+pub text_is : (k : Kind) → fits a_text k ≡ true → k ≡ kinds.Text
+text_is (kinds.Keyword w) e = cc
+text_is kinds.Name e = cc
+text_is kinds.Number e = cc
+text_is kinds.Text e = refl
+text_is kinds.SysVar e = cc
+text_is (kinds.Sign s) e = cc
+text_is kinds.End e = cc
+
+pub variable_is : (k : Kind) → fits a_sysvar k ≡ true → k ≡ kinds.SysVar
+variable_is (kinds.Keyword w) e = cc
+variable_is kinds.Name e = cc
+variable_is kinds.Number e = cc
+variable_is kinds.Text e = cc
+variable_is kinds.SysVar e = refl
+variable_is (kinds.Sign s) e = cc
+variable_is kinds.End e = cc
+
+pub end_is : (k : Kind) → fits the_end k ≡ true → k ≡ kinds.End
+end_is (kinds.Keyword w) e = cc
+end_is kinds.Name e = cc
+end_is kinds.Number e = cc
+end_is kinds.Text e = cc
+end_is kinds.SysVar e = cc
+end_is (kinds.Sign s) e = cc
+end_is kinds.End e = refl
+
+-- the token that was taken is of the class
+pub kind_next : {c : Class} {t : Lexeme} {before now : List Lexeme} → IsNextOf c before true → before ≡ t ∷ now → fits c (kind t) ≡ true
+kind_next {c} {t} {before} {now} n is = ap (fits c) (next_at before t now n.kind n.next is) ∙ n.fits
+
 pub takes_word : {w : Keyword} {cs : List Class} {t : Lexeme} {before now : List Lexeme} → IsNextOf (the_word w) before true → before ≡ t ∷ now → Takes (one (the_word w)) cs (IsWord w) before now
 takes_word {w} {cs} {t} {before} {now} n is = takes_next n is (λ fit. (t, refl, word_is w (kind t) fit))
 

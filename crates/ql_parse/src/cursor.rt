@@ -1,17 +1,18 @@
 ghost use Rattle.std.specs.Prelude.{◌≡◌, ◌≢◌, [], ◌∷◌};
 ghost use Rattle.ql_parse.specs.declared.kind.Kind.TheVariants as kinds;
+ghost use Rattle.ql_lex.specs.Shapes.{IsLexeme};
 ghost use Rattle.ql_lex.specs.Tokens.{lexeme_of, AreLexemes};
 ghost use Rattle.ql_parse.specs.Tokens.{kind, lexemes, first_kind, first_place};
-ghost use Rattle.ql_parse.specs.Classes.{the_word, any_name, a_number, the_sign};
+ghost use Rattle.ql_parse.specs.Classes.{the_word, any_name, a_number, a_text, a_sysvar, the_sign};
 ghost use Rattle.ql_parse.specs.Language.{one};
-ghost use Rattle.ql_parse.specs.Grammar.{words, name, number};
-ghost use Rattle.ql_parse.specs.Parts.{IsWord, AreWords, IsSign, IsName, IsNumber};
+ghost use Rattle.ql_parse.specs.Grammar.{words, name, number, text, sysvar};
+ghost use Rattle.ql_parse.specs.Parts.{IsWord, AreWords, IsSign, IsName, IsNumber, IsText, IsVariable};
 ghost use Rattle.ql_parse.specs.Progress.{IsNext, IsNextOf, Reads, TakesIf};
 
 use crate::keyword::keyword_named;
 use crate::{Keyword, Kind};
-use ql_lex::{Sign, Token, TokenKind, sign_of};
-use srch_base::{Name, Or};
+use ql_lex::{Sign, Token, TokenKind, number_of, put_text, sign_of, token_name};
+use srch_base::{Name, Or, Text};
 use std::alloc::Global;
 use std::marker::Model;
 
@@ -72,7 +73,8 @@ impl<'a> Cursor<'a> {
     /// Goes on behind the next token.
     fn skip(&mut self) -> &'a Token<'a>
         requires { first_kind self.old ≢ kinds.End }
-        ensures { self.old ≡ lexeme_of result.now ∷ self.new }
+        ensures next { self.old ≡ lexeme_of result.now ∷ self.new }
+        ensures lexeme { IsLexeme result.now.kind result.now.text.now }
     {
         let rest = self.rest;
         self.rest = &rest[1..];
@@ -150,17 +152,94 @@ impl<'a> Cursor<'a> {
         Ok(())
     }
 
+    /// Whether a name is next. A keyword that isn't reserved is one.
+    pub(crate) fn is_name(&self) -> bool
+        ensures { IsNextOf any_name self.now result }
+    {
+        match self.kind() {
+            Kind::Keyword(word) => !word.is_reserved(),
+            Kind::Name => true,
+            _ => false,
+        }
+    }
+
+    /// Whether a number is next.
+    pub(crate) fn is_number(&self) -> bool
+        ensures { IsNextOf a_number self.now result }
+    {
+        match self.kind() {
+            Kind::Number => true,
+            _ => false,
+        }
+    }
+
+    /// Whether a text is next.
+    pub(crate) fn is_text(&self) -> bool
+        ensures { IsNextOf a_text self.now result }
+    {
+        match self.kind() {
+            Kind::Text => true,
+            _ => false,
+        }
+    }
+
+    /// Whether a system variable is next.
+    pub(crate) fn is_variable(&self) -> bool
+        ensures { IsNextOf a_sysvar self.now result }
+    {
+        match self.kind() {
+            Kind::SysVar => true,
+            _ => false,
+        }
+    }
+
     /// Takes a name.
     pub(crate) fn name(&mut self, alloc: Global) -> Result<Name, Or<u32>>
         ensures { Reads name [] IsName self.old result self.new }
     {
-        Err(Or::NoMemory)
+        if self.is_name() {
+            let token = self.skip();
+            Ok(Name::new(token_name(token).to_ascii_lowercase(alloc)?))
+        } else {
+            Err(Or::Fault(self.place()))
+        }
+    }
+
+    /// Takes a system variable, by its name.
+    pub(crate) fn variable(&mut self, alloc: Global) -> Result<Name, Or<u32>>
+        ensures { Reads sysvar [] IsVariable self.old result self.new }
+    {
+        if self.is_variable() {
+            let token = self.skip();
+            Ok(Name::new(token_name(token).to_ascii_lowercase(alloc)?))
+        } else {
+            Err(Or::Fault(self.place()))
+        }
     }
 
     /// Takes a number.
     pub(crate) fn number(&mut self) -> Result<u64, Or<u32>>
         ensures { Reads number [] IsNumber self.old result self.new }
     {
-        Err(Or::NoMemory)
+        if self.is_number() {
+            let token = self.skip();
+            Ok(number_of(token.text))
+        } else {
+            Err(Or::Fault(self.place()))
+        }
+    }
+
+    /// Takes a text, with its escapes resolved.
+    pub(crate) fn text(&mut self, alloc: Global) -> Result<Text, Or<u32>>
+        ensures { Reads text [] IsText self.old result self.new }
+    {
+        if self.is_text() {
+            let token = self.skip();
+            let mut bytes = Vec::new(alloc);
+            put_text(token.text, &mut bytes)?;
+            Ok(Text::new(bytes))
+        } else {
+            Err(Or::Fault(self.place()))
+        }
     }
 }

@@ -4,7 +4,7 @@ ghost use Rattle.ql_parse.specs.Progress.{Reads};
 ghost use Rattle.ql_parse.specs.Statements.{AreIds, IsStatement};
 
 use crate::cursor::Cursor;
-use crate::part::enclosed;
+use crate::part::{Number, enclosed};
 use crate::statement::{Ids, Statement};
 use crate::Keyword;
 use ql_lex::Sign;
@@ -18,7 +18,7 @@ fn ids(alloc: Global, input: &mut Cursor<'_>) -> Result<Ids, Or<u32>>
         return Ok(Ids::One(input.number()?));
     }
     input.word(Keyword::In)?;
-    Ok(Ids::Several(enclosed(alloc, input)?))
+    Ok(Ids::Several(enclosed::<Number>(alloc, input)?))
 }
 
 /// Reads a DELETE.

@@ -1,7 +1,7 @@
 ghost use Rattle.std.specs.Prelude.{◌≡◌, slice_get};
 ghost use Rattle.name_table.specs.NamedValues.{value_named};
 ghost use Rattle.name_table.specs.Order.{IsInOrder};
-ghost use Rattle.ql_parse.specs.Keywords.{keyword_words, keyword_values, keyword_named};
+ghost use Rattle.ql_parse.specs.Keywords.{is_reserved, keyword_words, keyword_values, keyword_named};
 
 use name_table::{NameTable, value_at, words_of};
 
@@ -66,6 +66,40 @@ pub enum Keyword {
     Weight,
     Where,
     Within,
+}
+
+impl Keyword {
+    /// Whether it is a name nowhere. Every other keyword is one wherever the grammar has a name.
+    pub fn is_reserved(self) -> bool
+        ensures { result ≡ is_reserved self }
+    {
+        matches!(
+            self,
+            Keyword::And
+            | Keyword::As
+            | Keyword::Asc
+            | Keyword::Between
+            | Keyword::By
+            | Keyword::Desc
+            | Keyword::Distinct
+            | Keyword::Facet
+            | Keyword::From
+            | Keyword::Group
+            | Keyword::Having
+            | Keyword::In
+            | Keyword::Into
+            | Keyword::Limit
+            | Keyword::Match
+            | Keyword::Not
+            | Keyword::Null
+            | Keyword::Option
+            | Keyword::Order
+            | Keyword::Select
+            | Keyword::Values
+            | Keyword::Where
+            | Keyword::Within
+        )
+    }
 }
 
 macro_rules! keywords {

@@ -11,12 +11,15 @@ use ql_lex::Sign;
 use srch_base::{Items, Or};
 use std::alloc::Global;
 
-/// A value that a part of the grammar stands for.
-pub(crate) trait Part: Drop {
+/// A part of the grammar whose texts stand for values.
+pub(crate) trait Part {
     ghost use Rattle.std.specs.Prelude.{List};
     ghost use Rattle.ql_lex.specs.Tokens.{Lexeme};
     ghost use Rattle.ql_parse.specs.Classes.{Class};
     ghost use Rattle.ql_parse.specs.Language.{Re};
+
+    /// What a text of the part stands for.
+    type Value: Drop;
 
     /// The part, as the grammar has it.
     ghost grammar: { Re };
@@ -25,46 +28,58 @@ pub(crate) trait Part: Drop {
     ghost goes_on: { List Class };
 
     /// These tokens stand for the value.
-    ghost is: { Self → List Lexeme → Type 0 };
+    ghost is: { Self.Value → List Lexeme → Type 0 };
 
     /// Reads the part, as far as it goes.
-    fn read(alloc: Global, input: &mut Cursor<'_>) -> Result<Self, Or<u32>>
+    fn read(alloc: Global, input: &mut Cursor<'_>) -> Result<Self::Value, Or<u32>>
         ensures { Reads grammar goes_on is input.old result input.new };
 }
 
-impl Part for u64 {
+/// `n`
+pub(crate) struct Number;
+
+impl Part for Number {
+    type Value = u64;
+
     ghost grammar = { number };
 
     ghost goes_on = { [] };
 
     ghost is = { IsNumber };
 
-    fn read(_: Global, input: &mut Cursor<'_>) -> Result<Self, Or<u32>> {
+    fn read(_: Global, input: &mut Cursor<'_>) -> Result<u64, Or<u32>> {
         input.number()
     }
 }
 
 /// Reads one part or more, with a sign between them.
-pub(crate) fn listed<T: Part>(alloc: Global, input: &mut Cursor<'_>, sign: Sign) -> Result<Items<T>, Or<u32>>
-    requires { may_follow T.goes_on (repeated (the_sign sign) T.grammar) (the_sign sign ∷ T.goes_on) ≡ true }
-    ensures { Reads (listed (the_sign sign) T.grammar) (the_sign sign ∷ T.goes_on) (AreListed (IsSign sign) T.is) input.old result input.new }
+pub(crate) fn listed<P: Part>(
+    alloc: Global,
+    input: &mut Cursor<'_>,
+    sign: Sign,
+) -> Result<Items<P::Value>, Or<u32>>
+    requires { may_follow P.goes_on (repeated (the_sign sign) P.grammar) (the_sign sign ∷ P.goes_on) ≡ true }
+    ensures { Reads (listed (the_sign sign) P.grammar) (the_sign sign ∷ P.goes_on) (AreListed (IsSign sign) P.is) input.old result input.new }
 {
     let mut list = Vec::new(alloc);
-    list.push(T::read(alloc, input)?)?;
+    list.push(P::read(alloc, input)?)?;
     'parts: while input.takes_sign(sign) {
-        list.push(T::read(alloc, input)?)?;
+        list.push(P::read(alloc, input)?)?;
     }
     Ok(Items::new(list))
 }
 
 /// Reads one part or more in parentheses, with commas between them.
-pub(crate) fn enclosed<T: Part>(alloc: Global, input: &mut Cursor<'_>) -> Result<Items<T>, Or<u32>>
-    requires more { may_follow T.goes_on (repeated comma T.grammar) (comma ∷ T.goes_on) ≡ true }
-    requires closes { may_follow (comma ∷ T.goes_on) (sign signs.CloseParen) [] ≡ true }
-    ensures { Reads (enclosed (listed comma T.grammar)) [] (λ v. IsEnclosed (AreListed IsComma T.is v)) input.old result input.new }
+pub(crate) fn enclosed<P: Part>(
+    alloc: Global,
+    input: &mut Cursor<'_>,
+) -> Result<Items<P::Value>, Or<u32>>
+    requires more { may_follow P.goes_on (repeated comma P.grammar) (comma ∷ P.goes_on) ≡ true }
+    requires closes { may_follow (comma ∷ P.goes_on) (sign signs.CloseParen) [] ≡ true }
+    ensures { Reads (enclosed (listed comma P.grammar)) [] (λ v. IsEnclosed (AreListed IsComma P.is v)) input.old result input.new }
 {
     input.sign(Sign::OpenParen)?;
-    let list = listed(alloc, input, Sign::Comma)?;
+    let list = listed::<P>(alloc, input, Sign::Comma)?;
     input.sign(Sign::CloseParen)?;
     Ok(list)
 }

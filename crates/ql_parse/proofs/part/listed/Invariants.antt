@@ -5,7 +5,7 @@ use Rattle.ql_parse.specs.Progress.{TakesListed}
 use Rattle.ql_parse.proofs.part.listed.Given as goal
 
 abbrev pub invariant-parts : goal.invariant-parts
-invariant-parts g l = TakesListed (the_sign l.sign) (IsSign l.sign) g.T.Part.grammar (the_sign l.sign ∷ g.T.Part.goes_on) g.T.Part.is l.fn.input l.list.items l.input
+invariant-parts g l = TakesListed (the_sign l.sign) (IsSign l.sign) g.P.Part.grammar (the_sign l.sign ∷ g.P.Part.goes_on) g.P.Part.is l.fn.input l.list.items l.input
 
 abbrev pub decreases-parts : goal.decreases-parts
 decreases-parts g l = length l.input

@@ -7,4 +7,4 @@ use Rattle.ql_parse.proofs.cursor.Cursor.takes_sign.Goals as goal
 
 pub returns-then-found : goal.returns-then-found
 returns-then-found c =
-    subst (λ (b : Bool). TakesIf (the_sign c.args.sign) (IsSign c.args.sign) c.args.self.now b c.skip.new.self) (sym c.if-found.true) (takes_sign c.if-found.ensures c.skip.ensures, c.if-found.ensures)
+    subst (λ (b : Bool). TakesIf (the_sign c.args.sign) (IsSign c.args.sign) c.args.self.now b c.skip.new.self) (sym c.if-found.true) (takes_sign c.if-found.ensures c.skip.ensures.next, c.if-found.ensures)
