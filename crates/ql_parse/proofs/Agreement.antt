@@ -7,12 +7,13 @@ use Rattle.ql_parse.specs.declared.keyword.Keyword.{Keyword}
 use Rattle.ql_parse.specs.declared.kind.Kind.{Kind}
 use Rattle.ql_parse.specs.declared.kind.Kind.TheVariants as kinds
 use Rattle.ql_parse.specs.Tokens.{kind, name_value, number_value}
-use Rattle.ql_parse.specs.Classes.{Class, the_word, any_name, name_but, a_number, a_text, a_sysvar, the_sign, the_end, fits, kind_number}
+use Rattle.ql_parse.specs.Classes.{Class, the_word, any_name, name_but, a_number, a_text, a_sysvar, the_sign, a_comparison, the_end, fits, kind_number}
 use Rattle.ql_parse.specs.Language.{Re, empty, one, seq, alt, many, Repeats, none, more, In}
 use Rattle.ql_parse.specs.Grammar.{word, words, sign, name, number, listed, repeated, optional, enclosed}
 use Rattle.ql_parse.specs.Parts.{◌then◌, IsOne, IsWord, IsSign, IsName, IsNumber, AreWords, IsEnclosed, AreListed}
 use Rattle.ql_parse.proofs.KeywordNumbers.{same_to_itself}
-use Rattle.ql_parse.proofs.Steps.{word_is, sign_is, number_is, text_is, variable_is, sign_to_itself}
+use Rattle.ql_parse.proofs.Steps.{word_is, sign_is, number_is, text_is, variable_is}
+use Rattle.ql_parse.proofs.SignNumbers.{sign_to_itself}
 
 pub record Agree {A : Type 0} (r : Re) (P : A → List Lexeme → Type 0) : Type 0 where
   pub text : (x : A) (u : List Lexeme) → P x u → In r u

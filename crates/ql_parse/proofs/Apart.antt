@@ -9,10 +9,11 @@ use Rattle.ql_parse.specs.declared.kind.Kind.TheVariants as kinds
 use Rattle.ql_parse.specs.Keywords.{is_reserved, keyword_number, same_keyword}
 use Rattle.ql_lex.specs.Tokens.{Lexeme}
 use Rattle.ql_parse.specs.Tokens.{kind}
-use Rattle.ql_parse.specs.Classes.{Class, the_word, any_name, name_but, a_number, a_text, a_sysvar, the_sign, the_end, fits, is_name, is_word, is_sign, sign_number, same_sign, kind_number}
+use Rattle.ql_parse.specs.Classes.{Class, the_word, any_name, name_but, a_number, a_text, a_sysvar, the_sign, a_comparison, the_end, fits, is_comparison, sign_number, same_sign}
 use Rattle.ql_parse.specs.Language.{Re, empty, one, seq, alt, many, Repeats, none, more, In, nullable}
-use Rattle.ql_parse.specs.Progress.{fits_some, meets, meets_word, meets_name, meets_sign, meets_some, apart, begins}
+use Rattle.ql_parse.specs.Progress.{fits_some, meets, meets_some, apart, begins}
 use Rattle.ql_parse.proofs.KeywordNumbers.{keyword_same}
+use Rattle.ql_parse.proofs.SignNumbers.{sign_same}
 use Rattle.ql_parse.proofs.Laws.{has_nullable}
 
 pub and_first : (b c : Bool) → (b && c) ≡ true → b ≡ true
@@ -44,111 +45,58 @@ clash true e f = cc
 clash false e f = cc
 
 -- a token of two classes is one of both
-meet_words : (v w : Keyword) (k : Kind) → is_word v k ≡ true → is_word w k ≡ true → same_keyword v w ≡ true
-meet_words v w (kinds.Keyword x) first second =
-    eq-eqb (keyword_number v) (keyword_number w) (eqb-true (keyword_number v) (keyword_number x) first ∙ sym (eqb-true (keyword_number w) (keyword_number x) second))
-meet_words v w kinds.Name first second = cc
-meet_words v w kinds.Number first second = cc
-meet_words v w kinds.Text first second = cc
-meet_words v w kinds.SysVar first second = cc
-meet_words v w (kinds.Sign s) first second = cc
-meet_words v w kinds.End first second = cc
+meets_at_word : (c d : Class) (x : Keyword) → fits c (kinds.Keyword x) ≡ true → fits d (kinds.Keyword x) ≡ true → meets c d ≡ true
+meets_at_word (the_word v) (the_word w) x e f =
+    eq-eqb (keyword_number v) (keyword_number w) (eqb-true (keyword_number v) (keyword_number x) e ∙ sym (eqb-true (keyword_number w) (keyword_number x) f))
+meets_at_word (the_word v) any_name x e f = ap (λ w. not (is_reserved w)) (keyword_same v x e) ∙ f
+meets_at_word (the_word v) (name_but a b) x e f = ap (λ w. fits (name_but a b) (kinds.Keyword w)) (keyword_same v x e) ∙ f
+meets_at_word any_name (the_word w) x e f = ap (λ v. not (is_reserved v)) (keyword_same w x f) ∙ e
+meets_at_word any_name any_name x e f = refl
+meets_at_word any_name (name_but a b) x e f = refl
+meets_at_word (name_but a b) (the_word w) x e f = ap (λ v. fits (name_but a b) (kinds.Keyword v)) (keyword_same w x f) ∙ e
+meets_at_word (name_but a b) any_name x e f = refl
+meets_at_word (name_but a b) (name_but y z) x e f = refl
+meets_at_word _ _ x e f = cc
 
-meet_word_name : (v : Keyword) (k : Kind) → is_word v k ≡ true → is_name k ≡ true → not (is_reserved v) ≡ true
-meet_word_name v (kinds.Keyword x) first second = ap (λ w. not (is_reserved w)) (keyword_same v x first) ∙ second
-meet_word_name v kinds.Name first second = cc
-meet_word_name v kinds.Number first second = cc
-meet_word_name v kinds.Text first second = cc
-meet_word_name v kinds.SysVar first second = cc
-meet_word_name v (kinds.Sign s) first second = cc
-meet_word_name v kinds.End first second = cc
+meets_at_sign : (c d : Class) (x : Sign) → fits c (kinds.Sign x) ≡ true → fits d (kinds.Sign x) ≡ true → meets c d ≡ true
+meets_at_sign (the_sign v) (the_sign w) x e f =
+    eq-eqb (sign_number v) (sign_number w) (eqb-true (sign_number v) (sign_number x) e ∙ sym (eqb-true (sign_number w) (sign_number x) f))
+meets_at_sign (the_sign v) a_comparison x e f = ap is_comparison (sign_same v x e) ∙ f
+meets_at_sign a_comparison (the_sign w) x e f = ap is_comparison (sign_same w x f) ∙ e
+meets_at_sign a_comparison a_comparison x e f = refl
+meets_at_sign _ _ x e f = cc
 
-word_first : (v : Keyword) (k : Kind) → is_word v k ≡ true → kind_number k ≡ 0
-word_first v (kinds.Keyword x) e = refl
-word_first v kinds.Name e = cc
-word_first v kinds.Number e = cc
-word_first v kinds.Text e = cc
-word_first v kinds.SysVar e = cc
-word_first v (kinds.Sign s) e = cc
-word_first v kinds.End e = cc
+meets_at_name : (c d : Class) → fits c kinds.Name ≡ true → fits d kinds.Name ≡ true → meets c d ≡ true
+meets_at_name any_name any_name e f = refl
+meets_at_name any_name (name_but a b) e f = refl
+meets_at_name (name_but a b) any_name e f = refl
+meets_at_name (name_but a b) (name_but y z) e f = refl
+meets_at_name _ _ e f = cc
 
-name_low : (k : Kind) → is_name k ≡ true → kind_number k < 2
-name_low (kinds.Keyword x) e = omega arith
-name_low kinds.Name e = omega arith
-name_low kinds.Number e = cc
-name_low kinds.Text e = cc
-name_low kinds.SysVar e = cc
-name_low (kinds.Sign s) e = cc
-name_low kinds.End e = cc
+meets_at_number : (c d : Class) → fits c kinds.Number ≡ true → fits d kinds.Number ≡ true → meets c d ≡ true
+meets_at_number a_number a_number e f = refl
+meets_at_number _ _ e f = cc
 
-sign_fifth : (v : Sign) (k : Kind) → is_sign v k ≡ true → kind_number k ≡ 5
-sign_fifth v (kinds.Keyword x) e = cc
-sign_fifth v kinds.Name e = cc
-sign_fifth v kinds.Number e = cc
-sign_fifth v kinds.Text e = cc
-sign_fifth v kinds.SysVar e = cc
-sign_fifth v (kinds.Sign s) e = refl
-sign_fifth v kinds.End e = cc
+meets_at_text : (c d : Class) → fits c kinds.Text ≡ true → fits d kinds.Text ≡ true → meets c d ≡ true
+meets_at_text a_text a_text e f = refl
+meets_at_text _ _ e f = cc
 
-meet_signs : (v w : Sign) (k : Kind) → is_sign v k ≡ true → is_sign w k ≡ true → same_sign v w ≡ true
-meet_signs v w (kinds.Keyword x) first second = cc
-meet_signs v w kinds.Name first second = cc
-meet_signs v w kinds.Number first second = cc
-meet_signs v w kinds.Text first second = cc
-meet_signs v w kinds.SysVar first second = cc
-meet_signs v w (kinds.Sign x) first second =
-    eq-eqb (sign_number v) (sign_number w) (eqb-true (sign_number v) (sign_number x) first ∙ sym (eqb-true (sign_number w) (sign_number x) second))
-meet_signs v w kinds.End first second = cc
+meets_at_variable : (c d : Class) → fits c kinds.SysVar ≡ true → fits d kinds.SysVar ≡ true → meets c d ≡ true
+meets_at_variable a_sysvar a_sysvar e f = refl
+meets_at_variable _ _ e f = cc
 
-but_name : (v w : Keyword) (k : Kind) → fits (name_but v w) k ≡ true → is_name k ≡ true
-but_name v w k e = and_first (is_name k) (not (is_word v k)) (and_first (is_name k && not (is_word v k)) (not (is_word w k)) e)
-
--- no token of one is a token of the other
-no_number : (k : Kind) (m n : ℕ) → kind_number k ≡ m → (kind_number k == n) ≡ true → (m == n) ≡ false → ⊥
-no_number k m n is e differ = clash (m == n) (eq-eqb m n (sym is ∙ eqb-true (kind_number k) n e)) differ
-
-no_low : (k : Kind) (n : ℕ) → kind_number k < 2 → (kind_number k == n) ≡ true → 1 < n → ⊥
-no_low k n low e high = let is : kind_number k ≡ n = eqb-true (kind_number k) n e in omega arith
-
-meets_words : (v : Keyword) (d : Class) (k : Kind) → is_word v k ≡ true → fits d k ≡ true → meets_word v d ≡ true
-meets_words v (the_word w) k e f = meet_words v w k e f
-meets_words v any_name k e f = meet_word_name v k e f
-meets_words v (name_but a b) k e f = meet_word_name v k e (but_name a b k f)
-meets_words v a_number k e f = absurd (no_number k 0 2 (word_first v k e) f refl)
-meets_words v a_text k e f = absurd (no_number k 0 3 (word_first v k e) f refl)
-meets_words v a_sysvar k e f = absurd (no_number k 0 4 (word_first v k e) f refl)
-meets_words v (the_sign s) k e f = absurd (no_number k 0 5 (word_first v k e) (eq-eqb (kind_number k) 5 (sign_fifth s k f)) refl)
-meets_words v the_end k e f = absurd (no_number k 0 6 (word_first v k e) f refl)
-
-meets_names : (d : Class) (k : Kind) → is_name k ≡ true → fits d k ≡ true → meets_name d ≡ true
-meets_names (the_word w) k e f = meet_word_name w k f e
-meets_names any_name k e f = refl
-meets_names (name_but a b) k e f = refl
-meets_names a_number k e f = absurd (no_low k 2 (name_low k e) f (omega arith))
-meets_names a_text k e f = absurd (no_low k 3 (name_low k e) f (omega arith))
-meets_names a_sysvar k e f = absurd (no_low k 4 (name_low k e) f (omega arith))
-meets_names (the_sign s) k e f = absurd (no_low k 5 (name_low k e) (eq-eqb (kind_number k) 5 (sign_fifth s k f)) (omega arith))
-meets_names the_end k e f = absurd (no_low k 6 (name_low k e) f (omega arith))
-
-meets_signs : (v : Sign) (d : Class) (k : Kind) → is_sign v k ≡ true → fits d k ≡ true → meets_sign v d ≡ true
-meets_signs v (the_word w) k e f = absurd (no_number k 5 0 (sign_fifth v k e) (eq-eqb (kind_number k) 0 (word_first w k f)) refl)
-meets_signs v any_name k e f = absurd (no_low k 5 (name_low k f) (eq-eqb (kind_number k) 5 (sign_fifth v k e)) (omega arith))
-meets_signs v (name_but a b) k e f = absurd (no_low k 5 (name_low k (but_name a b k f)) (eq-eqb (kind_number k) 5 (sign_fifth v k e)) (omega arith))
-meets_signs v a_number k e f = absurd (no_number k 5 2 (sign_fifth v k e) f refl)
-meets_signs v a_text k e f = absurd (no_number k 5 3 (sign_fifth v k e) f refl)
-meets_signs v a_sysvar k e f = absurd (no_number k 5 4 (sign_fifth v k e) f refl)
-meets_signs v (the_sign s) k e f = meet_signs v s k e f
-meets_signs v the_end k e f = absurd (no_number k 5 6 (sign_fifth v k e) f refl)
+meets_at_end : (c d : Class) → fits c kinds.End ≡ true → fits d kinds.End ≡ true → meets c d ≡ true
+meets_at_end the_end the_end e f = refl
+meets_at_end _ _ e f = cc
 
 meets_all : (c d : Class) (k : Kind) → fits c k ≡ true → fits d k ≡ true → meets c d ≡ true
-meets_all (the_word v) d k e f = meets_words v d k e f
-meets_all any_name d k e f = meets_names d k e f
-meets_all (name_but a b) d k e f = meets_names d k (but_name a b k e) f
-meets_all a_number d k e f = refl
-meets_all a_text d k e f = refl
-meets_all a_sysvar d k e f = refl
-meets_all (the_sign s) d k e f = meets_signs s d k e f
-meets_all the_end d k e f = refl
+meets_all c d (kinds.Keyword x) e f = meets_at_word c d x e f
+meets_all c d kinds.Name e f = meets_at_name c d e f
+meets_all c d kinds.Number e f = meets_at_number c d e f
+meets_all c d kinds.Text e f = meets_at_text c d e f
+meets_all c d kinds.SysVar e f = meets_at_variable c d e f
+meets_all c d (kinds.Sign x) e f = meets_at_sign c d x e f
+meets_all c d kinds.End e f = meets_at_end c d e f
 
 meets_one : (cs : List Class) (d : Class) (k : Kind) → fits_some cs k ≡ true → fits d k ≡ true → meets_some cs d ≡ true
 meets_one [] d k e f = cc

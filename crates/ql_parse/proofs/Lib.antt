@@ -1,4 +1,5 @@
 pub mod KeywordNumbers
+pub mod SignNumbers
 pub mod KeywordEquality
 pub mod Laws
 pub mod Samples

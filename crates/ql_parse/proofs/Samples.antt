@@ -14,7 +14,7 @@ use Rattle.ql_parse.specs.declared.kind.Kind.TheVariants as kinds
 use Rattle.ql_parse.specs.Keywords.{keyword_named}
 use Rattle.ql_lex.specs.Tokens.{Lexeme}
 use Rattle.ql_parse.specs.Tokens.{kind, kind_by}
-use Rattle.ql_parse.specs.Classes.{Class, the_word, any_name, name_but, a_number, a_text, a_sysvar, the_sign, the_end, fits, is_word, is_sign}
+use Rattle.ql_parse.specs.Classes.{Class, the_word, any_name, name_but, a_number, a_text, a_sysvar, the_sign, a_comparison, the_end, fits, is_word, is_sign}
 use Rattle.ql_parse.specs.Language.{Re, empty, one, seq, alt, many, Repeats, none, more, In}
 use Rattle.ql_parse.proofs.KeywordNumbers.{same_to_itself}
 
@@ -106,6 +106,7 @@ some_token a_number = (token forms.Number (codes "0"), refl)
 some_token a_text = (token forms.Text (codes "''"), refl)
 some_token a_sysvar = (token forms.SysVar (codes "@@a"), refl)
 some_token (the_sign s) = some_sign s
+some_token a_comparison = (token forms.Sign (codes "="), refl)
 some_token the_end = (token forms.End [], refl)
 
 pub some_text : (r : Re) → (u : List Lexeme) × In r u

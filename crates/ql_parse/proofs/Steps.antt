@@ -14,39 +14,16 @@ use Rattle.ql_parse.specs.declared.kind.Kind.TheVariants as kinds
 use Rattle.ql_parse.specs.Keywords.{same_keyword}
 use Rattle.ql_lex.specs.Tokens.{Lexeme}
 use Rattle.ql_parse.specs.Tokens.{kind, first_kind, first_place}
-use Rattle.ql_parse.specs.Classes.{Class, the_word, any_name, name_but, a_number, a_text, a_sysvar, the_sign, the_end, fits, same_sign, sign_number}
+use Rattle.ql_parse.specs.Classes.{Class, the_word, any_name, name_but, a_number, a_text, a_sysvar, the_sign, a_comparison, the_end, fits, same_sign, sign_number}
 use Rattle.ql_parse.specs.Language.{Re, empty, one, seq, alt, many, Repeats, none, more, In, nullable, chain, either, joined, after, verdict, next}
 use Rattle.ql_parse.specs.Grammar.{optional, listed, repeated}
 use Rattle.ql_parse.specs.Parts.{◌then◌, IsWord, IsSign, AreListed}
 use Rattle.ql_parse.specs.Progress.{fits_some, meets, meets_some, apart, begins, same_class, is_in, all_in, may_follow, misses, begun, excludes, Takes, Fails, Reads, IsNext, IsNextOf, TakesIf, TakesListed}
 use Rattle.ql_parse.proofs.Apart.{and_first, and_second, or_first, or_second, apart_no, begins_no, not_meeting}
 use Rattle.ql_parse.proofs.KeywordNumbers.{keyword_same}
+use Rattle.ql_parse.proofs.SignNumbers.{sign_same}
 use Rattle.ql_parse.proofs.Laws.{nullable_has, has_nullable}
 use Rattle.ql_parse.proofs.Verdicts.{Within, verdict_same, verdict_begun}
-
-abbrev sign_values : List Sign
-sign_values = signs.OpenParen ∷ signs.CloseParen ∷ signs.Comma ∷ signs.Semicolon ∷ signs.Star ∷ signs.Minus ∷ signs.Equal ∷ signs.NotEqual ∷ signs.Less ∷ signs.Greater ∷ signs.LessOrEqual ∷ signs.GreaterOrEqual ∷ []
-
-sign_numbered : (s : Sign) → slice_get sign_values (sign_number s) ≡ Some s
-sign_numbered signs.OpenParen = refl
-sign_numbered signs.CloseParen = refl
-sign_numbered signs.Comma = refl
-sign_numbered signs.Semicolon = refl
-sign_numbered signs.Star = refl
-sign_numbered signs.Minus = refl
-sign_numbered signs.Equal = refl
-sign_numbered signs.NotEqual = refl
-sign_numbered signs.Less = refl
-sign_numbered signs.Greater = refl
-sign_numbered signs.LessOrEqual = refl
-sign_numbered signs.GreaterOrEqual = refl
-
-some_same : (v w : Sign) → Some v ≡ Some w → v ≡ w
-some_same v w e = cc
-
-sign_same : (v w : Sign) → same_sign v w ≡ true → v ≡ w
-sign_same v w e =
-    some_same v w (sym (sign_numbered v) ∙ ap (λ n. slice_get sign_values n) (eqb-true (sign_number v) (sign_number w) e) ∙ sign_numbered w)
 
 class_same : (c d : Class) → same_class c d ≡ true → c ≡ d
 class_same (the_word v) (the_word w) e = ap the_word (keyword_same v w e)
@@ -54,6 +31,7 @@ class_same any_name any_name e = refl
 class_same a_number a_number e = refl
 class_same a_text a_text e = refl
 class_same a_sysvar a_sysvar e = refl
+class_same a_comparison a_comparison e = refl
 class_same (the_sign v) (the_sign w) e = ap the_sign (sign_same v w e)
 class_same _ _ e = cc
 
@@ -561,5 +539,3 @@ fails_there {r} {cs} {before} {there} {e} same h = subst (λ u. Fails r cs u e) 
 pub now_there : {r : Re} {cs : List Class} {P : List Lexeme → Type 0} {before there now : List Lexeme} → now ≡ there → Takes r cs P before there → Takes r cs P before now
 now_there {r} {cs} {P} {before} {there} {now} same h = subst (λ u. Takes r cs P before u) (sym same) h
 
-pub sign_to_itself : (s : Sign) → same_sign s s ≡ true
-sign_to_itself s = eq-eqb (sign_number s) (sign_number s) refl

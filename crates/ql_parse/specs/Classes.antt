@@ -36,6 +36,8 @@ pub data Class : Type 0 where
   a_sysvar : Class
   -- this sign
   the_sign : Sign → Class
+  -- = != < > <= >=
+  a_comparison : Class
   -- the end of the text
   the_end : Class
 
@@ -66,6 +68,29 @@ is_sign v kinds.SysVar = false
 is_sign v (kinds.Sign s) = same_sign v s
 is_sign v kinds.End = false
 
+abbrev pub is_comparison : Sign → Bool
+is_comparison signs.Equal = true
+is_comparison signs.NotEqual = true
+is_comparison signs.Less = true
+is_comparison signs.Greater = true
+is_comparison signs.LessOrEqual = true
+is_comparison signs.GreaterOrEqual = true
+is_comparison signs.OpenParen = false
+is_comparison signs.CloseParen = false
+is_comparison signs.Comma = false
+is_comparison signs.Semicolon = false
+is_comparison signs.Star = false
+is_comparison signs.Minus = false
+
+abbrev pub compares : Kind → Bool
+compares (kinds.Keyword w) = false
+compares kinds.Name = false
+compares kinds.Number = false
+compares kinds.Text = false
+compares kinds.SysVar = false
+compares (kinds.Sign s) = is_comparison s
+compares kinds.End = false
+
 -- the order of the kinds that have no part
 abbrev pub kind_number : Kind → ℕ
 kind_number (kinds.Keyword w) = 0
@@ -85,4 +110,5 @@ fits a_number k = kind_number k == 2
 fits a_text k = kind_number k == 3
 fits a_sysvar k = kind_number k == 4
 fits (the_sign s) k = is_sign s k
+fits a_comparison k = compares k
 fits the_end k = kind_number k == 6

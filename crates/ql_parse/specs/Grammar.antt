@@ -4,7 +4,7 @@ use Rattle.ql_lex.specs.declared.token.Sign.{Sign}
 use Rattle.ql_lex.specs.declared.token.Sign.TheVariants as signs
 use Rattle.ql_parse.specs.declared.keyword.Keyword.{Keyword}
 use Rattle.ql_parse.specs.declared.keyword.Keyword.TheVariants as keywords
-use Rattle.ql_parse.specs.Classes.{Class, the_word, any_name, name_but, a_number, a_text, a_sysvar, the_sign, the_end}
+use Rattle.ql_parse.specs.Classes.{Class, the_word, any_name, name_but, a_number, a_text, a_sysvar, the_sign, a_comparison, the_end}
 use Rattle.ql_parse.specs.Language.{Re, empty, one, seq, alt, many}
 
 -- one behind the other
@@ -64,23 +64,25 @@ parens = sign signs.OpenParen ⨾ sign signs.CloseParen
 
 -- [-] n
 abbrev pub whole : Re
-whole = number ∣ sign signs.Minus ⨾ number
+whole = sign signs.Minus ⨾ number ∣ number
 
 -- num | text
 abbrev pub val : Re
-val = whole ∣ text
+val = text ∣ whole
 
--- name | COUNT(*) | COUNT(DISTINCT name) | MIN(name) | MAX(name) | SUM(name) | WEIGHT() | GROUPBY()
-abbrev pub expr : Re
-expr =
-    name
-    ∣ word keywords.Count ⨾ enclosed (sign signs.Star)
-    ∣ word keywords.Count ⨾ enclosed (word keywords.Distinct ⨾ name)
+-- COUNT(*) | COUNT(DISTINCT name) | MIN(name) | MAX(name) | SUM(name) | WEIGHT() | GROUPBY()
+abbrev pub call : Re
+call =
+    word keywords.Count ⨾ enclosed (sign signs.Star ∣ word keywords.Distinct ⨾ name)
     ∣ word keywords.Min ⨾ enclosed name
     ∣ word keywords.Max ⨾ enclosed name
     ∣ word keywords.Sum ⨾ enclosed name
     ∣ word keywords.Weight ⨾ parens
     ∣ word keywords.GroupBy ⨾ parens
+
+-- name | call
+abbrev pub expr : Re
+expr = name ∣ call
 
 -- [AS] name
 abbrev pub alias : Re
@@ -92,15 +94,23 @@ item = sign signs.Star ∣ expr ⨾ optional alias
 
 -- = != <> < > <= >=
 abbrev pub comparison : Re
-comparison = sign signs.Equal ∣ sign signs.NotEqual ∣ sign signs.Less ∣ sign signs.Greater ∣ sign signs.LessOrEqual ∣ sign signs.GreaterOrEqual
+comparison = one a_comparison
 
--- MATCH(text) | name op num | name [NOT] IN (num, ..) | name BETWEEN num AND num
+-- (num, ..)
+abbrev pub wholes : Re
+wholes = enclosed (listed comma whole)
+
+-- op num | [NOT] IN (num, ..) | BETWEEN num AND num
+abbrev pub test : Re
+test =
+    word keywords.Between ⨾ whole ⨾ word keywords.And ⨾ whole
+    ∣ word keywords.Not ⨾ word keywords.In ⨾ wholes
+    ∣ word keywords.In ⨾ wholes
+    ∣ comparison ⨾ whole
+
+-- MATCH(text) | name test
 abbrev pub cond : Re
-cond =
-    word keywords.Match ⨾ enclosed text
-    ∣ name ⨾ comparison ⨾ whole
-    ∣ name ⨾ optional (word keywords.Not) ⨾ word keywords.In ⨾ enclosed (listed comma whole)
-    ∣ name ⨾ word keywords.Between ⨾ whole ⨾ word keywords.And ⨾ whole
+cond = word keywords.Match ⨾ enclosed text ∣ name ⨾ test
 
 abbrev pub weight : Re
 weight = word keywords.Weight ⨾ parens
@@ -172,16 +182,20 @@ options = optional (word keywords.Option ⨾ listed comma option)
 abbrev pub select_parts : Re
 select_parts = conds ⨾ group ⨾ within ⨾ having_part ⨾ order ⨾ optional limit ⨾ options ⨾ many facet
 
+-- item (, item)* FROM name ..
 abbrev pub select : Re
-select = word keywords.Select ⨾ listed comma item ⨾ word keywords.From ⨾ name ⨾ select_parts
+select = listed comma item ⨾ word keywords.From ⨾ name ⨾ select_parts
 
--- SELECT sysvar [LIMIT n]
+-- sysvar [LIMIT n]
 abbrev pub select_variable : Re
-select_variable = word keywords.Select ⨾ sysvar ⨾ optional (word keywords.Limit ⨾ number)
+select_variable = sysvar ⨾ optional (word keywords.Limit ⨾ number)
 
--- SELECT DATABASE ( )
+-- DATABASE ( )
 abbrev pub select_database : Re
-select_database = words keywords.Select keywords.Database ⨾ parens
+select_database = word keywords.Database ⨾ parens
+
+abbrev pub selects : Re
+selects = word keywords.Select ⨾ (select_variable ∣ select ∣ select_database)
 
 -- ( val, .. )
 abbrev pub row : Re
@@ -190,7 +204,7 @@ row = enclosed (listed comma val)
 -- (INSERT | REPLACE) INTO name [( name, .. )] VALUES ( val, .. ) (, ( val, .. ))*
 abbrev pub insert : Re
 insert =
-    (word keywords.Insert ∣ word keywords.Replace) ⨾ word keywords.Into ⨾ name
+    (word keywords.Replace ∣ word keywords.Insert) ⨾ word keywords.Into ⨾ name
     ⨾ optional (enclosed (listed comma name)) ⨾ word keywords.Values ⨾ listed comma row
 
 -- = n | IN (n, ..)
@@ -201,53 +215,55 @@ ids = sign signs.Equal ⨾ number ∣ word keywords.In ⨾ enclosed (listed comm
 abbrev pub delete : Re
 delete = words keywords.Delete keywords.From ⨾ name ⨾ words keywords.Where keywords.Id ⨾ ids
 
--- SET AUTOCOMMIT = n
-abbrev pub set_autocommit : Re
-set_autocommit = words keywords.Set keywords.Autocommit ⨾ sign signs.Equal ⨾ number
-
--- SET NAMES (name | text)
-abbrev pub set_names : Re
-set_names = words keywords.Set keywords.Names ⨾ (name ∣ text)
-
--- [GLOBAL | SESSION]
-abbrev pub scope : Re
-scope = optional (word keywords.Global ∣ word keywords.Session)
+-- name | text
+abbrev pub plain : Re
+plain = text ∣ name
 
 -- name | num | text | NULL
 abbrev pub setting : Re
-setting = name ∣ whole ∣ text ∣ word keywords.Null
+setting = word keywords.Null ∣ text ∣ name ∣ whole
 
--- SET [GLOBAL | SESSION] (name | sysvar) = (name | num | text | NULL)
-abbrev pub set_other : Re
-set_other = word keywords.Set ⨾ scope ⨾ (one (name_but keywords.Autocommit keywords.Names) ∣ sysvar) ⨾ sign signs.Equal ⨾ setting
+-- (name | sysvar) = (name | num | text | NULL)
+abbrev pub assignment : Re
+assignment = (sysvar ∣ one (name_but keywords.Autocommit keywords.Names)) ⨾ sign signs.Equal ⨾ setting
+
+-- AUTOCOMMIT = n | NAMES (name | text) | [GLOBAL | SESSION] assignment
+abbrev pub set : Re
+set =
+    word keywords.Set ⨾ (
+        word keywords.Autocommit ⨾ sign signs.Equal ⨾ number
+        ∣ word keywords.Names ⨾ plain
+        ∣ assignment
+        ∣ (word keywords.Global ∣ word keywords.Session) ⨾ assignment)
 
 abbrev pub flush : Re
-flush = words keywords.Flush keywords.RamChunk ⨾ name ∣ words keywords.Flush keywords.RtIndex ⨾ name
+flush = word keywords.Flush ⨾ (word keywords.RamChunk ⨾ name ∣ word keywords.RtIndex ⨾ name)
 
 abbrev pub show : Re
 show =
-    words keywords.Show keywords.Index ⨾ name ⨾ word keywords.Status
-    ∣ words keywords.Show keywords.Meta
-    ∣ words keywords.Show keywords.Tables
-    ∣ words keywords.Show keywords.Warnings
-    ∣ words keywords.Show keywords.Variables
-    ∣ words keywords.Show keywords.Databases
+    word keywords.Show ⨾ (
+        word keywords.Index ⨾ name ⨾ word keywords.Status
+        ∣ word keywords.Meta
+        ∣ word keywords.Tables
+        ∣ word keywords.Warnings
+        ∣ word keywords.Variables
+        ∣ word keywords.Databases)
 
 abbrev pub statement : Re
 statement =
-    select ∣ select_variable ∣ select_database
+    selects
     ∣ insert
     ∣ delete
+    ∣ set
+    ∣ show
+    ∣ flush
     ∣ word keywords.Begin
     ∣ words keywords.Start keywords.Transaction
     ∣ word keywords.Commit
     ∣ word keywords.Rollback
-    ∣ set_autocommit ∣ set_names ∣ set_other
-    ∣ flush
     ∣ words keywords.Optimize keywords.Index ⨾ name
     ∣ words keywords.Truncate keywords.RtIndex ⨾ name
     ∣ word keywords.Describe ⨾ name
-    ∣ show
 
 -- what may follow a statement, where so many more are allowed
 abbrev pub more_statements : ℕ → Re

@@ -5,12 +5,13 @@ use Rattle.srch_base.specs.declared.faults.Or.TheVariants.{NoMemory, Fault}
 use Rattle.ql_lex.specs.declared.token.Sign.{Sign}
 use Rattle.ql_parse.specs.declared.keyword.Keyword.{Keyword}
 use Rattle.ql_parse.specs.declared.kind.Kind.{Kind}
+use Rattle.ql_parse.specs.declared.kind.Kind.TheVariants as kinds
 use Rattle.ql_lex.specs.Tokens.{Lexeme}
 use Rattle.ql_parse.specs.Tokens.{kind, first_place}
-use Rattle.ql_parse.specs.Classes.{Class, fits, the_word, any_name, name_but, a_number, a_text, a_sysvar, the_sign, the_end, same_sign}
+use Rattle.ql_parse.specs.Classes.{Class, fits, the_word, any_name, name_but, a_number, a_text, a_sysvar, the_sign, a_comparison, the_end, same_sign, is_comparison}
 use Rattle.ql_parse.specs.Keywords.{is_reserved, same_keyword}
 use Rattle.ql_parse.specs.Grammar.{listed, repeated}
-use Rattle.ql_parse.specs.Parts.{AreListed}
+use Rattle.ql_parse.specs.Parts.{AreListed, AreInRow}
 use Rattle.ql_parse.specs.Language.{Re, empty, one, seq, alt, many, In, nullable, verdict}
 
 -- a token of this kind is of one of the classes
@@ -19,45 +20,25 @@ fits_some [] k = false
 fits_some (c ∷ cs) k = fits c k || fits_some cs k
 
 -- some token may be of both classes
-abbrev pub meets_word : Keyword → Class → Bool
-meets_word v (the_word w) = same_keyword v w
-meets_word v any_name = not (is_reserved v)
-meets_word v (name_but a b) = not (is_reserved v)
-meets_word v a_number = false
-meets_word v a_text = false
-meets_word v a_sysvar = false
-meets_word v (the_sign s) = false
-meets_word v the_end = false
-
-abbrev pub meets_name : Class → Bool
-meets_name (the_word w) = not (is_reserved w)
-meets_name any_name = true
-meets_name (name_but a b) = true
-meets_name a_number = false
-meets_name a_text = false
-meets_name a_sysvar = false
-meets_name (the_sign s) = false
-meets_name the_end = false
-
-abbrev pub meets_sign : Sign → Class → Bool
-meets_sign v (the_word w) = false
-meets_sign v any_name = false
-meets_sign v (name_but a b) = false
-meets_sign v a_number = false
-meets_sign v a_text = false
-meets_sign v a_sysvar = false
-meets_sign v (the_sign s) = same_sign v s
-meets_sign v the_end = false
-
 abbrev pub meets : Class → Class → Bool
-meets (the_word v) d = meets_word v d
-meets any_name d = meets_name d
-meets (name_but a b) d = meets_name d
-meets a_number d = true
-meets a_text d = true
-meets a_sysvar d = true
-meets (the_sign s) d = meets_sign s d
-meets the_end d = true
+meets (the_word v) (the_word w) = same_keyword v w
+meets (the_word v) any_name = not (is_reserved v)
+meets (the_word v) (name_but a b) = fits (name_but a b) (kinds.Keyword v)
+meets any_name (the_word w) = not (is_reserved w)
+meets any_name any_name = true
+meets any_name (name_but a b) = true
+meets (name_but a b) (the_word w) = fits (name_but a b) (kinds.Keyword w)
+meets (name_but a b) any_name = true
+meets (name_but a b) (name_but c d) = true
+meets a_number a_number = true
+meets a_text a_text = true
+meets a_sysvar a_sysvar = true
+meets (the_sign v) (the_sign w) = same_sign v w
+meets (the_sign v) a_comparison = is_comparison v
+meets a_comparison (the_sign w) = is_comparison w
+meets a_comparison a_comparison = true
+meets the_end the_end = true
+meets _ _ = false
 
 abbrev pub meets_some : List Class → Class → Bool
 meets_some [] d = false
@@ -85,6 +66,7 @@ same_class any_name any_name = true
 same_class a_number a_number = true
 same_class a_text a_text = true
 same_class a_sysvar a_sysvar = true
+same_class a_comparison a_comparison = true
 same_class (the_sign v) (the_sign w) = same_sign v w
 same_class _ _ = false
 
@@ -164,3 +146,16 @@ pub record TakesListed {A : Type 0} (c : Class) (Between : List Lexeme → Type 
   pub used : List Lexeme
   pub is : before ≡ used ++ now
   pub has : AreListed Between Is items used
+
+-- the kind of the token behind the next one
+abbrev pub second_kind : List Lexeme → Kind
+second_kind [] = kinds.End
+second_kind (t ∷ []) = kinds.End
+second_kind (t ∷ u ∷ ts) = kind u
+
+-- Of parts in a row, each of which begins with a token of the class, these have been read, and others may follow.
+pub record TakesRow {A : Type 0} (r : Re) (goes_on : List Class) (Is : A → List Lexeme → Type 0) (before : List Lexeme) (items : List A) (now : List Lexeme) : Type 0 where
+  pub takes : (rest : Re) → apart goes_on rest ≡ true → verdict (seq (many r) rest) before ≡ verdict (seq (many r) rest) now
+  pub used : List Lexeme
+  pub is : before ≡ used ++ now
+  pub has : AreInRow Is items used

@@ -1,5 +1,6 @@
 -- The tokens of a SELECT from an index.
 use Rattle.std.specs.Prelude.{◌≡◌, ℕ, Bool, true, false, List, [], ◌⊎◌, Option, Some, None}
+use Rattle.ql_lex.specs.declared.token.Sign.{Sign}
 use Rattle.ql_lex.specs.declared.token.Sign.TheVariants as signs
 use Rattle.ql_lex.specs.Tokens.{Lexeme}
 use Rattle.ql_parse.specs.declared.keyword.Keyword.TheVariants as keywords
@@ -44,13 +45,16 @@ IsItem items.All = IsSign signs.Star
 IsItem (items.One expr alias) = IsExpr expr then IsGiven IsAlias alias
 
 -- = != <> < > <= >=
+abbrev pub comparison_sign : Comparison → Sign
+comparison_sign comparisons.Equal = signs.Equal
+comparison_sign comparisons.NotEqual = signs.NotEqual
+comparison_sign comparisons.Less = signs.Less
+comparison_sign comparisons.Greater = signs.Greater
+comparison_sign comparisons.AtMost = signs.LessOrEqual
+comparison_sign comparisons.AtLeast = signs.GreaterOrEqual
+
 abbrev pub IsComparison : Comparison → List Lexeme → Type 0
-IsComparison comparisons.Equal = IsSign signs.Equal
-IsComparison comparisons.NotEqual = IsSign signs.NotEqual
-IsComparison comparisons.Less = IsSign signs.Less
-IsComparison comparisons.Greater = IsSign signs.Greater
-IsComparison comparisons.AtMost = IsSign signs.LessOrEqual
-IsComparison comparisons.AtLeast = IsSign signs.GreaterOrEqual
+IsComparison op = IsSign (comparison_sign op)
 
 -- [NOT]
 abbrev pub IsNegation : Bool → List Lexeme → Type 0

@@ -69,7 +69,7 @@ IsStatement (statements.Select select) = IsSelect select
 -- SELECT sysvar [LIMIT n]
 IsStatement (statements.SelectVar name limit) = IsWord keywords.Select then IsVariable name then IsGiven IsRowLimit limit
 -- SELECT DATABASE ( )
-IsStatement statements.SelectDatabase = AreWords keywords.Select keywords.Database then AreParens
+IsStatement statements.SelectDatabase = IsWord keywords.Select then IsWord keywords.Database then AreParens
 -- (INSERT | REPLACE) INTO name [( name, .. )] VALUES ( val, .. ) (, ( val, .. ))*
 IsStatement (statements.Insert replace index columns rows) =
     IsPut replace then IsWord keywords.Into then IsName index
@@ -83,18 +83,18 @@ IsStatement statements.StartTransaction = AreWords keywords.Start keywords.Trans
 IsStatement statements.Commit = IsWord keywords.Commit
 IsStatement statements.Rollback = IsWord keywords.Rollback
 -- SET AUTOCOMMIT = n
-IsStatement (statements.SetAutocommit n) = AreWords keywords.Set keywords.Autocommit then IsSign signs.Equal then IsNumber n
+IsStatement (statements.SetAutocommit n) = IsWord keywords.Set then IsWord keywords.Autocommit then IsSign signs.Equal then IsNumber n
 -- SET NAMES (name | text)
-IsStatement (statements.SetNames plain) = AreWords keywords.Set keywords.Names then IsPlain plain
+IsStatement (statements.SetNames plain) = IsWord keywords.Set then IsWord keywords.Names then IsPlain plain
 -- SET [GLOBAL | SESSION] (name | sysvar) = (name | num | text | NULL)
 IsStatement (statements.SetOther scope target value) =
     IsWord keywords.Set then IsScope scope then IsTarget target then IsSign signs.Equal then IsSetting value
-IsStatement (statements.FlushRamchunk name) = AreWords keywords.Flush keywords.RamChunk then IsName name
-IsStatement (statements.FlushRtindex name) = AreWords keywords.Flush keywords.RtIndex then IsName name
+IsStatement (statements.FlushRamchunk name) = IsWord keywords.Flush then IsWord keywords.RamChunk then IsName name
+IsStatement (statements.FlushRtindex name) = IsWord keywords.Flush then IsWord keywords.RtIndex then IsName name
 IsStatement (statements.OptimizeIndex name) = AreWords keywords.Optimize keywords.Index then IsName name
 IsStatement (statements.TruncateRtindex name) = AreWords keywords.Truncate keywords.RtIndex then IsName name
 IsStatement (statements.Describe name) = IsWord keywords.Describe then IsName name
-IsStatement (statements.ShowIndexStatus name) = AreWords keywords.Show keywords.Index then IsName name then IsWord keywords.Status
+IsStatement (statements.ShowIndexStatus name) = IsWord keywords.Show then IsWord keywords.Index then IsName name then IsWord keywords.Status
 IsStatement statements.ShowMeta = AreWords keywords.Show keywords.Meta
 IsStatement statements.ShowTables = AreWords keywords.Show keywords.Tables
 IsStatement statements.ShowWarnings = AreWords keywords.Show keywords.Warnings
