@@ -6,5 +6,6 @@ pub mod Samples
 pub mod Verdicts
 pub mod Apart
 pub mod Steps
+pub mod Lookahead
 pub mod Agreement
 pub mod Cursors

@@ -61,7 +61,7 @@ all_meets [] ds d e f = refl
 all_meets (c ∷ cs) ds d e f =
     both_false (meets c d) (meets_some cs d) (in_meets c ds d (and_first (is_in c ds) (all_in cs ds) e) f) (all_meets cs ds d (and_second (is_in c ds) (all_in cs ds) e) f)
 
-not_true : (b : Bool) → not b ≡ true → b ≡ false
+pub not_true : (b : Bool) → not b ≡ true → b ≡ false
 not_true true e = cc
 not_true false e = refl
 
@@ -131,7 +131,7 @@ fails_with {T} {r} {cs} Is {before} now {e} result err h =
 misses_both : (k : Kind) (r : Re) → misses k r ≡ true → (nullable r ≡ false) × (begins k r ≡ false)
 misses_both k r e = (not_true (nullable r) (and_first (not (nullable r)) (not (begins k r)) e), not_true (begins k r) (and_second (not (nullable r)) (not (begins k r)) e))
 
-clash : (b : Bool) → b ≡ true → b ≡ false → ⊥
+pub clash : (b : Bool) → b ≡ true → b ≡ false → ⊥
 clash true e f = cc
 clash false e f = cc
 
@@ -228,7 +228,7 @@ pub takes_nothing : {r : Re} {cs : List Class} {P : List Lexeme → Type 0} {bef
 takes_nothing {r} {cs} {P} {before} {k} n e h = record { takes = λ rest free. skipped_at r rest k before n e; used = []; is = refl; has = h }
 
 -- A part that may be repeated: once more where the next token begins it.
-more_at : (r k : Re) (cs : List Class) (kd : Kind) (before : List Lexeme) → IsNext kd before → fits_some cs kd ≡ true → apart cs k ≡ true → verdict (seq (many r) k) before ≡ verdict (seq r (seq (many r) k)) before
+pub more_at : (r k : Re) (cs : List Class) (kd : Kind) (before : List Lexeme) → IsNext kd before → fits_some cs kd ≡ true → apart cs k ≡ true → verdict (seq (many r) k) before ≡ verdict (seq r (seq (many r) k)) before
 unfolding In
 more_at r k cs kd before n f e =
     subst (λ u. verdict (seq (many r) k) u ≡ verdict (seq r (seq (many r) k)) u) (sym n.is) (verdict_begun n.next n.behind (seq (many r) k) (seq r (seq (many r) k)) (λ v h. there v h) back)
@@ -241,7 +241,7 @@ more_at r k cs kd before n f e =
     back : (v : List Lexeme) → In (seq r (seq (many r) k)) (n.next ∷ v) → In (seq (many r) k) (n.next ∷ v)
     back v (c, db, is, first, (d, b, e', rest, second)) = (c ++ d, b, is ∙ ap (λ w. c ++ w) e' ∙ sym (append_assoc c d b), more c d refl first rest, second)
 
-ended_at : (r k : Re) (kd : Kind) (before : List Lexeme) → IsNext kd before → begins kd r ≡ false → verdict (seq (many r) k) before ≡ verdict k before
+pub ended_at : (r k : Re) (kd : Kind) (before : List Lexeme) → IsNext kd before → begins kd r ≡ false → verdict (seq (many r) k) before ≡ verdict k before
 unfolding In
 ended_at r k kd before n e =
     subst (λ u. verdict (seq (many r) k) u ≡ verdict k u) (sym n.is) (verdict_begun n.next n.behind (seq (many r) k) k there back)
@@ -356,7 +356,7 @@ not_end {c} {before} n other end =
     let k : kind n.next.next ≡ kinds.End = ap first_kind (sym n.next.is) ∙ end in
     clash (fits c kinds.End) (ap (fits c) (sym k ∙ n.next.kind_is) ∙ n.fits) other
 
-or_left : (b c : Bool) → b ≡ true → (b || c) ≡ true
+pub or_left : (b c : Bool) → b ≡ true → (b || c) ≡ true
 or_left true c e = refl
 or_left false c e = cc
 
@@ -466,7 +466,7 @@ fits_in c (d ∷ cs) k e f = elim (or_cases (same_class c d) (is_in c cs) e) [
     or_right false c e = e
 
 -- what begins with a class alone misses every other token
-begun_misses : (c : Class) (r : Re) (k : Kind) → begun c r ≡ true → fits c k ≡ false → (nullable r ≡ false) × (begins k r ≡ false)
+pub begun_misses : (c : Class) (r : Re) (k : Kind) → begun c r ≡ true → fits c k ≡ false → (nullable r ≡ false) × (begins k r ≡ false)
 begun_misses c empty k e f = cc
 begun_misses c (one d) k e f = (refl, subst (λ (x : Class). fits x k ≡ false) (class_same c d e) f)
 begun_misses c (seq r s) k e f =
