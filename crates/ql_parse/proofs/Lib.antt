@@ -7,5 +7,7 @@ pub mod Verdicts
 pub mod Apart
 pub mod Steps
 pub mod Lookahead
+pub mod Choices
+pub mod SelectValues
 pub mod Agreement
 pub mod Cursors

@@ -10,7 +10,7 @@ use Rattle.ql_parse.specs.Tokens.{kind, first_kind}
 use Rattle.ql_parse.specs.Classes.{Class, fits}
 use Rattle.ql_parse.specs.Language.{Re, empty, one, seq, alt, many, Repeats, none, more, In, nullable, chain, either, joined, after, verdict, next}
 use Rattle.ql_parse.specs.Parts.{◌then◌, AreInRow}
-use Rattle.ql_parse.specs.Progress.{fits_some, apart, begins, is_in, all_in, may_follow, misses, begun, Takes, Fails, IsNext, IsNextOf, second_kind, TakesRow}
+use Rattle.ql_parse.specs.Progress.{fits_some, apart, begins, is_in, all_in, may_follow, misses, begun, Takes, Fails, IsNext, IsNextOf, AreNext, second_kind, TakesRow}
 use Rattle.ql_parse.proofs.Apart.{and_first, and_second, or_first, or_second, apart_no, begins_no}
 use Rattle.ql_parse.proofs.Laws.{InAny, after_from, after_to, nullable_has, has_nullable}
 use Rattle.ql_parse.proofs.Samples.{some_text}
@@ -163,13 +163,8 @@ drop_left r s k t us e never =
 second_is : (t u : Lexeme) (us y : List Lexeme) → us ≡ u ∷ y → second_kind (t ∷ us) ≡ kind u
 second_is t u us y e = ap (λ v. second_kind (t ∷ v)) e
 
--- The two kinds are next.
-pub record AreNext (k l : Kind) (tokens : List Lexeme) : Type 0 where
-  pub first : IsNext k tokens
-  pub second : second_kind tokens ≡ l
-
 -- By the second token the left part is dropped, ..
-right_by_two : (r s k : Re) (cs : List Class) (kd ld : Kind) (before : List Lexeme) → AreNext kd ld before → nullable r ≡ false → clear kd ld cs (after kd r) ≡ true → begins kd s ≡ true → apart cs k ≡ true → verdict (seq (alt r s) k) before ≡ verdict (seq s k) before
+pub right_by_two : (r s k : Re) (cs : List Class) (kd ld : Kind) (before : List Lexeme) → AreNext kd ld before → nullable r ≡ false → clear kd ld cs (after kd r) ≡ true → begins kd s ≡ true → apart cs k ≡ true → verdict (seq (alt r s) k) before ≡ verdict (seq s k) before
 right_by_two r s k cs kd ld before n filled e f free =
     let is = n.first.is in
     let kd_is = n.first.kind_is in
@@ -179,7 +174,7 @@ right_by_two r s k cs kd ld before n filled e f free =
         (λ u x y same. clear_no r k cs n.first.next u x filled (ap (λ d. clear d (kind u) cs (after d r)) kd_is ∙ ap (λ d. clear kd d cs (after kd r)) (sym (second_is n.first.next u n.first.behind y same) ∙ second) ∙ e) free))
 
 -- .. or the right one
-left_by_two : (r s k : Re) (cs : List Class) (kd ld : Kind) (before : List Lexeme) → AreNext kd ld before → nullable s ≡ false → clear kd ld cs (after kd s) ≡ true → begins kd r ≡ true → apart cs k ≡ true → verdict (seq (alt r s) k) before ≡ verdict (seq r k) before
+pub left_by_two : (r s k : Re) (cs : List Class) (kd ld : Kind) (before : List Lexeme) → AreNext kd ld before → nullable s ≡ false → clear kd ld cs (after kd s) ≡ true → begins kd r ≡ true → apart cs k ≡ true → verdict (seq (alt r s) k) before ≡ verdict (seq r k) before
 left_by_two r s k cs kd ld before n filled e f free =
     let is = n.first.is in
     let kd_is = n.first.kind_is in
@@ -189,7 +184,7 @@ left_by_two r s k cs kd ld before n filled e f free =
         (λ u x y same. clear_no s k cs n.first.next u x filled (ap (λ d. clear d (kind u) cs (after d s)) kd_is ∙ ap (λ d. clear kd d cs (after kd s)) (sym (second_is n.first.next u n.first.behind y same) ∙ second) ∙ e) free))
 
 -- By a second token of another class than the one with which the left part goes on alone it is dropped, ..
-right_by_other : (r s k : Re) (c : Class) (kd : Kind) (before : List Lexeme) → IsNext kd before → fits c (second_kind before) ≡ false → nullable r ≡ false → begun_after c (after kd r) ≡ true → begins kd s ≡ true → verdict (seq (alt r s) k) before ≡ verdict (seq s k) before
+pub right_by_other : (r s k : Re) (c : Class) (kd : Kind) (before : List Lexeme) → IsNext kd before → fits c (second_kind before) ≡ false → nullable r ≡ false → begun_after c (after kd r) ≡ true → begins kd s ≡ true → verdict (seq (alt r s) k) before ≡ verdict (seq s k) before
 right_by_other r s k c kd before n other filled e f =
     let is = n.is in
     let second : fits c (second_kind (n.next ∷ n.behind)) ≡ false = ap (λ u. fits c (second_kind u)) (sym is) ∙ other in
@@ -198,7 +193,7 @@ right_by_other r s k c kd before n other filled e f =
         (λ u x y same. begun_no r k c n.next u x filled (ap (λ d. begun_after c (after d r)) n.kind_is ∙ e) (ap (fits c) (sym (second_is n.next u n.behind y same)) ∙ second)))
 
 -- .. or the right one
-left_by_other : (r s k : Re) (c : Class) (kd : Kind) (before : List Lexeme) → IsNext kd before → fits c (second_kind before) ≡ false → nullable s ≡ false → begun_after c (after kd s) ≡ true → begins kd r ≡ true → verdict (seq (alt r s) k) before ≡ verdict (seq r k) before
+pub left_by_other : (r s k : Re) (c : Class) (kd : Kind) (before : List Lexeme) → IsNext kd before → fits c (second_kind before) ≡ false → nullable s ≡ false → begun_after c (after kd s) ≡ true → begins kd r ≡ true → verdict (seq (alt r s) k) before ≡ verdict (seq r k) before
 left_by_other r s k c kd before n other filled e f =
     let is = n.is in
     let second : fits c (second_kind (n.next ∷ n.behind)) ≡ false = ap (λ u. fits c (second_kind u)) (sym is) ∙ other in

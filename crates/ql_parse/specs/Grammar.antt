@@ -70,19 +70,28 @@ whole = sign signs.Minus ⨾ number ∣ number
 abbrev pub val : Re
 val = text ∣ whole
 
--- COUNT(*) | COUNT(DISTINCT name) | MIN(name) | MAX(name) | SUM(name) | WEIGHT() | GROUPBY()
-abbrev pub call : Re
-call =
-    word keywords.Count ⨾ enclosed (sign signs.Star ∣ word keywords.Distinct ⨾ name)
+-- * | DISTINCT name
+abbrev pub counted : Re
+counted = sign signs.Star ∣ word keywords.Distinct ⨾ name
+
+-- WEIGHT()
+abbrev pub weight : Re
+weight = word keywords.Weight ⨾ parens
+
+-- COUNT(*)
+abbrev pub count : Re
+count = word keywords.Count ⨾ enclosed (sign signs.Star)
+
+-- COUNT(*) | COUNT(DISTINCT name) | MIN(name) | MAX(name) | SUM(name) | WEIGHT() | GROUPBY() | name
+abbrev pub expr : Re
+expr =
+    word keywords.Count ⨾ enclosed counted
     ∣ word keywords.Min ⨾ enclosed name
     ∣ word keywords.Max ⨾ enclosed name
     ∣ word keywords.Sum ⨾ enclosed name
-    ∣ word keywords.Weight ⨾ parens
+    ∣ weight
     ∣ word keywords.GroupBy ⨾ parens
-
--- name | call
-abbrev pub expr : Re
-expr = name ∣ call
+    ∣ name
 
 -- [AS] name
 abbrev pub alias : Re
@@ -112,31 +121,25 @@ test =
 abbrev pub cond : Re
 cond = word keywords.Match ⨾ enclosed text ∣ name ⨾ test
 
-abbrev pub weight : Re
-weight = word keywords.Weight ⨾ parens
-
-abbrev pub count : Re
-count = word keywords.Count ⨾ enclosed (sign signs.Star)
-
 -- [ASC | DESC]
 abbrev pub direction : Re
 direction = optional (word keywords.Asc ∣ word keywords.Desc)
 
 -- (name | WEIGHT() | COUNT(*)) [ASC | DESC]
 abbrev pub key : Re
-key = (name ∣ weight ∣ count) ⨾ direction
+key = (weight ∣ count ∣ name) ⨾ direction
 
 -- (name | WEIGHT()) [ASC | DESC]
 abbrev pub inner_key : Re
-inner_key = (name ∣ weight) ⨾ direction
+inner_key = (weight ∣ name) ⨾ direction
 
 -- (name | COUNT(*)) [ASC | DESC]
 abbrev pub group_key : Re
-group_key = (name ∣ count) ⨾ direction
+group_key = (count ∣ name) ⨾ direction
 
 -- (name | COUNT(*)) op num
 abbrev pub having : Re
-having = (name ∣ count) ⨾ comparison ⨾ whole
+having = (count ∣ name) ⨾ comparison ⨾ whole
 
 -- LIMIT n [, n]
 abbrev pub limit : Re
@@ -195,7 +198,7 @@ abbrev pub select_database : Re
 select_database = word keywords.Database ⨾ parens
 
 abbrev pub selects : Re
-selects = word keywords.Select ⨾ (select_variable ∣ select ∣ select_database)
+selects = word keywords.Select ⨾ (select_variable ∣ select_database ∣ select)
 
 -- ( val, .. )
 abbrev pub row : Re
@@ -233,8 +236,9 @@ set =
     word keywords.Set ⨾ (
         word keywords.Autocommit ⨾ sign signs.Equal ⨾ number
         ∣ word keywords.Names ⨾ plain
-        ∣ assignment
-        ∣ (word keywords.Global ∣ word keywords.Session) ⨾ assignment)
+        ∣ word keywords.Global ⨾ assignment
+        ∣ word keywords.Session ⨾ assignment
+        ∣ assignment)
 
 abbrev pub flush : Re
 flush = word keywords.Flush ⨾ (word keywords.RamChunk ⨾ name ∣ word keywords.RtIndex ⨾ name)

@@ -153,6 +153,17 @@ second_kind [] = kinds.End
 second_kind (t ∷ []) = kinds.End
 second_kind (t ∷ u ∷ ts) = kind u
 
+-- The two kinds are next.
+pub record AreNext (k l : Kind) (tokens : List Lexeme) : Type 0 where
+  pub first : IsNext k tokens
+  pub second : second_kind tokens ≡ l
+
+-- Whether a keyword is next, and a sign behind it.
+pub data IsFollowed (w : Keyword) (s : Sign) (tokens : List Lexeme) : Bool → Type 0 where
+  followed : AreNext (kinds.Keyword w) (kinds.Sign s) tokens → IsFollowed w s tokens true
+  unlike : IsNextOf (the_word w) tokens false → IsFollowed w s tokens false
+  unfollowed : IsNext (kinds.Keyword w) tokens → fits (the_sign s) (second_kind tokens) ≡ false → IsFollowed w s tokens false
+
 -- Of parts in a row, each of which begins with a token of the class, these have been read, and others may follow.
 pub record TakesRow {A : Type 0} (r : Re) (goes_on : List Class) (Is : A → List Lexeme → Type 0) (before : List Lexeme) (items : List A) (now : List Lexeme) : Type 0 where
   pub takes : (rest : Re) → apart goes_on rest ≡ true → verdict (seq (many r) rest) before ≡ verdict (seq (many r) rest) now

@@ -4,6 +4,8 @@ use Rattle.ql_lex.specs.declared.token.Sign.{Sign}
 use Rattle.ql_lex.specs.declared.token.Sign.TheVariants as signs
 use Rattle.ql_lex.specs.Tokens.{Lexeme}
 use Rattle.ql_parse.specs.declared.keyword.Keyword.TheVariants as keywords
+use Rattle.ql_parse.specs.declared.kind.Kind.{Kind}
+use Rattle.ql_parse.specs.declared.kind.Kind.TheVariants as kinds
 use Rattle.ql_parse.specs.declared.select.Comparison.{Comparison}
 use Rattle.ql_parse.specs.declared.select.Comparison.TheVariants as comparisons
 use Rattle.ql_parse.specs.declared.select.Cond.{Cond}
@@ -34,6 +36,16 @@ IsExpr (exprs.Greatest name) = IsWord keywords.Max then IsEnclosed (IsName name)
 IsExpr (exprs.Sum name) = IsWord keywords.Sum then IsEnclosed (IsName name)
 IsExpr exprs.Weight = IsWord keywords.Weight then AreParens
 IsExpr exprs.GroupBy = IsWord keywords.GroupBy then AreParens
+
+-- * | DISTINCT name
+abbrev pub IsCounted : Option (List ℕ) → List Lexeme → Type 0
+IsCounted None = IsSign signs.Star
+IsCounted (Some name) = IsWord keywords.Distinct then IsName name
+
+-- the count of all, or of the distinct values of a column
+abbrev pub count_expr : Option (List ℕ) → SelectExpr
+count_expr None = exprs.CountAll
+count_expr (Some name) = exprs.CountDistinct name
 
 -- [AS] name
 abbrev pub IsAlias : List ℕ → List Lexeme → Type 0
@@ -67,6 +79,27 @@ IsCond (conds.Match text) = IsWord keywords.Match then IsEnclosed (IsText text)
 IsCond (conds.Compare name op value) = IsName name then IsComparison op then IsWhole value
 IsCond (conds.Among name values negated) = IsName name then IsNegation negated then IsWord keywords.In then IsEnclosed (AreListed IsComma IsWhole values)
 IsCond (conds.Between name low high) = IsName name then IsWord keywords.Between then IsWhole low then IsWord keywords.And then IsWhole high
+
+-- the comparison that a token of this kind is
+abbrev pub comparison_at : Kind → Option Comparison
+comparison_at (kinds.Sign signs.Equal) = Some comparisons.Equal
+comparison_at (kinds.Sign signs.NotEqual) = Some comparisons.NotEqual
+comparison_at (kinds.Sign signs.Less) = Some comparisons.Less
+comparison_at (kinds.Sign signs.Greater) = Some comparisons.Greater
+comparison_at (kinds.Sign signs.LessOrEqual) = Some comparisons.AtMost
+comparison_at (kinds.Sign signs.GreaterOrEqual) = Some comparisons.AtLeast
+comparison_at _ = None
+
+-- what is asked of this column: op num | [NOT] IN (num, ..) | BETWEEN num AND num
+abbrev pub IsTest : List ℕ → Cond → List Lexeme → Type 0
+IsTest column (conds.Match text) u = ⊥
+IsTest column (conds.Compare name op value) u = (name ≡ column) × (IsComparison op then IsWhole value) u
+IsTest column (conds.Among name values negated) u = (name ≡ column) × (IsNegation negated then IsWord keywords.In then IsEnclosed (AreListed IsComma IsWhole values)) u
+IsTest column (conds.Between name low high) u = (name ≡ column) × (IsWord keywords.Between then IsWhole low then IsWord keywords.And then IsWhole high) u
+
+-- WHERE cond (AND cond)*
+abbrev pub AreConds : List Cond → List Lexeme → Type 0
+AreConds conds = IsWord keywords.Where then AreListed (IsWord keywords.And) IsCond conds
 
 -- WEIGHT()
 abbrev pub IsWeight : List Lexeme → Type 0
@@ -130,12 +163,36 @@ IsOptionValue (values.List pairs) = IsEnclosed (AreListed IsComma IsFieldWeight 
 abbrev pub IsOption : SelectOption → List Lexeme → Type 0
 IsOption option = IsName option.name then IsSign signs.Equal then IsOptionValue option.value
 
+-- ORDER BY (name | COUNT(*)) [ASC | DESC]
+abbrev pub IsFacetOrder : SortKey → List Lexeme → Type 0
+IsFacetOrder key = AreWords keywords.Order keywords.By then IsKeyBy IsGroupSort key
+
 -- FACET name [ORDER BY key] [LIMIT n [, n]]
 abbrev pub IsFacet : FacetPart → List Lexeme → Type 0
 IsFacet facet =
     IsWord keywords.Facet then IsName facet.column
-    then IsGiven (λ key. AreWords keywords.Order keywords.By then IsKeyBy IsGroupSort key) facet.order
+    then IsGiven IsFacetOrder facet.order
     then IsGiven IsLimit facet.limit
+
+-- GROUP BY name
+abbrev pub IsGroup : List ℕ → List Lexeme → Type 0
+IsGroup name = AreWords keywords.Group keywords.By then IsName name
+
+-- WITHIN GROUP ORDER BY inner (, inner)*
+abbrev pub AreInnerKeys : List SortKey → List Lexeme → Type 0
+AreInnerKeys keys = AreWords keywords.Within keywords.Group then AreWords keywords.Order keywords.By then AreListed IsComma (IsKeyBy IsInnerSort) keys
+
+-- HAVING have
+abbrev pub IsHavingPart : Having → List Lexeme → Type 0
+IsHavingPart having = IsWord keywords.Having then IsHaving having
+
+-- ORDER BY key (, key)*
+abbrev pub AreKeys : List SortKey → List Lexeme → Type 0
+AreKeys keys = AreWords keywords.Order keywords.By then AreListed IsComma (IsKeyBy IsSort) keys
+
+-- OPTION opt (, opt)*
+abbrev pub AreOptions : List SelectOption → List Lexeme → Type 0
+AreOptions options = IsWord keywords.Option then AreListed IsComma IsOption options
 
 -- SELECT item (, item)* FROM name [WHERE cond (AND cond)*] [GROUP BY name] [WITHIN GROUP ORDER BY inner (, inner)*]
 -- [HAVING have] [ORDER BY key (, key)*] [LIMIT n [, n]] [OPTION opt (, opt)*] facet*
@@ -143,11 +200,11 @@ abbrev pub IsSelect : Select → List Lexeme → Type 0
 IsSelect select =
     IsWord keywords.Select then AreListed IsComma IsItem select.items
     then IsWord keywords.From then IsName select.index
-    then AreGiven (λ conds. IsWord keywords.Where then AreListed (IsWord keywords.And) IsCond conds) select.conds
-    then IsGiven (λ name. AreWords keywords.Group keywords.By then IsName name) select.group
-    then AreGiven (λ keys. AreWords keywords.Within keywords.Group then AreWords keywords.Order keywords.By then AreListed IsComma (IsKeyBy IsInnerSort) keys) select.within
-    then IsGiven (λ having. IsWord keywords.Having then IsHaving having) select.having
-    then AreGiven (λ keys. AreWords keywords.Order keywords.By then AreListed IsComma (IsKeyBy IsSort) keys) select.order
+    then AreGiven AreConds select.conds
+    then IsGiven IsGroup select.group
+    then AreGiven AreInnerKeys select.within
+    then IsGiven IsHavingPart select.having
+    then AreGiven AreKeys select.order
     then IsGiven IsLimit select.limit
-    then AreGiven (λ options. IsWord keywords.Option then AreListed IsComma IsOption options) select.options
+    then AreGiven AreOptions select.options
     then AreInRow IsFacet select.facets

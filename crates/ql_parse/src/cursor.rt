@@ -3,11 +3,11 @@ ghost use Rattle.ql_parse.specs.declared.kind.Kind.TheVariants as kinds;
 ghost use Rattle.ql_lex.specs.Shapes.{IsLexeme};
 ghost use Rattle.ql_lex.specs.Tokens.{lexeme_of, AreLexemes};
 ghost use Rattle.ql_parse.specs.Tokens.{kind, lexemes, first_kind, first_place};
-ghost use Rattle.ql_parse.specs.Classes.{the_word, any_name, a_number, a_text, a_sysvar, the_sign};
+ghost use Rattle.ql_parse.specs.Classes.{fits, the_word, any_name, a_number, a_text, a_sysvar, the_sign};
 ghost use Rattle.ql_parse.specs.Language.{one};
 ghost use Rattle.ql_parse.specs.Grammar.{words, name, number, text, sysvar};
 ghost use Rattle.ql_parse.specs.Parts.{IsWord, AreWords, IsSign, IsName, IsNumber, IsText, IsVariable};
-ghost use Rattle.ql_parse.specs.Progress.{IsNext, IsNextOf, Reads, TakesIf};
+ghost use Rattle.ql_parse.specs.Progress.{IsNext, IsNextOf, Reads, TakesIf, IsFollowed, second_kind};
 
 use crate::keyword::keyword_named;
 use crate::{Keyword, Kind};
@@ -55,6 +55,16 @@ fn kind_of(token: &Token<'_>) -> Kind
     }
 }
 
+/// Whether a token of this kind is the sign.
+fn is_the_sign(kind: Kind, sign: Sign) -> bool
+    ensures { result ≡ fits (the_sign sign) kind }
+{
+    match kind {
+        Kind::Sign(other) => sign == other,
+        _ => false,
+    }
+}
+
 impl<'a> Cursor<'a> {
     pub(crate) fn new(tokens: &'a [Token<'a>]) -> Self
         requires { AreLexemes (lexemes tokens.now) }
@@ -71,7 +81,7 @@ impl<'a> Cursor<'a> {
     }
 
     /// Goes on behind the next token.
-    fn skip(&mut self) -> &'a Token<'a>
+    pub(crate) fn skip(&mut self) -> &'a Token<'a>
         requires { first_kind self.old ≢ kinds.End }
         ensures next { self.old ≡ lexeme_of result.now ∷ self.new }
         ensures lexeme { IsLexeme result.now.kind result.now.text.now }
@@ -102,10 +112,7 @@ impl<'a> Cursor<'a> {
     pub(crate) fn is_sign(&self, sign: Sign) -> bool
         ensures { IsNextOf (the_sign sign) self.now result }
     {
-        match self.kind() {
-            Kind::Sign(next) => sign == next,
-            _ => false,
-        }
+        is_the_sign(self.kind(), sign)
     }
 
     /// Takes a keyword.
@@ -150,6 +157,39 @@ impl<'a> Cursor<'a> {
         self.word(first)?;
         self.word(second)?;
         Ok(())
+    }
+
+    /// Takes a keyword, if it is the next token.
+    pub(crate) fn takes_word(&mut self, word: Keyword) -> bool
+        ensures { TakesIf (the_word word) (IsWord word) self.old result self.new }
+    {
+        let found = self.is_word(word);
+        if found {
+            self.skip();
+        }
+        found
+    }
+
+    /// What the token behind the next one is. It is the end too where there is no such token.
+    pub(crate) fn second(&self) -> Kind
+        ensures { result ≡ second_kind self.now }
+    {
+        if self.rest.len() > 1 {
+            kind_of(&self.rest[1])
+        } else {
+            Kind::End
+        }
+    }
+
+    /// Whether a keyword is next, and a sign behind it.
+    pub(crate) fn is_followed(&self, word: Keyword, sign: Sign) -> bool
+        ensures { IsFollowed word sign self.now result }
+    {
+        if self.is_word(word) {
+            is_the_sign(self.second(), sign)
+        } else {
+            false
+        }
     }
 
     /// Whether a name is next. A keyword that isn't reserved is one.

@@ -1,9 +1,12 @@
 //! The parser of SphinxQL: statements from tokens.
 #![tactic(auto)]
 
+mod calls;
+mod conds;
 mod cursor;
 mod delete;
 mod fault;
+mod items;
 mod keyword;
 mod kind;
 mod parsing;

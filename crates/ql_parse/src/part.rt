@@ -1,14 +1,14 @@
-ghost use Rattle.std.specs.Prelude.{◌≡◌, ◌∷◌, [], true};
+ghost use Rattle.std.specs.Prelude.{◌≡◌, ◌∷◌, [], true, pos, neg_ℤ};
 ghost use Rattle.ql_lex.specs.declared.token.Sign.TheVariants as signs;
 ghost use Rattle.ql_parse.specs.Classes.{the_sign};
-ghost use Rattle.ql_parse.specs.Grammar.{comma, sign, listed, number, enclosed, repeated};
+ghost use Rattle.ql_parse.specs.Grammar.{comma, name, sign, listed, number, whole, enclosed, repeated};
 ghost use Rattle.ql_parse.specs.Language.{many, seq, one};
-ghost use Rattle.ql_parse.specs.Parts.{AreListed, IsEnclosed, IsSign, IsComma, IsNumber};
+ghost use Rattle.ql_parse.specs.Parts.{AreListed, IsEnclosed, IsSign, IsComma, IsName, IsNumber, IsWhole};
 ghost use Rattle.ql_parse.specs.Progress.{Reads, may_follow};
 
 use crate::cursor::Cursor;
 use ql_lex::Sign;
-use srch_base::{Items, Or};
+use srch_base::{Items, Name, Or};
 use std::alloc::Global;
 
 /// A part of the grammar whose texts stand for values.
@@ -49,6 +49,57 @@ impl Part for Number {
 
     fn read(_: Global, input: &mut Cursor<'_>) -> Result<u64, Or<u32>> {
         input.number()
+    }
+}
+
+/// The number.
+fn positive(n: u64) -> i128
+    ensures { result ≡ pos n }
+{
+    i128::from(n)
+}
+
+/// The number with a `-` before it.
+fn negative(n: u64) -> i128
+    ensures { result ≡ neg_ℤ (pos n) }
+{
+    -i128::from(n)
+}
+
+/// A number, maybe behind a `-`
+pub(crate) struct Whole;
+
+impl Part for Whole {
+    type Value = i128;
+
+    ghost grammar = { whole };
+
+    ghost goes_on = { [] };
+
+    ghost is = { IsWhole };
+
+    fn read(_: Global, input: &mut Cursor<'_>) -> Result<i128, Or<u32>> {
+        if input.takes_sign(Sign::Minus) {
+            return Ok(negative(input.number()?));
+        }
+        Ok(positive(input.number()?))
+    }
+}
+
+/// A name
+pub(crate) struct AnyName;
+
+impl Part for AnyName {
+    type Value = Name;
+
+    ghost grammar = { name };
+
+    ghost goes_on = { [] };
+
+    ghost is = { IsName };
+
+    fn read(alloc: Global, input: &mut Cursor<'_>) -> Result<Name, Or<u32>> {
+        input.name(alloc)
     }
 }
 

@@ -1,0 +1,52 @@
+ghost use Rattle.std.specs.Prelude.{[], ◌∷◌};
+ghost use Rattle.ql_lex.specs.declared.token.Sign.TheVariants as signs;
+ghost use Rattle.ql_parse.specs.declared.keyword.Keyword.TheVariants as keywords;
+ghost use Rattle.ql_parse.specs.Classes.{any_name, the_sign, the_word};
+ghost use Rattle.ql_parse.specs.Grammar.{alias, item, optional};
+ghost use Rattle.ql_parse.specs.Parts.{IsGiven};
+ghost use Rattle.ql_parse.specs.Progress.{Reads};
+ghost use Rattle.ql_parse.specs.Selects.{IsAlias, IsItem};
+
+use crate::Keyword;
+use crate::calls::expr;
+use crate::cursor::Cursor;
+use crate::part::Part;
+use crate::select::SelectItem;
+use ql_lex::Sign;
+use srch_base::{Name, Or};
+use std::alloc::Global;
+
+/// Reads an alias, if there is one.
+fn alias_part(alloc: Global, input: &mut Cursor<'_>) -> Result<Option<Name>, Or<u32>>
+    ensures { Reads (optional alias) (the_word keywords.As ∷ any_name ∷ []) (IsGiven IsAlias) input.old result input.new }
+{
+    if input.takes_word(Keyword::As) {
+        return Ok(Some(input.name(alloc)?));
+    }
+    if input.is_name() {
+        return Ok(Some(input.name(alloc)?));
+    }
+    Ok(None)
+}
+
+/// `*`, or an expression with its alias
+pub(crate) struct Item;
+
+impl Part for Item {
+    type Value = SelectItem;
+
+    ghost grammar = { item };
+
+    ghost goes_on = { the_sign signs.OpenParen ∷ the_word keywords.As ∷ any_name ∷ [] };
+
+    ghost is = { IsItem };
+
+    fn read(alloc: Global, input: &mut Cursor<'_>) -> Result<SelectItem, Or<u32>> {
+        if input.takes_sign(Sign::Star) {
+            return Ok(SelectItem::All);
+        }
+        let expr = expr(alloc, input)?;
+        let alias = alias_part(alloc, input)?;
+        Ok(SelectItem::One { expr, alias })
+    }
+}
