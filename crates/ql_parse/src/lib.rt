@@ -2,11 +2,9 @@
 #![tactic(auto)]
 
 mod calls;
-mod conds;
 mod cursor;
 mod delete;
 mod fault;
-mod items;
 mod keyword;
 mod kind;
 mod parsing;

@@ -9,7 +9,7 @@ pub returns-in_err-name : goal.returns-in_err-name
 returns-in_err-name c = fails_with _ _ c.from_residual.result c.from_residual.ensures.1 (fails_followed c.if-is_followed.ensures refl (fails_wider refl c.in_err-name.ensures))
 
 pub returns-then-is_followed : goal.returns-then-is_followed
-returns-then-is_followed c = takes_followed c.if-is_followed.ensures refl (takes_as (λ u h. subst (λ e. IsExpr e u) (sym c.count_expr.ensures) (counting_is c.in_ok-name.field-0 u h)) (takes_wider refl c.in_ok-name.ensures))
+returns-then-is_followed c = takes_followed c.if-is_followed.ensures refl (takes_as (λ u h. subst (λ e. IsExpr e u) (sym c.count_expr.ensures) (counting_is c.in_ok-name.name u h)) (takes_wider refl c.in_ok-name.ensures))
 
 pub returns-in_err-argument : goal.returns-in_err-argument
 returns-in_err-argument c = fails_with _ _ c.from_residual-in_err-argument.result c.from_residual-in_err-argument.ensures.1 (fails_unfollowed c.if-is_followed.ensures refl (fails_followed c.if-is_followed-2.ensures refl (fails_wider refl c.in_err-argument.ensures)))
