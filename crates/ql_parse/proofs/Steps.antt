@@ -14,7 +14,7 @@ use Rattle.ql_parse.specs.declared.kind.Kind.TheVariants as kinds
 use Rattle.ql_parse.specs.Keywords.{same_keyword}
 use Rattle.ql_lex.specs.Tokens.{Lexeme}
 use Rattle.ql_parse.specs.Tokens.{kind, first_kind, first_place}
-use Rattle.ql_parse.specs.Classes.{Class, the_word, any_name, name_but, a_number, a_text, a_sysvar, the_sign, a_comparison, the_end, fits, same_sign, sign_number}
+use Rattle.ql_parse.specs.Classes.{Class, the_word, any_name, name_but, a_number, a_text, a_sysvar, the_sign, a_comparison, the_end, fits, is_name, is_word, same_sign, sign_number}
 use Rattle.ql_parse.specs.Language.{Re, empty, one, seq, alt, many, Repeats, none, more, In, nullable, chain, either, joined, after, verdict, next}
 use Rattle.ql_parse.specs.Grammar.{optional, listed, repeated}
 use Rattle.ql_parse.specs.Parts.{◌then◌, IsWord, IsSign, AreListed}
@@ -339,6 +339,9 @@ end_is kinds.Text e = cc
 end_is kinds.SysVar e = cc
 end_is (kinds.Sign s) e = cc
 end_is kinds.End e = refl
+
+pub but_name : (v w : Keyword) (k : Kind) → fits (name_but v w) k ≡ true → is_name k ≡ true
+but_name v w k e = and_first (is_name k) (not (is_word v k)) (and_first (is_name k && not (is_word v k)) (not (is_word w k)) e)
 
 -- the token that was taken is of the class
 pub kind_next : {c : Class} {t : Lexeme} {before now : List Lexeme} → IsNextOf c before true → before ≡ t ∷ now → fits c (kind t) ≡ true

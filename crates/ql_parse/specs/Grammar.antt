@@ -226,37 +226,44 @@ plain = text ∣ name
 abbrev pub setting : Re
 setting = word keywords.Null ∣ text ∣ name ∣ whole
 
--- (name | sysvar) = (name | num | text | NULL)
-abbrev pub assignment : Re
-assignment = (sysvar ∣ one (name_but keywords.Autocommit keywords.Names)) ⨾ sign signs.Equal ⨾ setting
+-- a name that is neither AUTOCOMMIT nor NAMES
+abbrev pub target_name : Re
+target_name = one (name_but keywords.Autocommit keywords.Names)
 
--- AUTOCOMMIT = n | NAMES (name | text) | [GLOBAL | SESSION] assignment
+-- AUTOCOMMIT and NAMES aside: (name | sysvar) = (name | num | text | NULL)
+abbrev pub assignment : Re
+assignment = (sysvar ∣ target_name) ⨾ sign signs.Equal ⨾ setting
+
+-- [GLOBAL | SESSION] assignment
+abbrev pub scoped : Re
+scoped = word keywords.Global ⨾ assignment ∣ word keywords.Session ⨾ assignment ∣ assignment
+
+-- AUTOCOMMIT = n | NAMES (name | text) | scoped
+abbrev pub set_rest : Re
+set_rest = word keywords.Autocommit ⨾ sign signs.Equal ⨾ number ∣ word keywords.Names ⨾ plain ∣ scoped
+
 abbrev pub set : Re
-set =
-    word keywords.Set ⨾ (
-        word keywords.Autocommit ⨾ sign signs.Equal ⨾ number
-        ∣ word keywords.Names ⨾ plain
-        ∣ word keywords.Global ⨾ assignment
-        ∣ word keywords.Session ⨾ assignment
-        ∣ assignment)
+set = word keywords.Set ⨾ set_rest
 
 abbrev pub flush : Re
 flush = word keywords.Flush ⨾ (word keywords.RamChunk ⨾ name ∣ word keywords.RtIndex ⨾ name)
 
+-- INDEX name STATUS | META | TABLES | WARNINGS | VARIABLES | DATABASES
+abbrev pub shown : Re
+shown =
+    word keywords.Index ⨾ name ⨾ word keywords.Status
+    ∣ word keywords.Meta
+    ∣ word keywords.Tables
+    ∣ word keywords.Warnings
+    ∣ word keywords.Variables
+    ∣ word keywords.Databases
+
 abbrev pub show : Re
-show =
-    word keywords.Show ⨾ (
-        word keywords.Index ⨾ name ⨾ word keywords.Status
-        ∣ word keywords.Meta
-        ∣ word keywords.Tables
-        ∣ word keywords.Warnings
-        ∣ word keywords.Variables
-        ∣ word keywords.Databases)
+show = word keywords.Show ⨾ shown
 
 abbrev pub statement : Re
 statement =
     selects
-    ∣ insert
     ∣ delete
     ∣ set
     ∣ show
@@ -268,6 +275,7 @@ statement =
     ∣ words keywords.Optimize keywords.Index ⨾ name
     ∣ words keywords.Truncate keywords.RtIndex ⨾ name
     ∣ word keywords.Describe ⨾ name
+    ∣ insert
 
 -- what may follow a statement, where so many more are allowed
 abbrev pub more_statements : ℕ → Re

@@ -143,3 +143,27 @@ keyword_number keywords.Within = 57
 
 abbrev pub same_keyword : Keyword → Keyword → Bool
 same_keyword a b = keyword_number a == keyword_number b
+
+-- the keywords with which the forms of SET other than `name = value` begin
+abbrev pub is_set_form : Keyword → Bool
+is_set_form keywords.Autocommit = true
+is_set_form keywords.Names = true
+is_set_form _ = false
+
+-- the keywords with which a statement begins
+abbrev pub begins_statement : Keyword → Bool
+begins_statement keywords.Begin = true
+begins_statement keywords.Commit = true
+begins_statement keywords.Delete = true
+begins_statement keywords.Describe = true
+begins_statement keywords.Flush = true
+begins_statement keywords.Insert = true
+begins_statement keywords.Optimize = true
+begins_statement keywords.Replace = true
+begins_statement keywords.Rollback = true
+begins_statement keywords.Select = true
+begins_statement keywords.Set = true
+begins_statement keywords.Show = true
+begins_statement keywords.Start = true
+begins_statement keywords.Truncate = true
+begins_statement _ = false

@@ -4,9 +4,10 @@ use Rattle.ql_lex.specs.declared.token.Sign.{Sign}
 use Rattle.ql_lex.specs.declared.token.Sign.TheVariants as signs
 use Rattle.ql_lex.specs.Tokens.{Lexeme}
 use Rattle.ql_parse.specs.declared.keyword.Keyword.{Keyword}
+use Rattle.ql_parse.specs.declared.keyword.Keyword.TheVariants as keywords
 use Rattle.ql_parse.specs.declared.kind.Kind.TheVariants as kinds
 use Rattle.ql_parse.specs.Tokens.{kind, name_value, number_value, text_value}
-use Rattle.ql_parse.specs.Classes.{is_name}
+use Rattle.ql_parse.specs.Classes.{fits, is_name, name_but}
 
 -- some tokens, and then some others
 infixr 20 ◌then◌
@@ -37,6 +38,10 @@ IsComma = IsSign signs.Comma
 -- a name, in small letters: any name but a reserved word
 abbrev pub IsName : List ℕ → List Lexeme → Type 0
 IsName name = IsOne (λ t. IsTrue (is_name (kind t)) × (name ≡ name_value t))
+
+-- a name with which no other form of SET begins
+abbrev pub IsTargetName : List ℕ → List Lexeme → Type 0
+IsTargetName name = IsOne (λ t. IsTrue (fits (name_but keywords.Autocommit keywords.Names) (kind t)) × (name ≡ name_value t))
 
 abbrev pub IsNumber : ℕ → List Lexeme → Type 0
 IsNumber n = IsOne (λ t. (kind t ≡ kinds.Number) × (n ≡ number_value t))

@@ -9,7 +9,7 @@ use Rattle.ql_parse.specs.declared.kind.Kind.TheVariants as kinds
 use Rattle.ql_lex.specs.Tokens.{Lexeme}
 use Rattle.ql_parse.specs.Tokens.{kind, first_place}
 use Rattle.ql_parse.specs.Classes.{Class, fits, the_word, any_name, name_but, a_number, a_text, a_sysvar, the_sign, a_comparison, the_end, same_sign, is_comparison}
-use Rattle.ql_parse.specs.Keywords.{is_reserved, same_keyword}
+use Rattle.ql_parse.specs.Keywords.{begins_statement, is_reserved, same_keyword}
 use Rattle.ql_parse.specs.Grammar.{listed, repeated}
 use Rattle.ql_parse.specs.Parts.{AreListed, AreInRow}
 use Rattle.ql_parse.specs.Language.{Re, empty, one, seq, alt, many, In, nullable, verdict}
@@ -157,6 +157,17 @@ second_kind (t ∷ u ∷ ts) = kind u
 pub record AreNext (k l : Kind) (tokens : List Lexeme) : Type 0 where
   pub first : IsNext k tokens
   pub second : second_kind tokens ≡ l
+
+-- a statement begins with a token of this kind
+abbrev pub is_start : Kind → Bool
+is_start (kinds.Keyword w) = begins_statement w
+is_start _ = false
+
+-- Whether the next token is one with which a statement begins.
+pub record IsStart (tokens : List Lexeme) (answer : Bool) : Type 0 where
+  pub kind : Kind
+  pub next : IsNext kind tokens
+  pub starts : is_start kind ≡ answer
 
 -- Whether a keyword is next, and a sign behind it.
 pub data IsFollowed (w : Keyword) (s : Sign) (tokens : List Lexeme) : Bool → Type 0 where

@@ -18,8 +18,7 @@ use Rattle.ql_parse.specs.declared.statement.Target.TheVariants as targets
 use Rattle.ql_parse.specs.declared.statement.Val.{Val}
 use Rattle.ql_parse.specs.declared.statement.Val.TheVariants as vals
 use Rattle.ql_parse.specs.Tokens.{kind, name_value}
-use Rattle.ql_parse.specs.Classes.{fits, name_but}
-use Rattle.ql_parse.specs.Parts.{◌then◌, IsAbsent, IsOne, IsWord, AreWords, IsSign, IsComma, IsName, IsNumber, IsText, IsVariable, IsWhole, IsEnclosed, AreParens, IsPerhaps, IsGiven, AreGiven, AreListed}
+use Rattle.ql_parse.specs.Parts.{◌then◌, IsAbsent, IsOne, IsWord, AreWords, IsSign, IsComma, IsName, IsNumber, IsTargetName, IsText, IsVariable, IsWhole, IsEnclosed, AreParens, IsPerhaps, IsGiven, AreGiven, AreListed}
 use Rattle.ql_parse.specs.Selects.{IsSelect}
 
 -- num | text
@@ -50,7 +49,7 @@ IsScope scopes.Session = IsWord keywords.Session
 
 -- name | sysvar, where the name is neither AUTOCOMMIT nor NAMES, unless it stands between backquotes
 abbrev pub IsTarget : Target → List Lexeme → Type 0
-IsTarget (targets.Name name) = IsOne (λ t. IsTrue (fits (name_but keywords.Autocommit keywords.Names) (kind t)) × (name ≡ name_value t))
+IsTarget (targets.Name name) = IsTargetName name
 IsTarget (targets.Var name) = IsVariable name
 
 -- name | num | text | NULL
@@ -59,6 +58,18 @@ IsSetting (settings.Name name) = IsName name
 IsSetting (settings.Number z) = IsWhole z
 IsSetting (settings.Text text) = IsText text
 IsSetting settings.Null = IsWord keywords.Null
+
+-- (name | sysvar) = (name | num | text | NULL)
+abbrev pub IsAssignment : Target × SetValue → List Lexeme → Type 0
+IsAssignment pair = IsTarget pair.0 then IsSign signs.Equal then IsSetting pair.1
+
+-- ( name, .. )
+abbrev pub AreColumns : List (List ℕ) → List Lexeme → Type 0
+AreColumns names = IsEnclosed (AreListed IsComma IsName names)
+
+-- ( val, .. )
+abbrev pub IsRow : List Val → List Lexeme → Type 0
+IsRow row = IsEnclosed (AreListed IsComma IsVal row)
 
 -- LIMIT n
 abbrev pub IsRowLimit : ℕ → List Lexeme → Type 0
@@ -73,8 +84,8 @@ IsStatement statements.SelectDatabase = IsWord keywords.Select then IsWord keywo
 -- (INSERT | REPLACE) INTO name [( name, .. )] VALUES ( val, .. ) (, ( val, .. ))*
 IsStatement (statements.Insert replace index columns rows) =
     IsPut replace then IsWord keywords.Into then IsName index
-    then IsGiven (λ names. IsEnclosed (AreListed IsComma IsName names)) columns
-    then IsWord keywords.Values then AreListed IsComma (λ row. IsEnclosed (AreListed IsComma IsVal row)) rows
+    then IsGiven AreColumns columns
+    then IsWord keywords.Values then AreListed IsComma IsRow rows
 -- DELETE FROM name WHERE ID = n | DELETE FROM name WHERE ID IN (n, ..)
 IsStatement (statements.Delete index which) =
     AreWords keywords.Delete keywords.From then IsName index then AreWords keywords.Where keywords.Id then AreIds which

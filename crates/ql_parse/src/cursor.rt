@@ -1,13 +1,14 @@
-ghost use Rattle.std.specs.Prelude.{◌≡◌, ◌≢◌, [], ◌∷◌};
+ghost use Rattle.std.specs.Prelude.{◌≡◌, ◌≢◌, [], ◌∷◌, IsTrue, length};
+ghost use Rattle.ql_parse.specs.declared.keyword.Keyword.TheVariants as keywords;
 ghost use Rattle.ql_parse.specs.declared.kind.Kind.TheVariants as kinds;
 ghost use Rattle.ql_lex.specs.Shapes.{IsLexeme};
 ghost use Rattle.ql_lex.specs.Tokens.{lexeme_of, AreLexemes};
 ghost use Rattle.ql_parse.specs.Tokens.{kind, lexemes, first_kind, first_place};
-ghost use Rattle.ql_parse.specs.Classes.{fits, the_word, any_name, a_number, a_text, a_sysvar, the_sign};
+ghost use Rattle.ql_parse.specs.Classes.{fits, name_but, the_end, the_word, any_name, a_number, a_text, a_sysvar, the_sign};
 ghost use Rattle.ql_parse.specs.Language.{one};
-ghost use Rattle.ql_parse.specs.Grammar.{words, name, number, text, sysvar};
-ghost use Rattle.ql_parse.specs.Parts.{IsWord, AreWords, IsSign, IsName, IsNumber, IsText, IsVariable};
-ghost use Rattle.ql_parse.specs.Progress.{IsNext, IsNextOf, Reads, TakesIf, IsFollowed, second_kind};
+ghost use Rattle.ql_parse.specs.Grammar.{words, name, number, text, sysvar, target_name};
+ghost use Rattle.ql_parse.specs.Parts.{IsWord, AreWords, IsSign, IsName, IsNumber, IsTargetName, IsText, IsVariable};
+ghost use Rattle.ql_parse.specs.Progress.{IsNext, IsNextOf, Reads, IsStart, TakesIf, IsFollowed, second_kind};
 
 use crate::keyword::keyword_named;
 use crate::{Keyword, Kind};
@@ -203,6 +204,38 @@ impl<'a> Cursor<'a> {
         }
     }
 
+    /// Whether a name is next with which no other form of SET begins.
+    pub(crate) fn is_target_name(&self) -> bool
+        ensures { IsNextOf (name_but keywords.Autocommit keywords.Names) self.now result }
+    {
+        match self.kind() {
+            Kind::Keyword(word) => !word.is_reserved() && !word.is_set_form(),
+            Kind::Name => true,
+            _ => false,
+        }
+    }
+
+    /// Whether the end is next. Nothing stands behind it.
+    pub(crate) fn is_end(&self) -> bool
+        ensures end { IsNextOf the_end self.now result }
+        ensures last { IsTrue result → length self.now ≡ 1 }
+    {
+        match self.kind() {
+            Kind::End => true,
+            _ => false,
+        }
+    }
+
+    /// Whether a token is next with which a statement begins.
+    pub(crate) fn begins_statement(&self) -> bool
+        ensures { IsStart self.now result }
+    {
+        match self.kind() {
+            Kind::Keyword(word) => word.begins_statement(),
+            _ => false,
+        }
+    }
+
     /// Whether a number is next.
     pub(crate) fn is_number(&self) -> bool
         ensures { IsNextOf a_number self.now result }
@@ -238,6 +271,18 @@ impl<'a> Cursor<'a> {
         ensures { Reads name [] IsName self.old result self.new }
     {
         if self.is_name() {
+            let token = self.skip();
+            Ok(Name::new(token_name(token).to_ascii_lowercase(alloc)?))
+        } else {
+            Err(Or::Fault(self.place()))
+        }
+    }
+
+    /// Takes a name with which no other form of SET begins.
+    pub(crate) fn target_name(&mut self, alloc: Global) -> Result<Name, Or<u32>>
+        ensures { Reads target_name [] IsTargetName self.old result self.new }
+    {
+        if self.is_target_name() {
             let token = self.skip();
             Ok(Name::new(token_name(token).to_ascii_lowercase(alloc)?))
         } else {

@@ -1,7 +1,7 @@
 ghost use Rattle.std.specs.Prelude.{◌≡◌, slice_get};
 ghost use Rattle.name_table.specs.NamedValues.{value_named};
 ghost use Rattle.name_table.specs.Order.{IsInOrder};
-ghost use Rattle.ql_parse.specs.Keywords.{is_reserved, keyword_words, keyword_values, keyword_named};
+ghost use Rattle.ql_parse.specs.Keywords.{begins_statement, is_reserved, is_set_form, keyword_words, keyword_values, keyword_named};
 
 use name_table::{NameTable, value_at, words_of};
 
@@ -69,6 +69,36 @@ pub enum Keyword {
 }
 
 impl Keyword {
+    /// Whether it stands for a form of SET of its own.
+    pub(crate) fn is_set_form(self) -> bool
+        ensures { result ≡ is_set_form self }
+    {
+        matches!(self, Keyword::Autocommit | Keyword::Names)
+    }
+
+    /// Whether a statement begins with it.
+    pub(crate) fn begins_statement(self) -> bool
+        ensures { result ≡ begins_statement self }
+    {
+        matches!(
+            self,
+            Keyword::Begin
+                | Keyword::Commit
+                | Keyword::Delete
+                | Keyword::Describe
+                | Keyword::Flush
+                | Keyword::Insert
+                | Keyword::Optimize
+                | Keyword::Replace
+                | Keyword::Rollback
+                | Keyword::Select
+                | Keyword::Set
+                | Keyword::Show
+                | Keyword::Start
+                | Keyword::Truncate
+        )
+    }
+
     /// Whether it is a name nowhere. Every other keyword is one wherever the grammar has a name.
     pub fn is_reserved(self) -> bool
         ensures { result ≡ is_reserved self }
