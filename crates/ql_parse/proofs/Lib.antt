@@ -9,5 +9,6 @@ pub mod Steps
 pub mod Lookahead
 pub mod Choices
 pub mod SelectValues
+pub mod SelectSteps
 pub mod Agreement
 pub mod Cursors

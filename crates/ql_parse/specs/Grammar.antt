@@ -1,5 +1,5 @@
 -- The grammar, line by line.
-use Rattle.std.specs.Prelude.{ℕ, zero, suc, List, [], ◌∷◌}
+use Rattle.std.specs.Prelude.{ℕ, zero, suc}
 use Rattle.ql_lex.specs.declared.token.Sign.{Sign}
 use Rattle.ql_lex.specs.declared.token.Sign.TheVariants as signs
 use Rattle.ql_parse.specs.declared.keyword.Keyword.{Keyword}
@@ -149,13 +149,21 @@ limit = word keywords.Limit ⨾ number ⨾ optional (one comma ⨾ number)
 abbrev pub field_weight : Re
 field_weight = name ⨾ sign signs.Equal ⨾ number
 
--- name = (name | n | text) | name = ( name = n (, name = n)* )
-abbrev pub option : Re
-option = name ⨾ sign signs.Equal ⨾ (name ∣ number ∣ text ∣ enclosed (listed comma field_weight))
+-- name | n | text | ( name = n (, name = n)* )
+abbrev pub option_value : Re
+option_value = name ∣ number ∣ text ∣ enclosed (listed comma field_weight)
 
--- FACET name [ORDER BY group_key] [LIMIT n [, n]]
+-- name = value
+abbrev pub option : Re
+option = name ⨾ sign signs.Equal ⨾ option_value
+
+-- name [ORDER BY group_key] [LIMIT n [, n]]
+abbrev pub facet_parts : Re
+facet_parts = name ⨾ optional (words keywords.Order keywords.By ⨾ group_key) ⨾ optional limit
+
+-- FACET ..
 abbrev pub facet : Re
-facet = word keywords.Facet ⨾ name ⨾ optional (words keywords.Order keywords.By ⨾ group_key) ⨾ optional limit
+facet = word keywords.Facet ⨾ facet_parts
 
 -- [WHERE ..]
 abbrev pub conds : Re

@@ -8,3 +8,4 @@ pub mod Packets
 pub mod Language
 pub mod Grammar
 pub mod Progress
+pub mod Selecting

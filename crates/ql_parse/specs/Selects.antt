@@ -1,11 +1,9 @@
 -- The tokens of a SELECT from an index.
-use Rattle.std.specs.Prelude.{◌≡◌, ℕ, Bool, true, false, List, [], ◌⊎◌, Option, Some, None}
+use Rattle.std.specs.Prelude.{ℕ, Bool, true, false, List, Option, Some, None}
 use Rattle.ql_lex.specs.declared.token.Sign.{Sign}
 use Rattle.ql_lex.specs.declared.token.Sign.TheVariants as signs
 use Rattle.ql_lex.specs.Tokens.{Lexeme}
 use Rattle.ql_parse.specs.declared.keyword.Keyword.TheVariants as keywords
-use Rattle.ql_parse.specs.declared.kind.Kind.{Kind}
-use Rattle.ql_parse.specs.declared.kind.Kind.TheVariants as kinds
 use Rattle.ql_parse.specs.declared.select.Comparison.{Comparison}
 use Rattle.ql_parse.specs.declared.select.Comparison.TheVariants as comparisons
 use Rattle.ql_parse.specs.declared.select.Cond.{Cond}
@@ -80,27 +78,6 @@ IsCond (conds.Compare name op value) = IsName name then IsComparison op then IsW
 IsCond (conds.Among name values negated) = IsName name then IsNegation negated then IsWord keywords.In then IsEnclosed (AreListed IsComma IsWhole values)
 IsCond (conds.Between name low high) = IsName name then IsWord keywords.Between then IsWhole low then IsWord keywords.And then IsWhole high
 
--- the comparison that a token of this kind is
-abbrev pub comparison_at : Kind → Option Comparison
-comparison_at (kinds.Sign signs.Equal) = Some comparisons.Equal
-comparison_at (kinds.Sign signs.NotEqual) = Some comparisons.NotEqual
-comparison_at (kinds.Sign signs.Less) = Some comparisons.Less
-comparison_at (kinds.Sign signs.Greater) = Some comparisons.Greater
-comparison_at (kinds.Sign signs.LessOrEqual) = Some comparisons.AtMost
-comparison_at (kinds.Sign signs.GreaterOrEqual) = Some comparisons.AtLeast
-comparison_at _ = None
-
--- what is asked of this column: op num | [NOT] IN (num, ..) | BETWEEN num AND num
-abbrev pub IsTest : List ℕ → Cond → List Lexeme → Type 0
-IsTest column (conds.Match text) u = ⊥
-IsTest column (conds.Compare name op value) u = (name ≡ column) × (IsComparison op then IsWhole value) u
-IsTest column (conds.Among name values negated) u = (name ≡ column) × (IsNegation negated then IsWord keywords.In then IsEnclosed (AreListed IsComma IsWhole values)) u
-IsTest column (conds.Between name low high) u = (name ≡ column) × (IsWord keywords.Between then IsWhole low then IsWord keywords.And then IsWhole high) u
-
--- WHERE cond (AND cond)*
-abbrev pub AreConds : List Cond → List Lexeme → Type 0
-AreConds conds = IsWord keywords.Where then AreListed (IsWord keywords.And) IsCond conds
-
 -- WEIGHT()
 abbrev pub IsWeight : List Lexeme → Type 0
 IsWeight = IsWord keywords.Weight then AreParens
@@ -167,12 +144,17 @@ IsOption option = IsName option.name then IsSign signs.Equal then IsOptionValue 
 abbrev pub IsFacetOrder : SortKey → List Lexeme → Type 0
 IsFacetOrder key = AreWords keywords.Order keywords.By then IsKeyBy IsGroupSort key
 
--- FACET name [ORDER BY key] [LIMIT n [, n]]
+-- name [ORDER BY key] [LIMIT n [, n]]
+abbrev pub IsFaceted : FacetPart → List Lexeme → Type 0
+IsFaceted facet = IsName facet.column then IsGiven IsFacetOrder facet.order then IsGiven IsLimit facet.limit
+
+-- FACET ..
 abbrev pub IsFacet : FacetPart → List Lexeme → Type 0
-IsFacet facet =
-    IsWord keywords.Facet then IsName facet.column
-    then IsGiven IsFacetOrder facet.order
-    then IsGiven IsLimit facet.limit
+IsFacet facet = IsWord keywords.Facet then IsFaceted facet
+
+-- WHERE cond (AND cond)*
+abbrev pub AreConds : List Cond → List Lexeme → Type 0
+AreConds conds = IsWord keywords.Where then AreListed (IsWord keywords.And) IsCond conds
 
 -- GROUP BY name
 abbrev pub IsGroup : List ℕ → List Lexeme → Type 0
@@ -194,11 +176,10 @@ AreKeys keys = AreWords keywords.Order keywords.By then AreListed IsComma (IsKey
 abbrev pub AreOptions : List SelectOption → List Lexeme → Type 0
 AreOptions options = IsWord keywords.Option then AreListed IsComma IsOption options
 
--- SELECT item (, item)* FROM name [WHERE cond (AND cond)*] [GROUP BY name] [WITHIN GROUP ORDER BY inner (, inner)*]
--- [HAVING have] [ORDER BY key (, key)*] [LIMIT n [, n]] [OPTION opt (, opt)*] facet*
-abbrev pub IsSelect : Select → List Lexeme → Type 0
-IsSelect select =
-    IsWord keywords.Select then AreListed IsComma IsItem select.items
+-- item (, item)* FROM name [WHERE ..] [GROUP BY ..] [WITHIN GROUP ORDER BY ..] [HAVING ..] [ORDER BY ..] [LIMIT ..] [OPTION ..] facet*
+abbrev pub IsSelected : Select → List Lexeme → Type 0
+IsSelected select =
+    AreListed IsComma IsItem select.items
     then IsWord keywords.From then IsName select.index
     then AreGiven AreConds select.conds
     then IsGiven IsGroup select.group
@@ -208,3 +189,6 @@ IsSelect select =
     then IsGiven IsLimit select.limit
     then AreGiven AreOptions select.options
     then AreInRow IsFacet select.facets
+
+abbrev pub IsSelect : Select → List Lexeme → Type 0
+IsSelect select = IsWord keywords.Select then IsSelected select

@@ -2,6 +2,8 @@
 #![tactic(auto)]
 
 mod calls;
+mod comparisons;
+mod conditions;
 mod cursor;
 mod delete;
 mod fault;
@@ -10,6 +12,10 @@ mod kind;
 mod parsing;
 mod part;
 mod select;
+mod select_items;
+mod select_parts;
+mod selecting;
+mod sorting;
 mod statement;
 
 pub use fault::{ParseFault, ParseKind};
