@@ -3,6 +3,7 @@ use Rattle.std.proofs.Common.{◌≡◌, ℕ, List, [], ◌∷◌, Bool, true, f
 use Rattle.std.specs.Prelude.{◌&&◌, not}
 use Rattle.srch_base.specs.declared.faults.Or.{Or}
 use Rattle.ql_lex.specs.declared.token.Sign.{Sign}
+use Rattle.ql_lex.specs.declared.token.Sign.TheVariants as signs
 use Rattle.ql_lex.specs.Tokens.{Lexeme}
 use Rattle.ql_parse.specs.declared.keyword.Keyword.{Keyword}
 use Rattle.ql_parse.specs.declared.kind.Kind.{Kind}
@@ -10,7 +11,7 @@ use Rattle.ql_parse.specs.declared.kind.Kind.TheVariants as kinds
 use Rattle.ql_parse.specs.Tokens.{kind}
 use Rattle.ql_parse.specs.Classes.{Class, the_word, the_sign, fits}
 use Rattle.ql_parse.specs.Language.{Re, seq, alt, nullable, after, verdict}
-use Rattle.ql_parse.specs.Progress.{apart, begins, begun, Takes, Fails, IsNext, IsNextOf, AreNext, IsFollowed, followed, unlike, unfollowed, second_kind}
+use Rattle.ql_parse.specs.Progress.{apart, begins, begun, Takes, Fails, IsNext, IsNextOf, AreNext, IsFollowed, followed, unlike, unfollowed, IsLeading, leads, other_word, is_name, second_kind}
 use Rattle.ql_parse.proofs.Apart.{and_first, and_second}
 use Rattle.ql_parse.proofs.Lookahead.{clear, begun_after, left_by_two, left_by_other, right_by_two, right_by_other}
 use Rattle.ql_parse.proofs.Steps.{not_true, takes_else, fails_else, word_is, sign_is}
@@ -96,3 +97,22 @@ fails_as_word {r} {s} {w} {g} here (unfollowed n o) e h = fails_by (λ rest free
 pub followed_by : {w : Keyword} {g : Sign} {before : List Lexeme} (answer : Bool) → IsNextOf (the_word w) before true → answer ≡ fits (the_sign g) (second_kind before) → IsFollowed w g before answer
 followed_by {w} {g} {before} true n e = followed (record { first = record { next = n.next.next; behind = n.next.behind; is = n.next.is; kind_is = n.next.kind_is ∙ word_is w n.kind n.fits }; second = sign_is g (second_kind before) (sym e) })
 followed_by {w} {g} {before} false n e = unfollowed (record { next = n.next.next; behind = n.next.behind; is = n.next.is; kind_is = n.next.kind_is ∙ word_is w n.kind n.fits }) (sym e)
+
+-- A keyword that isn't the name that is set.
+pub leads_by : {w : Keyword} {before : List Lexeme} (answer : Bool) → IsNextOf (the_word w) before true → IsFollowed w signs.Equal before answer → IsLeading w before (not answer)
+leads_by true n f = is_name f
+leads_by false n f = leads n f
+
+pub takes_led : {r s : Re} {w : Keyword} {cs : List Class} {P : List Lexeme → Type 0} {before now : List Lexeme} → IsLeading w before true → drops_by_other (kinds.Keyword w) (the_sign signs.Equal) s r ≡ true → Takes r cs P before now → Takes (alt r s) cs P before now
+takes_led (leads n f) e h = takes_as_word n f e h
+
+pub fails_led : {r s : Re} {w : Keyword} {cs : List Class} {before : List Lexeme} {e : Or ℕ} → IsLeading w before true → drops_by_other (kinds.Keyword w) (the_sign signs.Equal) s r ≡ true → Fails r cs before e → Fails (alt r s) cs before e
+fails_led (leads n f) e h = fails_as_word n f e h
+
+pub takes_unled : {r s : Re} {w : Keyword} {cs : List Class} {P : List Lexeme → Type 0} {before now : List Lexeme} → IsLeading w before false → (begun (the_word w) r && drops_by_two (kinds.Keyword w) (kinds.Sign signs.Equal) cs r s) ≡ true → Takes s cs P before now → Takes (alt r s) cs P before now
+takes_unled {r} {s} {w} {cs} (other_word n) e h = takes_else n (and_first (begun (the_word w) r) (drops_by_two (kinds.Keyword w) (kinds.Sign signs.Equal) cs r s) e) h
+takes_unled {r} {s} {w} {cs} (is_name f) e h = takes_as_name f (and_second (begun (the_word w) r) (drops_by_two (kinds.Keyword w) (kinds.Sign signs.Equal) cs r s) e) h
+
+pub fails_unled : {r s : Re} {w : Keyword} {cs : List Class} {before : List Lexeme} {e : Or ℕ} → IsLeading w before false → (begun (the_word w) r && drops_by_two (kinds.Keyword w) (kinds.Sign signs.Equal) cs r s) ≡ true → Fails s cs before e → Fails (alt r s) cs before e
+fails_unled {r} {s} {w} {cs} (other_word n) e h = fails_else n (and_first (begun (the_word w) r) (drops_by_two (kinds.Keyword w) (kinds.Sign signs.Equal) cs r s) e) h
+fails_unled {r} {s} {w} {cs} (is_name f) e h = fails_as_name f (and_second (begun (the_word w) r) (drops_by_two (kinds.Keyword w) (kinds.Sign signs.Equal) cs r s) e) h

@@ -1,6 +1,7 @@
 -- The tokens that are left are those of a text.
-use Rattle.std.proofs.Common.{arith, ◌≡◌, ◌≢◌, ℕ, ◌-◌, List, [], ◌∷◌, ◌++◌, length, take, drop, map, refl, sym, ◌∙◌, ap, subst, Option, Some, None, Bool, true, false}
+use Rattle.std.proofs.Common.{arith, ◌≡◌, ◌≢◌, ℕ, ◌-◌, List, [], ◌∷◌, ◌++◌, length, get_or, take, drop, map, refl, sym, ◌∙◌, ap, subst, Option, Some, None, Bool, true, false}
 use Rattle.std.specs.List.{All}
+use Rattle.std.specs.Prelude.{IsSome}
 use Rattle.std.proofs.lemmas.Grind.{common_steps}
 use Rattle.std.proofs.lemmas.List.Elements.{All-head, All-tail}
 use Rattle.ql_lex.specs.declared.token.Sign.{Sign}
@@ -111,3 +112,41 @@ named forms.Text text e h = cc
 named forms.SysVar text e h = cc
 named forms.Sign text e h = absurd (sign_no_name (sign_of text) e)
 named forms.End text e h = cc
+
+-- the end is the last token
+no_End : (o : Option Keyword) → word_kind o ≡ kinds.End → ⊥
+no_End None e = cc
+no_End (Some w) e = cc
+
+no_sign_End : (o : Option Sign) → IsSome o → sign_kind o ≡ kinds.End → ⊥
+no_sign_End None some e = cc
+no_sign_End (Some w) some e = cc
+
+end_form : (f : TokenKind) (text : List ℕ) → IsLexeme f text → kind_by f text ≡ kinds.End → f ≡ forms.End
+unfolding kind_by
+end_form forms.Name text h e = absurd (no_End (keyword_named text) e)
+end_form forms.Quoted text h e = cc
+end_form forms.Number text h e = cc
+end_form forms.Text text h e = cc
+end_form forms.SysVar text h e = cc
+end_form forms.Sign text h e = absurd (no_sign_End (sign_of text) h e)
+end_form forms.End text h e = refl
+
+pub end_is_last : (ts : List Lexeme) → AreLexemes ts → first_kind ts ≡ kinds.End → length ts ≡ 1
+end_is_last [] h e = absurd (nothing h.front h.last h.is)
+  where
+    nothing : (front : List Lexeme) (last : Lexeme) → [] ≡ front ++ last ∷ [] → ⊥
+    nothing [] last is = cc
+    nothing (x ∷ front) last is = cc
+end_is_last (t ∷ ts) h e = go h.front h.is h.others
+  where
+    go : (front : List Lexeme) → (t ∷ ts) ≡ front ++ h.last ∷ [] → All (λ x. x.kind ≢ forms.End) front → length (t ∷ ts) ≡ 1
+    go [] is others = ap length is
+    go (x ∷ front) is others =
+        let same : x ≡ t = cc in
+        let form = end_form t.kind t.text (All-head (λ (x : Lexeme). IsLexeme x.kind x.text) t ts h.each) e in
+        absurd (All-head (λ (x : Lexeme). x.kind ≢ forms.End) x front others (ap (λ (y : Lexeme). y.kind) same ∙ form))
+
+pub end_alone : (ts : List Token) (d : Token) → AreLexemes (lexemes ts) → kinds.End ≡ kind (lexeme_of (get_or ts 0 d)) → length (lexemes ts) ≡ 1
+end_alone [] d h e = end_is_last [] h refl
+end_alone (t ∷ ts) d h e = end_is_last (lexemes (t ∷ ts)) h (sym e)

@@ -8,6 +8,8 @@ pub mod Apart
 pub mod Steps
 pub mod Lookahead
 pub mod Choices
+pub mod Wholes
+pub mod StatementValues
 pub mod SelectValues
 pub mod SelectSteps
 pub mod Agreement

@@ -542,3 +542,16 @@ fails_there {r} {cs} {before} {there} {e} same h = subst (λ u. Fails r cs u e) 
 pub now_there : {r : Re} {cs : List Class} {P : List Lexeme → Type 0} {before there now : List Lexeme} → now ≡ there → Takes r cs P before there → Takes r cs P before now
 now_there {r} {cs} {P} {before} {there} {now} same h = subst (λ u. Takes r cs P before u) (sym same) h
 
+
+-- A reader that answers for its part answers for a choice with it.
+pub reads_if : {T : Type 0} (r s : Re) {c : Class} (cs ds : List Class) (Is : T → List Lexeme → Type 0) {before : List Lexeme} (now : List Lexeme) (result : Result T (Or ℕ)) → IsNextOf c before true → (excludes c s && all_in cs ds) ≡ true → Reads r cs Is before result now → Reads (alt r s) ds Is before result now
+reads_if r s {c} cs ds Is now (Ok x) n e h = takes_if n (and_first (excludes c s) (all_in cs ds) e) (takes_wider (and_second (excludes c s) (all_in cs ds) e) h)
+reads_if r s {c} cs ds Is now (Err x) n e h = fails_if n (and_first (excludes c s) (all_in cs ds) e) (fails_wider (and_second (excludes c s) (all_in cs ds) e) h)
+
+pub reads_else : {T : Type 0} (r s : Re) {c : Class} (cs : List Class) (Is : T → List Lexeme → Type 0) {before : List Lexeme} (now : List Lexeme) (result : Result T (Or ℕ)) → IsNextOf c before false → begun c r ≡ true → Reads s cs Is before result now → Reads (alt r s) cs Is before result now
+reads_else r s cs Is now (Ok x) n e h = takes_else n e h
+reads_else r s cs Is now (Err x) n e h = fails_else n e h
+
+pub reads_wider : {T : Type 0} (r : Re) (cs ds : List Class) (Is : T → List Lexeme → Type 0) (before : List Lexeme) (now : List Lexeme) (result : Result T (Or ℕ)) → all_in cs ds ≡ true → Reads r cs Is before result now → Reads r ds Is before result now
+reads_wider r cs ds Is before now (Ok x) e h = takes_wider e h
+reads_wider r cs ds Is before now (Err x) e h = fails_wider e h

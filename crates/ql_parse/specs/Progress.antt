@@ -3,6 +3,7 @@ use Rattle.std.specs.Prelude.{◌≡◌, ℕ, List, [], ◌∷◌, ◌++◌, Boo
 use Rattle.srch_base.specs.declared.faults.Or.{Or}
 use Rattle.srch_base.specs.declared.faults.Or.TheVariants.{NoMemory, Fault}
 use Rattle.ql_lex.specs.declared.token.Sign.{Sign}
+use Rattle.ql_lex.specs.declared.token.Sign.TheVariants as signs
 use Rattle.ql_parse.specs.declared.keyword.Keyword.{Keyword}
 use Rattle.ql_parse.specs.declared.kind.Kind.{Kind}
 use Rattle.ql_parse.specs.declared.kind.Kind.TheVariants as kinds
@@ -174,6 +175,12 @@ pub data IsFollowed (w : Keyword) (s : Sign) (tokens : List Lexeme) : Bool → T
   followed : AreNext (kinds.Keyword w) (kinds.Sign s) tokens → IsFollowed w s tokens true
   unlike : IsNextOf (the_word w) tokens false → IsFollowed w s tokens false
   unfollowed : IsNext (kinds.Keyword w) tokens → fits (the_sign s) (second_kind tokens) ≡ false → IsFollowed w s tokens false
+
+-- Whether a keyword is next, and is not itself a name with `=` behind it.
+pub data IsLeading (w : Keyword) (tokens : List Lexeme) : Bool → Type 0 where
+  leads : IsNextOf (the_word w) tokens true → IsFollowed w signs.Equal tokens false → IsLeading w tokens true
+  other_word : IsNextOf (the_word w) tokens false → IsLeading w tokens false
+  is_name : IsFollowed w signs.Equal tokens true → IsLeading w tokens false
 
 -- Of parts in a row, each of which begins with a token of the class, these have been read, and others may follow.
 pub record TakesRow {A : Type 0} (r : Re) (goes_on : List Class) (Is : A → List Lexeme → Type 0) (before : List Lexeme) (items : List A) (now : List Lexeme) : Type 0 where

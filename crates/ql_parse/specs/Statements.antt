@@ -19,7 +19,7 @@ use Rattle.ql_parse.specs.declared.statement.Val.{Val}
 use Rattle.ql_parse.specs.declared.statement.Val.TheVariants as vals
 use Rattle.ql_parse.specs.Tokens.{kind, name_value}
 use Rattle.ql_parse.specs.Parts.{◌then◌, IsAbsent, IsOne, IsWord, AreWords, IsSign, IsComma, IsName, IsNumber, IsTargetName, IsText, IsVariable, IsWhole, IsEnclosed, AreParens, IsPerhaps, IsGiven, AreGiven, AreListed}
-use Rattle.ql_parse.specs.Selects.{IsSelect}
+use Rattle.ql_parse.specs.Selects.{IsSelect, IsSelected}
 
 -- num | text
 abbrev pub IsVal : Val → List Lexeme → Type 0
@@ -111,3 +111,27 @@ IsStatement statements.ShowTables = AreWords keywords.Show keywords.Tables
 IsStatement statements.ShowWarnings = AreWords keywords.Show keywords.Warnings
 IsStatement statements.ShowVariables = AreWords keywords.Show keywords.Variables
 IsStatement statements.ShowDatabases = AreWords keywords.Show keywords.Databases
+
+-- what follows the word SET
+abbrev pub IsSetRest : Statement → List Lexeme → Type 0
+IsSetRest (statements.SetAutocommit n) = IsWord keywords.Autocommit then IsSign signs.Equal then IsNumber n
+IsSetRest (statements.SetNames plain) = IsWord keywords.Names then IsPlain plain
+IsSetRest (statements.SetOther scope target value) = IsScope scope then IsTarget target then IsSign signs.Equal then IsSetting value
+IsSetRest _ = λ u. ⊥
+
+-- what follows the word SHOW
+abbrev pub IsShown : Statement → List Lexeme → Type 0
+IsShown (statements.ShowIndexStatus name) = IsWord keywords.Index then IsName name then IsWord keywords.Status
+IsShown statements.ShowMeta = IsWord keywords.Meta
+IsShown statements.ShowTables = IsWord keywords.Tables
+IsShown statements.ShowWarnings = IsWord keywords.Warnings
+IsShown statements.ShowVariables = IsWord keywords.Variables
+IsShown statements.ShowDatabases = IsWord keywords.Databases
+IsShown _ = λ u. ⊥
+
+-- what follows the word SELECT
+abbrev pub IsSelection : Statement → List Lexeme → Type 0
+IsSelection (statements.Select select) = IsSelected select
+IsSelection (statements.SelectVar name limit) = IsVariable name then IsGiven IsRowLimit limit
+IsSelection statements.SelectDatabase = IsWord keywords.Database then AreParens
+IsSelection _ = λ u. ⊥

@@ -220,7 +220,7 @@ impl<'a> Cursor<'a> {
         ensures end { IsNextOf the_end self.now result }
         ensures last { IsTrue result → length self.now ≡ 1 }
     {
-        match self.kind() {
+        match kind_of(&self.rest[0]) {
             Kind::End => true,
             _ => false,
         }

@@ -2,11 +2,13 @@
 #![tactic(auto)]
 
 mod calls;
+mod commands;
 mod comparisons;
 mod conditions;
 mod cursor;
 mod delete;
 mod fault;
+mod insert;
 mod keyword;
 mod kind;
 mod parsing;
@@ -15,8 +17,11 @@ mod select;
 mod select_items;
 mod select_parts;
 mod selecting;
+mod selects;
+mod settings;
 mod sorting;
 mod statement;
+mod statements;
 
 pub use fault::{ParseFault, ParseKind};
 pub use keyword::Keyword;
