@@ -13,4 +13,6 @@ pub mod StatementValues
 pub mod SelectValues
 pub mod SelectSteps
 pub mod Agreement
+pub mod Agreements
+pub mod SelectAgreement
 pub mod Cursors

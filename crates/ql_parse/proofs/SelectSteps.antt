@@ -22,7 +22,7 @@ use Rattle.ql_parse.specs.Selecting.{IsNextComparison}
 use Rattle.ql_parse.proofs.Steps.{apart_rest, begun_misses, ended_at, kind_next, more_at, optional_else, optional_if, or_left, sign_is, takes_as, takes_next, takes_nothing}
 
 -- A comparison.
-sign_compares : (op : Comparison) → fits a_comparison (kinds.Sign (comparison_sign op)) ≡ true
+pub sign_compares : (op : Comparison) → fits a_comparison (kinds.Sign (comparison_sign op)) ≡ true
 sign_compares comparisons.Equal = refl
 sign_compares comparisons.NotEqual = refl
 sign_compares comparisons.Less = refl
