@@ -1,5 +1,5 @@
 -- Grammars and the values of their texts: parts that may be left out, that are repeated, or that are chosen between.
-use Rattle.std.proofs.Common.{◌≡◌, ℕ, List, [], ◌∷◌, ◌++◌, Bool, true, false, Option, Some, None, ◌⊎◌, inl, inr, refl, sym, ◌∙◌, ap, subst}
+use Rattle.std.proofs.Common.{ℕ, List, [], ◌∷◌, Option, Some, None, ◌⊎◌, inl, inr, refl, ap}
 use Rattle.std.specs.Prelude.{ℤ, pos, neg_ℤ}
 use Rattle.ql_lex.specs.declared.token.Sign.TheVariants as signs
 use Rattle.ql_lex.specs.Tokens.{Lexeme}
@@ -7,7 +7,7 @@ use Rattle.ql_parse.specs.declared.keyword.Keyword.{Keyword}
 use Rattle.ql_parse.specs.Tokens.{kind, text_value}
 use Rattle.ql_parse.specs.Classes.{a_text, fits}
 use Rattle.ql_parse.specs.Language.{Re, seq, alt, many, Repeats, none, more, In}
-use Rattle.ql_parse.specs.Grammar.{words, text, number, whole, wholes, parens, comma, optional, enclosed}
+use Rattle.ql_parse.specs.Grammar.{words, text, number, whole, wholes, parens, optional, enclosed}
 use Rattle.ql_parse.specs.Parts.{◌then◌, AreWords, IsText, IsWhole, IsNumber, IsSign, IsComma, IsEnclosed, AreParens, IsPerhaps, IsGiven, AreGiven, AreListed, AreInRow}
 use Rattle.ql_parse.proofs.Steps.{text_is}
 use Rattle.ql_parse.proofs.Agreement.{Agree, Agrees, agree_as, agree_listed, agree_number, agree_sign, agree_word}

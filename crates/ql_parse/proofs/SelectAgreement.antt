@@ -1,7 +1,6 @@
 -- The grammar of SELECT and the values of its texts, line by line.
-use Rattle.std.proofs.Common.{◌≡◌, ℕ, List, [], ◌∷◌, ◌++◌, Bool, true, false, Option, Some, None, ◌⊎◌, inl, inr, refl, sym, ◌∙◌, ap, subst}
+use Rattle.std.proofs.Common.{◌≡◌, ℕ, List, [], ◌++◌, Bool, true, false, Option, Some, None, ◌⊎◌, inl, inr, refl, sym, ◌∙◌, ap, subst}
 use Rattle.std.specs.Prelude.{ℤ}
-use Rattle.ql_lex.specs.declared.token.Sign.{Sign}
 use Rattle.ql_lex.specs.declared.token.Sign.TheVariants as signs
 use Rattle.ql_lex.specs.Tokens.{Lexeme}
 use Rattle.ql_parse.specs.declared.keyword.Keyword.{Keyword}
@@ -12,26 +11,20 @@ use Rattle.ql_parse.specs.declared.select.Comparison.{Comparison}
 use Rattle.ql_parse.specs.declared.select.Comparison.TheVariants as comparisons
 use Rattle.ql_parse.specs.declared.select.Cond.{Cond}
 use Rattle.ql_parse.specs.declared.select.Cond.TheVariants as condition
-use Rattle.ql_parse.specs.declared.select.FacetPart.{FacetPart}
-use Rattle.ql_parse.specs.declared.select.Having.{Having}
-use Rattle.ql_parse.specs.declared.select.LimitPart.{LimitPart}
 use Rattle.ql_parse.specs.declared.select.OptionValue.{OptionValue}
 use Rattle.ql_parse.specs.declared.select.OptionValue.TheVariants as values
-use Rattle.ql_parse.specs.declared.select.Select.{Select}
 use Rattle.ql_parse.specs.declared.select.SelectExpr.{SelectExpr}
 use Rattle.ql_parse.specs.declared.select.SelectExpr.TheVariants as exprs
 use Rattle.ql_parse.specs.declared.select.SelectItem.{SelectItem}
 use Rattle.ql_parse.specs.declared.select.SelectItem.TheVariants as items
-use Rattle.ql_parse.specs.declared.select.SelectOption.{SelectOption}
-use Rattle.ql_parse.specs.declared.select.SortKey.{SortKey}
 use Rattle.ql_parse.specs.declared.select.SortName.{SortName}
 use Rattle.ql_parse.specs.declared.select.SortName.TheVariants as sorts
 use Rattle.ql_parse.specs.Tokens.{kind}
 use Rattle.ql_parse.specs.Classes.{a_comparison, fits}
 use Rattle.ql_parse.specs.Language.{Re, In}
-use Rattle.ql_parse.specs.Grammar.{◌⨾◌, ◌∣◌, word, name, weight, count, counted, enclosed, expr, alias, item, comparison, cond, test, direction, key, inner_key, group_key, having, limit, field_weight, option_value, option, facet_parts, facet, conds, group, within, having_part, order, options, optional, select_parts, select}
-use Rattle.ql_parse.specs.Parts.{◌then◌, IsWord, IsSign, IsComma, IsName, IsNumber, IsText, IsWhole, IsEnclosed, AreParens, IsGiven, AreGiven, AreListed, AreInRow}
-use Rattle.ql_parse.specs.Selects.{comparison_sign, IsCounted, IsExpr, IsAlias, IsItem, IsComparison, IsCond, IsWeight, IsCount, IsSort, IsInnerSort, IsGroupSort, IsDirection, IsKeyBy, IsHaving, IsSecond, IsLimit, IsFieldWeight, IsOptionValue, IsOption, IsFacetOrder, IsFaceted, IsFacet, AreConds, IsGroup, AreInnerKeys, IsHavingPart, AreKeys, AreOptions, IsSelected}
+use Rattle.ql_parse.specs.Grammar.{◌⨾◌, ◌∣◌, word, name, weight, count, counted, enclosed, expr, alias, item, comparison, cond, test, direction, having, limit, field_weight, option_value, option, facet, conds, group, within, having_part, order, options, select}
+use Rattle.ql_parse.specs.Parts.{◌then◌, IsWord, IsSign, IsComma, IsName, IsNumber, IsText, IsWhole, IsEnclosed, AreParens, IsGiven, AreGiven, AreListed}
+use Rattle.ql_parse.specs.Selects.{comparison_sign, IsCounted, IsExpr, IsAlias, IsItem, IsComparison, IsCond, IsWeight, IsCount, IsSort, IsInnerSort, IsGroupSort, IsDirection, IsKeyBy, IsHaving, IsLimit, IsFieldWeight, IsOptionValue, IsOption, IsFacet, AreConds, IsGroup, AreInnerKeys, IsHavingPart, AreKeys, AreOptions, IsSelected}
 use Rattle.ql_parse.proofs.Agreement.{Agree, Agrees, agree_as, agree_listed, agree_name, agree_number, agree_seq, agree_sign, agree_word}
 use Rattle.ql_parse.proofs.Agreements.{IsEither, agree_behind, agree_enclosed, agree_lists, agree_optional, agree_or, agree_parens, agree_perhaps, agree_row, agree_text, agree_whole, agree_wholes, agree_words}
 use Rattle.ql_parse.proofs.SelectSteps.{sign_compares}
