@@ -15,4 +15,5 @@ pub mod SelectSteps
 pub mod Agreement
 pub mod Agreements
 pub mod SelectAgreement
+pub mod StatementAgreement
 pub mod Cursors
