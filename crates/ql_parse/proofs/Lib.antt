@@ -12,6 +12,7 @@ pub mod Wholes
 pub mod StatementValues
 pub mod SelectValues
 pub mod SelectSteps
+pub mod PacketSteps
 pub mod Agreement
 pub mod Agreements
 pub mod SelectAgreement

@@ -379,7 +379,7 @@ apart_none (alt r s) = both_true (apart [] r) (apart [] s) (apart_none r) (apart
 apart_none (many r) = apart_none r
 
 -- One part or more with a separator between them.
-listed_last : {A : Type 0} (S : List Lexeme → Type 0) (Is : A → List Lexeme → Type 0) (items : List A) (x : A) (u v w : List Lexeme) → AreListed S Is items u → S v → Is x w → AreListed S Is (items ++ x ∷ []) (u ++ (v ++ w))
+pub listed_last : {A : Type 0} (S : List Lexeme → Type 0) (Is : A → List Lexeme → Type 0) (items : List A) (x : A) (u v w : List Lexeme) → AreListed S Is items u → S v → Is x w → AreListed S Is (items ++ x ∷ []) (u ++ (v ++ w))
 listed_last S Is [] x u v w has between next = absurd has
 listed_last S Is (y ∷ []) x u v w has between next = (u, v ++ w, refl, has, (v, w, refl, between, next))
 listed_last S Is (y ∷ z ∷ items) x u v w (a, bc, is, first, (b, c, is', sep, rest)) between next =

@@ -9,3 +9,4 @@ pub mod Language
 pub mod Grammar
 pub mod Progress
 pub mod Selecting
+pub mod PacketReading

@@ -18,6 +18,7 @@ use std::alloc::Global;
 use std::marker::Model;
 
 /// The tokens of a text from a place on, of which the last is the end.
+#[derive(Drop)]
 pub(crate) struct Cursor<'a> {
     rest: &'a [Token<'a>],
 }
