@@ -77,38 +77,42 @@ named_variable text at to named =
 pub at_bad : (text : List ℕ) (at : ℕ) → at < length text → get_or text at 0 ≡ 64 → (get_or text (at + 1) 0 ≡ 64 → is_letter (get_or text (at + 2) 0) ≡ true → ⊥) → IsBad text at
 at_bad text at within is_at no_name =
     let no_named : (kind : TokenKind) (to : ℕ) → kind_head kind ≡ 6 → IsNamed kind (slice_range text at to) → ⊥ =
-      λ kind to e named. let both = named_variable text at to (subst (λ k. IsNamed k (slice_range text at to)) (same_kind kind SysVar e) named) in no_name both.0 both.1 in
+    λ kind to e named. let both = named_variable text at to (subst (λ k. IsNamed k (slice_range text at to)) (same_kind kind SysVar e) named) in no_name both.0 both.1 in
     record {
       within = within;
       no_part = no_part text at 6 (ap head is_at) (λ e. omega arith) (λ e to is. omega arith) (λ kind to e is.
-        let variable : IsToken SysVar text at to = subst (λ k. IsToken k text at to) (same_kind kind SysVar e) is in
-        no_named SysVar to refl variable.lexeme.0);
+          let variable : IsToken SysVar text at to = subst (λ k. IsToken k text at to) (same_kind kind SysVar e) is in
+          no_named SysVar to refl variable.lexeme.0);
       no_other = no_fault text at 6 (ap head is_at) (λ e. omega arith) (λ e. omega arith) (λ e is. omega arith) (λ e is. omega arith) (λ kind to w e is. no_named kind to e is);
     }
 
 not_both : (h : ℕ) → h ≡ 4 → h ≡ 5 → ⊥
 not_both h four five = omega arith
 
+-- where no name stands between a backquote and the next one, none stands in backquotes there
+no_quoted : (text : List ℕ) (at last : ℕ) → QuotesAt 96 text at last → ((k : ℕ) → at + 1 ≤ k → k < last → get_or text k 0 ≡ 96 → ⊥) → is_word is_name_byte (slice_range text (at + 1) last) ≡ false → (to : ℕ) → to ≤ length text → IsNamed Quoted (slice_range text at to) → ⊥
+no_quoted text at last quotes next no_word to within named =
+    let others : QuotesAt 96 text at (to - 1) = (quotes_from 96 text at to within named.0).1 in
+    let word : is_word is_name_byte (slice_range text (at + 1) (to - 1)) ≡ true = subst (λ (l : List ℕ). is_word is_name_byte l ≡ true) (inside_from 96 text at to within named.0) named.1 in
+    ⊎_elim (λ (same : to - 1 ≡ last). both_ways (is_word is_name_byte (slice_range text (at + 1) last)) no_word (subst (λ n. is_word is_name_byte (slice_range text (at + 1) n) ≡ true) same word))
+    (⊎_elim (λ (below : to - 1 < last). next (to - 1) (omega (arith, others.before)) below others.closes)
+    (λ (above : last < to - 1).
+    let each : list_all is_name_byte (slice_range text (at + 1) (to - 1)) ≡ true = (and_parts (is_letter (get_or (slice_range text (at + 1) (to - 1)) 0 0)) (list_all is_name_byte (slice_range text (at + 1) (to - 1))) word).1 in
+    let passes : is_name_byte (get_or text last 0) ≡ true = passes_at is_name_byte text (at + 1) (to - 1) last (omega (arith, others.within)) (omega (arith, quotes.before)) above each in
+    false≢true (subst (λ b. is_name_byte b ≡ true) quotes.closes passes)))
+    (cases_order (to - 1) last)
+
 -- a backquote, and the next one behind it, with no name between them
 pub quoted_bad : (text : List ℕ) (at last : ℕ) → QuotesAt 96 text at last → ((k : ℕ) → at + 1 ≤ k → k < last → get_or text k 0 ≡ 96 → ⊥) → is_word is_name_byte (slice_range text (at + 1) last) ≡ false → IsBad text at
 quoted_bad text at last quotes next no_word =
-    let no_quoted : (to : ℕ) → to ≤ length text → IsNamed Quoted (slice_range text at to) → ⊥ = λ to within named.
-      let others = quotes_from 96 text at to within named.0 in
-      let word : is_word is_name_byte (slice_range text (at + 1) (to - 1)) ≡ true = subst (λ (l : List ℕ). is_word is_name_byte l ≡ true) (inside_from 96 text at to within named.0) named.1 in
-      ⊎_elim (λ (same : to - 1 ≡ last). both_ways _ no_word (subst (λ n. is_word is_name_byte (slice_range text (at + 1) n) ≡ true) same word))
-      (⊎_elim (λ (below : to - 1 < last). next (to - 1) (omega (arith, others.1.before)) below others.1.closes)
-        (λ (above : last < to - 1).
-          let passes : is_name_byte (get_or text last 0) ≡ true = passes_at is_name_byte text (at + 1) (to - 1) last (omega (arith, others.1.within)) (omega (arith, quotes.before)) above (and_parts _ _ word).1 in
-          false≢true (subst (λ b. is_name_byte b ≡ true) quotes.closes passes)))
-      (cases_order (to - 1) last) in
     record {
       within = omega (arith, quotes.before, quotes.within);
       no_part = no_part text at 5 (ap head quotes.opens) (λ e. omega arith) (λ e to is. omega arith) (λ kind to e is.
-        let token : IsToken Quoted text at to = subst (λ k. IsToken k text at to) (same_kind kind Quoted e) is in
-        no_quoted to token.within token.lexeme.0);
+          let token : IsToken Quoted text at to = subst (λ k. IsToken k text at to) (same_kind kind Quoted e) is in
+          no_quoted text at last quotes next no_word to token.within token.lexeme.0);
       no_other = no_fault text at 5 (ap head quotes.opens) (λ e. omega arith) (λ e. omega arith) (λ e is. omega arith)
-        (λ e is. no_open is)
-        (λ kind to w e is. no_quoted to w (subst (λ k. IsNamed k (slice_range text at to)) (same_kind kind Quoted e) is));
+          (λ e is. no_open is)
+          (λ kind to w e is. no_quoted text at last quotes next no_word to w (subst (λ k. IsNamed k (slice_range text at to)) (same_kind kind Quoted e) is));
     }
   where
     no_open : IsUnclosed text at → ⊥

@@ -39,13 +39,15 @@ quotes_from quote text at to within enclosed =
     let first : at + 0 < to = omega arith in
     let e : at + 0 ≡ at = omega arith in
     let back : at + (length (slice_range text at to) - 1) ≡ to - 1 = omega arith in
-    let end : at + (length (slice_range text at to) - 1) < to = omega arith in
-    (omega arith, record {
-      before = omega arith;
-      within = omega arith;
-      opens = ap (λ n. get_or text n 0) (sym e) ∙ sym (slice_byte text at to 0 first) ∙ enclosed.opens;
-      closes = ap (λ n. get_or text n 0) (sym back) ∙ sym (slice_byte text at to (length (slice_range text at to) - 1) end) ∙ enclosed.closes;
-    })
+    let end : at + (length (slice_range text at to) - 1) < to = omega arith in (
+      omega arith,
+      record {
+        before = omega arith;
+        within = omega arith;
+        opens = ap (λ n. get_or text n 0) (sym e) ∙ sym (slice_byte text at to 0 first) ∙ enclosed.opens;
+        closes = ap (λ n. get_or text n 0) (sym back) ∙ sym (slice_byte text at to (length (slice_range text at to) - 1) end) ∙ enclosed.closes;
+      },
+    )
 
 -- what stands inside of it
 pub inside_from : (quote : ℕ) (text : List ℕ) (at to : ℕ) → to ≤ length text → IsEnclosed quote (slice_range text at to) → inside (slice_range text at to) ≡ slice_range text (at + 1) (to - 1)

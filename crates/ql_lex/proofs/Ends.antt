@@ -92,7 +92,7 @@ text_before text at a b first second before =
     let quote : ℕ = get_or text at 0 in
     let split : slice_range text (at + 1) b ≡ slice_range text (at + 1) a ++ get_or text a 0 ∷ slice_range text (a + 1) b = slice_split text (at + 1) a b (omega (arith, first.quotes.before)) before (omega (arith, second.quotes.within)) in
     let inner : is_inner quote (get_or text a 0 ∷ slice_range text (a + 1) b) ≡ true =
-      sym (inner_append quote (slice_range text (at + 1) a) (get_or text a 0 ∷ slice_range text (a + 1) b) first.inner) ∙ ap (is_inner quote) (sym split) ∙ second.inner in
+    sym (inner_append quote (slice_range text (at + 1) a) (get_or text a 0 ∷ slice_range text (a + 1) b) first.inner) ∙ ap (is_inner quote) (sym split) ∙ second.inner in
     both_ways (is_inner quote (get_or text a 0 ∷ slice_range text (a + 1) b)) (ap (λ (c : ℕ). is_inner quote (c ∷ slice_range text (a + 1) b)) first.quotes.closes ∙ quote_ends quote (slice_range text (a + 1) b) first.quote) inner
 
 pub text_end : (text : List ℕ) (at a b : ℕ) → a ≤ length text → b ≤ length text → IsText (slice_range text at a) → IsText (slice_range text at b) → a ≡ b

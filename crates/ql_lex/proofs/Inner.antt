@@ -16,13 +16,13 @@ inner_append quote (b ∷ []) (c ∷ ys) is =
     ∙ ap (λ t. t && is_inner quote (c ∷ ys)) is
 inner_append quote (b ∷ c ∷ xs) ys is =
     ⊎_elim (λ e.
-      let rest : is_inner quote xs ≡ true = sym (cond-true (eqb b 92) (is_inner quote xs) (is_plain quote b && is_inner quote (c ∷ xs)) e) ∙ is in
-      cond-true (eqb b 92) (is_inner quote (xs ++ ys)) (is_plain quote b && is_inner quote (c ∷ (xs ++ ys))) e ∙ inner_append quote xs ys rest)
+    let rest : is_inner quote xs ≡ true = sym (cond-true (eqb b 92) (is_inner quote xs) (is_plain quote b && is_inner quote (c ∷ xs)) e) ∙ is in
+    cond-true (eqb b 92) (is_inner quote (xs ++ ys)) (is_plain quote b && is_inner quote (c ∷ (xs ++ ys))) e ∙ inner_append quote xs ys rest)
     (λ e.
-      let both = and_parts (is_plain quote b) (is_inner quote (c ∷ xs)) (sym (cond-false (eqb b 92) (is_inner quote xs) (is_plain quote b && is_inner quote (c ∷ xs)) e) ∙ is) in
-      cond-false (eqb b 92) (is_inner quote (xs ++ ys)) (is_plain quote b && is_inner quote (c ∷ (xs ++ ys))) e
-      ∙ ap (λ t. t && is_inner quote (c ∷ (xs ++ ys))) both.0
-      ∙ inner_append quote (c ∷ xs) ys both.1)
+    let both = and_parts (is_plain quote b) (is_inner quote (c ∷ xs)) (sym (cond-false (eqb b 92) (is_inner quote xs) (is_plain quote b && is_inner quote (c ∷ xs)) e) ∙ is) in
+    cond-false (eqb b 92) (is_inner quote (xs ++ ys)) (is_plain quote b && is_inner quote (c ∷ (xs ++ ys))) e
+    ∙ ap (λ t. t && is_inner quote (c ∷ (xs ++ ys))) both.0
+    ∙ inner_append quote (c ∷ xs) ys both.1)
     (cases_Bool (eqb b 92))
 
 -- a plain byte
@@ -55,16 +55,16 @@ pub scan_escaped : (quote : ℕ) (text : List ℕ) (from place : ℕ) → place 
 scan_escaped quote text from place within scan =
     let at : Escapes quote text from place = scan.escapes refl in
     let here : slice_range text from place ≡ slice_range text from at.before ++ 92 ∷ [] =
-      ap (λ n. slice_range text from n) at.is ∙ slice_more text from at.before at.above (omega (arith, at.is)) ∙ ap (λ (b : ℕ). slice_range text from at.before ++ b ∷ []) at.backslash in
+    ap (λ n. slice_range text from n) at.is ∙ slice_more text from at.before at.above (omega (arith, at.is)) ∙ ap (λ (b : ℕ). slice_range text from at.before ++ b ∷ []) at.backslash in
     let next : slice_range text from (place + 1) ≡ slice_range text from at.before ++ (92 ∷ get_or text place 0 ∷ []) =
-      slice_more text from place (omega (arith, at.is, at.above)) within ∙ ap (λ (l : List ℕ). l ++ get_or text place 0 ∷ []) here ∙ append_assoc (slice_range text from at.before) (92 ∷ []) (get_or text place 0 ∷ []) in
+    slice_more text from place (omega (arith, at.is, at.above)) within ∙ ap (λ (l : List ℕ). l ++ get_or text place 0 ∷ []) here ∙ append_assoc (slice_range text from at.before) (92 ∷ []) (get_or text place 0 ∷ []) in
     record {
       plain = λ e. ap (is_inner quote) next ∙ inner_append quote (slice_range text from at.before) (92 ∷ get_or text place 0 ∷ []) at.inner;
       escapes = λ e. absurd (false≢true e);
       none = λ k above below is inner.
           ⊎_elim (λ (same : k ≡ place).
-            let no : is_inner quote (slice_range text from place) ≡ false = ap (is_inner quote) here ∙ inner_append quote (slice_range text from at.before) (92 ∷ []) at.inner in
-            both_ways (is_inner quote (slice_range text from place)) no (subst (λ n. is_inner quote (slice_range text from n) ≡ true) same inner))
+          let no : is_inner quote (slice_range text from place) ≡ false = ap (is_inner quote) here ∙ inner_append quote (slice_range text from at.before) (92 ∷ []) at.inner in
+          both_ways (is_inner quote (slice_range text from place)) no (subst (λ n. is_inner quote (slice_range text from n) ≡ true) same inner))
           (⊎_elim (λ (less : k < place). scan.none k above less is inner) (λ (more : place < k). absurd (omega arith)))
           (cases_order k place);
     }

@@ -31,10 +31,10 @@ value_more bytes k digits below =
 pub value_grows : (bytes : List ℕ) (k : ℕ) → digits_value 10 (take k bytes) ≤ digits_value 10 bytes
 value_grows bytes k =
     let whole : digits_value 10 bytes ≡ number_from_digits_after 10 (number_from_digits 10 (map digit_value (take k bytes))) (map digit_value (drop k bytes)) =
-      ap (digits_value 10) (sym (take-append-drop k bytes))
-      ∙ digits_value_is 10 (take k bytes ++ drop k bytes)
-      ∙ ap (number_from_digits 10) (map-append digit_value (take k bytes) (drop k bytes))
-      ∙ number_after_append 10 0 (map digit_value (take k bytes)) (map digit_value (drop k bytes)) in
+    ap (digits_value 10) (sym (take-append-drop k bytes))
+    ∙ digits_value_is 10 (take k bytes ++ drop k bytes)
+    ∙ ap (number_from_digits 10) (map-append digit_value (take k bytes) (drop k bytes))
+    ∙ number_after_append 10 0 (map digit_value (take k bytes)) (map digit_value (drop k bytes)) in
     omega (arith, whole, digits_value_is 10 (take k bytes), number_after_ge 10 (number_from_digits 10 (map digit_value (take k bytes))) (map digit_value (drop k bytes)) (omega arith))
 
 -- a run of digits

@@ -14,9 +14,9 @@ run_within p text at within = omega (arith, prefix_len-le-length p (drop at text
 pub run_passes : (p : ℕ → Bool) (text : List ℕ) (at : ℕ) → at ≤ length text → list_all p (slice_range text at (at + prefix_len p (drop at text))) ≡ true
 run_passes p text at within =
     list_all-from_AllPass p _ (All-from_get_or (λ b. p b ≡ true) _ 0 (λ k below.
-      let size : k < prefix_len p (drop at text) = omega (arith, slice_length text at (at + prefix_len p (drop at text)) (run_within p text at within)) in
-      let place : at + k < at + prefix_len p (drop at text) = omega arith in
-      subst (λ b. p b ≡ true) (sym (slice_byte text at (at + prefix_len p (drop at text)) k place)) (subst (λ b. p b ≡ true) (get_or-drop at text k 0) (prefix_len_passes p (drop at text) k 0 size))))
+    let size : k < prefix_len p (drop at text) = omega (arith, slice_length text at (at + prefix_len p (drop at text)) (run_within p text at within)) in
+    let place : at + k < at + prefix_len p (drop at text) = omega arith in
+    subst (λ b. p b ≡ true) (sym (slice_byte text at (at + prefix_len p (drop at text)) k place)) (subst (λ b. p b ≡ true) (get_or-drop at text k 0) (prefix_len_passes p (drop at text) k 0 size))))
 
 -- the byte behind a run doesn't pass
 pub run_stops : (p : ℕ → Bool) (text : List ℕ) (at : ℕ) → p 0 ≡ false → p (get_or text (at + prefix_len p (drop at text)) 0) ≡ false
@@ -28,8 +28,8 @@ run_stops p text at zero =
 pub run_some : (p : ℕ → Bool) (text : List ℕ) (at : ℕ) → p 0 ≡ false → p (get_or text at 0) ≡ true → 0 < prefix_len p (drop at text)
 run_some p text at zero passes =
     ⊎_elim (λ none. let is : prefix_len p (drop at text) ≡ 0 = omega arith in
-      let e : at + prefix_len p (drop at text) ≡ at = omega arith in
-      let stops : p (get_or text at 0) ≡ false = subst (λ n. p (get_or text n 0) ≡ false) e (run_stops p text at zero) in cc) (λ some. omega arith) (cases_lt (prefix_len p (drop at text)) 1)
+    let e : at + prefix_len p (drop at text) ≡ at = omega arith in
+    let stops : p (get_or text at 0) ≡ false = subst (λ n. p (get_or text n 0) ≡ false) e (run_stops p text at zero) in cc) (λ some. omega arith) (cases_lt (prefix_len p (drop at text)) 1)
 
 -- each byte of a part passes where the test of the whole part says so
 pub passes_at : (p : ℕ → Bool) (text : List ℕ) (from to k : ℕ) → to ≤ length text → from ≤ k → k < to → list_all p (slice_range text from to) ≡ true → p (get_or text k 0) ≡ true

@@ -80,10 +80,11 @@ other_bad text at within other no_two no_one = record {
     no_sign to is =
         let size : length (slice_range text at to) ≡ to - at = slice_length text at to is.within in
         ⊎_elim (λ one. let p : at + 0 < to = omega (arith, one.0) in let e : at + 0 ≡ at = omega arith in
-          both_ways _ no_one (subst (λ b. is_some (sign_of_one b) ≡ true) (slice_byte text at to 0 p ∙ ap (λ n. get_or text n 0) e) one.1))
+        both_ways _ no_one (subst (λ b. is_some (sign_of_one b) ≡ true) (slice_byte text at to 0 p ∙ ap (λ n. get_or text n 0) e) one.1))
         (λ two. let p : at + 0 < to = omega (arith, two.0) in let e : at + 0 ≡ at = omega arith in let q : at + 1 < to = omega (arith, two.0) in
-          both_ways _ no_two (subst (λ b. is_some (sign_of_two b (get_or text (at + 1) 0)) ≡ true) (slice_byte text at to 0 p ∙ ap (λ n. get_or text n 0) e)
-            (subst (λ b. is_some (sign_of_two (get_or (slice_range text at to) 0 0) b) ≡ true) (slice_byte text at to 1 q) two.1)))
+        both_ways _ no_two (subst (λ b. is_some (sign_of_two b (get_or text (at + 1) 0)) ≡ true) (slice_byte text at to 0 p ∙ ap (λ n. get_or text n 0) e)
+        (subst (λ b. is_some (sign_of_two (get_or (slice_range text at to) 0 0) b) ≡ true) (slice_byte text at to 1 q) two.1)))
         (one_or_two (slice_range text at to) is.lexeme)
+
     no_name : (kind : TokenKind) (to : ℕ) → kind_head kind ≡ 0 → IsNamed kind (slice_range text at to) → ⊥
     no_name kind to e is = let sign : IsNamed Sign (slice_range text at to) = subst (λ k. IsNamed k (slice_range text at to)) (same_kind kind Sign e) is in sign

@@ -17,20 +17,20 @@ byte_within text k some = ⊎_elim (λ within. within) (λ past. absurd (omega (
 pub slice_slice : (text : List ℕ) (from to a b : ℕ) → to ≤ length text → from + b ≤ to → a ≤ b → slice_range (slice_range text from to) a b ≡ slice_range text (from + a) (from + b)
 slice_slice text from to a b within inside ordered =
     same_lists _ _ (
-      omega (arith, slice_length (slice_range text from to) a b (omega (arith, slice_length text from to within)), slice_length text (from + a) (from + b) (omega arith))
+    omega (arith, slice_length (slice_range text from to) a b (omega (arith, slice_length text from to within)), slice_length text (from + a) (from + b) (omega arith))
     ) (λ k d below.
-      let small : k < b - a = omega (arith, slice_length (slice_range text from to) a b (omega (arith, slice_length text from to within))) in
-      let l1 : k < b - a = small in
-      let l2 : a + k < to - from = omega arith in
-      let l3 : k < from + b - (from + a) = omega arith in
-      let e : from + (a + k) ≡ from + a + k = omega arith in
-      get_or-take (b - a) (drop a (slice_range text from to)) k d l1
-      ∙ get_or-drop a (slice_range text from to) k d
-      ∙ get_or-take (to - from) (drop from text) (a + k) d l2
-      ∙ get_or-drop from text (a + k) d
-      ∙ ap (λ n. get_or text n d) e
-      ∙ sym (get_or-drop (from + a) text k d)
-      ∙ sym (get_or-take (from + b - (from + a)) (drop (from + a) text) k d l3)
+    let small : k < b - a = omega (arith, slice_length (slice_range text from to) a b (omega (arith, slice_length text from to within))) in
+    let l1 : k < b - a = small in
+    let l2 : a + k < to - from = omega arith in
+    let l3 : k < from + b - (from + a) = omega arith in
+    let e : from + (a + k) ≡ from + a + k = omega arith in
+    get_or-take (b - a) (drop a (slice_range text from to)) k d l1
+    ∙ get_or-drop a (slice_range text from to) k d
+    ∙ get_or-take (to - from) (drop from text) (a + k) d l2
+    ∙ get_or-drop from text (a + k) d
+    ∙ ap (λ n. get_or text n d) e
+    ∙ sym (get_or-drop (from + a) text k d)
+    ∙ sym (get_or-take (from + b - (from + a)) (drop (from + a) text) k d l3)
     )
 
 -- one byte more

@@ -44,12 +44,14 @@ pub ends_from : (text : List ℕ) (at to : ℕ) → to ≤ length text → IsTex
 ends_from text at to within is =
     let first = (slice_first text at to (quote_some (get_or (slice_range text at to) 0 0) is.quote)).1 in
     let quotes = quotes_from (get_or (slice_range text at to) 0 0) text at to within is.enclosed in
-    let inner : is_inner (get_or (slice_range text at to) 0 0) (slice_range text (at + 1) (to - 1)) ≡ true = ap (is_inner (get_or (slice_range text at to) 0 0)) (sym (inside_from (get_or (slice_range text at to) 0 0) text at to within is.enclosed)) ∙ is.inner in
-    (quotes.0, record {
-      quote = ap is_quote (sym first) ∙ is.quote;
-      quotes = subst (λ q. QuotesAt q text at (to - 1)) first quotes.1;
-      inner = subst (λ q. is_inner q (slice_range text (at + 1) (to - 1)) ≡ true) first inner;
-    })
+    let inner : is_inner (get_or (slice_range text at to) 0 0) (slice_range text (at + 1) (to - 1)) ≡ true = ap (is_inner (get_or (slice_range text at to) 0 0)) (sym (inside_from (get_or (slice_range text at to) 0 0) text at to within is.enclosed)) ∙ is.inner in (
+      quotes.0,
+      record {
+        quote = ap is_quote (sym first) ∙ is.quote;
+        quotes = subst (λ q. QuotesAt q text at (to - 1)) first quotes.1;
+        inner = subst (λ q. is_inner q (slice_range text (at + 1) (to - 1)) ≡ true) first inner;
+      },
+    )
 
 pub text_open : (text : List ℕ) (at : ℕ) → is_quote (get_or text at 0) ≡ true → ((last : ℕ) → at + 1 ≤ last → get_or text last 0 ≡ get_or text at 0 → is_inner (get_or text at 0) (slice_range text (at + 1) last) ≡ true → ⊥) → IsUnclosed text at
 text_open text at quote none = open_text quote (λ to within is.

@@ -52,18 +52,18 @@ ascii_byte b below = IsUtf8-from_ascii (b ∷ []) each
 value_char : (c : ℕ) (rest : List ℕ) → IsScalar c → c ≢ 92 → IsUtf8 (unescaped rest) → IsUtf8 (unescaped (encode_utf8 c ++ rest))
 value_char c rest scalar other utf8 =
     ⊎_elim (λ (low : c < 128).
-      subst IsUtf8 (sym (ap (λ (l : List ℕ). unescaped (l ++ rest)) (encode_ascii c low) ∙ unescaped_plain c rest other)) (IsUtf8-append (c ∷ []) (unescaped rest) (ascii_byte c low) utf8))
+    subst IsUtf8 (sym (ap (λ (l : List ℕ). unescaped (l ++ rest)) (encode_ascii c low) ∙ unescaped_plain c rest other)) (IsUtf8-append (c ∷ []) (unescaped rest) (ascii_byte c low) utf8))
     (λ (high : 128 ≤ c).
-      subst IsUtf8 (sym (unescaped_high (encode_utf8 c) rest (encode_high c high))) (IsUtf8-append (encode_utf8 c) (unescaped rest) (IsUtf8-encode c scalar) utf8))
+    subst IsUtf8 (sym (unescaped_high (encode_utf8 c) rest (encode_high c high))) (IsUtf8-append (encode_utf8 c) (unescaped rest) (IsUtf8-encode c scalar) utf8))
     (cases_lt c 128)
 
 -- an escaped character
 value_escaped : (c : ℕ) (rest : List ℕ) → IsScalar c → IsUtf8 (unescaped rest) → IsUtf8 (unescaped (92 ∷ (encode_utf8 c ++ rest)))
 value_escaped c rest scalar utf8 =
     ⊎_elim (λ (low : c < 128).
-      subst IsUtf8 (sym (ap (λ (l : List ℕ). unescaped (92 ∷ (l ++ rest))) (encode_ascii c low))) (IsUtf8-append (escaped c ∷ []) (unescaped rest) (ascii_byte (escaped c) (escaped_ascii c low)) utf8))
+    subst IsUtf8 (sym (ap (λ (l : List ℕ). unescaped (92 ∷ (l ++ rest))) (encode_ascii c low))) (IsUtf8-append (escaped c ∷ []) (unescaped rest) (ascii_byte (escaped c) (escaped_ascii c low)) utf8))
     (λ (high : 128 ≤ c).
-      subst IsUtf8 (sym (escaped_high (encode_utf8 c) rest (encode_some c) (encode_high c high))) (IsUtf8-append (encode_utf8 c) (unescaped rest) (IsUtf8-encode c scalar) utf8))
+    subst IsUtf8 (sym (escaped_high (encode_utf8 c) rest (encode_some c) (encode_high c high))) (IsUtf8-append (encode_utf8 c) (unescaped rest) (IsUtf8-encode c scalar) utf8))
     (cases_lt c 128)
 
 value_utf8 : (cs : List ℕ) → all_scalars cs ≡ true → IsUtf8 (unescaped (encode_utf8_all cs))
@@ -75,9 +75,9 @@ value_utf8 (c ∷ []) scalars =
 value_utf8 (c ∷ d ∷ cs) scalars =
     let both = and_parts _ _ scalars in
     ⊎_elim (λ (is : c ≡ 92).
-      subst (λ b. IsUtf8 (unescaped (encode_utf8 b ++ (encode_utf8 d ++ encode_utf8_all cs)))) (sym is)
-      (subst (λ (l : List ℕ). IsUtf8 (unescaped (l ++ (encode_utf8 d ++ encode_utf8_all cs)))) (sym (encode_ascii 92 (omega arith)))
-        (value_escaped d (encode_utf8_all cs) (and_parts _ _ both.1).0 (value_utf8 cs (and_parts _ _ both.1).1))))
+    subst (λ b. IsUtf8 (unescaped (encode_utf8 b ++ (encode_utf8 d ++ encode_utf8_all cs)))) (sym is)
+    (subst (λ (l : List ℕ). IsUtf8 (unescaped (l ++ (encode_utf8 d ++ encode_utf8_all cs)))) (sym (encode_ascii 92 (omega arith)))
+    (value_escaped d (encode_utf8_all cs) (and_parts _ _ both.1).0 (value_utf8 cs (and_parts _ _ both.1).1))))
     (λ other. value_char c (encode_utf8_all (d ∷ cs)) both.0 other (value_utf8 (d ∷ cs) both.1))
     (cases_eq c 92)
 

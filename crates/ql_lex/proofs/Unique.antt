@@ -37,6 +37,7 @@ one_part text at p q first second = same p q (sym (stands_head text at p first) 
     no_token tokens.SysVar h is e = ⊎_elim (λ i. omega arith) (λ i. omega arith) is
     no_token tokens.Sign h is e = ⊎_elim (λ i. omega arith) (λ i. omega arith) is
     no_token tokens.End h is e = ⊎_elim (λ i. omega arith) (λ i. omega arith) is
+
     same : (p q : Part) → part_head p ≡ part_head q → Stands text at p → Stands text at q → p ≡ q
     same parts.Blank parts.Blank e first second = refl
     same parts.Blank (parts.Comment b) e first second = absurd (omega arith)

@@ -7,5 +7,4 @@ pub fn one_reading()
     ensures tokens { (text : List ℕ) (a b : List Lexeme) → AreTokens text a → AreTokens text b → a ≡ b }
     ensures not_both { (text : List ℕ) (tokens : List Lexeme) (place : ℕ) (kind : LexKind) → AreTokens text tokens → FaultAt text place kind → ⊥ }
     ensures fault { (text : List ℕ) (p q : ℕ) (j k : LexKind) → FaultAt text p j → FaultAt text q k → (p ≡ q) × (j ≡ k) }
-{
-}
+{}

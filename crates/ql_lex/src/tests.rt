@@ -1,11 +1,16 @@
+ghost use Rattle.ql_lex.specs.Shapes.{IsText};
+
 use crate::LexKind::{
     BadCharacter, NameTooLong, NotUtf8, NumberTooLarge, NumberWithPoint, UnclosedComment,
     UnclosedQuote,
 };
 use crate::TokenKind::{End, Name, Number, Quoted, Sign as SignToken, SysVar, Text};
-use crate::{LexFault, LexKind, TokenKind, lex};
-use srch_base::Or;
+use crate::{
+    LexFault, LexKind, Sign, Token, TokenKind, lex, number_of, put_text, sign_of, token_name,
+};
+use srch_base::{NoMemory, Or};
 use std::alloc::Global;
+use std::test::Fail;
 
 /// A text, and its tokens before the end: their kinds, and the places of their first bytes and behind them.
 const TOKENS: [(&str, &[(TokenKind, u32, u32)]); 50] = [
@@ -244,4 +249,106 @@ fn finds_faults(rt: HostRuntime) {
             assert!(rt; fault == Some(Or::Fault(LexFault { place, kind })));
         }
     }
+}
+
+/// Whether a text token has this value, which is appended.
+fn has_value(alloc: Global, token: &[u8], value: &str) -> Result<bool, NoMemory>
+    requires { IsText token.now }
+{
+    let mut out = b"x".to_vec(alloc)?;
+    put_text(token, &mut out)?;
+    let same = match out.as_slice() {
+        [b'x', rest @ ..] => rest == value.as_bytes(),
+        _ => false,
+    };
+    Ok(same)
+}
+
+#[test]
+fn gives_values(rt: HostRuntime) {
+    let alloc = rt.alloc();
+    assert!(rt; has_value(alloc, b"''", "") == Ok(true));
+    assert!(rt; has_value(alloc, b"'a b'", "a b") == Ok(true));
+    assert!(rt; has_value(alloc, b"\"it's\"", "it's") == Ok(true));
+    assert!(rt; has_value(alloc, b"'\\n\\r\\t\\0'", "\n\r\t\0") == Ok(true));
+    assert!(rt; has_value(alloc, b"'\\'\\\"\\\\'", "'\"\\") == Ok(true));
+    assert!(rt; has_value(alloc, b"'\\N\\x\\%'", "Nx%") == Ok(true));
+    assert!(rt; has_value(alloc, b"'\\\\n'", "\\n") == Ok(true));
+    assert!(rt; has_value(alloc, b"'\\\xd0\xbf\\\r'", "п\r") == Ok(true));
+}
+
+#[test]
+fn gives_numbers(rt: HostRuntime) {
+    assert!(rt; number_of(b"0") == 0);
+    assert!(rt; number_of(b"007") == 7);
+    assert!(rt; number_of(b"18446744073709551615") == u64::MAX);
+}
+
+#[test]
+fn gives_names(rt: HostRuntime) {
+    let plain = Token {
+        kind: Name,
+        text: b"rt_1",
+        at: 0,
+    };
+    assert!(rt; token_name(&plain) == b"rt_1".as_slice());
+    let quoted = Token {
+        kind: Quoted,
+        text: b"`Ab`",
+        at: 0,
+    };
+    assert!(rt; token_name(&quoted) == b"Ab".as_slice());
+    let variable = Token {
+        kind: SysVar,
+        text: b"@@a.B",
+        at: 0,
+    };
+    assert!(rt; token_name(&variable) == b"a.B".as_slice());
+}
+
+/// Some bytes, and the sign that they spell.
+const SIGNS: [(&[u8], Option<Sign>); 16] = [
+    (b"(", Some(Sign::OpenParen)),
+    (b")", Some(Sign::CloseParen)),
+    (b",", Some(Sign::Comma)),
+    (b";", Some(Sign::Semicolon)),
+    (b"*", Some(Sign::Star)),
+    (b"-", Some(Sign::Minus)),
+    (b"=", Some(Sign::Equal)),
+    (b"!=", Some(Sign::NotEqual)),
+    (b"<>", Some(Sign::NotEqual)),
+    (b"<", Some(Sign::Less)),
+    (b">", Some(Sign::Greater)),
+    (b"<=", Some(Sign::LessOrEqual)),
+    (b">=", Some(Sign::GreaterOrEqual)),
+    (b"!", None),
+    (b"=>", None),
+    (b"", None),
+];
+
+#[test]
+fn gives_signs(rt: HostRuntime) {
+    for (bytes, sign) in SIGNS {
+        assert!(rt; sign_of(bytes) == sign);
+    }
+}
+
+/// The kinds of faults, and what they print at place 7.
+const TEXTS: [(LexKind, &str); 7] = [
+    (NotUtf8, "text is not UTF-8 at 7"),
+    (UnclosedQuote, "unclosed quote at 7"),
+    (UnclosedComment, "unclosed comment at 7"),
+    (BadCharacter, "bad character at 7"),
+    (NumberTooLarge, "number too large at 7"),
+    (NumberWithPoint, "number with a point at 7"),
+    (NameTooLong, "name too long at 7"),
+];
+
+#[test]
+fn prints_faults(rt: HostRuntime) -> Result<(), Fail> {
+    for (kind, text) in TEXTS {
+        let fault = LexFault { place: 7, kind };
+        assert_eq!(rt; format!(in rt.alloc(); "{fault}")?.as_str(), text);
+    }
+    Ok(())
 }

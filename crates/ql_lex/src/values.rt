@@ -67,5 +67,4 @@ pub fn put_text(token: &[u8], out: &mut Vec<u8>) -> Result<(), NoMemory>
 /// The value of a text token is UTF-8.
 pub fn text_values_are_utf8()
     ensures { (token : List ℕ) → IsUtf8 (inside token) → IsUtf8 (text_of token) }
-{
-}
+{}
