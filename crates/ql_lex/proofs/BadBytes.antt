@@ -1,21 +1,18 @@
 -- Places at which nothing begins.
-use Rattle.std.proofs.Common.{◌≡◌, ℕ, ◌+◌, ◌-◌, ◌<◌, ◌≤◌, Bool, true, false, cond, List, [], ◌∷◌, get_or, slice_range, length, drop, refl, sym, ap, ◌∙◌, subst, arith, ⊎_elim, inl, inr, get_or-drop}
-use Rattle.std.specs.Prelude.{◌⊎◌, is_some}
-use Rattle.std.specs.Char.{is_ascii_digit}
+use Rattle.std.proofs.Common.{◌≡◌, ℕ, ◌+◌, ◌-◌, ◌<◌, ◌≤◌, true, false, List, get_or, slice_range, length, drop, refl, sym, ap, ◌∙◌, subst, arith, ⊎_elim, get_or-drop}
 use Rattle.std.specs.List.{list_all}
-use Rattle.std.proofs.lemmas.Bool.{and_parts, cases_order, false≢true, ne_eqb, both_ways}
+use Rattle.std.proofs.lemmas.Bool.{and_parts, cases_order, false≢true, both_ways}
 use Rattle.ql_lex.specs.declared.fault.LexKind.{LexKind}
 use Rattle.ql_lex.specs.declared.fault.LexKind.TheVariants as kinds
 use Rattle.ql_lex.specs.declared.part.Part.{Part}
 use Rattle.ql_lex.specs.declared.part.Part.TheVariants as parts
 use Rattle.ql_lex.specs.declared.token.TokenKind.{TokenKind}
 use Rattle.ql_lex.specs.declared.token.TokenKind.TheVariants.{Name, Quoted, Number, Text, SysVar, Sign, End}
-use Rattle.ql_lex.specs.Shapes.{is_blank, is_letter, is_quote, is_name_byte, is_variable_byte, is_word, IsNamed, sign_of, sign_of_one, sign_of_two, inside}
+use Rattle.ql_lex.specs.Shapes.{is_letter, is_name_byte, is_variable_byte, is_word, IsNamed}
 use Rattle.ql_lex.specs.Tokens.{IsToken, IsComment, Stands, IsUnclosed, IsOpenComment, open_text, open_name, IsFaulty, IsBad}
-use Rattle.ql_lex.specs.Reading.{IsOther}
 use Rattle.ql_lex.proofs.Heads.{head, head_quote, letter_some}
-use Rattle.ql_lex.proofs.PartHeads.{kind_head, part_head, same_kind, stands_head, text_head, digits_head, named_head, unclosed_head}
-use Rattle.ql_lex.proofs.Slices.{slice_at, slice_length}
+use Rattle.ql_lex.proofs.PartHeads.{kind_head, same_kind, stands_head, text_head, digits_head, named_head, unclosed_head}
+use Rattle.ql_lex.proofs.Slices.{slice_at}
 use Rattle.ql_lex.proofs.Runs.{passes_at}
 use Rattle.ql_lex.proofs.Enclosed.{QuotesAt, quotes_from, inside_from}
 

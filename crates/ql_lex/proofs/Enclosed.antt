@@ -1,5 +1,5 @@
 -- Parts of a text between two quotes.
-use Rattle.std.proofs.Common.{◌≡◌, ℕ, ◌+◌, ◌-◌, ◌<◌, ◌≤◌, List, length, get_or, slice_range, sym, ap, ◌∙◌, subst, arith}
+use Rattle.std.proofs.Common.{◌≡◌, ℕ, ◌+◌, ◌-◌, ◌<◌, ◌≤◌, List, length, get_or, slice_range, sym, ap, ◌∙◌, arith}
 use Rattle.ql_lex.specs.Shapes.{IsEnclosed, inside}
 use Rattle.ql_lex.proofs.Slices.{slice_length, slice_byte, slice_slice}
 

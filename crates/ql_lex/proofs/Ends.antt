@@ -1,12 +1,12 @@
 -- What stands at a place ends at one place.
-use Rattle.std.proofs.Common.{◌≡◌, ◌≢◌, ℕ, ◌+◌, ◌-◌, ◌<◌, ◌≤◌, Bool, true, false, cond, eqb, ◌&&◌, List, [], ◌∷◌, ◌++◌, None, get_or, slice_range, length, drop, refl, sym, ap, ◌∙◌, subst, arith, ⊎_elim}
+use Rattle.std.proofs.Common.{◌≡◌, ℕ, ◌+◌, ◌-◌, ◌<◌, ◌≤◌, Bool, true, false, eqb, ◌&&◌, List, [], ◌∷◌, ◌++◌, get_or, slice_range, length, refl, sym, ap, ◌∙◌, subst, arith, ⊎_elim}
 use Rattle.std.specs.Prelude.{is_some, not}
 use Rattle.std.specs.Char.{is_ascii_digit}
 use Rattle.std.specs.List.{list_all}
-use Rattle.std.proofs.lemmas.Bool.{and_parts, and_left, cases_order, cases_Bool, both_ways, false≢true, cond-false, cond-true, eq-eqb, eqb-true, not_from_true, and_right}
+use Rattle.std.proofs.lemmas.Bool.{and_parts, and_left, cases_order, both_ways, false≢true, cond-false, eq-eqb, not_from_true, and_right}
 use Rattle.ql_lex.specs.declared.token.TokenKind.{TokenKind}
 use Rattle.ql_lex.specs.declared.token.TokenKind.TheVariants.{Name, Quoted, Number, Text, SysVar, Sign, End}
-use Rattle.ql_lex.specs.Shapes.{is_letter, is_quote, is_digits, is_name_byte, is_variable_byte, is_word, is_plain, is_inner, IsText, IsNamed, sign_of, inside}
+use Rattle.ql_lex.specs.Shapes.{is_letter, is_quote, is_digits, is_name_byte, is_variable_byte, is_word, is_plain, is_inner, IsText, IsNamed}
 use Rattle.ql_lex.specs.Tokens.{IsToken, IsWhole, IsComment}
 use Rattle.ql_lex.proofs.Heads.{letter_some, digit_some, quote_no_backslash}
 use Rattle.ql_lex.proofs.Slices.{slice_first, slice_at, slice_drop, slice_split}

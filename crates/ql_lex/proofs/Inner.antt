@@ -1,7 +1,7 @@
 -- What stands between quotes.
-use Rattle.std.proofs.Common.{◌≡◌, ◌≢◌, ℕ, ◌+◌, ◌-◌, ◌<◌, ◌≤◌, Bool, true, false, cond, eqb, ◌&&◌, List, [], ◌∷◌, ◌++◌, length, get_or, slice_range, refl, sym, ap, ◌∙◌, subst, arith, ⊎_elim, append_assoc}
+use Rattle.std.proofs.Common.{◌≡◌, ◌≢◌, ℕ, ◌+◌, ◌<◌, ◌≤◌, Bool, true, false, eqb, ◌&&◌, List, [], ◌∷◌, ◌++◌, length, get_or, slice_range, refl, sym, ap, ◌∙◌, subst, arith, ⊎_elim, append_assoc}
 use Rattle.std.specs.Prelude.{not}
-use Rattle.std.proofs.lemmas.Bool.{and_parts, and_from, cases_Bool, cases_eq, cond-true, cond-false, both_ways, not-true, ne_eqb, eq-eqb, eqb-true, eqb-false, not_from_false, false≢true, cases_order}
+use Rattle.std.proofs.lemmas.Bool.{and_parts, and_from, cases_Bool, cond-true, cond-false, both_ways, not-true, ne_eqb, eqb-true, eqb-false, not_from_false, false≢true, cases_order}
 use Rattle.ql_lex.specs.Shapes.{is_plain, is_inner, is_quote}
 use Rattle.ql_lex.proofs.Heads.{quote_some}
 use Rattle.ql_lex.proofs.Slices.{slice_more, slice_none, byte_within}

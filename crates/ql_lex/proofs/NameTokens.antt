@@ -1,8 +1,8 @@
 -- Names: plain ones, those between backquotes, and system variables.
-use Rattle.std.proofs.Common.{◌≡◌, ◌≢◌, ℕ, ◌+◌, ◌-◌, ◌<◌, ◌≤◌, Bool, true, false, List, length, get_or, drop, slice_range, refl, sym, ap, ◌∙◌, subst, arith}
-use Rattle.std.specs.List.{list_all, prefix_len}
+use Rattle.std.proofs.Common.{◌≡◌, ℕ, ◌+◌, ◌-◌, ◌<◌, ◌≤◌, true, List, length, get_or, drop, slice_range, refl, sym, ap, ◌∙◌, subst, arith}
+use Rattle.std.specs.List.{prefix_len}
 use Rattle.ql_lex.specs.declared.token.TokenKind.TheVariants.{Name, Quoted, SysVar}
-use Rattle.ql_lex.specs.Shapes.{is_letter, is_name_byte, is_variable_byte, is_word, IsNamed, IsEnclosed, inside, bare_name}
+use Rattle.ql_lex.specs.Shapes.{is_letter, is_name_byte, is_variable_byte, is_word, IsNamed, bare_name}
 use Rattle.ql_lex.specs.Tokens.{IsToken, IsTooLong}
 use Rattle.ql_lex.proofs.Slices.{slice_length, slice_byte, slice_drop, byte_within}
 use Rattle.ql_lex.proofs.Heads.{letter_in_name, letter_in_variable, letter_some}

@@ -1,18 +1,16 @@
 -- What a part of a text, or a fault, says of the byte at its place.
-use Rattle.std.proofs.Common.{◌≡◌, ℕ, ◌+◌, ◌<◌, ◌≤◌, Bool, true, false, cond, ◌&&◌, eqb, List, [], ◌∷◌, Option, Some, None, get_or, slice_range, length, drop, refl, sym, ap, ◌∙◌, subst, arith, ⊎_elim, inl, inr}
+use Rattle.std.proofs.Common.{◌≡◌, ℕ, ◌<◌, Bool, true, false, cond, ◌&&◌, eqb, List, [], ◌∷◌, Option, Some, None, get_or, slice_range, refl, sym, ap, ◌∙◌, subst, arith, ⊎_elim, inl, inr}
 use Rattle.std.specs.Prelude.{◌⊎◌, is_some}
 use Rattle.std.specs.Char.{is_ascii_digit}
 use Rattle.std.specs.List.{list_all}
 use Rattle.std.proofs.lemmas.Bool.{and_parts, eqb-true, false≢true}
-use Rattle.ql_lex.specs.declared.fault.LexKind.{LexKind}
-use Rattle.ql_lex.specs.declared.fault.LexKind.TheVariants as kinds
 use Rattle.ql_lex.specs.declared.part.Part.{Part}
 use Rattle.ql_lex.specs.declared.part.Part.TheVariants as parts
 use Rattle.ql_lex.specs.declared.token.TokenKind.{TokenKind}
 use Rattle.ql_lex.specs.declared.token.TokenKind.TheVariants.{Name, Quoted, Number, Text, SysVar, Sign, End}
 use Rattle.ql_lex.specs.declared.token.Sign.TheVariants as signs
-use Rattle.ql_lex.specs.Shapes.{is_letter, is_quote, is_digits, is_name_byte, is_word, IsText, IsNamed, IsLexeme, sign_of, sign_of_one, sign_of_two}
-use Rattle.ql_lex.specs.Tokens.{IsToken, Stands, IsUnclosed, open_text, open_name, IsFaulty}
+use Rattle.ql_lex.specs.Shapes.{is_letter, is_digits, is_name_byte, is_word, IsText, IsNamed, sign_of, sign_of_one, sign_of_two}
+use Rattle.ql_lex.specs.Tokens.{IsToken, Stands, IsUnclosed, open_text, open_name}
 use Rattle.ql_lex.proofs.Heads.{head, head_letter, head_digit, head_quote, head_blank, letter_some, digit_some, quote_some}
 use Rattle.ql_lex.proofs.Slices.{slice_first}
 

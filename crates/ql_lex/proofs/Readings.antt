@@ -1,15 +1,15 @@
 -- A text that is read part by part.
-use Rattle.std.proofs.Common.{◌≡◌, ◌≢◌, ℕ, ◌+◌, ◌-◌, ◌<◌, ◌≤◌, true, List, [], ◌∷◌, ◌++◌, All, length, get_or, slice_range, map, refl, sym, ap, ◌∙◌, subst, arith}
+use Rattle.std.proofs.Common.{◌≡◌, ◌≢◌, ℕ, ◌+◌, ◌<◌, ◌≤◌, true, List, [], ◌∷◌, ◌++◌, All, length, get_or, slice_range, refl, sym, ap, ◌∙◌, subst, arith}
 use Rattle.std.specs.Char.{is_ascii_digit}
 use Rattle.std.specs.List.{list_all}
 use Rattle.std.proofs.lemmas.Bool.{and_parts}
-use Rattle.std.proofs.lemmas.List.{map_push, append-nil}
-use Rattle.std.proofs.lemmas.List.Elements.{All-push, All-nil, All-append, All-cons}
+use Rattle.std.proofs.lemmas.List.{append-nil}
+use Rattle.std.proofs.lemmas.List.Elements.{All-push, All-nil}
 use Rattle.ql_lex.specs.declared.part.Part.{Part}
 use Rattle.ql_lex.specs.declared.part.Part.TheVariants as parts
 use Rattle.ql_lex.specs.declared.token.TokenKind.{TokenKind}
 use Rattle.ql_lex.specs.declared.token.TokenKind.TheVariants.{Name, Quoted, Number, Text, SysVar, Sign, End}
-use Rattle.ql_lex.specs.Shapes.{is_blank, is_letter, is_name_byte, IsLexeme}
+use Rattle.ql_lex.specs.Shapes.{is_letter, is_name_byte, IsLexeme}
 use Rattle.ql_lex.specs.Tokens.{IsToken, Stands, end_of, Splits, Lexeme, tokens_among, end_token, AreTokens, AreLexemes}
 use Rattle.ql_lex.proofs.Heads.{letter_some, digit_some, quote_some, blank_some}
 use Rattle.ql_lex.proofs.PartHeads.{signs_head}

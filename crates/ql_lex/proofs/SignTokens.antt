@@ -1,12 +1,10 @@
 -- Signs of a text.
-use Rattle.std.proofs.Common.{◌≡◌, ℕ, ◌+◌, ◌-◌, ◌<◌, ◌≤◌, Bool, true, false, cond, List, [], ◌∷◌, ◌++◌, Option, Some, None, get_or, slice_range, length, refl, sym, ap, ◌∙◌, subst, arith, ⊎_elim, inl, inr}
+use Rattle.std.proofs.Common.{◌≡◌, ℕ, ◌+◌, ◌-◌, ◌<◌, true, false, List, [], ◌∷◌, ◌++◌, Option, Some, None, get_or, slice_range, length, refl, ap, ◌∙◌, subst, arith, ⊎_elim, inl, inr}
 use Rattle.std.specs.Prelude.{◌⊎◌, is_some}
-use Rattle.std.specs.Char.{is_ascii_digit}
-use Rattle.std.proofs.lemmas.Bool.{cases_lt, cases_order, both_ways, cond-false, ne_eqb}
-use Rattle.ql_lex.specs.declared.token.Sign.{Sign as SignKind}
+use Rattle.std.proofs.lemmas.Bool.{cases_order, both_ways, cond-false, ne_eqb}
 use Rattle.ql_lex.specs.declared.token.TokenKind.{TokenKind}
-use Rattle.ql_lex.specs.declared.token.TokenKind.TheVariants.{Name, Quoted, Number, Text, SysVar, Sign, End}
-use Rattle.ql_lex.specs.Shapes.{is_blank, is_letter, is_quote, sign_of, sign_of_one, sign_of_two, IsNamed}
+use Rattle.ql_lex.specs.declared.token.TokenKind.TheVariants.{Sign}
+use Rattle.ql_lex.specs.Shapes.{sign_of, sign_of_one, sign_of_two, IsNamed}
 use Rattle.ql_lex.specs.Tokens.{IsToken, IsBad}
 use Rattle.ql_lex.specs.Reading.{IsOther}
 use Rattle.ql_lex.proofs.Heads.{head}

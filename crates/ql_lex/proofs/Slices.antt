@@ -1,5 +1,5 @@
 -- Parts of a text from one place up to another.
-use Rattle.std.proofs.Common.{◌≡◌, ℕ, ◌+◌, ◌-◌, ◌<◌, ◌≤◌, List, [], ◌∷◌, ◌++◌, length, get_or, take, drop, slice_range, refl, sym, ap, ◌∙◌, subst, arith, length-drop, length-take, get_or-drop, get_or-take, take-append-drop, ⊎_elim}
+use Rattle.std.proofs.Common.{◌≡◌, ℕ, ◌+◌, ◌-◌, ◌<◌, ◌≤◌, List, [], ◌∷◌, ◌++◌, length, get_or, take, drop, slice_range, refl, sym, ap, ◌∙◌, arith, length-drop, length-take, get_or-drop, get_or-take, take-append-drop, ⊎_elim}
 use Rattle.std.proofs.lemmas.List.{get_or_past, drop-drop, take-take, drop-take, take_more, drop_more, same_lists}
 use Rattle.std.proofs.lemmas.Bool.{cases_lt}
 

@@ -1,5 +1,5 @@
 -- Texts between quotes.
-use Rattle.std.proofs.Common.{◌≡◌, ℕ, ◌+◌, ◌-◌, ◌<◌, ◌≤◌, true, List, length, get_or, slice_range, sym, ap, ◌∙◌, subst, arith}
+use Rattle.std.proofs.Common.{◌≡◌, ℕ, ◌+◌, ◌-◌, ◌≤◌, true, List, length, get_or, slice_range, sym, ap, ◌∙◌, subst, arith}
 use Rattle.std.specs.Str.{IsUtf8}
 use Rattle.ql_lex.specs.declared.token.TokenKind.TheVariants.{Text}
 use Rattle.ql_lex.specs.Shapes.{is_quote, is_inner, inside, IsEnclosed, IsText}

@@ -1,8 +1,8 @@
 -- A text is read in one way.
-use Rattle.std.proofs.Common.{◌≡◌, ◌≢◌, ℕ, ◌+◌, ◌-◌, ◌^◌, ◌<◌, ◌≤◌, Bool, true, false, eqb, List, [], ◌∷◌, ◌++◌, get_or, slice_range, length, refl, sym, ap, ◌∙◌, subst, arith, ⊎_elim, inl, inr}
+use Rattle.std.proofs.Common.{◌≡◌, ℕ, ◌-◌, ◌^◌, ◌<◌, ◌≤◌, false, eqb, List, [], ◌∷◌, ◌++◌, get_or, slice_range, length, refl, sym, ap, ◌∙◌, subst, arith, ⊎_elim, inl, inr}
 use Rattle.std.specs.Prelude.{◌⊎◌}
 use Rattle.std.specs.Char.{is_ascii_digit}
-use Rattle.std.proofs.lemmas.Bool.{eqb-false, false≢true, both_ways}
+use Rattle.std.proofs.lemmas.Bool.{eqb-false}
 use Rattle.ql_lex.specs.declared.fault.LexKind.{LexKind}
 use Rattle.ql_lex.specs.declared.fault.LexKind.TheVariants.{NotUtf8, UnclosedQuote, UnclosedComment, BadCharacter, NumberTooLarge, NumberWithPoint, NameTooLong}
 use Rattle.ql_lex.specs.declared.part.Part.{Part}
@@ -11,8 +11,8 @@ use Rattle.ql_lex.specs.declared.token.TokenKind.{TokenKind}
 use Rattle.ql_lex.specs.declared.token.TokenKind.TheVariants as tokens
 use Rattle.std.specs.Str.{IsUtf8}
 use Rattle.std.specs.Str.Parse.{digits_value}
-use Rattle.ql_lex.specs.Shapes.{is_digits, IsText, IsNamed, bare_name, inside}
-use Rattle.ql_lex.specs.Tokens.{IsToken, IsWhole, IsComment, Stands, end_of, IsNotUtf8, IsUnclosed, open_text, open_name, IsOpenComment, IsTooLarge, IsPointed, IsTooLong, IsFaulty, IsBad, Fails, Splits, Lexeme, tokens_among, end_token, AreTokens, FaultAt}
+use Rattle.ql_lex.specs.Shapes.{IsNamed, bare_name, inside}
+use Rattle.ql_lex.specs.Tokens.{IsToken, Stands, end_of, IsNotUtf8, IsUnclosed, open_text, open_name, IsOpenComment, IsTooLarge, IsPointed, IsTooLong, IsFaulty, IsBad, Fails, Splits, Lexeme, tokens_among, end_token, AreTokens, FaultAt}
 use Rattle.ql_lex.proofs.Heads.{head, head_quote, quote_some}
 use Rattle.ql_lex.proofs.PartHeads.{kind_head, part_head, same_kind, stands_head, text_head, digits_head, named_head, unclosed_head}
 use Rattle.ql_lex.proofs.Slices.{byte_within}

@@ -1,9 +1,9 @@
 -- Words of a text: a letter or `_`, and the longest run of bytes of a name.
-use Rattle.std.proofs.Common.{◌≡◌, ℕ, ◌+◌, ◌-◌, ◌<◌, ◌≤◌, Bool, true, false, List, length, get_or, drop, slice_range, sym, ap, ◌∙◌, subst, arith, length-drop}
+use Rattle.std.proofs.Common.{◌≡◌, ℕ, ◌+◌, ◌<◌, ◌≤◌, Bool, true, false, List, length, get_or, drop, slice_range, sym, ap, ◌∙◌, subst, arith}
 use Rattle.std.specs.List.{list_all, prefix_len}
 use Rattle.std.proofs.lemmas.Bool.{and_from}
 use Rattle.std.proofs.lemmas.List.{take_rest}
-use Rattle.ql_lex.specs.Shapes.{is_letter, is_word, is_digits}
+use Rattle.ql_lex.specs.Shapes.{is_letter, is_word}
 use Rattle.ql_lex.proofs.Slices.{slice_byte}
 use Rattle.ql_lex.proofs.Runs.{run_within, run_passes, run_stops, run_some}
 

@@ -1,3 +1,4 @@
+ghost use Rattle.std.specs.Prelude.{◌≤◌, length};
 ghost use Rattle.ql_lex.specs.Shapes.{IsText};
 
 use crate::LexKind::{
@@ -247,6 +248,63 @@ fn finds_faults(rt: HostRuntime) {
         if text.len() < 1000 {
             let fault = lex(rt.alloc(), text).err();
             assert!(rt; fault == Some(Or::Fault(LexFault { place, kind })));
+        }
+    }
+}
+
+/// The text of an INSERT of 10,000 rows, about one megabyte.
+fn large_insert(alloc: Global) -> Result<Vec<u8>, NoMemory> {
+    let mut text = b"INSERT INTO rt VALUES ".to_vec(alloc)?;
+    for _ in 0..10000 {
+        text.extend_from_slice(
+            b"(18446744073709551615, 'hello \\'world\\' and some more words of a text that is indexed', 17, -7), ",
+        )?;
+    }
+    Ok(text)
+}
+
+#[test]
+fn reads_a_large_insert(rt: HostRuntime) -> Result<(), Fail> {
+    let text = large_insert(rt.alloc()).ok().expect(&rt, "memory");
+    if text.len() < 2000000 {
+        let tokens = lex(rt.alloc(), text.as_slice()).ok().expect(&rt, "tokens");
+        // four words, eleven tokens of each row, and the end
+        assert_eq!(rt; tokens.len(), 110005);
+        let last = tokens.last().expect(&rt, "end");
+        assert_eq!(rt; last.at as usize, text.len());
+    }
+    Ok(())
+}
+
+/// A text of 200,000 times the same bytes.
+fn repeated(alloc: Global, bytes: &[u8]) -> Result<Vec<u8>, NoMemory>
+    requires { length bytes.now ≤ 8 }
+{
+    let mut text = Vec::new(alloc);
+    for _ in 0..200000 {
+        text.extend_from_slice(bytes)?;
+    }
+    Ok(text)
+}
+
+/// Bytes, 200,000 times which a text has this fault at its start.
+const REPEATED: [(&[u8], LexKind); 5] = [
+    (b"/* ", UnclosedComment),
+    (b"'\\", UnclosedQuote),
+    (b"9", NumberTooLarge),
+    (b"a", NameTooLong),
+    (b"`", BadCharacter),
+];
+
+#[test]
+fn reads_many_beginnings(rt: HostRuntime) {
+    for (bytes, kind) in REPEATED {
+        if bytes.len() < 8 {
+            let text = repeated(rt.alloc(), bytes).ok().expect(&rt, "memory");
+            if text.len() < 2000000 {
+                let fault = lex(rt.alloc(), text.as_slice()).err();
+                assert!(rt; fault == Some(Or::Fault(LexFault { place: 0, kind })));
+            }
         }
     }
 }

@@ -1,9 +1,7 @@
-use Rattle.std.proofs.Common.{ℕ, List, [], ◌∷◌, ◌++◌, map, ap, sym, ◌∙◌, refl, subst, is_ok, length}
+use Rattle.std.proofs.Common.{ℕ, List, [], ◌∷◌, ◌++◌, map, ap, ◌∙◌, refl, subst, is_ok, length}
 use Rattle.std.proofs.ResultArms.{chosen}
 use Rattle.std.proofs.lemmas.List.{map_push}
-use Rattle.ql_lex.specs.declared.part.Part.{Part}
 use Rattle.ql_lex.specs.declared.part.Part.TheVariants as parts
-use Rattle.ql_lex.specs.declared.token.Token.{Token}
 use Rattle.ql_lex.specs.declared.token.TokenKind.TheVariants.{End}
 use Rattle.ql_lex.specs.Tokens.{Stands, Lexeme, lexeme_of}
 use Rattle.ql_lex.proofs.Slices.{slice_none}

@@ -1,4 +1,4 @@
-use Rattle.std.proofs.Common.{ℕ, ◌<◌, ◌+◌, sym, ◌∙◌, arith}
+use Rattle.std.proofs.Common.{sym, ◌∙◌, arith}
 use Rattle.ql_lex.proofs.Enclosed.{QuotesAt}
 use Rattle.ql_lex.proofs.NameTokens.{quoted_token, quoted_long}
 use Rattle.ql_lex.proofs.BadBytes.{quoted_bad}

@@ -1,4 +1,4 @@
-use Rattle.std.proofs.Common.{ℕ, ◌+◌, sym, ◌∙◌, ap}
+use Rattle.std.proofs.Common.{sym, ◌∙◌, ap}
 use Rattle.std.proofs.lemmas.Bool.{false≢true}
 use Rattle.ql_lex.specs.Shapes.{is_letter}
 use Rattle.ql_lex.proofs.NameTokens.{IsVariable, variable_is, variable_token, variable_long}

@@ -1,4 +1,4 @@
-use Rattle.std.proofs.Common.{◌≡◌, ℕ, ◌+◌, ◌<◌, length, get_or, sym, ◌∙◌, arith}
+use Rattle.std.proofs.Common.{◌+◌, sym, ◌∙◌, arith}
 use Rattle.ql_lex.proofs.NumberValues.{number_run, number_digits}
 use Rattle.ql_lex.proofs.numbers.number_at.Goals as goal
 

@@ -1,6 +1,6 @@
-use Rattle.std.proofs.Common.{◌≡◌, ℕ, ◌+◌, Bool, true, false, get_or, sym, ◌∙◌, ap}
+use Rattle.std.proofs.Common.{◌≡◌, ◌+◌, true, false, get_or, sym, ◌∙◌, ap}
 use Rattle.std.specs.Prelude.{is_some}
-use Rattle.ql_lex.specs.Shapes.{sign_of_one, sign_of_two}
+use Rattle.ql_lex.specs.Shapes.{sign_of_two}
 use Rattle.ql_lex.proofs.SignTokens.{two_token, one_token, other_bad}
 use Rattle.ql_lex.proofs.signs.sign_at.Goals as goal
 

@@ -1,4 +1,4 @@
-use Rattle.std.proofs.Common.{ℕ, ◌<◌, ◌+◌, refl, arith}
+use Rattle.std.proofs.Common.{refl, arith}
 use Rattle.ql_lex.proofs.TextTokens.{EndsAt, text_token, text_other, text_open}
 use Rattle.ql_lex.proofs.texts.text_at.Goals as goal
 

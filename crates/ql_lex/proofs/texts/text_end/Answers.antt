@@ -1,4 +1,4 @@
-use Rattle.std.proofs.Common.{◌≡◌, ℕ, ◌+◌, ◌≤◌, Bool, true, false, get_or, length, sym, subst, arith}
+use Rattle.std.proofs.Common.{◌+◌, true, false, sym, subst}
 use Rattle.ql_lex.proofs.Inner.{Scanned, scan_start, scan_escaped, scan_next, scan_end}
 use Rattle.ql_lex.proofs.texts.text_end.Goals as goal
 use Rattle.ql_lex.proofs.texts.text_end.Goals.{then-escaped, else-escaped+else-text-place}

@@ -1,7 +1,6 @@
-use Rattle.std.proofs.Common.{◌≡◌, ℕ, ◌+◌, ◌-◌, ◌<◌, ◌≤◌, Bool, true, false, List, ◌∷◌, [], ◌++◌, get_or, subst, ap, ◌∙◌, arith}
-use Rattle.std.specs.Vec.{vec_len, vec_capacity}
+use Rattle.std.proofs.Common.{ℕ, ◌+◌, true, false, List, ◌∷◌, [], ◌++◌, get_or, subst, ap, ◌∙◌, arith}
 use Rattle.ql_lex.specs.Shapes.{inside}
-use Rattle.ql_lex.proofs.Unescaping.{Resolves, Resolving, resolving_next, resolve_start, resolve_escaped, resolve_backslash, resolve_plain, resolve_end}
+use Rattle.ql_lex.proofs.Unescaping.{Resolves, resolving_next, resolve_start, resolve_escaped, resolve_backslash, resolve_plain, resolve_end}
 use Rattle.ql_lex.proofs.values.put_text.Goals as goal
 use Rattle.ql_lex.proofs.values.put_text.Goals.{then-after_backslash, else-after_backslash+then-byte-eq92, else-after_backslash+else-byte-eq92}
 
