@@ -18,3 +18,4 @@ pub mod Agreements
 pub mod SelectAgreement
 pub mod StatementAgreement
 pub mod Cursors
+pub mod CanonicalSamples

@@ -4,6 +4,8 @@ pub mod Classes
 pub mod Parts
 pub mod Selects
 pub mod Statements
+pub mod Pieces
+pub mod Canonical
 pub mod Packets
 pub mod Language
 pub mod Grammar
