@@ -58,22 +58,31 @@ unfolding canonical_text digits
 a_status = refl
 
 a_short_select : canonical_text (statements.Select (record {
-    items = items.All ∷ []; index = codes "rt"; conds = []; group = None; within = []; having = None; order = []; limit = None; options = []; facets = [];
-  })) ≡ codes "SELECT * FROM `rt`"
+  items = items.All ∷ [];
+  index = codes "rt";
+  conds = [];
+  group = None;
+  within = [];
+  having = None;
+  order = [];
+  limit = None;
+  options = [];
+  facets = [];
+})) ≡ codes "SELECT * FROM `rt`"
 unfolding canonical_text digits
 a_short_select = refl
 
 a_select : canonical_text (statements.Select (record {
-    items = items.One exprs.CountAll (Some (codes "n")) ∷ items.One (exprs.Least (codes "gid")) None ∷ [];
-    index = codes "rt";
-    conds = conds.Match (codes "a") ∷ conds.Among (codes "gid") (pos 1 ∷ negsuc 1 ∷ []) true ∷ conds.Compare (codes "gid") comparisons.NotEqual (pos 3) ∷ conds.Between (codes "gid") (negsuc 0) (pos 9) ∷ [];
-    group = Some (codes "gid");
-    within = record { by = sorts.Weight; descending = Some true } ∷ [];
-    having = Some (record { left = sorts.CountAll; op = comparisons.AtLeast; value = pos 2 });
-    order = record { by = sorts.Column (codes "n"); descending = None } ∷ record { by = sorts.CountAll; descending = Some false } ∷ [];
-    limit = Some (record { first = 1; second = Some 20 });
-    options = record { name = codes "ranker"; value = values.Name (codes "none") } ∷ record { name = codes "field_weights"; value = values.List (record { 0 = codes "title"; 1 = 5 } ∷ record { 0 = codes "body"; 1 = 2 } ∷ []) } ∷ [];
-    facets = record { column = codes "gid"; order = Some (record { by = sorts.CountAll; descending = Some true }); limit = Some (record { first = 5; second = None }) } ∷ record { column = codes "tag"; order = None; limit = None } ∷ [];
-  })) ≡ codes "SELECT COUNT ( * ) AS `n` , MIN ( `gid` ) FROM `rt` WHERE MATCH ( 'a' ) AND `gid` NOT IN ( 1 , - 2 ) AND `gid` != 3 AND `gid` BETWEEN - 1 AND 9 GROUP BY `gid` WITHIN GROUP ORDER BY WEIGHT ( ) DESC HAVING COUNT ( * ) >= 2 ORDER BY `n` , COUNT ( * ) ASC LIMIT 1 , 20 OPTION `ranker` = `none` , `field_weights` = ( `title` = 5 , `body` = 2 ) FACET `gid` ORDER BY COUNT ( * ) DESC LIMIT 5 FACET `tag`"
+  items = items.One exprs.CountAll (Some (codes "n")) ∷ items.One (exprs.Least (codes "gid")) None ∷ [];
+  index = codes "rt";
+  conds = conds.Match (codes "a") ∷ conds.Among (codes "gid") (pos 1 ∷ negsuc 1 ∷ []) true ∷ conds.Compare (codes "gid") comparisons.NotEqual (pos 3) ∷ conds.Between (codes "gid") (negsuc 0) (pos 9) ∷ [];
+  group = Some (codes "gid");
+  within = record { by = sorts.Weight; descending = Some true } ∷ [];
+  having = Some (record { left = sorts.CountAll; op = comparisons.AtLeast; value = pos 2 });
+  order = record { by = sorts.Column (codes "n"); descending = None } ∷ record { by = sorts.CountAll; descending = Some false } ∷ [];
+  limit = Some (record { first = 1; second = Some 20 });
+  options = record { name = codes "ranker"; value = values.Name (codes "none") } ∷ record { name = codes "field_weights"; value = values.List (record { 0 = codes "title"; 1 = 5 } ∷ record { 0 = codes "body"; 1 = 2 } ∷ []) } ∷ [];
+  facets = record { column = codes "gid"; order = Some (record { by = sorts.CountAll; descending = Some true }); limit = Some (record { first = 5; second = None }) } ∷ record { column = codes "tag"; order = None; limit = None } ∷ [];
+})) ≡ codes "SELECT COUNT ( * ) AS `n` , MIN ( `gid` ) FROM `rt` WHERE MATCH ( 'a' ) AND `gid` NOT IN ( 1 , - 2 ) AND `gid` != 3 AND `gid` BETWEEN - 1 AND 9 GROUP BY `gid` WITHIN GROUP ORDER BY WEIGHT ( ) DESC HAVING COUNT ( * ) >= 2 ORDER BY `n` , COUNT ( * ) ASC LIMIT 1 , 20 OPTION `ranker` = `none` , `field_weights` = ( `title` = 5 , `body` = 2 ) FACET `gid` ORDER BY COUNT ( * ) DESC LIMIT 5 FACET `tag`"
 unfolding canonical_text digits
 a_select = refl

@@ -19,3 +19,4 @@ pub mod SelectAgreement
 pub mod StatementAgreement
 pub mod Cursors
 pub mod CanonicalSamples
+pub mod Writings

@@ -1,5 +1,6 @@
 -- The pieces of a statement as it is written, in the grammar's order, and its canonical text.
 use Rattle.std.specs.Prelude.{◌≡◌, ℕ, Bool, true, false, List, [], ◌∷◌, ◌++◌, Option, map}
+use Rattle.ql_lex.specs.declared.token.Sign.{Sign}
 use Rattle.ql_lex.specs.declared.token.Sign.TheVariants as signs
 use Rattle.ql_parse.specs.declared.keyword.Keyword.TheVariants as keywords
 use Rattle.ql_parse.specs.declared.select.Comparison.{Comparison}
@@ -61,13 +62,13 @@ abbrev pub item : SelectItem → List Piece
 item items.All = sign signs.Star ∷ []
 item (items.One what alias) = expr what ++ given alias_pieces alias
 
-abbrev pub comparison : Comparison → List Piece
-comparison comparisons.Equal = sign signs.Equal ∷ []
-comparison comparisons.NotEqual = sign signs.NotEqual ∷ []
-comparison comparisons.Less = sign signs.Less ∷ []
-comparison comparisons.Greater = sign signs.Greater ∷ []
-comparison comparisons.AtMost = sign signs.LessOrEqual ∷ []
-comparison comparisons.AtLeast = sign signs.GreaterOrEqual ∷ []
+abbrev pub comparison_sign : Comparison → Sign
+comparison_sign comparisons.Equal = signs.Equal
+comparison_sign comparisons.NotEqual = signs.NotEqual
+comparison_sign comparisons.Less = signs.Less
+comparison_sign comparisons.Greater = signs.Greater
+comparison_sign comparisons.AtMost = signs.LessOrEqual
+comparison_sign comparisons.AtLeast = signs.GreaterOrEqual
 
 abbrev pub negation : Bool → List Piece
 negation true = word keywords.Not ∷ []
@@ -75,7 +76,7 @@ negation false = []
 
 abbrev pub cond : Cond → List Piece
 cond (conds.Match query) = word keywords.Match ∷ in_parentheses (text query ∷ [])
-cond (conds.Compare column op value) = name column ∷ comparison op ++ whole value
+cond (conds.Compare column op value) = name column ∷ sign (comparison_sign op) ∷ whole value
 cond (conds.Among column values negated) = name column ∷ negation negated ++ word keywords.In ∷ in_parentheses (with_commas whole values)
 cond (conds.Between column low high) = name column ∷ word keywords.Between ∷ whole low ++ word keywords.And ∷ whole high
 
@@ -96,7 +97,7 @@ abbrev pub ordered : List SortKey → List Piece
 ordered keys = word keywords.Order ∷ word keywords.By ∷ with_commas sort_key keys
 
 abbrev pub having_pieces : Having → List Piece
-having_pieces having = word keywords.Having ∷ sort_name having.left ++ comparison having.op ++ whole having.value
+having_pieces having = word keywords.Having ∷ sort_name having.left ++ sign (comparison_sign having.op) ∷ whole having.value
 
 abbrev pub second_number : ℕ → List Piece
 second_number n = sign signs.Comma ∷ number n ∷ []
@@ -136,18 +137,30 @@ within_pieces keys = word keywords.Within ∷ word keywords.Group ∷ ordered ke
 abbrev pub option_pieces : List SelectOption → List Piece
 option_pieces list = word keywords.Option ∷ with_commas option list
 
-abbrev pub select_pieces : Select → List Piece
-select_pieces select =
+-- SELECT, FROM and WHERE
+abbrev pub head_pieces : Select → List Piece
+head_pieces select =
     word keywords.Select ∷ with_commas item select.items
     ++ word keywords.From ∷ name select.index
     ∷ given_all where_pieces select.conds
-    ++ given group_pieces select.group
+
+-- GROUP BY, WITHIN and HAVING
+abbrev pub groups_pieces : Select → List Piece
+groups_pieces select =
+    given group_pieces select.group
     ++ given_all within_pieces select.within
     ++ given having_pieces select.having
-    ++ given_all ordered select.order
+
+-- ORDER BY, LIMIT, OPTION and the facets
+abbrev pub tail_pieces : Select → List Piece
+tail_pieces select =
+    given_all ordered select.order
     ++ given limit_pieces select.limit
     ++ given_all option_pieces select.options
     ++ in_row facet select.facets
+
+abbrev pub select_pieces : Select → List Piece
+select_pieces select = head_pieces select ++ groups_pieces select ++ tail_pieces select
 
 abbrev pub value : Val → List Piece
 value (vals.Number z) = whole z

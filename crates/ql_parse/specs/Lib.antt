@@ -6,6 +6,7 @@ pub mod Selects
 pub mod Statements
 pub mod Pieces
 pub mod Canonical
+pub mod Writing
 pub mod Packets
 pub mod Language
 pub mod Grammar

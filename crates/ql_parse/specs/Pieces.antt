@@ -1,5 +1,6 @@
 -- The one way to write a statement: its pieces, how each is spelled, and one space between them.
 use Rattle.std.specs.Prelude.{ℕ, ℤ, pos, negsuc, suc, ◌==◌, ◌||◌, if◌then◌else◌, Bool, true, false, List, [], ◌∷◌, ◌++◌, Option, Some, None, codes, decimal}
+use Rattle.std.specs.List.{flat_map, join_by}
 use Rattle.ql_lex.specs.declared.token.Sign.{Sign}
 use Rattle.ql_lex.specs.declared.token.Sign.TheVariants as signs
 use Rattle.ql_parse.specs.declared.keyword.Keyword.{Keyword}
@@ -92,9 +93,11 @@ sign_text signs.LessOrEqual = codes "<="
 sign_text signs.GreaterOrEqual = codes ">="
 
 -- `\` before each `'` and each `\`
+abbrev pub escaped_byte : ℕ → List ℕ
+escaped_byte b = if (b == 39) || (b == 92) then (92 ∷ b ∷ []) else (b ∷ [])
+
 abbrev pub escaped_text : List ℕ → List ℕ
-escaped_text [] = []
-escaped_text (b ∷ bytes) = if (b == 39) || (b == 92) then (92 ∷ b ∷ escaped_text bytes) else (b ∷ escaped_text bytes)
+escaped_text bytes = flat_map escaped_byte bytes
 
 -- a name between backquotes, a number in decimal digits, a text between `'`, a system variable behind `@@`
 abbrev pub spelling : Piece → List ℕ
@@ -118,11 +121,9 @@ abbrev pub whole : ℤ → List Piece
 whole (pos n) = number n ∷ []
 whole (negsuc n) = sign signs.Minus ∷ number (suc n) ∷ []
 
--- one value or more, with a piece between two of them
+-- values, with a piece between two of them
 abbrev pub listed : {A : Type 0} → Piece → (A → List Piece) → List A → List Piece
-listed between f [] = []
-listed between f (x ∷ []) = f x
-listed between f (x ∷ y ∷ xs) = f x ++ between ∷ listed between f (y ∷ xs)
+listed between f xs = join_by f (between ∷ []) xs
 
 abbrev pub with_commas : {A : Type 0} → (A → List Piece) → List A → List Piece
 with_commas f xs = listed (sign signs.Comma) f xs
@@ -142,8 +143,7 @@ given_all f (x ∷ xs) = f (x ∷ xs)
 
 -- values one behind the other
 abbrev pub in_row : {A : Type 0} → (A → List Piece) → List A → List Piece
-in_row f [] = []
-in_row f (x ∷ xs) = f x ++ in_row f xs
+in_row f xs = flat_map f xs
 
 abbrev pub name_piece : List ℕ → List Piece
 name_piece bytes = name bytes ∷ []

@@ -22,6 +22,10 @@ mod settings;
 mod sorting;
 mod statement;
 mod statements;
+mod writing;
+mod written;
+mod written_select;
+mod written_statement;
 
 pub use fault::{ParseFault, ParseKind};
 pub use keyword::Keyword;
@@ -32,3 +36,4 @@ pub use select::{
     SelectOption, SortKey, SortName,
 };
 pub use statement::{Ids, Plain, Scope, SetValue, Statement, Target, Val};
+pub use written_statement::put_statement;
