@@ -1,8 +1,13 @@
 -- What is appended piece by piece.
-use Rattle.std.proofs.Common.{◌≡◌, ℕ, List, [], ◌∷◌, ◌++◌, Result, Ok, Err, refl, sym, ◌∙◌, ap, append_assoc, append-nil}
+use Rattle.std.proofs.Common.{◌≡◌, ℕ, List, [], ◌∷◌, ◌++◌, Result, Ok, Err, refl, sym, ◌∙◌, ap, subst, Bool, true, false, append_assoc, append-nil, arith, length, take, length-append, ◌-◌}
+use Rattle.std.proofs.Math.Seq.{take-append_seam}
 use Rattle.std.specs.Result.{IsErr}
 use Rattle.srch_base.specs.declared.faults.NoMemory.{NoMemory}
-use Rattle.ql_parse.specs.Writing.{Keeps, Appended}
+use Rattle.ql_parse.specs.declared.statement.Statement.{Statement}
+use Rattle.ql_parse.specs.declared.statement.Statement.TheVariants as statements
+use Rattle.ql_parse.specs.Pieces.{Piece, spelling, written}
+use Rattle.ql_parse.specs.Canonical.{put_word, pieces, canonical_text}
+use Rattle.ql_parse.specs.Writing.{Keeps, Appended, spaced}
 
 pub kept_all : (before bytes after : List ℕ) → after ≡ before ++ bytes → Keeps before after
 kept_all before bytes after e = record { more = bytes; is = e }
@@ -15,3 +20,56 @@ kept before mid after k l = record { more = k.more ++ l.more; is = l.is ∙ ap (
 pub failed : (bytes before after : List ℕ) (r : Result (Unit {0}) NoMemory) → IsErr r → Keeps before after → Appended bytes before r after
 failed bytes before after (Ok x) e k = cc
 failed bytes before after (Err x) e k = k
+
+-- a space behind each piece is one between two of them, and one at the end
+pub spaced_written : (p : Piece) (ps : List Piece) → spaced (p ∷ ps) ≡ written (p ∷ ps) ++ 32 ∷ []
+spaced_written p [] = append-nil (spelling p ++ 32 ∷ [])
+spaced_written p (q ∷ ps) =
+    append_assoc (spelling p) (32 ∷ []) (spaced (q ∷ ps)) ∙ ap (λ v. spelling p ++ 32 ∷ v) (spaced_written q ps) ∙ sym (append_assoc (spelling p) (32 ∷ written (q ∷ ps)) (32 ∷ []))
+
+-- a statement has a first piece
+pub record Begins (ps : List Piece) : Type 0 where
+  pub first : Piece
+  pub others : List Piece
+  pub is : ps ≡ first ∷ others
+
+begins_with : (p : Piece) (ps : List Piece) → Begins (p ∷ ps)
+begins_with p ps = record { first = p; others = ps; is = refl }
+
+pub begins : (s : Statement) → Begins (pieces s)
+begins (statements.Select select) = begins_with _ _
+begins (statements.SelectVar bytes limit) = begins_with _ _
+begins statements.SelectDatabase = begins_with _ _
+begins (statements.Insert true index columns rows) = begins_with _ _
+begins (statements.Insert false index columns rows) = begins_with _ _
+begins (statements.Delete index which) = begins_with _ _
+begins statements.Begin = begins_with _ _
+begins statements.StartTransaction = begins_with _ _
+begins statements.Commit = begins_with _ _
+begins statements.Rollback = begins_with _ _
+begins (statements.SetAutocommit n) = begins_with _ _
+begins (statements.SetNames what) = begins_with _ _
+begins (statements.SetOther for_whom what setting_value) = begins_with _ _
+begins (statements.FlushRamchunk index) = begins_with _ _
+begins (statements.FlushRtindex index) = begins_with _ _
+begins (statements.OptimizeIndex index) = begins_with _ _
+begins (statements.TruncateRtindex index) = begins_with _ _
+begins (statements.Describe index) = begins_with _ _
+begins (statements.ShowIndexStatus index) = begins_with _ _
+begins statements.ShowMeta = begins_with _ _
+begins statements.ShowTables = begins_with _ _
+begins statements.ShowWarnings = begins_with _ _
+begins statements.ShowVariables = begins_with _ _
+begins statements.ShowDatabases = begins_with _ _
+
+pub spaced_text : (s : Statement) → spaced (pieces s) ≡ canonical_text s ++ 32 ∷ []
+unfolding canonical_text
+spaced_text s =
+    let b : Begins (pieces s) = begins s in
+    subst (λ ps. spaced ps ≡ written ps ++ 32 ∷ []) (sym b.is) (spaced_written b.first b.others)
+
+-- the last space taken off
+pub popped : (text now after : List ℕ) (n : ℕ) → now ≡ text ++ 32 ∷ [] → n ≡ length now → after ≡ take (n - 1) now → after ≡ text
+popped text now after n e m r =
+    let k : n - 1 ≡ length text = omega (arith, length-append text (32 ∷ []), ap length e) in
+    r ∙ ap (λ i. take i now) k ∙ ap (λ v. take (length text) v) e ∙ take-append_seam text (32 ∷ [])
