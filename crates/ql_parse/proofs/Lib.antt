@@ -20,3 +20,7 @@ pub mod StatementAgreement
 pub mod Cursors
 pub mod CanonicalSamples
 pub mod Writings
+pub mod CanonicalNames
+pub mod CanonicalTexts
+pub mod CanonicalPieces
+pub mod CanonicalParts

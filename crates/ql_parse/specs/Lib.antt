@@ -7,6 +7,7 @@ pub mod Statements
 pub mod Pieces
 pub mod Canonical
 pub mod Writing
+pub mod Reading
 pub mod Packets
 pub mod Language
 pub mod Grammar

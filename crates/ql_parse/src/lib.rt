@@ -20,6 +20,7 @@ mod selecting;
 mod selects;
 mod settings;
 mod sorting;
+mod reading_law;
 mod statement;
 mod statements;
 mod writing;
@@ -31,6 +32,7 @@ pub use fault::{ParseFault, ParseKind};
 pub use keyword::Keyword;
 pub use kind::Kind;
 pub use parsing::{MAX_STATEMENTS, parse};
+pub use reading_law::canonical_text_is_read;
 pub use select::{
     Comparison, Cond, FacetPart, Having, LimitPart, OptionValue, Select, SelectExpr, SelectItem,
     SelectOption, SortKey, SortName,
