@@ -105,6 +105,9 @@ stays_one {P} p fit is = record {
     is = λ u good (t, e, q) v s. one_back p (λ r. is t (good_one t (subst AreGood e good)) q r) v s;
   }
 
+pub word_back : (w : Keyword) (v : List Lexeme) → Spells (word w ∷ []) v → IsWord w v
+word_back w v s = one_back (word w) (λ r is. kind_is (word w) r is ∙ word_reads w) v s
+
 pub stays_word : (w : Keyword) → Stays (IsWord w) (word w ∷ [])
 stays_word w = stays_one (word w) (λ t good e. word_fits w) (λ t good e s is. kind_is (word w) s is ∙ word_reads w)
 

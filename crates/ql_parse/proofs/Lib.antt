@@ -24,3 +24,5 @@ pub mod CanonicalNames
 pub mod CanonicalTexts
 pub mod CanonicalPieces
 pub mod CanonicalParts
+pub mod CanonicalSelects
+pub mod CanonicalStatements

@@ -1,10 +1,7 @@
 -- The pieces of a statement as it is written, in the grammar's order, and its canonical text.
 use Rattle.std.specs.Prelude.{◌≡◌, ℕ, Bool, true, false, List, [], ◌∷◌, ◌++◌, Option, map}
-use Rattle.ql_lex.specs.declared.token.Sign.{Sign}
 use Rattle.ql_lex.specs.declared.token.Sign.TheVariants as signs
 use Rattle.ql_parse.specs.declared.keyword.Keyword.TheVariants as keywords
-use Rattle.ql_parse.specs.declared.select.Comparison.{Comparison}
-use Rattle.ql_parse.specs.declared.select.Comparison.TheVariants as comparisons
 use Rattle.ql_parse.specs.declared.select.Cond.{Cond}
 use Rattle.ql_parse.specs.declared.select.Cond.TheVariants as conds
 use Rattle.ql_parse.specs.declared.select.FacetPart.{FacetPart}
@@ -35,6 +32,7 @@ use Rattle.ql_parse.specs.declared.statement.Target.{Target}
 use Rattle.ql_parse.specs.declared.statement.Target.TheVariants as targets
 use Rattle.ql_parse.specs.declared.statement.Val.{Val}
 use Rattle.ql_parse.specs.declared.statement.Val.TheVariants as vals
+use Rattle.ql_parse.specs.Selects.{comparison_sign}
 use Rattle.ql_parse.specs.Pieces.{Piece, word, sign, name, number, text, variable, whole, listed, with_commas, in_parentheses, given, given_all, in_row, name_piece, number_piece, written}
 
 -- COUNT ( * )
@@ -61,14 +59,6 @@ alias_pieces alias = word keywords.As ∷ name alias ∷ []
 abbrev pub item : SelectItem → List Piece
 item items.All = sign signs.Star ∷ []
 item (items.One what alias) = expr what ++ given alias_pieces alias
-
-abbrev pub comparison_sign : Comparison → Sign
-comparison_sign comparisons.Equal = signs.Equal
-comparison_sign comparisons.NotEqual = signs.NotEqual
-comparison_sign comparisons.Less = signs.Less
-comparison_sign comparisons.Greater = signs.Greater
-comparison_sign comparisons.AtMost = signs.LessOrEqual
-comparison_sign comparisons.AtLeast = signs.GreaterOrEqual
 
 abbrev pub negation : Bool → List Piece
 negation true = word keywords.Not ∷ []
@@ -137,30 +127,18 @@ within_pieces keys = word keywords.Within ∷ word keywords.Group ∷ ordered ke
 abbrev pub option_pieces : List SelectOption → List Piece
 option_pieces list = word keywords.Option ∷ with_commas option list
 
--- SELECT, FROM and WHERE
-abbrev pub head_pieces : Select → List Piece
-head_pieces select =
+abbrev pub select_pieces : Select → List Piece
+select_pieces select =
     word keywords.Select ∷ with_commas item select.items
     ++ word keywords.From ∷ name select.index
     ∷ given_all where_pieces select.conds
-
--- GROUP BY, WITHIN and HAVING
-abbrev pub groups_pieces : Select → List Piece
-groups_pieces select =
-    given group_pieces select.group
+    ++ given group_pieces select.group
     ++ given_all within_pieces select.within
     ++ given having_pieces select.having
-
--- ORDER BY, LIMIT, OPTION and the facets
-abbrev pub tail_pieces : Select → List Piece
-tail_pieces select =
-    given_all ordered select.order
+    ++ given_all ordered select.order
     ++ given limit_pieces select.limit
     ++ given_all option_pieces select.options
     ++ in_row facet select.facets
-
-abbrev pub select_pieces : Select → List Piece
-select_pieces select = head_pieces select ++ groups_pieces select ++ tail_pieces select
 
 abbrev pub value : Val → List Piece
 value (vals.Number z) = whole z

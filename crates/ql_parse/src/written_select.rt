@@ -3,8 +3,9 @@ ghost use Rattle.ql_parse.specs.declared.keyword.Keyword.TheVariants as keywords
 ghost use Rattle.ql_parse.specs.declared.select.Cond.TheVariants as conds;
 ghost use Rattle.ql_parse.specs.declared.select.SelectExpr.TheVariants as exprs;
 ghost use Rattle.ql_parse.specs.Pieces.{word, name, text, in_parentheses, given, given_all};
-ghost use Rattle.ql_parse.specs.Canonical.{count_all, expr, alias_pieces, comparison_sign as sign_of, negation, cond, direction, ordered, facet_order, where_pieces, group_pieces, within_pieces, option_pieces, head_pieces, groups_pieces, tail_pieces};
-ghost use Rattle.ql_parse.specs.Writing.{Appends};
+ghost use Rattle.ql_parse.specs.Canonical.{count_all, expr, alias_pieces, negation, cond, direction, ordered, facet_order, where_pieces, group_pieces, within_pieces, option_pieces};
+ghost use Rattle.ql_parse.specs.Writing.{Appends, head_pieces, groups_pieces, tail_pieces};
+ghost use Rattle.ql_parse.specs.Selects.{comparison_sign as sign_of};
 
 use crate::Keyword;
 use crate::select::{
