@@ -3,11 +3,14 @@ use Rattle.std.proofs.Common.{◌≡◌, ℕ, List, [], ◌∷◌, ◌++◌, Res
 use Rattle.std.proofs.Math.Seq.{take-append_seam}
 use Rattle.std.specs.Result.{IsErr}
 use Rattle.srch_base.specs.declared.faults.NoMemory.{NoMemory}
+use Rattle.std.proofs.lemmas.Grind.{flat_map-append}
+use Rattle.ql_parse.specs.declared.keyword.Keyword.TheVariants as keywords
+use Rattle.ql_parse.specs.declared.select.Select.{Select}
 use Rattle.ql_parse.specs.declared.statement.Statement.{Statement}
 use Rattle.ql_parse.specs.declared.statement.Statement.TheVariants as statements
-use Rattle.ql_parse.specs.Pieces.{Piece, spelling, written}
-use Rattle.ql_parse.specs.Canonical.{put_word, pieces, canonical_text}
-use Rattle.ql_parse.specs.Writing.{Keeps, Appended, spaced}
+use Rattle.ql_parse.specs.Pieces.{Piece, word, name, spelling, written, with_commas, given, given_all, in_row}
+use Rattle.ql_parse.specs.Canonical.{put_word, pieces, canonical_text, item, where_pieces, group_pieces, within_pieces, having_pieces, ordered, limit_pieces, option_pieces, facet, select_pieces}
+use Rattle.ql_parse.specs.Writing.{Keeps, Appended, Appends, spaced, with_space, head_pieces, groups_pieces, tail_pieces}
 
 pub kept_all : (before bytes after : List ℕ) → after ≡ before ++ bytes → Keeps before after
 kept_all before bytes after e = record { more = bytes; is = e }
@@ -20,6 +23,19 @@ kept before mid after k l = record { more = k.more ++ l.more; is = l.is ∙ ap (
 pub failed : (bytes before after : List ℕ) (r : Result (Unit {0}) NoMemory) → IsErr r → Keeps before after → Appended bytes before r after
 failed bytes before after (Ok x) e k = cc
 failed bytes before after (Err x) e k = k
+
+-- some pieces, and then some others
+pub then_appends : (ps qs : List Piece) (before mid after : List ℕ) (r : Result (Unit {0}) NoMemory) → mid ≡ before ++ spaced ps → Appends qs mid r after → Appends (ps ++ qs) before r after
+then_appends ps qs before mid after (Ok done) e f =
+    f ∙ ap (λ v. v ++ spaced qs) e ∙ append_assoc before (spaced ps) (spaced qs) ∙ ap (λ v. before ++ v) (sym (flat_map-append with_space ps qs))
+then_appends ps qs before mid after (Err x) e f = kept before mid after (kept_all before (spaced ps) mid e) f
+
+-- a SELECT in its three parts
+regrouped : (i c g w h o l p t : List Piece) → i ++ c ++ g ++ w ++ h ++ o ++ l ++ p ++ t ≡ (i ++ c) ++ ((g ++ w ++ h) ++ (o ++ l ++ p ++ t))
+regrouped i c g w h o l p t = simp append_assoc
+
+pub select_parts : (s : Select) → select_pieces s ≡ head_pieces s ++ (groups_pieces s ++ tail_pieces s)
+select_parts s = regrouped (word keywords.Select ∷ with_commas item s.items) (word keywords.From ∷ name s.index ∷ given_all where_pieces s.conds) (given group_pieces s.group) (given_all within_pieces s.within) (given having_pieces s.having) (given_all ordered s.order) (given limit_pieces s.limit) (given_all option_pieces s.options) (in_row facet s.facets)
 
 -- a space behind each piece is one between two of them, and one at the end
 pub spaced_written : (p : Piece) (ps : List Piece) → spaced (p ∷ ps) ≡ written (p ∷ ps) ++ 32 ∷ []
