@@ -1,6 +1,9 @@
 -- Statements in a row, and how a packet ends.
 use Rattle.std.proofs.Common.{arith, ◌≡◌, ◌≤◌, ◌<◌, ◌+◌, ◌-◌, ℕ, zero, suc, length, length-append, List, [], ◌∷◌, ◌++◌, Bool, true, false, Option, Some, None, inl, inr, refl, sym, ◌∙◌, ap, subst, append_assoc, append-nil}
 use Rattle.std.specs.Prelude.{◌&&◌, ◌||◌}
+use Rattle.std.specs.Prelude.{Result, Ok, Err}
+use Rattle.std.specs.Result.{IsErrAnd}
+use Rattle.std.proofs.lemmas.Result.{err_from_is_err_and}
 use Rattle.srch_base.specs.declared.faults.Or.{Or}
 use Rattle.srch_base.specs.declared.faults.Or.TheVariants.{NoMemory, Fault}
 use Rattle.ql_lex.specs.declared.token.Sign.TheVariants as signs
@@ -18,7 +21,7 @@ use Rattle.ql_parse.specs.Language.{Re, empty, one, seq, alt, many, In, nullable
 use Rattle.ql_parse.specs.Grammar.{more_statements, packet, statement}
 use Rattle.ql_parse.specs.Parts.{◌then◌, AreListed, IsSign}
 use Rattle.ql_parse.specs.Packets.{IsPacket}
-use Rattle.ql_parse.specs.PacketReading.{LeavesPackets, IsTooLong, StatementsRead}
+use Rattle.ql_parse.specs.PacketReading.{LeavesPackets, IsTooLong, ReadsPacket, StatementsRead}
 use Rattle.ql_parse.specs.Progress.{apart, begins, is_start, Takes, Fails, IsNextOf, IsStart}
 use Rattle.ql_parse.specs.Selecting.{select_goes_on}
 use Rattle.ql_parse.specs.Statements.{IsStatement}
@@ -79,8 +82,8 @@ statements_one {x} {before} {now} h = record {
     used = h.used; is = h.is; has = h.has;
   }
 
-pub statements_more : {list : List Statement} {x : Statement} {before mid there now : List Lexeme} → StatementsRead before list mid → Takes (one (the_sign signs.Semicolon)) [] (IsSign signs.Semicolon) mid there → IsNextOf the_end there false → length list < MAX_STATEMENTS → Takes statement select_goes_on (IsStatement x) there now → StatementsRead before (list ++ x ∷ []) now
-statements_more {list} {x} {before} {mid} {there} {now} read semi other room h =
+pub statements_more : {list : List Statement} (x : Statement) {before mid there now : List Lexeme} → StatementsRead before list mid → Takes (one (the_sign signs.Semicolon)) [] (IsSign signs.Semicolon) mid there → IsNextOf the_end there false → length list < MAX_STATEMENTS → Takes statement select_goes_on (IsStatement x) there now → StatementsRead before (list ++ x ∷ []) now
+statements_more {list} x {before} {mid} {there} {now} read semi other room h =
     let (t, is, k) = semicolon_at semi in
     record {
       others = suc read.others;
@@ -264,3 +267,9 @@ end_fails {list} {before} {now} {there} place read same semi n at other equal =
   where
     next_kind : (t u : Lexeme) → there ≡ t ∷ n.next.behind → now ≡ u ∷ semi.next.behind → kind t ≡ n.kind → kind u ≡ semi.kind → n.kind ≡ semi.kind
     next_kind t u e f g h = let heads : t ≡ u = cc in sym g ∙ ap kind heads ∙ h
+
+-- the exit of a `?`
+pub packet_fails_with : {before : List Lexeme} (now : List Lexeme) {e : Or ℕ} (result : Result (Option (List Statement)) (Or ℕ)) → IsErrAnd result (λ y. y ≡ e) → ((place : ℕ) → e ≡ Fault place → LeavesPackets before place) → ReadsPacket before result now
+packet_fails_with {before} now {e} result err h =
+    let (y, is, same) = err_from_is_err_and result err in
+    subst (λ (x : Result (Option (List Statement)) (Or ℕ)). ReadsPacket before x now) (sym (is ∙ ap Err same)) h
