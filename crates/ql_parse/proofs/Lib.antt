@@ -17,6 +17,8 @@ pub mod Agreement
 pub mod Agreements
 pub mod SelectAgreement
 pub mod StatementAgreement
+pub mod PacketAgreement
+pub mod Faults
 pub mod Cursors
 pub mod CanonicalSamples
 pub mod Writings

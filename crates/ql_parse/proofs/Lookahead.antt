@@ -48,7 +48,7 @@ verdict_two t us r s v w first second there back =
         ap (verdict p) e ∙ verdict_begun u y p q (λ x h. into s q t is' (u ∷ x) (there u x y e (back_to r p t is (u ∷ x) h))) (λ x h. into r p t is (u ∷ x) (back u x y e (back_to s q t is' (u ∷ x) h))) ∙ ap (verdict q) (sym e)
 
 -- where a grammar begins with a kind, some text does
-begins_some : (r : Re) (t : Lexeme) → begins (kind t) r ≡ true → (w : List Lexeme) × In r (t ∷ w)
+pub begins_some : (r : Re) (t : Lexeme) → begins (kind t) r ≡ true → (w : List Lexeme) × In r (t ∷ w)
 unfolding In
 begins_some empty t e = cc
 begins_some (one c) t e = ([], (t, refl, e))
