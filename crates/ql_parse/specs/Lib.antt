@@ -14,3 +14,4 @@ pub mod Grammar
 pub mod Progress
 pub mod Selecting
 pub mod PacketReading
+pub mod FaultTexts

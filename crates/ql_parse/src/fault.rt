@@ -1,7 +1,12 @@
+ghost use Rattle.ql_parse.specs.FaultTexts.{fault_text};
+
+use std::error::Error;
+use std::fmt;
+
 /// Why tokens are no packet.
 #[derive(Clone, Copy, Debug, PartialEq, Eq)]
 pub enum ParseKind {
-    /// No statement goes on with the token at the place.
+    /// No packet goes on with the token at the place.
     Syntax,
     /// One more statement than are allowed begins at the place.
     TooMany,
@@ -14,3 +19,18 @@ pub struct ParseFault {
     pub place: u32,
     pub kind: ParseKind,
 }
+
+impl fmt::Display for ParseFault {
+    ghost use Rattle.std.specs.Prelude.{Some};
+
+    ghost output = { λ fault. Some (fault_text fault) };
+
+    fn fmt<W: fmt::Write>(&self, f: &mut fmt::Formatter<W>) -> fmt::Result {
+        match self.kind {
+            ParseKind::Syntax => write!(f, "syntax error at {}", self.place),
+            ParseKind::TooMany => f.write_str("too many statements"),
+        }
+    }
+}
+
+impl Error for ParseFault {}
