@@ -85,10 +85,10 @@ pub record IsNameBy (test : ℕ → Bool) (bytes : List ℕ) : Type 0 where
 
 made_small : (test : ℕ → Bool) → ((b : ℕ) → test b ≡ true → test (to_ascii_lowercase b) ≡ true) → (bytes : List ℕ) → is_word test bytes ≡ true → length bytes ≤ 64 → IsNameBy test (str_to_ascii_lowercase bytes)
 made_small test small bytes is size = record {
-    word = small_word test small bytes is;
-    size = omega (arith, length-map bytes to_ascii_lowercase);
-    small = small_twice bytes;
-  }
+  word = small_word test small bytes is;
+  size = omega (arith, length-map bytes to_ascii_lowercase);
+  small = small_twice bytes;
+}
 
 -- What a token of a kind is.
 

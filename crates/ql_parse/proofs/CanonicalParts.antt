@@ -51,10 +51,10 @@ spells_both (p ∷ ps) qs (t ∷ v) (f, s) =
     let b : SpellsBoth ps qs v = spells_both ps qs v s in
     record { front = t ∷ b.front; back = b.back; is = ap (λ (w : List Lexeme). t ∷ w) b.is; first = (f, b.first); second = b.second }
 
-good_front : (a b : List Lexeme) → AreGood (a ++ b) → AreGood a
+pub good_front : (a b : List Lexeme) → AreGood (a ++ b) → AreGood a
 good_front a b good = λ k d below. subst (λ (t : Lexeme). IsLexeme t.kind t.text) (get_or-append a b d k below) (good k d (omega (arith, length-append a b)))
 
-good_back : (a b : List Lexeme) → AreGood (a ++ b) → AreGood b
+pub good_back : (a b : List Lexeme) → AreGood (a ++ b) → AreGood b
 good_back a b good = λ k d below. subst (λ (t : Lexeme). IsLexeme t.kind t.text) (get_or-append-add a b k d) (good (length a + k) d (omega (arith, length-append a b)))
 
 good_one : (t : Lexeme) → AreGood (t ∷ []) → IsLexeme t.kind t.text
@@ -64,14 +64,14 @@ good_one t good = good 0 t (omega arith)
 
 pub stays_then : {P Q : List Lexeme → Type 0} {ps qs : List Piece} → Stays P ps → Stays Q qs → Stays (P then Q) (ps ++ qs)
 stays_then {P} {Q} {ps} {qs} first second = record {
-    fit = λ u good (a, b, e, p, q).
+  fit = λ u good (a, b, e, p, q).
       let both : AreGood (a ++ b) = subst AreGood e good in
       fit_append ps qs (first.fit a (good_front a b both) p) (second.fit b (good_back a b both) q);
-    is = λ u good (a, b, e, p, q) v s.
+  is = λ u good (a, b, e, p, q) v s.
       let both : AreGood (a ++ b) = subst AreGood e good in
       let two : SpellsBoth ps qs v = spells_both ps qs v s in
       (two.front, two.back, two.is, first.is a (good_front a b both) p two.front two.first, second.is b (good_back a b both) q two.back two.second);
-  }
+}
 
 pub stays_absent : Stays IsAbsent []
 stays_absent = record { fit = λ u good p. tt; is = λ u good p v s. s }
@@ -101,9 +101,9 @@ one_back p one (r ∷ v) (f, none) = (r, ap (λ (w : List Lexeme). r ∷ w) none
 
 pub stays_one : {P : Lexeme → Type 0} (p : Piece) → ((t : Lexeme) → IsLexeme t.kind t.text → P t → IsLexeme (form p) (spelling p)) → ((t : Lexeme) → IsLexeme t.kind t.text → P t → (s : Lexeme) → IsSpelled (spelled_as p) s → P s) → Stays (IsOne P) (p ∷ [])
 stays_one {P} p fit is = record {
-    fit = λ u good (t, e, q). (fits p (fit t (good_one t (subst AreGood e good)) q), tt);
-    is = λ u good (t, e, q) v s. one_back p (λ r. is t (good_one t (subst AreGood e good)) q r) v s;
-  }
+  fit = λ u good (t, e, q). (fits p (fit t (good_one t (subst AreGood e good)) q), tt);
+  is = λ u good (t, e, q) v s. one_back p (λ r. is t (good_one t (subst AreGood e good)) q r) v s;
+}
 
 pub word_back : (w : Keyword) (v : List Lexeme) → Spells (word w ∷ []) v → IsWord w v
 word_back w v s = one_back (word w) (λ r is. kind_is (word w) r is ∙ word_reads w) v s
@@ -121,13 +121,13 @@ pub stays_name : (bytes : List ℕ) → Stays (IsName bytes) (name bytes ∷ [])
 stays_name bytes = stays_one (name bytes)
     (λ t good (e, v). quoted_fits bytes (subst (λ b. IsNameBy is_name_byte b) (sym v) (name_facts t.kind t.text good e)))
     (λ t good (e, v) s is.
-      (ap is_name (quoted_kind bytes s is), quoted_name bytes s (subst (λ b. IsNameBy is_name_byte b) (sym v) (name_facts t.kind t.text good e)).small is))
+    (ap is_name (quoted_kind bytes s is), quoted_name bytes s (subst (λ b. IsNameBy is_name_byte b) (sym v) (name_facts t.kind t.text good e)).small is))
 
 pub stays_variable : (bytes : List ℕ) → Stays (IsVariable bytes) (variable bytes ∷ [])
 stays_variable bytes = stays_one (variable bytes)
     (λ t good (e, v). variable_fits bytes (subst (λ b. IsNameBy is_variable_byte b) (sym v) (variable_facts t.kind t.text good e)))
     (λ t good (e, v) s is.
-      (variable_kind bytes s is, variable_name bytes s (subst (λ b. IsNameBy is_variable_byte b) (sym v) (variable_facts t.kind t.text good e)).small is))
+    (variable_kind bytes s is, variable_name bytes s (subst (λ b. IsNameBy is_variable_byte b) (sym v) (variable_facts t.kind t.text good e)).small is))
 
 below_limit : (n : ℕ) (t : Lexeme) → IsLexeme t.kind t.text → kind t ≡ kinds.Number → n ≡ number_value t → n < 2 ^ 64
 below_limit n t good e v = subst (λ m. m < 2 ^ 64) (sym v) (number_facts t.kind t.text good e)
@@ -188,13 +188,13 @@ negative_size n u good (inr (m, e, is)) = size_by (suc n) m (negative_by n m e) 
 
 pub stays_whole : (z : ℤ) → Stays (IsWhole z) (whole z)
 stays_whole (pos n) = record {
-    fit = λ u good p. (fits (number n) (decimal_fits n (positive_size n u good p)), tt);
-    is = λ u good p v s. inl (n, refl, number_back n (positive_size n u good p) v s);
-  }
+  fit = λ u good p. (fits (number n) (decimal_fits n (positive_size n u good p)), tt);
+  is = λ u good p v s. inl (n, refl, number_back n (positive_size n u good p) v s);
+}
 stays_whole (negsuc n) = record {
-    fit = λ u good p. (fits (sign signs.Minus) (sign_fits signs.Minus), (fits (number (suc n)) (decimal_fits (suc n) (negative_size n u good p)), tt));
-    is = λ u good p v s. inr (suc n, refl, negative_back (suc n) (negative_size n u good p) v s);
-  }
+  fit = λ u good p. (fits (sign signs.Minus) (sign_fits signs.Minus), (fits (number (suc n)) (decimal_fits (suc n) (negative_size n u good p)), tt));
+  is = λ u good p v s. inr (suc n, refl, negative_back (suc n) (negative_size n u good p) v s);
+}
 
 pub stays_enclosed : {P : List Lexeme → Type 0} {ps : List Piece} → Stays P ps → Stays (IsEnclosed P) (in_parentheses ps)
 stays_enclosed h = stays_then (stays_sign signs.OpenParen) (stays_then h (stays_sign signs.CloseParen))

@@ -31,9 +31,9 @@ use Rattle.ql_parse.proofs.CanonicalParts.{Stays, word_back, stays_then, stays_a
 -- a word that may be left out is written
 stays_perhaps_word : (w : Keyword) → Stays (IsPerhaps (IsWord w)) (word w ∷ [])
 stays_perhaps_word w = record {
-    fit = λ u good p. (fits (word w) (word_fits w), tt);
-    is = λ u good p v s. inl (word_back w v s);
-  }
+  fit = λ u good p. (fits (word w) (word_fits w), tt);
+  is = λ u good p v s. inl (word_back w v s);
+}
 
 stays_never : (ps : List Piece) → Stays (λ (u : List Lexeme). ⊥) ps
 stays_never ps = record { fit = λ u good p. absurd p; is = λ u good p v s. absurd p }

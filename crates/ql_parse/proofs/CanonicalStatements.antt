@@ -1,11 +1,12 @@
 -- A statement is read from its canonical text.
-use Rattle.std.proofs.Common.{◌≡◌, ℕ, Bool, true, false, ◌&&◌, List, [], ◌∷◌, ◌++◌, map, refl, sym, ◌∙◌, ap, subst, append_assoc}
+use Rattle.std.proofs.Common.{◌≡◌, ℕ, Bool, true, false, ◌&&◌, List, [], ◌∷◌, ◌++◌, map, refl, sym, ◌∙◌, ap, subst, append_assoc, inr}
 use Rattle.std.proofs.lemmas.Bool.{and_parts}
-use Rattle.std.specs.Prelude.{not}
+use Rattle.std.proofs.lemmas.List.Elements.{All-cons, All-nil}
+use Rattle.std.specs.Prelude.{not, All}
 use Rattle.ql_lex.specs.declared.token.Sign.TheVariants as signs
 use Rattle.ql_lex.specs.Shapes.{is_name_byte}
 use Rattle.ql_lex.specs.Spacing.{Spelling, AreSpellings, spaced, HasTokens}
-use Rattle.ql_lex.specs.Tokens.{Lexeme, AreTokens, end_token}
+use Rattle.ql_lex.specs.Tokens.{Lexeme, AreTokens, AreLexemes, end_token}
 use Rattle.ql_parse.specs.declared.keyword.Keyword.TheVariants as keywords
 use Rattle.ql_parse.specs.declared.statement.Ids.{Ids}
 use Rattle.ql_parse.specs.declared.statement.Ids.TheVariants as ids
@@ -22,15 +23,16 @@ use Rattle.ql_parse.specs.declared.statement.Target.TheVariants as targets
 use Rattle.ql_parse.specs.declared.statement.Val.{Val}
 use Rattle.ql_parse.specs.declared.statement.Val.TheVariants as vals
 use Rattle.ql_parse.specs.Classes.{fits, is_name, is_word, name_but}
-use Rattle.ql_parse.specs.Parts.{IsTargetName}
+use Rattle.ql_parse.specs.Packets.{IsPacket}
+use Rattle.ql_parse.specs.Parts.{IsSign, IsTargetName, AreListed}
 use Rattle.ql_parse.specs.Pieces.{Piece, word, sign, name, written, spelling, with_commas, given}
-use Rattle.ql_parse.specs.Reading.{IsValue, AreOf, ReadsAs}
+use Rattle.ql_parse.specs.Reading.{IsValue, ReadsAs}
 use Rattle.ql_parse.specs.Statements.{IsVal, IsPut, AreIds, IsPlain, IsScope, IsTarget, IsSetting, AreColumns, IsRow, IsRowLimit, IsStatement}
 use Rattle.ql_parse.specs.Tokens.{kind, kind_by}
 use Rattle.ql_parse.specs.Canonical.{value, put_word, columns_pieces, row, ids_pieces, plain, scope, target, setting, row_limit, pieces, canonical_text}
 use Rattle.ql_parse.proofs.CanonicalNames.{IsNameBy, name_facts}
 use Rattle.ql_parse.proofs.CanonicalPieces.{AllFit, Spells, spelled_as, quoted_fits, quoted_kind, quoted_name}
-use Rattle.ql_parse.proofs.CanonicalParts.{Stays, stays_then, stays_absent, stays_given, stays_with_commas, stays_one, stays_word, stays_words, stays_sign, stays_name, stays_variable, stays_number, stays_text, stays_whole, stays_enclosed, stays_parens}
+use Rattle.ql_parse.proofs.CanonicalParts.{Stays, AreGood, good_front, good_back, stays_then, stays_absent, stays_given, stays_with_commas, stays_one, stays_word, stays_words, stays_sign, stays_name, stays_variable, stays_number, stays_text, stays_whole, stays_enclosed, stays_parens}
 use Rattle.ql_parse.proofs.CanonicalSelects.{stays_select}
 
 target_is_name : (t : Lexeme) → fits (name_but keywords.Autocommit keywords.Names) (kind t) ≡ true → is_name (kind t) ≡ true
@@ -42,7 +44,7 @@ stays_target_name : (bytes : List ℕ) → Stays (IsTargetName bytes) (name byte
 stays_target_name bytes = stays_one (name bytes)
     (λ t good (e, v). quoted_fits bytes (subst (λ b. IsNameBy is_name_byte b) (sym v) (name_facts t.kind t.text good (target_is_name t e))))
     (λ t good (e, v) s is.
-      (ap (fits (name_but keywords.Autocommit keywords.Names)) (quoted_kind bytes s is), quoted_name bytes s (subst (λ b. IsNameBy is_name_byte b) (sym v) (name_facts t.kind t.text good (target_is_name t e))).small is))
+    (ap (fits (name_but keywords.Autocommit keywords.Names)) (quoted_kind bytes s is), quoted_name bytes s (subst (λ b. IsNameBy is_name_byte b) (sym v) (name_facts t.kind t.text good (target_is_name t e))).small is))
 
 stays_val : (v : Val) → Stays (IsVal v) (value v)
 stays_val (vals.Number z) = stays_whole z
@@ -126,6 +128,11 @@ written_spaced (p ∷ q ∷ ps) = ap (λ v. spelling p ++ 32 ∷ v) (written_spa
 abbrev pub SpacedLaw : Type 0
 SpacedLaw = (list : List Spelling) → AreSpellings list → HasTokens (spaced list) list
 
+-- a statement's tokens, and the end behind them, are a packet
+packet_of : (s : Statement) (body : List ℕ) (front : List Lexeme) → IsStatement s front → IsPacket (s ∷ []) (front ++ end_token body ∷ [])
+unfolding kind_by
+packet_of s body front is = (front, end_token body ∷ [], refl, is, ([], end_token body ∷ [], refl, inr refl, (end_token body, refl, refl)))
+
 pub text_reads : SpacedLaw → (s : Statement) → IsValue s → ReadsAs (canonical_text s) s
 unfolding canonical_text
 text_reads law s is =
@@ -134,13 +141,29 @@ text_reads law s is =
     record {
       tokens = read.front ++ end_token (written (pieces s)) ∷ [];
       are = read.are;
-      of = record { front = read.front; is = refl; are = (stays_statement s).is is.tokens is.each is.are read.front read.spelled };
+      is = packet_of s (written (pieces s)) read.front ((stays_statement s).is is.tokens is.each is.are read.front read.spelled);
     }
 
 abbrev pub OneReading : Type 0
 OneReading = (text : List ℕ) (a b : List Lexeme) → AreTokens text a → AreTokens text b → a ≡ b
 
-pub only_reading : SpacedLaw → OneReading → (s : Statement) (tokens : List Lexeme) → IsValue s → AreTokens (canonical_text s) tokens → AreOf s (canonical_text s) tokens
+pub only_reading : SpacedLaw → OneReading → (s : Statement) (tokens : List Lexeme) → IsValue s → AreTokens (canonical_text s) tokens → IsPacket (s ∷ []) tokens
 only_reading law one s tokens is are =
     let reads : ReadsAs (canonical_text s) s = text_reads law s is in
-    subst (λ u. AreOf s (canonical_text s) u) (one (canonical_text s) reads.tokens tokens reads.are are) reads.of
+    subst (λ u. IsPacket (s ∷ []) u) (one (canonical_text s) reads.tokens tokens reads.are are) reads.is
+
+-- What packets hold.
+
+all_one : (s : Statement) → IsValue s → All IsValue (s ∷ [])
+all_one s is = All-cons IsValue s [] is (All-nil IsValue)
+
+list_values : (list : List Statement) (u : List Lexeme) → AreGood u → AreListed (IsSign signs.Semicolon) IsStatement list u → All IsValue list
+list_values [] u good p = absurd p
+list_values (s ∷ []) u good p = all_one s (record { tokens = u; each = good; are = p })
+list_values (s ∷ r ∷ list) u good (a, bd, e, p, (b, d, f, q, rest)) =
+    let whole : AreGood (a ++ bd) = subst AreGood e good in
+    let behind : AreGood (b ++ d) = subst AreGood f (good_back a bd whole) in
+    All-cons IsValue s (r ∷ list) (record { tokens = a; each = good_front a bd whole; are = p }) (list_values (r ∷ list) d (good_back b d behind) rest)
+
+pub packet_values : (list : List Statement) (tokens : List Lexeme) → AreLexemes tokens → IsPacket list tokens → All IsValue list
+packet_values list tokens lexemes (a, b, e, p, rest) = list_values list a (good_front a b (subst AreGood e lexemes.each)) p

@@ -29,20 +29,20 @@ bare_byte b bare = cond-false (eqb b 39 || eqb b 92) (92 ∷ b ∷ []) (b ∷ []
 by_byte : (P : ℕ → Type 0) → P 39 → P 92 → ((b : ℕ) → IsBare b → P b) → (b : ℕ) → P b
 by_byte P quote backslash bare b =
     ⊎_elim (λ (is : b ≡ 39). subst P (sym is) quote)
-      (λ (no : b ≢ 39). ⊎_elim (λ (is : b ≡ 92). subst P (sym is) backslash) (λ (none : b ≢ 92). bare b (record { quote = no; backslash = none })) (cases_eq b 92))
-      (cases_eq b 39)
+    (λ (no : b ≢ 39). ⊎_elim (λ (is : b ≡ 92). subst P (sym is) backslash) (λ (none : b ≢ 92). bare b (record { quote = no; backslash = none })) (cases_eq b 92))
+    (cases_eq b 39)
 
 pub unescaped_escaped : (bytes : List ℕ) → unescaped (escaped_text bytes) ≡ bytes
 unescaped_escaped [] = refl
 unescaped_escaped (b ∷ bytes) =
     by_byte (λ c. unescaped (escaped_byte c ++ escaped_text bytes) ≡ c ∷ bytes)
-      (ap (λ (v : List ℕ). 39 ∷ v) (unescaped_escaped bytes))
-      (ap (λ (v : List ℕ). 92 ∷ v) (unescaped_escaped bytes))
-      (λ c bare.
-        ap (λ (v : List ℕ). unescaped (v ++ escaped_text bytes)) (bare_byte c bare)
-        ∙ unescaped_plain c (escaped_text bytes) bare.backslash
-        ∙ ap (λ (v : List ℕ). c ∷ v) (unescaped_escaped bytes))
-      b
+    (ap (λ (v : List ℕ). 39 ∷ v) (unescaped_escaped bytes))
+    (ap (λ (v : List ℕ). 92 ∷ v) (unescaped_escaped bytes))
+    (λ c bare.
+    ap (λ (v : List ℕ). unescaped (v ++ escaped_text bytes)) (bare_byte c bare)
+    ∙ unescaped_plain c (escaped_text bytes) bare.backslash
+    ∙ ap (λ (v : List ℕ). c ∷ v) (unescaped_escaped bytes))
+    b
 
 inner_bare : (b : ℕ) → IsBare b → (rest : List ℕ) → is_inner 39 rest ≡ true → is_inner 39 (b ∷ rest) ≡ true
 inner_bare b bare [] is = and_from _ _ (not_from_false (eqb b 92) (ne_eqb b 92 bare.backslash)) (not_from_false (eqb b 39) (ne_eqb b 39 bare.quote))
@@ -54,12 +54,12 @@ inner_escaped : (bytes : List ℕ) → is_inner 39 (escaped_text bytes) ≡ true
 inner_escaped [] = refl
 inner_escaped (b ∷ bytes) =
     by_byte (λ c. is_inner 39 (escaped_byte c ++ escaped_text bytes) ≡ true)
-      (inner_escaped bytes)
-      (inner_escaped bytes)
-      (λ c bare.
-        ap (λ (v : List ℕ). is_inner 39 (v ++ escaped_text bytes)) (bare_byte c bare)
-        ∙ inner_bare c bare (escaped_text bytes) (inner_escaped bytes))
-      b
+    (inner_escaped bytes)
+    (inner_escaped bytes)
+    (λ c bare.
+    ap (λ (v : List ℕ). is_inner 39 (v ++ escaped_text bytes)) (bare_byte c bare)
+    ∙ inner_bare c bare (escaped_text bytes) (inner_escaped bytes))
+    b
 
 -- Escapes keep UTF-8.
 
@@ -81,10 +81,10 @@ ascii_one b below = IsUtf8-from_ascii (b ∷ []) each
 escaped_ascii : (b : ℕ) → b < 128 → IsUtf8 (escaped_byte b)
 escaped_ascii b =
     by_byte (λ c. c < 128 → IsUtf8 (escaped_byte c))
-      (λ below. ascii_two 92 39 (omega arith) (omega arith))
-      (λ below. ascii_two 92 92 (omega arith) (omega arith))
-      (λ c bare below. subst IsUtf8 (sym (bare_byte c bare)) (ascii_one c below))
-      b
+    (λ below. ascii_two 92 39 (omega arith) (omega arith))
+    (λ below. ascii_two 92 92 (omega arith) (omega arith))
+    (λ c bare below. subst IsUtf8 (sym (bare_byte c bare)) (ascii_one c below))
+    b
 
 -- bytes from 128 on are bare
 escaped_high : (bytes : List ℕ) → ((k : ℕ) → k < length bytes → 128 ≤ get_or bytes k 0) → escaped_text bytes ≡ bytes
@@ -101,8 +101,8 @@ encode_high c high k below =
 escaped_char : (c : ℕ) → IsScalar c → IsUtf8 (escaped_text (encode_utf8 c))
 escaped_char c scalar =
     ⊎_elim (λ (low : c < 128). subst (λ (v : List ℕ). IsUtf8 (escaped_text v)) (sym (encode_ascii c low)) (subst IsUtf8 (sym (append-nil (escaped_byte c))) (escaped_ascii c low)))
-      (λ (high : 128 ≤ c). subst IsUtf8 (sym (escaped_high (encode_utf8 c) (encode_high c high))) (IsUtf8-encode c scalar))
-      (cases_lt c 128)
+    (λ (high : 128 ≤ c). subst IsUtf8 (sym (escaped_high (encode_utf8 c) (encode_high c high))) (IsUtf8-encode c scalar))
+    (cases_lt c 128)
 
 escaped_chars : (cs : List ℕ) → all_scalars cs ≡ true → IsUtf8 (escaped_text (encode_utf8_all cs))
 escaped_chars [] scalars = IsUtf8-nil
@@ -114,12 +114,14 @@ pub escaped_utf8 : (bytes : List ℕ) → IsUtf8 bytes → IsUtf8 (escaped_text 
 escaped_utf8 bytes utf8 = subst (λ (v : List ℕ). IsUtf8 (escaped_text v)) utf8.1.1 (escaped_chars utf8.0 utf8.1.0)
 
 pub text_fits : (bytes : List ℕ) → IsUtf8 bytes → IsLexeme forms.Text (39 ∷ escaped_text bytes ++ 39 ∷ [])
-text_fits bytes utf8 =
-    (record {
-      quote = refl;
-      enclosed = enclosed_of 39 (escaped_text bytes);
-      inner = ap (is_inner 39) (inside_of 39 (escaped_text bytes)) ∙ inner_escaped bytes;
-    }, subst IsUtf8 (sym (inside_of 39 (escaped_text bytes))) (escaped_utf8 bytes utf8))
+text_fits bytes utf8 = (
+  record {
+    quote = refl;
+    enclosed = enclosed_of 39 (escaped_text bytes);
+    inner = ap (is_inner 39) (inside_of 39 (escaped_text bytes)) ∙ inner_escaped bytes;
+  },
+  subst IsUtf8 (sym (inside_of 39 (escaped_text bytes))) (escaped_utf8 bytes utf8),
+)
 
 pub text_back : (bytes : List ℕ) → text_of (39 ∷ escaped_text bytes ++ 39 ∷ []) ≡ bytes
 text_back bytes = ap unescaped (inside_of 39 (escaped_text bytes)) ∙ unescaped_escaped bytes

@@ -32,10 +32,13 @@ pub use fault::{ParseFault, ParseKind};
 pub use keyword::Keyword;
 pub use kind::Kind;
 pub use parsing::{MAX_STATEMENTS, parse};
-pub use reading_law::canonical_text_is_read;
+pub use reading_law::{canonical_text_is_read, packets_have_values};
 pub use select::{
     Comparison, Cond, FacetPart, Having, LimitPart, OptionValue, Select, SelectExpr, SelectItem,
     SelectOption, SortKey, SortName,
 };
 pub use statement::{Ids, Plain, Scope, SetValue, Statement, Target, Val};
 pub use written_statement::put_statement;
+
+#[cfg(test)]
+mod writing_tests;
