@@ -41,4 +41,8 @@ pub use statement::{Ids, Plain, Scope, SetValue, Statement, Target, Val};
 pub use written_statement::put_statement;
 
 #[cfg(test)]
+mod fault_tests;
+#[cfg(test)]
+mod parse_tests;
+#[cfg(test)]
 mod writing_tests;
