@@ -28,3 +28,4 @@ pub mod CanonicalPieces
 pub mod CanonicalParts
 pub mod CanonicalSelects
 pub mod CanonicalStatements
+pub mod ParseAnswers

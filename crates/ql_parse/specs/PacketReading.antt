@@ -4,6 +4,8 @@ use Rattle.srch_base.specs.declared.faults.Or.{Or}
 use Rattle.srch_base.specs.declared.faults.Or.TheVariants.{NoMemory, Fault}
 use Rattle.ql_lex.specs.declared.token.Sign.TheVariants as signs
 use Rattle.ql_lex.specs.Tokens.{Lexeme}
+use Rattle.ql_parse.specs.declared.fault.ParseFault.{ParseFault}
+use Rattle.ql_parse.specs.declared.fault.ParseKind.TheVariants.{Syntax}
 use Rattle.ql_parse.specs.declared.parsing.TheConstants.{MAX_STATEMENTS}
 use Rattle.ql_parse.specs.declared.statement.Statement.{Statement}
 use Rattle.ql_parse.specs.Grammar.{more_statements, packet}
@@ -47,3 +49,8 @@ pub record StatementsRead (before : List Lexeme) (list : List Statement) (now : 
   pub used : List Lexeme
   pub is : before ≡ used ++ now
   pub has : AreListed (IsSign signs.Semicolon) IsStatement list used
+
+-- the fault of a syntax error's place
+abbrev pub syntax_error : Or ℕ → Or ParseFault
+syntax_error NoMemory = NoMemory
+syntax_error (Fault place) = Fault (record { place = place; kind = Syntax })

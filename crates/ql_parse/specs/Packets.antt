@@ -1,5 +1,5 @@
 -- Packets of statements, and where tokens are no packet.
-use Rattle.std.specs.Prelude.{◌≡◌, ◌≤◌, ℕ, List, [], ◌∷◌, ◌++◌, ◌⊎◌, length, Result, Ok, Err}
+use Rattle.std.specs.Prelude.{◌≡◌, ◌≤◌, ℕ, List, [], ◌∷◌, ◌++◌, ◌⊎◌, length, Result, Ok, Err, Vec}
 use Rattle.srch_base.specs.declared.faults.Or.{Or}
 use Rattle.srch_base.specs.declared.faults.Or.TheVariants.{NoMemory, Fault}
 use Rattle.ql_lex.specs.declared.token.Sign.TheVariants as signs
@@ -53,7 +53,7 @@ pub record IsFault (tokens : List Lexeme) (fault : ParseFault) : Type 0 where
   pub kind : HasKind fault.kind (front ++ next ∷ [])
 
 -- The tokens are a packet of these statements, or they have the fault.
-abbrev pub Parses : List Lexeme → Result (List Statement) (Or ParseFault) → Type 0
-Parses tokens (Ok list) = IsPacket list tokens × (length list ≤ MAX_STATEMENTS)
+abbrev pub Parses : {M : Type 0} → List Lexeme → Result (Vec Statement M) (Or ParseFault) → Type 0
+Parses tokens (Ok list) = IsPacket list.items tokens × (length list.items ≤ MAX_STATEMENTS)
 Parses tokens (Err NoMemory) = Unit {0}
 Parses tokens (Err (Fault fault)) = IsFault tokens fault

@@ -25,6 +25,7 @@ mod statement;
 mod statements;
 mod writing;
 mod written;
+mod written_items;
 mod written_select;
 mod written_statement;
 
@@ -39,10 +40,3 @@ pub use select::{
 };
 pub use statement::{Ids, Plain, Scope, SetValue, Statement, Target, Val};
 pub use written_statement::put_statement;
-
-#[cfg(test)]
-mod fault_tests;
-#[cfg(test)]
-mod parse_tests;
-#[cfg(test)]
-mod writing_tests;

@@ -1,6 +1,7 @@
+ghost use Rattle.std.specs.Prelude.{◌≡◌};
 ghost use Rattle.ql_lex.specs.Tokens.{AreLexemes};
 ghost use Rattle.ql_parse.specs.Packets.{Parses};
-ghost use Rattle.ql_parse.specs.PacketReading.{ReadsPacket};
+ghost use Rattle.ql_parse.specs.PacketReading.{ReadsPacket, syntax_error};
 ghost use Rattle.ql_parse.specs.Tokens.{lexemes};
 
 use crate::cursor::Cursor;
@@ -38,26 +39,38 @@ fn packet(alloc: Global, input: &mut Cursor<'_>) -> Result<Option<Items<Statemen
     Err(Or::Fault(input.place()))
 }
 
+/// The fault of a syntax error's place.
+fn syntax(error: Or<u32>) -> Or<ParseFault>
+    ensures { result ≡ syntax_error error }
+{
+    match error {
+        Or::NoMemory => Or::NoMemory,
+        Or::Fault(place) => {
+            let kind = ParseKind::Syntax;
+            Or::Fault(ParseFault { place, kind })
+        }
+    }
+}
+
 /// The statements of a text, from its tokens as `ql_lex::lex` gives them.
 ///
 /// It takes a time linear in the number of tokens, and never looks further ahead than two of them. The grammar is that of the
 /// manual's chapter on SphinxQL, in `specs/Grammar`.
-pub fn parse(alloc: Global, tokens: &[Token<'_>]) -> Result<Items<Statement>, Or<ParseFault>>
+pub fn parse(alloc: Global, tokens: &[Token<'_>]) -> Result<Vec<Statement>, Or<ParseFault>>
     requires { AreLexemes (lexemes tokens.now) }
     ensures { Parses (lexemes tokens.now) result }
 {
     let mut input = Cursor::new(tokens);
     match packet(alloc, &mut input) {
-        Ok(Some(list)) => Ok(list),
+        Ok(Some(list)) => {
+            let statements = list.into_vec();
+            Ok(statements)
+        }
         Ok(None) => {
             let place = input.place();
             let kind = ParseKind::TooMany;
             Err(Or::Fault(ParseFault { place, kind }))
         }
-        Err(Or::NoMemory) => Err(Or::NoMemory),
-        Err(Or::Fault(place)) => {
-            let kind = ParseKind::Syntax;
-            Err(Or::Fault(ParseFault { place, kind }))
-        }
+        Err(error) => Err(syntax(error)),
     }
 }

@@ -1,4 +1,4 @@
-use crate::{MAX_STATEMENTS, ParseFault, ParseKind, Statement, parse};
+use ql_parse::{MAX_STATEMENTS, ParseFault, ParseKind, Statement, parse};
 use ql_lex::lex;
 use srch_base::{NoMemory, Or};
 use std::alloc::Global;

@@ -1,4 +1,4 @@
-use crate::{Statement, parse, put_statement};
+use ql_parse::{Statement, parse, put_statement};
 use ql_lex::lex;
 use srch_base::NoMemory;
 use std::alloc::Global;

@@ -1,6 +1,5 @@
-use crate::{Statement, parse, put_statement};
+use ql_parse::{Statement, parse, put_statement};
 use ql_lex::lex;
-use srch_base::Items;
 use std::alloc::Global;
 
 /// Statements as clients write them, and their canonical texts.
@@ -153,7 +152,7 @@ const TEXTS: [(&str, &str); 58] = [
 ];
 
 /// The statements of a text.
-fn statements(alloc: Global, text: &[u8]) -> Option<Items<Statement>> {
+fn statements(alloc: Global, text: &[u8]) -> Option<Vec<Statement>> {
     if text.len() < 1000 {
         let tokens = lex(alloc, text).ok()?;
         parse(alloc, tokens.as_slice()).ok()
