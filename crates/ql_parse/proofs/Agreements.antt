@@ -7,7 +7,7 @@ use Rattle.ql_parse.specs.declared.keyword.Keyword.{Keyword}
 use Rattle.ql_parse.specs.Tokens.{kind, text_value}
 use Rattle.ql_parse.specs.Classes.{a_text, fits}
 use Rattle.ql_parse.specs.Language.{Re, seq, alt, many, Repeats, none, more, In}
-use Rattle.ql_parse.specs.Grammar.{words, text, number, whole, wholes, parens, optional, enclosed}
+use Rattle.ql_parse.specs.Grammar.{words, text, whole, wholes, parens, optional, enclosed}
 use Rattle.ql_parse.specs.Parts.{◌then◌, AreWords, IsText, IsWhole, IsNumber, IsSign, IsComma, IsEnclosed, AreParens, IsPerhaps, IsGiven, AreGiven, AreListed, AreInRow}
 use Rattle.ql_parse.proofs.Steps.{text_is}
 use Rattle.ql_parse.proofs.Agreement.{Agree, Agrees, agree_as, agree_listed, agree_number, agree_sign, agree_word}

@@ -1,15 +1,15 @@
 -- Tokens with which no text of a grammar begins.
-use Rattle.std.proofs.Common.{arith, ◌<◌, ◌≡◌, ℕ, suc, ◌==◌, List, [], ◌∷◌, ◌++◌, Bool, true, false, cond, Option, Some, None, ◌⊎◌, inl, inr, refl, sym, ◌∙◌, ap, subst, append_assoc, append-nil}
-use Rattle.std.specs.Prelude.{◌&&◌, ◌||◌, IsTrue, not, if◌then◌else◌}
+use Rattle.std.proofs.Common.{◌≡◌, List, [], ◌∷◌, ◌++◌, Bool, true, false, inl, inr, refl, sym, ◌∙◌, ap, subst}
+use Rattle.std.specs.Prelude.{◌&&◌, ◌||◌, not}
 use Rattle.std.proofs.lemmas.Bool.{eqb-true, eq-eqb, cases_Bool}
 use Rattle.ql_lex.specs.declared.token.Sign.{Sign}
 use Rattle.ql_parse.specs.declared.keyword.Keyword.{Keyword}
 use Rattle.ql_parse.specs.declared.kind.Kind.{Kind}
 use Rattle.ql_parse.specs.declared.kind.Kind.TheVariants as kinds
-use Rattle.ql_parse.specs.Keywords.{is_reserved, keyword_number, same_keyword}
+use Rattle.ql_parse.specs.Keywords.{is_reserved, keyword_number}
 use Rattle.ql_lex.specs.Tokens.{Lexeme}
 use Rattle.ql_parse.specs.Tokens.{kind}
-use Rattle.ql_parse.specs.Classes.{Class, the_word, any_name, name_but, a_number, a_text, a_sysvar, the_sign, a_comparison, the_end, fits, is_comparison, sign_number, same_sign}
+use Rattle.ql_parse.specs.Classes.{Class, the_word, any_name, name_but, a_number, a_text, a_sysvar, the_sign, a_comparison, the_end, fits, is_comparison, sign_number}
 use Rattle.ql_parse.specs.Language.{Re, empty, one, seq, alt, many, Repeats, none, more, In, nullable}
 use Rattle.ql_parse.specs.Progress.{fits_some, meets, meets_some, apart, begins}
 use Rattle.ql_parse.proofs.KeywordNumbers.{keyword_same}
@@ -101,16 +101,18 @@ meets_all c d kinds.End e f = meets_at_end c d e f
 meets_one : (cs : List Class) (d : Class) (k : Kind) → fits_some cs k ≡ true → fits d k ≡ true → meets_some cs d ≡ true
 meets_one [] d k e f = cc
 meets_one (c ∷ cs) d k e f = elim (cases_Bool (fits c k)) [
-      | inl here ↦ left (meets c d) (meets_some cs d) (meets_all c d k here f)
-      | inr other ↦ right (meets c d) (meets_some cs d) (meets_one cs d k (behind (fits c k) (fits_some cs k) other e) f)
-    ]
+  | inl here ↦ left (meets c d) (meets_some cs d) (meets_all c d k here f)
+  | inr other ↦ right (meets c d) (meets_some cs d) (meets_one cs d k (behind (fits c k) (fits_some cs k) other e) f)
+]
   where
     left : (b c : Bool) → b ≡ true → (b || c) ≡ true
     left true c e = refl
     left false c e = cc
+
     right : (b c : Bool) → c ≡ true → (b || c) ≡ true
     right true c e = refl
     right false c e = e
+
     behind : (b c : Bool) → b ≡ false → (b || c) ≡ true → c ≡ true
     behind true c is e = cc
     behind false c is e = e
@@ -168,6 +170,6 @@ begins_no (many r) t e u h = first_of_many r t u (t ∷ u) refl h (begins_no r t
 -- a token of some classes is of no class that meets none of them
 pub not_meeting : (cs : List Class) (d : Class) (k : Kind) → not (meets_some cs d) ≡ true → fits_some cs k ≡ true → fits d k ≡ false
 not_meeting cs d k e f = elim (cases_Bool (fits d k)) [
-      | inl fit ↦ absurd (clash (meets_some cs d) (meets_one cs d k f fit) (not_true (meets_some cs d) e))
-      | inr other ↦ other
-    ]
+  | inl fit ↦ absurd (clash (meets_some cs d) (meets_one cs d k f fit) (not_true (meets_some cs d) e))
+  | inr other ↦ other
+]

@@ -1,23 +1,20 @@
 -- Parts of statements, and the pieces that they are written as: pieces fit where some tokens are the part, and are the part.
-use Rattle.std.proofs.Common.{◌≡◌, ◌≢◌, ℕ, zero, suc, ◌+◌, ◌^◌, ◌<◌, ◌≤◌, Bool, true, false, ◌&&◌, ◌⊎◌, inl, inr, List, [], ◌∷◌, ◌++◌, map, ℤ, pos, negsuc, neg_ℤ, Option, Some, None, length, get_or, refl, sym, ap, ◌∙◌, subst, arith, append-nil, append_assoc, length-append}
+use Rattle.std.proofs.Common.{◌≡◌, ℕ, zero, suc, ◌+◌, ◌^◌, ◌<◌, inl, inr, List, [], ◌∷◌, ◌++◌, ℤ, pos, negsuc, neg_ℤ, Option, Some, None, length, refl, sym, ap, ◌∙◌, subst, arith, append-nil, length-append}
 use Rattle.std.proofs.Math.ListN.{get_or-append}
 use Rattle.std.proofs.lemmas.List.{get_or-append-add}
-use Rattle.std.specs.Prelude.{IsTrue, All}
-use Rattle.std.specs.List.{flat_map, join_by}
+use Rattle.std.specs.Prelude.{All}
 use Rattle.ql_lex.specs.declared.token.Sign.{Sign}
 use Rattle.ql_lex.specs.declared.token.Sign.TheVariants as signs
-use Rattle.ql_lex.specs.declared.token.TokenKind.TheVariants as forms
 use Rattle.std.specs.Str.{IsUtf8}
 use Rattle.ql_lex.specs.Shapes.{IsLexeme, is_name_byte, is_variable_byte, inside}
 use Rattle.ql_lex.proofs.TextValues.{unescaped_utf8}
-use Rattle.ql_lex.specs.Spacing.{Spelling, IsSpelling, AreSpellings, IsSpelled, AreSpelled}
+use Rattle.ql_lex.specs.Spacing.{IsSpelled}
 use Rattle.ql_lex.specs.Tokens.{Lexeme}
 use Rattle.ql_parse.specs.declared.keyword.Keyword.{Keyword}
-use Rattle.ql_parse.specs.declared.kind.Kind.{Kind}
 use Rattle.ql_parse.specs.declared.kind.Kind.TheVariants as kinds
-use Rattle.ql_parse.specs.Tokens.{kind, kind_by, name_value, number_value, text_value}
+use Rattle.ql_parse.specs.Tokens.{kind, number_value}
 use Rattle.ql_parse.specs.Classes.{is_name}
-use Rattle.ql_parse.specs.Parts.{◌then◌, IsAbsent, IsOne, IsWord, AreWords, IsSign, IsComma, IsName, IsNumber, IsText, IsVariable, IsWhole, IsEnclosed, AreParens, IsPerhaps, IsGiven, AreGiven, AreListed, AreInRow}
+use Rattle.ql_parse.specs.Parts.{◌then◌, IsAbsent, IsOne, IsWord, AreWords, IsSign, IsComma, IsName, IsNumber, IsText, IsVariable, IsWhole, IsEnclosed, AreParens, IsGiven, AreGiven, AreListed, AreInRow}
 use Rattle.ql_parse.specs.Pieces.{Piece, word, sign, name, number, text, variable, spelling, whole, listed, in_parentheses, given, given_all, in_row}
 use Rattle.ql_parse.proofs.CanonicalNames.{IsNameBy, name_facts, variable_facts, number_facts, text_facts, decimal_fits}
 use Rattle.ql_parse.proofs.CanonicalTexts.{text_fits}

@@ -1,7 +1,6 @@
 -- Pieces as tokens: each is spelled as a token of its form, and read as what it stands for.
-use Rattle.std.proofs.Common.{◌≡◌, ◌≢◌, ℕ, suc, ◌^◌, ◌<◌, ◌≤◌, Bool, true, false, ◌&&◌, List, [], ◌∷◌, ◌++◌, map, ℤ, pos, negsuc, inl, inr, length, drop, refl, sym, ap, ◌∙◌, subst, lit≤, leb}
+use Rattle.std.proofs.Common.{◌≡◌, ℕ, ◌^◌, ◌<◌, ◌≤◌, Bool, true, ◌&&◌, List, map, length, refl, sym, ap, ◌∙◌, subst, leb}
 use Rattle.std.proofs.lemmas.Bool.{and_parts, leb-true}
-use Rattle.std.specs.Prelude.{IsTrue}
 use Rattle.std.specs.Str.{str_to_ascii_lowercase}
 use Rattle.std.specs.Str.Parse.{digits_value}
 use Rattle.name_table.specs.NamedValues.{value_named}
@@ -9,17 +8,16 @@ use Rattle.ql_lex.specs.declared.token.Sign.{Sign}
 use Rattle.ql_lex.specs.declared.token.Sign.TheVariants as signs
 use Rattle.ql_lex.specs.declared.token.TokenKind.{TokenKind}
 use Rattle.ql_lex.specs.declared.token.TokenKind.TheVariants as forms
-use Rattle.ql_lex.specs.Shapes.{is_name_byte, is_variable_byte, is_word, inside, IsLexeme}
+use Rattle.ql_lex.specs.Shapes.{is_name_byte, is_variable_byte, is_word, IsLexeme}
 use Rattle.ql_lex.specs.Spacing.{Spelling, IsSpelling, AreSpellings, IsSpelled, AreSpelled}
 use Rattle.ql_lex.specs.Tokens.{Lexeme}
 use Rattle.ql_lex.specs.Values.{name_of, text_of}
 use Rattle.ql_parse.specs.declared.keyword.Keyword.{Keyword}
 use Rattle.ql_parse.specs.declared.keyword.Keyword.TheVariants as keywords
-use Rattle.ql_parse.specs.declared.kind.Kind.{Kind}
 use Rattle.ql_parse.specs.declared.kind.Kind.TheVariants as kinds
 use Rattle.ql_parse.specs.Tokens.{kind, kind_by, name_value, number_value, text_value}
 use Rattle.ql_parse.specs.Keywords.{keyword_named}
-use Rattle.ql_parse.specs.Pieces.{Piece, word, sign, name, number, text, variable, in_capitals, sign_text, escaped_text, spelling}
+use Rattle.ql_parse.specs.Pieces.{Piece, word, sign, name, number, text, variable, in_capitals, sign_text, spelling}
 use Rattle.ql_parse.proofs.CanonicalNames.{IsNameBy, inside_of, enclosed_of, decimal_value}
 use Rattle.ql_parse.proofs.CanonicalTexts.{text_back}
 

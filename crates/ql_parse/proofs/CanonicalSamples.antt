@@ -1,5 +1,5 @@
 -- Statements and their canonical texts.
-use Rattle.std.proofs.Common.{◌≡◌, List, [], ◌∷◌, Option, Some, None, refl}
+use Rattle.std.proofs.Common.{◌≡◌, [], ◌∷◌, Some, None, refl}
 use Rattle.std.specs.Prelude.{codes, pos, negsuc, true, false}
 use Rattle.ql_parse.specs.declared.statement.Ids.TheVariants as ids
 use Rattle.ql_parse.specs.declared.statement.Plain.TheVariants as plains

@@ -1,10 +1,9 @@
 -- The parts of a SELECT are read from what they are written as.
-use Rattle.std.proofs.Common.{◌≡◌, ℕ, Bool, true, false, List, [], ◌∷◌, ◌++◌, Option, inl, sym, subst, append_assoc}
+use Rattle.std.proofs.Common.{◌≡◌, ℕ, Bool, true, false, List, [], ◌∷◌, ◌++◌, inl, sym, subst, append_assoc}
 use Rattle.ql_lex.specs.declared.token.Sign.TheVariants as signs
 use Rattle.ql_lex.specs.Tokens.{Lexeme}
 use Rattle.ql_parse.specs.declared.keyword.Keyword.{Keyword}
 use Rattle.ql_parse.specs.declared.keyword.Keyword.TheVariants as keywords
-use Rattle.ql_parse.specs.declared.select.Comparison.{Comparison}
 use Rattle.ql_parse.specs.declared.select.Cond.{Cond}
 use Rattle.ql_parse.specs.declared.select.Cond.TheVariants as conds
 use Rattle.ql_parse.specs.declared.select.FacetPart.{FacetPart}
@@ -23,9 +22,9 @@ use Rattle.ql_parse.specs.declared.select.SortName.{SortName}
 use Rattle.ql_parse.specs.declared.select.SortName.TheVariants as sorts
 use Rattle.ql_parse.specs.Parts.{◌then◌, IsWord, AreWords, IsComma, IsPerhaps, AreListed}
 use Rattle.ql_parse.specs.Pieces.{Piece, word, name, with_commas, given, given_all, in_row}
-use Rattle.ql_parse.specs.Selects.{IsExpr, IsAlias, IsItem, IsComparison, IsNegation, IsCond, IsWeight, IsCount, IsSort, IsInnerSort, IsGroupSort, IsDirection, IsKeyBy, IsHaving, IsSecond, IsLimit, IsFieldWeight, IsOptionValue, IsOption, IsFacetOrder, IsFacet, AreConds, IsGroup, AreInnerKeys, IsHavingPart, AreKeys, AreOptions, IsSelect, comparison_sign}
+use Rattle.ql_parse.specs.Selects.{IsExpr, IsAlias, IsItem, IsNegation, IsCond, IsWeight, IsCount, IsSort, IsInnerSort, IsGroupSort, IsDirection, IsKeyBy, IsSecond, IsLimit, IsFieldWeight, IsOptionValue, IsOption, IsFacetOrder, IsFacet, AreConds, IsGroup, AreInnerKeys, IsHavingPart, AreKeys, AreOptions, IsSelect, comparison_sign}
 use Rattle.ql_parse.specs.Canonical.{count_all, weight, expr, alias_pieces, item, negation, cond, sort_name, direction, sort_key, ordered, having_pieces, second_number, limit_pieces, field_weight, option_value, option, facet_order, facet, where_pieces, group_pieces, within_pieces, option_pieces, select_pieces}
-use Rattle.ql_parse.proofs.CanonicalPieces.{fits, word_fits, Spells}
+use Rattle.ql_parse.proofs.CanonicalPieces.{fits, word_fits}
 use Rattle.ql_parse.proofs.CanonicalParts.{Stays, word_back, stays_then, stays_absent, stays_given, stays_given_all, stays_in_row, stays_listed, stays_with_commas, stays_word, stays_words, stays_sign, stays_name, stays_number, stays_text, stays_whole, stays_enclosed, stays_parens}
 
 -- a word that may be left out is written

@@ -1,5 +1,5 @@
 -- A statement is read from its canonical text.
-use Rattle.std.proofs.Common.{◌≡◌, ℕ, Bool, true, false, ◌&&◌, List, [], ◌∷◌, ◌++◌, map, refl, sym, ◌∙◌, ap, subst, append_assoc, inr}
+use Rattle.std.proofs.Common.{◌≡◌, ℕ, Bool, true, false, ◌&&◌, List, [], ◌∷◌, ◌++◌, map, refl, sym, ap, subst, append_assoc, inr}
 use Rattle.std.proofs.lemmas.Bool.{and_parts}
 use Rattle.std.proofs.lemmas.List.Elements.{All-cons, All-nil}
 use Rattle.std.specs.Prelude.{not, All}
@@ -31,7 +31,7 @@ use Rattle.ql_parse.specs.Statements.{IsVal, IsPut, AreIds, IsPlain, IsScope, Is
 use Rattle.ql_parse.specs.Tokens.{kind, kind_by}
 use Rattle.ql_parse.specs.Canonical.{value, put_word, columns_pieces, row, ids_pieces, plain, scope, target, setting, row_limit, pieces, canonical_text}
 use Rattle.ql_parse.proofs.CanonicalNames.{IsNameBy, name_facts}
-use Rattle.ql_parse.proofs.CanonicalPieces.{AllFit, Spells, spelled_as, quoted_fits, quoted_kind, quoted_name}
+use Rattle.ql_parse.proofs.CanonicalPieces.{AllFit, spelled_as, quoted_fits, quoted_kind, quoted_name}
 use Rattle.ql_parse.proofs.CanonicalParts.{Stays, AreGood, good_front, good_back, stays_then, stays_absent, stays_given, stays_with_commas, stays_one, stays_word, stays_words, stays_sign, stays_name, stays_variable, stays_number, stays_text, stays_whole, stays_enclosed, stays_parens}
 use Rattle.ql_parse.proofs.CanonicalSelects.{stays_select}
 

@@ -1,15 +1,14 @@
 -- Texts between quotes, with `\` before each quote and each `\`.
-use Rattle.std.proofs.Common.{◌≡◌, ◌≢◌, ℕ, zero, suc, ◌+◌, ◌-◌, ◌<◌, ◌≤◌, Bool, true, false, cond, eqb, ◌&&◌, List, [], ◌∷◌, ◌++◌, length, get_or, refl, sym, ap, ◌∙◌, subst, arith, ⊎_elim, IsUtf8, append-nil}
+use Rattle.std.proofs.Common.{◌≡◌, ◌≢◌, ℕ, zero, suc, ◌<◌, ◌≤◌, Bool, true, false, eqb, ◌&&◌, List, [], ◌∷◌, ◌++◌, length, get_or, refl, sym, ap, ◌∙◌, subst, arith, ⊎_elim, IsUtf8, append-nil}
 use Rattle.std.proofs.lemmas.Bool.{and_parts, and_from, cases_lt, cases_eq, cond-false, ne_eqb, not_from_false}
 use Rattle.std.proofs.lemmas.Grind.{flat_map-append}
 use Rattle.std.proofs.lemmas.Str.{IsUtf8-append, IsUtf8-nil, IsUtf8-from_ascii, IsUtf8-encode, encode_ascii, inside_one}
 use Rattle.std.specs.Char.{IsScalar, encode_utf8}
-use Rattle.std.specs.List.{flat_map}
-use Rattle.std.specs.Prelude.{not, ◌||◌}
+use Rattle.std.specs.Prelude.{◌||◌}
 use Rattle.std.specs.Str.{encode_utf8_all, all_scalars}
 use Rattle.ql_lex.specs.declared.token.TokenKind.TheVariants as forms
-use Rattle.ql_lex.specs.Shapes.{is_plain, is_inner, inside, IsText, IsLexeme}
-use Rattle.ql_lex.specs.Values.{escaped, unescaped, text_of}
+use Rattle.ql_lex.specs.Shapes.{is_plain, is_inner, IsLexeme}
+use Rattle.ql_lex.specs.Values.{unescaped, text_of}
 use Rattle.ql_lex.proofs.Unescaping.{unescaped_plain}
 use Rattle.ql_parse.specs.Pieces.{escaped_byte, escaped_text}
 use Rattle.ql_parse.proofs.CanonicalNames.{inside_of, enclosed_of}

@@ -1,5 +1,5 @@
 -- What the readers make of a choice by two tokens.
-use Rattle.std.proofs.Common.{◌≡◌, ℕ, List, [], ◌∷◌, Bool, true, false, Option, Some, None, ◌⊎◌, inl, inr, refl, sym, ◌∙◌, ap, subst}
+use Rattle.std.proofs.Common.{◌≡◌, ℕ, List, Bool, true, false, sym, ◌∙◌, ap}
 use Rattle.std.specs.Prelude.{◌&&◌, not}
 use Rattle.srch_base.specs.declared.faults.Or.{Or}
 use Rattle.ql_lex.specs.declared.token.Sign.{Sign}

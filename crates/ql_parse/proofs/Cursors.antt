@@ -1,5 +1,5 @@
 -- The tokens that are left are those of a text.
-use Rattle.std.proofs.Common.{arith, ◌≡◌, ◌≢◌, ℕ, ◌-◌, List, [], ◌∷◌, ◌++◌, length, get_or, take, drop, map, refl, sym, ◌∙◌, ap, subst, Option, Some, None, Bool, true, false}
+use Rattle.std.proofs.Common.{arith, ◌≡◌, ◌≢◌, ℕ, ◌-◌, List, [], ◌∷◌, ◌++◌, length, get_or, take, drop, refl, sym, ◌∙◌, ap, subst, Option, Some, None, true}
 use Rattle.std.specs.List.{All}
 use Rattle.std.specs.Prelude.{IsSome}
 use Rattle.std.proofs.lemmas.Grind.{common_steps}
@@ -8,10 +8,9 @@ use Rattle.ql_lex.specs.declared.token.Sign.{Sign}
 use Rattle.ql_lex.specs.declared.token.Token.{Token}
 use Rattle.ql_lex.specs.declared.token.TokenKind.{TokenKind}
 use Rattle.ql_lex.specs.declared.token.TokenKind.TheVariants as forms
-use Rattle.ql_lex.specs.Shapes.{IsLexeme, IsNamed, IsText as IsQuoted, sign_of}
+use Rattle.ql_lex.specs.Shapes.{IsLexeme, IsNamed, sign_of}
 use Rattle.ql_lex.specs.Tokens.{Lexeme, lexeme_of, AreLexemes}
 use Rattle.ql_parse.specs.declared.keyword.Keyword.{Keyword}
-use Rattle.ql_parse.specs.declared.kind.Kind.{Kind}
 use Rattle.ql_parse.specs.declared.kind.Kind.TheVariants as kinds
 use Rattle.ql_parse.specs.Keywords.{keyword_named}
 use Rattle.ql_parse.specs.Tokens.{kind, kind_by, word_kind, sign_kind, lexemes, first_kind}
@@ -29,13 +28,13 @@ lexemes_behind t ts h other = go h.front h.is h.others
         let same : h.last ≡ t = cc in
         absurd (other (end_kind h.last.kind t (sym (ap (λ (x : Lexeme). x.kind) same)) h.ends))
     go (x ∷ front) is others = record {
-        each = All-tail (λ (x : Lexeme). IsLexeme x.kind x.text) t ts h.each;
-        front = front;
-        last = h.last;
-        is = cc;
-        ends = h.ends;
-        others = All-tail (λ (x : Lexeme). x.kind ≢ forms.End) x front others;
-      }
+      each = All-tail (λ (x : Lexeme). IsLexeme x.kind x.text) t ts h.each;
+      front = front;
+      last = h.last;
+      is = cc;
+      ends = h.ends;
+      others = All-tail (λ (x : Lexeme). x.kind ≢ forms.End) x front others;
+    }
 
 pub tokens_behind : (ts : List Token) → AreLexemes (lexemes ts) → first_kind (lexemes ts) ≢ kinds.End → AreLexemes (lexemes (take (length ts - 1) (drop 1 ts)))
 tokens_behind [] h other = absurd (other refl)

@@ -59,9 +59,14 @@ syntax_fault {tokens} {place} h =
     let room : MAX_STATEMENTS ≤ 31 + 1 = omega arith in
     let l = verdict_some tokens (packet 31) h.rest (h.leaves 31 room) in
     record {
-      front = l.before; next = l.next; behind = l.behind; is = l.is;
+      front = l.before;
+      next = l.next;
+      behind = l.behind;
+      is = l.is;
       place = place_of h.place_is l.rest_is;
-      begins = goes_so_far l; stops = stops_there l; kind = stops_long h l;
+      begins = goes_so_far l;
+      stops = stops_there l;
+      kind = stops_long h l;
     }
 
 -- A packet that is too long goes on with the next token.
@@ -88,7 +93,12 @@ too_many_fault {tokens} {now} {place} h at =
     let heads : t ≡ l.next = cc (is, l.rest_is) in
     let long = begins_long h l.next l.behind l.rest_is (subst (λ (x : Lexeme). begins (kind x) statement ≡ true) heads starts) in
     record {
-      front = l.before; next = l.next; behind = l.behind; is = l.is;
+      front = l.before;
+      next = l.next;
+      behind = l.behind;
+      is = l.is;
       place = place_of at l.rest_is;
-      begins = goes_so_far l; stops = stops_there l; kind = subst (λ u. BeginsLong (u ++ l.next ∷ [])) fronts long;
+      begins = goes_so_far l;
+      stops = stops_there l;
+      kind = subst (λ u. BeginsLong (u ++ l.next ∷ [])) fronts long;
     }

@@ -1,5 +1,5 @@
 -- Keywords by their numbers.
-use Rattle.std.proofs.Common.{◌≡◌, ℕ, ◌==◌, Bool, true, false, Option, Some, None, slice_get, refl, sym, ◌∙◌, ap}
+use Rattle.std.proofs.Common.{◌≡◌, true, Some, slice_get, refl, sym, ◌∙◌, ap}
 use Rattle.std.proofs.lemmas.Bool.{eqb-true, eq-eqb}
 use Rattle.ql_parse.specs.declared.keyword.Keyword.{Keyword}
 use Rattle.ql_parse.specs.declared.keyword.Keyword.TheVariants as keywords

@@ -1,21 +1,18 @@
 -- Choices by two tokens, and parts in a row.
-use Rattle.std.proofs.Common.{arith, ◌<◌, ◌≤◌, length, ◌≡◌, ℕ, suc, List, [], ◌∷◌, ◌++◌, Bool, true, false, Option, Some, None, ◌⊎◌, inl, inr, refl, sym, ◌∙◌, ap, subst, append_assoc, append-nil}
-use Rattle.std.specs.Prelude.{◌&&◌, ◌||◌, IsTrue, not, if◌then◌else◌}
+use Rattle.std.proofs.Common.{◌≡◌, List, [], ◌∷◌, ◌++◌, Bool, true, false, Option, Some, None, inl, inr, refl, sym, ◌∙◌, ap, subst, append-nil}
+use Rattle.std.specs.Prelude.{◌&&◌, ◌||◌, not}
 use Rattle.std.proofs.lemmas.Bool.{cases_Bool}
-use Rattle.srch_base.specs.declared.faults.Or.{Or}
-use Rattle.srch_base.specs.declared.faults.Or.TheVariants.{NoMemory, Fault}
 use Rattle.ql_lex.specs.Tokens.{Lexeme}
 use Rattle.ql_parse.specs.declared.kind.Kind.{Kind}
-use Rattle.ql_parse.specs.Tokens.{kind, first_kind}
+use Rattle.ql_parse.specs.Tokens.{kind}
 use Rattle.ql_parse.specs.Classes.{Class, fits}
-use Rattle.ql_parse.specs.Language.{Re, empty, one, seq, alt, many, Repeats, none, more, In, nullable, chain, either, joined, after, verdict, next}
-use Rattle.ql_parse.specs.Parts.{◌then◌, AreInRow}
-use Rattle.ql_parse.specs.Progress.{fits_some, apart, begins, is_in, all_in, may_follow, misses, begun, Takes, Fails, IsNext, IsNextOf, AreNext, second_kind, TakesRow}
-use Rattle.ql_parse.proofs.Apart.{and_first, and_second, or_first, or_second, apart_no, begins_no}
+use Rattle.ql_parse.specs.Language.{Re, empty, one, seq, alt, many, none, more, In, nullable, after, verdict, next}
+use Rattle.ql_parse.specs.Progress.{fits_some, apart, begins, begun, IsNext, AreNext, second_kind}
+use Rattle.ql_parse.proofs.Apart.{and_first, and_second, apart_no, begins_no}
 use Rattle.ql_parse.proofs.Laws.{InAny, after_from, after_to, nullable_has, has_nullable}
 use Rattle.ql_parse.proofs.Samples.{some_text}
-use Rattle.ql_parse.proofs.Steps.{more_at, ended_at, apart_rest, regroup, begun_misses, not_true, or_left, clash}
-use Rattle.ql_parse.proofs.Verdicts.{Within, verdict_same, verdict_begun}
+use Rattle.ql_parse.proofs.Steps.{begun_misses, not_true, clash}
+use Rattle.ql_parse.proofs.Verdicts.{verdict_begun}
 
 -- the texts that follow a token of the grammar, where there are some
 Goes : Re → Lexeme → Re → Type 0
@@ -53,20 +50,20 @@ unfolding In
 begins_some empty t e = cc
 begins_some (one c) t e = ([], (t, refl, e))
 begins_some (seq r s) t e = elim (cases_Bool (begins (kind t) r)) [
-      | inl here ↦ let (w, h) = begins_some r t here in let (v, k) = some_text s in (w ++ v, (t ∷ w, v, refl, h, k))
-      | inr other ↦
-          let both = behind (begins (kind t) r) (nullable r && begins (kind t) s) other e in
-          let (w, h) = begins_some s t (and_second (nullable r) (begins (kind t) s) both) in
-          (w, ([], t ∷ w, refl, nullable_has r (and_first (nullable r) (begins (kind t) s) both), h))
-    ]
+  | inl here ↦ let (w, h) = begins_some r t here in let (v, k) = some_text s in (w ++ v, (t ∷ w, v, refl, h, k))
+  | inr other ↦
+      let both = behind (begins (kind t) r) (nullable r && begins (kind t) s) other e in
+      let (w, h) = begins_some s t (and_second (nullable r) (begins (kind t) s) both) in
+      (w, ([], t ∷ w, refl, nullable_has r (and_first (nullable r) (begins (kind t) s) both), h))
+]
   where
     behind : (b c : Bool) → b ≡ false → (b || c) ≡ true → c ≡ true
     behind true c is e = cc
     behind false c is e = e
 begins_some (alt r s) t e = elim (cases_Bool (begins (kind t) r)) [
-      | inl here ↦ let (w, h) = begins_some r t here in (w, inl h)
-      | inr other ↦ let (w, h) = begins_some s t (behind (begins (kind t) r) (begins (kind t) s) other e) in (w, inr h)
-    ]
+  | inl here ↦ let (w, h) = begins_some r t here in (w, inl h)
+  | inr other ↦ let (w, h) = begins_some s t (behind (begins (kind t) r) (begins (kind t) s) other e) in (w, inr h)
+]
   where
     behind : (b c : Bool) → b ≡ false → (b || c) ≡ true → c ≡ true
     behind true c is e = cc
@@ -144,6 +141,7 @@ drop_right r s k t us e never =
   where
     widen : (w : List Lexeme) → In (seq r k) (t ∷ w) → In (seq (alt r s) k) (t ∷ w)
     widen w (a, b, is, first, second) = (a, b, is, inl first, second)
+
     there : (u : Lexeme) (x y : List Lexeme) → us ≡ u ∷ y → In (seq (alt r s) k) (t ∷ u ∷ x) → In (seq r k) (t ∷ u ∷ x)
     there u x y is (a, b, is', inl first, second) = (a, b, is', first, second)
     there u x y is (a, b, is', inr first, second) = absurd (never u x y is (a, b, is', first, second))
@@ -156,6 +154,7 @@ drop_left r s k t us e never =
   where
     widen : (w : List Lexeme) → In (seq s k) (t ∷ w) → In (seq (alt r s) k) (t ∷ w)
     widen w (a, b, is, first, second) = (a, b, is, inr first, second)
+
     there : (u : Lexeme) (x y : List Lexeme) → us ≡ u ∷ y → In (seq (alt r s) k) (t ∷ u ∷ x) → In (seq s k) (t ∷ u ∷ x)
     there u x y is (a, b, is', inl first, second) = absurd (never u x y is (a, b, is', first, second))
     there u x y is (a, b, is', inr first, second) = (a, b, is', first, second)
@@ -170,8 +169,8 @@ right_by_two r s k cs kd ld before n filled e f free =
     let kd_is = n.first.kind_is in
     let second : second_kind (n.first.next ∷ n.first.behind) ≡ ld = ap second_kind (sym is) ∙ n.second in
     subst (λ u. verdict (seq (alt r s) k) u ≡ verdict (seq s k) u) (sym is)
-      (drop_left r s k n.first.next n.first.behind (ap (λ d. begins d s) kd_is ∙ f)
-        (λ u x y same. clear_no r k cs n.first.next u x filled (ap (λ d. clear d (kind u) cs (after d r)) kd_is ∙ ap (λ d. clear kd d cs (after kd r)) (sym (second_is n.first.next u n.first.behind y same) ∙ second) ∙ e) free))
+    (drop_left r s k n.first.next n.first.behind (ap (λ d. begins d s) kd_is ∙ f)
+    (λ u x y same. clear_no r k cs n.first.next u x filled (ap (λ d. clear d (kind u) cs (after d r)) kd_is ∙ ap (λ d. clear kd d cs (after kd r)) (sym (second_is n.first.next u n.first.behind y same) ∙ second) ∙ e) free))
 
 -- .. or the right one
 pub left_by_two : (r s k : Re) (cs : List Class) (kd ld : Kind) (before : List Lexeme) → AreNext kd ld before → nullable s ≡ false → clear kd ld cs (after kd s) ≡ true → begins kd r ≡ true → apart cs k ≡ true → verdict (seq (alt r s) k) before ≡ verdict (seq r k) before
@@ -180,8 +179,8 @@ left_by_two r s k cs kd ld before n filled e f free =
     let kd_is = n.first.kind_is in
     let second : second_kind (n.first.next ∷ n.first.behind) ≡ ld = ap second_kind (sym is) ∙ n.second in
     subst (λ u. verdict (seq (alt r s) k) u ≡ verdict (seq r k) u) (sym is)
-      (drop_right r s k n.first.next n.first.behind (ap (λ d. begins d r) kd_is ∙ f)
-        (λ u x y same. clear_no s k cs n.first.next u x filled (ap (λ d. clear d (kind u) cs (after d s)) kd_is ∙ ap (λ d. clear kd d cs (after kd s)) (sym (second_is n.first.next u n.first.behind y same) ∙ second) ∙ e) free))
+    (drop_right r s k n.first.next n.first.behind (ap (λ d. begins d r) kd_is ∙ f)
+    (λ u x y same. clear_no s k cs n.first.next u x filled (ap (λ d. clear d (kind u) cs (after d s)) kd_is ∙ ap (λ d. clear kd d cs (after kd s)) (sym (second_is n.first.next u n.first.behind y same) ∙ second) ∙ e) free))
 
 -- By a second token of another class than the one with which the left part goes on alone it is dropped, ..
 pub right_by_other : (r s k : Re) (c : Class) (kd : Kind) (before : List Lexeme) → IsNext kd before → fits c (second_kind before) ≡ false → nullable r ≡ false → begun_after c (after kd r) ≡ true → begins kd s ≡ true → verdict (seq (alt r s) k) before ≡ verdict (seq s k) before
@@ -189,8 +188,8 @@ right_by_other r s k c kd before n other filled e f =
     let is = n.is in
     let second : fits c (second_kind (n.next ∷ n.behind)) ≡ false = ap (λ u. fits c (second_kind u)) (sym is) ∙ other in
     subst (λ u. verdict (seq (alt r s) k) u ≡ verdict (seq s k) u) (sym is)
-      (drop_left r s k n.next n.behind (ap (λ d. begins d s) n.kind_is ∙ f)
-        (λ u x y same. begun_no r k c n.next u x filled (ap (λ d. begun_after c (after d r)) n.kind_is ∙ e) (ap (fits c) (sym (second_is n.next u n.behind y same)) ∙ second)))
+    (drop_left r s k n.next n.behind (ap (λ d. begins d s) n.kind_is ∙ f)
+    (λ u x y same. begun_no r k c n.next u x filled (ap (λ d. begun_after c (after d r)) n.kind_is ∙ e) (ap (fits c) (sym (second_is n.next u n.behind y same)) ∙ second)))
 
 -- .. or the right one
 pub left_by_other : (r s k : Re) (c : Class) (kd : Kind) (before : List Lexeme) → IsNext kd before → fits c (second_kind before) ≡ false → nullable s ≡ false → begun_after c (after kd s) ≡ true → begins kd r ≡ true → verdict (seq (alt r s) k) before ≡ verdict (seq r k) before
@@ -198,5 +197,5 @@ left_by_other r s k c kd before n other filled e f =
     let is = n.is in
     let second : fits c (second_kind (n.next ∷ n.behind)) ≡ false = ap (λ u. fits c (second_kind u)) (sym is) ∙ other in
     subst (λ u. verdict (seq (alt r s) k) u ≡ verdict (seq r k) u) (sym is)
-      (drop_right r s k n.next n.behind (ap (λ d. begins d r) n.kind_is ∙ f)
-        (λ u x y same. begun_no s k c n.next u x filled (ap (λ d. begun_after c (after d s)) n.kind_is ∙ e) (ap (fits c) (sym (second_is n.next u n.behind y same)) ∙ second)))
+    (drop_right r s k n.next n.behind (ap (λ d. begins d r) n.kind_is ∙ f)
+    (λ u x y same. begun_no s k c n.next u x filled (ap (λ d. begun_after c (after d s)) n.kind_is ∙ e) (ap (fits c) (sym (second_is n.next u n.behind y same)) ∙ second)))

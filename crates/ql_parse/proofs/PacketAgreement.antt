@@ -17,9 +17,9 @@ use Rattle.ql_parse.proofs.Steps.{end_is}
 pub agree_end : Agrees (one the_end) IsEnd
 unfolding In
 agree_end = record {
-    text = λ x u (t, e, k). (t, e, ap (fits the_end) k);
-    value = λ u (t, e, f). (tt, (t, e, end_is (kind t) f));
-  }
+  text = λ x u (t, e, k). (t, e, ap (fits the_end) k);
+  value = λ u (t, e, f). (tt, (t, e, end_is (kind t) f));
+}
 
 -- [;] end
 abbrev IsEnding : List Lexeme → Type 0
@@ -38,9 +38,13 @@ statements_text n [] u v h end few = absurd h
 statements_text n (x ∷ []) u v h end few = (u, v, refl, statement_agrees.text x u h, ending_text n v end)
 statements_text zero (x ∷ y ∷ list) u v h end few = absurd (omega arith)
 statements_text (suc n) (x ∷ y ∷ list) u v (a, bc, e, p, (b, c, f, s, rest)) end few =
-    let fewer : length (y ∷ list) ≤ suc n = omega arith in
-    (a, b ++ (c ++ v), ap (λ w. w ++ v) (e ∙ ap (λ w. a ++ w) f) ∙ append_assoc a (b ++ c) v ∙ ap (λ w. a ++ w) (append_assoc b c v), statement_agrees.text x a p,
-      inl (b, c ++ v, refl, (agree_sign signs.Semicolon).text tt b s, inl (statements_text n (y ∷ list) c v rest end fewer)))
+    let fewer : length (y ∷ list) ≤ suc n = omega arith in (
+      a,
+      b ++ (c ++ v),
+      ap (λ w. w ++ v) (e ∙ ap (λ w. a ++ w) f) ∙ append_assoc a (b ++ c) v ∙ ap (λ w. a ++ w) (append_assoc b c v),
+      statement_agrees.text x a p,
+      inl (b, c ++ v, refl, (agree_sign signs.Semicolon).text tt b s, inl (statements_text n (y ∷ list) c v rest end fewer)),
+    )
 
 -- A packet of so few statements is a text, ..
 pub packet_text : (n : ℕ) (list : List Statement) (u : List Lexeme) → IsPacket list u → length list ≤ suc n → In (packet n) u

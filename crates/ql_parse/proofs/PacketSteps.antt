@@ -1,11 +1,11 @@
 -- Statements in a row, and how a packet ends.
-use Rattle.std.proofs.Common.{arith, ◌≡◌, ◌≤◌, ◌<◌, ◌+◌, ◌-◌, ℕ, zero, suc, length, length-append, List, [], ◌∷◌, ◌++◌, Bool, true, false, Option, Some, None, inl, inr, refl, sym, ◌∙◌, ap, subst, append_assoc, append-nil}
+use Rattle.std.proofs.Common.{arith, ◌≡◌, ◌<◌, ◌+◌, ◌-◌, ℕ, zero, suc, length, length-append, List, [], ◌∷◌, ◌++◌, Bool, true, false, Option, Some, None, inl, inr, refl, sym, ◌∙◌, ap, subst, append_assoc}
 use Rattle.std.specs.Prelude.{◌&&◌, ◌||◌}
-use Rattle.std.specs.Prelude.{Result, Ok, Err}
+use Rattle.std.specs.Prelude.{Result, Err}
 use Rattle.std.specs.Result.{IsErrAnd}
 use Rattle.std.proofs.lemmas.Result.{err_from_is_err_and}
 use Rattle.srch_base.specs.declared.faults.Or.{Or}
-use Rattle.srch_base.specs.declared.faults.Or.TheVariants.{NoMemory, Fault}
+use Rattle.srch_base.specs.declared.faults.Or.TheVariants.{Fault}
 use Rattle.ql_lex.specs.declared.token.Sign.TheVariants as signs
 use Rattle.ql_lex.specs.Tokens.{Lexeme}
 use Rattle.ql_parse.specs.declared.keyword.Keyword.{Keyword}
@@ -16,19 +16,19 @@ use Rattle.ql_parse.specs.declared.parsing.TheConstants.{MAX_STATEMENTS}
 use Rattle.ql_parse.specs.declared.statement.Statement.{Statement}
 use Rattle.ql_parse.specs.Keywords.{begins_statement}
 use Rattle.ql_parse.specs.Tokens.{kind, first_place}
-use Rattle.ql_parse.specs.Classes.{Class, the_sign, the_end, fits}
-use Rattle.ql_parse.specs.Language.{Re, empty, one, seq, alt, many, In, nullable, after, next, verdict}
-use Rattle.ql_parse.specs.Grammar.{more_statements, packet, statement}
-use Rattle.ql_parse.specs.Parts.{◌then◌, AreListed, IsSign}
+use Rattle.ql_parse.specs.Classes.{the_sign, the_end, fits}
+use Rattle.ql_parse.specs.Language.{Re, one, seq, alt, In, nullable, after, next, verdict}
+use Rattle.ql_parse.specs.Grammar.{more_statements, statement}
+use Rattle.ql_parse.specs.Parts.{IsSign}
 use Rattle.ql_parse.specs.Packets.{IsPacket}
 use Rattle.ql_parse.specs.PacketReading.{LeavesPackets, IsTooLong, ReadsPacket, StatementsRead}
 use Rattle.ql_parse.specs.Progress.{apart, begins, is_start, Takes, Fails, IsNextOf, IsStart}
 use Rattle.ql_parse.specs.Selecting.{select_goes_on}
 use Rattle.ql_parse.specs.Statements.{IsStatement}
 use Rattle.ql_parse.proofs.Apart.{begins_no}
-use Rattle.ql_parse.proofs.Laws.{InAny, after_to, has_nullable}
+use Rattle.ql_parse.proofs.Laws.{InAny, after_to}
 use Rattle.ql_parse.proofs.Samples.{some_text}
-use Rattle.ql_parse.proofs.Steps.{listed_last, sign_is, end_is, clash, kind_next}
+use Rattle.ql_parse.proofs.Steps.{listed_last, end_is, clash, kind_next}
 use Rattle.ql_parse.proofs.Verdicts.{verdict_begun}
 
 -- what follows a statement isn't taken for a part of it
@@ -75,12 +75,14 @@ semicolon_at {mid} {there} h = let (t, e, k) = h.has in (t, h.is ∙ ap (λ u. u
 
 pub statements_one : {x : Statement} {before now : List Lexeme} → Takes statement select_goes_on (IsStatement x) before now → StatementsRead before (x ∷ []) now
 statements_one {x} {before} {now} h = record {
-    others = 0;
-    count = refl;
-    few = omega arith;
-    takes = λ m n e. let same : m ≡ n = omega arith in h.takes (more_statements m) (apart_more m) ∙ ap (λ k. verdict (more_statements k) now) same;
-    used = h.used; is = h.is; has = h.has;
-  }
+  others = 0;
+  count = refl;
+  few = omega arith;
+  takes = λ m n e. let same : m ≡ n = omega arith in h.takes (more_statements m) (apart_more m) ∙ ap (λ k. verdict (more_statements k) now) same;
+  used = h.used;
+  is = h.is;
+  has = h.has;
+}
 
 pub statements_more : {list : List Statement} (x : Statement) {before mid there now : List Lexeme} → StatementsRead before list mid → Takes (one (the_sign signs.Semicolon)) [] (IsSign signs.Semicolon) mid there → IsNextOf the_end there false → length list < MAX_STATEMENTS → Takes statement select_goes_on (IsStatement x) there now → StatementsRead before (list ++ x ∷ []) now
 statements_more {list} x {before} {mid} {there} {now} read semi other room h =
@@ -90,8 +92,8 @@ statements_more {list} x {before} {mid} {there} {now} read semi other room h =
       count = omega (arith, length-append list (x ∷ []), read.count);
       few = omega (arith, length-append list (x ∷ []));
       takes = λ m n e.
-        let more : m ≡ suc n + read.others = omega arith in
-        read.takes m (suc n) more ∙ ap (verdict (more_statements (suc n))) is ∙ semicolon_taken n t there k ∙ not_end (seq statement (more_statements n)) there other ∙ h.takes (more_statements n) (apart_more n);
+          let more : m ≡ suc n + read.others = omega arith in
+          read.takes m (suc n) more ∙ ap (verdict (more_statements (suc n))) is ∙ semicolon_taken n t there k ∙ not_end (seq statement (more_statements n)) there other ∙ h.takes (more_statements n) (apart_more n);
       used = read.used ++ (semi.used ++ h.used);
       is = read.is ∙ ap (λ u. read.used ++ u) (semi.is ∙ ap (λ u. semi.used ++ u) h.is ∙ sym (append_assoc semi.used h.used now)) ∙ sym (append_assoc read.used (semi.used ++ h.used) now);
       has = listed_last (IsSign signs.Semicolon) IsStatement list x read.used semi.used h.used read.has semi.has h.has;
@@ -125,11 +127,12 @@ later_fails {list} {before} {mid} {there} {e} read semi other room h place is =
     let (t, at, k) = semicolon_at semi in
     let f = h.fails place is in
     record {
-      rest = f.rest; place_is = f.place_is;
+      rest = f.rest;
+      place_is = f.place_is;
       leaves = λ more few.
-        let n : ℕ = more - suc read.others in
-        let enough : more ≡ suc n + read.others = omega (arith, read.count) in
-        read.takes more (suc n) enough ∙ ap (verdict (more_statements (suc n))) at ∙ semicolon_taken n t there k ∙ not_end (seq statement (more_statements n)) there other ∙ f.leaves (more_statements n) (apart_more n);
+          let n : ℕ = more - suc read.others in
+          let enough : more ≡ suc n + read.others = omega (arith, read.count) in
+          read.takes more (suc n) enough ∙ ap (verdict (more_statements (suc n))) at ∙ semicolon_taken n t there k ∙ not_end (seq statement (more_statements n)) there other ∙ f.leaves (more_statements n) (apart_more n);
     }
 
 -- the kinds with which a statement begins
@@ -214,11 +217,12 @@ full_fails {list} {before} {mid} {there} place read semi n full s at other same 
     let (t, is, k) = semicolon_at semi in
     let equal : place ≡ other = cc in
     record {
-      rest = there; place_is = sym equal ∙ at;
+      rest = there;
+      place_is = sym equal ∙ at;
       leaves = λ more few.
-        let left : ℕ = more - read.others in
-        let enough : more ≡ left + read.others = omega (arith, read.count) in
-        read.takes more left enough ∙ ap (verdict (more_statements left)) is ∙ go left t k;
+          let left : ℕ = more - read.others in
+          let enough : more ≡ left + read.others = omega (arith, read.count) in
+          read.takes more left enough ∙ ap (verdict (more_statements left)) is ∙ go left t k;
     }
   where
     go : (m : ℕ) (t : Lexeme) → kind t ≡ kinds.Sign signs.Semicolon → verdict (more_statements m) (t ∷ there) ≡ Some there
@@ -232,12 +236,17 @@ pub too_long : {list : List Statement} {before mid there : List Lexeme} → Stat
 too_long {list} {before} {mid} {there} read semi n full s =
     let (t, is, k) = semicolon_at semi in
     record {
-      list = list; count = full; used = read.used; semicolon = semi.used;
+      list = list;
+      count = full;
+      used = read.used;
+      semicolon = semi.used;
       is = read.is ∙ ap (λ u. read.used ++ u) semi.is ∙ sym (append_assoc read.used semi.used there);
-      has = read.has; behind = semi.has; starts = s;
+      has = read.has;
+      behind = semi.has;
+      starts = s;
       leaves = λ more few.
-        let none : more ≡ 0 + read.others = omega (arith, read.count) in
-        read.takes more 0 none ∙ ap (verdict (more_statements 0)) is ∙ last_semicolon_taken t there k ∙ refused_at (one the_end) there n.next.next n.next.behind n.next.is (ap (fits the_end) n.next.kind_is ∙ n.fits);
+          let none : more ≡ 0 + read.others = omega (arith, read.count) in
+          read.takes more 0 none ∙ ap (verdict (more_statements 0)) is ∙ last_semicolon_taken t there k ∙ refused_at (one the_end) there n.next.next n.next.behind n.next.is (ap (fits the_end) n.next.kind_is ∙ n.fits);
     }
 
 -- Neither a `;` nor the end follows a statement.
@@ -258,11 +267,12 @@ end_fails {list} {before} {now} {there} place read same semi n at other equal =
     let is : place ≡ other = cc in
     let same_kind : n.kind ≡ semi.kind = next_kind n.next.next semi.next.next n.next.is semi.next.is n.next.kind_is semi.next.kind_is in
     record {
-      rest = now; place_is = sym is ∙ at ∙ ap first_place same;
+      rest = now;
+      place_is = sym is ∙ at ∙ ap first_place same;
       leaves = λ more few.
-        let left : ℕ = more - read.others in
-        let enough : more ≡ left + read.others = omega (arith, read.count, read.few) in
-        read.takes more left enough ∙ refused_at (more_statements left) now semi.next.next semi.next.behind semi.next.is (ap (λ d. begins d (more_statements left)) semi.next.kind_is ∙ nothing_begins left semi.kind semi.fits (ap (fits the_end) (sym same_kind) ∙ n.fits));
+          let left : ℕ = more - read.others in
+          let enough : more ≡ left + read.others = omega (arith, read.count, read.few) in
+          read.takes more left enough ∙ refused_at (more_statements left) now semi.next.next semi.next.behind semi.next.is (ap (λ d. begins d (more_statements left)) semi.next.kind_is ∙ nothing_begins left semi.kind semi.fits (ap (fits the_end) (sym same_kind) ∙ n.fits));
     }
   where
     next_kind : (t u : Lexeme) → there ≡ t ∷ n.next.behind → now ≡ u ∷ semi.next.behind → kind t ≡ n.kind → kind u ≡ semi.kind → n.kind ≡ semi.kind

@@ -1,10 +1,9 @@
 -- What the reader of a packet answers is what the parser answers.
 use Rattle.std.proofs.Common.{◌≡◌, ℕ, List, refl}
-use Rattle.std.specs.Prelude.{Result, Ok, Err}
+use Rattle.std.specs.Prelude.{Err}
 use Rattle.srch_base.specs.declared.faults.Or.{Or}
 use Rattle.srch_base.specs.declared.faults.Or.TheVariants.{NoMemory, Fault}
 use Rattle.ql_lex.specs.Tokens.{Lexeme}
-use Rattle.ql_parse.specs.declared.fault.ParseFault.{ParseFault}
 use Rattle.ql_parse.specs.Packets.{Parses}
 use Rattle.ql_parse.specs.PacketReading.{LeavesPackets, syntax_error}
 use Rattle.ql_parse.proofs.Faults.{syntax_fault}

@@ -1,5 +1,5 @@
 -- Signs by their numbers.
-use Rattle.std.proofs.Common.{◌≡◌, ℕ, ◌==◌, List, [], ◌∷◌, Bool, true, false, Option, Some, None, slice_get, refl, sym, ◌∙◌, ap}
+use Rattle.std.proofs.Common.{◌≡◌, List, [], ◌∷◌, true, Some, slice_get, refl, sym, ◌∙◌, ap}
 use Rattle.std.proofs.lemmas.Bool.{eqb-true, eq-eqb}
 use Rattle.ql_lex.specs.declared.token.Sign.{Sign}
 use Rattle.ql_lex.specs.declared.token.Sign.TheVariants as signs
@@ -31,4 +31,3 @@ sign_same v w e =
 
 pub sign_to_itself : (s : Sign) → same_sign s s ≡ true
 sign_to_itself s = eq-eqb (sign_number s) (sign_number s) refl
-

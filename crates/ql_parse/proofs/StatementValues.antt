@@ -1,5 +1,5 @@
 -- The tokens of statements, put together.
-use Rattle.std.proofs.Common.{◌≡◌, ℕ, List, [], ◌∷◌, ◌++◌, refl}
+use Rattle.std.proofs.Common.{List}
 use Rattle.ql_lex.specs.Tokens.{Lexeme}
 use Rattle.ql_parse.specs.declared.keyword.Keyword.TheVariants as keywords
 use Rattle.ql_parse.specs.declared.statement.Statement.{Statement}

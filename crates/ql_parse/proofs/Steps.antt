@@ -1,28 +1,25 @@
 -- What the readers of parts make of a grammar of these parts.
-use Rattle.std.proofs.Common.{arith, ◌<◌, ◌≤◌, length, length-append, ◌≡◌, ℕ, suc, ◌==◌, List, [], ◌∷◌, ◌++◌, Bool, true, false, cond, Option, Some, None, ◌⊎◌, inl, inr, refl, sym, ◌∙◌, ap, subst, append_assoc, append-nil}
-use Rattle.std.specs.Prelude.{◌&&◌, ◌||◌, IsTrue, not, if◌then◌else◌, Result, Ok, Err, slice_get}
+use Rattle.std.proofs.Common.{arith, ◌≤◌, length, length-append, ◌≡◌, ℕ, List, [], ◌∷◌, ◌++◌, Bool, true, false, Some, None, ◌⊎◌, inl, inr, refl, sym, ◌∙◌, ap, subst, append_assoc}
+use Rattle.std.specs.Prelude.{◌&&◌, ◌||◌, not, if◌then◌else◌, Result, Ok, Err}
 use Rattle.std.specs.Result.{IsErrAnd}
 use Rattle.std.proofs.lemmas.Result.{err_from_is_err_and}
-use Rattle.std.proofs.lemmas.Bool.{eqb-true, eq-eqb, cases_Bool}
 use Rattle.srch_base.specs.declared.faults.Or.{Or}
-use Rattle.srch_base.specs.declared.faults.Or.TheVariants.{NoMemory, Fault}
+use Rattle.srch_base.specs.declared.faults.Or.TheVariants.{Fault}
 use Rattle.ql_lex.specs.declared.token.Sign.{Sign}
-use Rattle.ql_lex.specs.declared.token.Sign.TheVariants as signs
 use Rattle.ql_parse.specs.declared.keyword.Keyword.{Keyword}
 use Rattle.ql_parse.specs.declared.kind.Kind.{Kind}
 use Rattle.ql_parse.specs.declared.kind.Kind.TheVariants as kinds
-use Rattle.ql_parse.specs.Keywords.{same_keyword}
 use Rattle.ql_lex.specs.Tokens.{Lexeme}
 use Rattle.ql_parse.specs.Tokens.{kind, first_kind, first_place}
-use Rattle.ql_parse.specs.Classes.{Class, the_word, any_name, name_but, a_number, a_text, a_sysvar, the_sign, a_comparison, the_end, fits, is_name, is_word, same_sign, sign_number}
-use Rattle.ql_parse.specs.Language.{Re, empty, one, seq, alt, many, Repeats, none, more, In, nullable, chain, either, joined, after, verdict, next}
+use Rattle.ql_parse.specs.Classes.{Class, the_word, any_name, name_but, a_number, a_text, a_sysvar, the_sign, a_comparison, the_end, fits, is_name, is_word}
+use Rattle.ql_parse.specs.Language.{Re, empty, one, seq, alt, many, Repeats, none, more, In, nullable, chain, either, verdict, next}
 use Rattle.ql_parse.specs.Grammar.{optional, listed, repeated}
 use Rattle.ql_parse.specs.Parts.{◌then◌, IsWord, IsSign, AreListed}
-use Rattle.ql_parse.specs.Progress.{fits_some, meets, meets_some, apart, begins, same_class, is_in, all_in, may_follow, misses, begun, excludes, Takes, Fails, Reads, IsNext, IsNextOf, TakesIf, TakesListed}
+use Rattle.ql_parse.specs.Progress.{fits_some, meets, meets_some, apart, begins, same_class, is_in, all_in, may_follow, misses, begun, excludes, Takes, Fails, Reads, IsNext, IsNextOf, TakesListed}
 use Rattle.ql_parse.proofs.Apart.{and_first, and_second, or_first, or_second, apart_no, begins_no, not_meeting}
 use Rattle.ql_parse.proofs.KeywordNumbers.{keyword_same}
 use Rattle.ql_parse.proofs.SignNumbers.{sign_same}
-use Rattle.ql_parse.proofs.Laws.{nullable_has, has_nullable}
+use Rattle.ql_parse.proofs.Laws.{has_nullable}
 use Rattle.ql_parse.proofs.Verdicts.{Within, verdict_same, verdict_begun}
 
 class_same : (c d : Class) → same_class c d ≡ true → c ≡ d
@@ -105,21 +102,21 @@ empty_from k u h = ([], u, refl, refl, h)
 -- In a row: one part, then another.
 pub takes_seq : {r s : Re} {cs ds : List Class} {P Q : List Lexeme → Type 0} {before mid now : List Lexeme} → Takes r cs P before mid → may_follow cs s ds ≡ true → Takes s ds Q mid now → Takes (seq r s) ds (P then Q) before now
 takes_seq {r} {s} {cs} {ds} {P} {Q} {before} {mid} {now} first follows second = record {
-    takes = λ rest free. regroup r s rest before ∙ first.takes (seq s rest) (apart_rest cs s ds rest follows free) ∙ second.takes rest free;
-    used = first.used ++ second.used;
-    is = first.is ∙ ap (λ v. first.used ++ v) second.is ∙ sym (append_assoc first.used second.used now);
-    has = (first.used, second.used, refl, first.has, second.has);
-  }
+  takes = λ rest free. regroup r s rest before ∙ first.takes (seq s rest) (apart_rest cs s ds rest follows free) ∙ second.takes rest free;
+  used = first.used ++ second.used;
+  is = first.is ∙ ap (λ v. first.used ++ v) second.is ∙ sym (append_assoc first.used second.used now);
+  has = (first.used, second.used, refl, first.has, second.has);
+}
 
 pub fails_first : {r s : Re} {cs ds : List Class} {before : List Lexeme} {e : Or ℕ} → Fails r cs before e → may_follow cs s ds ≡ true → Fails (seq r s) ds before e
 fails_first {r} {s} {cs} {ds} {before} {e} first follows = record {
-    fails = λ place is. let f = first.fails place is in record { rest = f.rest; place_is = f.place_is; leaves = λ rest free. regroup r s rest before ∙ f.leaves (seq s rest) (apart_rest cs s ds rest follows free) };
-  }
+  fails = λ place is. let f = first.fails place is in record { rest = f.rest; place_is = f.place_is; leaves = λ rest free. regroup r s rest before ∙ f.leaves (seq s rest) (apart_rest cs s ds rest follows free) };
+}
 
 pub fails_next : {r s : Re} {cs ds : List Class} {P : List Lexeme → Type 0} {before mid : List Lexeme} {e : Or ℕ} → Takes r cs P before mid → may_follow cs s ds ≡ true → Fails s ds mid e → Fails (seq r s) ds before e
 fails_next {r} {s} {cs} {ds} {P} {before} {mid} {e} first follows second = record {
-    fails = λ place is. let f = second.fails place is in record { rest = f.rest; place_is = f.place_is; leaves = λ rest free. regroup r s rest before ∙ first.takes (seq s rest) (apart_rest cs s ds rest follows free) ∙ f.leaves rest free };
-  }
+  fails = λ place is. let f = second.fails place is in record { rest = f.rest; place_is = f.place_is; leaves = λ rest free. regroup r s rest before ∙ first.takes (seq s rest) (apart_rest cs s ds rest follows free) ∙ f.leaves rest free };
+}
 
 -- the exit of a `?`
 pub fails_with : {T : Type 0} {r : Re} {cs : List Class} (Is : T → List Lexeme → Type 0) {before : List Lexeme} (now : List Lexeme) {e : Or ℕ} (result : Result T (Or ℕ)) → IsErrAnd result (λ y. y ≡ e) → Fails r cs before e → Reads r cs Is before result now
@@ -150,6 +147,7 @@ choose_left r s k t u e = verdict_begun t u (seq (alt r s) k) (seq r k) there ba
     there : (v : List Lexeme) → In (seq (alt r s) k) (t ∷ v) → In (seq r k) (t ∷ v)
     there v (a, b, is, inl first, second) = (a, b, is, first, second)
     there v (a, b, is, inr first, second) = absurd (missed s k t e v (a, b, is, first, second))
+
     back : (v : List Lexeme) → In (seq r k) (t ∷ v) → In (seq (alt r s) k) (t ∷ v)
     back v (a, b, is, first, second) = (a, b, is, inl first, second)
 
@@ -160,6 +158,7 @@ choose_right r s k t u e = verdict_begun t u (seq (alt r s) k) (seq s k) there b
     there : (v : List Lexeme) → In (seq (alt r s) k) (t ∷ v) → In (seq s k) (t ∷ v)
     there v (a, b, is, inl first, second) = absurd (missed r k t e v (a, b, is, first, second))
     there v (a, b, is, inr first, second) = (a, b, is, first, second)
+
     back : (v : List Lexeme) → In (seq s k) (t ∷ v) → In (seq (alt r s) k) (t ∷ v)
     back v (a, b, is, first, second) = (a, b, is, inr first, second)
 
@@ -196,6 +195,7 @@ taken_at r k cs kd before n f e =
     there : (v : List Lexeme) → In (seq (optional r) k) (n.next ∷ v) → In (seq r k) (n.next ∷ v)
     there v (a, b, is, inl first, second) = (a, b, is, first, second)
     there v (a, b, is, inr first, second) = absurd (free_no cs k n.next e (ap (fits_some cs) n.kind_is ∙ f) v (a, b, is, first, second))
+
     back : (v : List Lexeme) → In (seq r k) (n.next ∷ v) → In (seq (optional r) k) (n.next ∷ v)
     back v (a, b, is, first, second) = (a, b, is, inl first, second)
 
@@ -215,6 +215,7 @@ skipped_at r k kd before n e =
     there : (v : List Lexeme) → In (seq (optional r) k) (n.next ∷ v) → In k (n.next ∷ v)
     there v (a, b, is, inl first, second) = past r k n.next (ap (λ d. begins d r) n.kind_is ∙ e) v (a, b, is, first, second)
     there v (a, b, is, inr first, second) = empty_to k (n.next ∷ v) (a, b, is, first, second)
+
     back : (v : List Lexeme) → In k (n.next ∷ v) → In (seq (optional r) k) (n.next ∷ v)
     back v h = ([], n.next ∷ v, refl, inr refl, h)
 
@@ -236,8 +237,10 @@ more_at r k cs kd before n f e =
     go : (v a b : List Lexeme) → (n.next ∷ v) ≡ a ++ b → Repeats (In r) a → In k b → In (seq r (seq (many r) k)) (n.next ∷ v)
     go v a b is (none e') second = absurd (apart_no cs k n.next e (ap (fits_some cs) n.kind_is ∙ f) v (subst (λ u. In k u) (sym (is ∙ ap (λ w. w ++ b) e')) second))
     go v a b is (more c d e' first rest) second = (c, d ++ b, is ∙ ap (λ w. w ++ b) e' ∙ append_assoc c d b, first, (d, b, refl, rest, second))
+
     there : (v : List Lexeme) → In (seq (many r) k) (n.next ∷ v) → In (seq r (seq (many r) k)) (n.next ∷ v)
     there v (a, b, is, first, second) = go v a b is first second
+
     back : (v : List Lexeme) → In (seq r (seq (many r) k)) (n.next ∷ v) → In (seq (many r) k) (n.next ∷ v)
     back v (c, db, is, first, (d, b, e', rest, second)) = (c ++ d, b, is ∙ ap (λ w. c ++ w) e' ∙ sym (append_assoc c d b), more c d refl first rest, second)
 
@@ -248,6 +251,7 @@ ended_at r k kd before n e =
   where
     there : (v : List Lexeme) → In (seq (many r) k) (n.next ∷ v) → In k (n.next ∷ v)
     there v h = past (many r) k n.next (ap (λ d. begins d r) n.kind_is ∙ e) v h
+
     back : (v : List Lexeme) → In k (n.next ∷ v) → In (seq (many r) k) (n.next ∷ v)
     back v h = ([], n.next ∷ v, refl, none refl, h)
 
@@ -387,41 +391,49 @@ listed_last S Is (y ∷ z ∷ items) x u v w (a, bc, is, first, (b, c, is', sep,
 
 pub listed_one : {A : Type 0} {c : Class} {S : List Lexeme → Type 0} {r : Re} {cs : List Class} {Is : A → List Lexeme → Type 0} {x : A} {before now : List Lexeme} → Takes r cs (Is x) before now → may_follow cs (repeated c r) (c ∷ cs) ≡ true → TakesListed c S r (c ∷ cs) Is before (x ∷ []) now
 listed_one {A} {c} {S} {r} {cs} {Is} {x} {before} {now} h follows = record {
-    takes = λ rest free. regroup r (repeated c r) rest before ∙ h.takes (seq (repeated c r) rest) (apart_rest cs (repeated c r) (c ∷ cs) rest follows free);
-    used = h.used; is = h.is; has = h.has;
-  }
+  takes = λ rest free. regroup r (repeated c r) rest before ∙ h.takes (seq (repeated c r) rest) (apart_rest cs (repeated c r) (c ∷ cs) rest follows free);
+  used = h.used;
+  is = h.is;
+  has = h.has;
+}
 
 -- One more, behind a separator.
 pub listed_more : {A : Type 0} {c : Class} {S : List Lexeme → Type 0} {r : Re} {cs : List Class} {Is : A → List Lexeme → Type 0} {items : List A} {x : A} {before mid there now : List Lexeme} → TakesListed c S r (c ∷ cs) Is before items mid → Takes (one c) [] S mid there → IsNextOf c mid true → Takes r cs (Is x) there now → may_follow cs (repeated c r) (c ∷ cs) ≡ true → TakesListed c S r (c ∷ cs) Is before (items ++ x ∷ []) now
 listed_more {A} {c} {S} {r} {cs} {Is} {items} {x} {before} {mid} {there} {now} list between n next follows = record {
-    takes = λ rest free.
+  takes = λ rest free.
       list.takes rest free
       ∙ more_at (seq (one c) r) rest (c ∷ cs) n.kind mid n.next (or_left (fits c n.kind) (fits_some cs n.kind) n.fits) free
       ∙ regroup (one c) r (seq (repeated c r) rest) mid
       ∙ between.takes (seq r (seq (repeated c r) rest)) (apart_none (seq r (seq (repeated c r) rest)))
       ∙ next.takes (seq (repeated c r) rest) (apart_rest cs (repeated c r) (c ∷ cs) rest follows free);
-    used = list.used ++ (between.used ++ next.used);
-    is = list.is ∙ ap (λ u. list.used ++ u) (between.is ∙ ap (λ u. between.used ++ u) next.is ∙ sym (append_assoc between.used next.used now)) ∙ sym (append_assoc list.used (between.used ++ next.used) now);
-    has = listed_last S Is items x list.used between.used next.used list.has between.has next.has;
-  }
+  used = list.used ++ (between.used ++ next.used);
+  is = list.is ∙ ap (λ u. list.used ++ u) (between.is ∙ ap (λ u. between.used ++ u) next.is ∙ sym (append_assoc between.used next.used now)) ∙ sym (append_assoc list.used (between.used ++ next.used) now);
+  has = listed_last S Is items x list.used between.used next.used list.has between.has next.has;
+}
 
 -- No more.
 pub listed_done : {A : Type 0} {c : Class} {S : List Lexeme → Type 0} {r : Re} {cs : List Class} {Is : A → List Lexeme → Type 0} {items : List A} {before now : List Lexeme} → TakesListed c S r (c ∷ cs) Is before items now → IsNextOf c now false → Takes (listed c r) (c ∷ cs) (AreListed S Is items) before now
 listed_done {A} {c} {S} {r} {cs} {Is} {items} {before} {now} list n = record {
-    takes = λ rest free. list.takes rest free ∙ ended_at (seq (one c) r) rest n.kind now n.next (or_false (fits c n.kind) n.fits);
-    used = list.used; is = list.is; has = list.has;
-  }
+  takes = λ rest free. list.takes rest free ∙ ended_at (seq (one c) r) rest n.kind now n.next (or_false (fits c n.kind) n.fits);
+  used = list.used;
+  is = list.is;
+  has = list.has;
+}
 
 -- The separator, and no further part behind it.
 pub listed_fails : {A : Type 0} {c : Class} {S : List Lexeme → Type 0} {r : Re} {cs : List Class} {Is : A → List Lexeme → Type 0} {items : List A} {e : Or ℕ} {before mid there : List Lexeme} → TakesListed c S r (c ∷ cs) Is before items mid → Takes (one c) [] S mid there → IsNextOf c mid true → Fails r cs there e → may_follow cs (repeated c r) (c ∷ cs) ≡ true → Fails (listed c r) (c ∷ cs) before e
 listed_fails {A} {c} {S} {r} {cs} {Is} {items} {e} {before} {mid} {there} list between n next follows = record {
-    fails = λ place is. let f = next.fails place is in record { rest = f.rest; place_is = f.place_is; leaves = λ rest free.
-      list.takes rest free
-      ∙ more_at (seq (one c) r) rest (c ∷ cs) n.kind mid n.next (or_left (fits c n.kind) (fits_some cs n.kind) n.fits) free
-      ∙ regroup (one c) r (seq (repeated c r) rest) mid
-      ∙ between.takes (seq r (seq (repeated c r) rest)) (apart_none (seq r (seq (repeated c r) rest)))
-      ∙ f.leaves (seq (repeated c r) rest) (apart_rest cs (repeated c r) (c ∷ cs) rest follows free) };
-  }
+  fails = λ place is. let f = next.fails place is in record {
+    rest = f.rest;
+    place_is = f.place_is;
+    leaves = λ rest free.
+        list.takes rest free
+        ∙ more_at (seq (one c) r) rest (c ∷ cs) n.kind mid n.next (or_left (fits c n.kind) (fits_some cs n.kind) n.fits) free
+        ∙ regroup (one c) r (seq (repeated c r) rest) mid
+        ∙ between.takes (seq r (seq (repeated c r) rest)) (apart_none (seq r (seq (repeated c r) rest)))
+        ∙ f.leaves (seq (repeated c r) rest) (apart_rest cs (repeated c r) (c ∷ cs) rest follows free);
+  };
+}
 
 -- A list is no longer before than it is now.
 pub takes_shorter : {r : Re} {cs : List Class} {P : List Lexeme → Type 0} {before now : List Lexeme} → Takes r cs P before now → length now ≤ length before
@@ -460,9 +472,9 @@ takes_as {r} {cs} {P} {Q} {before} {now} f h = record { takes = h.takes; used = 
 fits_in : (c : Class) (cs : List Class) (k : Kind) → is_in c cs ≡ true → fits c k ≡ true → fits_some cs k ≡ true
 fits_in c [] k e f = cc
 fits_in c (d ∷ cs) k e f = elim (or_cases (same_class c d) (is_in c cs) e) [
-      | inl same ↦ or_left (fits d k) (fits_some cs k) (subst (λ (x : Class). fits x k ≡ true) (class_same c d same) f)
-      | inr later ↦ or_right (fits d k) (fits_some cs k) (fits_in c cs k later f)
-    ]
+  | inl same ↦ or_left (fits d k) (fits_some cs k) (subst (λ (x : Class). fits x k ≡ true) (class_same c d same) f)
+  | inr later ↦ or_right (fits d k) (fits_some cs k) (fits_in c cs k later f)
+]
   where
     or_right : (b c : Bool) → c ≡ true → (b || c) ≡ true
     or_right true c e = refl
@@ -541,7 +553,6 @@ fails_there {r} {cs} {before} {there} {e} same h = subst (λ u. Fails r cs u e) 
 
 pub now_there : {r : Re} {cs : List Class} {P : List Lexeme → Type 0} {before there now : List Lexeme} → now ≡ there → Takes r cs P before there → Takes r cs P before now
 now_there {r} {cs} {P} {before} {there} {now} same h = subst (λ u. Takes r cs P before u) (sym same) h
-
 
 -- A reader that answers for its part answers for a choice with it.
 pub reads_if : {T : Type 0} (r s : Re) {c : Class} (cs ds : List Class) (Is : T → List Lexeme → Type 0) {before : List Lexeme} (now : List Lexeme) (result : Result T (Or ℕ)) → IsNextOf c before true → (excludes c s && all_in cs ds) ≡ true → Reads r cs Is before result now → Reads (alt r s) ds Is before result now

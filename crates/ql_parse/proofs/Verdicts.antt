@@ -1,11 +1,8 @@
 -- The place of a fault depends on the texts of a grammar alone.
-use Rattle.std.proofs.Common.{◌≡◌, ℕ, List, [], ◌∷◌, ◌++◌, Bool, true, false, cond, Option, Some, None, ◌⊎◌, inl, inr, refl, sym, ◌∙◌, ap, subst, append_assoc, append-nil}
-use Rattle.std.specs.Prelude.{◌&&◌, ◌||◌, IsTrue, not, if◌then◌else◌}
-use Rattle.ql_parse.specs.declared.kind.Kind.{Kind}
+use Rattle.std.proofs.Common.{◌≡◌, List, [], ◌∷◌, ◌++◌, Option, Some, None, refl, sym, ap}
 use Rattle.ql_lex.specs.Tokens.{Lexeme}
 use Rattle.ql_parse.specs.Tokens.{kind}
-use Rattle.ql_parse.specs.Classes.{Class, fits}
-use Rattle.ql_parse.specs.Language.{Re, empty, one, seq, alt, many, Repeats, none, more, In, nullable, joined, chain, either, after, next, verdict}
+use Rattle.ql_parse.specs.Language.{Re, In, after, next, verdict}
 use Rattle.ql_parse.proofs.Laws.{InAny, after_from, after_to}
 use Rattle.ql_parse.proofs.Samples.{some_text}
 

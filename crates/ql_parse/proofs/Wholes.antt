@@ -1,5 +1,5 @@
 -- A whole number is kept as it is handed on.
-use Rattle.std.proofs.Common.{arith, ◌≡◌, ◌<◌, ◌^◌, ℕ, List, sym, subst}
+use Rattle.std.proofs.Common.{arith, ◌≡◌, List, sym, subst}
 use Rattle.std.specs.Prelude.{ℤ}
 use Rattle.std.proofs.lemmas.Int.{ints}
 use mir.Syntax.{w128}

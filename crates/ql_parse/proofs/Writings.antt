@@ -1,5 +1,5 @@
 -- What is appended piece by piece.
-use Rattle.std.proofs.Common.{◌≡◌, ℕ, List, [], ◌∷◌, ◌++◌, Result, Ok, Err, refl, sym, ◌∙◌, ap, subst, Bool, true, false, append_assoc, append-nil, arith, length, take, length-append, ◌-◌}
+use Rattle.std.proofs.Common.{◌≡◌, ℕ, List, [], ◌∷◌, ◌++◌, Result, Ok, Err, refl, sym, ◌∙◌, ap, subst, true, false, append_assoc, append-nil, arith, length, take, length-append, ◌-◌}
 use Rattle.std.proofs.Math.Seq.{take-append_seam}
 use Rattle.std.specs.Result.{IsErr}
 use Rattle.srch_base.specs.declared.faults.NoMemory.{NoMemory}
@@ -9,7 +9,7 @@ use Rattle.ql_parse.specs.declared.select.Select.{Select}
 use Rattle.ql_parse.specs.declared.statement.Statement.{Statement}
 use Rattle.ql_parse.specs.declared.statement.Statement.TheVariants as statements
 use Rattle.ql_parse.specs.Pieces.{Piece, word, name, spelling, written, with_commas, given, given_all, in_row}
-use Rattle.ql_parse.specs.Canonical.{put_word, pieces, canonical_text, item, where_pieces, group_pieces, within_pieces, having_pieces, ordered, limit_pieces, option_pieces, facet, select_pieces}
+use Rattle.ql_parse.specs.Canonical.{pieces, canonical_text, item, where_pieces, group_pieces, within_pieces, having_pieces, ordered, limit_pieces, option_pieces, facet, select_pieces}
 use Rattle.ql_parse.specs.Writing.{Keeps, Appended, Appends, spaced, with_space, head_pieces, groups_pieces, tail_pieces}
 
 pub kept_all : (before bytes after : List ℕ) → after ≡ before ++ bytes → Keeps before after

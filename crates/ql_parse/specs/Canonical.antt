@@ -1,5 +1,5 @@
 -- The pieces of a statement as it is written, in the grammar's order, and its canonical text.
-use Rattle.std.specs.Prelude.{◌≡◌, ℕ, Bool, true, false, List, [], ◌∷◌, ◌++◌, Option, map}
+use Rattle.std.specs.Prelude.{ℕ, Bool, true, false, List, [], ◌∷◌, ◌++◌}
 use Rattle.ql_lex.specs.declared.token.Sign.TheVariants as signs
 use Rattle.ql_parse.specs.declared.keyword.Keyword.TheVariants as keywords
 use Rattle.ql_parse.specs.declared.select.Cond.{Cond}

@@ -1,5 +1,5 @@
 -- Regular expressions over classes of tokens: their texts, and where a list of tokens can't go on to one of them.
-use Rattle.std.specs.Prelude.{◌≡◌, ℕ, List, [], ◌∷◌, ◌++◌, Bool, true, false, ◌&&◌, ◌||◌, IsTrue, Option, Some, None, ◌⊎◌, if◌then◌else◌}
+use Rattle.std.specs.Prelude.{◌≡◌, List, [], ◌∷◌, ◌++◌, Bool, true, false, ◌&&◌, ◌||◌, IsTrue, Option, Some, None, ◌⊎◌, if◌then◌else◌}
 use Rattle.ql_parse.specs.declared.kind.Kind.{Kind}
 use Rattle.ql_lex.specs.Tokens.{Lexeme}
 use Rattle.ql_parse.specs.Tokens.{kind}

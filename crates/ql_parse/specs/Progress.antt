@@ -1,7 +1,7 @@
 -- What a reader of a part of the grammar makes of the tokens that lie before it.
-use Rattle.std.specs.Prelude.{◌≡◌, ℕ, List, [], ◌∷◌, ◌++◌, Bool, true, false, not, ◌&&◌, ◌||◌, Option, Some, None, Result, Ok, Err}
+use Rattle.std.specs.Prelude.{◌≡◌, ℕ, List, [], ◌∷◌, ◌++◌, Bool, true, false, not, ◌&&◌, ◌||◌, Some, Result, Ok, Err}
 use Rattle.srch_base.specs.declared.faults.Or.{Or}
-use Rattle.srch_base.specs.declared.faults.Or.TheVariants.{NoMemory, Fault}
+use Rattle.srch_base.specs.declared.faults.Or.TheVariants.{Fault}
 use Rattle.ql_lex.specs.declared.token.Sign.{Sign}
 use Rattle.ql_lex.specs.declared.token.Sign.TheVariants as signs
 use Rattle.ql_parse.specs.declared.keyword.Keyword.{Keyword}
@@ -13,7 +13,7 @@ use Rattle.ql_parse.specs.Classes.{Class, fits, the_word, any_name, name_but, a_
 use Rattle.ql_parse.specs.Keywords.{begins_statement, is_reserved, same_keyword}
 use Rattle.ql_parse.specs.Grammar.{listed, repeated}
 use Rattle.ql_parse.specs.Parts.{AreListed, AreInRow}
-use Rattle.ql_parse.specs.Language.{Re, empty, one, seq, alt, many, In, nullable, verdict}
+use Rattle.ql_parse.specs.Language.{Re, empty, one, seq, alt, many, nullable, verdict}
 
 -- a token of this kind is of one of the classes
 abbrev pub fits_some : List Class → Kind → Bool

@@ -1,5 +1,5 @@
 -- The tokens of a statement.
-use Rattle.std.specs.Prelude.{◌≡◌, ℕ, Bool, true, false, List, IsTrue, not, ◌&&◌}
+use Rattle.std.specs.Prelude.{ℕ, Bool, true, false, List}
 use Rattle.ql_lex.specs.declared.token.Sign.TheVariants as signs
 use Rattle.ql_lex.specs.Tokens.{Lexeme}
 use Rattle.ql_parse.specs.declared.keyword.Keyword.TheVariants as keywords
@@ -17,8 +17,7 @@ use Rattle.ql_parse.specs.declared.statement.Target.{Target}
 use Rattle.ql_parse.specs.declared.statement.Target.TheVariants as targets
 use Rattle.ql_parse.specs.declared.statement.Val.{Val}
 use Rattle.ql_parse.specs.declared.statement.Val.TheVariants as vals
-use Rattle.ql_parse.specs.Tokens.{kind, name_value}
-use Rattle.ql_parse.specs.Parts.{◌then◌, IsAbsent, IsOne, IsWord, AreWords, IsSign, IsComma, IsName, IsNumber, IsTargetName, IsText, IsVariable, IsWhole, IsEnclosed, AreParens, IsPerhaps, IsGiven, AreGiven, AreListed}
+use Rattle.ql_parse.specs.Parts.{◌then◌, IsAbsent, IsWord, AreWords, IsSign, IsComma, IsName, IsNumber, IsTargetName, IsText, IsVariable, IsWhole, IsEnclosed, AreParens, IsGiven, AreListed}
 use Rattle.ql_parse.specs.Selects.{IsSelect, IsSelected}
 
 -- num | text

@@ -7,9 +7,9 @@ ghost use Rattle.ql_parse.specs.Parts.{◌then◌, AreParens, IsEnclosed, IsName
 ghost use Rattle.ql_parse.specs.Progress.{Reads};
 ghost use Rattle.ql_parse.specs.Selects.{IsCount, IsCounted, IsExpr, count_expr};
 
+use crate::Keyword;
 use crate::cursor::Cursor;
 use crate::select::SelectExpr;
-use crate::Keyword;
 use ql_lex::Sign;
 use srch_base::{Name, Or};
 use std::alloc::Global;
@@ -90,11 +90,7 @@ pub(crate) fn expr(alloc: Global, input: &mut Cursor<'_>) -> Result<SelectExpr, 
         return Ok(SelectExpr::Least(argument(alloc, input, Keyword::Min)?));
     }
     if input.is_followed(Keyword::Max, Sign::OpenParen) {
-        return Ok(SelectExpr::Greatest(argument(
-            alloc,
-            input,
-            Keyword::Max,
-        )?));
+        return Ok(SelectExpr::Greatest(argument(alloc, input, Keyword::Max)?));
     }
     if input.is_followed(Keyword::Sum, Sign::OpenParen) {
         return Ok(SelectExpr::Sum(argument(alloc, input, Keyword::Sum)?));

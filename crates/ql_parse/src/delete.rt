@@ -3,10 +3,10 @@ ghost use Rattle.ql_parse.specs.Grammar.{ids, delete};
 ghost use Rattle.ql_parse.specs.Progress.{Reads};
 ghost use Rattle.ql_parse.specs.Statements.{AreIds, IsStatement};
 
+use crate::Keyword;
 use crate::cursor::Cursor;
 use crate::part::{Number, enclosed};
 use crate::statement::{Ids, Statement};
-use crate::Keyword;
 use ql_lex::Sign;
 use srch_base::Or;
 use std::alloc::Global;

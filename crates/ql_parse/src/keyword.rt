@@ -106,28 +106,28 @@ impl Keyword {
         matches!(
             self,
             Keyword::And
-            | Keyword::As
-            | Keyword::Asc
-            | Keyword::Between
-            | Keyword::By
-            | Keyword::Desc
-            | Keyword::Distinct
-            | Keyword::Facet
-            | Keyword::From
-            | Keyword::Group
-            | Keyword::Having
-            | Keyword::In
-            | Keyword::Into
-            | Keyword::Limit
-            | Keyword::Match
-            | Keyword::Not
-            | Keyword::Null
-            | Keyword::Option
-            | Keyword::Order
-            | Keyword::Select
-            | Keyword::Values
-            | Keyword::Where
-            | Keyword::Within
+                | Keyword::As
+                | Keyword::Asc
+                | Keyword::Between
+                | Keyword::By
+                | Keyword::Desc
+                | Keyword::Distinct
+                | Keyword::Facet
+                | Keyword::From
+                | Keyword::Group
+                | Keyword::Having
+                | Keyword::In
+                | Keyword::Into
+                | Keyword::Limit
+                | Keyword::Match
+                | Keyword::Not
+                | Keyword::Null
+                | Keyword::Option
+                | Keyword::Order
+                | Keyword::Select
+                | Keyword::Values
+                | Keyword::Where
+                | Keyword::Within
         )
     }
 }

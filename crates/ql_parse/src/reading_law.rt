@@ -19,5 +19,4 @@ pub fn canonical_text_is_read()
 /// The statements of a packet are values of the grammar.
 pub fn packets_have_values()
     ensures { (list : List StatementValue) (tokens : List Lexeme) → AreLexemes tokens → IsPacket list tokens → All IsValue list }
-{
-}
+{}

@@ -1,5 +1,5 @@
-use ql_parse::{Statement, parse, put_statement};
 use ql_lex::lex;
+use ql_parse::{Statement, parse, put_statement};
 use std::alloc::Global;
 
 /// Statements as clients write them, and their canonical texts.

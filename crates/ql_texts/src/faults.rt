@@ -1,5 +1,5 @@
-use ql_parse::{MAX_STATEMENTS, ParseFault, ParseKind, Statement, parse};
 use ql_lex::lex;
+use ql_parse::{MAX_STATEMENTS, ParseFault, ParseKind, Statement, parse};
 use srch_base::{NoMemory, Or};
 use std::alloc::Global;
 

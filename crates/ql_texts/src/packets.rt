@@ -1,5 +1,5 @@
-use ql_parse::{Statement, parse, put_statement};
 use ql_lex::lex;
+use ql_parse::{Statement, parse, put_statement};
 use srch_base::NoMemory;
 use std::alloc::Global;
 

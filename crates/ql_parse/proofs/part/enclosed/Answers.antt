@@ -1,4 +1,3 @@
-use Rattle.std.proofs.Common.{refl}
 use Rattle.ql_parse.proofs.Steps.{takes_seq, fails_first, fails_next, fails_with, plain_seq, plain_first, plain_next}
 use Rattle.ql_parse.proofs.part.enclosed.Goals as goal
 

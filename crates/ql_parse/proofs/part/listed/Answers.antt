@@ -1,4 +1,4 @@
-use Rattle.std.proofs.Common.{◌≡◌, List, [], ◌∷◌, ◌++◌, refl, sym, ap, ◌∙◌, subst}
+use Rattle.std.proofs.Common.{[], ◌∷◌, ◌++◌, sym, ap, ◌∙◌, subst}
 use Rattle.ql_parse.specs.Classes.{the_sign}
 use Rattle.ql_parse.specs.Progress.{Takes, TakesListed}
 use Rattle.ql_parse.specs.Grammar.{listed}

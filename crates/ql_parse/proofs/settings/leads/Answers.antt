@@ -1,4 +1,4 @@
-use Rattle.ql_parse.specs.Progress.{leads, other_word, is_name}
+use Rattle.ql_parse.specs.Progress.{other_word}
 use Rattle.ql_parse.proofs.Choices.{leads_by}
 use Rattle.ql_parse.proofs.settings.leads.Goals as goal
 

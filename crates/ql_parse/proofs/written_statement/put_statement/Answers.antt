@@ -1,4 +1,4 @@
-use Rattle.std.proofs.Common.{◌++◌, ◌∷◌, [], sym, ◌∙◌, ap, append_assoc, vec_len, arith}
+use Rattle.std.proofs.Common.{◌++◌, ◌∷◌, [], sym, ◌∙◌, ap, append_assoc, vec_len}
 use Rattle.ql_parse.specs.Canonical.{canonical_text}
 use Rattle.ql_parse.proofs.Writings.{spaced_text, popped}
 use Rattle.ql_parse.proofs.written_statement.put_statement.Goals as goal

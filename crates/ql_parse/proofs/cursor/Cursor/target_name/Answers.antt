@@ -1,4 +1,4 @@
-use Rattle.std.proofs.Common.{refl, sym, subst, ap, ◌∙◌}
+use Rattle.std.proofs.Common.{refl, ap, ◌∙◌}
 use Rattle.std.specs.Str.{str_to_ascii_lowercase}
 use Rattle.ql_lex.specs.Tokens.{lexeme_of}
 use Rattle.ql_parse.specs.declared.keyword.Keyword.TheVariants as keywords

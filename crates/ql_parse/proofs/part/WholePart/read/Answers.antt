@@ -1,5 +1,5 @@
 use Rattle.std.proofs.Common.{refl, inl, inr}
-use Rattle.std.proofs.Common.{◌≡◌, arith}
+use Rattle.std.proofs.Common.{arith}
 use Rattle.std.proofs.lemmas.Int.{ints}
 use Rattle.ql_parse.proofs.Steps.{plain_seq, plain_next, fails_with, takes_if, fails_if, takes_else, fails_else, from_there, fails_there, takes_as}
 use Rattle.ql_parse.proofs.part.WholePart.read.Goals as goal
