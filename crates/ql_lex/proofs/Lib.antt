@@ -15,3 +15,4 @@ pub mod Unescaping
 pub mod TextValues
 pub mod Ends
 pub mod Unique
+pub mod SpacedTokens

@@ -3,3 +3,4 @@ pub mod Shapes
 pub mod Tokens
 pub mod Values
 pub mod Reading
+pub mod Spacing

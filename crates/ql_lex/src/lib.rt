@@ -10,6 +10,7 @@ mod names;
 mod numbers;
 mod part;
 mod signs;
+mod spacing;
 mod texts;
 mod token;
 mod values;
@@ -18,6 +19,7 @@ pub use fault::{LexFault, LexKind};
 pub use laws::one_reading;
 pub use lexing::lex;
 pub use signs::sign_of;
+pub use spacing::spaced_tokens_are_read;
 pub use token::{Sign, Token, TokenKind};
 pub use values::{number_of, put_text, text_values_are_utf8, token_name};
 

@@ -1,0 +1,8 @@
+use Rattle.ql_parse.proofs.Steps.{fails_with}
+use Rattle.ql_parse.proofs.commands.begin.Goals as goal
+
+pub returns-in_err-word : goal.returns-in_err-word
+returns-in_err-word c = fails_with _ _ c.from_residual.result c.from_residual.ensures.1 c.in_err-word.ensures
+
+pub returns : goal.returns
+returns c = c.in_ok-word.ensures

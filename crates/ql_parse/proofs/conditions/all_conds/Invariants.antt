@@ -1,0 +1,14 @@
+use Rattle.std.proofs.Common.{[], ◌∷◌, length}
+use Rattle.ql_parse.specs.declared.keyword.Keyword.TheVariants as keywords
+use Rattle.ql_parse.specs.Classes.{the_word}
+use Rattle.ql_parse.specs.Grammar.{cond}
+use Rattle.ql_parse.specs.Parts.{IsWord}
+use Rattle.ql_parse.specs.Progress.{TakesListed}
+use Rattle.ql_parse.specs.Selects.{IsCond}
+use Rattle.ql_parse.proofs.conditions.all_conds.Given as goal
+
+abbrev pub invariant-conds : goal.invariant-conds
+invariant-conds l = TakesListed (the_word keywords.And) (IsWord keywords.And) cond (the_word keywords.And ∷ []) IsCond l.fn.input l.conds.items l.input
+
+abbrev pub decreases-conds : goal.decreases-conds
+decreases-conds l = length l.input

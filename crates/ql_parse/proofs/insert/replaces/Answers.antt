@@ -1,0 +1,12 @@
+use Rattle.std.proofs.Common.{refl}
+use Rattle.ql_parse.proofs.Steps.{fails_with, takes_if, takes_else, fails_else, from_there, fails_there}
+use Rattle.ql_parse.proofs.insert.replaces.Goals as goal
+
+pub returns-then-takes_word : goal.returns-then-takes_word
+returns-then-takes_word c = takes_if c.if-takes_word.ensures.1 refl c.if-takes_word.ensures.0
+
+pub returns-in_err-word : goal.returns-in_err-word
+returns-in_err-word c = fails_with _ _ c.from_residual.result c.from_residual.ensures.1 (fails_else c.if-takes_word.ensures.1 refl (fails_there c.if-takes_word.ensures.0 c.in_err-word.ensures))
+
+pub returns : goal.returns
+returns c = takes_else c.if-takes_word.ensures.1 refl (from_there c.if-takes_word.ensures.0 c.in_ok-word.ensures)

@@ -1,0 +1,13 @@
+use Rattle.std.proofs.Common.{refl, []}
+use Rattle.ql_parse.proofs.Steps.{takes_if, takes_else, optional_if, from_there}
+use Rattle.ql_parse.proofs.SelectSteps.{next_there, no_direction}
+use Rattle.ql_parse.proofs.sorting.direction.Goals as goal
+
+pub returns-then-takes_word : goal.returns-then-takes_word
+returns-then-takes_word c = optional_if {cs = []} c.if-takes_word.ensures.1 refl (takes_if c.if-takes_word.ensures.1 refl c.if-takes_word.ensures.0)
+
+pub returns-then-takes_word-2 : goal.returns-then-takes_word-2
+returns-then-takes_word-2 c = optional_if {cs = []} (next_there c.if-takes_word.ensures.0 c.if-takes_word-2.ensures.1) refl (takes_else c.if-takes_word.ensures.1 refl (from_there c.if-takes_word.ensures.0 c.if-takes_word-2.ensures.0))
+
+pub returns : goal.returns
+returns c = no_direction c.if-takes_word.ensures.1 c.if-takes_word.ensures.0 c.if-takes_word-2.ensures.1 c.if-takes_word-2.ensures.0 refl

@@ -1,0 +1,17 @@
+pub mod Keywords
+pub mod Tokens
+pub mod Classes
+pub mod Parts
+pub mod Selects
+pub mod Statements
+pub mod Pieces
+pub mod Canonical
+pub mod Writing
+pub mod Reading
+pub mod Packets
+pub mod Language
+pub mod Grammar
+pub mod Progress
+pub mod Selecting
+pub mod PacketReading
+pub mod FaultTexts

@@ -1,0 +1,39 @@
+ghost use Rattle.std.specs.Prelude.{[]};
+ghost use Rattle.ql_parse.specs.Grammar.{comparison};
+ghost use Rattle.ql_parse.specs.Progress.{Reads};
+ghost use Rattle.ql_parse.specs.Selecting.{IsNextComparison};
+ghost use Rattle.ql_parse.specs.Selects.{IsComparison};
+
+use crate::Kind;
+use crate::cursor::Cursor;
+use crate::select::Comparison;
+use ql_lex::Sign;
+use srch_base::Or;
+
+/// The comparison that is next.
+fn next_comparison(input: &Cursor<'_>) -> Option<Comparison>
+    ensures { IsNextComparison result input.now }
+{
+    match input.kind() {
+        Kind::Sign(Sign::Equal) => Some(Comparison::Equal),
+        Kind::Sign(Sign::NotEqual) => Some(Comparison::NotEqual),
+        Kind::Sign(Sign::Less) => Some(Comparison::Less),
+        Kind::Sign(Sign::Greater) => Some(Comparison::Greater),
+        Kind::Sign(Sign::LessOrEqual) => Some(Comparison::AtMost),
+        Kind::Sign(Sign::GreaterOrEqual) => Some(Comparison::AtLeast),
+        _ => None,
+    }
+}
+
+/// Reads a comparison.
+pub(crate) fn comparison(input: &mut Cursor<'_>) -> Result<Comparison, Or<u32>>
+    ensures { Reads comparison [] IsComparison input.old result input.new }
+{
+    match next_comparison(input) {
+        Some(op) => {
+            input.skip();
+            Ok(op)
+        }
+        None => Err(Or::Fault(input.place())),
+    }
+}

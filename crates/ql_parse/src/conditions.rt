@@ -1,0 +1,102 @@
+ghost use Rattle.std.specs.Prelude.{[], ◌∷◌};
+ghost use Rattle.ql_parse.specs.declared.keyword.Keyword.TheVariants as keywords;
+ghost use Rattle.ql_parse.specs.Classes.{the_word};
+ghost use Rattle.ql_parse.specs.Grammar.{◌⨾◌, word, text, enclosed, listed, whole, wholes, cond, conds};
+ghost use Rattle.ql_parse.specs.Parts.{◌then◌, IsWord, IsComma, IsText, IsWhole, IsEnclosed, AreListed, AreGiven};
+ghost use Rattle.ql_parse.specs.Progress.{Reads};
+ghost use Rattle.ql_parse.specs.Selects.{IsCond, AreConds};
+
+use crate::Keyword;
+use crate::comparisons::comparison;
+use crate::cursor::Cursor;
+use crate::part::{Part, Whole, enclosed};
+use crate::select::Cond;
+use ql_lex::Sign;
+use srch_base::{Items, Or, Text};
+use std::alloc::Global;
+
+/// Reads `MATCH(text)`.
+fn matched(alloc: Global, input: &mut Cursor<'_>) -> Result<Text, Or<u32>>
+    ensures { Reads (word keywords.Match ⨾ enclosed text) [] (λ query. IsWord keywords.Match then IsEnclosed (IsText query)) input.old result input.new }
+{
+    input.word(Keyword::Match)?;
+    input.sign(Sign::OpenParen)?;
+    let query = input.text(alloc)?;
+    input.sign(Sign::CloseParen)?;
+    Ok(query)
+}
+
+/// Reads `BETWEEN num AND num`.
+fn between(alloc: Global, input: &mut Cursor<'_>) -> Result<(i128, i128), Or<u32>>
+    ensures { Reads (word keywords.Between ⨾ whole ⨾ word keywords.And ⨾ whole) [] (λ pair. IsWord keywords.Between then IsWhole pair.0 then IsWord keywords.And then IsWhole pair.1) input.old result input.new }
+{
+    input.word(Keyword::Between)?;
+    let low = Whole::read(alloc, input)?;
+    input.word(Keyword::And)?;
+    let high = Whole::read(alloc, input)?;
+    Ok((low, high))
+}
+
+/// Reads `IN (num, ..)`.
+fn among(alloc: Global, input: &mut Cursor<'_>) -> Result<Items<i128>, Or<u32>>
+    ensures { Reads (word keywords.In ⨾ wholes) [] (λ values. IsWord keywords.In then IsEnclosed (AreListed IsComma IsWhole values)) input.old result input.new }
+{
+    input.word(Keyword::In)?;
+    let values = enclosed::<Whole>(alloc, input)?;
+    Ok(values)
+}
+
+fn cond(alloc: Global, input: &mut Cursor<'_>) -> Result<Cond, Or<u32>>
+    ensures { Reads cond [] IsCond input.old result input.new }
+{
+    if input.is_word(Keyword::Match) {
+        return Ok(Cond::Match(matched(alloc, input)?));
+    }
+    let name = input.name(alloc)?;
+    if input.is_word(Keyword::Between) {
+        let (low, high) = between(alloc, input)?;
+        return Ok(Cond::Between { name, low, high });
+    }
+    if input.takes_word(Keyword::Not) {
+        let values = among(alloc, input)?;
+        return Ok(Cond::Among {
+            name,
+            values,
+            negated: true,
+        });
+    }
+    if input.is_word(Keyword::In) {
+        let values = among(alloc, input)?;
+        return Ok(Cond::Among {
+            name,
+            values,
+            negated: false,
+        });
+    }
+    let op = comparison(input)?;
+    let value = Whole::read(alloc, input)?;
+    Ok(Cond::Compare { name, op, value })
+}
+
+/// Reads one condition or more, with `AND` between them.
+fn all_conds(alloc: Global, input: &mut Cursor<'_>) -> Result<Items<Cond>, Or<u32>>
+    ensures { Reads (listed (the_word keywords.And) cond) (the_word keywords.And ∷ []) (AreListed (IsWord keywords.And) IsCond) input.old result input.new }
+{
+    let mut conds = Vec::new(alloc);
+    conds.push(cond(alloc, input)?)?;
+    'conds: while input.takes_word(Keyword::And) {
+        conds.push(cond(alloc, input)?)?;
+    }
+    Ok(Items::new(conds))
+}
+
+/// Reads WHERE, if it is there.
+pub(crate) fn conds(alloc: Global, input: &mut Cursor<'_>) -> Result<Items<Cond>, Or<u32>>
+    ensures { Reads conds (the_word keywords.Where ∷ the_word keywords.And ∷ []) (AreGiven AreConds) input.old result input.new }
+{
+    if input.takes_word(Keyword::Where) {
+        let conds = all_conds(alloc, input)?;
+        return Ok(conds);
+    }
+    Ok(Items::new(Vec::new(alloc)))
+}

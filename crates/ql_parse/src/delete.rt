@@ -1,0 +1,33 @@
+ghost use Rattle.std.specs.Prelude.{[]};
+ghost use Rattle.ql_parse.specs.Grammar.{ids, delete};
+ghost use Rattle.ql_parse.specs.Progress.{Reads};
+ghost use Rattle.ql_parse.specs.Statements.{AreIds, IsStatement};
+
+use crate::Keyword;
+use crate::cursor::Cursor;
+use crate::part::{Number, enclosed};
+use crate::statement::{Ids, Statement};
+use ql_lex::Sign;
+use srch_base::Or;
+use std::alloc::Global;
+
+fn ids(alloc: Global, input: &mut Cursor<'_>) -> Result<Ids, Or<u32>>
+    ensures { Reads ids [] AreIds input.old result input.new }
+{
+    if input.takes_sign(Sign::Equal) {
+        return Ok(Ids::One(input.number()?));
+    }
+    input.word(Keyword::In)?;
+    Ok(Ids::Several(enclosed::<Number>(alloc, input)?))
+}
+
+/// Reads a DELETE.
+pub(crate) fn delete(alloc: Global, input: &mut Cursor<'_>) -> Result<Statement, Or<u32>>
+    ensures { Reads delete [] IsStatement input.old result input.new }
+{
+    input.words(Keyword::Delete, Keyword::From)?;
+    let index = input.name(alloc)?;
+    input.words(Keyword::Where, Keyword::Id)?;
+    let ids = ids(alloc, input)?;
+    Ok(Statement::Delete { index, ids })
+}

@@ -1,0 +1,94 @@
+ghost use Rattle.std.specs.Prelude.{[], ◌∷◌};
+ghost use Rattle.ql_lex.specs.declared.token.Sign.TheVariants as signs;
+ghost use Rattle.ql_parse.specs.declared.keyword.Keyword.TheVariants as keywords;
+ghost use Rattle.ql_parse.specs.Classes.{the_sign};
+ghost use Rattle.ql_parse.specs.Grammar.{◌∣◌, comma, enclosed, insert, listed, name, optional, row, val, word};
+ghost use Rattle.ql_parse.specs.Parts.{IsGiven};
+ghost use Rattle.ql_parse.specs.Progress.{Reads};
+ghost use Rattle.ql_parse.specs.Statements.{AreColumns, IsPut, IsRow, IsStatement, IsVal};
+
+use crate::Keyword;
+use crate::cursor::Cursor;
+use crate::part::{AnyName, Part, Whole, enclosed, listed};
+use crate::statement::{Statement, Val};
+use ql_lex::Sign;
+use srch_base::{Items, Name, Or};
+use std::alloc::Global;
+
+/// A number or a text
+struct Value;
+
+impl Part for Value {
+    type Value = Val;
+
+    ghost grammar = { val };
+
+    ghost goes_on = { [] };
+
+    ghost is = { IsVal };
+
+    fn read(alloc: Global, input: &mut Cursor<'_>) -> Result<Val, Or<u32>> {
+        if input.is_text() {
+            return Ok(Val::Text(input.text(alloc)?));
+        }
+        let number = Whole::read(alloc, input)?;
+        Ok(Val::Number(number))
+    }
+}
+
+/// The values of a row, in parentheses
+struct Row;
+
+impl Part for Row {
+    type Value = Items<Val>;
+
+    ghost grammar = { row };
+
+    ghost goes_on = { [] };
+
+    ghost is = { IsRow };
+
+    fn read(alloc: Global, input: &mut Cursor<'_>) -> Result<Items<Val>, Or<u32>> {
+        enclosed::<Value>(alloc, input)
+    }
+}
+
+/// Reads `INSERT` or `REPLACE`, and tells whether it is the second.
+fn replaces(input: &mut Cursor<'_>) -> Result<bool, Or<u32>>
+    ensures { Reads (word keywords.Replace ∣ word keywords.Insert) [] IsPut input.old result input.new }
+{
+    if input.takes_word(Keyword::Replace) {
+        return Ok(true);
+    }
+    input.word(Keyword::Insert)?;
+    Ok(false)
+}
+
+/// Reads the names of the columns, if they are given.
+fn columns(alloc: Global, input: &mut Cursor<'_>) -> Result<Option<Items<Name>>, Or<u32>>
+    ensures { Reads (optional (enclosed (listed comma name))) (the_sign signs.OpenParen ∷ []) (IsGiven AreColumns) input.old result input.new }
+{
+    if input.is_sign(Sign::OpenParen) {
+        let names = enclosed::<AnyName>(alloc, input)?;
+        return Ok(Some(names));
+    }
+    Ok(None)
+}
+
+/// Reads an INSERT or a REPLACE.
+pub(crate) fn insert(alloc: Global, input: &mut Cursor<'_>) -> Result<Statement, Or<u32>>
+    ensures { Reads insert (the_sign signs.Comma ∷ []) IsStatement input.old result input.new }
+{
+    let replace = replaces(input)?;
+    input.word(Keyword::Into)?;
+    let index = input.name(alloc)?;
+    let columns = columns(alloc, input)?;
+    input.word(Keyword::Values)?;
+    let rows = listed::<Row>(alloc, input, Sign::Comma)?;
+    Ok(Statement::Insert {
+        replace,
+        index,
+        columns,
+        rows,
+    })
+}

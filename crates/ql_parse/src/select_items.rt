@@ -1,0 +1,53 @@
+ghost use Rattle.std.specs.Prelude.{[], ◌∷◌};
+ghost use Rattle.ql_lex.specs.declared.token.Sign.TheVariants as signs;
+ghost use Rattle.ql_parse.specs.declared.keyword.Keyword.TheVariants as keywords;
+ghost use Rattle.ql_parse.specs.Classes.{the_word, any_name, the_sign};
+ghost use Rattle.ql_parse.specs.Grammar.{optional, alias, item};
+ghost use Rattle.ql_parse.specs.Parts.{IsGiven};
+ghost use Rattle.ql_parse.specs.Progress.{Reads};
+ghost use Rattle.ql_parse.specs.Selecting.{item_goes_on};
+ghost use Rattle.ql_parse.specs.Selects.{IsAlias, IsItem};
+
+use crate::Keyword;
+use crate::calls::expr;
+use crate::cursor::Cursor;
+use crate::part::Part;
+use crate::select::SelectItem;
+use ql_lex::Sign;
+use srch_base::{Name, Or};
+use std::alloc::Global;
+
+/// Reads an item's name in the answer, if it is there.
+fn alias(alloc: Global, input: &mut Cursor<'_>) -> Result<Option<Name>, Or<u32>>
+    ensures { Reads (optional alias) (the_word keywords.As ∷ any_name ∷ []) (IsGiven IsAlias) input.old result input.new }
+{
+    if input.takes_word(Keyword::As) {
+        return Ok(Some(input.name(alloc)?));
+    }
+    if input.is_name() {
+        return Ok(Some(input.name(alloc)?));
+    }
+    Ok(None)
+}
+
+/// `* | expr [[AS] name]`
+pub(crate) struct Item;
+
+impl Part for Item {
+    type Value = SelectItem;
+
+    ghost grammar = { item };
+
+    ghost goes_on = { item_goes_on };
+
+    ghost is = { IsItem };
+
+    fn read(alloc: Global, input: &mut Cursor<'_>) -> Result<SelectItem, Or<u32>> {
+        if input.takes_sign(Sign::Star) {
+            return Ok(SelectItem::All);
+        }
+        let expr = expr(alloc, input)?;
+        let alias = alias(alloc, input)?;
+        Ok(SelectItem::One { expr, alias })
+    }
+}

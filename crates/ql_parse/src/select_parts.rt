@@ -1,0 +1,161 @@
+ghost use Rattle.std.specs.Prelude.{[], ◌∷◌};
+ghost use Rattle.ql_lex.specs.declared.token.Sign.TheVariants as signs;
+ghost use Rattle.ql_parse.specs.declared.keyword.Keyword.TheVariants as keywords;
+ghost use Rattle.ql_parse.specs.Classes.{the_word, the_sign};
+ghost use Rattle.ql_parse.specs.Grammar.{◌⨾◌, ◌∣◌, name, number, text, comma, listed, enclosed, optional, words, having, having_part, limit, field_weight, option_value, option, options, facet, facet_parts, group_key};
+ghost use Rattle.ql_parse.specs.Language.{one, many};
+ghost use Rattle.ql_parse.specs.Parts.{IsGiven, AreGiven, AreInRow};
+ghost use Rattle.ql_parse.specs.Progress.{Reads};
+ghost use Rattle.ql_parse.specs.Selecting.{key_goes_on, limit_goes_on, facet_goes_on};
+ghost use Rattle.ql_parse.specs.Selects.{IsHaving, IsHavingPart, IsSecond, IsLimit, IsFieldWeight, IsOptionValue, IsOption, AreOptions, IsFacetOrder, IsFacet, IsFaceted};
+
+use crate::Keyword;
+use crate::comparisons::comparison;
+use crate::cursor::Cursor;
+use crate::part::{Part, Whole, enclosed, listed};
+use crate::select::{FacetPart, Having, LimitPart, OptionValue, SelectOption, SortKey};
+use crate::sorting::{group_key, group_sort};
+use ql_lex::Sign;
+use srch_base::{Items, Name, Or};
+use std::alloc::Global;
+
+fn having_cond(alloc: Global, input: &mut Cursor<'_>) -> Result<Having, Or<u32>>
+    ensures { Reads having [] IsHaving input.old result input.new }
+{
+    let left = group_sort(alloc, input)?;
+    let op = comparison(input)?;
+    let value = Whole::read(alloc, input)?;
+    Ok(Having { left, op, value })
+}
+
+/// Reads HAVING, if it is there.
+pub(crate) fn having(alloc: Global, input: &mut Cursor<'_>) -> Result<Option<Having>, Or<u32>>
+    ensures { Reads having_part (the_word keywords.Having ∷ []) (IsGiven IsHavingPart) input.old result input.new }
+{
+    if input.takes_word(Keyword::Having) {
+        return Ok(Some(having_cond(alloc, input)?));
+    }
+    Ok(None)
+}
+
+fn second_number(input: &mut Cursor<'_>) -> Result<Option<u64>, Or<u32>>
+    ensures { Reads (optional (one comma ⨾ number)) (comma ∷ []) (IsGiven IsSecond) input.old result input.new }
+{
+    if input.takes_sign(Sign::Comma) {
+        return Ok(Some(input.number()?));
+    }
+    Ok(None)
+}
+
+/// Reads LIMIT, if it is there.
+pub(crate) fn limit(input: &mut Cursor<'_>) -> Result<Option<LimitPart>, Or<u32>>
+    ensures { Reads (optional limit) limit_goes_on (IsGiven IsLimit) input.old result input.new }
+{
+    if input.takes_word(Keyword::Limit) {
+        let first = input.number()?;
+        let second = second_number(input)?;
+        return Ok(Some(LimitPart { first, second }));
+    }
+    Ok(None)
+}
+
+/// `name = n`
+struct FieldWeight;
+
+impl Part for FieldWeight {
+    type Value = (Name, u64);
+
+    ghost grammar = { field_weight };
+
+    ghost goes_on = { [] };
+
+    ghost is = { IsFieldWeight };
+
+    fn read(alloc: Global, input: &mut Cursor<'_>) -> Result<(Name, u64), Or<u32>> {
+        let field = input.name(alloc)?;
+        input.sign(Sign::Equal)?;
+        let weight = input.number()?;
+        Ok((field, weight))
+    }
+}
+
+fn option_value(alloc: Global, input: &mut Cursor<'_>) -> Result<OptionValue, Or<u32>>
+    ensures { Reads option_value [] IsOptionValue input.old result input.new }
+{
+    if input.is_name() {
+        return Ok(OptionValue::Name(input.name(alloc)?));
+    }
+    if input.is_number() {
+        return Ok(OptionValue::Number(input.number()?));
+    }
+    if input.is_text() {
+        return Ok(OptionValue::Text(input.text(alloc)?));
+    }
+    Ok(OptionValue::List(enclosed::<FieldWeight>(alloc, input)?))
+}
+
+/// `name = value`
+struct OptionPart;
+
+impl Part for OptionPart {
+    type Value = SelectOption;
+
+    ghost grammar = { option };
+
+    ghost goes_on = { [] };
+
+    ghost is = { IsOption };
+
+    fn read(alloc: Global, input: &mut Cursor<'_>) -> Result<SelectOption, Or<u32>> {
+        let name = input.name(alloc)?;
+        input.sign(Sign::Equal)?;
+        let value = option_value(alloc, input)?;
+        Ok(SelectOption { name, value })
+    }
+}
+
+/// Reads OPTION, if it is there.
+pub(crate) fn options(alloc: Global, input: &mut Cursor<'_>) -> Result<Items<SelectOption>, Or<u32>>
+    ensures { Reads options (the_word keywords.Option ∷ comma ∷ []) (AreGiven AreOptions) input.old result input.new }
+{
+    if input.takes_word(Keyword::Option) {
+        let options = listed::<OptionPart>(alloc, input, Sign::Comma)?;
+        return Ok(options);
+    }
+    Ok(Items::new(Vec::new(alloc)))
+}
+
+fn facet_order(alloc: Global, input: &mut Cursor<'_>) -> Result<Option<SortKey>, Or<u32>>
+    ensures { Reads (optional (words keywords.Order keywords.By ⨾ group_key)) (the_word keywords.Order ∷ key_goes_on) (IsGiven IsFacetOrder) input.old result input.new }
+{
+    if input.is_word(Keyword::Order) {
+        input.words(Keyword::Order, Keyword::By)?;
+        return Ok(Some(group_key(alloc, input)?));
+    }
+    Ok(None)
+}
+
+/// Reads what follows the word FACET.
+fn facet_parts(alloc: Global, input: &mut Cursor<'_>) -> Result<FacetPart, Or<u32>>
+    ensures { Reads facet_parts facet_goes_on IsFaceted input.old result input.new }
+{
+    let column = input.name(alloc)?;
+    let order = facet_order(alloc, input)?;
+    let limit = limit(input)?;
+    Ok(FacetPart {
+        column,
+        order,
+        limit,
+    })
+}
+
+/// Reads the facets.
+pub(crate) fn facets(alloc: Global, input: &mut Cursor<'_>) -> Result<Items<FacetPart>, Or<u32>>
+    ensures { Reads (many facet) (the_word keywords.Facet ∷ facet_goes_on) (AreInRow IsFacet) input.old result input.new }
+{
+    let mut facets = Vec::new(alloc);
+    'facets: while input.takes_word(Keyword::Facet) {
+        facets.push(facet_parts(alloc, input)?)?;
+    }
+    Ok(Items::new(facets))
+}

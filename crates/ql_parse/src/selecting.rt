@@ -1,0 +1,45 @@
+ghost use Rattle.ql_parse.specs.Grammar.{select};
+ghost use Rattle.ql_parse.specs.Progress.{Reads};
+ghost use Rattle.ql_parse.specs.Selecting.{select_goes_on};
+ghost use Rattle.ql_parse.specs.Selects.{IsSelected};
+
+use crate::Keyword;
+use crate::conditions::conds;
+use crate::cursor::Cursor;
+use crate::part::listed;
+use crate::select::Select;
+use crate::select_items::Item;
+use crate::select_parts::{facets, having, limit, options};
+use crate::sorting::{group, order, within};
+use ql_lex::Sign;
+use srch_base::Or;
+use std::alloc::Global;
+
+/// Reads what follows the word SELECT of a SELECT from an index.
+pub(crate) fn select(alloc: Global, input: &mut Cursor<'_>) -> Result<Select, Or<u32>>
+    ensures { Reads select select_goes_on IsSelected input.old result input.new }
+{
+    let items = listed::<Item>(alloc, input, Sign::Comma)?;
+    input.word(Keyword::From)?;
+    let index = input.name(alloc)?;
+    let conds = conds(alloc, input)?;
+    let group = group(alloc, input)?;
+    let within = within(alloc, input)?;
+    let having = having(alloc, input)?;
+    let order = order(alloc, input)?;
+    let limit = limit(input)?;
+    let options = options(alloc, input)?;
+    let facets = facets(alloc, input)?;
+    Ok(Select {
+        items,
+        index,
+        conds,
+        group,
+        within,
+        having,
+        order,
+        limit,
+        options,
+        facets,
+    })
+}

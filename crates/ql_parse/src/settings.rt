@@ -1,0 +1,124 @@
+ghost use Rattle.std.specs.Prelude.{[]};
+ghost use Rattle.ql_parse.specs.Grammar.{◌∣◌, assignment, plain, scoped, set, set_rest, setting, sysvar, target_name};
+ghost use Rattle.ql_parse.specs.Progress.{IsLeading, Reads};
+ghost use Rattle.ql_parse.specs.Statements.{IsAssignment, IsPlain, IsSetRest, IsSetting, IsStatement, IsTarget};
+
+use crate::Keyword;
+use crate::cursor::Cursor;
+use crate::part::{Part, Whole};
+use crate::statement::{Plain, Scope, SetValue, Statement, Target};
+use ql_lex::Sign;
+use srch_base::Or;
+use std::alloc::Global;
+
+/// Reads a name or a text.
+fn plain(alloc: Global, input: &mut Cursor<'_>) -> Result<Plain, Or<u32>>
+    ensures { Reads plain [] IsPlain input.old result input.new }
+{
+    if input.is_text() {
+        return Ok(Plain::Text(input.text(alloc)?));
+    }
+    Ok(Plain::Name(input.name(alloc)?))
+}
+
+/// Reads the variable that is set.
+fn target(alloc: Global, input: &mut Cursor<'_>) -> Result<Target, Or<u32>>
+    ensures { Reads (sysvar ∣ target_name) [] IsTarget input.old result input.new }
+{
+    if input.is_variable() {
+        return Ok(Target::Var(input.variable(alloc)?));
+    }
+    Ok(Target::Name(input.target_name(alloc)?))
+}
+
+/// Reads what a variable is set to.
+fn setting(alloc: Global, input: &mut Cursor<'_>) -> Result<SetValue, Or<u32>>
+    ensures { Reads setting [] IsSetting input.old result input.new }
+{
+    if input.takes_word(Keyword::Null) {
+        return Ok(SetValue::Null);
+    }
+    if input.is_text() {
+        return Ok(SetValue::Text(input.text(alloc)?));
+    }
+    if input.is_name() {
+        return Ok(SetValue::Name(input.name(alloc)?));
+    }
+    let number = Whole::read(alloc, input)?;
+    Ok(SetValue::Number(number))
+}
+
+/// Reads a variable and what it is set to.
+fn assignment(alloc: Global, input: &mut Cursor<'_>) -> Result<(Target, SetValue), Or<u32>>
+    ensures { Reads assignment [] IsAssignment input.old result input.new }
+{
+    let target = target(alloc, input)?;
+    input.sign(Sign::Equal)?;
+    let value = setting(alloc, input)?;
+    Ok((target, value))
+}
+
+/// Whether a keyword is next, and is not itself the name that is set.
+fn leads(input: &Cursor<'_>, word: Keyword) -> bool
+    ensures { IsLeading word input.now result }
+{
+    if input.is_word(word) {
+        !input.is_followed(word, Sign::Equal)
+    } else {
+        false
+    }
+}
+
+/// Reads a scope, if there is one, and an assignment.
+fn scoped(alloc: Global, input: &mut Cursor<'_>) -> Result<Statement, Or<u32>>
+    ensures { Reads scoped [] IsSetRest input.old result input.new }
+{
+    if leads(input, Keyword::Global) {
+        input.word(Keyword::Global)?;
+        let set = assignment(alloc, input)?;
+        return Ok(Statement::SetOther {
+            scope: Scope::Global,
+            target: set.0,
+            value: set.1,
+        });
+    }
+    if leads(input, Keyword::Session) {
+        input.word(Keyword::Session)?;
+        let set = assignment(alloc, input)?;
+        return Ok(Statement::SetOther {
+            scope: Scope::Session,
+            target: set.0,
+            value: set.1,
+        });
+    }
+    let set = assignment(alloc, input)?;
+    Ok(Statement::SetOther {
+        scope: Scope::Absent,
+        target: set.0,
+        value: set.1,
+    })
+}
+
+/// Reads what follows the word SET.
+fn set_rest(alloc: Global, input: &mut Cursor<'_>) -> Result<Statement, Or<u32>>
+    ensures { Reads set_rest [] IsSetRest input.old result input.new }
+{
+    if input.takes_word(Keyword::Autocommit) {
+        input.sign(Sign::Equal)?;
+        return Ok(Statement::SetAutocommit(input.number()?));
+    }
+    if input.takes_word(Keyword::Names) {
+        return Ok(Statement::SetNames(plain(alloc, input)?));
+    }
+    let other = scoped(alloc, input)?;
+    Ok(other)
+}
+
+/// Reads a SET.
+pub(crate) fn set(alloc: Global, input: &mut Cursor<'_>) -> Result<Statement, Or<u32>>
+    ensures { Reads set [] IsStatement input.old result input.new }
+{
+    input.word(Keyword::Set)?;
+    let rest = set_rest(alloc, input)?;
+    Ok(rest)
+}

@@ -1,0 +1,151 @@
+ghost use Rattle.std.specs.Prelude.{[], ◌∷◌};
+ghost use Rattle.ql_lex.specs.declared.token.Sign.TheVariants as signs;
+ghost use Rattle.ql_parse.specs.declared.keyword.Keyword.TheVariants as keywords;
+ghost use Rattle.ql_parse.specs.Classes.{the_word, the_sign};
+ghost use Rattle.ql_parse.specs.Grammar.{◌∣◌, name, weight, count, comma, direction, key, inner_key, group_key, group, within, order};
+ghost use Rattle.ql_parse.specs.Parts.{IsGiven, AreGiven};
+ghost use Rattle.ql_parse.specs.Progress.{Reads, Takes};
+ghost use Rattle.ql_parse.specs.Selecting.{key_goes_on};
+ghost use Rattle.ql_parse.specs.Selects.{IsSort, IsInnerSort, IsGroupSort, IsDirection, IsKeyBy, IsGroup, AreInnerKeys, AreKeys};
+
+use crate::Keyword;
+use crate::calls::{count_all, no_argument};
+use crate::cursor::Cursor;
+use crate::part::{Part, listed};
+use crate::select::{SortKey, SortName};
+use ql_lex::Sign;
+use srch_base::{Items, Name, Or};
+use std::alloc::Global;
+
+/// Reads what rows are sorted by.
+fn sort(alloc: Global, input: &mut Cursor<'_>) -> Result<SortName, Or<u32>>
+    ensures { Reads (weight ∣ count ∣ name) (the_sign signs.OpenParen ∷ []) IsSort input.old result input.new }
+{
+    if input.is_followed(Keyword::Weight, Sign::OpenParen) {
+        no_argument(input, Keyword::Weight)?;
+        return Ok(SortName::Weight);
+    }
+    if input.is_followed(Keyword::Count, Sign::OpenParen) {
+        count_all(input)?;
+        return Ok(SortName::CountAll);
+    }
+    Ok(SortName::Column(input.name(alloc)?))
+}
+
+/// Reads what the rows of a group are sorted by.
+fn inner_sort(alloc: Global, input: &mut Cursor<'_>) -> Result<SortName, Or<u32>>
+    ensures { Reads (weight ∣ name) (the_sign signs.OpenParen ∷ []) IsInnerSort input.old result input.new }
+{
+    if input.is_followed(Keyword::Weight, Sign::OpenParen) {
+        no_argument(input, Keyword::Weight)?;
+        return Ok(SortName::Weight);
+    }
+    Ok(SortName::Column(input.name(alloc)?))
+}
+
+/// Reads what groups are sorted by.
+pub(crate) fn group_sort(alloc: Global, input: &mut Cursor<'_>) -> Result<SortName, Or<u32>>
+    ensures { Reads (count ∣ name) (the_sign signs.OpenParen ∷ []) IsGroupSort input.old result input.new }
+{
+    if input.is_followed(Keyword::Count, Sign::OpenParen) {
+        count_all(input)?;
+        return Ok(SortName::CountAll);
+    }
+    Ok(SortName::Column(input.name(alloc)?))
+}
+
+/// Reads a direction, if it is there.
+fn direction(input: &mut Cursor<'_>) -> Option<bool>
+    ensures { Takes direction (the_word keywords.Asc ∷ the_word keywords.Desc ∷ []) (IsGiven IsDirection result) input.old input.new }
+{
+    if input.takes_word(Keyword::Asc) {
+        return Some(false);
+    }
+    if input.takes_word(Keyword::Desc) {
+        return Some(true);
+    }
+    None
+}
+
+/// `(name | WEIGHT() | COUNT(*)) [ASC | DESC]`
+pub(crate) struct Key;
+
+impl Part for Key {
+    type Value = SortKey;
+
+    ghost grammar = { key };
+
+    ghost goes_on = { key_goes_on };
+
+    ghost is = { IsKeyBy IsSort };
+
+    fn read(alloc: Global, input: &mut Cursor<'_>) -> Result<SortKey, Or<u32>> {
+        let by = sort(alloc, input)?;
+        let descending = direction(input);
+        Ok(SortKey { by, descending })
+    }
+}
+
+/// `(name | WEIGHT()) [ASC | DESC]`
+pub(crate) struct InnerKey;
+
+impl Part for InnerKey {
+    type Value = SortKey;
+
+    ghost grammar = { inner_key };
+
+    ghost goes_on = { key_goes_on };
+
+    ghost is = { IsKeyBy IsInnerSort };
+
+    fn read(alloc: Global, input: &mut Cursor<'_>) -> Result<SortKey, Or<u32>> {
+        let by = inner_sort(alloc, input)?;
+        let descending = direction(input);
+        Ok(SortKey { by, descending })
+    }
+}
+
+/// Reads what the groups of a facet are sorted by.
+pub(crate) fn group_key(alloc: Global, input: &mut Cursor<'_>) -> Result<SortKey, Or<u32>>
+    ensures { Reads group_key key_goes_on (IsKeyBy IsGroupSort) input.old result input.new }
+{
+    let by = group_sort(alloc, input)?;
+    let descending = direction(input);
+    Ok(SortKey { by, descending })
+}
+
+/// Reads GROUP BY, if it is there.
+pub(crate) fn group(alloc: Global, input: &mut Cursor<'_>) -> Result<Option<Name>, Or<u32>>
+    ensures { Reads group (the_word keywords.Group ∷ []) (IsGiven IsGroup) input.old result input.new }
+{
+    if input.is_word(Keyword::Group) {
+        input.words(Keyword::Group, Keyword::By)?;
+        return Ok(Some(input.name(alloc)?));
+    }
+    Ok(None)
+}
+
+/// Reads WITHIN GROUP ORDER BY, if it is there.
+pub(crate) fn within(alloc: Global, input: &mut Cursor<'_>) -> Result<Items<SortKey>, Or<u32>>
+    ensures { Reads within (the_word keywords.Within ∷ comma ∷ key_goes_on) (AreGiven AreInnerKeys) input.old result input.new }
+{
+    if input.is_word(Keyword::Within) {
+        input.words(Keyword::Within, Keyword::Group)?;
+        input.words(Keyword::Order, Keyword::By)?;
+        let keys = listed::<InnerKey>(alloc, input, Sign::Comma)?;
+        return Ok(keys);
+    }
+    Ok(Items::new(Vec::new(alloc)))
+}
+
+/// Reads ORDER BY, if it is there.
+pub(crate) fn order(alloc: Global, input: &mut Cursor<'_>) -> Result<Items<SortKey>, Or<u32>>
+    ensures { Reads order (the_word keywords.Order ∷ comma ∷ key_goes_on) (AreGiven AreKeys) input.old result input.new }
+{
+    if input.is_word(Keyword::Order) {
+        input.words(Keyword::Order, Keyword::By)?;
+        let keys = listed::<Key>(alloc, input, Sign::Comma)?;
+        return Ok(keys);
+    }
+    Ok(Items::new(Vec::new(alloc)))
+}
