@@ -91,10 +91,10 @@ whole_here forms.End s before rest is other ends = other refl
 
 token_here : (s : Spelling) (before rest : List ℕ) → IsSpelling s → Ends rest → IsToken s.kind (before ++ (s.bytes ++ rest)) (length before) (length before + length s.bytes)
 token_here s before rest is ends = record {
-    within = omega (arith, length-append before (s.bytes ++ rest), length-append s.bytes rest);
-    lexeme = subst (λ v. IsLexeme s.kind v) (sym (slice_here before s.bytes rest)) is.lexeme;
-    whole = whole_here s.kind s.bytes before rest is.lexeme is.other ends;
-  }
+  within = omega (arith, length-append before (s.bytes ++ rest), length-append s.bytes rest);
+  lexeme = subst (λ v. IsLexeme s.kind v) (sym (slice_here before s.bytes rest)) is.lexeme;
+  whole = whole_here s.kind s.bytes before rest is.lexeme is.other ends;
+}
 
 -- From a place on the text is these tokens.
 record Lexed (ps : List Spelling) (body : List ℕ) (from : ℕ) : Type 0 where
