@@ -29,3 +29,9 @@ pub mod CanonicalParts
 pub mod CanonicalSelects
 pub mod CanonicalStatements
 pub mod ParseAnswers
+pub mod Once
+pub mod OnceChoices
+pub mod OnceParts
+pub mod OnceSelects
+pub mod OnceStatements
+pub mod OncePackets

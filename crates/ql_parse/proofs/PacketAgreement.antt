@@ -22,10 +22,10 @@ agree_end = record {
 }
 
 -- [;] end
-abbrev IsEnding : List Lexeme → Type 0
+abbrev pub IsEnding : List Lexeme → Type 0
 IsEnding = IsPerhaps (IsSign signs.Semicolon) then IsEnd
 
-ending_text : (n : ℕ) (v : List Lexeme) → IsEnding v → In (more_statements n) v
+pub ending_text : (n : ℕ) (v : List Lexeme) → IsEnding v → In (more_statements n) v
 unfolding In
 ending_text zero v (a, b, e, inl s, end) = inl (a, b, e, (agree_sign signs.Semicolon).text tt a s, agree_end.text tt b end)
 ending_text zero v (a, b, e, inr none, end) = inr (subst (λ w. In (one the_end) w) (sym (e ∙ ap (λ w. w ++ b) none)) (agree_end.text tt b end))

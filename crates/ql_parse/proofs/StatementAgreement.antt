@@ -96,7 +96,7 @@ agree_plain = agree_as (agree_or agree_text agree_name) there back
     back (plains.Text text) u h = (inl text, h)
     back (plains.Name name) u h = (inr name, h)
 
-abbrev SettingValue : Type 0
+abbrev pub SettingValue : Type 0
 SettingValue = Unit {0} ⊎ (List ℕ ⊎ (List ℕ ⊎ ℤ))
 
 agree_setting : Agree setting IsSetting
@@ -132,10 +132,10 @@ agree_assignment : Agree assignment IsAssignment
 agree_assignment = agree_seq agree_target (agree_behind (agree_sign signs.Equal) agree_setting)
 
 -- What stands behind the first words of the statements.
-abbrev Selection : Type 0
+abbrev pub Selection : Type 0
 Selection = List ℕ × Option ℕ ⊎ (Unit {0} ⊎ Select)
 
-abbrev IsSelection : Selection → List Lexeme → Type 0
+abbrev pub IsSelection : Selection → List Lexeme → Type 0
 IsSelection = IsEither (λ x. IsVariable x.0 then IsGiven IsRowLimit x.1) (IsEither (λ _. IsWord keywords.Database then AreParens) IsSelected)
 
 agree_selection : Agree (select_variable ∣ select_database ∣ select) IsSelection
@@ -143,10 +143,10 @@ agree_selection =
     agree_or (agree_seq agree_variable (agree_optional (agree_behind (agree_word keywords.Limit) agree_number)))
     (agree_or (agree_behind (agree_word keywords.Database) agree_parens) agree_select)
 
-abbrev Setting : Type 0
+abbrev pub Setting : Type 0
 Setting = ℕ ⊎ (Plain ⊎ (Target × SetValue ⊎ (Target × SetValue ⊎ Target × SetValue)))
 
-abbrev IsSet : Setting → List Lexeme → Type 0
+abbrev pub IsSet : Setting → List Lexeme → Type 0
 IsSet =
     IsEither (λ n. IsWord keywords.Autocommit then IsSign signs.Equal then IsNumber n)
     (IsEither (λ plain. IsWord keywords.Names then IsPlain plain)
@@ -160,10 +160,10 @@ agree_set_rest =
     (agree_or (agree_behind (agree_word keywords.Global) agree_assignment)
     (agree_or (agree_behind (agree_word keywords.Session) agree_assignment) agree_assignment)))
 
-abbrev Shown : Type 0
+abbrev pub Shown : Type 0
 Shown = List ℕ × Unit {0} ⊎ (Unit {0} ⊎ (Unit {0} ⊎ (Unit {0} ⊎ (Unit {0} ⊎ Unit {0}))))
 
-abbrev IsShown : Shown → List Lexeme → Type 0
+abbrev pub IsShown : Shown → List Lexeme → Type 0
 IsShown =
     IsEither (λ x. IsWord keywords.Index then IsName x.0 then IsWord keywords.Status)
     (IsEither (λ _. IsWord keywords.Meta)
@@ -179,13 +179,13 @@ agree_shown =
     (agree_or (agree_word keywords.Warnings)
     (agree_or (agree_word keywords.Variables) (agree_word keywords.Databases)))))
 
-abbrev IsFlushed : List ℕ ⊎ List ℕ → List Lexeme → Type 0
+abbrev pub IsFlushed : List ℕ ⊎ List ℕ → List Lexeme → Type 0
 IsFlushed = IsEither (λ name. IsWord keywords.RamChunk then IsName name) (λ name. IsWord keywords.RtIndex then IsName name)
 
-abbrev Put : Type 0
+abbrev pub Put : Type 0
 Put = Bool × (List ℕ × (Option (List (List ℕ)) × List (List Val)))
 
-abbrev IsInserted : Put → List Lexeme → Type 0
+abbrev pub IsInserted : Put → List Lexeme → Type 0
 IsInserted x = IsPut x.0 then IsWord keywords.Into then IsName x.1.0 then IsGiven AreColumns x.1.1.0 then IsWord keywords.Values then AreListed IsComma IsRow x.1.1.1
 
 agree_insert : Agree insert IsInserted
@@ -195,11 +195,11 @@ agree_insert =
     (agree_behind (agree_word keywords.Values) (agree_listed (agree_sign signs.Comma) (agree_enclosed (agree_listed (agree_sign signs.Comma) agree_val)))))))
 
 -- Statements, in the order of the grammar.
-abbrev Parts : Type 0
+abbrev pub Parts : Type 0
 Parts =
     Selection ⊎ ((List ℕ × Ids) ⊎ (Setting ⊎ (Shown ⊎ ((List ℕ ⊎ List ℕ) ⊎ (Unit {0} ⊎ (Unit {0} ⊎ (Unit {0} ⊎ (Unit {0} ⊎ (List ℕ ⊎ (List ℕ ⊎ (List ℕ ⊎ (Put))))))))))))
 
-abbrev AreParts : Parts → List Lexeme → Type 0
+abbrev pub AreParts : Parts → List Lexeme → Type 0
 AreParts =
     IsEither (λ x. IsWord keywords.Select then IsSelection x)
     (IsEither (λ x. AreWords keywords.Delete keywords.From then IsName x.0 then AreWords keywords.Where keywords.Id then AreIds x.1)

@@ -22,7 +22,7 @@ use Rattle.ql_parse.proofs.SignNumbers.{sign_same}
 use Rattle.ql_parse.proofs.Laws.{has_nullable}
 use Rattle.ql_parse.proofs.Verdicts.{Within, verdict_same, verdict_begun}
 
-class_same : (c d : Class) → same_class c d ≡ true → c ≡ d
+pub class_same : (c d : Class) → same_class c d ≡ true → c ≡ d
 class_same (the_word v) (the_word w) e = ap the_word (keyword_same v w e)
 class_same any_name any_name e = refl
 class_same a_number a_number e = refl
@@ -32,7 +32,7 @@ class_same a_comparison a_comparison e = refl
 class_same (the_sign v) (the_sign w) e = ap the_sign (sign_same v w e)
 class_same _ _ e = cc
 
-or_cases : (b c : Bool) → (b || c) ≡ true → (b ≡ true) ⊎ (c ≡ true)
+pub or_cases : (b c : Bool) → (b || c) ≡ true → (b ≡ true) ⊎ (c ≡ true)
 or_cases true c e = inl refl
 or_cases false c e = inr e
 

@@ -33,7 +33,7 @@ pub use fault::{ParseFault, ParseKind};
 pub use keyword::Keyword;
 pub use kind::Kind;
 pub use parsing::{MAX_STATEMENTS, parse};
-pub use reading_law::{canonical_text_is_read, packets_have_values};
+pub use reading_law::{canonical_text_is_read, packets_have_values, tokens_have_one_value};
 pub use select::{
     Comparison, Cond, FacetPart, Having, LimitPart, OptionValue, Select, SelectExpr, SelectItem,
     SelectOption, SortKey, SortName,

@@ -20,3 +20,8 @@ pub fn canonical_text_is_read()
 pub fn packets_have_values()
     ensures { (list : List StatementValue) (tokens : List Lexeme) → AreLexemes tokens → IsPacket list tokens → All IsValue list }
 {}
+
+/// Tokens are a packet of one list of statements only.
+pub fn tokens_have_one_value()
+    ensures { (tokens : List Lexeme) (a b : List StatementValue) → IsPacket a tokens → IsPacket b tokens → a ≡ b }
+{}
