@@ -15,3 +15,4 @@ pub mod LineRuns
 pub mod Pairs
 pub mod Soundness
 pub mod SoundLines
+pub mod OneReading

@@ -1,5 +1,6 @@
 -- What a configuration's text is: the indexes that it describes, or its first fault.
 use Rattle.std.specs.Prelude.{◌≡◌, ◌≢◌, ℕ, ◌<◌, ◌≤◌, List, [], ◌∷◌, ◌++◌, Bool, true, false, Option, Some, None, Result, Ok, Err, All, length, map, reverse}
+use Rattle.std.specs.Char.{IsScalar}
 use Rattle.std.specs.List.{AllZip}
 use Rattle.std.specs.Str.{IsUtf8}
 use Rattle.charset_map.specs.declared.span.Span.{Span}
@@ -100,6 +101,13 @@ pub record IsIndexOf (text : IndexText) (conf : IndexConf) : Type 0 where
   pub rules_zones : conf.rules.zones ≡ conf.schema.zones
   pub rules_sp : conf.rules.sp ≡ conf.schema.sp
   pub path : given keys.Path text.entries ≡ Some conf.path
+
+-- two indexes are the same: only how they keep the values of their tables may differ
+pub record AreSameIndex (a b : IndexConf) : Type 0 where
+  pub schema : a.schema ≡ b.schema
+  pub rules : a.rules ≡ b.rules
+  pub path : a.path ≡ b.path
+  pub charset : (c : ℕ) → IsScalar c → folded a.charset c ≡ folded b.charset c
 
 -- the text is this configuration
 pub record IsConfOf (text : List ℕ) (conf : Conf) : Type 0 where

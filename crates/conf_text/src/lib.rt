@@ -5,6 +5,7 @@ mod conf;
 mod draft;
 mod fault;
 mod keys;
+mod laws;
 mod lines;
 mod reading;
 mod setting;
@@ -14,6 +15,7 @@ mod zones;
 
 pub use conf::{Conf, IndexConf, MAX_CONF_BYTES, MAX_INDEXES};
 pub use fault::{ConfFault, ConfKind};
+pub use laws::a_text_is_one_configuration;
 pub use reading::read_conf;
 
 #[cfg(test)]
