@@ -112,7 +112,7 @@ no_open_comment text at (parts.Token kind to) stands fault = no_kind kind (sym (
 no_large : (text : List ℕ) (at : ℕ) (part : Part) → Stands text at part → IsTooLarge text at → ⊥
 no_large text at part stands fault =
     let token = token_of text at part tokens.Number 3 refl (λ e. omega arith) (λ e. omega arith) stands (digits_head text at fault.to fault.digits) in
-    let same : token.0 ≡ fault.to = digits_end text at token.0 fault.to token.1.within fault.within token.1.lexeme.0 fault.digits token.1.whole.0 fault.whole.0 in
+    let same : token.0 ≡ fault.to = digits_end text at token.0 fault.to token.1.within fault.within token.1.lexeme.0 fault.digits token.1.whole.0 fault.all in
     let below : digits_value 10 (slice_range text at fault.to) < 2 ^ 64 = subst (λ n. digits_value 10 (slice_range text at n) < 2 ^ 64) same token.1.lexeme.1 in
     omega (arith, below, fault.above)
 
@@ -154,8 +154,9 @@ text_or_unclosed text at text_fault (open_name quote none) = differ (head (get_o
 large_or_pointed : (text : List ℕ) (at : ℕ) → IsTooLarge text at → IsPointed text at → ⊥
 large_or_pointed text at large fault =
     let stops = point_stops text at fault in
-    let same : large.to ≡ fault.to = digits_end text at large.to fault.to large.within stops.1 large.digits fault.digits large.whole.0 stops.0 in
-    large.whole.1 (ap (λ n. get_or text n 0) same ∙ fault.point)
+    let same : large.to ≡ fault.to = digits_end text at large.to fault.to large.within stops.1 large.digits fault.digits large.all stops.0 in
+    let below : digits_value 10 (slice_range text at large.to) < 2 ^ 64 = subst (λ n. digits_value 10 (slice_range text at n) < 2 ^ 64) (sym same) fault.fits in
+    omega (arith, below, large.above)
 
 -- a name that is too long begins no other way
 long_head : (text : List ℕ) (at h : ℕ) → IsTooLong text at → ((kind : TokenKind) (bytes : List ℕ) → IsNamed kind bytes → kind_head kind ≡ h → ⊥) → head (get_or text at 0) ≡ h → ⊥

@@ -80,19 +80,20 @@ pub record IsOpenComment (text : List ℕ) (place : ℕ) : Type 0 where
   pub opens : OpensComment text place
   pub open_for_good : (k : ℕ) → place + 2 ≤ k → ClosesComment text k → ⊥
 
--- A number above the greatest one stands at the place.
+-- All the digits that stand at the place write a number above the greatest one.
 pub record IsTooLarge (text : List ℕ) (place : ℕ) : Type 0 where
   pub to : ℕ
   pub within : to ≤ length text
   pub digits : IsTrue (is_digits (slice_range text place to))
-  pub whole : IsWhole Number text place to
+  pub all : is_ascii_digit (slice_index text to) ≡ false
   pub above : 2 ^ 64 ≤ digits_value 10 (slice_range text place to)
 
--- Digits stand at the place, and a dot behind them.
+-- The digits of a number that isn't too large stand at the place, and a dot behind them.
 pub record IsPointed (text : List ℕ) (place : ℕ) : Type 0 where
   pub to : ℕ
   pub digits : IsTrue (is_digits (slice_range text place to))
   pub point : slice_index text to ≡ 46
+  pub fits : digits_value 10 (slice_range text place to) < 2 ^ 64
 
 -- A name of more than 64 bytes stands at the place.
 pub record IsTooLong (text : List ℕ) (place : ℕ) : Type 0 where

@@ -30,11 +30,9 @@ pub(crate) fn number_at(text: &[u8], at: usize) -> Result<Part, LexKind>
     ensures { Reads text.now at result }
 {
     let to = at + digits_len(&text[at..]);
-    if byte_at(text, to) == b'.' {
-        return Err(LexKind::NumberWithPoint);
-    }
     match value_of(&text[at..to]) {
-        Some(_) => Ok(Part::Token(TokenKind::Number, to)),
         None => Err(LexKind::NumberTooLarge),
+        Some(_) if byte_at(text, to) == b'.' => Err(LexKind::NumberWithPoint),
+        Some(_) => Ok(Part::Token(TokenKind::Number, to)),
     }
 }

@@ -192,7 +192,8 @@ const FAULTS: [(&[u8], u32, LexKind); 46] = [
     (b"1.5", 0, NumberWithPoint),
     (b"1.", 0, NumberWithPoint),
     (b"a=12.x", 2, NumberWithPoint),
-    (b"18446744073709551616.0", 0, NumberWithPoint),
+    (b"18446744073709551615.0", 0, NumberWithPoint),
+    (b"18446744073709551616.0", 0, NumberTooLarge),
     (
         b"abcdefghijklmnopqrstuvwxyzabcdefghijklmnopqrstuvwxyzabcdefghijklm",
         0,

@@ -9,7 +9,7 @@ pub enum TokenKind {
     Number,
     /// A text between `'` or between `"`.
     Text,
-    /// `@@`, and names with dots between them.
+    /// `@@` and a name, which may have dots behind its first character.
     SysVar,
     /// One of `( ) , ; * = != <> < > <= >= -`.
     Sign,
