@@ -4,10 +4,11 @@ use srch_base::{NoMemory, Or};
 use std::alloc::Global;
 
 /// Texts that are no packet, and the places of the tokens with which none goes on.
-const FAULTS: [(&str, u32); 121] = [
+const FAULTS: [(&str, u32); 122] = [
     ("", 0),
     (";", 0),
     ("foo", 0),
+    ("SELEC 1", 0),
     ("'select'", 0),
     ("`select` * from rt", 0),
     ("commit commit", 7),

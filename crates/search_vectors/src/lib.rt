@@ -7,3 +7,5 @@ mod canonical;
 mod faults;
 #[cfg(test)]
 mod packets;
+#[cfg(test)]
+mod values;
