@@ -1,13 +1,19 @@
 -- Lists of zones, name by name.
-use Rattle.std.proofs.Common.{◌≡◌, ℕ, ◌+◌, ◌<◌, true, false, eqb, List, [], ◌∷◌, ◌++◌, append_assoc, length, take, take_all, drop, map, sym, ◌∙◌, ap, subst, arith, inl, inr}
-use Rattle.std.specs.Prelude.{◌&&◌, not}
-use Rattle.std.specs.List.{list_all}
+use Rattle.std.proofs.Common.{◌≡◌, ℕ, ◌+◌, ◌<◌, Bool, true, false, cond, refl, eqb, List, [], ◌∷◌, ◌++◌, append_assoc, length, take, take_all, drop, map, sym, ◌∙◌, ap, subst, arith, inl, inr}
+use Rattle.std.specs.Prelude.{◌&&◌, ◌||◌, not}
+use Rattle.std.specs.BTreeSet.{BTreeSet, contains}
+use Rattle.std.specs.Cmp.Lexicographic.{slice_cmp}
+use Rattle.std.specs.Ordering.{is_eq, nat_cmp}
+use Rattle.std.specs.Str.{bytes_eq}
+use Rattle.std.specs.List.{list_all, list_any}
 use Rattle.std.proofs.lemmas.Bool.{true≢false, cases_lt}
-use Rattle.std.proofs.lemmas.List.Folds.{list_all-append}
+use Rattle.std.proofs.lemmas.List.Folds.{list_all-append, list_any-append}
+use Rattle.std.proofs.lemmas.Map.Text.{is_eq-slice_cmp}
 use Rattle.std.proofs.lemmas.List.Splits.{slice_split_first, slice_split_none}
 use Rattle.std.proofs.lemmas.List.Sums.{fails_before_first}
 use Rattle.conf_text.specs.Faults.{is_among}
 use Rattle.conf_text.specs.Lines.{trimmed}
+use Rattle.conf_text.specs.Settings.{HasNames}
 use Rattle.conf_text.specs.Shapes.{small}
 use Rattle.conf_text.specs.Values.{AreZoneNames, is_tag_name, zones_in}
 use Rattle.doc_types.specs.Schemas.{AreDistinct}
@@ -77,3 +83,26 @@ zones_bad value rest zones name read is old names =
           true≢false (sym (and_left (is_tag_name name) (list_all is_tag_name first.0) (and_right (list_all is_tag_name zones) _ form)) ∙ other))
       | inr twice ↦ not_distinct zones first.0 name (not_no _ twice) (subst AreDistinct are names.distinct)
     ]
+
+-- a set without names, and one with one more
+pub names_none : (set : BTreeSet (List ℕ)) → set.keys ≡ [] → HasNames set []
+names_none set empty name = ap (list_any (λ k. is_eq (slice_cmp nat_cmp name k))) empty
+
+one_more : (b x : Bool) → cond b true x ≡ (x || (b || false))
+one_more true true = refl
+one_more true false = refl
+one_more false true = refl
+one_more false false = refl
+
+names_more : (old new : BTreeSet (List ℕ)) (zones : List (List ℕ)) (name : List ℕ) → HasNames old zones → ((q : List ℕ) → contains (slice_cmp nat_cmp) new q ≡ cond (is_eq (slice_cmp nat_cmp name q)) true (contains (slice_cmp nat_cmp) old q)) → HasNames new (zones ++ name ∷ [])
+names_more old new zones name has more q =
+    more q
+    ∙ ap (λ b. cond b true (contains (slice_cmp nat_cmp) old q)) (is_eq-slice_cmp name q)
+    ∙ ap (cond (bytes_eq name q) true) (has q)
+    ∙ one_more (bytes_eq name q) (is_among q zones)
+    ∙ sym (list_any-append (λ other. bytes_eq other q) zones (name ∷ []))
+
+-- a tag's name that was taken into the set
+pub zone_taken : (old new : BTreeSet (List ℕ)) (zones : List (List ℕ)) (name : List ℕ) (answer : Bool) → HasNames old zones → is_tag_name name ≡ true → answer ≡ not (contains (slice_cmp nat_cmp) old name) → ((q : List ℕ) → contains (slice_cmp nat_cmp) new q ≡ cond (is_eq (slice_cmp nat_cmp name q)) true (contains (slice_cmp nat_cmp) old q)) → (answer ≡ (is_tag_name name && not (is_among name zones))) × (answer ≡ true → HasNames new (zones ++ name ∷ []))
+zone_taken old new zones name answer has tag is more =
+    (is ∙ ap not (has name) ∙ ap (λ b. b && not (is_among name zones)) (sym tag), λ _. names_more old new zones name has more)

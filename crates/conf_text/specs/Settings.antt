@@ -1,5 +1,8 @@
 -- What the values of keys set.
-use Rattle.std.specs.Prelude.{◌≡◌, ℕ, List, Bool, true, false, Some, Result, Ok, Err, codes}
+use Rattle.std.specs.Prelude.{◌≡◌, ℕ, List, [], ◌∷◌, ◌++◌, Bool, true, false, ◌&&◌, not, Some, Result, Ok, Err, codes}
+use Rattle.std.specs.BTreeSet.{BTreeSet, contains}
+use Rattle.std.specs.Cmp.Lexicographic.{slice_cmp}
+use Rattle.std.specs.Ordering.{nat_cmp}
 use Rattle.std.specs.Str.{bytes_eq}
 use Rattle.charset_map.specs.Reading.{IsTableOf}
 use Rattle.charset_map.specs.Spans.{folded}
@@ -11,9 +14,10 @@ use Rattle.conf_text.specs.declared.keys.Key.{Key}
 use Rattle.conf_text.specs.declared.keys.Key.TheVariants as keys
 use Rattle.conf_text.specs.declared.setting.Setting.{Setting}
 use Rattle.conf_text.specs.declared.setting.Setting.TheVariants as settings
+use Rattle.conf_text.specs.Faults.{is_among}
 use Rattle.conf_text.specs.Keys.{attr_kind}
 use Rattle.conf_text.specs.Shapes.{small}
-use Rattle.conf_text.specs.Values.{IsValue, zones_in}
+use Rattle.conf_text.specs.Values.{IsValue, is_tag_name, zones_in}
 
 -- A value was read, or it is bad, or memory was refused.
 abbrev pub ReadsValue : {X : Type 0} → (X → Type 0) → Type 0 → Result X (Or ConfKind) → Type 0
@@ -49,3 +53,12 @@ IsSetting key value (settings.Zones zones) = (key ≡ keys.IndexZones) × (zones
 -- What a key with this value sets was read, or it can't have the value.
 abbrev pub ReadsSetting : Key → List ℕ → Result Setting (Or ConfKind) → Type 0
 ReadsSetting key value result = ReadsValue (λ setting. IsValue key value × IsSetting key value setting) (¬ (IsValue key value)) result
+
+-- a set has these names and no others
+abbrev pub HasNames : BTreeSet (List ℕ) → List (List ℕ) → Type 0
+HasNames set names = (name : List ℕ) → contains (slice_cmp nat_cmp) set name ≡ is_among name names
+
+-- A name is a zone behind others or it isn't, and a set of the others has it then.
+abbrev pub TakesZone : {E : Type 0} → List (List ℕ) → List ℕ → BTreeSet (List ℕ) → Result Bool E → Type 0
+TakesZone zones name set (Ok new) = (new ≡ (is_tag_name name && not (is_among name zones))) × (new ≡ true → HasNames set (zones ++ name ∷ []))
+TakesZone zones name set (Err e) = Unit {0}

@@ -1,16 +1,17 @@
-ghost use Rattle.std.specs.Prelude.{◌≡◌, ◌&&◌, not};
+ghost use Rattle.std.specs.Prelude.{◌≡◌, ◌&&◌, ℕ, List};
 ghost use Rattle.std.specs.List.{list_all, list_any};
 ghost use Rattle.std.specs.Str.{bytes_eq};
 ghost use Rattle.mark_scan.specs.Markup.{is_name_byte};
 ghost use Rattle.conf_text.specs.Faults.{is_among, is_long};
-ghost use Rattle.conf_text.specs.Settings.{ReadsValue};
+ghost use Rattle.conf_text.specs.Settings.{HasNames, ReadsValue, TakesZone};
 ghost use Rattle.conf_text.specs.Values.{AreZoneNames, is_tag_name, zones_in};
 
 use crate::fault::ConfKind;
 use crate::text::{place_of, small_name, trim};
 use doc_types::MAX_NAME_BYTES;
-use srch_base::{Name, Or};
+use srch_base::{Name, NoMemory, Or};
 use std::alloc::Global;
+use std::collections::BTreeSet;
 
 /// Whether a byte can stand in the name of a tag.
 fn name_byte(byte: u8) -> bool
@@ -57,11 +58,14 @@ pub fn stands_among(name: &[u8], names: &[Name]) -> bool
     names.iter().any(|other| other.as_bytes() == name)
 }
 
-/// Whether a name is a tag's, and none of these.
-fn is_new_zone(name: &[u8], zones: &[Name]) -> bool
-    ensures { result ≡ is_tag_name name.now && not (is_among name.now zones.now) }
+/// Whether a name is a tag's and none of those that were seen, which it is among from now on.
+fn is_new_zone(name: &Name, seen: &mut BTreeSet<Name>) -> Result<bool, NoMemory>
+    ensures { (zones : List (List ℕ)) → HasNames seen.old zones → TakesZone zones name.now seen.new result }
 {
-    tag_name(name) && !stands_among(name, zones)
+    if !tag_name(name.as_bytes()) {
+        return Ok(false);
+    }
+    Ok(seen.insert(name.clone()?)?)
 }
 
 /// The names of a list of zones, in small letters.
@@ -69,11 +73,13 @@ pub fn read_zones(alloc: Global, value: &[u8]) -> Result<Vec<Name>, Or<ConfKind>
     ensures { ReadsValue (λ zones. AreZoneNames (zones_in value.now) × (zones.items ≡ zones_in value.now)) (¬ (AreZoneNames (zones_in value.now))) result }
 {
     let mut zones = Vec::new(alloc);
+    let mut seen = BTreeSet::new(alloc);
     let mut rest = value;
     'zones: loop {
         let end = place_of(b',', rest);
         let zone = small_name(alloc, trim(rest.split_at(end).0))?;
-        if !is_new_zone(zone.as_bytes(), zones.as_slice()) {
+        let new = is_new_zone(&zone, &mut seen)?;
+        if !new {
             return Err(Or::Fault(ConfKind::BadValue));
         }
         zones.push(zone)?;
