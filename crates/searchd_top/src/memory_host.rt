@@ -1,4 +1,4 @@
-ghost use Rattle.std.specs.Prelude.{◌≡◌, ◌+◌, ◌≤◌, ◌++◌, ◌==◌, length, take, drop, is_err, option_copied, IfOk, OnOk, OnErr, IsTrue, IsErr, MatchResult};
+ghost use Rattle.std.specs.Prelude.{◌≡◌, ◌+◌, ◌≤◌, ◌++◌, ◌==◌, length, map, take, drop, is_err, option_copied, IfOk, OnOk, OnErr, IsTrue, IsErr, MatchResult};
 ghost use Rattle.std.specs.List.{All, list_any};
 ghost use Rattle.srch_base.specs.Counts.{HasCause, Rose};
 ghost use Rattle.srch_base.specs.Memory.{one_more, lines_given};
@@ -59,15 +59,15 @@ impl MemoryHost {
     /// with the numbers `failing` fail.
     pub fn new(
         alloc: Global,
-        texts: Vec<(Text, Text)>,
+        texts: Vec<(Text, Vec<u8>)>,
         doors: Vec<ListDoor>,
         failing: Vec<u32>,
     ) -> Result<MemoryHost, NoMemory>
-        ensures { IfOk result (λ host. host ≡ host_over texts.items doors.items failing.items) }
+        ensures { IfOk result (λ host. host ≡ host_over (map (λ file. (file.0, file.1.items)) texts.items) doors.items failing.items) }
     {
         Ok(MemoryHost {
             alloc,
-            texts,
+            texts: kept(alloc, texts)?,
             back: Vec::with_capacity(alloc, doors.len())?,
             doors,
             at: 0,
@@ -213,6 +213,16 @@ impl Host for MemoryHost {
     {
         let _appended = self.back.append(&mut doors);
     }
+}
+
+/// Files, each a path and a text, as a host keeps them.
+fn kept(alloc: Global, texts: Vec<(Text, Vec<u8>)>) -> Result<Vec<(Text, Text)>, NoMemory>
+    ensures { IfOk result (λ files. files.items ≡ map (λ file. (file.0, file.1.items)) texts.items) }
+{
+    Ok(texts
+        .into_iter()
+        .map(|(path, text)| (path, Text::new(text)))
+        .collect(alloc)?)
 }
 
 /// The first `limit + 1` bytes of a text, or all of a shorter one.
