@@ -1,9 +1,8 @@
 -- A text is read in one way.
-use Rattle.std.proofs.Common.{◌≡◌, ℕ, zero, suc, ◌+◌, ◌<◌, ◌≤◌, Bool, true, false, List, [], ◌∷◌, ◌++◌, Option, Some, None, append_assoc, map, refl, sym, ◌∙◌, ap, subst, arith, inl, inr, ◌⊎◌}
-use Rattle.std.specs.Prelude.{reverse, All, not, ◌&&◌, ◌||◌}
+use Rattle.std.proofs.Common.{◌≡◌, ℕ, zero, suc, ◌<◌, Bool, true, false, List, [], ◌∷◌, ◌++◌, Option, Some, None, append_assoc, map, refl, sym, ◌∙◌, ap, subst, arith, inl, inr, ◌⊎◌}
+use Rattle.std.specs.Prelude.{reverse, All, not, ◌||◌}
 use Rattle.std.specs.Char.{IsScalar}
 use Rattle.std.specs.List.{AllZip}
-use Rattle.std.specs.Str.{IsUtf8}
 use Rattle.std.proofs.lemmas.Bool.{cases_lt, cases_order}
 use Rattle.std.proofs.lemmas.List.{map-append, reverse-append}
 use Rattle.charset_map.specs.declared.span.Span.{Span}
@@ -19,7 +18,7 @@ use Rattle.conf_text.specs.declared.fault.ConfKind.{ConfKind}
 use Rattle.conf_text.specs.declared.fault.ConfKind.TheVariants as kinds
 use Rattle.conf_text.specs.declared.keys.Key.TheVariants as keys
 use Rattle.conf_text.specs.Confs.{AreFaultless, AreLinesOf, AreSameIndex, IsCharsetBy, IsConfOf, IsFaultOf, IsFirstBadLine, IsFirstFault, IsIndexOf, IsText, at_line, is_last, no_index, not_text, shape, shapes_back, too_long}
-use Rattle.conf_text.specs.Faults.{AreGood, IsFaultAt, IsGoodAt, NoneStands, Stands, fits, is_outside, is_syntax, kinds_before}
+use Rattle.conf_text.specs.Faults.{AreGood, IsFaultAt, IsGoodAt, NoneStands, Stands, fits, is_outside, kinds_before}
 use Rattle.conf_text.specs.Lines.{Line, lines_of}
 use Rattle.conf_text.specs.Sections.{IndexText, Spot, given, indexes_in, place_behind, place_in, spot_in}
 use Rattle.conf_text.specs.Shapes.{Shape}

@@ -33,7 +33,8 @@ zones-preserved c =
     let test = c.in_ok-new.ensures c.zones.zones.items c.zones.invariant.1 in
     let within : place 44 rest < length rest = omega (arith, c.if-end-rest.false, c.place_of-end.ensures, place_within 44 rest) in
     let left : c.split_at-in-zones.result.1.now ≡ drop (place 44 rest + 1) rest = c.split_at-in-zones.ensures.back ∙ ap (λ n. drop (n + 1) rest) c.place_of-end.ensures in
-    let read = zones_more c.args.value.now rest c.zones.zones.items c.in_ok-zone.zone c.zones.invariant.0 within name (sym test.0 ∙ c.if-not-new.false) in
-    (subst (λ (l : List ℕ). ZonesRead c.args.value.now l c.push.new.self.items) (sym left)
-      (subst (λ (z : List (List ℕ)). ZonesRead c.args.value.now (drop (place 44 rest + 1) rest) z) (sym c.in_ok-push.ensures.items) read),
-     subst (HasNames c.is_new_zone.new.seen) (sym c.in_ok-push.ensures.items) (test.1 c.if-not-new.false))
+    let read = zones_more c.args.value.now rest c.zones.zones.items c.in_ok-zone.zone c.zones.invariant.0 within name (sym test.0 ∙ c.if-not-new.false) in (
+      subst (λ (l : List ℕ). ZonesRead c.args.value.now l c.push.new.self.items) (sym left)
+          (subst (λ (z : List (List ℕ)). ZonesRead c.args.value.now (drop (place 44 rest + 1) rest) z) (sym c.in_ok-push.ensures.items) read),
+      subst (HasNames c.is_new_zone.new.seen) (sym c.in_ok-push.ensures.items) (test.1 c.if-not-new.false),
+    )
