@@ -1,4 +1,4 @@
-ghost use Rattle.std.specs.Prelude.{◌≡◌, ◌≤◌, ◌+◌, ◌++◌, [], length, option_to_list, IfOk};
+ghost use Rattle.std.specs.Prelude.{◌≡◌, ◌≤◌, ◌+◌, ◌++◌, [], length, take, option_to_list, IfOk, IfSome};
 
 use crate::std_door::StdDoor;
 use searchd_top::{Host, Stream};
@@ -56,7 +56,7 @@ impl<R: Files> Host for RealHost<R> {
     ghost faults = { λ host. host.faults };
 
     fn read_text(&mut self, path: &str, limit: u32) -> Result<Vec<u8>, OpenFault> {
-        match read_front(self.alloc, &self.files, path, limit) {
+        match read_file(self.alloc, &self.files, path, limit) {
             Ok(bytes) => Ok(bytes),
             Err(error) if error.kind() == ErrorKind::OutOfMemory => Err(OpenFault::NoMemory),
             Err(_) => {
@@ -105,19 +105,22 @@ impl<R: Files> Host for RealHost<R> {
 }
 
 /// The first `limit + 1` bytes of a file, or all of a shorter one.
-fn read_front<R: Files>(alloc: Global, files: &R, path: &str, limit: u32) -> io::Result<Vec<u8>>
+fn read_file<R: Files>(alloc: Global, files: &R, path: &str, limit: u32) -> io::Result<Vec<u8>>
     ensures { IfOk result (λ bytes. length bytes.items ≤ limit + 1) }
 {
-    let mut file = fs::open(files, path)?;
-    let mut bytes = vec![in alloc; 0; limit as usize + 1]?;
-    let mut at = 0;
-    'reading: for _ in 0..=limit {
-        let count = file.read(&mut bytes[at..])?;
-        if count == 0 {
-            break;
-        }
-        at += count;
-    }
-    bytes.truncate(at);
+    let file = fs::open(files, path)?;
+    read_front(alloc, file, limit)
+}
+
+/// The first `limit + 1` bytes that a reader gives, or all of fewer.
+fn read_front<T: Read + Drop>(alloc: Global, reader: T, limit: u32) -> io::Result<Vec<u8>>
+    ensures bound { IfOk result (λ bytes. length bytes.items ≤ limit + 1) }
+    ensures bytes { IfOk result (λ bytes. IfSome (T.remaining reader) (λ all. bytes.items ≡ take (limit + 1) all)) }
+{
+    let most = u64::from(limit) + 1;
+    let mut bytes = Vec::new(alloc);
+    let mut front = reader.take(most);
+    front.read_to_end(&mut bytes)?;
+    bytes.truncate(most as usize);
     Ok(bytes)
 }
