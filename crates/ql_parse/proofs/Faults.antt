@@ -3,24 +3,24 @@ use Rattle.std.proofs.Common.{arith, ◌≡◌, ◌≤◌, ◌+◌, ℕ, suc, le
 use Rattle.std.proofs.lemmas.List.{append_cancel_right}
 use Rattle.ql_lex.specs.declared.token.Sign.TheVariants as signs
 use Rattle.ql_lex.specs.Tokens.{Lexeme}
-use Rattle.ql_parse.specs.declared.fault.ParseKind.TheVariants.{Syntax, TooMany}
-use Rattle.ql_parse.specs.declared.parsing.TheConstants.{MAX_STATEMENTS}
-use Rattle.ql_parse.specs.Tokens.{kind, first_place}
-use Rattle.ql_parse.specs.Classes.{the_end}
-use Rattle.ql_parse.specs.Language.{one, In}
-use Rattle.ql_parse.specs.Grammar.{packet, statement}
-use Rattle.ql_parse.specs.Parts.{IsSign}
-use Rattle.ql_parse.specs.Packets.{IsPacket, BeginsLong, BeginsPacket, IsFault}
+use Rattle.ql_grammar.specs.declared.fault.ParseKind.TheVariants.{Syntax, TooMany}
+use Rattle.ql_grammar.specs.declared.statement.TheConstants.{MAX_STATEMENTS}
+use Rattle.ql_grammar.specs.Tokens.{kind, first_place}
+use Rattle.ql_grammar.specs.Classes.{the_end}
+use Rattle.ql_grammar.specs.Language.{one, In}
+use Rattle.ql_grammar.specs.Grammar.{packet, statement}
+use Rattle.ql_grammar.specs.Parts.{IsSign}
+use Rattle.ql_grammar.specs.Packets.{IsPacket, BeginsLong, BeginsPacket, IsFault}
 use Rattle.ql_parse.specs.PacketReading.{LeavesPackets, IsTooLong}
-use Rattle.ql_parse.specs.Progress.{begins}
-use Rattle.ql_parse.specs.Statements.{IsStatement}
-use Rattle.ql_parse.proofs.Lookahead.{begins_some}
-use Rattle.ql_parse.proofs.PacketAgreement.{agree_end, packet_text, packet_value}
+use Rattle.ql_grammar.specs.Firsts.{begins}
+use Rattle.ql_grammar.specs.Statements.{IsStatement}
+use Rattle.ql_parts.proofs.Lookahead.{begins_some}
+use Rattle.ql_grammar.proofs.PacketAgreement.{agree_end, packet_text, packet_value}
 use Rattle.ql_parse.proofs.PacketSteps.{start_begins}
-use Rattle.ql_parse.proofs.Samples.{some_text}
-use Rattle.ql_parse.proofs.StatementAgreement.{statement_agrees}
-use Rattle.ql_parse.proofs.Steps.{listed_last}
-use Rattle.ql_parse.proofs.Verdicts.{Leaving, verdict_some}
+use Rattle.ql_grammar.proofs.Samples.{some_text}
+use Rattle.ql_grammar.proofs.StatementAgreement.{statement_agrees}
+use Rattle.ql_parts.proofs.Steps.{listed_last}
+use Rattle.ql_grammar.proofs.Verdicts.{Leaving, verdict_some}
 
 -- one token, and then others
 behind_one : (front : List Lexeme) (next : Lexeme) (b : List Lexeme) → (front ++ next ∷ []) ++ b ≡ front ++ next ∷ b

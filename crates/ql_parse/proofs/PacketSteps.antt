@@ -8,28 +8,31 @@ use Rattle.srch_base.specs.declared.faults.Or.{Or}
 use Rattle.srch_base.specs.declared.faults.Or.TheVariants.{Fault}
 use Rattle.ql_lex.specs.declared.token.Sign.TheVariants as signs
 use Rattle.ql_lex.specs.Tokens.{Lexeme}
-use Rattle.ql_parse.specs.declared.keyword.Keyword.{Keyword}
-use Rattle.ql_parse.specs.declared.keyword.Keyword.TheVariants as keywords
-use Rattle.ql_parse.specs.declared.kind.Kind.{Kind}
-use Rattle.ql_parse.specs.declared.kind.Kind.TheVariants as kinds
-use Rattle.ql_parse.specs.declared.parsing.TheConstants.{MAX_STATEMENTS}
-use Rattle.ql_parse.specs.declared.statement.Statement.{Statement}
-use Rattle.ql_parse.specs.Keywords.{begins_statement}
-use Rattle.ql_parse.specs.Tokens.{kind, first_place}
-use Rattle.ql_parse.specs.Classes.{the_sign, the_end, fits}
-use Rattle.ql_parse.specs.Language.{Re, one, seq, alt, In, nullable, after, next, verdict}
-use Rattle.ql_parse.specs.Grammar.{more_statements, statement}
-use Rattle.ql_parse.specs.Parts.{IsSign}
-use Rattle.ql_parse.specs.Packets.{IsPacket}
+use Rattle.ql_grammar.specs.declared.keyword.Keyword.{Keyword}
+use Rattle.ql_grammar.specs.declared.keyword.Keyword.TheVariants as keywords
+use Rattle.ql_grammar.specs.declared.kind.Kind.{Kind}
+use Rattle.ql_grammar.specs.declared.kind.Kind.TheVariants as kinds
+use Rattle.ql_grammar.specs.declared.statement.TheConstants.{MAX_STATEMENTS}
+use Rattle.ql_grammar.specs.declared.statement.Statement.{Statement}
+use Rattle.ql_grammar.specs.Keywords.{begins_statement}
+use Rattle.ql_grammar.specs.Tokens.{kind, first_place}
+use Rattle.ql_grammar.specs.Classes.{the_sign, the_end, fits}
+use Rattle.ql_grammar.specs.Language.{Re, one, seq, alt, In, nullable, after, next, verdict}
+use Rattle.ql_grammar.specs.Grammar.{more_statements, statement}
+use Rattle.ql_grammar.specs.Parts.{IsSign}
+use Rattle.ql_grammar.specs.Packets.{IsPacket}
 use Rattle.ql_parse.specs.PacketReading.{LeavesPackets, IsTooLong, ReadsPacket, StatementsRead}
-use Rattle.ql_parse.specs.Progress.{apart, begins, is_start, Takes, Fails, IsNextOf, IsStart}
-use Rattle.ql_parse.specs.Selecting.{select_goes_on}
-use Rattle.ql_parse.specs.Statements.{IsStatement}
-use Rattle.ql_parse.proofs.Apart.{begins_no}
-use Rattle.ql_parse.proofs.Laws.{InAny, after_to}
-use Rattle.ql_parse.proofs.Samples.{some_text}
-use Rattle.ql_parse.proofs.Steps.{listed_last, end_is, clash, kind_next}
-use Rattle.ql_parse.proofs.Verdicts.{verdict_begun}
+use Rattle.ql_grammar.specs.Firsts.{apart, begins}
+use Rattle.ql_parts.specs.Progress.{is_start, Takes, Fails, IsNextOf, IsStart}
+use Rattle.ql_grammar.specs.GoingOn.{select_goes_on}
+use Rattle.ql_grammar.specs.Statements.{IsStatement}
+use Rattle.ql_grammar.proofs.Apart.{begins_no}
+use Rattle.ql_grammar.proofs.Laws.{InAny, after_to}
+use Rattle.ql_grammar.proofs.Samples.{some_text}
+use Rattle.ql_parts.proofs.Steps.{listed_last, kind_next}
+use Rattle.ql_grammar.proofs.ClassKinds.{end_is}
+use Rattle.ql_grammar.proofs.Apart.{clash}
+use Rattle.ql_grammar.proofs.Verdicts.{verdict_begun}
 
 -- what follows a statement isn't taken for a part of it
 apart_more : (n : ℕ) → apart select_goes_on (more_statements n) ≡ true

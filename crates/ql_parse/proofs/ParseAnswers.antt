@@ -4,7 +4,7 @@ use Rattle.std.specs.Prelude.{Err}
 use Rattle.srch_base.specs.declared.faults.Or.{Or}
 use Rattle.srch_base.specs.declared.faults.Or.TheVariants.{NoMemory, Fault}
 use Rattle.ql_lex.specs.Tokens.{Lexeme}
-use Rattle.ql_parse.specs.Packets.{Parses}
+use Rattle.ql_grammar.specs.Packets.{Parses}
 use Rattle.ql_parse.specs.PacketReading.{LeavesPackets, syntax_error}
 use Rattle.ql_parse.proofs.Faults.{syntax_fault}
 

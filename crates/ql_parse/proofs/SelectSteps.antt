@@ -1,35 +1,25 @@
 -- What the readers of a SELECT make of its parts, beside the steps of all readers.
 use Rattle.std.proofs.Common.{◌≡◌, List, [], ◌∷◌, ◌++◌, Bool, true, false, Option, Some, None, inl, inr, refl, sym, ◌∙◌, ap, subst, append_assoc, append-nil}
-use Rattle.std.specs.Prelude.{ℕ, ℤ, ◌||◌}
-use Rattle.std.proofs.Math.Facts.{to_z-of_z}
-use mir.Syntax.{w128}
-use mir.Val.{SFits, of_z, to_z}
+use Rattle.std.specs.Prelude.{ℕ, ◌||◌}
 use Rattle.srch_base.specs.declared.faults.Or.{Or}
 use Rattle.ql_lex.specs.Tokens.{Lexeme}
-use Rattle.ql_parse.specs.declared.keyword.Keyword.TheVariants as keywords
-use Rattle.ql_parse.specs.declared.kind.Kind.{Kind}
-use Rattle.ql_parse.specs.declared.kind.Kind.TheVariants as kinds
-use Rattle.ql_parse.specs.declared.select.Comparison.{Comparison}
-use Rattle.ql_parse.specs.declared.select.Comparison.TheVariants as comparisons
-use Rattle.ql_parse.specs.Tokens.{kind, first_kind}
-use Rattle.ql_parse.specs.Classes.{Class, the_word, any_name, the_sign, a_comparison, fits}
-use Rattle.ql_parse.specs.Language.{Re, seq, many}
-use Rattle.ql_parse.specs.Grammar.{word, optional, whole, comparison, alias, direction}
-use Rattle.ql_parse.specs.Parts.{◌then◌, IsWord, IsWhole, IsPerhaps, AreGiven, AreInRow}
-use Rattle.ql_parse.specs.Progress.{fits_some, begun, may_follow, Takes, Fails, IsNext, IsNextOf, TakesRow}
-use Rattle.ql_parse.specs.Selects.{comparison_sign, IsComparison}
+use Rattle.ql_grammar.specs.declared.keyword.Keyword.TheVariants as keywords
+use Rattle.ql_grammar.specs.declared.kind.Kind.{Kind}
+use Rattle.ql_grammar.specs.declared.select.Comparison.{Comparison}
+use Rattle.ql_grammar.specs.Tokens.{kind, first_kind}
+use Rattle.ql_grammar.specs.Classes.{Class, the_word, any_name, the_sign, a_comparison, fits}
+use Rattle.ql_grammar.specs.Language.{Re, seq, many}
+use Rattle.ql_grammar.specs.Grammar.{word, optional, comparison, alias, direction}
+use Rattle.ql_grammar.specs.Parts.{IsWord, IsPerhaps, AreGiven, AreInRow}
+use Rattle.ql_grammar.specs.Firsts.{fits_some, begun, may_follow}
+use Rattle.ql_parts.specs.Progress.{Takes, Fails, IsNext, IsNextOf, TakesRow}
+use Rattle.ql_grammar.specs.Selects.{comparison_sign, IsComparison}
 use Rattle.ql_parse.specs.Selecting.{IsNextComparison}
-use Rattle.ql_parse.proofs.Steps.{apart_rest, begun_misses, ended_at, kind_next, more_at, optional_else, optional_if, or_left, sign_is, takes_as, takes_next, takes_nothing}
+use Rattle.ql_parts.proofs.Steps.{apart_rest, begun_misses, ended_at, kind_next, more_at, optional_else, optional_if, or_left, takes_as, takes_next, takes_nothing}
+use Rattle.ql_grammar.proofs.ClassKinds.{sign_is}
+use Rattle.ql_grammar.proofs.SelectAgreement.{sign_compares}
 
 -- A comparison.
-pub sign_compares : (op : Comparison) → fits a_comparison (kinds.Sign (comparison_sign op)) ≡ true
-sign_compares comparisons.Equal = refl
-sign_compares comparisons.NotEqual = refl
-sign_compares comparisons.Less = refl
-sign_compares comparisons.Greater = refl
-sign_compares comparisons.AtMost = refl
-sign_compares comparisons.AtLeast = refl
-
 compared_some : {o : Option Comparison} {op : Comparison} {before : List Lexeme} → IsNextComparison o before → o ≡ Some op → IsNextOf (the_sign (comparison_sign op)) before true
 compared_some {o} {op} {before} h is = subst (λ (x : Option Comparison). IsNextComparison x before) is h
 
@@ -58,16 +48,6 @@ none_given {A} Are is = subst (λ (ys : List A). AreGiven Are ys []) (sym is) re
 -- What is said of the next token holds where nothing was taken.
 pub next_there : {c : Class} {answer : Bool} {before there : List Lexeme} → there ≡ before → IsNextOf c there answer → IsNextOf c before answer
 next_there {c} {answer} same n = subst (λ u. IsNextOf c u answer) same n
-
--- A signed number that is put into a value.
-pub whole_kept : {cs : List Class} {before now : List Lexeme} {z : ℤ} → SFits w128 z → Takes whole cs (IsWhole z) before now → Takes whole cs (IsWhole (to_z w128 (of_z w128 z))) before now
-whole_kept {cs} {before} {now} fits h = subst (λ (y : ℤ). Takes whole cs (IsWhole y) before now) (sym (to_z-of_z fits)) h
-
--- two of them, of a BETWEEN
-pub between_kept : {r : Re} {cs : List Class} {before now : List Lexeme} {low high : ℤ} → SFits w128 low → SFits w128 high → Takes r cs (IsWord keywords.Between then IsWhole low then IsWord keywords.And then IsWhole high) before now → Takes r cs (IsWord keywords.Between then IsWhole (to_z w128 (of_z w128 low)) then IsWord keywords.And then IsWhole (to_z w128 (of_z w128 high))) before now
-between_kept {r} {cs} {before} {now} {low} {high} first second h =
-    subst (λ (y : ℤ). Takes r cs (IsWord keywords.Between then IsWhole y then IsWord keywords.And then IsWhole (to_z w128 (of_z w128 high))) before now) (sym (to_z-of_z first))
-    (subst (λ (y : ℤ). Takes r cs (IsWord keywords.Between then IsWhole low then IsWord keywords.And then IsWhole y) before now) (sym (to_z-of_z second)) h)
 
 -- An alias: AS, or none.
 pub as_taken : {before now : List Lexeme} → IsNextOf (the_word keywords.As) before true → Takes (word keywords.As) [] (IsWord keywords.As) before now → Takes (optional (word keywords.As)) (the_word keywords.As ∷ []) (IsPerhaps (IsWord keywords.As)) before now

@@ -1,11 +1,11 @@
 -- The tokens of statements, put together.
 use Rattle.std.proofs.Common.{List}
 use Rattle.ql_lex.specs.Tokens.{Lexeme}
-use Rattle.ql_parse.specs.declared.keyword.Keyword.TheVariants as keywords
-use Rattle.ql_parse.specs.declared.statement.Statement.{Statement}
-use Rattle.ql_parse.specs.declared.statement.Statement.TheVariants as statements
-use Rattle.ql_parse.specs.Parts.{◌then◌, IsWord}
-use Rattle.ql_parse.specs.Statements.{IsSelection, IsSetRest, IsShown, IsStatement}
+use Rattle.ql_grammar.specs.declared.keyword.Keyword.TheVariants as keywords
+use Rattle.ql_grammar.specs.declared.statement.Statement.{Statement}
+use Rattle.ql_grammar.specs.declared.statement.Statement.TheVariants as statements
+use Rattle.ql_grammar.specs.Parts.{◌then◌, IsWord}
+use Rattle.ql_grammar.specs.Statements.{IsSelection, IsSetRest, IsShown, IsStatement}
 
 pub set_is : (s : Statement) (u : List Lexeme) → (IsWord keywords.Set then IsSetRest s) u → IsStatement s u
 set_is (statements.Select a0) u (a, b, e, p, q) = absurd q

@@ -1,13 +1,23 @@
--- A whole number is kept as it is handed on.
-use Rattle.std.proofs.Common.{arith, ◌≡◌, List, sym, subst}
+-- Whole numbers are kept as they are handed on.
+use Rattle.std.proofs.Common.{List, sym, subst}
 use Rattle.std.specs.Prelude.{ℤ}
-use Rattle.std.proofs.lemmas.Int.{ints}
+use Rattle.std.proofs.Math.Facts.{to_z-of_z}
 use mir.Syntax.{w128}
-use mir.Val.{to_z, of_z, SFits}
+use mir.Val.{SFits, of_z, to_z}
 use Rattle.ql_lex.specs.Tokens.{Lexeme}
-use Rattle.ql_parse.specs.Parts.{IsWhole}
+use Rattle.ql_grammar.specs.declared.keyword.Keyword.TheVariants as keywords
+use Rattle.ql_grammar.specs.Classes.{Class}
+use Rattle.ql_grammar.specs.Language.{Re}
+use Rattle.ql_grammar.specs.Grammar.{whole}
+use Rattle.ql_grammar.specs.Parts.{◌then◌, IsWord, IsWhole}
+use Rattle.ql_parts.specs.Progress.{Takes}
 
-pub whole_kept : (z : ℤ) → SFits w128 z → (u : List Lexeme) → IsWhole z u → IsWhole (to_z w128 (of_z w128 z)) u
-whole_kept z fits u h =
-    let same : to_z w128 (of_z w128 z) ≡ z = omega (arith, ints) in
-    subst (λ (y : ℤ). IsWhole y u) (sym same) h
+-- A signed number that is put into a value.
+pub whole_kept : {cs : List Class} {before now : List Lexeme} {z : ℤ} → SFits w128 z → Takes whole cs (IsWhole z) before now → Takes whole cs (IsWhole (to_z w128 (of_z w128 z))) before now
+whole_kept {cs} {before} {now} fits h = subst (λ (y : ℤ). Takes whole cs (IsWhole y) before now) (sym (to_z-of_z fits)) h
+
+-- two of them, of a BETWEEN
+pub between_kept : {r : Re} {cs : List Class} {before now : List Lexeme} {low high : ℤ} → SFits w128 low → SFits w128 high → Takes r cs (IsWord keywords.Between then IsWhole low then IsWord keywords.And then IsWhole high) before now → Takes r cs (IsWord keywords.Between then IsWhole (to_z w128 (of_z w128 low)) then IsWord keywords.And then IsWhole (to_z w128 (of_z w128 high))) before now
+between_kept {r} {cs} {before} {now} {low} {high} first second h =
+    subst (λ (y : ℤ). Takes r cs (IsWord keywords.Between then IsWhole y then IsWord keywords.And then IsWhole (to_z w128 (of_z w128 high))) before now) (sym (to_z-of_z first))
+    (subst (λ (y : ℤ). Takes r cs (IsWord keywords.Between then IsWhole low then IsWord keywords.And then IsWhole y) before now) (sym (to_z-of_z second)) h)

@@ -4,17 +4,17 @@ use Rattle.srch_base.specs.declared.faults.Or.{Or}
 use Rattle.srch_base.specs.declared.faults.Or.TheVariants.{NoMemory, Fault}
 use Rattle.ql_lex.specs.declared.token.Sign.TheVariants as signs
 use Rattle.ql_lex.specs.Tokens.{Lexeme}
-use Rattle.ql_parse.specs.declared.fault.ParseFault.{ParseFault}
-use Rattle.ql_parse.specs.declared.fault.ParseKind.TheVariants.{Syntax}
-use Rattle.ql_parse.specs.declared.parsing.TheConstants.{MAX_STATEMENTS}
-use Rattle.ql_parse.specs.declared.statement.Statement.{Statement}
-use Rattle.ql_parse.specs.Grammar.{more_statements, packet}
-use Rattle.ql_parse.specs.Language.{verdict}
-use Rattle.ql_parse.specs.Packets.{IsPacket}
-use Rattle.ql_parse.specs.Parts.{AreListed, IsSign}
-use Rattle.ql_parse.specs.Progress.{IsStart}
-use Rattle.ql_parse.specs.Statements.{IsStatement}
-use Rattle.ql_parse.specs.Tokens.{first_place}
+use Rattle.ql_grammar.specs.declared.fault.ParseFault.{ParseFault}
+use Rattle.ql_grammar.specs.declared.fault.ParseKind.TheVariants.{Syntax}
+use Rattle.ql_grammar.specs.declared.statement.TheConstants.{MAX_STATEMENTS}
+use Rattle.ql_grammar.specs.declared.statement.Statement.{Statement}
+use Rattle.ql_grammar.specs.Grammar.{more_statements, packet}
+use Rattle.ql_grammar.specs.Language.{verdict}
+use Rattle.ql_grammar.specs.Packets.{IsPacket}
+use Rattle.ql_grammar.specs.Parts.{AreListed, IsSign}
+use Rattle.ql_parts.specs.Progress.{IsStart}
+use Rattle.ql_grammar.specs.Statements.{IsStatement}
+use Rattle.ql_grammar.specs.Tokens.{first_place}
 
 -- The tokens leave the packets at this place, however many statements more than are allowed these may have.
 pub record LeavesPackets (tokens : List Lexeme) (place : ℕ) : Type 0 where

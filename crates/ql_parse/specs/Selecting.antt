@@ -1,36 +1,12 @@
--- What the readers of a SELECT say beside its tokens.
-use Rattle.std.specs.Prelude.{true, false, List, [], ◌∷◌, Option, Some, None}
-use Rattle.ql_lex.specs.declared.token.Sign.TheVariants as signs
+-- What the reader of a comparison says of the next token.
+use Rattle.std.specs.Prelude.{true, false, List, Option, Some, None}
 use Rattle.ql_lex.specs.Tokens.{Lexeme}
-use Rattle.ql_parse.specs.declared.keyword.Keyword.TheVariants as keywords
-use Rattle.ql_parse.specs.declared.select.Comparison.{Comparison}
-use Rattle.ql_parse.specs.Classes.{Class, the_word, any_name, the_sign, a_comparison}
-use Rattle.ql_parse.specs.Progress.{IsNextOf}
-use Rattle.ql_parse.specs.Selects.{comparison_sign}
+use Rattle.ql_grammar.specs.declared.select.Comparison.{Comparison}
+use Rattle.ql_grammar.specs.Classes.{the_sign, a_comparison}
+use Rattle.ql_parts.specs.Progress.{IsNextOf}
+use Rattle.ql_grammar.specs.Selects.{comparison_sign}
 
 -- the comparison that the next token is
 abbrev pub IsNextComparison : Option Comparison → List Lexeme → Type 0
 IsNextComparison None tokens = IsNextOf a_comparison tokens false
 IsNextComparison (Some op) tokens = IsNextOf (the_sign (comparison_sign op)) tokens true
-
--- the tokens with which an item may go on
-abbrev pub item_goes_on : List Class
-item_goes_on = the_sign signs.OpenParen ∷ the_word keywords.As ∷ any_name ∷ []
-
--- .. a sort key
-abbrev pub key_goes_on : List Class
-key_goes_on = the_sign signs.OpenParen ∷ the_word keywords.Asc ∷ the_word keywords.Desc ∷ []
-
--- .. a LIMIT, or where none is
-abbrev pub limit_goes_on : List Class
-limit_goes_on = the_word keywords.Limit ∷ the_sign signs.Comma ∷ []
-
--- .. a facet
-abbrev pub facet_goes_on : List Class
-facet_goes_on = the_word keywords.Order ∷ the_sign signs.OpenParen ∷ the_word keywords.Asc ∷ the_word keywords.Desc ∷ limit_goes_on
-
--- .. a SELECT from an index
-abbrev pub select_goes_on : List Class
-select_goes_on =
-    the_word keywords.Where ∷ the_word keywords.And ∷ the_word keywords.Group ∷ the_word keywords.Within ∷ the_word keywords.Having
-    ∷ the_word keywords.Option ∷ the_word keywords.Facet ∷ facet_goes_on

@@ -1,16 +1,15 @@
 ghost use Rattle.std.specs.Prelude.{◌≡◌, [], ◌∷◌};
 ghost use Rattle.ql_lex.specs.declared.token.Sign.TheVariants as signs;
-ghost use Rattle.ql_parse.specs.declared.keyword.Keyword.TheVariants as keywords;
-ghost use Rattle.ql_parse.specs.Classes.{the_sign};
-ghost use Rattle.ql_parse.specs.Grammar.{◌⨾◌, count, counted, enclosed, expr, name, parens, word};
-ghost use Rattle.ql_parse.specs.Parts.{◌then◌, AreParens, IsEnclosed, IsName, IsWord};
-ghost use Rattle.ql_parse.specs.Progress.{Reads};
-ghost use Rattle.ql_parse.specs.Selects.{IsCount, IsCounted, IsExpr, count_expr};
+ghost use Rattle.ql_grammar.specs.declared.keyword.Keyword.TheVariants as keywords;
+ghost use Rattle.ql_grammar.specs.Classes.{the_sign};
+ghost use Rattle.ql_grammar.specs.Grammar.{◌⨾◌, count, counted, enclosed, expr, name, parens, word};
+ghost use Rattle.ql_grammar.specs.Parts.{◌then◌, AreParens, IsEnclosed, IsName, IsWord};
+ghost use Rattle.ql_parts.specs.Progress.{Reads};
+ghost use Rattle.ql_grammar.specs.Selects.{IsCount, IsCounted, IsExpr, count_expr};
 
-use crate::Keyword;
-use crate::cursor::Cursor;
-use crate::select::SelectExpr;
+use ql_grammar::{Keyword, SelectExpr};
 use ql_lex::Sign;
+use ql_parts::Cursor;
 use srch_base::{Name, Or};
 use std::alloc::Global;
 

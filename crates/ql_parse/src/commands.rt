@@ -1,12 +1,11 @@
 ghost use Rattle.std.specs.Prelude.{[]};
-ghost use Rattle.ql_parse.specs.declared.keyword.Keyword.TheVariants as keywords;
-ghost use Rattle.ql_parse.specs.Grammar.{◌⨾◌, flush, name, show, shown, word, words};
-ghost use Rattle.ql_parse.specs.Progress.{Reads};
-ghost use Rattle.ql_parse.specs.Statements.{IsShown, IsStatement};
+ghost use Rattle.ql_grammar.specs.declared.keyword.Keyword.TheVariants as keywords;
+ghost use Rattle.ql_grammar.specs.Grammar.{◌⨾◌, flush, name, show, shown, word, words};
+ghost use Rattle.ql_parts.specs.Progress.{Reads};
+ghost use Rattle.ql_grammar.specs.Statements.{IsShown, IsStatement};
 
-use crate::Keyword;
-use crate::cursor::Cursor;
-use crate::statement::Statement;
+use ql_grammar::{Keyword, Statement};
+use ql_parts::Cursor;
 use srch_base::Or;
 use std::alloc::Global;
 

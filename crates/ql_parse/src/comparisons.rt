@@ -1,13 +1,12 @@
 ghost use Rattle.std.specs.Prelude.{[]};
-ghost use Rattle.ql_parse.specs.Grammar.{comparison};
-ghost use Rattle.ql_parse.specs.Progress.{Reads};
+ghost use Rattle.ql_grammar.specs.Grammar.{comparison};
+ghost use Rattle.ql_parts.specs.Progress.{Reads};
 ghost use Rattle.ql_parse.specs.Selecting.{IsNextComparison};
-ghost use Rattle.ql_parse.specs.Selects.{IsComparison};
+ghost use Rattle.ql_grammar.specs.Selects.{IsComparison};
 
-use crate::Kind;
-use crate::cursor::Cursor;
-use crate::select::Comparison;
+use ql_grammar::{Comparison, Kind};
 use ql_lex::Sign;
+use ql_parts::Cursor;
 use srch_base::Or;
 
 /// The comparison that is next.

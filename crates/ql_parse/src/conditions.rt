@@ -1,17 +1,15 @@
 ghost use Rattle.std.specs.Prelude.{[], ◌∷◌};
-ghost use Rattle.ql_parse.specs.declared.keyword.Keyword.TheVariants as keywords;
-ghost use Rattle.ql_parse.specs.Classes.{the_word};
-ghost use Rattle.ql_parse.specs.Grammar.{◌⨾◌, word, text, enclosed, listed, whole, wholes, cond, conds};
-ghost use Rattle.ql_parse.specs.Parts.{◌then◌, IsWord, IsComma, IsText, IsWhole, IsEnclosed, AreListed, AreGiven};
-ghost use Rattle.ql_parse.specs.Progress.{Reads};
-ghost use Rattle.ql_parse.specs.Selects.{IsCond, AreConds};
+ghost use Rattle.ql_grammar.specs.declared.keyword.Keyword.TheVariants as keywords;
+ghost use Rattle.ql_grammar.specs.Classes.{the_word};
+ghost use Rattle.ql_grammar.specs.Grammar.{◌⨾◌, word, text, enclosed, listed, whole, wholes, cond, conds};
+ghost use Rattle.ql_grammar.specs.Parts.{◌then◌, IsWord, IsComma, IsText, IsWhole, IsEnclosed, AreListed, AreGiven};
+ghost use Rattle.ql_parts.specs.Progress.{Reads};
+ghost use Rattle.ql_grammar.specs.Selects.{IsCond, AreConds};
 
-use crate::Keyword;
 use crate::comparisons::comparison;
-use crate::cursor::Cursor;
-use crate::part::{Part, Whole, enclosed};
-use crate::select::Cond;
+use ql_grammar::{Cond, Keyword};
 use ql_lex::Sign;
+use ql_parts::{Cursor, Part, Whole, enclosed};
 use srch_base::{Items, Or, Text};
 use std::alloc::Global;
 

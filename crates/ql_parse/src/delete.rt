@@ -1,13 +1,11 @@
 ghost use Rattle.std.specs.Prelude.{[]};
-ghost use Rattle.ql_parse.specs.Grammar.{ids, delete};
-ghost use Rattle.ql_parse.specs.Progress.{Reads};
-ghost use Rattle.ql_parse.specs.Statements.{AreIds, IsStatement};
+ghost use Rattle.ql_grammar.specs.Grammar.{ids, delete};
+ghost use Rattle.ql_parts.specs.Progress.{Reads};
+ghost use Rattle.ql_grammar.specs.Statements.{AreIds, IsStatement};
 
-use crate::Keyword;
-use crate::cursor::Cursor;
-use crate::part::{Number, enclosed};
-use crate::statement::{Ids, Statement};
+use ql_grammar::{Ids, Keyword, Statement};
 use ql_lex::Sign;
+use ql_parts::{Cursor, Number, enclosed};
 use srch_base::Or;
 use std::alloc::Global;
 

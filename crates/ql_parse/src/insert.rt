@@ -1,17 +1,15 @@
 ghost use Rattle.std.specs.Prelude.{[], ◌∷◌};
 ghost use Rattle.ql_lex.specs.declared.token.Sign.TheVariants as signs;
-ghost use Rattle.ql_parse.specs.declared.keyword.Keyword.TheVariants as keywords;
-ghost use Rattle.ql_parse.specs.Classes.{the_sign};
-ghost use Rattle.ql_parse.specs.Grammar.{◌∣◌, comma, enclosed, insert, listed, name, optional, row, val, word};
-ghost use Rattle.ql_parse.specs.Parts.{IsGiven};
-ghost use Rattle.ql_parse.specs.Progress.{Reads};
-ghost use Rattle.ql_parse.specs.Statements.{AreColumns, IsPut, IsRow, IsStatement, IsVal};
+ghost use Rattle.ql_grammar.specs.declared.keyword.Keyword.TheVariants as keywords;
+ghost use Rattle.ql_grammar.specs.Classes.{the_sign};
+ghost use Rattle.ql_grammar.specs.Grammar.{◌∣◌, comma, enclosed, insert, listed, name, optional, row, val, word};
+ghost use Rattle.ql_grammar.specs.Parts.{IsGiven};
+ghost use Rattle.ql_parts.specs.Progress.{Reads};
+ghost use Rattle.ql_grammar.specs.Statements.{AreColumns, IsPut, IsRow, IsStatement, IsVal};
 
-use crate::Keyword;
-use crate::cursor::Cursor;
-use crate::part::{AnyName, Part, Whole, enclosed, listed};
-use crate::statement::{Statement, Val};
+use ql_grammar::{Keyword, Statement, Val};
 use ql_lex::Sign;
+use ql_parts::{AnyName, Cursor, Part, Whole, enclosed, listed};
 use srch_base::{Items, Name, Or};
 use std::alloc::Global;
 

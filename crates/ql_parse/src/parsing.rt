@@ -1,19 +1,15 @@
 ghost use Rattle.std.specs.Prelude.{◌≡◌};
 ghost use Rattle.ql_lex.specs.Tokens.{AreLexemes};
-ghost use Rattle.ql_parse.specs.Packets.{Parses};
+ghost use Rattle.ql_grammar.specs.Packets.{Parses};
 ghost use Rattle.ql_parse.specs.PacketReading.{ReadsPacket, syntax_error};
-ghost use Rattle.ql_parse.specs.Tokens.{lexemes};
+ghost use Rattle.ql_grammar.specs.Tokens.{lexemes};
 
-use crate::cursor::Cursor;
-use crate::fault::{ParseFault, ParseKind};
-use crate::statement::Statement;
 use crate::statements::statement;
+use ql_grammar::{MAX_STATEMENTS, ParseFault, ParseKind, Statement};
 use ql_lex::{Sign, Token};
+use ql_parts::Cursor;
 use srch_base::{Items, Or};
 use std::alloc::Global;
-
-/// The most statements of a packet.
-pub const MAX_STATEMENTS: usize = 32;
 
 /// Reads statements with `;` between them up to the end; none, where one more begins than are allowed.
 fn packet(alloc: Global, input: &mut Cursor<'_>) -> Result<Option<Items<Statement>>, Or<u32>>

@@ -1,19 +1,17 @@
 ghost use Rattle.std.specs.Prelude.{[], ◌∷◌};
 ghost use Rattle.ql_lex.specs.declared.token.Sign.TheVariants as signs;
-ghost use Rattle.ql_parse.specs.declared.keyword.Keyword.TheVariants as keywords;
-ghost use Rattle.ql_parse.specs.Classes.{the_word, any_name, the_sign};
-ghost use Rattle.ql_parse.specs.Grammar.{optional, alias, item};
-ghost use Rattle.ql_parse.specs.Parts.{IsGiven};
-ghost use Rattle.ql_parse.specs.Progress.{Reads};
-ghost use Rattle.ql_parse.specs.Selecting.{item_goes_on};
-ghost use Rattle.ql_parse.specs.Selects.{IsAlias, IsItem};
+ghost use Rattle.ql_grammar.specs.declared.keyword.Keyword.TheVariants as keywords;
+ghost use Rattle.ql_grammar.specs.Classes.{the_word, any_name, the_sign};
+ghost use Rattle.ql_grammar.specs.Grammar.{optional, alias, item};
+ghost use Rattle.ql_grammar.specs.Parts.{IsGiven};
+ghost use Rattle.ql_parts.specs.Progress.{Reads};
+ghost use Rattle.ql_grammar.specs.GoingOn.{item_goes_on};
+ghost use Rattle.ql_grammar.specs.Selects.{IsAlias, IsItem};
 
-use crate::Keyword;
 use crate::calls::expr;
-use crate::cursor::Cursor;
-use crate::part::Part;
-use crate::select::SelectItem;
+use ql_grammar::{Keyword, SelectItem};
 use ql_lex::Sign;
+use ql_parts::{Cursor, Part};
 use srch_base::{Name, Or};
 use std::alloc::Global;
 

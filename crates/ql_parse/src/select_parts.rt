@@ -1,21 +1,19 @@
 ghost use Rattle.std.specs.Prelude.{[], ◌∷◌};
 ghost use Rattle.ql_lex.specs.declared.token.Sign.TheVariants as signs;
-ghost use Rattle.ql_parse.specs.declared.keyword.Keyword.TheVariants as keywords;
-ghost use Rattle.ql_parse.specs.Classes.{the_word, the_sign};
-ghost use Rattle.ql_parse.specs.Grammar.{◌⨾◌, ◌∣◌, name, number, text, comma, listed, enclosed, optional, words, having, having_part, limit, field_weight, option_value, option, options, facet, facet_parts, group_key};
-ghost use Rattle.ql_parse.specs.Language.{one, many};
-ghost use Rattle.ql_parse.specs.Parts.{IsGiven, AreGiven, AreInRow};
-ghost use Rattle.ql_parse.specs.Progress.{Reads};
-ghost use Rattle.ql_parse.specs.Selecting.{key_goes_on, limit_goes_on, facet_goes_on};
-ghost use Rattle.ql_parse.specs.Selects.{IsHaving, IsHavingPart, IsSecond, IsLimit, IsFieldWeight, IsOptionValue, IsOption, AreOptions, IsFacetOrder, IsFacet, IsFaceted};
+ghost use Rattle.ql_grammar.specs.declared.keyword.Keyword.TheVariants as keywords;
+ghost use Rattle.ql_grammar.specs.Classes.{the_word, the_sign};
+ghost use Rattle.ql_grammar.specs.Grammar.{◌⨾◌, ◌∣◌, name, number, text, comma, listed, enclosed, optional, words, having, having_part, limit, field_weight, option_value, option, options, facet, facet_parts, group_key};
+ghost use Rattle.ql_grammar.specs.Language.{one, many};
+ghost use Rattle.ql_grammar.specs.Parts.{IsGiven, AreGiven, AreInRow};
+ghost use Rattle.ql_parts.specs.Progress.{Reads};
+ghost use Rattle.ql_grammar.specs.GoingOn.{key_goes_on, limit_goes_on, facet_goes_on};
+ghost use Rattle.ql_grammar.specs.Selects.{IsHaving, IsHavingPart, IsSecond, IsLimit, IsFieldWeight, IsOptionValue, IsOption, AreOptions, IsFacetOrder, IsFacet, IsFaceted};
 
-use crate::Keyword;
 use crate::comparisons::comparison;
-use crate::cursor::Cursor;
-use crate::part::{Part, Whole, enclosed, listed};
-use crate::select::{FacetPart, Having, LimitPart, OptionValue, SelectOption, SortKey};
 use crate::sorting::{group_key, group_sort};
+use ql_grammar::{FacetPart, Having, Keyword, LimitPart, OptionValue, SelectOption, SortKey};
 use ql_lex::Sign;
+use ql_parts::{Cursor, Part, Whole, enclosed, listed};
 use srch_base::{Items, Name, Or};
 use std::alloc::Global;
 

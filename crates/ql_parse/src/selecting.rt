@@ -1,17 +1,15 @@
-ghost use Rattle.ql_parse.specs.Grammar.{select};
-ghost use Rattle.ql_parse.specs.Progress.{Reads};
-ghost use Rattle.ql_parse.specs.Selecting.{select_goes_on};
-ghost use Rattle.ql_parse.specs.Selects.{IsSelected};
+ghost use Rattle.ql_grammar.specs.Grammar.{select};
+ghost use Rattle.ql_parts.specs.Progress.{Reads};
+ghost use Rattle.ql_grammar.specs.GoingOn.{select_goes_on};
+ghost use Rattle.ql_grammar.specs.Selects.{IsSelected};
 
-use crate::Keyword;
 use crate::conditions::conds;
-use crate::cursor::Cursor;
-use crate::part::listed;
-use crate::select::Select;
 use crate::select_items::Item;
 use crate::select_parts::{facets, having, limit, options};
 use crate::sorting::{group, order, within};
+use ql_grammar::{Keyword, Select};
 use ql_lex::Sign;
+use ql_parts::{Cursor, listed};
 use srch_base::Or;
 use std::alloc::Global;
 

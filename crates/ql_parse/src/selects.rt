@@ -1,17 +1,16 @@
 ghost use Rattle.std.specs.Prelude.{[], ◌∷◌};
-ghost use Rattle.ql_parse.specs.declared.keyword.Keyword.TheVariants as keywords;
-ghost use Rattle.ql_parse.specs.Classes.{the_word};
-ghost use Rattle.ql_parse.specs.Grammar.{◌⨾◌, ◌∣◌, number, optional, select, select_database, select_variable, selects, word};
-ghost use Rattle.ql_parse.specs.Parts.{IsGiven};
-ghost use Rattle.ql_parse.specs.Progress.{Reads};
-ghost use Rattle.ql_parse.specs.Selecting.{select_goes_on};
-ghost use Rattle.ql_parse.specs.Statements.{IsRowLimit, IsSelection, IsStatement};
+ghost use Rattle.ql_grammar.specs.declared.keyword.Keyword.TheVariants as keywords;
+ghost use Rattle.ql_grammar.specs.Classes.{the_word};
+ghost use Rattle.ql_grammar.specs.Grammar.{◌⨾◌, ◌∣◌, number, optional, select, select_database, select_variable, selects, word};
+ghost use Rattle.ql_grammar.specs.Parts.{IsGiven};
+ghost use Rattle.ql_parts.specs.Progress.{Reads};
+ghost use Rattle.ql_grammar.specs.GoingOn.{select_goes_on};
+ghost use Rattle.ql_grammar.specs.Statements.{IsRowLimit, IsSelection, IsStatement};
 
-use crate::Keyword;
-use crate::cursor::Cursor;
 use crate::selecting::select;
-use crate::statement::Statement;
+use ql_grammar::{Keyword, Statement};
 use ql_lex::Sign;
+use ql_parts::Cursor;
 use srch_base::Or;
 use std::alloc::Global;
 

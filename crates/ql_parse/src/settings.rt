@@ -1,13 +1,11 @@
 ghost use Rattle.std.specs.Prelude.{[]};
-ghost use Rattle.ql_parse.specs.Grammar.{◌∣◌, assignment, plain, scoped, set, set_rest, setting, sysvar, target_name};
-ghost use Rattle.ql_parse.specs.Progress.{IsLeading, Reads};
-ghost use Rattle.ql_parse.specs.Statements.{IsAssignment, IsPlain, IsSetRest, IsSetting, IsStatement, IsTarget};
+ghost use Rattle.ql_grammar.specs.Grammar.{◌∣◌, assignment, plain, scoped, set, set_rest, setting, sysvar, target_name};
+ghost use Rattle.ql_parts.specs.Progress.{IsLeading, Reads};
+ghost use Rattle.ql_grammar.specs.Statements.{IsAssignment, IsPlain, IsSetRest, IsSetting, IsStatement, IsTarget};
 
-use crate::Keyword;
-use crate::cursor::Cursor;
-use crate::part::{Part, Whole};
-use crate::statement::{Plain, Scope, SetValue, Statement, Target};
+use ql_grammar::{Keyword, Plain, Scope, SetValue, Statement, Target};
 use ql_lex::Sign;
+use ql_parts::{Cursor, Part, Whole};
 use srch_base::Or;
 use std::alloc::Global;
 

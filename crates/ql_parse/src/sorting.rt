@@ -1,19 +1,17 @@
 ghost use Rattle.std.specs.Prelude.{[], ◌∷◌};
 ghost use Rattle.ql_lex.specs.declared.token.Sign.TheVariants as signs;
-ghost use Rattle.ql_parse.specs.declared.keyword.Keyword.TheVariants as keywords;
-ghost use Rattle.ql_parse.specs.Classes.{the_word, the_sign};
-ghost use Rattle.ql_parse.specs.Grammar.{◌∣◌, name, weight, count, comma, direction, key, inner_key, group_key, group, within, order};
-ghost use Rattle.ql_parse.specs.Parts.{IsGiven, AreGiven};
-ghost use Rattle.ql_parse.specs.Progress.{Reads, Takes};
-ghost use Rattle.ql_parse.specs.Selecting.{key_goes_on};
-ghost use Rattle.ql_parse.specs.Selects.{IsSort, IsInnerSort, IsGroupSort, IsDirection, IsKeyBy, IsGroup, AreInnerKeys, AreKeys};
+ghost use Rattle.ql_grammar.specs.declared.keyword.Keyword.TheVariants as keywords;
+ghost use Rattle.ql_grammar.specs.Classes.{the_word, the_sign};
+ghost use Rattle.ql_grammar.specs.Grammar.{◌∣◌, name, weight, count, comma, direction, key, inner_key, group_key, group, within, order};
+ghost use Rattle.ql_grammar.specs.Parts.{IsGiven, AreGiven};
+ghost use Rattle.ql_parts.specs.Progress.{Reads, Takes};
+ghost use Rattle.ql_grammar.specs.GoingOn.{key_goes_on};
+ghost use Rattle.ql_grammar.specs.Selects.{IsSort, IsInnerSort, IsGroupSort, IsDirection, IsKeyBy, IsGroup, AreInnerKeys, AreKeys};
 
-use crate::Keyword;
 use crate::calls::{count_all, no_argument};
-use crate::cursor::Cursor;
-use crate::part::{Part, listed};
-use crate::select::{SortKey, SortName};
+use ql_grammar::{Keyword, SortKey, SortName};
 use ql_lex::Sign;
+use ql_parts::{Cursor, Part, listed};
 use srch_base::{Items, Name, Or};
 use std::alloc::Global;
 

@@ -1,18 +1,17 @@
-ghost use Rattle.ql_parse.specs.Grammar.{statement};
-ghost use Rattle.ql_parse.specs.Progress.{Reads};
-ghost use Rattle.ql_parse.specs.Selecting.{select_goes_on};
-ghost use Rattle.ql_parse.specs.Statements.{IsStatement};
+ghost use Rattle.ql_grammar.specs.Grammar.{statement};
+ghost use Rattle.ql_parts.specs.Progress.{Reads};
+ghost use Rattle.ql_grammar.specs.GoingOn.{select_goes_on};
+ghost use Rattle.ql_grammar.specs.Statements.{IsStatement};
 
-use crate::Keyword;
 use crate::commands::{
     begin, commit, describe, flush, optimize, rollback, show, start_transaction, truncate,
 };
-use crate::cursor::Cursor;
 use crate::delete::delete;
 use crate::insert::insert;
 use crate::selects::selects;
 use crate::settings::set;
-use crate::statement::Statement;
+use ql_grammar::{Keyword, Statement};
+use ql_parts::Cursor;
 use srch_base::Or;
 use std::alloc::Global;
 

@@ -1,5 +1,5 @@
 use Rattle.std.proofs.Common.{refl}
-use Rattle.ql_parse.proofs.Steps.{plain_seq, plain_first, plain_next, fails_with, takes_if, fails_if, takes_else, fails_else, from_there, fails_there}
+use Rattle.ql_parts.proofs.Steps.{plain_seq, plain_first, plain_next, fails_with, takes_if, fails_if, takes_else, fails_else, from_there, fails_there}
 use Rattle.ql_parse.proofs.commands.flush.Goals as goal
 
 pub returns-in_err-word : goal.returns-in_err-word

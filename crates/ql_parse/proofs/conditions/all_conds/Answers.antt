@@ -1,11 +1,11 @@
 use Rattle.std.proofs.Common.{refl, [], ◌∷◌, ◌++◌, sym, ap, ◌∙◌, subst}
-use Rattle.ql_parse.proofs.Steps.{fails_first, fails_with, now_there, listed_one, listed_more, listed_done, listed_fails}
-use Rattle.ql_parse.specs.declared.keyword.Keyword.TheVariants as keywords
-use Rattle.ql_parse.specs.Classes.{the_word}
-use Rattle.ql_parse.specs.Grammar.{cond, listed}
-use Rattle.ql_parse.specs.Parts.{IsWord, AreListed}
-use Rattle.ql_parse.specs.Progress.{Takes, TakesListed}
-use Rattle.ql_parse.specs.Selects.{IsCond}
+use Rattle.ql_parts.proofs.Steps.{fails_first, fails_with, now_there, listed_one, listed_more, listed_done, listed_fails}
+use Rattle.ql_grammar.specs.declared.keyword.Keyword.TheVariants as keywords
+use Rattle.ql_grammar.specs.Classes.{the_word}
+use Rattle.ql_grammar.specs.Grammar.{cond, listed}
+use Rattle.ql_grammar.specs.Parts.{IsWord, AreListed}
+use Rattle.ql_parts.specs.Progress.{Takes, TakesListed}
+use Rattle.ql_grammar.specs.Selects.{IsCond}
 use Rattle.ql_parse.proofs.conditions.all_conds.Goals as goal
 
 pub returns-in_err-cond : goal.returns-in_err-cond

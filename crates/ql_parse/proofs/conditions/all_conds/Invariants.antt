@@ -1,10 +1,10 @@
 use Rattle.std.proofs.Common.{[], ◌∷◌, length}
-use Rattle.ql_parse.specs.declared.keyword.Keyword.TheVariants as keywords
-use Rattle.ql_parse.specs.Classes.{the_word}
-use Rattle.ql_parse.specs.Grammar.{cond}
-use Rattle.ql_parse.specs.Parts.{IsWord}
-use Rattle.ql_parse.specs.Progress.{TakesListed}
-use Rattle.ql_parse.specs.Selects.{IsCond}
+use Rattle.ql_grammar.specs.declared.keyword.Keyword.TheVariants as keywords
+use Rattle.ql_grammar.specs.Classes.{the_word}
+use Rattle.ql_grammar.specs.Grammar.{cond}
+use Rattle.ql_grammar.specs.Parts.{IsWord}
+use Rattle.ql_parts.specs.Progress.{TakesListed}
+use Rattle.ql_grammar.specs.Selects.{IsCond}
 use Rattle.ql_parse.proofs.conditions.all_conds.Given as goal
 
 abbrev pub invariant-conds : goal.invariant-conds

@@ -1,6 +1,6 @@
 use Rattle.std.proofs.Common.{rules}
-use Rattle.ql_parse.proofs.Steps.{fails_with, plain_seq, plain_first, plain_next}
-use Rattle.ql_parse.proofs.SelectSteps.{whole_kept}
+use Rattle.ql_parts.proofs.Steps.{fails_with, plain_seq, plain_first, plain_next}
+use Rattle.ql_parse.proofs.Wholes.{whole_kept}
 use mir.Syntax.{w128}
 use mir.Val.{SFits}
 use Rattle.ql_parse.proofs.conditions.between.Goals as goal

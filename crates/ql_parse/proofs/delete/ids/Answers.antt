@@ -1,5 +1,5 @@
 use Rattle.std.proofs.Common.{refl}
-use Rattle.ql_parse.proofs.Steps.{plain_seq, plain_first, plain_next, fails_with, takes_if, fails_if, takes_else, fails_else, from_there, fails_there}
+use Rattle.ql_parts.proofs.Steps.{plain_seq, plain_first, plain_next, fails_with, takes_if, fails_if, takes_else, fails_else, from_there, fails_there}
 use Rattle.ql_parse.proofs.delete.ids.Goals as goal
 
 pub returns-in_err-number : goal.returns-in_err-number

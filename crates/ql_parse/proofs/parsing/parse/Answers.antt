@@ -1,10 +1,10 @@
 use Rattle.std.proofs.Common.{Global, ◌≤◌, List, length, sym, subst}
 use Rattle.std.specs.Prelude.{Err}
-use Rattle.ql_parse.specs.Tokens.{lexemes}
-use Rattle.ql_parse.specs.declared.fault.ParseKind.TheVariants.{TooMany}
-use Rattle.ql_parse.specs.declared.parsing.TheConstants.{MAX_STATEMENTS}
-use Rattle.ql_parse.specs.declared.statement.Statement.{Statement}
-use Rattle.ql_parse.specs.Packets.{IsFault, IsPacket, Parses}
+use Rattle.ql_grammar.specs.Tokens.{lexemes}
+use Rattle.ql_grammar.specs.declared.fault.ParseKind.TheVariants.{TooMany}
+use Rattle.ql_grammar.specs.declared.statement.TheConstants.{MAX_STATEMENTS}
+use Rattle.ql_grammar.specs.declared.statement.Statement.{Statement}
+use Rattle.ql_grammar.specs.Packets.{IsFault, IsPacket, Parses}
 use Rattle.ql_parse.specs.PacketReading.{ReadsPacket}
 use Rattle.ql_parse.proofs.Faults.{too_many_fault}
 use Rattle.ql_parse.proofs.ParseAnswers.{syntax_parses}

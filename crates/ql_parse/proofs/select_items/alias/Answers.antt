@@ -1,5 +1,5 @@
 use Rattle.std.proofs.Common.{refl, []}
-use Rattle.ql_parse.proofs.Steps.{takes_seq, fails_next, fails_with, plain_seq, plain_next, optional_if, optional_fails}
+use Rattle.ql_parts.proofs.Steps.{takes_seq, fails_next, fails_with, plain_seq, plain_next, optional_if, optional_fails}
 use Rattle.ql_parse.proofs.SelectSteps.{next_there, as_taken, no_as, no_alias}
 use Rattle.ql_parse.proofs.select_items.alias.Goals as goal
 

@@ -1,5 +1,5 @@
 use Rattle.std.proofs.Common.{refl, []}
-use Rattle.ql_parse.proofs.Steps.{fails_with, plain_seq, plain_first, plain_next, optional_if, optional_fails, optional_else}
+use Rattle.ql_parts.proofs.Steps.{fails_with, plain_seq, plain_first, plain_next, optional_if, optional_fails, optional_else}
 use Rattle.ql_parse.proofs.select_parts.facet_order.Goals as goal
 
 pub returns-in_err-words : goal.returns-in_err-words

@@ -1,14 +1,14 @@
 use Rattle.std.proofs.Common.{refl, ◌∷◌, sym, subst}
-use Rattle.ql_parse.proofs.Steps.{fails_with, plain_seq, plain_next, now_there}
+use Rattle.ql_parts.proofs.Steps.{fails_with, plain_seq, plain_next, now_there}
 use Rattle.ql_parse.proofs.SelectSteps.{row_none, row_more, row_fails, row_done}
-use Rattle.ql_parse.specs.declared.keyword.Keyword.TheVariants as keywords
-use Rattle.ql_parse.specs.Classes.{the_word}
-use Rattle.ql_parse.specs.Grammar.{facet}
-use Rattle.ql_parse.specs.Language.{many}
-use Rattle.ql_parse.specs.Parts.{AreInRow}
-use Rattle.ql_parse.specs.Progress.{Takes, TakesRow}
-use Rattle.ql_parse.specs.Selecting.{facet_goes_on}
-use Rattle.ql_parse.specs.Selects.{IsFacet}
+use Rattle.ql_grammar.specs.declared.keyword.Keyword.TheVariants as keywords
+use Rattle.ql_grammar.specs.Classes.{the_word}
+use Rattle.ql_grammar.specs.Grammar.{facet}
+use Rattle.ql_grammar.specs.Language.{many}
+use Rattle.ql_grammar.specs.Parts.{AreInRow}
+use Rattle.ql_parts.specs.Progress.{Takes, TakesRow}
+use Rattle.ql_grammar.specs.GoingOn.{facet_goes_on}
+use Rattle.ql_grammar.specs.Selects.{IsFacet}
 use Rattle.ql_parse.proofs.select_parts.facets.Goals as goal
 
 pub facets-init : goal.facets-init

@@ -1,10 +1,10 @@
 use Rattle.std.proofs.Common.{◌∷◌, length}
-use Rattle.ql_parse.specs.declared.keyword.Keyword.TheVariants as keywords
-use Rattle.ql_parse.specs.Classes.{the_word}
-use Rattle.ql_parse.specs.Grammar.{facet}
-use Rattle.ql_parse.specs.Progress.{TakesRow}
-use Rattle.ql_parse.specs.Selecting.{facet_goes_on}
-use Rattle.ql_parse.specs.Selects.{IsFacet}
+use Rattle.ql_grammar.specs.declared.keyword.Keyword.TheVariants as keywords
+use Rattle.ql_grammar.specs.Classes.{the_word}
+use Rattle.ql_grammar.specs.Grammar.{facet}
+use Rattle.ql_parts.specs.Progress.{TakesRow}
+use Rattle.ql_grammar.specs.GoingOn.{facet_goes_on}
+use Rattle.ql_grammar.specs.Selects.{IsFacet}
 use Rattle.ql_parse.proofs.select_parts.facets.Given as goal
 
 abbrev pub invariant-facets : goal.invariant-facets

@@ -1,6 +1,6 @@
 use Rattle.std.proofs.Common.{rules, refl}
-use Rattle.ql_parse.proofs.Steps.{takes_seq, fails_first, fails_next, fails_with, plain_seq, plain_first, plain_next}
-use Rattle.ql_parse.proofs.SelectSteps.{whole_kept}
+use Rattle.ql_parts.proofs.Steps.{takes_seq, fails_first, fails_next, fails_with, plain_seq, plain_first, plain_next}
+use Rattle.ql_parse.proofs.Wholes.{whole_kept}
 use mir.Syntax.{w128}
 use mir.Val.{SFits}
 use Rattle.ql_parse.proofs.select_parts.having_cond.Goals as goal

@@ -1,6 +1,6 @@
 use Rattle.std.proofs.Common.{refl}
-use Rattle.ql_parse.proofs.Choices.{takes_followed, fails_followed, takes_unfollowed, fails_unfollowed}
-use Rattle.ql_parse.proofs.Steps.{plain_seq, plain_first, plain_next, fails_with, takes_if, fails_if, takes_else, fails_else, takes_wider, fails_wider}
+use Rattle.ql_parts.proofs.Choices.{takes_followed, fails_followed, takes_unfollowed, fails_unfollowed}
+use Rattle.ql_parts.proofs.Steps.{plain_seq, plain_first, plain_next, fails_with, takes_if, fails_if, takes_else, fails_else, takes_wider, fails_wider}
 use Rattle.ql_parse.proofs.selects.selection.Goals as goal
 
 pub returns-in_err-name : goal.returns-in_err-name

@@ -1,5 +1,5 @@
-use Rattle.ql_parse.specs.Progress.{other_word}
-use Rattle.ql_parse.proofs.Choices.{leads_by}
+use Rattle.ql_parts.specs.Progress.{other_word}
+use Rattle.ql_parts.proofs.Choices.{leads_by}
 use Rattle.ql_parse.proofs.settings.leads.Goals as goal
 
 pub returns-then-is_word : goal.returns-then-is_word

@@ -1,6 +1,6 @@
 use Rattle.std.proofs.Common.{rules, refl}
 use Rattle.ql_parse.proofs.Wholes.{whole_kept}
-use Rattle.ql_parse.proofs.Steps.{takes_as, fails_with, takes_if, fails_if, takes_else, fails_else, from_there, fails_there}
+use Rattle.ql_parts.proofs.Steps.{fails_with, takes_if, fails_if, takes_else, fails_else, from_there, fails_there}
 use Rattle.ql_parse.proofs.settings.setting.Goals as goal
 
 pub returns-then-takes_word : goal.returns-then-takes_word
@@ -22,4 +22,4 @@ pub returns-in_err-number : goal.returns-in_err-number
 returns-in_err-number c = fails_with _ _ c.from_residual-in_err-number.result c.from_residual-in_err-number.ensures.1 (fails_else c.if-takes_word.ensures.1 refl (fails_there c.if-takes_word.ensures.0 (fails_else c.if-is_text.ensures refl (fails_else c.if-is_name.ensures refl c.in_err-number.ensures))))
 
 pub returns : goal.returns
-returns c = takes_else c.if-takes_word.ensures.1 refl (from_there c.if-takes_word.ensures.0 (takes_else c.if-is_text.ensures refl (takes_else c.if-is_name.ensures refl (takes_as (whole_kept c.in_ok-number.number (search rules)) c.in_ok-number.ensures))))
+returns c = takes_else c.if-takes_word.ensures.1 refl (from_there c.if-takes_word.ensures.0 (takes_else c.if-is_text.ensures refl (takes_else c.if-is_name.ensures refl (whole_kept {z = c.in_ok-number.number} (search rules) c.in_ok-number.ensures))))

@@ -1,7 +1,7 @@
 use Rattle.std.proofs.Common.{refl, [], ◌∙◌}
-use Rattle.ql_parse.proofs.Steps.{fails_with, plain_seq, plain_first, plain_next, optional_if, optional_fails, optional_else}
+use Rattle.ql_parts.proofs.Steps.{fails_with, plain_seq, plain_first, plain_next, optional_if, optional_fails, optional_else}
 use Rattle.ql_parse.proofs.SelectSteps.{are_given, none_given}
-use Rattle.ql_parse.specs.Selects.{AreKeys}
+use Rattle.ql_grammar.specs.Selects.{AreKeys}
 use Rattle.ql_parse.proofs.sorting.order.Goals as goal
 
 pub returns-in_err-words : goal.returns-in_err-words

@@ -1,5 +1,5 @@
 use Rattle.std.proofs.Common.{refl}
-use Rattle.ql_parse.proofs.Steps.{reads_if, reads_else, reads_wider}
+use Rattle.ql_parts.proofs.Steps.{reads_if, reads_else, reads_wider}
 use Rattle.ql_parse.proofs.statements.statement.Goals as goal
 
 pub returns-then-is_word : goal.returns-then-is_word

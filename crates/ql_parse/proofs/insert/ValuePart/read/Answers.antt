@@ -1,6 +1,6 @@
 use Rattle.std.proofs.Common.{rules, refl}
 use Rattle.ql_parse.proofs.Wholes.{whole_kept}
-use Rattle.ql_parse.proofs.Steps.{takes_as, fails_with, takes_if, fails_if, takes_else, fails_else}
+use Rattle.ql_parts.proofs.Steps.{fails_with, takes_if, fails_if, takes_else, fails_else}
 use Rattle.ql_parse.proofs.insert.ValuePart.read.Goals as goal
 
 pub returns-in_err-text : goal.returns-in_err-text
@@ -13,4 +13,4 @@ pub returns-in_err-number : goal.returns-in_err-number
 returns-in_err-number c = fails_with _ _ c.from_residual-in_err-number.result c.from_residual-in_err-number.ensures.1 (fails_else c.if-is_text.ensures refl c.in_err-number.ensures)
 
 pub returns : goal.returns
-returns c = takes_else c.if-is_text.ensures refl (takes_as (whole_kept c.in_ok-number.number (search rules)) c.in_ok-number.ensures)
+returns c = takes_else c.if-is_text.ensures refl (whole_kept {z = c.in_ok-number.number} (search rules) c.in_ok-number.ensures)

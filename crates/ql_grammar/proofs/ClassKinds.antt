@@ -1,0 +1,79 @@
+-- What a class says of the kind of its tokens.
+use Rattle.std.proofs.Common.{◌≡◌, true, refl, sym, ap}
+use Rattle.std.specs.Prelude.{◌&&◌, not}
+use Rattle.ql_lex.specs.declared.token.Sign.{Sign}
+use Rattle.ql_grammar.specs.declared.keyword.Keyword.{Keyword}
+use Rattle.ql_grammar.specs.declared.kind.Kind.{Kind}
+use Rattle.ql_grammar.specs.declared.kind.Kind.TheVariants as kinds
+use Rattle.ql_grammar.specs.Classes.{Class, the_word, any_name, name_but, a_number, a_text, a_sysvar, the_sign, a_comparison, the_end, fits, is_name, is_word}
+use Rattle.ql_grammar.specs.Firsts.{same_class}
+use Rattle.ql_grammar.proofs.Apart.{and_first}
+use Rattle.ql_grammar.proofs.KeywordNumbers.{keyword_same}
+use Rattle.ql_grammar.proofs.SignNumbers.{sign_same}
+
+pub class_same : (c d : Class) → same_class c d ≡ true → c ≡ d
+class_same (the_word v) (the_word w) e = ap the_word (keyword_same v w e)
+class_same any_name any_name e = refl
+class_same a_number a_number e = refl
+class_same a_text a_text e = refl
+class_same a_sysvar a_sysvar e = refl
+class_same a_comparison a_comparison e = refl
+class_same (the_sign v) (the_sign w) e = ap the_sign (sign_same v w e)
+class_same _ _ e = cc
+
+pub word_is : (w : Keyword) (k : Kind) → fits (the_word w) k ≡ true → k ≡ kinds.Keyword w
+word_is w (kinds.Keyword x) e = ap kinds.Keyword (sym (keyword_same w x e))
+word_is w kinds.Name e = cc
+word_is w kinds.Number e = cc
+word_is w kinds.Text e = cc
+word_is w kinds.SysVar e = cc
+word_is w (kinds.Sign s) e = cc
+word_is w kinds.End e = cc
+
+pub sign_is : (v : Sign) (k : Kind) → fits (the_sign v) k ≡ true → k ≡ kinds.Sign v
+sign_is v (kinds.Keyword x) e = cc
+sign_is v kinds.Name e = cc
+sign_is v kinds.Number e = cc
+sign_is v kinds.Text e = cc
+sign_is v kinds.SysVar e = cc
+sign_is v (kinds.Sign s) e = ap kinds.Sign (sym (sign_same v s e))
+sign_is v kinds.End e = cc
+
+pub number_is : (k : Kind) → fits a_number k ≡ true → k ≡ kinds.Number
+number_is (kinds.Keyword w) e = cc
+number_is kinds.Name e = cc
+number_is kinds.Number e = refl
+number_is kinds.Text e = cc
+number_is kinds.SysVar e = cc
+number_is (kinds.Sign s) e = cc
+number_is kinds.End e = cc
+
+pub text_is : (k : Kind) → fits a_text k ≡ true → k ≡ kinds.Text
+text_is (kinds.Keyword w) e = cc
+text_is kinds.Name e = cc
+text_is kinds.Number e = cc
+text_is kinds.Text e = refl
+text_is kinds.SysVar e = cc
+text_is (kinds.Sign s) e = cc
+text_is kinds.End e = cc
+
+pub variable_is : (k : Kind) → fits a_sysvar k ≡ true → k ≡ kinds.SysVar
+variable_is (kinds.Keyword w) e = cc
+variable_is kinds.Name e = cc
+variable_is kinds.Number e = cc
+variable_is kinds.Text e = cc
+variable_is kinds.SysVar e = refl
+variable_is (kinds.Sign s) e = cc
+variable_is kinds.End e = cc
+
+pub end_is : (k : Kind) → fits the_end k ≡ true → k ≡ kinds.End
+end_is (kinds.Keyword w) e = cc
+end_is kinds.Name e = cc
+end_is kinds.Number e = cc
+end_is kinds.Text e = cc
+end_is kinds.SysVar e = cc
+end_is (kinds.Sign s) e = cc
+end_is kinds.End e = refl
+
+pub but_name : (v w : Keyword) (k : Kind) → fits (name_but v w) k ≡ true → is_name k ≡ true
+but_name v w k e = and_first (is_name k) (not (is_word v k)) (and_first (is_name k && not (is_word v k)) (not (is_word w k)) e)

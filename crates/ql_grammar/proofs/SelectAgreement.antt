@@ -1,0 +1,328 @@
+-- The grammar of SELECT and the values of its texts, line by line.
+use Rattle.std.proofs.Common.{◌≡◌, ℕ, List, [], ◌++◌, Bool, true, false, Option, Some, None, ◌⊎◌, inl, inr, refl, sym, ◌∙◌, ap, subst}
+use Rattle.std.specs.Prelude.{ℤ}
+use Rattle.ql_lex.specs.declared.token.Sign.TheVariants as signs
+use Rattle.ql_lex.specs.Tokens.{Lexeme}
+use Rattle.ql_grammar.specs.declared.keyword.Keyword.{Keyword}
+use Rattle.ql_grammar.specs.declared.keyword.Keyword.TheVariants as keywords
+use Rattle.ql_grammar.specs.declared.kind.Kind.{Kind}
+use Rattle.ql_grammar.specs.declared.kind.Kind.TheVariants as kinds
+use Rattle.ql_grammar.specs.declared.select.Comparison.{Comparison}
+use Rattle.ql_grammar.specs.declared.select.Comparison.TheVariants as comparisons
+use Rattle.ql_grammar.specs.declared.select.Cond.{Cond}
+use Rattle.ql_grammar.specs.declared.select.Cond.TheVariants as condition
+use Rattle.ql_grammar.specs.declared.select.OptionValue.{OptionValue}
+use Rattle.ql_grammar.specs.declared.select.OptionValue.TheVariants as values
+use Rattle.ql_grammar.specs.declared.select.SelectExpr.{SelectExpr}
+use Rattle.ql_grammar.specs.declared.select.SelectExpr.TheVariants as exprs
+use Rattle.ql_grammar.specs.declared.select.SelectItem.{SelectItem}
+use Rattle.ql_grammar.specs.declared.select.SelectItem.TheVariants as items
+use Rattle.ql_grammar.specs.declared.select.SortName.{SortName}
+use Rattle.ql_grammar.specs.declared.select.SortName.TheVariants as sorts
+use Rattle.ql_grammar.specs.Tokens.{kind}
+use Rattle.ql_grammar.specs.Classes.{a_comparison, fits}
+use Rattle.ql_grammar.specs.Language.{Re, In}
+use Rattle.ql_grammar.specs.Grammar.{◌⨾◌, ◌∣◌, word, name, weight, count, counted, enclosed, expr, alias, item, comparison, cond, test, direction, having, limit, field_weight, option_value, option, facet, conds, group, within, having_part, order, options, select}
+use Rattle.ql_grammar.specs.Parts.{◌then◌, IsWord, IsSign, IsComma, IsName, IsNumber, IsText, IsWhole, IsEnclosed, AreParens, IsGiven, AreGiven, AreListed}
+use Rattle.ql_grammar.specs.Selects.{comparison_sign, IsCounted, IsExpr, IsAlias, IsItem, IsComparison, IsCond, IsWeight, IsCount, IsSort, IsInnerSort, IsGroupSort, IsDirection, IsKeyBy, IsHaving, IsLimit, IsFieldWeight, IsOptionValue, IsOption, IsFacet, AreConds, IsGroup, AreInnerKeys, IsHavingPart, AreKeys, AreOptions, IsSelected}
+use Rattle.ql_grammar.proofs.Agreement.{Agree, Agrees, agree_as, agree_listed, agree_name, agree_number, agree_seq, agree_sign, agree_word}
+use Rattle.ql_grammar.proofs.Agreements.{IsEither, agree_behind, agree_enclosed, agree_lists, agree_optional, agree_or, agree_parens, agree_perhaps, agree_row, agree_text, agree_whole, agree_wholes, agree_words}
+
+-- A comparison.
+pub sign_compares : (op : Comparison) → fits a_comparison (kinds.Sign (comparison_sign op)) ≡ true
+sign_compares comparisons.Equal = refl
+sign_compares comparisons.NotEqual = refl
+sign_compares comparisons.Less = refl
+sign_compares comparisons.Greater = refl
+sign_compares comparisons.AtMost = refl
+sign_compares comparisons.AtLeast = refl
+
+-- Expressions and items.
+agree_counted : Agree counted IsCounted
+agree_counted = agree_as (agree_or (agree_sign signs.Star) (agree_behind (agree_word keywords.Distinct) agree_name)) there back
+  where
+    Is : Unit {0} ⊎ List ℕ → List Lexeme → Type 0
+    Is = IsEither (λ _. IsSign signs.Star) (λ column. IsWord keywords.Distinct then IsName column)
+
+    there : (x : Unit {0} ⊎ List ℕ) (u : List Lexeme) → Is x u → (y : Option (List ℕ)) × IsCounted y u
+    there (inl _) u h = (None, h)
+    there (inr column) u h = (Some column, h)
+
+    back : (y : Option (List ℕ)) (u : List Lexeme) → IsCounted y u → (x : Unit {0} ⊎ List ℕ) × Is x u
+    back None u h = (inl tt, h)
+    back (Some column) u h = (inr column, h)
+
+agree_argument : (w : Keyword) → Agree (word w ⨾ enclosed name) (λ column. IsWord w then IsEnclosed (IsName column))
+agree_argument w = agree_behind (agree_word w) (agree_enclosed agree_name)
+
+agree_weight : Agrees weight IsWeight
+agree_weight = agree_behind (agree_word keywords.Weight) agree_parens
+
+agree_count : Agrees count IsCount
+agree_count = agree_behind (agree_word keywords.Count) (agree_enclosed (agree_sign signs.Star))
+
+abbrev ExprValue : Type 0
+ExprValue = Option (List ℕ) ⊎ (List ℕ ⊎ (List ℕ ⊎ (List ℕ ⊎ (Unit {0} ⊎ (Unit {0} ⊎ List ℕ)))))
+
+agree_expr : Agree expr IsExpr
+agree_expr = agree_as
+    (agree_or (agree_behind (agree_word keywords.Count) (agree_enclosed agree_counted))
+    (agree_or (agree_argument keywords.Min)
+    (agree_or (agree_argument keywords.Max)
+    (agree_or (agree_argument keywords.Sum)
+    (agree_or agree_weight
+    (agree_or (agree_behind (agree_word keywords.GroupBy) agree_parens) agree_name))))))
+    there back
+  where
+    Is : ExprValue → List Lexeme → Type 0
+    Is =
+        IsEither (λ column. IsWord keywords.Count then IsEnclosed (IsCounted column))
+        (IsEither (λ column. IsWord keywords.Min then IsEnclosed (IsName column))
+        (IsEither (λ column. IsWord keywords.Max then IsEnclosed (IsName column))
+        (IsEither (λ column. IsWord keywords.Sum then IsEnclosed (IsName column))
+        (IsEither (λ _. IsWeight) (IsEither (λ _. IsWord keywords.GroupBy then AreParens) IsName)))))
+
+    there : (x : ExprValue) (u : List Lexeme) → Is x u → (y : SelectExpr) × IsExpr y u
+    there (inl None) u h = (exprs.CountAll, h)
+    there (inl (Some column)) u h = (exprs.CountDistinct column, h)
+    there (inr (inl column)) u h = (exprs.Least column, h)
+    there (inr (inr (inl column))) u h = (exprs.Greatest column, h)
+    there (inr (inr (inr (inl column)))) u h = (exprs.Sum column, h)
+    there (inr (inr (inr (inr (inl _))))) u h = (exprs.Weight, h)
+    there (inr (inr (inr (inr (inr (inl _)))))) u h = (exprs.GroupBy, h)
+    there (inr (inr (inr (inr (inr (inr column)))))) u h = (exprs.Column column, h)
+
+    back : (y : SelectExpr) (u : List Lexeme) → IsExpr y u → (x : ExprValue) × Is x u
+    back exprs.CountAll u h = (inl None, h)
+    back (exprs.CountDistinct column) u h = (inl (Some column), h)
+    back (exprs.Least column) u h = (inr (inl column), h)
+    back (exprs.Greatest column) u h = (inr (inr (inl column)), h)
+    back (exprs.Sum column) u h = (inr (inr (inr (inl column))), h)
+    back exprs.Weight u h = (inr (inr (inr (inr (inl tt)))), h)
+    back exprs.GroupBy u h = (inr (inr (inr (inr (inr (inl tt))))), h)
+    back (exprs.Column column) u h = (inr (inr (inr (inr (inr (inr column))))), h)
+
+agree_alias : Agree alias IsAlias
+agree_alias = agree_behind (agree_perhaps (agree_word keywords.As)) agree_name
+
+agree_item : Agree item IsItem
+agree_item = agree_as (agree_or (agree_sign signs.Star) (agree_seq agree_expr (agree_optional agree_alias))) there back
+  where
+    Is : Unit {0} ⊎ SelectExpr × Option (List ℕ) → List Lexeme → Type 0
+    Is = IsEither (λ _. IsSign signs.Star) (λ x. IsExpr x.0 then IsGiven IsAlias x.1)
+
+    there : (x : Unit {0} ⊎ SelectExpr × Option (List ℕ)) (u : List Lexeme) → Is x u → (y : SelectItem) × IsItem y u
+    there (inl _) u h = (items.All, h)
+    there (inr (e, a)) u h = (items.One e a, h)
+
+    back : (y : SelectItem) (u : List Lexeme) → IsItem y u → (x : Unit {0} ⊎ SelectExpr × Option (List ℕ)) × Is x u
+    back items.All u h = (inl tt, h)
+    back (items.One e a) u h = (inr (e, a), h)
+
+-- Conditions.
+comparison_kind : (k : Kind) → fits a_comparison k ≡ true → (op : Comparison) × (k ≡ kinds.Sign (comparison_sign op))
+comparison_kind (kinds.Keyword w) e = cc
+comparison_kind kinds.Name e = cc
+comparison_kind kinds.Number e = cc
+comparison_kind kinds.Text e = cc
+comparison_kind kinds.SysVar e = cc
+comparison_kind kinds.End e = cc
+comparison_kind (kinds.Sign signs.Equal) e = (comparisons.Equal, refl)
+comparison_kind (kinds.Sign signs.NotEqual) e = (comparisons.NotEqual, refl)
+comparison_kind (kinds.Sign signs.Less) e = (comparisons.Less, refl)
+comparison_kind (kinds.Sign signs.Greater) e = (comparisons.Greater, refl)
+comparison_kind (kinds.Sign signs.LessOrEqual) e = (comparisons.AtMost, refl)
+comparison_kind (kinds.Sign signs.GreaterOrEqual) e = (comparisons.AtLeast, refl)
+comparison_kind (kinds.Sign signs.OpenParen) e = cc
+comparison_kind (kinds.Sign signs.CloseParen) e = cc
+comparison_kind (kinds.Sign signs.Comma) e = cc
+comparison_kind (kinds.Sign signs.Semicolon) e = cc
+comparison_kind (kinds.Sign signs.Star) e = cc
+comparison_kind (kinds.Sign signs.Minus) e = cc
+
+agree_comparison : Agree comparison IsComparison
+unfolding In
+agree_comparison = record {
+  text = λ op u (t, e, k). (t, e, ap (fits a_comparison) k ∙ sign_compares op);
+  value = λ u (t, e, f). let (op, k) = comparison_kind (kind t) f in (op, (t, e, k));
+}
+
+abbrev TestValue : Type 0
+TestValue = ℤ × ℤ ⊎ (List ℤ ⊎ (List ℤ ⊎ Comparison × ℤ))
+
+abbrev IsTest : TestValue → List Lexeme → Type 0
+IsTest =
+    IsEither (λ pair. IsWord keywords.Between then IsWhole pair.0 then IsWord keywords.And then IsWhole pair.1)
+    (IsEither (λ numbers. IsWord keywords.Not then IsWord keywords.In then IsEnclosed (AreListed IsComma IsWhole numbers))
+    (IsEither (λ numbers. IsWord keywords.In then IsEnclosed (AreListed IsComma IsWhole numbers))
+    (λ pair. IsComparison pair.0 then IsWhole pair.1)))
+
+agree_test : Agree test IsTest
+agree_test =
+    agree_or (agree_behind (agree_word keywords.Between) (agree_seq agree_whole (agree_behind (agree_word keywords.And) agree_whole)))
+    (agree_or (agree_behind (agree_word keywords.Not) (agree_behind (agree_word keywords.In) agree_wholes))
+    (agree_or (agree_behind (agree_word keywords.In) agree_wholes)
+    (agree_seq agree_comparison agree_whole)))
+
+agree_cond : Agree cond IsCond
+agree_cond = agree_as (agree_or (agree_behind (agree_word keywords.Match) (agree_enclosed agree_text)) (agree_seq agree_name agree_test)) there back
+  where
+    Is : List ℕ ⊎ List ℕ × TestValue → List Lexeme → Type 0
+    Is = IsEither (λ query. IsWord keywords.Match then IsEnclosed (IsText query)) (λ x. IsName x.0 then IsTest x.1)
+
+    there : (x : List ℕ ⊎ List ℕ × TestValue) (u : List Lexeme) → Is x u → (y : Cond) × IsCond y u
+    there (inl query) u h = (condition.Match query, h)
+    there (inr (column, inl (low, high))) u h = (condition.Between column low high, h)
+    there (inr (column, inr (inl numbers))) u h = (condition.Among column numbers true, h)
+    there (inr (column, inr (inr (inl numbers)))) u (a, b, e, p, q) = (condition.Among column numbers false, (a, b, e, p, ([], b, refl, refl, q)))
+    there (inr (column, inr (inr (inr (op, value))))) u h = (condition.Compare column op value, h)
+
+    back : (y : Cond) (u : List Lexeme) → IsCond y u → (x : List ℕ ⊎ List ℕ × TestValue) × Is x u
+    back (condition.Match query) u h = (inl query, h)
+    back (condition.Between column low high) u h = (inr (column, inl (low, high)), h)
+    back (condition.Among column numbers true) u h = (inr (column, inr (inl numbers)), h)
+    back (condition.Among column numbers false) u (a, b, e, p, (c, d, f, g, q)) =
+        (inr (column, inr (inr (inl numbers))), (a, b, e, p, subst (λ v. (IsWord keywords.In then IsEnclosed (AreListed IsComma IsWhole numbers)) v) (sym (f ∙ ap (λ v. v ++ d) g)) q))
+    back (condition.Compare column op value) u h = (inr (column, inr (inr (inr (op, value)))), h)
+
+agree_conds : Agree conds (AreGiven AreConds)
+agree_conds = agree_lists AreConds (λ u (a, b, e, p, q). q) (agree_behind (agree_word keywords.Where) (agree_listed (agree_word keywords.And) agree_cond))
+
+-- Sorting.
+agree_sort : Agree (weight ∣ count ∣ name) IsSort
+agree_sort = agree_as (agree_or agree_weight (agree_or agree_count agree_name)) there back
+  where
+    Is : Unit {0} ⊎ (Unit {0} ⊎ List ℕ) → List Lexeme → Type 0
+    Is = IsEither (λ _. IsWeight) (IsEither (λ _. IsCount) IsName)
+
+    there : (x : Unit {0} ⊎ (Unit {0} ⊎ List ℕ)) (u : List Lexeme) → Is x u → (y : SortName) × IsSort y u
+    there (inl _) u h = (sorts.Weight, h)
+    there (inr (inl _)) u h = (sorts.CountAll, h)
+    there (inr (inr column)) u h = (sorts.Column column, h)
+
+    back : (y : SortName) (u : List Lexeme) → IsSort y u → (x : Unit {0} ⊎ (Unit {0} ⊎ List ℕ)) × Is x u
+    back sorts.Weight u h = (inl tt, h)
+    back sorts.CountAll u h = (inr (inl tt), h)
+    back (sorts.Column column) u h = (inr (inr column), h)
+
+agree_inner_sort : Agree (weight ∣ name) IsInnerSort
+agree_inner_sort = agree_as (agree_or agree_weight agree_name) there back
+  where
+    Is : Unit {0} ⊎ List ℕ → List Lexeme → Type 0
+    Is = IsEither (λ _. IsWeight) IsName
+
+    there : (x : Unit {0} ⊎ List ℕ) (u : List Lexeme) → Is x u → (y : SortName) × IsInnerSort y u
+    there (inl _) u h = (sorts.Weight, h)
+    there (inr column) u h = (sorts.Column column, h)
+
+    back : (y : SortName) (u : List Lexeme) → IsInnerSort y u → (x : Unit {0} ⊎ List ℕ) × Is x u
+    back sorts.Weight u h = (inl tt, h)
+    back sorts.CountAll u h = absurd h
+    back (sorts.Column column) u h = (inr column, h)
+
+agree_group_sort : Agree (count ∣ name) IsGroupSort
+agree_group_sort = agree_as (agree_or agree_count agree_name) there back
+  where
+    Is : Unit {0} ⊎ List ℕ → List Lexeme → Type 0
+    Is = IsEither (λ _. IsCount) IsName
+
+    there : (x : Unit {0} ⊎ List ℕ) (u : List Lexeme) → Is x u → (y : SortName) × IsGroupSort y u
+    there (inl _) u h = (sorts.CountAll, h)
+    there (inr column) u h = (sorts.Column column, h)
+
+    back : (y : SortName) (u : List Lexeme) → IsGroupSort y u → (x : Unit {0} ⊎ List ℕ) × Is x u
+    back sorts.Weight u h = absurd h
+    back sorts.CountAll u h = (inl tt, h)
+    back (sorts.Column column) u h = (inr column, h)
+
+agree_direction : Agree direction (IsGiven IsDirection)
+agree_direction = agree_optional (agree_as (agree_or (agree_word keywords.Asc) (agree_word keywords.Desc)) there back)
+  where
+    Is : Unit {0} ⊎ Unit {0} → List Lexeme → Type 0
+    Is = IsEither (λ _. IsWord keywords.Asc) (λ _. IsWord keywords.Desc)
+
+    there : (x : Unit {0} ⊎ Unit {0}) (u : List Lexeme) → Is x u → (y : Bool) × IsDirection y u
+    there (inl _) u h = (false, h)
+    there (inr _) u h = (true, h)
+
+    back : (y : Bool) (u : List Lexeme) → IsDirection y u → (x : Unit {0} ⊎ Unit {0}) × Is x u
+    back false u h = (inl tt, h)
+    back true u h = (inr tt, h)
+
+agree_key_by : {r : Re} {Is : SortName → List Lexeme → Type 0} → Agree r Is → Agree (r ⨾ direction) (IsKeyBy Is)
+agree_key_by h = agree_as (agree_seq h agree_direction) (λ x u i. (record { by = x.0; descending = x.1 }, i)) (λ y u i. ((y.by, y.descending), i))
+
+agree_group : Agree group (IsGiven IsGroup)
+agree_group = agree_optional (agree_behind (agree_words keywords.Group keywords.By) agree_name)
+
+agree_within : Agree within (AreGiven AreInnerKeys)
+agree_within = agree_lists AreInnerKeys (λ u (a, b, e, p, (c, d, f, q, i)). i)
+    (agree_behind (agree_words keywords.Within keywords.Group) (agree_behind (agree_words keywords.Order keywords.By) (agree_listed (agree_sign signs.Comma) (agree_key_by agree_inner_sort))))
+
+agree_order : Agree order (AreGiven AreKeys)
+agree_order = agree_lists AreKeys (λ u (a, b, e, p, q). q) (agree_behind (agree_words keywords.Order keywords.By) (agree_listed (agree_sign signs.Comma) (agree_key_by agree_sort)))
+
+-- Other parts.
+agree_having : Agree having IsHaving
+agree_having = agree_as (agree_seq agree_group_sort (agree_seq agree_comparison agree_whole)) (λ x u h. (record { left = x.0; op = x.1.0; value = x.1.1 }, h)) (λ y u h. ((y.left, (y.op, y.value)), h))
+
+agree_having_part : Agree having_part (IsGiven IsHavingPart)
+agree_having_part = agree_optional (agree_behind (agree_word keywords.Having) agree_having)
+
+agree_limit : Agree limit IsLimit
+agree_limit = agree_as
+    (agree_behind (agree_word keywords.Limit) (agree_seq agree_number (agree_optional (agree_behind (agree_sign signs.Comma) agree_number))))
+    (λ x u h. (record { first = x.0; second = x.1 }, h)) (λ y u h. ((y.first, y.second), h))
+
+agree_field_weight : Agree field_weight IsFieldWeight
+agree_field_weight = agree_seq agree_name (agree_behind (agree_sign signs.Equal) agree_number)
+
+abbrev OptionParts : Type 0
+OptionParts = List ℕ ⊎ (ℕ ⊎ (List ℕ ⊎ List (List ℕ × ℕ)))
+
+agree_option_value : Agree option_value IsOptionValue
+agree_option_value = agree_as
+    (agree_or agree_name (agree_or agree_number (agree_or agree_text (agree_enclosed (agree_listed (agree_sign signs.Comma) agree_field_weight)))))
+    there back
+  where
+    Is : OptionParts → List Lexeme → Type 0
+    Is = IsEither IsName (IsEither IsNumber (IsEither IsText (λ pairs. IsEnclosed (AreListed IsComma IsFieldWeight pairs))))
+
+    there : (x : OptionParts) (u : List Lexeme) → Is x u → (y : OptionValue) × IsOptionValue y u
+    there (inl word) u h = (values.Name word, h)
+    there (inr (inl n)) u h = (values.Number n, h)
+    there (inr (inr (inl words))) u h = (values.Text words, h)
+    there (inr (inr (inr pairs))) u h = (values.List pairs, h)
+
+    back : (y : OptionValue) (u : List Lexeme) → IsOptionValue y u → (x : OptionParts) × Is x u
+    back (values.Name word) u h = (inl word, h)
+    back (values.Number n) u h = (inr (inl n), h)
+    back (values.Text words) u h = (inr (inr (inl words)), h)
+    back (values.List pairs) u h = (inr (inr (inr pairs)), h)
+
+agree_option : Agree option IsOption
+agree_option = agree_as (agree_seq agree_name (agree_behind (agree_sign signs.Equal) agree_option_value)) (λ x u h. (record { name = x.0; value = x.1 }, h)) (λ y u h. ((y.name, y.value), h))
+
+agree_options : Agree options (AreGiven AreOptions)
+agree_options = agree_lists AreOptions (λ u (a, b, e, p, q). q) (agree_behind (agree_word keywords.Option) (agree_listed (agree_sign signs.Comma) agree_option))
+
+agree_facet : Agree facet IsFacet
+agree_facet = agree_behind (agree_word keywords.Facet) (agree_as
+    (agree_seq agree_name (agree_seq (agree_optional (agree_behind (agree_words keywords.Order keywords.By) (agree_key_by agree_group_sort))) (agree_optional agree_limit)))
+    (λ x u h. (record { column = x.0; order = x.1.0; limit = x.1.1 }, h)) (λ y u h. ((y.column, (y.order, y.limit)), h)))
+
+-- Each text of a SELECT stands for one, and what stands for one is a text.
+pub agree_select : Agree select IsSelected
+agree_select = agree_as
+    (agree_seq (agree_listed (agree_sign signs.Comma) agree_item)
+    (agree_behind (agree_word keywords.From)
+    (agree_seq agree_name
+    (agree_seq agree_conds
+    (agree_seq agree_group
+    (agree_seq agree_within
+    (agree_seq agree_having_part
+    (agree_seq agree_order
+    (agree_seq (agree_optional agree_limit)
+    (agree_seq agree_options (agree_row agree_facet)))))))))))
+    (λ (a, (b, (c, (d, (e, (f, (g, (h, (i, j))))))))) u is. (record { items = a; index = b; conds = c; group = d; within = e; having = f; order = g; limit = h; options = i; facets = j }, is))
+    (λ s u is. ((s.items, (s.index, (s.conds, (s.group, (s.within, (s.having, (s.order, (s.limit, (s.options, s.facets))))))))), is))

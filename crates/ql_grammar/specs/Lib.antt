@@ -1,0 +1,12 @@
+pub mod Keywords
+pub mod Tokens
+pub mod Classes
+pub mod Language
+pub mod Grammar
+pub mod Firsts
+pub mod GoingOn
+pub mod Parts
+pub mod Selects
+pub mod Statements
+pub mod Packets
+pub mod FaultTexts

@@ -1,6 +1,0 @@
-use Rattle.std.proofs.Common.{◌≡◌, ◌++◌, take, map}
-use Rattle.ql_parse.specs.Writing.{piece_of, spaced}
-use Rattle.ql_parse.proofs.writing.put_all.Given as goal
-
-abbrev pub invariant-loop-token : goal.invariant-loop-token
-invariant-loop-token l = l.out.items ≡ l.initial.out.items ++ spaced (map piece_of (take l.token-index l.tokens))

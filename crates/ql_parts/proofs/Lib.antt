@@ -1,0 +1,4 @@
+pub mod Steps
+pub mod Lookahead
+pub mod Choices
+pub mod Cursors

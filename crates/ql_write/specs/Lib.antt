@@ -1,0 +1,4 @@
+pub mod Pieces
+pub mod Canonical
+pub mod Writing
+pub mod Reading
