@@ -50,8 +50,8 @@ fn syntax(error: Or<u32>) -> Or<ParseFault>
 
 /// The statements of a text, from its tokens as `ql_lex::lex` gives them.
 ///
-/// It takes a time linear in the number of tokens, and never looks further ahead than two of them. The grammar is that of the
-/// manual's chapter on SphinxQL, in `specs/Grammar`.
+/// It takes a time linear in the number of tokens, and never looks further ahead than two of them. The grammar is printed in
+/// `docs/SPHINXQL.md`.
 pub fn parse(alloc: Global, tokens: &[Token<'_>]) -> Result<Vec<Statement>, Or<ParseFault>>
     requires { AreLexemes (lexemes tokens.now) }
     ensures { Parses (lexemes tokens.now) result }
