@@ -1,4 +1,4 @@
-//! Tables of SphinxQL texts: what they are read as, where they are refused, and their canonical texts.
+//! Tests by tables of values from outside, over the crates below: the crates themselves are proved once without them.
 #![tactic(auto)]
 
 #[cfg(test)]
@@ -7,3 +7,11 @@ mod canonical;
 mod faults;
 #[cfg(test)]
 mod packets;
+#[cfg(test)]
+mod wire_handshakes;
+#[cfg(test)]
+mod wire_packets;
+#[cfg(test)]
+mod wire_reading;
+#[cfg(test)]
+mod wire_replies;
