@@ -15,10 +15,3 @@ mod zones;
 pub use conf::{Conf, IndexConf, MAX_CONF_BYTES, MAX_INDEXES};
 pub use fault::{ConfFault, ConfKind};
 pub use reading::read_conf;
-
-#[cfg(test)]
-mod fault_tests;
-#[cfg(test)]
-mod samples;
-#[cfg(test)]
-mod tests;

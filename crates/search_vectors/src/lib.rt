@@ -4,6 +4,12 @@
 #[cfg(test)]
 mod canonical;
 #[cfg(test)]
+mod configuration_faults;
+#[cfg(test)]
+mod configuration_limits;
+#[cfg(test)]
+mod configurations;
+#[cfg(test)]
 mod faults;
 #[cfg(test)]
 mod packets;
