@@ -4,6 +4,8 @@
 #[cfg(test)]
 mod canonical;
 #[cfg(test)]
+mod character_tables;
+#[cfg(test)]
 mod configuration_faults;
 #[cfg(test)]
 mod configuration_limits;
@@ -11,6 +13,10 @@ mod configuration_limits;
 mod configurations;
 #[cfg(test)]
 mod faults;
+#[cfg(test)]
+mod field_tokens;
+#[cfg(test)]
+mod marks;
 #[cfg(test)]
 mod packets;
 #[cfg(test)]
