@@ -12,13 +12,19 @@ mod configuration_limits;
 #[cfg(test)]
 mod configurations;
 #[cfg(test)]
+mod documents;
+#[cfg(test)]
 mod faults;
 #[cfg(test)]
 mod field_tokens;
 #[cfg(test)]
+mod links;
+#[cfg(test)]
 mod marks;
 #[cfg(test)]
 mod packets;
+#[cfg(test)]
+mod small_texts;
 #[cfg(test)]
 mod wire_handshakes;
 #[cfg(test)]
