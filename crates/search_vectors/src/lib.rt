@@ -18,6 +18,10 @@ mod faults;
 #[cfg(test)]
 mod field_tokens;
 #[cfg(test)]
+mod lexed;
+#[cfg(test)]
+mod lexing_faults;
+#[cfg(test)]
 mod links;
 #[cfg(test)]
 mod marks;
@@ -25,6 +29,8 @@ mod marks;
 mod packets;
 #[cfg(test)]
 mod small_texts;
+#[cfg(test)]
+mod token_values;
 #[cfg(test)]
 mod wire_handshakes;
 #[cfg(test)]
