@@ -18,15 +18,21 @@ mod faults;
 #[cfg(test)]
 mod field_tokens;
 #[cfg(test)]
+mod hosts;
+#[cfg(test)]
 mod lexed;
 #[cfg(test)]
 mod lexing_faults;
+#[cfg(test)]
+mod lines;
 #[cfg(test)]
 mod links;
 #[cfg(test)]
 mod marks;
 #[cfg(test)]
 mod packets;
+#[cfg(test)]
+mod program;
 #[cfg(test)]
 mod small_texts;
 #[cfg(test)]
