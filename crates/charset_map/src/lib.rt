@@ -10,8 +10,6 @@ mod laws;
 mod pieces;
 mod span;
 mod spans;
-#[cfg(test)]
-mod tests;
 
 pub use charset::Charset;
 pub use fault::{CharsetFault, CharsetKind};

@@ -17,10 +17,3 @@ pub use conf::{Conf, IndexConf, MAX_CONF_BYTES, MAX_INDEXES};
 pub use fault::{ConfFault, ConfKind};
 pub use laws::a_text_is_one_configuration;
 pub use reading::read_conf;
-
-#[cfg(test)]
-mod fault_tests;
-#[cfg(test)]
-mod samples;
-#[cfg(test)]
-mod tests;

@@ -11,6 +11,3 @@ mod walk;
 
 pub use field::{TooLong, tokens};
 pub use laws::{a_text_has_one_answer, pieces_are_maximal_runs};
-
-#[cfg(test)]
-mod tests;

@@ -12,6 +12,3 @@ pub use tokens::{
     FieldTokens, Gap, MAX_POSITION, MAX_WORD_BYTES, MAX_WORD_CHARS, TokenWord, ZoneSpan,
 };
 pub use transactions::{Txn, TxnOp};
-
-#[cfg(test)]
-mod tests;

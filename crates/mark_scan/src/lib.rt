@@ -11,6 +11,3 @@ mod tags;
 
 pub use mark::{Mark, MarkKind, MarkRules};
 pub use marking::{marks, one_list_of_marks};
-
-#[cfg(test)]
-mod tests;

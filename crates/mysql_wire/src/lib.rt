@@ -28,10 +28,3 @@ pub use readers::{
 pub use result_sets::{read_column, read_row};
 pub use rows::{Cell, Column, ColumnKind, put_column, put_row};
 pub use small::{Small, eof_packet, err_packet, greeting, ok_packet};
-
-#[cfg(test)]
-mod reader_tests;
-#[cfg(test)]
-mod reply_tests;
-#[cfg(test)]
-mod request_tests;

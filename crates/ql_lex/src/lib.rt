@@ -22,6 +22,3 @@ pub use signs::sign_of;
 pub use spacing::spaced_tokens_are_read;
 pub use token::{Sign, Token, TokenKind};
 pub use values::{number_of, put_text, text_values_are_utf8, token_name};
-
-#[cfg(test)]
-mod tests;

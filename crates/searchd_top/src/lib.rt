@@ -12,6 +12,3 @@ pub use host::{Host, Stream};
 pub use memory_host::MemoryHost;
 pub use program::searchd;
 pub use status::Status;
-
-#[cfg(test)]
-mod tests;

@@ -219,10 +219,12 @@ impl Host for MemoryHost {
 fn kept(alloc: Global, texts: Vec<(Text, Vec<u8>)>) -> Result<Vec<(Text, Text)>, NoMemory>
     ensures { IfOk result (λ files. files.items ≡ map (λ file. (file.0, file.1.items)) texts.items) }
 {
-    Ok(texts
-        .into_iter()
-        .map(|(path, text)| (path, Text::new(text)))
-        .collect(alloc)?)
+    Ok(
+        texts
+            .into_iter()
+            .map(|(path, text)| (path, Text::new(text)))
+            .collect(alloc)?,
+    )
 }
 
 /// The first `limit + 1` bytes of a text, or all of a shorter one.

@@ -19,6 +19,3 @@ pub use list_door::ListDoor;
 pub use memory_link::MemoryLink;
 pub use numbers::{put_u16, put_u32, put_u64, u16_at, u32_at, u64_at};
 pub use texts::{Name, Text, Word};
-
-#[cfg(test)]
-mod tests;

@@ -1,17 +1,21 @@
-use super::*;
+use doc_types::{
+    AttrKind, Doc, DocRow, FieldTokens, Gap, Schema, TokenWord, Txn, TxnOp, Value, ZoneSpan,
+};
 use srch_base::{Items, Name, Word};
 use std::alloc::Global;
 use std::test::Fail;
 
-/// `She left. He`, with the last two words in zone 0.
+/// The words of `She left. He`, with their positions and the boundaries before them.
+const WORDS: [(&[u8], u32, Gap); 3] = [
+    (b"she", 1, Gap::None),
+    (b"left", 2, Gap::None),
+    (b"he", 4, Gap::Sentence),
+];
+
+/// These words, with the last two in zone 0.
 fn three_words(alloc: Global) -> Result<FieldTokens, Fail> {
     let mut words = Vec::new(alloc);
-    let cases: [(&[u8], u32, Gap); 3] = [
-        (b"she", 1, Gap::None),
-        (b"left", 2, Gap::None),
-        (b"he", 4, Gap::Sentence),
-    ];
-    for (word, position, gap) in cases {
+    for (word, position, gap) in WORDS {
         words.push(TokenWord {
             word: Word::from_slice(alloc, word)?,
             position,
@@ -29,6 +33,7 @@ fn three_words(alloc: Global) -> Result<FieldTokens, Fail> {
     })
 }
 
+/// A document with these words and an attribute.
 fn one_document(alloc: Global, id: u64) -> Result<Doc, Fail> {
     let mut fields = Vec::new(alloc);
     fields.push(three_words(alloc)?)?;
@@ -55,8 +60,8 @@ fn a_schema_has_its_columns(rt: HostRuntime) -> Result<(), Fail> {
     };
     assert!(rt; schema.clone()? == schema);
     let (name, kind) = schema.attrs.as_slice().first().ok_or("no attribute")?;
-    assert_eq!(rt; name.as_bytes(), b"gid".as_slice());
-    assert_eq!(rt; *kind, AttrKind::Uint);
+    assert!(rt; name.as_bytes() == b"gid".as_slice());
+    assert!(rt; *kind == AttrKind::Uint);
     Ok(())
 }
 
@@ -70,7 +75,7 @@ fn a_row_has_words_spans_and_values(rt: HostRuntime) -> Result<(), Fail> {
     assert!(rt; row.clone()? == row);
     let tokens = row.doc.fields.as_slice().first().ok_or("no field")?;
     let last = tokens.words.as_slice().last().ok_or("no word")?;
-    assert_eq!(rt; last.position, 2 + last.gap.step());
+    assert!(rt; last.position == 2 + last.gap.step());
     let span = tokens.spans.as_slice().first().ok_or("no span")?;
     assert!(rt; span.precedes(&ZoneSpan { zone: 1, ..*span }));
     assert!(rt; !span.precedes(span));
@@ -89,6 +94,6 @@ fn a_transaction_has_its_operations(rt: HostRuntime) -> Result<(), Fail> {
         ops: Items::new(ops),
     };
     assert!(rt; txn.clone()? == txn);
-    assert_eq!(rt; txn.ops.len(), 4);
+    assert!(rt; txn.ops.len() == 4);
     Ok(())
 }

@@ -1,8 +1,8 @@
 ghost use Rattle.std.specs.Prelude.{◌≡◌, [], ◌∷◌, codes, IfOk};
 ghost use Rattle.doc_types.specs.Schemas.{AreZones};
 
-use crate::{TooLong, tokens};
 use charset_map::Charset;
+use doc_tokens::{TooLong, tokens};
 use doc_types::{FieldTokens, Gap, ZoneSpan};
 use mark_scan::MarkRules;
 use srch_base::{Items, Name, NoMemory, Or};
@@ -169,19 +169,26 @@ fn has(
     Ok(list.as_str() == words && same_spans(found.spans.as_slice(), spans))
 }
 
-#[test]
-fn texts_have_their_words(rt: HostRuntime) -> Result<(), Fail> {
-    for (text, sp, words, spans) in MARKUP {
-        assert!(rt; has(rt.alloc(), true, sp, text, words, spans)?, "in {text}");
+/// The number of the first text with markup that has other words or spans.
+fn first_other_markup(alloc: Global) -> Result<Option<usize>, Fail> {
+    for (at, (text, sp, words, spans)) in MARKUP.iter().enumerate() {
+        if !has(alloc, true, *sp, text, words, spans)? {
+            return Ok(Some(at));
+        }
     }
-    for (text, with, without) in PLAIN {
-        assert!(rt; has(rt.alloc(), false, true, text, with, &[])?, "in {text}");
-        assert!(rt;
-            has(rt.alloc(), false, false, text, without, &[])?,
-            "in {text}"
-        );
+    Ok(None)
+}
+
+/// The number of the first other text that has other words.
+fn first_other_plain(alloc: Global) -> Result<Option<usize>, Fail> {
+    for (at, (text, with, without)) in PLAIN.iter().enumerate() {
+        if !has(alloc, false, true, text, with, &[])?
+            || !has(alloc, false, false, text, without, &[])?
+        {
+            return Ok(Some(at));
+        }
     }
-    Ok(())
+    Ok(None)
 }
 
 /// A `!` that is in the table ends a sentence for the marks, but is no boundary of a word.
@@ -213,20 +220,26 @@ fn last_position(alloc: Global, count: u32, end: &str) -> Result<Result<u32, u32
     }
 }
 
-#[test]
-fn positions_have_a_limit(rt: HostRuntime) -> Result<(), Fail> {
-    for (count, end, last) in [
-        (65_535, "!", Ok(65_535)),
-        (65_533, "! a", Ok(65_535)),
-        (65_536, "", Err(65_536)),
-        (70_000, "", Err(65_536)),
-        (65_533, "! a b", Err(65_536)),
-        (65_534, "! a", Err(65_536)),
-        (65_535, "! a", Err(65_537)),
-    ] {
-        assert!(rt; last_position(rt.alloc(), count, end)? == last);
+/// How many words of a text stand before its end, the end, and the position of the last word or the one that is too great,
+/// worked out by hand.
+const LAST: [(u32, &str, Result<u32, u32>); 7] = [
+    (65_535, "!", Ok(65_535)),
+    (65_533, "! a", Ok(65_535)),
+    (65_536, "", Err(65_536)),
+    (70_000, "", Err(65_536)),
+    (65_533, "! a b", Err(65_536)),
+    (65_534, "! a", Err(65_536)),
+    (65_535, "! a", Err(65_537)),
+];
+
+/// The number of the first text whose last word stands elsewhere.
+fn first_other_last(alloc: Global) -> Result<Option<usize>, Fail> {
+    for (at, (count, end, last)) in LAST.iter().enumerate() {
+        if last_position(alloc, *count, end)? != *last {
+            return Ok(Some(at));
+        }
     }
-    Ok(())
+    Ok(None)
 }
 
 /// How many words and spans a text repeated so often has.
@@ -240,14 +253,28 @@ fn counts(alloc: Global, count: u32, part: &str) -> Result<(usize, usize), Fail>
     Ok((found.words.len(), found.spans.len()))
 }
 
-#[test]
-fn long_texts_are_read(rt: HostRuntime) -> Result<(), Fail> {
-    for (count, part, words, spans) in [
-        (50_000, "Я", 1, 0),
-        (10_000, "<th>", 0, 0),
-        (5_000, "<th><i>a</i></th>", 5_000, 10_000),
-    ] {
-        assert!(rt; counts(rt.alloc(), count, part)? == (words, spans));
+/// How often a text is repeated, the text, and how many words and spans it then has.
+const LONG: [(u32, &str, usize, usize); 3] = [
+    (50_000, "Я", 1, 0),
+    (10_000, "<th>", 0, 0),
+    (5_000, "<th><i>a</i></th>", 5_000, 10_000),
+];
+
+/// The number of the first long text that has others.
+fn first_other_long(alloc: Global) -> Result<Option<usize>, Fail> {
+    for (at, (count, part, words, spans)) in LONG.iter().enumerate() {
+        if counts(alloc, *count, part)? != (*words, *spans) {
+            return Ok(Some(at));
+        }
     }
+    Ok(None)
+}
+
+#[test]
+fn texts_have_their_words(rt: HostRuntime) -> Result<(), Fail> {
+    assert_eq!(rt; first_other_markup(rt.alloc())?, None);
+    assert_eq!(rt; first_other_plain(rt.alloc())?, None);
+    assert_eq!(rt; first_other_last(rt.alloc())?, None);
+    assert_eq!(rt; first_other_long(rt.alloc())?, None);
     Ok(())
 }

@@ -1,6 +1,6 @@
-use crate::MarkKind::{Close, Inline, Open, Paragraph, Sentence, Text};
-use crate::{Mark, MarkKind, MarkRules, marks};
 use charset_map::Charset;
+use mark_scan::MarkKind::{Close, Inline, Open, Paragraph, Sentence, Text};
+use mark_scan::{Mark, MarkKind, MarkRules, marks};
 use srch_base::{Items, Name, NoMemory};
 use std::alloc::Global;
 
@@ -145,12 +145,28 @@ fn has_marks(
     Ok(same && found.len() == expected.len())
 }
 
+/// The number of the first text with markup that has other marks.
+fn first_other_markup(alloc: Global) -> Result<Option<usize>, NoMemory> {
+    for (at, (text, sp, expected)) in MARKUP.iter().enumerate() {
+        if !has_marks(alloc, true, *sp, text, expected)? {
+            return Ok(Some(at));
+        }
+    }
+    Ok(None)
+}
+
+/// The number of the first other text that has other marks.
+fn first_other_plain(alloc: Global) -> Result<Option<usize>, NoMemory> {
+    for (at, (text, expected)) in PLAIN.iter().enumerate() {
+        if !has_marks(alloc, false, true, text, expected)? {
+            return Ok(Some(at));
+        }
+    }
+    Ok(None)
+}
+
 #[test]
 fn marks_texts(rt: HostRuntime) {
-    for (text, sp, expected) in MARKUP {
-        assert!(rt; has_marks(rt.alloc(), true, sp, text, expected) == Ok(true));
-    }
-    for (text, expected) in PLAIN {
-        assert!(rt; has_marks(rt.alloc(), false, true, text, expected) == Ok(true));
-    }
+    assert_eq!(rt; first_other_markup(rt.alloc()), Ok(None));
+    assert_eq!(rt; first_other_plain(rt.alloc()), Ok(None));
 }

@@ -1,0 +1,55 @@
+use searchd_top::{MemoryHost, Status, searchd};
+use srch_base::{ListDoor, MemoryLink, Text};
+use std::alloc::Global;
+use std::test::Fail;
+
+/// The words of a session.
+pub(crate) const SESSION: &str = "session --config searchd.conf";
+
+/// The file of the words of a session.
+const FILE: &[u8] = b"searchd.conf";
+
+/// The index that the known texts name, as small as it can be.
+pub(crate) const PLAIN: &[u8] = b"index rt\n{\ntype = rt\npath = .\nrt_field = title\n}\n";
+
+/// The words of a text, which a blank separates.
+fn words_of(alloc: Global, text: &str) -> Result<Vec<String>, Fail> {
+    let mut words = Vec::new(alloc);
+    for word in text.split(' ') {
+        words.push(String::from_str(alloc, word)?)?;
+    }
+    Ok(words)
+}
+
+/// The files of a host: one, with this text.
+fn files(alloc: Global, text: &[u8]) -> Result<Vec<(Text, Vec<u8>)>, Fail> {
+    let mut files = Vec::new(alloc);
+    files.push((
+        Text::from_slice(alloc, FILE)?,
+        Vec::from_slice(alloc, text)?,
+    ))?;
+    Ok(files)
+}
+
+/// One door that gives these lines.
+pub(crate) fn one_door(alloc: Global, lines: Vec<MemoryLink>) -> Result<Vec<ListDoor>, Fail> {
+    let mut doors = Vec::new(alloc);
+    doors.push(ListDoor::new(alloc, lines)?)?;
+    Ok(doors)
+}
+
+/// Runs what the words of a text ask, on a host with these doors and this text in its file, whose calls of these numbers fail.
+/// Gives the status, and the host as it is then.
+pub(crate) fn run(
+    alloc: Global,
+    words: &str,
+    text: &[u8],
+    doors: Vec<ListDoor>,
+    failing: &[u32],
+) -> Result<(Status, MemoryHost), Fail> {
+    let failing = Vec::from_slice(alloc, failing)?;
+    let mut host = MemoryHost::new(alloc, files(alloc, text)?, doors, failing)?;
+    let words = words_of(alloc, words)?;
+    let status = searchd(alloc, words.as_slice(), &mut host);
+    Ok((status, host))
+}

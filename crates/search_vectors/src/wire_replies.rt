@@ -1,0 +1,150 @@
+use mysql_wire::{
+    Cell, Column, ColumnKind, eof_packet, err_packet, greeting, ok_packet, put_column, put_lenenc,
+    put_packet, put_row,
+};
+use srch_base::{Name, Text};
+use std::alloc::Global;
+use std::test::Fail;
+
+/// The greeting of connection 1, as it was recorded.
+pub(crate) const GREETING: [u8; 82] = [
+    0x4e, 0x00, 0x00, 0x00, 0x0a, 0x32, 0x2e, 0x32, 0x2e, 0x31, 0x31, 0x2d, 0x72, 0x74, 0x31, 0x00,
+    0x01, 0x00, 0x00, 0x00, 0x01, 0x02, 0x03, 0x04, 0x05, 0x06, 0x07, 0x08, 0x00, 0x09, 0xa2, 0x21,
+    0x02, 0x00, 0x0b, 0x00, 0x15, 0x00, 0x00, 0x00, 0x00, 0x00, 0x00, 0x00, 0x00, 0x00, 0x00, 0x09,
+    0x0a, 0x0b, 0x0c, 0x0d, 0x0e, 0x0f, 0x10, 0x11, 0x12, 0x13, 0x14, 0x00, 0x6d, 0x79, 0x73, 0x71,
+    0x6c, 0x5f, 0x6e, 0x61, 0x74, 0x69, 0x76, 0x65, 0x5f, 0x70, 0x61, 0x73, 0x73, 0x77, 0x6f, 0x72,
+    0x64, 0x00,
+];
+
+/// The ERR packet for want of memory, as it was recorded.
+pub(crate) const OUT_OF_MEMORY: [u8; 26] = [
+    0x16, 0x00, 0x00, 0x01, 0xff, 0x0d, 0x04, 0x23, 0x48, 0x59, 0x30, 0x30, 0x31, 0x6f, 0x75, 0x74,
+    0x20, 0x6f, 0x66, 0x20, 0x6d, 0x65, 0x6d, 0x6f, 0x72, 0x79,
+];
+
+/// A result set of two columns and three rows, as it was recorded.
+pub(crate) const ROW_SET: &[u8] = &[
+    0x01, 0x00, 0x00, 0x01, 0x02, 0x1a, 0x00, 0x00, 0x02, 0x03, 0x64, 0x65, 0x66, 0x00, 0x00, 0x00,
+    0x02, 0x69, 0x64, 0x02, 0x69, 0x64, 0x0c, 0x3f, 0x00, 0x14, 0x00, 0x00, 0x00, 0x08, 0x20, 0x00,
+    0x00, 0x00, 0x00, 0x26, 0x00, 0x00, 0x03, 0x03, 0x64, 0x65, 0x66, 0x00, 0x00, 0x00, 0x08, 0x77,
+    0x65, 0x69, 0x67, 0x68, 0x74, 0x28, 0x29, 0x08, 0x77, 0x65, 0x69, 0x67, 0x68, 0x74, 0x28, 0x29,
+    0x0c, 0x3f, 0x00, 0x14, 0x00, 0x00, 0x00, 0x08, 0x20, 0x00, 0x00, 0x00, 0x00, 0x05, 0x00, 0x00,
+    0x04, 0xfe, 0x00, 0x00, 0x02, 0x00, 0x04, 0x00, 0x00, 0x05, 0x01, 0x31, 0x01, 0x32, 0x04, 0x00,
+    0x00, 0x06, 0x01, 0x32, 0x01, 0x32, 0x04, 0x00, 0x00, 0x07, 0x01, 0x33, 0x01, 0x31, 0x05, 0x00,
+    0x00, 0x08, 0xfe, 0x00, 0x00, 0x02, 0x00,
+];
+
+/// The protocol's bytes of small packets.
+const NOTHING_CHANGED: &[u8] = b"\x07\0\0\x01\0\0\0\x02\0\0\0";
+
+const ONE_CHANGED: &[u8] = b"\x07\0\0\x01\0\x01\0\x02\0\0\0";
+
+const EIGHTH_END: &[u8] = b"\x05\0\0\x08\xfe\0\0\x02\0";
+
+#[test]
+fn small_packets_are_the_recorded_bytes(rt: HostRuntime) {
+    assert!(rt; greeting(1).bytes() == GREETING.as_slice());
+    assert!(rt; ok_packet(1, 0, 2).bytes() == NOTHING_CHANGED);
+    assert!(rt; ok_packet(1, 1, 2).bytes() == ONE_CHANGED);
+    assert!(rt; eof_packet(8, 2).bytes() == EIGHTH_END);
+    let refusal = err_packet(1, 1037, *b"HY001", b"out of memory");
+    assert!(rt; refusal.bytes() == OUT_OF_MEMORY.as_slice());
+}
+
+/// Appends a packet, and gives the next number.
+fn put_one(seq: u8, payload: &[u8], out: &mut Vec<u8>) -> Result<u8, Fail> {
+    if payload.len() >= 1000 {
+        return Err("the payload is long".into());
+    }
+    Ok(put_packet(seq, payload, out).ok().ok_or("memory")?)
+}
+
+/// A column's payload.
+fn column_payload(alloc: Global, name: &[u8], kind: ColumnKind) -> Result<Vec<u8>, Fail> {
+    let name = Name::new(Vec::from_slice(alloc, name)?);
+    let mut payload = Vec::new(alloc);
+    put_column(&Column { name, kind }, &mut payload)
+        .ok()
+        .ok_or("memory")?;
+    Ok(payload)
+}
+
+/// A row's payload.
+fn row_payload(alloc: Global, cells: &[Cell]) -> Result<Vec<u8>, Fail> {
+    let mut payload = Vec::new(alloc);
+    put_row(cells, &mut payload).ok().ok_or("memory")?;
+    Ok(payload)
+}
+
+/// The columns of the recorded result set, and its rows.
+const COLUMNS: [&[u8]; 2] = [b"id", b"weight()"];
+
+const ROWS: [(i128, i128); 3] = [(1, 2), (2, 2), (3, 1)];
+
+/// The packets of the recorded result set, as they are written.
+fn written_set(alloc: Global) -> Result<Vec<u8>, Fail> {
+    let mut out = Vec::new(alloc);
+    let mut count = Vec::new(alloc);
+    put_lenenc(2, &mut count).ok().ok_or("memory")?;
+    let mut seq = put_one(1, &count, &mut out)?;
+    for name in COLUMNS {
+        let payload = column_payload(alloc, name, ColumnKind::Unsigned)?;
+        seq = put_one(seq, &payload, &mut out)?;
+    }
+    out.extend_from_slice(eof_packet(seq, 2).bytes())?;
+    seq = seq.wrapping_add(1);
+    for (first, second) in ROWS {
+        let payload = row_payload(alloc, &[Cell::Whole(first), Cell::Whole(second)])?;
+        seq = put_one(seq, &payload, &mut out)?;
+    }
+    out.extend_from_slice(eof_packet(seq, 2).bytes())?;
+    Ok(out)
+}
+
+#[test]
+fn a_result_set_is_the_recorded_bytes(rt: HostRuntime) -> Result<(), Fail> {
+    assert!(rt; written_set(rt.alloc())?.as_slice() == ROW_SET);
+    Ok(())
+}
+
+#[test]
+fn cells_are_their_digits_or_their_text(rt: HostRuntime) -> Result<(), Fail> {
+    let text = Text::new(Vec::from_slice(rt.alloc(), b"searchd")?);
+    let cells = [Cell::Text(text), Cell::Whole(-1), Cell::Whole(i128::MIN)];
+    let row = row_payload(rt.alloc(), &cells)?;
+    assert!(rt;
+        row.as_slice()
+            == b"\x07searchd\x02-1\x28-170141183460469231731687303715884105728".as_slice()
+    );
+    Ok(())
+}
+
+/// The kinds of columns, and the fields by which the protocol tells them.
+const KINDS: [(ColumnKind, &[u8]); 4] = [
+    (ColumnKind::Uint, b"\x3f\0\x0b\0\0\0\x03\x20\0"),
+    (ColumnKind::Whole, b"\x3f\0\x14\0\0\0\x08\0\0"),
+    (ColumnKind::Unsigned, b"\x3f\0\x14\0\0\0\x08\x20\0"),
+    (ColumnKind::Text, b"\x21\0\xff\0\0\0\xfd\0\0"),
+];
+
+/// Whether a column of this kind, of 56 bytes, is told by these fields.
+fn is_told(alloc: Global, kind: ColumnKind, fields: &[u8]) -> Result<bool, Fail> {
+    let payload = column_payload(alloc, b"@@version_comment", kind)?;
+    Ok(payload.len() == 56 && payload.get(44..53) == Some(fields))
+}
+
+/// The number of the first kind that is told by other fields.
+fn first_untold(alloc: Global) -> Result<Option<usize>, Fail> {
+    for (at, (kind, fields)) in KINDS.iter().enumerate() {
+        if !is_told(alloc, *kind, fields)? {
+            return Ok(Some(at));
+        }
+    }
+    Ok(None)
+}
+
+#[test]
+fn columns_tell_their_kinds(rt: HostRuntime) -> Result<(), Fail> {
+    assert_eq!(rt; first_untold(rt.alloc())?, None);
+    Ok(())
+}
