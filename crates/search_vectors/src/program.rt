@@ -53,12 +53,18 @@ fn first_other_status(alloc: Global) -> Result<Option<usize>, Fail> {
 }
 
 /// Texts of a file that are no configuration, the line and the kind of the first fault, and what is printed to the errors.
-const REFUSED: [(&[u8], u32, ConfKind, &[u8]); 4] = [
+const REFUSED: [(&[u8], u32, ConfKind, &[u8]); 5] = [
     (
-        b"index rt\n{\ntype = rt\npath = data/rt\nrt_field = title\nrt_feld = content\n}\n",
+        b"index rt\n{\ntype = rt\npath = data/rt\nrt_field = title\nrt_feld = content\nrt_attr_uint = gid\nrt_attr_bigint = price\n}\n",
         6,
         ConfKind::UnknownKey,
         b"searchd: config line 6: unknown key\n",
+    ),
+    (
+        b"index rt\n{\ntype = rt\nrt_field = title\nrt_field = content\nrt_attr_uint = gid\nrt_attr_bigint = price\n}\n",
+        8,
+        ConfKind::Missing,
+        b"searchd: config line 8: missing key\n",
     ),
     (
         b"",
