@@ -1,4 +1,4 @@
-use crate::wire_replies::{GREETING, OUT_OF_MEMORY, ROW_SET};
+use crate::replies::{GREETING, OUT_OF_MEMORY, ROW_SET};
 use mysql_wire::{
     ColumnKind, WireEof, WireFault, WireGreeting, WireOk, read_column, read_eof, read_err,
     read_greeting, read_lenenc, read_ok, read_row,

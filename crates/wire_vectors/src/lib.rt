@@ -1,0 +1,17 @@
+//! Tests by tables of values from outside over `mysql_wire`, `doc_types` and `srch_base`, which are proved once without them.
+#![tactic(auto)]
+
+#[cfg(test)]
+mod documents;
+#[cfg(test)]
+mod handshakes;
+#[cfg(test)]
+mod links;
+#[cfg(test)]
+mod packets;
+#[cfg(test)]
+mod reading;
+#[cfg(test)]
+mod replies;
+#[cfg(test)]
+mod small_texts;
