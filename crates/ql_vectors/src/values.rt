@@ -185,7 +185,8 @@ fn replaces(alloc: Global, text: &str) -> Option<bool> {
 
 /// How many ids a DELETE names in a list; none where it names one id by itself.
 fn listed_ids(alloc: Global, text: &str) -> Option<Option<usize>> {
-    match statement(alloc, text)? {
+    let statement = statement(alloc, text)?;
+    match &statement {
         Statement::Delete {
             ids: Ids::One(_),
             ..
