@@ -1,7 +1,8 @@
-use ql_lex::lex;
-use ql_parse::{MAX_STATEMENTS, ParseFault, ParseKind, Statement, parse};
-use srch_base::{NoMemory, Or};
+use crate::reading::read;
+use ql_parse::{MAX_STATEMENTS, ParseFault, ParseKind, Statement};
+use srch_base::NoMemory;
 use std::alloc::Global;
+use std::test::Fail;
 
 /// Texts that are no packet, and the places of the tokens with which none goes on.
 const FAULTS: [(&str, u32); 122] = [
@@ -133,46 +134,38 @@ const FAULTS: [(&str, u32); 122] = [
 ];
 
 /// Whether a text has this fault.
-fn has_fault(alloc: Global, text: &[u8], expected: ParseFault) -> bool {
-    if text.len() > 1000 {
-        return false;
-    }
-    let Ok(tokens) = lex(alloc, text) else {
-        return false;
-    };
-    match parse(alloc, tokens.as_slice()) {
-        Err(Or::Fault(fault)) => fault == expected,
+fn has_fault(alloc: Global, text: &[u8], place: u32, kind: ParseKind) -> bool {
+    match read(alloc, text) {
+        Some(Err(fault)) => fault == ParseFault { place, kind },
         _ => false,
     }
 }
 
+/// The number of the first text with another fault.
+fn first_other_fault(alloc: Global) -> Option<usize> {
+    for (at, (text, place)) in FAULTS.iter().enumerate() {
+        if !has_fault(alloc, text.as_bytes(), *place, ParseKind::Syntax) {
+            return Some(at);
+        }
+    }
+    None
+}
+
 #[test]
 fn finds_faults(rt: HostRuntime) {
-    for (text, place) in FAULTS {
-        let kind = ParseKind::Syntax;
-        assert!(rt;
-            has_fault(rt.alloc(), text.as_bytes(), ParseFault { place, kind }),
-            "{text}"
-        );
-    }
+    assert_eq!(rt; first_other_fault(rt.alloc()), None);
 }
 
 /// Whether a text is a packet of as many statements as are allowed.
 fn is_full(alloc: Global, text: &[u8]) -> bool {
-    if text.len() > 1000 {
-        return false;
-    }
-    let Ok(tokens) = lex(alloc, text) else {
-        return false;
-    };
-    match parse(alloc, tokens.as_slice()) {
-        Ok(list) => list.len() == MAX_STATEMENTS,
-        Err(_) => false,
+    match read(alloc, text) {
+        Some(Ok(list)) => list.len() == MAX_STATEMENTS,
+        _ => false,
     }
 }
 
 /// 31 statements, the `;` behind the last, and a text.
-fn after_31(alloc: Global, last: &str) -> Result<Vec<u8>, NoMemory> {
+fn after_31(alloc: Global, last: &str) -> Result<Vec<u8>, Fail> {
     let mut text = Vec::new(alloc);
     for _ in 0..31 {
         text.extend_from_slice(b"begin;")?;
@@ -182,11 +175,12 @@ fn after_31(alloc: Global, last: &str) -> Result<Vec<u8>, NoMemory> {
 }
 
 #[test]
-fn reads_as_many_statements_as_are_allowed(rt: HostRuntime) {
-    for last in ["begin", "begin;", "commit ; "] {
-        let text = after_31(rt.alloc(), last).ok().expect(&rt, "memory");
-        assert!(rt; is_full(rt.alloc(), text.as_slice()), "{last}");
-    }
+fn reads_as_many_statements_as_are_allowed(rt: HostRuntime) -> Result<(), Fail> {
+    let alloc = rt.alloc();
+    assert!(rt; is_full(alloc, &after_31(alloc, "begin")?));
+    assert!(rt; is_full(alloc, &after_31(alloc, "begin;")?));
+    assert!(rt; is_full(alloc, &after_31(alloc, "commit ; ")?));
+    Ok(())
 }
 
 /// What may stand behind 31 statements and a `;`, the place of its fault, and the kind.
@@ -202,15 +196,21 @@ const TOO_MANY: [(&str, u32, ParseKind); 9] = [
     ("begin begin", 192, ParseKind::Syntax),
 ];
 
-#[test]
-fn counts_statements(rt: HostRuntime) {
-    for (last, place, kind) in TOO_MANY {
-        let text = after_31(rt.alloc(), last).ok().expect(&rt, "memory");
-        assert!(rt;
-            has_fault(rt.alloc(), text.as_slice(), ParseFault { place, kind }),
-            "{last}"
-        );
+/// The number of the first of them with another fault.
+fn first_other_count(alloc: Global) -> Result<Option<usize>, Fail> {
+    for (at, (last, place, kind)) in TOO_MANY.iter().enumerate() {
+        let text = after_31(alloc, last)?;
+        if !has_fault(alloc, &text, *place, *kind) {
+            return Ok(Some(at));
+        }
     }
+    Ok(None)
+}
+
+#[test]
+fn counts_statements(rt: HostRuntime) -> Result<(), Fail> {
+    assert_eq!(rt; first_other_count(rt.alloc())?, None);
+    Ok(())
 }
 
 /// The text of an INSERT of 10,001 rows, about one megabyte.
@@ -226,11 +226,7 @@ fn large_insert(alloc: Global) -> Result<Vec<u8>, NoMemory> {
 
 /// How many rows the only statement of a text inserts.
 fn rows_inserted(alloc: Global, text: &[u8]) -> Option<usize> {
-    if text.len() > 2000000 {
-        return None;
-    }
-    let tokens = lex(alloc, text).ok()?;
-    let list = parse(alloc, tokens.as_slice()).ok()?;
+    let list = read(alloc, text)?.ok()?;
     match list.as_slice() {
         [Statement::Insert { rows, .. }] => Some(rows.len()),
         _ => None,

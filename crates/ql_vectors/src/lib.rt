@@ -12,6 +12,8 @@ mod lexing_faults;
 #[cfg(test)]
 mod packets;
 #[cfg(test)]
+mod reading;
+#[cfg(test)]
 mod token_values;
 #[cfg(test)]
 mod values;

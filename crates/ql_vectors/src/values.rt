@@ -1,17 +1,10 @@
-use ql_lex::lex;
-use ql_parse::{
-    Comparison, Cond, Ids, LimitPart, ParseFault, ParseKind, Scope, Select, Statement, parse,
-};
-use srch_base::Or;
+use crate::reading::read;
+use ql_parse::{Comparison, Cond, Ids, LimitPart, ParseFault, ParseKind, Scope, Select, Statement};
 use std::alloc::Global;
 
 /// The only statement of a text.
 fn statement(alloc: Global, text: &str) -> Option<Statement> {
-    if text.len() > 1000 {
-        return None;
-    }
-    let tokens = lex(alloc, text.as_bytes()).ok()?;
-    let mut list = parse(alloc, tokens.as_slice()).ok()?;
+    let mut list = read(alloc, text.as_bytes())?.ok()?;
     if list.len() > 1 { None } else { list.pop() }
 }
 
@@ -52,11 +45,19 @@ fn has_limit(alloc: Global, text: &str, limit: LimitPart) -> Option<bool> {
     Some(select(alloc, text)?.limit == Some(limit))
 }
 
+/// The number of the first text with another limit.
+fn first_other_limit(alloc: Global) -> Option<usize> {
+    for (at, (text, limit)) in LIMITS.iter().enumerate() {
+        if has_limit(alloc, text, *limit) != Some(true) {
+            return Some(at);
+        }
+    }
+    None
+}
+
 #[test]
 fn limits_keep_their_order(rt: HostRuntime) {
-    for (text, limit) in LIMITS {
-        assert!(rt; has_limit(rt.alloc(), text, limit) == Some(true), "{text}");
-    }
+    assert_eq!(rt; first_other_limit(rt.alloc()), None);
 }
 
 /// Conditions on one column, and how they compare with which number.
@@ -84,14 +85,19 @@ fn compares(alloc: Global, text: &str, how: Comparison, number: i128) -> Option<
     })
 }
 
+/// The number of the first text that compares otherwise.
+fn first_other_comparison(alloc: Global) -> Option<usize> {
+    for (at, (text, how, number)) in COMPARISONS.iter().enumerate() {
+        if compares(alloc, text, *how, *number) != Some(true) {
+            return Some(at);
+        }
+    }
+    None
+}
+
 #[test]
 fn comparisons_keep_their_sign(rt: HostRuntime) {
-    for (text, how, number) in COMPARISONS {
-        assert!(rt;
-            compares(rt.alloc(), text, how, number) == Some(true),
-            "{text}"
-        );
-    }
+    assert_eq!(rt; first_other_comparison(rt.alloc()), None);
 }
 
 /// Conditions by a range or a set, and their numbers in order: a range is neither, a set is negated or not.
@@ -120,14 +126,19 @@ fn ranges(alloc: Global, text: &str, set: Option<bool>, numbers: [i128; 2]) -> O
     })
 }
 
+/// The number of the first text with another range or set.
+fn first_other_range(alloc: Global) -> Option<usize> {
+    for (at, (text, set, numbers)) in RANGES.iter().enumerate() {
+        if ranges(alloc, text, *set, *numbers) != Some(true) {
+            return Some(at);
+        }
+    }
+    None
+}
+
 #[test]
 fn ranges_keep_their_order(rt: HostRuntime) {
-    for (text, set, numbers) in RANGES {
-        assert!(rt;
-            ranges(rt.alloc(), text, set, numbers) == Some(true),
-            "{text}"
-        );
-    }
+    assert_eq!(rt; first_other_range(rt.alloc()), None);
 }
 
 /// Sort keys, and whether they descend.
@@ -144,14 +155,19 @@ fn descends(alloc: Global, text: &str, descending: Option<bool>) -> Option<bool>
     })
 }
 
+/// The number of the first text that sorts otherwise.
+fn first_other_direction(alloc: Global) -> Option<usize> {
+    for (at, (text, descending)) in DIRECTIONS.iter().enumerate() {
+        if descends(alloc, text, *descending) != Some(true) {
+            return Some(at);
+        }
+    }
+    None
+}
+
 #[test]
 fn sort_keys_keep_their_direction(rt: HostRuntime) {
-    for (text, descending) in DIRECTIONS {
-        assert!(rt;
-            descends(rt.alloc(), text, descending) == Some(true),
-            "{text}"
-        );
-    }
+    assert_eq!(rt; first_other_direction(rt.alloc()), None);
 }
 
 /// Settings, and their scopes.
@@ -168,11 +184,19 @@ fn is_set(alloc: Global, text: &str, wanted: Scope) -> Option<bool> {
     })
 }
 
+/// The number of the first text with another scope.
+fn first_other_scope(alloc: Global) -> Option<usize> {
+    for (at, (text, scope)) in SCOPES.iter().enumerate() {
+        if is_set(alloc, text, *scope) != Some(true) {
+            return Some(at);
+        }
+    }
+    None
+}
+
 #[test]
 fn settings_keep_their_scope(rt: HostRuntime) {
-    for (text, scope) in SCOPES {
-        assert!(rt; is_set(rt.alloc(), text, scope) == Some(true), "{text}");
-    }
+    assert_eq!(rt; first_other_scope(rt.alloc()), None);
 }
 
 /// Whether a text is an INSERT, or a REPLACE.
@@ -209,18 +233,6 @@ fn changes_are_told_apart(rt: HostRuntime) {
     assert!(rt; listed_ids(alloc, "delete from rt where id in (5, 6)") == Some(Some(2)));
 }
 
-/// The fault of a text.
-fn fault(alloc: Global, text: &str) -> Option<ParseFault> {
-    if text.len() > 1000 {
-        return None;
-    }
-    let tokens = lex(alloc, text.as_bytes()).ok()?;
-    match parse(alloc, tokens.as_slice()) {
-        Err(Or::Fault(fault)) => Some(fault),
-        _ => None,
-    }
-}
-
 /// Whether a fault is printed so.
 fn is_printed(alloc: Global, fault: ParseFault, text: &str) -> bool {
     match format!(in alloc; "{fault}") {
@@ -232,7 +244,11 @@ fn is_printed(alloc: Global, fault: ParseFault, text: &str) -> bool {
 #[test]
 fn faults_are_printed(rt: HostRuntime) {
     let alloc = rt.alloc();
-    let syntax = fault(alloc, "SELEC 1").expect(&rt, "a fault");
+    let syntax = ParseFault {
+        place: 0,
+        kind: ParseKind::Syntax,
+    };
+    assert!(rt; read(alloc, b"SELEC 1") == Some(Err(syntax)));
     assert!(rt; is_printed(alloc, syntax, "syntax error at 0"));
     let many = ParseFault {
         place: 192,
