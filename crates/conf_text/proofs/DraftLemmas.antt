@@ -7,6 +7,7 @@ use Rattle.std.specs.Str.{bytes_eq}
 use Rattle.std.proofs.lemmas.Bool.{true≢false}
 use Rattle.doc_types.specs.declared.schema.AttrKind.{AttrKind}
 use Rattle.doc_types.specs.declared.schema.TheConstants.{MAX_FIELDS, MAX_ATTRS, MAX_ZONES}
+use Rattle.std.proofs.lemmas.List.Folds.{list_any-append}
 use Rattle.conf_text.specs.declared.conf.IndexConf.{IndexConf}
 use Rattle.conf_text.specs.declared.draft.Draft.{Draft}
 use Rattle.conf_text.specs.declared.keys.Key.{Key}
@@ -23,7 +24,7 @@ use Rattle.conf_text.specs.Keys.{attr_kind}
 use Rattle.conf_text.specs.Sections.{Entry, IndexText, attrs_in, fields_in, given}
 use Rattle.conf_text.specs.Settings.{IsSetting, is_plain}
 use Rattle.conf_text.specs.Shapes.{small}
-use Rattle.conf_text.proofs.Entries.{has_given, list_any_append, list_any_map, pathed_by}
+use Rattle.conf_text.proofs.Entries.{has_given, list_any_map, pathed_by}
 
 -- a key that a draft has
 pub key_has : (name : List ℕ) (entries : List Entry) (draft : Draft) (key : Key) → IsDraft name entries draft → has_key draft.given.items key ≡ is_some (given key entries)
@@ -35,7 +36,7 @@ column_has name entries draft column is =
     ap (λ (fs : List (List ℕ)). is_among column fs || list_any (λ attr. bytes_eq attr.0 column) draft.attrs.items) is.fields
     ∙ ap (λ (all : List (List ℕ × AttrKind)). is_among column (fields_in entries) || list_any (λ attr. bytes_eq attr.0 column) all) is.attrs
     ∙ ap (λ b. is_among column (fields_in entries) || b) (sym (list_any_map (λ other. bytes_eq other column) (λ (attr : List ℕ × AttrKind). attr.0) (attrs_in entries)))
-    ∙ sym (list_any_append (λ other. bytes_eq other column) (fields_in entries) (map (λ attr. attr.0) (attrs_in entries)))
+    ∙ sym (list_any-append (λ other. bytes_eq other column) (fields_in entries) (map (λ attr. attr.0) (attrs_in entries)))
 
 -- the keys whose values aren't kept stand once
 plain_repeated : (texts : List IndexText) (entries : List Entry) (key : Key) (value : List ℕ) → is_plain key ≡ true → is_repeated texts entries key value ≡ is_some (given key entries)

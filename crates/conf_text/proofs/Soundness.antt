@@ -11,6 +11,7 @@ use Rattle.std.proofs.lemmas.List.{map-append, length-map}
 use Rattle.std.proofs.lemmas.List.Elements.{All-nil, All-push}
 use Rattle.doc_types.specs.declared.schema.TheConstants.{MAX_FIELDS, MAX_ATTRS, MAX_ZONES}
 use Rattle.doc_types.specs.Schemas.{AreDistinct, AreZones, IsName, is_capital, is_column_name}
+use Rattle.std.proofs.lemmas.List.Folds.{list_any-append}
 use Rattle.conf_text.specs.declared.keys.Key.{Key}
 use Rattle.conf_text.specs.declared.keys.Key.TheVariants as keys
 use Rattle.conf_text.specs.Confs.{zones_by}
@@ -23,7 +24,7 @@ use Rattle.conf_text.specs.Shapes.{small}
 use Rattle.conf_text.specs.Values.{AreZoneNames, IsValue, can_be_column, zones_in}
 use Rattle.doc_types.specs.declared.schema.AttrKind.{AttrKind}
 use Rattle.conf_text.proofs.Among.{among_no, distinct_more}
-use Rattle.conf_text.proofs.Entries.{filter_map_more, given_new, given_other, list_any_append}
+use Rattle.conf_text.proofs.Entries.{filter_map_more, given_new, given_other}
 use Rattle.conf_text.proofs.Flags.{and_left, or_no_left, or_no_right}
 use Rattle.conf_text.proofs.Pairs.{AreApart, all_cons, all_differ}
 
@@ -123,7 +124,7 @@ same_more texts entries key value field attr zones path good =
 -- a name that is no column yet
 column_new : (column : List ℕ) (entries : List Entry) → is_column column entries ≡ false → (is_among column (fields_in entries) ≡ false) × (is_among column (attr_names_in entries) ≡ false)
 column_new column entries new =
-    let split : (is_among column (fields_in entries) || is_among column (attr_names_in entries)) ≡ false = sym (list_any_append (λ other. bytes_eq other column) (fields_in entries) (attr_names_in entries)) ∙ new in
+    let split : (is_among column (fields_in entries) || is_among column (attr_names_in entries)) ≡ false = sym (list_any-append (λ other. bytes_eq other column) (fields_in entries) (attr_names_in entries)) ∙ new in
     (or_no_left _ _ split, or_no_right _ _ split)
 
 few_more : (count limit : ℕ) → nat_le limit count ≡ false → count + 1 ≤ limit
