@@ -1,0 +1,259 @@
+#!/usr/bin/env python3
+"""Checks that the promises of the crates speak by definitions of `specs/` alone.
+
+A reader must believe the definitions by which the clauses of public functions speak, and those that they use in turn;
+they lie in a crate's `specs/`. What serves proofs and private functions alone lies in `specs/steps/`. This program reads
+the sources, follows each public clause to the definitions that it reaches, and prints for each crate
+
+    believed    definitions of specs/ that some public clause reaches
+    steps       definitions of specs/steps/
+    idle        definitions of specs/ that no public clause reaches
+
+It fails where a public clause reaches a definition of specs/steps/, and where a definition is idle: that one belongs
+into specs/steps/. With names of crates it prints these alone.
+
+    python3 scripts/promises.py [CRATE..]
+"""
+
+import re
+import sys
+from pathlib import Path
+
+ROOT = Path(__file__).resolve().parent.parent
+NAME = r"[^\W\d][\w'?!-]*"
+HEADER = re.compile(rf"^(?:(?:abbrev|unfoldable|opaque)\s+)?(?:pub\s+)?(?:(record|data)\s+)?({NAME}|\S*◌\S*)\s*(?=[:({{])")
+IMPORT = re.compile(r"(?:pub |ghost )?use Rattle\.([\w.«»]+?)(?:\.\{([^}]*)\}|\s+as\s+(\w+))?;?$")
+FUNCTION = re.compile(r"^(\s*)(pub )?(?:const |unsafe )*fn (\w+)")
+
+
+class Definition:
+    """One definition of specs/, with the names that it uses."""
+
+    def __init__(self, module, name):
+        self.module = module
+        self.name = name
+        self.lines = []
+
+    @property
+    def is_step(self):
+        return ".specs.steps" in self.module
+
+    def __str__(self):
+        return f"{self.module}.{self.name}"
+
+
+class Names:
+    """What the names of a file stand for: its own definitions, and what it imports."""
+
+    def __init__(self):
+        self.here = {}
+        self.imported = {}
+
+    def add_import(self, line):
+        found = IMPORT.match(line.strip())
+        if not found or not found.group(2):
+            return
+        for item in found.group(2).split(","):
+            name, _, other = item.strip().partition(" as ")
+            if name:
+                self.imported[other.strip() or name] = (found.group(1), name)
+
+
+def mentions(text):
+    """The words of a text, and its signs, which name operators."""
+    return set(re.findall(NAME, text)), set(re.findall(r"[^\s\w(){}\[\],.;:'λ→×]+", text))
+
+
+def names_operator(name, signs):
+    parts = [part for part in name.split("◌") if part]
+    return bool(parts) and all(part in signs for part in parts)
+
+
+class House:
+    """All crates of the repository: their definitions, by module, and their public clauses."""
+
+    def __init__(self):
+        lines = (ROOT / "crates.txt").read_text().splitlines()
+        self.crates = [line.split(":")[0].split()[0] for line in lines if ":" in line]
+        self.modules = {}
+        self.passed_on = {}
+        self.clauses = []
+        for crate in self.crates:
+            self.read_specs(crate)
+        for crate in self.crates:
+            self.read_sources(crate)
+
+    def read_specs(self, crate):
+        folder = ROOT / "crates" / crate / "specs"
+        for file in sorted(folder.rglob("*.antt")):
+            module = ".".join([crate, "specs", *file.relative_to(folder).with_suffix("").parts])
+            names = Names()
+            current = None
+            for line in file.read_text().splitlines():
+                line = line.split("--")[0].rstrip() if line.lstrip().startswith("--") else line.rstrip()
+                if line.startswith("pub use "):
+                    target = line[len("pub use Rattle."):].strip()
+                    self.passed_on[f"{crate}.specs.{target.split('.')[-1]}"] = target
+                elif line.startswith("use "):
+                    names.add_import(line)
+                elif line and not line[0].isspace():
+                    current = self.start(names, module, line, current)
+                elif current and line:
+                    self.add_line(names, current, line)
+            self.modules[module] = names
+
+    def start(self, names, module, line, current):
+        """The definition that a line at the margin begins or goes on with."""
+        if line.startswith(("pub mod", "infix", "open")):
+            return current
+        found = HEADER.match(line)
+        declares = line.startswith(("abbrev ", "unfoldable ", "opaque ", "pub ", "record ", "data "))
+        if found and (declares or found.group(2) not in names.here and " = " not in line):
+            current = Definition(module, found.group(2))
+            names.here[current.name] = current
+        if current:
+            current.lines.append(line)
+        return current
+
+    def add_line(self, names, definition, line):
+        """A further line of a definition; a constructor of a type names the type."""
+        definition.lines.append(line)
+        found = re.match(rf"^  (?:pub )?({NAME}|\S*◌\S*)\s*:", line)
+        if found and " data " in f" {definition.lines[0]} ":
+            names.here.setdefault(found.group(1), definition)
+
+    def read_sources(self, crate):
+        folder = ROOT / "crates" / crate / "src"
+        root = next((file for file in (folder / "lib.rt", folder / "main.rt") if file.exists()), None)
+        exported = set()
+        for found in re.finditer(r"pub use ([\w:]+?)(?:::\{([^}]*)\}|::(\w+))?;", root.read_text() if root else ""):
+            items = found.group(2) or found.group(3) or found.group(1)
+            exported.update(item.strip().split(" as ")[0] for item in items.split(","))
+        for file in sorted(folder.rglob("*.rt")):
+            self.read_source(crate, file, exported)
+
+    def read_source(self, crate, file, exported):
+        names = Names()
+        lines = file.read_text().splitlines()
+        for line in lines:
+            if line.strip().startswith("ghost use "):
+                names.add_import(line)
+        owner, is_public, is_trait = None, False, False
+        at = 0
+        while at < len(lines):
+            line = lines[at]
+            if line and not line[0].isspace():
+                owner, is_public, is_trait = self.block(line, exported)
+            found = FUNCTION.match(line)
+            if found:
+                end = self.end_of_head(lines, at, found.group(1))
+                top = not found.group(1)
+                public = (found.group(3) in exported and bool(found.group(2))) if top else is_public and (is_trait or bool(found.group(2)))
+                if public:
+                    title = found.group(3) if top else f"{owner}::{found.group(3)}"
+                    self.clauses.append((crate, title, names, "\n".join(lines[at:end])))
+                at = max(end, at + 1)
+                continue
+            member = re.match(r"^\s+(?:pub )?ghost (?!use\b|invariant\b)(\w+)\b", line)
+            if member and is_public and owner:
+                end = at + 1
+                while end < len(lines) and not lines[end - 1].rstrip().endswith((";", ",", "}")):
+                    end += 1
+                self.clauses.append((crate, f"{owner}.{member.group(1)}", names, "\n".join(lines[at:end])))
+            at += 1
+
+    @staticmethod
+    def block(line, exported):
+        """What a line at the margin opens: whose it is, whether that is public, and whether all in it is."""
+        found = re.match(r"^impl(?:<.*?>)? (?:([\w:]+)(?:<.*?>)? for )?&?(\w+)", line)
+        if found:
+            return found.group(2), found.group(2) in exported, found.group(1) is not None
+        found = re.match(r"^pub (?:trait|struct|enum) (\w+)", line)
+        if found:
+            return found.group(1), found.group(1) in exported, True
+        return None, False, False
+
+    @staticmethod
+    def end_of_head(lines, at, indent):
+        """The line after a function's signature and clauses."""
+        end = at
+        while end < len(lines):
+            text = lines[end].rstrip()
+            clause = re.match(r"^\s+(requires|ensures|measure)\b", text)
+            if text == indent + "{" or (text.endswith("{") and not clause and "{ " not in text):
+                return end
+            if text.endswith(";") and text.count("{") <= text.count("}"):
+                return end + 1
+            end += 1
+        return end
+
+    def module_of(self, path):
+        seen = set()
+        while path not in self.modules and path in self.passed_on and path not in seen:
+            seen.add(path)
+            path = self.passed_on[path]
+        return self.modules.get(path)
+
+    def find(self, names, name, seen=()):
+        """The definition that a name stands for in a file, if it is one of this repository."""
+        if name in names.here:
+            return names.here[name]
+        if name in names.imported and (id(names), name) not in seen:
+            path, original = names.imported[name]
+            module = self.module_of(path)
+            if module:
+                return self.find(module, original, (*seen, (id(names), name)))
+        return None
+
+    def used(self, names, text):
+        words, signs = mentions(text)
+        known = [*names.here, *names.imported]
+        for name in known:
+            if name in words or ("◌" in name and names_operator(name, signs)):
+                found = self.find(names, name)
+                if found:
+                    yield found
+
+    def reach(self):
+        """Each definition that a public clause reaches, with how it was reached."""
+        reached = {}
+        todo = []
+        for crate, title, names, text in self.clauses:
+            for definition in self.used(names, text):
+                if definition not in reached:
+                    reached[definition] = f"a clause of {crate}::{title}"
+                    todo.append(definition)
+        while todo:
+            definition = todo.pop()
+            names = self.modules[definition.module]
+            for used in self.used(names, "\n".join(definition.lines)):
+                if used not in reached:
+                    reached[used] = f"{definition}"
+                    todo.append(used)
+        return reached
+
+
+def main(chosen):
+    house = House()
+    reached = house.reach()
+    wrong = idle_count = 0
+    print(f"{'crate':16} {'believed':>8} {'steps':>6} {'idle':>5}")
+    for crate in house.crates:
+        if chosen and crate not in chosen:
+            continue
+        all_of = {d for m, names in house.modules.items() if m.split(".")[0] == crate for d in names.here.values()}
+        steps = {d for d in all_of if d.is_step}
+        idle = {d for d in all_of - steps if d not in reached}
+        print(f"{crate:16} {len(all_of - steps - idle):8} {len(steps):6} {len(idle):5}")
+        for definition in sorted(steps & reached.keys(), key=str):
+            print(f"  {definition} is of steps, and used by {reached[definition]}")
+            wrong += 1
+        for definition in sorted(idle, key=str):
+            print(f"  {definition} is reached by no public clause")
+        idle_count += len(idle)
+    print(f"public clauses: {len(house.clauses)}; reached in steps: {wrong}; idle: {idle_count}")
+    return 1 if wrong or idle_count else 0
+
+
+if __name__ == "__main__":
+    sys.exit(main(sys.argv[1:]))
