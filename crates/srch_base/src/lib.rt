@@ -9,6 +9,7 @@ mod list_door;
 mod memory_link;
 mod numbers;
 mod pieces;
+mod steps;
 mod texts;
 
 pub use door::Door;
@@ -18,4 +19,5 @@ pub use link::Link;
 pub use list_door::ListDoor;
 pub use memory_link::MemoryLink;
 pub use numbers::{put_u16, put_u32, put_u64, u16_at, u32_at, u64_at};
+pub use steps::Steps;
 pub use texts::{Name, Text, Word};
