@@ -1,3 +1,14 @@
+-- the columns of an index
 pub mod Schemas
+-- the tokens of a field, documents, and lists of rows
 pub mod Documents
+-- the rows of an index by their ids
+pub mod Rows
+-- transactions of a schema
 pub mod Transactions
+-- what a commit makes of the rows, and what becomes of a transaction
+pub mod Commits
+-- what a chunk answers
+pub mod Chunks
+-- layers of chunks, and the rows that live
+pub mod Snapshots

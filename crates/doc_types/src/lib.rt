@@ -1,13 +1,21 @@
 //! What documents are: the columns of an index, the tokens of a field, rows, and transactions over them.
 #![tactic(auto)]
 
+mod chunk;
+mod cursor;
 mod documents;
+mod hits;
 mod schema;
+mod snapshot;
 mod tokens;
 mod transactions;
 
+pub use chunk::Chunk;
+pub use cursor::Cursor;
 pub use documents::{Doc, DocRow};
+pub use hits::{Hit, Hits};
 pub use schema::{AttrKind, MAX_ATTRS, MAX_FIELDS, MAX_NAME_BYTES, MAX_ZONES, Schema, Value};
+pub use snapshot::{Layer, Snapshot};
 pub use tokens::{
     FieldTokens, Gap, MAX_POSITION, MAX_WORD_BYTES, MAX_WORD_CHARS, TokenWord, ZoneSpan,
 };

@@ -1,0 +1,112 @@
+-- Chunks: what each call answers, as facts about the chunk's list of rows.
+use Rattle.std.specs.Prelude.{◌≤◌, ℕ, ◌+◌, ◌-◌, List, [], Bool, true, false, not, IsTrue, Option, length, map, min, slice_get}
+use Rattle.std.specs.Option.{option_map, option_and_then, option_map_or}
+use Rattle.std.specs.List.{filter, list_any, flat_map, enumerate_from}
+use Rattle.std.specs.Str.{bytes_eq}
+use Rattle.std.specs.Cmp.Lexicographic.{slice_cmp}
+use Rattle.std.specs.Ordering.{nat_cmp}
+use Rattle.std.specs.FinSet as sets
+use Rattle.doc_types.specs.declared.documents.DocRow.{DocRow}
+use Rattle.doc_types.specs.declared.schema.Schema.{Schema}
+use Rattle.doc_types.specs.declared.schema.Value.{Value}
+use Rattle.doc_types.specs.declared.tokens.FieldTokens.{FieldTokens}
+use Rattle.doc_types.specs.declared.tokens.Gap.{Gap}
+use Rattle.doc_types.specs.declared.tokens.Gap.TheVariants as gaps
+use Rattle.doc_types.specs.declared.tokens.TokenWord.{TokenWord}
+use Rattle.doc_types.specs.declared.tokens.ZoneSpan.{ZoneSpan}
+use Rattle.doc_types.specs.Documents.{AreRowsOf, AreSmall}
+use Rattle.doc_types.specs.Schemas.{IsSchema}
+
+-- what a chunk holds: rows of some schema, and not too many of them
+pub record IsContent (rows : List DocRow) : Type 0 where
+  pub schema : Schema
+  pub limits : IsSchema schema
+  pub of : AreRowsOf schema rows
+  pub small : AreSmall rows
+
+-- the row's field of this number, and its value of that one, where they are there
+abbrev pub field_at : List DocRow → ℕ → ℕ → Option FieldTokens
+field_at rows row field = option_and_then (λ found. slice_get found.doc.fields field) (slice_get rows row)
+
+abbrev pub value_at : List DocRow → ℕ → ℕ → Option Value
+value_at rows row attr = option_and_then (λ found. slice_get found.doc.values attr) (slice_get rows row)
+
+-- the numbers of the elements that pass, ascending, from 0
+abbrev pub numbers_where : {X : Type 0} → (X → Bool) → List X → List ℕ
+numbers_where passes xs = map (λ e. e.0) (filter (λ e. passes e.1) (enumerate_from 0 xs))
+
+-- the token's word is this one
+abbrev pub is_word : List ℕ → TokenWord → Bool
+is_word word token = bytes_eq token.word word
+
+-- the word stands in one of the row's fields
+abbrev pub has_word : List ℕ → DocRow → Bool
+has_word word row = list_any (λ field. list_any (is_word word) field.words) row.doc.fields
+
+-- the rows that have the word, by their numbers, ascending
+abbrev pub rows_with : List ℕ → List DocRow → List ℕ
+rows_with word rows = numbers_where (has_word word) rows
+
+-- all words of the rows, as often as they stand there
+abbrev pub occurrences : List DocRow → List (List ℕ)
+occurrences rows = flat_map (λ row. flat_map (λ field. map (λ token. token.word) field.words) row.doc.fields) rows
+
+-- the words of the rows, each once, ascending by their bytes
+abbrev pub words_of : List DocRow → List (List ℕ)
+words_of rows = sets.items (sets.from_list {R = slice_cmp nat_cmp} (occurrences rows))
+
+-- the position of the field's last word, or 0 where it has no word
+abbrev pub last_position : FieldTokens → ℕ
+last_position field = option_map_or (λ token. token.position) (slice_get field.words (length field.words - 1)) 0
+
+-- the positions of the word in the field
+abbrev pub positions_of : List ℕ → FieldTokens → List ℕ
+positions_of word field = map (λ token. token.position) (filter (is_word word) field.words)
+
+-- a boundary, of either kind
+abbrev pub is_boundary : Gap → Bool
+is_boundary gaps.None = false
+is_boundary gaps.Sentence = true
+is_boundary gaps.Paragraph = true
+
+-- the boundaries of the field, each with the position that it takes
+abbrev pub gaps_of : FieldTokens → List (ℕ × Gap)
+gaps_of field = map (λ token. (token.position - 1, token.gap)) (filter (λ token. is_boundary token.gap) field.words)
+
+-- what each field of the row has, field by field, each with the field's number
+abbrev pub by_field : {X : Type 0} → (FieldTokens → List X) → DocRow → List (ℕ × X)
+by_field items row = flat_map (λ e. map (λ x. (e.0, x)) (items e.1)) (enumerate_from 0 row.doc.fields)
+
+-- the word's places in the row: field and position
+abbrev pub hits_of : List ℕ → DocRow → List (ℕ × ℕ)
+hits_of word row = by_field (positions_of word) row
+
+-- the spans of the row: field and span
+abbrev pub spans_of : DocRow → List (ℕ × ZoneSpan)
+spans_of row = by_field (λ field. field.spans) row
+
+-- Where a cursor stands: on its way over the rows that have a word, so many of them behind it.
+pub record Place : Type 0 where
+  pub word : List ℕ
+  pub passed : ℕ
+
+-- a place among these rows: the word is there, and the cursor hasn't left its rows
+pub record IsPlace (rows : List DocRow) (place : Place) : Type 0 where
+  pub there : IsTrue (list_any (has_word place.word) rows)
+  pub within : place.passed ≤ length (rows_with place.word rows)
+
+-- the place before all rows that have the word
+abbrev pub first_place : List ℕ → Place
+first_place word = record { word = word; passed = 0 }
+
+-- the next row that has the word, by its number, if one is left
+abbrev pub row_at : List DocRow → Place → Option ℕ
+row_at rows place = slice_get (rows_with place.word rows) place.passed
+
+-- the place one row on, or the same where no row is left
+abbrev pub next_place : List DocRow → Place → Place
+next_place rows place = record place { passed = min (place.passed + 1) (length (rows_with place.word rows)) }
+
+-- the places of the word in the next row that has it
+abbrev pub hits_at : List DocRow → Place → List (ℕ × ℕ)
+hits_at rows place = option_map_or (hits_of place.word) (option_and_then (slice_get rows) (row_at rows place)) []

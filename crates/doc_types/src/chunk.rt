@@ -1,0 +1,126 @@
+ghost use Rattle.std.specs.Prelude.{◌≡◌, ◌+◌, ◌<◌, ◌==◌, ◌++◌, List, [], length, is_some, IsSome, IfSome, OnOk, OnErr, slice_get};
+ghost use Rattle.std.specs.Option.{option_map, option_map_or};
+ghost use Rattle.std.specs.List.{list_any, position};
+ghost use Rattle.doc_types.specs.Chunks.{
+  IsContent,
+  field_at,
+  value_at,
+  has_word,
+  words_of,
+  last_position,
+  gaps_of,
+  spans_of,
+  Place,
+  IsPlace,
+  first_place,
+  row_at,
+  next_place,
+  hits_at,
+};
+ghost use Rattle.doc_types.specs.declared.documents.DocRow.{DocRow};
+ghost use Rattle.doc_types.specs.declared.cursor.Cursor.{Cursor};
+
+use crate::cursor::Cursor;
+use crate::schema::Value;
+use crate::tokens::{Gap, ZoneSpan};
+use srch_base::{NoMemory, Steps};
+use std::sync::ledger::Ledger;
+
+/// A list of rows by ascending id, with the rows of each word.
+///
+/// Rows, fields, attributes and words have numbers from 0. Every answer is one of the list, whatever keeps it: a plain list,
+/// posting lists in memory, or an image of a file. After want of memory all is as before, but for the step that `open` counts.
+pub trait Chunk: Drop {
+    /// The rows.
+    ghost content: { Self → List DocRow };
+
+    /// The cursor is one of this chunk.
+    ghost belongs: { Self → Cursor → Type 0 };
+
+    /// Where a cursor of the chunk stands.
+    ghost place: { Self → Cursor → Place };
+
+    /// How many rows there are.
+    fn rows(&self) -> u32
+        ensures { result ≡ length (content self.now) };
+
+    /// The row's id.
+    fn id(&self, row: u32) -> u64
+        requires { row < length (content self.now) }
+        ensures { option_map (λ found. found.doc.id) (slice_get (content self.now) row) ≡ Some result };
+
+    /// The number of the commit that put the row.
+    fn born(&self, row: u32) -> u64
+        requires { row < length (content self.now) }
+        ensures { option_map (λ found. found.born) (slice_get (content self.now) row) ≡ Some result };
+
+    /// The row's value of an attribute.
+    fn value(&self, row: u32, attr: u16) -> Value
+        requires { IsSome (value_at (content self.now) row attr) }
+        ensures { value_at (content self.now) row attr ≡ Some result };
+
+    /// The position of the last word of the row's field, or 0.
+    fn last(&self, row: u32, field: u16) -> u32
+        requires { IsSome (field_at (content self.now) row field) }
+        ensures { option_map last_position (field_at (content self.now) row field) ≡ Some result };
+
+    /// The row of an id, if it is there.
+    fn find(&self, id: u64) -> Option<u32>
+        ensures { result ≡ position (λ row. row.doc.id == id) (content self.now) };
+
+    /// How many different words there are.
+    fn words(&self) -> u32
+        ensures { result ≡ length (words_of (content self.now)) };
+
+    /// The word of this number, in the order of their bytes.
+    fn word_at(&self, n: u32) -> &[u8]
+        requires { n < length (words_of (content self.now)) }
+        ensures { slice_get (words_of (content self.now)) n ≡ Some result.now };
+
+    /// A cursor before all rows that have the word. None exactly where no row has it.
+    fn start(&self, word: &[u8]) -> Option<Cursor>
+        ensures found { is_some result ≡ list_any (has_word word.now) (content self.now) }
+        ensures first { IfSome result (λ cursor. belongs self.now cursor × (place self.now cursor ≡ first_place word.now)) };
+
+    /// The next row that has the word, if one is left.
+    fn row(&self, cursor: &Cursor) -> Option<u32>
+        requires { belongs self.now cursor.now }
+        ensures { result ≡ row_at (content self.now) (place self.now cursor.now) };
+
+    /// Goes over the next row that has the word, if one is left.
+    fn advance(&self, cursor: &mut Cursor)
+        requires { belongs self.now cursor.old }
+        ensures stays { belongs self.now cursor.new }
+        ensures next { place self.now cursor.new ≡ next_place (content self.now) (place self.now cursor.old) };
+
+    /// Appends the word's places in the next row that has it, by field and position, ascending. It counts one step.
+    fn open<L: Ledger>(
+        &self,
+        cursor: &Cursor,
+        into: &mut Vec<(u16, u32)>,
+        steps: &mut Steps<L>,
+    ) -> Result<(), NoMemory>
+        requires belongs { belongs self.now cursor.now }
+        requires left { IsSome (row_at (content self.now) (place self.now cursor.now)) }
+        ensures ok { OnOk result (into.new.items ≡ into.old.items ++ hits_at (content self.now) (place self.now cursor.now)) }
+        ensures err { OnErr result (into.new.items ≡ into.old.items) }
+        ensures count { steps.new ≡ steps.old + 1 };
+
+    /// Appends the boundaries of the row's field, each with the position that it takes, ascending.
+    fn gaps(&self, row: u32, field: u16, into: &mut Vec<(u32, Gap)>) -> Result<(), NoMemory>
+        requires { IsSome (field_at (content self.now) row field) }
+        ensures ok { OnOk result (into.new.items ≡ into.old.items ++ option_map_or gaps_of (field_at (content self.now) row field) []) }
+        ensures err { OnErr result (into.new.items ≡ into.old.items) };
+
+    /// Appends the spans of zones of the row, each with its field, by field, first position, last position and zone.
+    fn spans(&self, row: u32, into: &mut Vec<(u16, ZoneSpan)>) -> Result<(), NoMemory>
+        requires { row < length (content self.now) }
+        ensures ok { OnOk result (into.new.items ≡ into.old.items ++ option_map_or spans_of (slice_get (content self.now) row) []) }
+        ensures err { OnErr result (into.new.items ≡ into.old.items) };
+
+    /// Its rows are of some schema, ascend by their ids, and are not too many.
+    ghost whole: { (chunk : Self) → IsContent (content chunk) };
+
+    /// Its cursors stand at rows of it.
+    ghost places: { (chunk : Self) (cursor : Cursor) → belongs chunk cursor → IsPlace (content chunk) (place chunk cursor) };
+}

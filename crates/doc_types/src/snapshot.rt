@@ -1,0 +1,50 @@
+ghost use Rattle.std.specs.Prelude.{◌≡◌, count_by};
+ghost use Rattle.std.specs.FinMap as finite;
+ghost use Rattle.doc_types.specs.Snapshots.{live};
+
+use crate::chunk::Chunk;
+use srch_base::Items;
+use std::alloc::Global;
+use std::marker::Model;
+use std::sync::Arc;
+
+/// A chunk of a snapshot, with the rows of it that are dead. Contracts see the chunk as its rows.
+#[derive(Drop)]
+pub struct Layer<C: Chunk> {
+    pub chunk: Arc<C, Global>,
+    /// The chunk is an image of a file.
+    pub disk: bool,
+    /// The rows that were killed, or put anew in a later layer, ascending.
+    pub dead: Items<u32>,
+}
+
+impl<C: Chunk> Model for Layer<C> {
+    ghost use Rattle.std.specs.Arc.{arc_value};
+    ghost use Rattle.doc_types.specs.Snapshots.{LayerValue, IsLayer};
+
+    ghost Value = { LayerValue };
+
+    ghost view = { λ a. record { rows = C.content (arc_value a.chunk); disk = a.disk; dead = a.dead } };
+
+    ghost invariant = { λ a. IsLayer (record { rows = C.content (arc_value a.chunk); disk = a.disk; dead = a.dead }) };
+}
+
+/// The state of an index after a commit: layers of rows. Contracts see it without the kind of its chunks.
+#[derive(Drop)]
+pub struct Snapshot<C: Chunk> {
+    /// The number of the last commit.
+    pub number: u64,
+    /// How often the layers were put together anew.
+    pub shape: u64,
+    pub layers: Items<Layer<C>>,
+}
+
+impl<C: Chunk> Model for Snapshot<C> {
+    ghost use Rattle.doc_types.specs.Snapshots.{SnapshotValue, AreLayers};
+
+    ghost Value = { SnapshotValue };
+
+    ghost view = { λ a. record { number = a.number; shape = a.shape; layers = a.layers } };
+
+    ghost invariant = { λ a. AreLayers a.layers };
+}
