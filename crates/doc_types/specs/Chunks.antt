@@ -1,5 +1,5 @@
 -- Chunks: what each call answers, as facts about the chunk's list of rows.
-use Rattle.std.specs.Prelude.{◌≤◌, ℕ, ◌+◌, ◌-◌, List, [], Bool, true, false, not, IsTrue, Option, length, map, min, slice_get}
+use Rattle.std.specs.Prelude.{◌≡◌, ◌<◌, ℕ, ◌-◌, List, [], ◌++◌, Bool, true, false, Option, length, map, drop, slice_get}
 use Rattle.std.specs.Option.{option_map, option_and_then, option_map_or}
 use Rattle.std.specs.List.{filter, list_any, flat_map, enumerate_from}
 use Rattle.std.specs.Str.{bytes_eq}
@@ -85,28 +85,29 @@ hits_of word row = by_field (positions_of word) row
 abbrev pub spans_of : DocRow → List (ℕ × ZoneSpan)
 spans_of row = by_field (λ field. field.spans) row
 
--- Where a cursor stands: on its way over the rows that have a word, so many of them behind it.
+-- Where a cursor stands: on its way over the rows that have a word, with these still ahead of it.
 pub record Place : Type 0 where
   pub word : List ℕ
-  pub passed : ℕ
+  pub ahead : List ℕ
 
--- a place among these rows: the word is there, and the cursor hasn't left its rows
+-- a place among these rows: some have the word, and the rows ahead are the last ones of those that have it
 pub record IsPlace (rows : List DocRow) (place : Place) : Type 0 where
-  pub there : IsTrue (list_any (has_word place.word) rows)
-  pub within : place.passed ≤ length (rows_with place.word rows)
+  pub some : 0 < length (rows_with place.word rows)
+  pub behind : List ℕ
+  pub both : behind ++ place.ahead ≡ rows_with place.word rows
 
 -- the place before all rows that have the word
-abbrev pub first_place : List ℕ → Place
-first_place word = record { word = word; passed = 0 }
+abbrev pub first_place : List ℕ → List DocRow → Place
+first_place word rows = record { word = word; ahead = rows_with word rows }
 
--- the next row that has the word, by its number, if one is left
-abbrev pub row_at : List DocRow → Place → Option ℕ
-row_at rows place = slice_get (rows_with place.word rows) place.passed
+-- the first row ahead, if there is one
+abbrev pub next_row : Place → Option ℕ
+next_row place = slice_get place.ahead 0
 
--- the place one row on, or the same where no row is left
-abbrev pub next_place : List DocRow → Place → Place
-next_place rows place = record place { passed = min (place.passed + 1) (length (rows_with place.word rows)) }
+-- the place after the first row ahead, or the same where there is none
+abbrev pub next_place : Place → Place
+next_place place = record place { ahead = drop 1 place.ahead }
 
--- the places of the word in the next row that has it
-abbrev pub hits_at : List DocRow → Place → List (ℕ × ℕ)
-hits_at rows place = option_map_or (hits_of place.word) (option_and_then (slice_get rows) (row_at rows place)) []
+-- the places of the word in the first row ahead
+abbrev pub hits_ahead : List DocRow → Place → List (ℕ × ℕ)
+hits_ahead rows place = option_map_or (hits_of place.word) (option_and_then (slice_get rows) (next_row place)) []

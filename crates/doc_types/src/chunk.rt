@@ -1,11 +1,11 @@
-ghost use Rattle.std.specs.Prelude.{◌≡◌, ◌+◌, ◌<◌, ◌==◌, ◌++◌, List, [], length, is_some, IsSome, IfSome, OnOk, OnErr, slice_get};
+ghost use Rattle.std.specs.Prelude.{◌≡◌, ◌+◌, ◌<◌, ◌==◌, ◌++◌, List, [], length, ◌↔◌, IsSome, IfSome, IfNone, OnOk, OnErr, slice_get};
 ghost use Rattle.std.specs.Option.{option_map, option_map_or};
-ghost use Rattle.std.specs.List.{list_any, position};
+ghost use Rattle.std.specs.List.{position};
 ghost use Rattle.doc_types.specs.Chunks.{
   IsContent,
   field_at,
   value_at,
-  has_word,
+  rows_with,
   words_of,
   last_position,
   gaps_of,
@@ -13,9 +13,9 @@ ghost use Rattle.doc_types.specs.Chunks.{
   Place,
   IsPlace,
   first_place,
-  row_at,
+  next_row,
   next_place,
-  hits_at,
+  hits_ahead,
 };
 ghost use Rattle.doc_types.specs.declared.documents.DocRow.{DocRow};
 ghost use Rattle.doc_types.specs.declared.cursor.Cursor.{Cursor};
@@ -79,19 +79,21 @@ pub trait Chunk: Drop {
 
     /// A cursor before all rows that have the word. None exactly where no row has it.
     fn start(&self, word: &[u8]) -> Option<Cursor>
-        ensures found { is_some result ≡ list_any (has_word word.now) (content self.now) }
-        ensures first { IfSome result (λ cursor. belongs self.now cursor × (place self.now cursor ≡ first_place word.now)) };
+        ensures found { IsSome result ↔ (0 < length (rows_with word.now (content self.now))) }
+        ensures none { IfNone result (rows_with word.now (content self.now) ≡ []) }
+        ensures first { IfSome result (λ cursor. belongs self.now cursor × (place self.now cursor ≡ first_place word.now (content self.now))) };
 
     /// The next row that has the word, if one is left.
     fn row(&self, cursor: &Cursor) -> Option<u32>
         requires { belongs self.now cursor.now }
-        ensures { result ≡ row_at (content self.now) (place self.now cursor.now) };
+        ensures next { result ≡ next_row (place self.now cursor.now) }
+        ensures none { IfNone result ((place self.now cursor.now).ahead ≡ []) };
 
     /// Goes over the next row that has the word, if one is left.
     fn advance(&self, cursor: &mut Cursor)
         requires { belongs self.now cursor.old }
         ensures stays { belongs self.now cursor.new }
-        ensures next { place self.now cursor.new ≡ next_place (content self.now) (place self.now cursor.old) };
+        ensures next { place self.now cursor.new ≡ next_place (place self.now cursor.old) };
 
     /// Appends the word's places in the next row that has it, by field and position, ascending. It counts one step.
     fn open<L: Ledger>(
@@ -101,8 +103,8 @@ pub trait Chunk: Drop {
         steps: &mut Steps<L>,
     ) -> Result<(), NoMemory>
         requires belongs { belongs self.now cursor.now }
-        requires left { IsSome (row_at (content self.now) (place self.now cursor.now)) }
-        ensures ok { OnOk result (into.new.items ≡ into.old.items ++ hits_at (content self.now) (place self.now cursor.now)) }
+        requires left { IsSome (next_row (place self.now cursor.now)) }
+        ensures ok { OnOk result (into.new.items ≡ into.old.items ++ hits_ahead (content self.now) (place self.now cursor.now)) }
         ensures err { OnErr result (into.new.items ≡ into.old.items) }
         ensures count { steps.new ≡ steps.old + 1 };
 
