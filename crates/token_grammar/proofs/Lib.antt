@@ -1,0 +1,12 @@
+pub mod Bools
+pub mod Laws
+pub mod Verdicts
+pub mod Beginnings
+pub mod Rows
+pub mod Choices
+pub mod Lists
+pub mod Lookahead
+pub mod Agreement
+pub mod Once
+pub mod OnceChoices
+pub mod Stops
