@@ -7,7 +7,7 @@ use Rattle.std.specs.Str.Parse.{AllDigits}
 use Rattle.std.proofs.lemmas.Bool.{cases_Bool, true≢false, eqb-true, eqb-false, eq-eqb, ne_eqb}
 use Rattle.std.proofs.lemmas.List.{take-append-drop, get_or_default}
 use Rattle.charset_map.specs.Characters.{IsCharacter, is_plain}
-use Rattle.charset_map.specs.Sides.{Lacks}
+use Rattle.charset_map.specs.steps.Sides.{Lacks}
 use Rattle.charset_map.proofs.CharacterLemmas.{digit_at}
 
 -- the place of the first such byte

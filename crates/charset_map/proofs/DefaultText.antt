@@ -11,7 +11,7 @@ use Rattle.charset_map.specs.declared.entries.Entry.{Entry}
 use Rattle.charset_map.specs.Characters.{IsCharacter, is_plain}
 use Rattle.charset_map.specs.Entries.{IsRange, single, range, mapped, mapped_range}
 use Rattle.charset_map.specs.Table.{steps, IsEven, value_in, value_of, Agree}
-use Rattle.charset_map.specs.Reading.{pieces, AreEntries, IsTableOf, default_text}
+use Rattle.charset_map.specs.TableText.{entry_texts, AreEntries, IsTableOf, default_text}
 
 -- ---- the entries
 abbrev own : ℕ → ℕ → Entry
@@ -63,7 +63,7 @@ code_401 = code_char (52 ∷ 48 ∷ 49 ∷ []) 0x401 refl refl refl refl
 code_451 : IsCharacter (85 ∷ 43 ∷ 52 ∷ 53 ∷ 49 ∷ []) 0x451
 code_451 = code_char (52 ∷ 53 ∷ 49 ∷ []) 0x451 refl refl refl refl
 
-spelled : AreEntries (pieces default_text) default_entries
+spelled : AreEntries (entry_texts default_text) default_entries
 spelled = (
   range (range_of (48 ∷ []) (57 ∷ []) _ (plain_char 48 refl) (plain_char 57 refl)) refl,
   (
@@ -128,7 +128,7 @@ agree_apart entry later test c v w known gives gets =
     let there = in_entry later c w gets in
     absurd (elim (or_cases (ltb entry.from.last later.from.first) (ltb later.from.last entry.from.first) test) [
       | inl before ↦ omega (arith, ltb-true _ _ before, here.1, there.0)
-      | inr behind ↦ omega (arith, ltb-true _ _ behind, here.0, there.1)
+      | inr beyond ↦ omega (arith, ltb-true _ _ beyond, here.0, there.1)
     ])
 
 apart_at : (entry : Entry) (entries : List Entry) (k : ℕ) (d : Entry) → list_all (are_apart entry) entries ≡ true → k < length entries → are_apart entry (get_or entries k d) ≡ true

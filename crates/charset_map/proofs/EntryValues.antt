@@ -13,9 +13,10 @@ use Rattle.charset_map.specs.declared.span.Span.{Span}
 use Rattle.charset_map.specs.Characters.{ordinal, character_at, IsCharacter}
 use Rattle.charset_map.specs.Entries.{IsSingle, IsRange, IsEntry, single, range, mapped, mapped_range}
 use Rattle.charset_map.specs.Table.{IsEven, value_in, value_of, Agree, IsTable}
-use Rattle.charset_map.specs.Reading.{GivesAnother}
-use Rattle.charset_map.specs.Spans.{number_in, SameWhereBoth, Differ}
-use Rattle.charset_map.specs.Adding.{by_numbers, StandsFor, IsSpanOf}
+use Rattle.charset_map.specs.TableText.{GivesAnother}
+use Rattle.charset_map.specs.Spans.{number_in}
+use Rattle.charset_map.specs.steps.SpanLists.{SameWhereBoth, Differ}
+use Rattle.charset_map.specs.steps.Adding.{by_numbers, StandsFor, IsSpanOf}
 
 -- ---- numbers of characters
 low_ordinal : (c : ℕ) → c < 0xD800 → ordinal c ≡ c
@@ -46,8 +47,8 @@ scalar_at n within = elim (cases_lt n 0xD800) [
 ]
 
 -- no surrogate
-behind_surrogates : (c : ℕ) → IsScalar c → 0xD800 ≤ c → 0xE000 ≤ c
-behind_surrogates c scalar high = elim (scalar_cases c scalar) [
+after_surrogates : (c : ℕ) → IsScalar c → 0xD800 ≤ c → 0xE000 ≤ c
+after_surrogates c scalar high = elim (scalar_cases c scalar) [
   | inl low ↦ absurd (omega (arith, low))
   | inr ranges ↦ ranges.0
 ]
@@ -56,7 +57,7 @@ ordinals_rise : (a b : ℕ) → IsScalar a → IsScalar b → a < b → ordinal 
 ordinals_rise a b scalar_a scalar_b less = elim (cases_lt b 0xD800) [
   | inl low ↦ omega (arith, low_ordinal a (omega arith), low_ordinal b low)
   | inr high ↦ (elim (cases_lt a 0xD800) [
-    | inl low ↦ omega (arith, low_ordinal a low, high_ordinal b high, behind_surrogates b scalar_b high)
+    | inl low ↦ omega (arith, low_ordinal a low, high_ordinal b high, after_surrogates b scalar_b high)
     | inr both ↦ omega (arith, high_ordinal a both, high_ordinal b high)
   ])
 ]

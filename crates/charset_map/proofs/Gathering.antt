@@ -7,8 +7,9 @@ use Rattle.std.proofs.Math.Seq.{drop-cons}
 use Rattle.std.proofs.lemmas.List.{get_or_default}
 use Rattle.std.proofs.lemmas.Bool.{cases_lt, eqb-false, ltb-true, ltb-false, lt-ltb, le-ltb, le-leb, lt-leb}
 use Rattle.charset_map.specs.declared.span.Span.{Span}
-use Rattle.charset_map.specs.Spans.{IsSound, AreApart, number_in, number_of, are_alike, joined, with_span, Differ}
-use Rattle.charset_map.specs.Placing.{IsPlaceFor}
+use Rattle.charset_map.specs.Spans.{number_in, number_of}
+use Rattle.charset_map.specs.steps.SpanLists.{IsSound, AreApart, are_alike, joined, with_span, Differ}
+use Rattle.charset_map.specs.steps.Placing.{IsPlaceFor}
 use Rattle.charset_map.proofs.SpanLemmas.{sound_at, from_at, in_span, number_found}
 
 -- the spans from one place to another are gathered into the whole
@@ -28,12 +29,12 @@ with_span_front whole old spans ends =
     ap (λ b. cond b (old ∷ with_span whole spans) (cond (leb old.first whole.last) (with_span (joined whole old) spans) (whole ∷ old ∷ spans))) (lt-ltb old.last whole.first ends)
 
 -- the spans that end below it stay in front
-with_span_behind : (span : Span) (spans : List Span) (from : ℕ) → from ≤ length spans → AllWithin (λ old. ltb old.last span.first ≡ true) spans 0 from → with_span span spans ≡ take from spans ++ with_span span (drop from spans)
-with_span_behind span spans zero within low = refl
-with_span_behind span [] (suc from) within low = absurd (omega arith)
-with_span_behind span (old ∷ spans) (suc from) within low =
+with_span_after : (span : Span) (spans : List Span) (from : ℕ) → from ≤ length spans → AllWithin (λ old. ltb old.last span.first ≡ true) spans 0 from → with_span span spans ≡ take from spans ++ with_span span (drop from spans)
+with_span_after span spans zero within low = refl
+with_span_after span [] (suc from) within low = absurd (omega arith)
+with_span_after span (old ∷ spans) (suc from) within low =
     with_span_front span old spans (ltb-true _ _ (low 0 old (omega arith) (omega arith)))
-    ∙ ap (λ ss. old ∷ ss) (with_span_behind span spans from (omega arith) (λ k d least below. low (suc k) d (omega arith) (omega arith)))
+    ∙ ap (λ ss. old ∷ ss) (with_span_after span spans from (omega arith) (λ k d least below. low (suc k) d (omega arith) (omega arith)))
 
 pub gathers_none : (span : Span) (spans : List Span) (from : ℕ) → from ≤ length spans → IsPartitionPoint (λ old. ltb old.last span.first ≡ true) (λ old. ltb old.last span.first ≡ false) spans from → Gathers span spans from from span
 gathers_none span spans from within parted = record {
@@ -44,7 +45,7 @@ gathers_none span spans from within parted = record {
   last = omega arith;
   beyond = λ k d least below far. far;
   alike = λ k d least below. absurd (omega arith);
-  new = with_span_behind span spans from within parted.0;
+  new = with_span_after span spans from within parted.0;
 }
 
 -- one that begins before the others end
@@ -53,7 +54,7 @@ with_span_joined whole old spans ends begins =
     ap (λ b. cond b (old ∷ with_span whole spans) (cond (leb old.first whole.last) (with_span (joined whole old) spans) (whole ∷ old ∷ spans))) (le-ltb old.last whole.first ends)
     ∙ ap (λ b. cond b (with_span (joined whole old) spans) (whole ∷ old ∷ spans)) (le-leb old.first whole.last begins)
 
--- one that begins behind
+-- one that begins after
 pub with_span_before : (whole old : Span) (spans : List Span) → whole.first ≤ old.last → whole.last < old.first → with_span whole (old ∷ spans) ≡ whole ∷ old ∷ spans
 with_span_before whole old spans ends begins =
     ap (λ b. cond b (old ∷ with_span whole spans) (cond (leb old.first whole.last) (with_span (joined whole old) spans) (whole ∷ old ∷ spans))) (le-ltb old.last whole.first ends)
@@ -71,9 +72,9 @@ end_before_this : (spans : List Span) (to k : ℕ) (d e : Span) → AreApart 0 s
 end_before_this spans to k d e apart order within =
     subst (λ (s : Span). (get_or spans k e).last < s.first) (get_or_default spans to e d within) (ends_before 0 spans k to e apart order within)
 
--- and those behind it begin behind its end
-begin_behind_this : (spans : List Span) (to k : ℕ) (d e : Span) → AreApart 0 spans → to < k → k < length spans → (get_or spans to d).last < (get_or spans k e).first
-begin_behind_this spans to k d e apart order within =
+-- and those after it begin after its end
+begin_after_this : (spans : List Span) (to k : ℕ) (d e : Span) → AreApart 0 spans → to < k → k < length spans → (get_or spans to d).last < (get_or spans k e).first
+begin_after_this spans to k d e apart order within =
     subst (λ (s : Span). s.last < (get_or spans k e).first) (get_or_default spans to e d (omega arith)) (ends_before 0 spans to k e apart order within)
 
 pub gathers_more : (span : Span) (spans : List Span) (from to : ℕ) (whole d : Span) → AreApart 0 spans → Gathers span spans from to whole → to < length spans → (get_or spans to d).first ≤ span.last → are_alike (get_or spans to d) span ≡ true → Gathers span spans from (to + 1) (joined whole (get_or spans to d))
@@ -86,7 +87,7 @@ gathers_more span spans from to whole d apart g within begins same =
       within = omega arith;
       first = omega (arith, g.first);
       last = omega (arith, g.last);
-      beyond = λ k e least below far. omega (arith, g.beyond k e (omega arith) below far, begin_behind_this spans to k d e apart (omega arith) below);
+      beyond = λ k e least below far. omega (arith, g.beyond k e (omega arith) below far, begin_after_this spans to k d e apart (omega arith) below);
       alike = λ k e least below. elim (cases_lt k to) [
         | inl earlier ↦ g.alike k e least earlier
         | inr here ↦ (let is : to ≡ k = omega arith in
@@ -101,7 +102,7 @@ gathers_more span spans from to whole d apart g within begins same =
           ∙ ap (λ (n : ℕ). take from spans ++ with_span (joined whole old) (drop n spans)) next;
     }
 
--- behind the gathered spans nothing shares a number with the whole
+-- after the gathered spans nothing shares a number with the whole
 with_span_last : (whole : Span) (spans : List Span) (to : ℕ) → ((d : Span) → to < length spans → whole.first ≤ (get_or spans to d).last) → ((d : Span) → to < length spans → whole.last < (get_or spans to d).first) → with_span whole (drop to spans) ≡ whole ∷ drop to spans
 with_span_last whole spans to ends begins = elim (cases_lt to (length spans)) [
   | inl within ↦ (let rest : drop to spans ≡ get_or spans to whole ∷ drop (suc to) spans = drop-cons spans to whole within in
@@ -123,8 +124,8 @@ gathered_all span spans from to whole apart g stop = record {
     | inl earlier ↦ absurd (omega (arith, ends, ltb-true _ _ (g.parted.0 k d (omega arith) earlier)))
     | inr from_here ↦ (elim (cases_lt k to) [
       | inl between ↦ g.alike k d from_here between
-      | inr behind ↦ absurd (elim (cases_lt to k) [
-        | inl later ↦ omega (arith, begins, stop d (omega arith), begin_behind_this spans to k d d apart later below, (sound_at 0 spans to d apart (omega arith)).ordered)
+      | inr beyond ↦ absurd (elim (cases_lt to k) [
+        | inl later ↦ omega (arith, begins, stop d (omega arith), begin_after_this spans to k d d apart later below, (sound_at 0 spans to d apart (omega arith)).ordered)
         | inr here ↦ (let is : to ≡ k = omega arith in
             let P : ℕ → Type 0 = λ n. span.last < (get_or spans n d).first in
             let far : P k = subst P is (stop d (omega arith)) in

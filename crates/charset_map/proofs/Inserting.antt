@@ -4,9 +4,10 @@ use Rattle.std.specs.Option.{option_or}
 use Rattle.std.specs.List.{insert, remove_range}
 use Rattle.std.proofs.lemmas.Bool.{cases_lt, eqb-true, eq-eqb, lt-ltb, le-ltb}
 use Rattle.charset_map.specs.declared.span.Span.{Span}
-use Rattle.charset_map.specs.Spans.{IsSound, AreApart, AgreesWith, number_in, number_of, are_alike, joined, with_span, SameWhereBoth}
+use Rattle.charset_map.specs.Spans.{number_in, number_of}
+use Rattle.charset_map.specs.steps.SpanLists.{IsSound, AreApart, AgreesWith, are_alike, joined, with_span, SameWhereBoth}
 use Rattle.charset_map.proofs.Gathering.{with_span_front, with_span_joined, with_span_before}
-use Rattle.charset_map.proofs.SpanLemmas.{sound_at, from_at, in_span, before_span, behind_span, is_in_span, none_below}
+use Rattle.charset_map.proofs.SpanLemmas.{sound_at, from_at, in_span, before_span, after_span, is_in_span, none_below}
 
 -- two spans that share a number and are alike
 pub record Meets (span old : Span) : Type 0 where
@@ -56,12 +57,12 @@ joined_other span old x meets (inl below) = elim (cases_lt x span.first) [
   | inr from ↦ joined_new span old x meets from (omega (arith, meets.begins))
 ]
 joined_other span old x meets (inr above) = elim (cases_lt span.last x) [
-  | inl behind ↦ behind_span (joined span old) x (omega arith) ∙ sym (behind_span span x behind)
+  | inl beyond ↦ after_span (joined span old) x (omega arith) ∙ sym (after_span span x beyond)
   | inr to ↦ joined_new span old x meets (omega (arith, meets.ends)) to
 ]
 
 alike_joined : (span old later : Span) → Meets span old → IsSound later → old.last < later.first → (later.first ≤ span.last → span.first ≤ later.last → are_alike later span ≡ true) → later.first ≤ (joined span old).last → (joined span old).first ≤ later.last → are_alike later (joined span old) ≡ true
-alike_joined span old later meets sound behind same begins ends =
+alike_joined span old later meets sound beyond same begins ends =
     let near : later.first ≤ span.last = omega (arith, begins) in
     let alike : later.value + span.first ≡ span.value + later.first = eqb-true _ _ (same near (omega (arith, meets.ends, sound.ordered))) in
     eq-eqb _ _ (omega (arith, alike, value_of_joined span old meets))
@@ -108,10 +109,10 @@ option_or_assoc : (a b c : Option ℕ) → option_or a (option_or b c) ≡ optio
 option_or_assoc None b c = refl
 option_or_assoc (Some v) b c = refl
 
--- a number that the one span has the list behind it hasn't
+-- a number that the one span has the list after it hasn't
 either_order : (span : Span) (old : Span) (spans : List Span) (x : ℕ) → IsSound old → AreApart (old.last + 1) spans → span.last < old.first → option_or (number_in span x) (number_of (old ∷ spans) x) ≡ option_or (number_of (old ∷ spans) x) (number_in span x)
 either_order span old spans x sound apart before = elim (cases_lt span.last x) [
-  | inl behind ↦ (let none : number_in span x ≡ None = behind_span span x behind in
+  | inl beyond ↦ (let none : number_in span x ≡ None = after_span span x beyond in
       ap (λ o. option_or o (number_of (old ∷ spans) x)) none
       ∙ sym (ap (option_or (number_of (old ∷ spans) x)) none ∙ option_or_none (number_of (old ∷ spans) x)))
   | inr to ↦ (let none : number_of (old ∷ spans) x ≡ None = none_below old.first (old ∷ spans) x (omega arith, sound, apart) (omega arith) in
@@ -120,14 +121,14 @@ either_order span old spans x sound apart before = elim (cases_lt span.last x) [
       ∙ sym (ap (λ o. option_or o (number_in span x)) none))
 ]
 
--- the values of the joined span and of those behind it
+-- the values of the joined span and of those after it
 joined_values : (span old : Span) (spans : List Span) (x : ℕ) → Meets span old → AreApart (old.last + 1) spans → option_or (number_of spans x) (number_in (joined span old) x) ≡ option_or (option_or (number_in old x) (number_of spans x)) (number_in span x)
 joined_values span old spans x meets apart = elim (cases_lt x old.first) [
   | inl below ↦ ap (option_or (number_of spans x)) (joined_other span old x meets (inl below))
       ∙ sym (ap (λ o. option_or (option_or o (number_of spans x)) (number_in span x)) (before_span old x below))
   | inr from ↦ (elim (cases_lt old.last x) [
     | inl above ↦ ap (option_or (number_of spans x)) (joined_other span old x meets (inr above))
-        ∙ sym (ap (λ o. option_or (option_or o (number_of spans x)) (number_in span x)) (behind_span old x above))
+        ∙ sym (ap (λ o. option_or (option_or o (number_of spans x)) (number_in span x)) (after_span old x above))
     | inr to ↦ ap (λ o. option_or o (number_in (joined span old) x)) (none_below (old.last + 1) spans x apart (omega arith))
         ∙ joined_old span old x meets from to
         ∙ in_span old x from to
@@ -160,7 +161,7 @@ same_where_both n span (first ∷ spans) apart agrees x v w old new =
     elim (cases_lt x first.first) [
       | inl below ↦ tail (sym (ap (λ o. option_or o (number_of spans x)) (before_span first x below)) ∙ old) new
       | inr from ↦ (elim (cases_lt first.last x) [
-        | inl above ↦ tail (sym (ap (λ o. option_or o (number_of spans x)) (behind_span first x above)) ∙ old) new
+        | inl above ↦ tail (sym (ap (λ o. option_or o (number_of spans x)) (after_span first x above)) ∙ old) new
         | inr to ↦ (let had : Some (first.value + (x - first.first)) ≡ Some v = sym (ap (λ o. option_or o (number_of spans x)) (in_span first x from to)) ∙ old in
             let is : first.value + (x - first.first) ≡ v = cc in
             let gets = is_in_span span x w new in
@@ -178,14 +179,14 @@ put_between (span ∷ spans) more (suc from) whole within = ap (λ ss. span ∷ 
 pub put_in : (spans : List Span) (from to : ℕ) (whole : Span) → from ≤ length spans → insert (remove_range spans from to) from whole ≡ take from spans ++ whole ∷ drop to spans
 put_in spans from to whole within = put_between spans (drop to spans) from whole within
 
-apart_behind : (n : ℕ) (spans : List Span) (to : ℕ) → AreApart n spans → AreApart n (drop to spans)
-apart_behind n spans zero apart = apart
-apart_behind n [] (suc to) apart = tt
-apart_behind n (span ∷ spans) (suc to) apart = apart_behind n spans to (from_below n (span.last + 1) spans (omega (arith, apart.0, apart.1.ordered)) apart.2)
+apart_after : (n : ℕ) (spans : List Span) (to : ℕ) → AreApart n spans → AreApart n (drop to spans)
+apart_after n spans zero apart = apart
+apart_after n [] (suc to) apart = tt
+apart_after n (span ∷ spans) (suc to) apart = apart_after n spans to (from_below n (span.last + 1) spans (omega (arith, apart.0, apart.1.ordered)) apart.2)
 
 -- the list without some of its spans
 pub apart_without : (n : ℕ) (spans : List Span) (from to : ℕ) → from ≤ to → AreApart n spans → AreApart n (remove_range spans from to)
-apart_without n spans zero to order apart = apart_behind n spans to apart
-apart_without n [] (suc from) to order apart = apart_behind n [] to apart
+apart_without n spans zero to order apart = apart_after n spans to apart
+apart_without n [] (suc from) to order apart = apart_after n [] to apart
 apart_without n (span ∷ spans) (suc from) zero order apart = absurd (omega arith)
 apart_without n (span ∷ spans) (suc from) (suc to) order apart = (apart.0, apart.1, apart_without (span.last + 1) spans from to (omega arith) apart.2)

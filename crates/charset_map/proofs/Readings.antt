@@ -1,4 +1,4 @@
--- Reading a text piece by piece.
+-- Reading a text entry_text by entry_text.
 use Rattle.std.proofs.Common.{◌≡◌, ℕ, ◌+◌, ◌-◌, ◌<◌, ◌≤◌, eqb, List, [], ◌∷◌, ◌++◌, append_assoc, length, length-drop, length-take, take, take_all, drop, get_or, refl, sym, ◌∙◌, ap, subst, arith, inl, inr}
 use Rattle.std.specs.List.{slice_split, prefix_len}
 use Rattle.std.proofs.lemmas.Bool.{cases_lt, ne_eqb}
@@ -11,18 +11,18 @@ use Rattle.charset_map.specs.declared.fault.CharsetFault.{CharsetFault}
 use Rattle.charset_map.specs.Characters.{is_blank}
 use Rattle.charset_map.specs.Entries.{IsEntry}
 use Rattle.charset_map.specs.Table.{IsTable}
-use Rattle.charset_map.specs.Reading.{Piece, piece_at, pieces_from, pieces, without_front, without_back, AreEntries, IsFaulty, IsTableOf, IsFirstFault}
+use Rattle.charset_map.specs.TableText.{EntryText, entry_text_at, entry_texts_from, entry_texts, without_front, without_back, AreEntries, IsFaulty, IsTableOf, IsFirstFault}
 use Rattle.charset_map.specs.Spans.{number_of, folded}
-use Rattle.charset_map.specs.Adding.{StandsFor}
-use Rattle.charset_map.specs.Sides.{Lacks}
+use Rattle.charset_map.specs.steps.Adding.{StandsFor}
+use Rattle.charset_map.specs.steps.Sides.{Lacks}
 use Rattle.charset_map.proofs.Cutting.{place, place_within, lacks_before}
 
--- what was read: the pieces before the rest are entries, and the spans stand for them
+-- what was read: the entry_texts before the rest are entries, and the spans stand for them
 pub record HasRead (text rest : List ℕ) (spans : List Span) : Type 0 where
-  pub before : List Piece
+  pub before : List EntryText
   pub entries : List Entry
   pub within : length rest ≤ length text
-  pub are : pieces text ≡ before ++ pieces_from (length text - length rest) (slice_split (λ b. eqb b 44) rest)
+  pub are : entry_texts text ≡ before ++ entry_texts_from (length text - length rest) (slice_split (λ b. eqb b 44) rest)
   pub spelled : AreEntries before entries
   pub stands : StandsFor (number_of spans) entries
 
@@ -36,7 +36,7 @@ has_read_none text =
       before = [];
       entries = [];
       within = omega arith;
-      are = ap (λ n. pieces_from n (slice_split (λ b. eqb b 44) text)) (sym start);
+      are = ap (λ n. entry_texts_from n (slice_split (λ b. eqb b 44) text)) (sym start);
       spelled = tt;
       stands = record { sound = no_table; values = λ c scalar. refl };
     }
@@ -52,17 +52,17 @@ last_part rest end =
 next_part : (rest : List ℕ) → place 44 rest < length rest → slice_split (λ b. eqb b 44) rest ≡ take (place 44 rest) rest ∷ slice_split (λ b. eqb b 44) (drop (place 44 rest + 1) rest)
 next_part rest within = slice_split_first (λ b. eqb b 44) rest 0 within
 
-are_entries_more : (pieces : List Piece) (entries : List Entry) (piece : Piece) (entry : Entry) → AreEntries pieces entries → IsEntry piece.text entry → AreEntries (pieces ++ piece ∷ []) (entries ++ entry ∷ [])
-are_entries_more [] [] piece entry are is = (is, tt)
-are_entries_more [] (e ∷ entries) piece entry are is = absurd are
-are_entries_more (p ∷ pieces) [] piece entry are is = absurd are
-are_entries_more (p ∷ pieces) (e ∷ entries) piece entry are is = (are.0, are_entries_more pieces entries piece entry are.1 is)
+are_entries_more : (entry_texts : List EntryText) (entries : List Entry) (entry_text : EntryText) (entry : Entry) → AreEntries entry_texts entries → IsEntry entry_text.text entry → AreEntries (entry_texts ++ entry_text ∷ []) (entries ++ entry ∷ [])
+are_entries_more [] [] entry_text entry are is = (is, tt)
+are_entries_more [] (e ∷ entries) entry_text entry are is = absurd are
+are_entries_more (p ∷ entry_texts) [] entry_text entry are is = absurd are
+are_entries_more (p ∷ entry_texts) (e ∷ entries) entry_text entry are is = (are.0, are_entries_more entry_texts entries entry_text entry are.1 is)
 
--- the first piece of what is left
-pub first_piece : (start : ℕ) (rest : List ℕ) → (after : List Piece) × (pieces_from start (slice_split (λ b. eqb b 44) rest) ≡ piece_at start (take (place 44 rest) rest) ∷ after)
-first_piece start rest = elim (cases_lt (place 44 rest) (length rest)) [
-  | inl within ↦ (pieces_from (start + length (take (place 44 rest) rest) + 1) (slice_split (λ b. eqb b 44) (drop (place 44 rest + 1) rest)), ap (pieces_from start) (next_part rest within))
-  | inr end ↦ ([], ap (pieces_from start) (last_part rest (omega (arith, end, place_within 44 rest))))
+-- the first entry_text of what is left
+pub first_entry_text : (start : ℕ) (rest : List ℕ) → (after : List EntryText) × (entry_texts_from start (slice_split (λ b. eqb b 44) rest) ≡ entry_text_at start (take (place 44 rest) rest) ∷ after)
+first_entry_text start rest = elim (cases_lt (place 44 rest) (length rest)) [
+  | inl within ↦ (entry_texts_from (start + length (take (place 44 rest) rest) + 1) (slice_split (λ b. eqb b 44) (drop (place 44 rest + 1) rest)), ap (entry_texts_from start) (next_part rest within))
+  | inr end ↦ ([], ap (entry_texts_from start) (last_part rest (omega (arith, end, place_within 44 rest))))
 ]
 
 pub has_read_more : (text rest : List ℕ) (old new : List Span) (entry : Entry) → HasRead text rest old → place 44 rest < length rest → IsEntry (without_back (without_front (take (place 44 rest) rest))) entry → ((entries : List Entry) → StandsFor (number_of old) entries → StandsFor (number_of new) (entries ++ entry ∷ [])) → HasRead text (drop (place 44 rest + 1) rest) new
@@ -75,15 +75,15 @@ has_read_more text rest old new entry read within is more =
     let size : length part ≡ place 44 rest = length-take-le (place 44 rest) rest (omega (arith, within)) in
     let next : start + length part + 1 ≡ length text - length left = omega (arith, shorter, size, read.within, within) in
     record {
-      before = read.before ++ piece_at start part ∷ [];
+      before = read.before ++ entry_text_at start part ∷ [];
       entries = read.entries ++ entry ∷ [];
       within = omega (arith, shorter, read.within);
       are =
           read.are
-          ∙ ap (λ ps. read.before ++ pieces_from start ps) (next_part rest within)
-          ∙ ap (λ (n : ℕ). read.before ++ piece_at start part ∷ pieces_from n later) next
-          ∙ sym (append_assoc read.before (piece_at start part ∷ []) (pieces_from (length text - length left) later));
-      spelled = are_entries_more read.before read.entries (piece_at start part) entry read.spelled is;
+          ∙ ap (λ ps. read.before ++ entry_texts_from start ps) (next_part rest within)
+          ∙ ap (λ (n : ℕ). read.before ++ entry_text_at start part ∷ entry_texts_from n later) next
+          ∙ sym (append_assoc read.before (entry_text_at start part ∷ []) (entry_texts_from (length text - length left) later));
+      spelled = are_entries_more read.before read.entries (entry_text_at start part) entry read.spelled is;
       stands = more read.entries read.stands;
     }
 
@@ -92,10 +92,10 @@ has_read_all text rest old new entry read end is more =
     let start : ℕ = length text - length rest in
     let part : List ℕ = take (place 44 rest) rest in
     let stands : StandsFor (number_of new) (read.entries ++ entry ∷ []) = more read.entries read.stands in
-    let are : pieces text ≡ read.before ++ piece_at start part ∷ [] = read.are ∙ ap (λ ps. read.before ++ pieces_from start ps) (last_part rest end) in
+    let are : entry_texts text ≡ read.before ++ entry_text_at start part ∷ [] = read.are ∙ ap (λ ps. read.before ++ entry_texts_from start ps) (last_part rest end) in
     record {
       entries = read.entries ++ entry ∷ [];
-      spelled = subst (λ (ps : List Piece). AreEntries ps (read.entries ++ entry ∷ [])) (sym are) (are_entries_more read.before read.entries (piece_at start part) entry read.spelled is);
+      spelled = subst (λ (ps : List EntryText). AreEntries ps (read.entries ++ entry ∷ [])) (sym are) (are_entries_more read.before read.entries (entry_text_at start part) entry read.spelled is);
       sound = stands.sound;
       values = stands.values;
     }
@@ -103,12 +103,12 @@ has_read_all text rest old new entry read end is more =
 pub has_read_fault : (text rest : List ℕ) (old : List Span) (fault : CharsetFault) → HasRead text rest old → fault.place ≡ length text - length rest + prefix_len is_blank (take (place 44 rest) rest) → ((entries : List Entry) → StandsFor (number_of old) entries → IsFaulty entries (without_back (without_front (take (place 44 rest) rest))) fault.kind) → IsFirstFault text fault
 has_read_fault text rest old fault read at faulty =
     let start : ℕ = length text - length rest in
-    let first = first_piece start rest in
+    let first = first_entry_text start rest in
     record {
       before = read.before;
-      piece = piece_at start (take (place 44 rest) rest);
+      entry_text = entry_text_at start (take (place 44 rest) rest);
       after = first.0;
-      are = read.are ∙ ap (λ (ps : List Piece). read.before ++ ps) first.1;
+      are = read.are ∙ ap (λ (ps : List EntryText). read.before ++ ps) first.1;
       entries = read.entries;
       spelled = read.spelled;
       sound = read.stands.sound;

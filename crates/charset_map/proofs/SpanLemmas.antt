@@ -5,7 +5,8 @@ use Rattle.std.specs.List.{AllWithin}
 use Rattle.std.specs.List.Sorted.{IsPartitionedBy, IsPartitionPoint}
 use Rattle.std.proofs.lemmas.Bool.{ltb-true, ltb-false, lt-ltb}
 use Rattle.charset_map.specs.declared.span.Span.{Span}
-use Rattle.charset_map.specs.Spans.{IsSound, AreApart, number_in, number_of}
+use Rattle.charset_map.specs.Spans.{number_in, number_of}
+use Rattle.charset_map.specs.steps.SpanLists.{IsSound, AreApart}
 
 -- a number in a span
 pub in_span : (span : Span) (n : ℕ) → span.first ≤ n → n ≤ span.last → number_in span n ≡ Some (span.value + (n - span.first))
@@ -14,8 +15,8 @@ in_span span n from to = grind arith
 pub before_span : (span : Span) (n : ℕ) → n < span.first → number_in span n ≡ None
 before_span span n below = grind arith
 
-pub behind_span : (span : Span) (n : ℕ) → span.last < n → number_in span n ≡ None
-behind_span span n above = grind arith
+pub after_span : (span : Span) (n : ℕ) → span.last < n → number_in span n ≡ None
+after_span span n above = grind arith
 
 -- and back
 pub is_in_span : (span : Span) (n v : ℕ) → number_in span n ≡ Some v → (span.first ≤ n) × (n ≤ span.last) × (v ≡ span.value + (n - span.first))
@@ -58,7 +59,7 @@ pub number_found : (n : ℕ) (spans : List Span) (i x : ℕ) (d : Span) → AreA
 number_found n [] i x d apart within low to from = absurd (omega arith)
 number_found n (span ∷ spans) zero x d apart within low to from = ap (λ o. option_or o (number_of spans x)) (in_span span x from to)
 number_found n (span ∷ spans) (suc i) x d apart within low to from =
-    ap (λ o. option_or o (number_of spans x)) (behind_span span x (ltb-true _ _ (low 0 d (omega arith) (omega arith))))
+    ap (λ o. option_or o (number_of spans x)) (after_span span x (ltb-true _ _ (low 0 d (omega arith) (omega arith))))
     ∙ number_found (span.last + 1) spans i x d apart.2 (omega arith) (λ k e least below. low (suc k) e (omega arith) (omega arith)) to from
 
 pub number_between : (n : ℕ) (spans : List Span) (i x : ℕ) (d : Span) → AreApart n spans → i < length spans → AllWithin (λ span. ltb span.last x ≡ true) spans 0 i → x < (get_or spans i d).first → number_of spans x ≡ None
@@ -67,13 +68,13 @@ number_between n (span ∷ spans) zero x d apart within low before =
     ap (λ o. option_or o (number_of spans x)) (before_span span x before)
     ∙ none_below (span.last + 1) spans x apart.2 (omega (arith, before, apart.1.ordered))
 number_between n (span ∷ spans) (suc i) x d apart within low before =
-    ap (λ o. option_or o (number_of spans x)) (behind_span span x (ltb-true _ _ (low 0 d (omega arith) (omega arith))))
+    ap (λ o. option_or o (number_of spans x)) (after_span span x (ltb-true _ _ (low 0 d (omega arith) (omega arith))))
     ∙ number_between (span.last + 1) spans i x d apart.2 (omega arith) (λ k e least below. low (suc k) e (omega arith) (omega arith)) before
 
 pub number_beyond : (spans : List Span) (x : ℕ) → AllWithin (λ span. ltb span.last x ≡ true) spans 0 (length spans) → number_of spans x ≡ None
 number_beyond [] x low = refl
 number_beyond (span ∷ spans) x low =
-    ap (λ o. option_or o (number_of spans x)) (behind_span span x (ltb-true _ _ (low 0 span (omega arith) (omega arith))))
+    ap (λ o. option_or o (number_of spans x)) (after_span span x (ltb-true _ _ (low 0 span (omega arith) (omega arith))))
     ∙ number_beyond spans x (λ k e least below. low (suc k) e (omega arith) (omega arith))
 
 -- what a bisection says of a number

@@ -6,7 +6,7 @@ use Rattle.charset_map.specs.declared.entries.Side.{Side}
 use Rattle.charset_map.specs.declared.entries.Side.TheVariants.{Single, Range}
 use Rattle.charset_map.specs.Characters.{IsCharacter}
 use Rattle.charset_map.specs.Entries.{IsSingle, IsRange, IsMapped, IsEntry, single, range, mapped, mapped_range}
-use Rattle.charset_map.specs.Sides.{Lacks, IsSide}
+use Rattle.charset_map.specs.steps.Sides.{Lacks, IsSide}
 use Rattle.charset_map.proofs.Cutting.{place, lacks_cons, lacks_append, no_cut, place_of_lacking, left_is, right_is, character_lacks}
 
 -- what a `?` gives back

@@ -16,10 +16,10 @@ use Rattle.charset_map.specs.declared.fault.CharsetKind.TheVariants as kinds
 use Rattle.charset_map.specs.Characters.{IsCharacter, IsCode, is_blank}
 use Rattle.charset_map.specs.Entries.{IsSingle, IsRange, IsMapped, IsEntry, single, range, mapped, mapped_range}
 use Rattle.charset_map.specs.Table.{Rises, IsEven, value_in, value_of, IsTable}
-use Rattle.charset_map.specs.Reading.{Piece, piece_at, pieces, without_front, without_back, AreEntries, GivesAnother, IsFaulty, IsTableOf, IsFirstFault}
-use Rattle.charset_map.specs.Sides.{Lacks}
+use Rattle.charset_map.specs.TableText.{EntryText, entry_text_at, entry_texts, without_front, without_back, AreEntries, GivesAnother, IsFaulty, IsTableOf, IsFirstFault}
+use Rattle.charset_map.specs.steps.Sides.{Lacks}
 use Rattle.charset_map.proofs.Cutting.{place, no_cut, place_of_lacking, left_is, right_is}
-use Rattle.charset_map.proofs.Readings.{first_piece}
+use Rattle.charset_map.proofs.Readings.{first_entry_text}
 use Rattle.charset_map.proofs.Spelling.{lacks_dot, single_lacks, range_lacks, not_both, left_same, right_same}
 
 -- ---- characters
@@ -101,30 +101,30 @@ same_entry text e f (mapped_range m) (mapped n) =
     absurd (not_both n.left f.from e.from n.from (left_same text n.left n.right e IsRange m (range_lacks m.left e.from m.from) (single_lacks n.left f.from n.from) n.is))
 
 -- ---- lists of entries
-pub same_entries : (pieces : List Piece) (es fs : List Entry) → AreEntries pieces es → AreEntries pieces fs → es ≡ fs
+pub same_entries : (entry_texts : List EntryText) (es fs : List Entry) → AreEntries entry_texts es → AreEntries entry_texts fs → es ≡ fs
 same_entries [] [] [] are are' = refl
 same_entries [] [] (f ∷ fs) are are' = absurd are'
 same_entries [] (e ∷ es) fs are are' = absurd are
-same_entries (p ∷ pieces) [] fs are are' = absurd are
-same_entries (p ∷ pieces) (e ∷ es) [] are are' = absurd are'
-same_entries (p ∷ pieces) (e ∷ es) (f ∷ fs) are are' =
-    ap (λ (x : Entry). x ∷ es) (same_entry p.text e f are.0 are'.0) ∙ ap (λ (xs : List Entry). f ∷ xs) (same_entries pieces es fs are.1 are'.1)
+same_entries (p ∷ entry_texts) [] fs are are' = absurd are
+same_entries (p ∷ entry_texts) (e ∷ es) [] are are' = absurd are'
+same_entries (p ∷ entry_texts) (e ∷ es) (f ∷ fs) are are' =
+    ap (λ (x : Entry). x ∷ es) (same_entry p.text e f are.0 are'.0) ∙ ap (λ (xs : List Entry). f ∷ xs) (same_entries entry_texts es fs are.1 are'.1)
 
--- the entries of a list of pieces, at one of them
-pub record Parted (before : List Piece) (piece : Piece) (entries : List Entry) : Type 0 where
+-- the entries of a list of entry_texts, at one of them
+pub record Parted (before : List EntryText) (entry_text : EntryText) (entries : List Entry) : Type 0 where
   pub first : List Entry
   pub entry : Entry
   pub later : List Entry
   pub are : entries ≡ first ++ entry ∷ later
   pub spelled : AreEntries before first
-  pub is : IsEntry piece.text entry
+  pub is : IsEntry entry_text.text entry
 
-parted : (before : List Piece) (piece : Piece) (after : List Piece) (entries : List Entry) → AreEntries (before ++ piece ∷ after) entries → Parted before piece entries
-parted [] piece after [] are = absurd are
-parted [] piece after (e ∷ entries) are = record { first = []; entry = e; later = entries; are = refl; spelled = tt; is = are.0 }
-parted (p ∷ before) piece after [] are = absurd are
-parted (p ∷ before) piece after (e ∷ entries) are =
-    let rest = parted before piece after entries are.1 in
+parted : (before : List EntryText) (entry_text : EntryText) (after : List EntryText) (entries : List Entry) → AreEntries (before ++ entry_text ∷ after) entries → Parted before entry_text entries
+parted [] entry_text after [] are = absurd are
+parted [] entry_text after (e ∷ entries) are = record { first = []; entry = e; later = entries; are = refl; spelled = tt; is = are.0 }
+parted (p ∷ before) entry_text after [] are = absurd are
+parted (p ∷ before) entry_text after (e ∷ entries) are =
+    let rest = parted before entry_text after entries are.1 in
     record { first = e ∷ rest.first; entry = rest.entry; later = rest.later; are = ap (λ es. e ∷ es) rest.are; spelled = (are.0, rest.spelled); is = rest.is }
 
 or_some : (a b : Option ℕ) (v : ℕ) → option_or a b ≡ Some v → (a ≡ Some v) ⊎ (b ≡ Some v)
@@ -165,14 +165,14 @@ sound_inside text first entry later kinds.Twice table is faulty =
     no_other_inside first entry later table (subst (λ (e : Entry). GivesAnother (value_of first) e) (same_entry text faulty.0 entry faulty.1 is) faulty.3)
 sound_inside text first entry later kinds.Empty table is faulty = faulty
 
-no_fault_inside : (before : List Piece) (piece : Piece) (after : List Piece) (full entries : List Entry) (kind : CharsetKind) → AreEntries (before ++ piece ∷ after) full → IsTable full → AreEntries before entries → IsFaulty entries piece.text kind → ⊥
-no_fault_inside before piece after full entries kind are table spelled faulty =
-    let part = parted before piece after full are in
+no_fault_inside : (before : List EntryText) (entry_text : EntryText) (after : List EntryText) (full entries : List Entry) (kind : CharsetKind) → AreEntries (before ++ entry_text ∷ after) full → IsTable full → AreEntries before entries → IsFaulty entries entry_text.text kind → ⊥
+no_fault_inside before entry_text after full entries kind are table spelled faulty =
+    let part = parted before entry_text after full are in
     let same : entries ≡ part.first = same_entries before entries part.first spelled part.spelled in
-    sound_inside piece.text part.first part.entry part.later kind (subst IsTable part.are table) part.is (subst (λ (es : List Entry). IsFaulty es piece.text kind) same faulty)
+    sound_inside entry_text.text part.first part.entry part.later kind (subst IsTable part.are table) part.is (subst (λ (es : List Entry). IsFaulty es entry_text.text kind) same faulty)
 
 -- two cuts of one list
-same_cut : (a : List Piece) (p : Piece) (b a' : List Piece) (p' : Piece) (b' : List Piece) → a ++ p ∷ b ≡ a' ++ p' ∷ b' → ((a ≡ a') × (p ≡ p')) ⊎ (((rest : List Piece) × (a' ≡ a ++ p ∷ rest)) ⊎ ((rest : List Piece) × (a ≡ a' ++ p' ∷ rest)))
+same_cut : (a : List EntryText) (p : EntryText) (b a' : List EntryText) (p' : EntryText) (b' : List EntryText) → a ++ p ∷ b ≡ a' ++ p' ∷ b' → ((a ≡ a') × (p ≡ p')) ⊎ (((rest : List EntryText) × (a' ≡ a ++ p ∷ rest)) ⊎ ((rest : List EntryText) × (a ≡ a' ++ p' ∷ rest)))
 same_cut [] p b [] p' b' same = inl (refl, cc)
 same_cut [] p b (x ∷ a') p' b' same = inr (inl (a', cc))
 same_cut (x ∷ a) p b [] p' b' same = inr (inr (a, cc))
@@ -180,17 +180,17 @@ same_cut (x ∷ a) p b (x' ∷ a') p' b' same =
     let head : x ≡ x' = cc in
     let tail : a ++ p ∷ b ≡ a' ++ p' ∷ b' = cc in
     elim (same_cut a p b a' p' b' tail) [
-      | inl both ↦ inl (ap (λ (y : Piece). y ∷ a) head ∙ ap (λ (ys : List Piece). x' ∷ ys) both.0, both.1)
+      | inl both ↦ inl (ap (λ (y : EntryText). y ∷ a) head ∙ ap (λ (ys : List EntryText). x' ∷ ys) both.0, both.1)
       | inr other ↦ (elim other [
-        | inl longer ↦ inr (inl (longer.0, ap (λ (y : Piece). y ∷ a') (sym head) ∙ ap (λ (ys : List Piece). x ∷ ys) longer.1))
-        | inr shorter ↦ inr (inr (shorter.0, ap (λ (y : Piece). y ∷ a) head ∙ ap (λ (ys : List Piece). x' ∷ ys) shorter.1))
+        | inl longer ↦ inr (inl (longer.0, ap (λ (y : EntryText). y ∷ a') (sym head) ∙ ap (λ (ys : List EntryText). x ∷ ys) longer.1))
+        | inr shorter ↦ inr (inr (shorter.0, ap (λ (y : EntryText). y ∷ a) head ∙ ap (λ (ys : List EntryText). x' ∷ ys) shorter.1))
       ])
     ]
 
 falls_not_rises : (text : List ℕ) (e f : Entry) → IsEntry text e → IsEntry text f → ¬ (Rises e.from × Rises e.to) → Rises f.from × Rises f.to → ⊥
 falls_not_rises text e f is are falls rises = falls (subst (λ (x : Entry). Rises x.from × Rises x.to) (same_entry text f e are is) rises)
 
--- a piece has one fault behind the same entries
+-- a entry_text has one fault after the same entries
 same_kind : (entries : List Entry) (text : List ℕ) (k l : CharsetKind) → IsFaulty entries text k → IsFaulty entries text l → k ≡ l
 same_kind entries text kinds.Entry kinds.Entry a b = refl
 same_kind entries text kinds.Entry kinds.Range a b = absurd (a b.0 b.1)
@@ -220,12 +220,12 @@ same_kind entries text kinds.Empty kinds.Empty a b = absurd a
 
 pub table_or_fault : (text : List ℕ) (table : ℕ → Option ℕ) (fault : CharsetFault) → IsTableOf text table → IsFirstFault text fault → ⊥
 table_or_fault text table fault is wrong =
-    no_fault_inside wrong.before wrong.piece wrong.after is.entries wrong.entries fault.kind
-    (subst (λ (ps : List Piece). AreEntries ps is.entries) wrong.are is.spelled) is.sound wrong.spelled wrong.faulty
+    no_fault_inside wrong.before wrong.entry_text wrong.after is.entries wrong.entries fault.kind
+    (subst (λ (ps : List EntryText). AreEntries ps is.entries) wrong.are is.spelled) is.sound wrong.spelled wrong.faulty
 
 pub same_values : (text : List ℕ) (f g : ℕ → Option ℕ) (c : ℕ) → IsScalar c → IsTableOf text f → IsTableOf text g → f c ≡ g c
 same_values text f g c scalar is are =
-    is.values c scalar ∙ ap (λ (es : List Entry). value_of es c) (same_entries (pieces text) is.entries are.entries is.spelled are.spelled) ∙ sym (are.values c scalar)
+    is.values c scalar ∙ ap (λ (es : List Entry). value_of es c) (same_entries (entry_texts text) is.entries are.entries is.spelled are.spelled) ∙ sym (are.values c scalar)
 
 fault_is : (f g : CharsetFault) → f.place ≡ g.place → f.kind ≡ g.kind → f ≡ g
 fault_is f g place kind =
@@ -234,15 +234,15 @@ fault_is f g place kind =
 
 pub same_fault : (text : List ℕ) (f g : CharsetFault) → IsFirstFault text f → IsFirstFault text g → f ≡ g
 same_fault text f g a b =
-    elim (same_cut a.before a.piece a.after b.before b.piece b.after (sym a.are ∙ b.are)) [
+    elim (same_cut a.before a.entry_text a.after b.before b.entry_text b.after (sym a.are ∙ b.are)) [
       | inl both ↦ (
-          let entries : a.entries ≡ b.entries = same_entries b.before a.entries b.entries (subst (λ (ps : List Piece). AreEntries ps a.entries) both.0 a.spelled) b.spelled in
-          let there : IsFaulty a.entries b.piece.text f.kind = subst (λ (p : Piece). IsFaulty a.entries p.text f.kind) both.1 a.faulty in
-          let kind : f.kind ≡ g.kind = same_kind b.entries b.piece.text f.kind g.kind (subst (λ (es : List Entry). IsFaulty es b.piece.text f.kind) entries there) b.faulty in
-          fault_is f g (a.place ∙ ap (λ (p : Piece). p.place) both.1 ∙ sym b.place) kind)
+          let entries : a.entries ≡ b.entries = same_entries b.before a.entries b.entries (subst (λ (ps : List EntryText). AreEntries ps a.entries) both.0 a.spelled) b.spelled in
+          let there : IsFaulty a.entries b.entry_text.text f.kind = subst (λ (p : EntryText). IsFaulty a.entries p.text f.kind) both.1 a.faulty in
+          let kind : f.kind ≡ g.kind = same_kind b.entries b.entry_text.text f.kind g.kind (subst (λ (es : List Entry). IsFaulty es b.entry_text.text f.kind) entries there) b.faulty in
+          fault_is f g (a.place ∙ ap (λ (p : EntryText). p.place) both.1 ∙ sym b.place) kind)
       | inr other ↦ absurd (elim other [
-        | inl longer ↦ no_fault_inside a.before a.piece longer.0 b.entries a.entries f.kind (subst (λ (ps : List Piece). AreEntries ps b.entries) longer.1 b.spelled) b.sound a.spelled a.faulty
-        | inr shorter ↦ no_fault_inside b.before b.piece shorter.0 a.entries b.entries g.kind (subst (λ (ps : List Piece). AreEntries ps a.entries) shorter.1 a.spelled) a.sound b.spelled b.faulty
+        | inl longer ↦ no_fault_inside a.before a.entry_text longer.0 b.entries a.entries f.kind (subst (λ (ps : List EntryText). AreEntries ps b.entries) longer.1 b.spelled) b.sound a.spelled a.faulty
+        | inr shorter ↦ no_fault_inside b.before b.entry_text shorter.0 a.entries b.entries g.kind (subst (λ (ps : List EntryText). AreEntries ps a.entries) shorter.1 a.spelled) a.sound b.spelled b.faulty
       ])
     ]
 
@@ -272,14 +272,14 @@ no_empty_entry entry (range is own) = absurd (omega (arith, ap length is.is, len
 no_empty_entry entry (mapped m) = absurd (omega (arith, ap length m.is, length-append m.left (45 ∷ 62 ∷ m.right)))
 no_empty_entry entry (mapped_range m) = absurd (omega (arith, ap length m.is, length-append m.left (45 ∷ 62 ∷ m.right)))
 
--- the entry of the first piece
-entry_of_first : (piece : Piece) (after : List Piece) (entries : List Entry) → AreEntries (piece ∷ after) entries → (entry : Entry) × IsEntry piece.text entry
-entry_of_first piece after [] are = absurd are
-entry_of_first piece after (entry ∷ entries) are = (entry, are.0)
+-- the entry of the first entry_text
+entry_of_first : (entry_text : EntryText) (after : List EntryText) (entries : List Entry) → AreEntries (entry_text ∷ after) entries → (entry : Entry) × IsEntry entry_text.text entry
+entry_of_first entry_text after [] are = absurd are
+entry_of_first entry_text after (entry ∷ entries) are = (entry, are.0)
 
 pub blank_is_no_table : (text : List ℕ) (table : ℕ → Option ℕ) → list_all is_blank text ≡ true → ¬ (IsTableOf text table)
 blank_is_no_table text table blank is =
-    let first = first_piece 0 text in
+    let first = first_entry_text 0 text in
     let whole : take (place 44 text) text ≡ text = take_all (place 44 text) text (omega (arith, place_of_lacking 44 text (blank_lacks_comma text blank))) in
-    let entry = entry_of_first (piece_at 0 (take (place 44 text) text)) first.0 is.entries (subst (λ (ps : List Piece). AreEntries ps is.entries) first.1 is.spelled) in
+    let entry = entry_of_first (entry_text_at 0 (take (place 44 text) text)) first.0 is.entries (subst (λ (ps : List EntryText). AreEntries ps is.entries) first.1 is.spelled) in
     no_empty_entry entry.0 (subst (λ (t : List ℕ). IsEntry t entry.0) (ap (λ (part : List ℕ). without_back (without_front part)) whole ∙ blank_is_nothing text blank) entry.1)

@@ -1,9 +1,12 @@
+-- characters: their numbers in order, and how a text writes them
 pub mod Characters
+-- entries: `c`, `c..d`, `c->e` and `c..d->e..f`
 pub mod Entries
-pub mod Sides
+-- the value that entries give a character, and when entries are a table
 pub mod Table
-pub mod Reading
+-- the values of a table that is kept as spans
 pub mod Spans
-pub mod Placing
-pub mod Adding
-pub mod Ascii
+-- what a text is: a table, or its first fault
+pub mod TableText
+-- what serves proofs and private functions alone
+pub mod steps

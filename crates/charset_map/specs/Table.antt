@@ -20,7 +20,7 @@ pub record IsEven (entry : Entry) : Type 0 where
   pub to : Rises entry.to
   pub length : steps entry.to ≡ steps entry.from
 
--- the value that an entry gives a character: what stands as far behind the first value as the character behind the first one
+-- the value that an entry gives a character: what stands as far after the first value as the character after the first one
 abbrev pub value_in : Entry → ℕ → Option ℕ
 value_in entry c = if nat_le entry.from.first c && nat_le c entry.from.last then Some (character_at (ordinal entry.to.first + (ordinal c - ordinal entry.from.first))) else None
 

@@ -1,4 +1,4 @@
-ghost use Rattle.charset_map.specs.Adding.{AddsPiece, HasSpan};
+ghost use Rattle.charset_map.specs.steps.Adding.{AddsEntry, HasSpan};
 ghost use Rattle.charset_map.specs.Spans.{number_of};
 
 use crate::characters::ordinal_of;
@@ -9,8 +9,8 @@ use crate::spans::Spans;
 use srch_base::{NoMemory, Or};
 
 /// Adds the entry that a text is.
-pub fn add_piece(spans: &mut Spans, text: &[u8]) -> Result<(), Or<CharsetKind>>
-    ensures { AddsPiece (number_of spans.old) (number_of spans.new) text.now result }
+pub fn add_entry(spans: &mut Spans, text: &[u8]) -> Result<(), Or<CharsetKind>>
+    ensures { AddsEntry (number_of spans.old) (number_of spans.new) text.now result }
 {
     let Some(entry) = read_entry(text) else {
         return Err(Or::Fault(CharsetKind::Entry));

@@ -1,11 +1,12 @@
 ghost use Rattle.std.specs.Prelude.{◌≡◌, ◌<◌, ◌^◌, IfOk, length};
-ghost use Rattle.charset_map.specs.Reading.{IsTableOf, Reads, ReadsEntries, default_text};
+ghost use Rattle.charset_map.specs.TableText.{IsTableOf, ReadsTable, default_text};
+ghost use Rattle.charset_map.specs.steps.Adding.{ReadsEntries};
 ghost use Rattle.charset_map.specs.Spans.{folded};
 
-use crate::adding::add_piece;
+use crate::adding::add_entry;
 use crate::characters::{character_of, ordinal_of};
 use crate::fault::{CharsetFault, CharsetKind};
-use crate::pieces::{all_blank, blanks_before, place_of, trimmed};
+use crate::trimming::{all_blank, blanks_before, place_of, trimmed};
 use crate::spans::Spans;
 use srch_base::{NoMemory, Or};
 use std::alloc::Global;
@@ -25,7 +26,7 @@ pub struct Charset {
 
 impl Model for Charset {
     ghost use Rattle.std.specs.Prelude.{List};
-    ghost use Rattle.charset_map.specs.Ascii.{HasAscii};
+    ghost use Rattle.charset_map.specs.steps.Ascii.{HasAscii};
     ghost use Rattle.charset_map.specs.declared.span.Span.{Span};
 
     ghost Value = { List Span };
@@ -39,10 +40,10 @@ impl Charset {
     /// The table that a text is.
     ///
     /// Its memory and the time of a look-up depend on the number of its ranges alone. Reading takes, for each entry, a
-    /// bisection of the ranges before it, and moves those that stand behind it.
+    /// bisection of the ranges before it, and moves those that stand after it.
     pub fn read(alloc: Global, text: &str) -> Result<Charset, Or<CharsetFault>>
         requires { length text.now < 2 ^ 32 }
-        ensures { Reads text.now result }
+        ensures { ReadsTable text.now result }
     {
         if all_blank(text.as_bytes()) {
             return Err(Or::Fault(CharsetFault {
@@ -101,7 +102,7 @@ fn read_spans(alloc: Global, text: &[u8]) -> Result<Spans, Or<CharsetFault>>
     'parts: loop {
         let end = place_of(b',', rest);
         let part = rest.split_at(end).0;
-        match add_piece(&mut spans, trimmed(part)) {
+        match add_entry(&mut spans, trimmed(part)) {
             Ok(()) => {}
             Err(Or::NoMemory) => return Err(Or::NoMemory),
             Err(Or::Fault(kind)) => {

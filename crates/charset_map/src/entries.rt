@@ -2,10 +2,10 @@ ghost use Rattle.std.specs.Prelude.{◌≡◌, ◌≢◌, ℕ, List, ◌∷◌, 
 ghost use Rattle.charset_map.specs.declared.entries.Entry.{Entry};
 ghost use Rattle.charset_map.specs.declared.entries.Side.{Side};
 ghost use Rattle.charset_map.specs.Entries.{IsEntry};
-ghost use Rattle.charset_map.specs.Sides.{Lacks, IsSide};
+ghost use Rattle.charset_map.specs.steps.Sides.{Lacks, IsSide};
 
 use crate::characters::character;
-use crate::pieces::place_of;
+use crate::trimming::place_of;
 
 /// The characters from one to another, both included.
 #[derive(Clone, Copy, Debug)]
@@ -66,7 +66,7 @@ fn read_side(text: &[u8]) -> Option<Side>
     Some(Side::Range(CharRange { first, last }))
 }
 
-/// What stands before a mark of two bytes and behind it. The first of its first bytes has to begin the mark.
+/// What stands before a mark of two bytes and after it. The first of its first bytes has to begin the mark.
 fn halves(text: &[u8], mark: u8, next: u8) -> Option<(&[u8], &[u8])>
     ensures { MatchOption result
         ((left right : List ℕ) → Lacks mark left → text.now ≢ left ++ mark ∷ next ∷ right)

@@ -16,7 +16,7 @@ pub enum CharsetKind {
 /// The first faulty entry of a table's text.
 #[derive(Clone, Copy, Debug, PartialEq, Eq)]
 pub struct CharsetFault {
-    /// The offset of the entry's first byte in the text, behind the blanks before it.
+    /// The offset of the entry's first byte in the text, after the blanks before it.
     pub place: u32,
     pub kind: CharsetKind,
 }

@@ -3,7 +3,7 @@ ghost use Rattle.std.specs.Char.{IsScalar};
 ghost use Rattle.std.specs.List.{list_all};
 ghost use Rattle.charset_map.specs.declared.fault.CharsetFault.{CharsetFault};
 ghost use Rattle.charset_map.specs.Characters.{is_blank};
-ghost use Rattle.charset_map.specs.Reading.{IsFirstFault, IsTableOf};
+ghost use Rattle.charset_map.specs.TableText.{IsFirstFault, IsTableOf};
 
 /// No text is two tables, or a table and faulty, or has two first faults. A text of blanks is no table.
 pub fn a_text_is_read_in_one_way()

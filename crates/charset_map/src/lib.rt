@@ -7,7 +7,7 @@ mod charset;
 mod entries;
 mod fault;
 mod laws;
-mod pieces;
+mod trimming;
 mod span;
 mod spans;
 

@@ -1,7 +1,8 @@
 ghost use Rattle.std.specs.Prelude.{◌≡◌, ◌<◌, [], IfSome, MatchOption};
-ghost use Rattle.charset_map.specs.Adding.{AddsSpan};
-ghost use Rattle.charset_map.specs.Spans.{AreApart, Differ, IsSound, are_alike, joined, number_in, number_of};
-ghost use Rattle.charset_map.specs.Placing.{IsPlaceFor};
+ghost use Rattle.charset_map.specs.steps.Adding.{AddsSpan};
+ghost use Rattle.charset_map.specs.Spans.{number_in, number_of};
+ghost use Rattle.charset_map.specs.steps.SpanLists.{AreApart, Differ, IsSound, are_alike, joined};
+ghost use Rattle.charset_map.specs.steps.Placing.{IsPlaceFor};
 
 use crate::span::Span;
 use srch_base::NoMemory;
@@ -16,7 +17,7 @@ pub struct Spans {
 
 impl Model for Spans {
     ghost use Rattle.std.specs.Prelude.{List};
-    ghost use Rattle.charset_map.specs.Spans.{AreApart};
+    ghost use Rattle.charset_map.specs.steps.SpanLists.{AreApart};
     ghost use Rattle.charset_map.specs.declared.span.Span.{Span};
 
     ghost Value = { List Span };
@@ -106,7 +107,7 @@ fn look_up(spans: &[Span], number: u32) -> Option<u32>
     }
 }
 
-/// Whether two spans put the values as far behind the characters.
+/// Whether two spans put the values as far after the characters.
 fn alike(span: &Span, other: &Span) -> bool
     requires sound { IsSound span.now }
     requires other_sound { IsSound other.now }

@@ -15,14 +15,14 @@ use Rattle.conf_text.specs.declared.keys.Key.TheVariants as keys
 use Rattle.conf_text.specs.declared.setting.Setting.{Setting}
 use Rattle.conf_text.specs.declared.setting.Setting.TheVariants as settings
 use Rattle.charset_map.specs.declared.span.Span.{Span}
-use Rattle.charset_map.specs.Reading.{IsTableOf}
+use Rattle.charset_map.specs.TableText.{IsTableOf}
 use Rattle.charset_map.specs.Spans.{folded}
 use Rattle.conf_text.specs.Confs.{IsCharsetBy, IsIndexOf}
-use Rattle.conf_text.specs.Drafts.{AreIndexes, HasCharset, IsDraft, IsFinished, IsTableIn, exceeds, has_column, has_key, repeats}
+use Rattle.conf_text.specs.steps.Drafts.{AreIndexes, HasCharset, IsDraft, IsFinished, IsTableIn, exceeds, has_column, has_key, repeats}
 use Rattle.conf_text.specs.Faults.{has_path, is_among, is_column, is_long, is_repeated, lacks_key, lacks_strip, passes_limit}
 use Rattle.conf_text.specs.Keys.{attr_kind}
 use Rattle.conf_text.specs.Sections.{Entry, IndexText, attrs_in, fields_in, given}
-use Rattle.conf_text.specs.Settings.{IsSetting, is_plain}
+use Rattle.conf_text.specs.steps.Settings.{IsSetting, is_plain}
 use Rattle.conf_text.specs.Shapes.{small}
 use Rattle.conf_text.proofs.Entries.{has_given, list_any_map, pathed_by}
 

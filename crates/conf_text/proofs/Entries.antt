@@ -7,7 +7,7 @@ use Rattle.std.specs.Str.{bytes_eq}
 use Rattle.std.proofs.lemmas.Bool.{true≢false}
 use Rattle.conf_text.specs.declared.conf.IndexConf.{IndexConf}
 use Rattle.conf_text.specs.declared.keys.Key.{Key}
-use Rattle.conf_text.specs.Drafts.{AreIndexes, has_key}
+use Rattle.conf_text.specs.steps.Drafts.{AreIndexes, has_key}
 use Rattle.conf_text.specs.Faults.{has_name, has_path, is_text}
 use Rattle.conf_text.specs.Keys.{same_key}
 use Rattle.conf_text.specs.Sections.{Entry, IndexText, given}

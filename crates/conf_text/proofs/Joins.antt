@@ -4,14 +4,13 @@ use Rattle.std.specs.Prelude.{◌⊎◌, All, ◌&&◌, not, ◌==◌}
 use Rattle.std.specs.Str.{IsUtf8}
 use Rattle.std.specs.Str.Lines.{lines}
 use Rattle.std.proofs.lemmas.List.Elements.{All-nil, All-push}
-use Rattle.std.proofs.lemmas.Bool.{true≢false, cases_Bool, eqb-true, eqb-false}
+use Rattle.std.proofs.lemmas.Bool.{true≢false, cases_Bool, eqb-true, eqb-false, and_cases, and_parts, not-false, not-true}
 use Rattle.std.proofs.lemmas.List.{get_or_append_left}
 use Rattle.std.proofs.Math.Seq.{get_or-append_seam}
 use Rattle.conf_text.specs.declared.lines.Lines.{Lines}
 use Rattle.conf_text.specs.declared.lines.PartHead.{PartHead}
 use Rattle.conf_text.specs.Lines.{Line, is_joined, joined_parts, lines_from, onto_line, unjoined}
-use Rattle.conf_text.proofs.Flags.{and_left, and_right, and_no, not_yes, not_no}
-use Rattle.conf_text.specs.Reading.{bound, left, IsPartRead, IsLineRead}
+use Rattle.conf_text.specs.steps.LineReader.{bound, left, IsPartRead, IsLineRead}
 
 -- parts that are joined, in front of the first of these lines
 abbrev pub onto_lines : ℕ → List (List ℕ) → List Line → List Line
@@ -81,8 +80,8 @@ some_no_text front part false b f g none all = f refl (all_front IsUtf8 front pa
 pub joined_next : (old now : Lines) (number : ℕ) (buffer : List ℕ) (utf8 : Bool) (new : Lines) (after : List ℕ) (head : PartHead) → Joined old now number buffer utf8 → IsPartRead now buffer new after head → head.goes_on ≡ true → Joined old new number after (utf8 && head.utf8)
 joined_next old now number buffer utf8 new after head joined read goes =
     let both : (is_joined read.part && not (length new.rest.now == 0)) ≡ true = sym read.goes_on ∙ goes in
-    let is : is_joined read.part ≡ true = and_left (is_joined read.part) (not (length new.rest.now == 0)) both in
-    let other : length new.rest.now ≢ 0 = eqb-false (length new.rest.now) 0 (not_yes (length new.rest.now == 0) (and_right (is_joined read.part) (not (length new.rest.now == 0)) both)) in
+    let is : is_joined read.part ≡ true = (and_parts (is_joined read.part) (not (length new.rest.now == 0)) both).0 in
+    let other : length new.rest.now ≢ 0 = eqb-false (length new.rest.now) 0 (not-true (length new.rest.now == 0) ((and_parts (is_joined read.part) (not (length new.rest.now == 0)) both).1)) in
     let some : 0 < length new.rest.now = omega arith in
     let here : left now ≡ onto_line now.number read.part (left new) =
     ap (lines_from now.number) read.parts
@@ -101,7 +100,7 @@ joined_next old now number buffer utf8 new after head joined read goes =
       size = omega (arith, read.size, joined.size);
     }
 
--- a line, and those behind it
+-- a line, and those after it
 line_alone : (number : ℕ) (part : List ℕ) (rest : List ℕ) → is_joined part ≡ false → lines_from number (part ∷ lines rest) ≡ line_of number (part ∷ []) ∷ lines_from (number + 1) (lines rest)
 line_alone number part rest alone = ap (λ t. cond t (onto_line number part (lines_from (number + 1) (lines rest))) (line_of number (part ∷ []) ∷ lines_from (number + 1) (lines rest))) alone
 
@@ -117,9 +116,9 @@ lines_here number part [] (inr end) = line_at_end number part
 lines_here number part (b ∷ rest) (inr end) = absurd (omega arith)
 
 ends_here : (part rest : List ℕ) → (is_joined part && not (length rest == 0)) ≡ false → (is_joined part ≡ false) ⊎ (length rest ≡ 0)
-ends_here part rest ends = elim (and_no _ _ ends) [
+ends_here part rest ends = elim (and_cases _ _ ends) [
   | inl alone ↦ inl alone
-  | inr some ↦ inr (eqb-true _ _ (not_no _ some))
+  | inr some ↦ inr (eqb-true _ _ (not-false _ some))
 ]
 
 -- the line is whole

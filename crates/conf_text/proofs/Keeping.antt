@@ -3,7 +3,7 @@ use Rattle.std.proofs.Common.{◌≡◌, ℕ, Bool, true, false, List, [], ◌�
 use Rattle.std.specs.Prelude.{Option, Some, None}
 use Rattle.std.specs.List.{cons_option}
 use Rattle.std.specs.Option.{is_some, option_map}
-use Rattle.std.proofs.lemmas.Bool.{true≢false}
+use Rattle.std.proofs.lemmas.Bool.{true≢false, or_parts}
 use Rattle.doc_types.specs.declared.schema.AttrKind.{AttrKind}
 use Rattle.charset_map.specs.declared.span.Span.{Span}
 use Rattle.conf_text.specs.declared.draft.Draft.{Draft}
@@ -12,13 +12,12 @@ use Rattle.conf_text.specs.declared.keys.Key.TheVariants as keys
 use Rattle.conf_text.specs.declared.setting.Setting.{Setting}
 use Rattle.conf_text.specs.declared.setting.Setting.TheVariants as settings
 use Rattle.conf_text.specs.Confs.{zones_by}
-use Rattle.conf_text.specs.Drafts.{HasCharset, IsDraft, Sets, entry_with}
+use Rattle.conf_text.specs.steps.Drafts.{HasCharset, IsDraft, Sets, entry_with}
 use Rattle.conf_text.specs.Faults.{is_on, is_repeated}
 use Rattle.conf_text.specs.Keys.{attr_kind, same_key}
 use Rattle.conf_text.specs.Sections.{Entry, IndexText, attr_by, field_by, given}
-use Rattle.conf_text.specs.Settings.{IsSetting, is_plain}
+use Rattle.conf_text.specs.steps.Settings.{IsSetting, is_plain}
 use Rattle.conf_text.specs.Shapes.{small}
-use Rattle.conf_text.proofs.Flags.{or_no_left}
 use Rattle.conf_text.proofs.Entries.{filter_map_more, given_new, given_other}
 
 map_more : {X Y : Type 0} (f : X → Y) (xs : List X) (x : X) → map f (xs ++ x ∷ []) ≡ map f xs ++ f x ∷ []
@@ -135,7 +134,7 @@ kept texts name entries old mid after key value settings.Plain is sets new set k
     (subst (λ (d : Draft). HasValues (entries ++ entry_with key value ∷ []) d) (sym set) (all_stay name entries (entry_with key value) old is (plain_other key sets))) shape
 kept texts name entries old mid after key value (settings.Path path) is sets new set keys_are shape =
     let e : Entry = entry_with key value in
-    let now : given keys.Path (entries ++ e ∷ []) ≡ Some value = given_new keys.Path entries e (ap (λ k. same_key k keys.Path) sets.0) (or_no_left (is_some (given keys.Path entries)) _ (ap (λ k. is_repeated texts entries k value) (sym sets.0) ∙ new)) in
+    let now : given keys.Path (entries ++ e ∷ []) ≡ Some value = given_new keys.Path entries e (ap (λ k. same_key k keys.Path) sets.0) ((or_parts (is_some (given keys.Path entries)) _ (ap (λ k. is_repeated texts entries k value) (sym sets.0) ∙ new)).0) in
     let values : HasValues (entries ++ e ∷ []) (record old { path = Some path }) = record {
       path = ap Some sets.1 ∙ sym now;
       charset = charset_stays entries e old.charset (ap (λ k. same_key k keys.CharsetTable) sets.0) is.charset;

@@ -2,7 +2,6 @@ pub mod Names
 pub mod Parts
 pub mod Comments
 pub mod Joins
-pub mod Flags
 pub mod Among
 pub mod ZoneLists
 pub mod Entries

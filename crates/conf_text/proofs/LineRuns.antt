@@ -12,14 +12,14 @@ use Rattle.conf_text.specs.declared.lines.LineHead.{LineHead}
 use Rattle.conf_text.specs.declared.lines.Lines.{Lines}
 use Rattle.conf_text.specs.declared.reading.Place.{Place as CodePlace}
 use Rattle.conf_text.specs.declared.reading.Place.TheVariants as places
-use Rattle.conf_text.specs.Confs.{AreFaultless, IsFirstBadLine, IsFirstFault, IsText, is_last, shape, shapes_back}
-use Rattle.conf_text.specs.Drafts.{AreIndexes}
+use Rattle.conf_text.specs.Confs.{AreFaultless, IsFirstBadLine, IsFirstFault, IsUtf8Line, is_last, shape, shapes_back}
+use Rattle.conf_text.specs.steps.Drafts.{AreIndexes}
 use Rattle.conf_text.specs.Faults.{AreGood, IsFaultAt, IsGoodAt, fits, is_outside, is_syntax}
 use Rattle.conf_text.specs.Lines.{Line, content_of, is_joined, lines_from, lines_of, onto_line}
-use Rattle.conf_text.specs.Reading.{IsLineRead, bound, left}
-use Rattle.conf_text.specs.Sections.{Spot, entries_in, indexes_in, place_behind, place_in, spot_at, spot_in}
+use Rattle.conf_text.specs.steps.LineReader.{IsLineRead, bound, left}
+use Rattle.conf_text.specs.Sections.{Spot, entries_in, indexes_in, place_after, place_in, spot_at, spot_in}
 use Rattle.conf_text.specs.Shapes.{Shape, shape_of}
-use Rattle.conf_text.specs.Taking.{IsBehind, Leads, place_of}
+use Rattle.conf_text.specs.steps.Taking.{IsBehind, Leads, place_of}
 use Rattle.conf_text.proofs.Joins.{line_of}
 use Rattle.conf_text.proofs.Parts.{first_line, last_line, place, place_within}
 
@@ -35,7 +35,7 @@ read_on all before old new line are next = are ∙ ap (λ ls. before ++ ls) next
 pub record TextsRead (text : List ℕ) (reader : Lines) : Type 0 where
   pub before : List Line
   pub are : lines_of text ≡ before ++ left reader
-  pub good : All IsText before
+  pub good : All IsUtf8Line before
   pub bounded : bound reader ≤ MAX_CONF_BYTES + 1
 
 pub texts_none : (text : List ℕ) (reader : Lines) → length text ≤ MAX_CONF_BYTES → reader.rest.now ≡ text → reader.number ≡ 1 → TextsRead text reader
@@ -50,7 +50,7 @@ pub texts_more : (text : List ℕ) (old new : Lines) (buffer : List ℕ) (head :
 texts_more text old new buffer head read line utf8 = record {
   before = read.before ++ line.line ∷ [];
   are = read_on (lines_of text) read.before old new line.line read.are line.are;
-  good = All-push IsText read.before line.line read.good (line.text utf8);
+  good = All-push IsUtf8Line read.before line.line read.good (line.text utf8);
   bounded = omega (arith, read.bounded, line.bounded);
 }
 
@@ -65,8 +65,8 @@ texts_bad text old new buffer head read line utf8 = record {
   at = line.number;
 }
 
-pub texts_all : (text : List ℕ) (reader : Lines) → TextsRead text reader → left reader ≡ [] → All IsText (lines_of text)
-texts_all text reader read end = subst (All IsText) (sym (read.are ∙ ap (λ ls. read.before ++ ls) end ∙ append-nil read.before)) read.good
+pub texts_all : (text : List ℕ) (reader : Lines) → TextsRead text reader → left reader ≡ [] → All IsUtf8Line (lines_of text)
+texts_all text reader read end = subst (All IsUtf8Line) (sym (read.are ∙ ap (λ ls. read.before ++ ls) end ∙ append-nil read.before)) read.good
 
 -- the shapes of lines with one more
 shapes_more : (before : List Line) (line : Line) → shapes_back (before ++ line ∷ []) ≡ shape line ∷ shapes_back before
@@ -135,28 +135,28 @@ late_syntax false false fault = absurd (fault refl)
 -- a line that may be the last one is good also where others follow
 not_last : (spot : Spot) (line : Shape) (last : Bool) → IsGoodAt spot line last → IsGoodAt spot line false
 not_last spot line last good =
-    let early : is_syntax spot.place line false ≡ true → is_syntax spot.place line last ≡ true = early_syntax (fits spot.place line) last (not (is_outside (place_behind spot.place line))) in
+    let early : is_syntax spot.place line false ≡ true → is_syntax spot.place line last ≡ true = early_syntax (fits spot.place line) last (not (is_outside (place_after spot.place line))) in
     (good.0, (good.1.0, (good.1.1.0, (good.1.1.1.0, (good.1.1.1.1.0, (good.1.1.1.1.1.0, ((λ yes. good.1.1.1.1.1.1.0 (early yes)), good.1.1.1.1.1.1.1)))))))
 
--- behind the last line no section is open
-last_outside : (spot : Spot) (line : Shape) → IsGoodAt spot line true → is_outside (place_behind spot.place line) ≡ true
-last_outside spot line good = late_syntax (fits spot.place line) (is_outside (place_behind spot.place line)) good.1.1.1.1.1.1.0
+-- after the last line no section is open
+last_outside : (spot : Spot) (line : Shape) → IsGoodAt spot line true → is_outside (place_after spot.place line) ≡ true
+last_outside spot line good = late_syntax (fits spot.place line) (is_outside (place_after spot.place line)) good.1.1.1.1.1.1.0
 
 -- the shape of a line that was read
 pub shape_read : (old new : Lines) (buffer : List ℕ) (head : LineHead) (line : Shape) (said : List ℕ) → (read : IsLineRead old new buffer head) → said ≡ content_of buffer → line ≡ shape_of said → line ≡ shape read.line
 shape_read old new buffer head line said read is shaped = shaped ∙ ap shape_of (is ∙ ap content_of read.buffer_is)
 
--- the spot behind the lines that were read
+-- the spot after the lines that were read
 spot_is : (text : List ℕ) (reader : Lines) (indexes : List IndexConf) (place : CodePlace) → (read : LinesRead text reader indexes place) → spot_at (indexes_in (shapes_back read.before)) (entries_in (shapes_back read.before)) (place_of place) ≡ spot_in (shapes_back read.before)
 spot_is text reader indexes place read = ap (spot_at (indexes_in (shapes_back read.before)) (entries_in (shapes_back read.before))) read.leads.place_is
 
 -- a line more
 pub lines_more : (text : List ℕ) (old new : Lines) (buffer : List ℕ) (head : LineHead) (indexes more : List IndexConf) (place next : CodePlace) (line : Shape) (last : Bool) → (read : LinesRead text old indexes place) → (one : IsLineRead old new buffer head) → line ≡ shape one.line → last ≡ (length new.rest.now == 0) → IsBehind (spot_at (indexes_in (shapes_back read.before)) (entries_in (shapes_back read.before)) (place_of place)) line last more next → LinesRead text new more next
-lines_more text old new buffer head indexes more place next line last read one shaped ends behind =
+lines_more text old new buffer head indexes more place next line last read one shaped ends beyond =
     let before : List Shape = shapes_back read.before in
     let now : Line = one.line in
     let made : IsBehind (spot_in before) (shape now) last more next =
-    subst (λ (l : Shape). IsBehind (spot_in before) l last more next) shaped (subst (λ (s : Spot). IsBehind s line last more next) (spot_is text old indexes place read) behind) in
+    subst (λ (l : Shape). IsBehind (spot_in before) l last more next) shaped (subst (λ (s : Spot). IsBehind s line last more next) (spot_is text old indexes place read) beyond) in
     let shapes : shapes_back (read.before ++ now ∷ []) ≡ shape now ∷ before = shapes_more read.before now in
     record {
       before = read.before ++ now ∷ [];

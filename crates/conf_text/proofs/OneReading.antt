@@ -6,7 +6,7 @@ use Rattle.std.specs.List.{AllZip}
 use Rattle.std.proofs.lemmas.Bool.{cases_lt, cases_order}
 use Rattle.std.proofs.lemmas.List.{map-append, reverse-append}
 use Rattle.charset_map.specs.declared.span.Span.{Span}
-use Rattle.charset_map.specs.Reading.{IsTableOf, default_text}
+use Rattle.charset_map.specs.TableText.{IsTableOf, default_text}
 use Rattle.charset_map.specs.Spans.{folded}
 use Rattle.doc_types.specs.declared.schema.AttrKind.{AttrKind}
 use Rattle.doc_types.specs.declared.schema.Schema.{Schema}
@@ -17,23 +17,23 @@ use Rattle.conf_text.specs.declared.fault.ConfFault.{ConfFault}
 use Rattle.conf_text.specs.declared.fault.ConfKind.{ConfKind}
 use Rattle.conf_text.specs.declared.fault.ConfKind.TheVariants as kinds
 use Rattle.conf_text.specs.declared.keys.Key.TheVariants as keys
-use Rattle.conf_text.specs.Confs.{AreFaultless, AreLinesOf, AreSameIndex, IsCharsetBy, IsConfOf, IsFaultOf, IsFirstBadLine, IsFirstFault, IsIndexOf, IsText, at_line, is_last, no_index, not_text, shape, shapes_back, too_long}
+use Rattle.conf_text.specs.Confs.{AreFaultless, AreLinesOf, AreSameIndex, IsCharsetBy, IsConfOf, IsFaultOf, IsFirstBadLine, IsFirstFault, IsIndexOf, IsUtf8Line, at_line, is_last, no_index, not_text, shape, shapes_back, too_long}
 use Rattle.conf_text.specs.Faults.{AreGood, IsFaultAt, IsGoodAt, NoneStands, Stands, fits, is_outside, kinds_before}
 use Rattle.conf_text.specs.Lines.{Line, lines_of}
-use Rattle.conf_text.specs.Sections.{IndexText, Spot, given, indexes_in, place_behind, place_in, spot_in}
+use Rattle.conf_text.specs.Sections.{IndexText, Spot, given, indexes_in, place_after, place_in, spot_in}
 use Rattle.conf_text.specs.Shapes.{Shape}
 use Rattle.conf_text.proofs.Pairs.{all_head, all_tail}
 
 -- ---- two places of a list
--- where the second place is: at the first one, behind it, or before it
+-- where the second place is: at the first one, after it, or before it
 data Meets {T : Type 0} (before : List T) (here : T) (after : List T) (before' : List T) (here' : T) (after' : List T) : Type 0 where
   same : before ≡ before' → here ≡ here' → after ≡ after' → Meets before here after before' here' after'
-  behind : (between : List T) → before' ≡ before ++ here ∷ between → after ≡ between ++ here' ∷ after' → Meets before here after before' here' after'
+  beyond : (between : List T) → before' ≡ before ++ here ∷ between → after ≡ between ++ here' ∷ after' → Meets before here after before' here' after'
   ahead : (between : List T) → before ≡ before' ++ here' ∷ between → after' ≡ between ++ here ∷ after → Meets before here after before' here' after'
 
 meets_later : {T : Type 0} (x : T) (before after before' after' : List T) (here here' : T) → Meets before here after before' here' after' → Meets (x ∷ before) here after (x ∷ before') here' after'
 meets_later x before after before' after' here here' (same a b c) = same (ap (λ l. x ∷ l) a) b c
-meets_later x before after before' after' here here' (behind between a b) = behind between (ap (λ l. x ∷ l) a) b
+meets_later x before after before' after' here here' (beyond between a b) = beyond between (ap (λ l. x ∷ l) a) b
 meets_later x before after before' after' here here' (ahead between a b) = ahead between (ap (λ l. x ∷ l) a) b
 
 meets : {T : Type 0} (before after before' after' : List T) (here here' : T) → before ++ here ∷ after ≡ before' ++ here' ∷ after' → Meets before here after before' here' after'
@@ -44,7 +44,7 @@ meets [] after [] after' here here' are =
 meets [] after (x ∷ before') after' here here' are =
     let first : here ≡ x = cc in
     let rest : after ≡ before' ++ here' ∷ after' = cc in
-    behind before' (ap (λ y. y ∷ before') (sym first)) rest
+    beyond before' (ap (λ y. y ∷ before') (sym first)) rest
 meets (x ∷ before) after [] after' here here' are =
     let first : x ≡ here' = cc in
     let rest : before ++ here ∷ after ≡ after' = cc in
@@ -143,7 +143,7 @@ one_kind kind other spot line last is are = elim (cases_order (number kind) (num
 ]
 
 -- ---- lines
--- a line with others behind it has no fault where none stands at any of them
+-- a line with others after it has no fault where none stands at any of them
 good_within : (after : List Shape) (line : Shape) (before : List Shape) → AreGood (after ++ line ∷ before) → IsGoodAt (spot_in before) line false
 good_within [] line before good = good.0
 good_within (x ∷ after) line before good = good_within after line before good.1
@@ -181,12 +181,12 @@ one_first_fault : (lines : List Line) (f g : ConfFault) → IsFirstFault lines f
 one_first_fault lines f g is are = elim (meets is.before is.after are.before are.after is.line are.line (sym is.are ∙ are.are)) [
   | same front here back ↦ same_parts f g (is.at ∙ ap (λ (l : Line). l.number) here ∙ sym are.at)
       (one_kind f.kind g.kind (spot_in (shapes_back are.before)) (shape are.line) (is_last are.after) (fault_here f.kind is.before are.before is.line are.line is.after are.after front here back is.kind) are.kind)
-  | behind between front back ↦ absurd (not_passed lines f is between (subst (λ (ls : List Line). AreGood (shapes_back ls)) front are.good) (not_last is.after between are.after are.line back))
+  | beyond between front back ↦ absurd (not_passed lines f is between (subst (λ (ls : List Line). AreGood (shapes_back ls)) front are.good) (not_last is.after between are.after are.line back))
   | ahead between front back ↦ absurd (not_passed lines g are between (subst (λ (ls : List Line). AreGood (shapes_back ls)) front is.good) (not_last are.after between is.after is.line back))
 ]
 
 -- the last line has a fault only where others could have it there, or the text ends in a section
-last_stands : (kind : ConfKind) (spot : Spot) (line : Shape) → is_outside (place_behind spot.place line) ≡ true → Stands kind spot line true → Stands kind spot line false
+last_stands : (kind : ConfKind) (spot : Spot) (line : Shape) → is_outside (place_after spot.place line) ≡ true → Stands kind spot line true → Stands kind spot line false
 last_stands kinds.Syntax spot line ends stands = ap (λ b. not (fits spot.place line) || not b) (sym ends) ∙ stands
 last_stands kinds.NotText spot line ends stands = stands
 last_stands kinds.UnknownSection spot line ends stands = stands
@@ -211,21 +211,21 @@ not_both lines fault fine first =
           let all : lines ≡ first.before ++ first.line ∷ [] = first.are ∙ ap (λ (ls : List Line). first.before ++ first.line ∷ ls) none in
           let ends : is_outside (place_in (shapes_back (first.before ++ first.line ∷ []))) ≡ true = ap (λ (ls : List Line). is_outside (place_in (shapes_back ls))) (sym all) ∙ fine.ended in
           let shapes : shapes_back (first.before ++ first.line ∷ []) ≡ shape first.line ∷ shapes_back first.before = shapes_around first.before [] first.line in
-          let behind : is_outside (place_behind spot.place (shape first.line)) ≡ true = ap (λ (ls : List Shape). is_outside (place_in ls)) (sym shapes) ∙ ends in
+          let beyond : is_outside (place_after spot.place (shape first.line)) ≡ true = ap (λ (ls : List Shape). is_outside (place_in ls)) (sym shapes) ∙ ends in
           let here : IsGoodAt spot (shape first.line) false = good_within (shapes_back first.after) (shape first.line) (shapes_back first.before) (subst AreGood (shapes_around first.before first.after first.line) good) in
           none_stands fault.kind spot (shape first.line) false here
-          (last_stands fault.kind spot (shape first.line) behind (subst (λ (ls : List Line). Stands fault.kind spot (shape first.line) (is_last ls)) none first.kind.stands)))
+          (last_stands fault.kind spot (shape first.line) beyond (subst (λ (ls : List Line). Stands fault.kind spot (shape first.line) (is_last ls)) none first.kind.stands)))
     ]
 
 -- ---- bad lines
-no_bad_line : (lines : List Line) (number : ℕ) → All IsText lines → IsFirstBadLine lines number → ⊥
-no_bad_line lines number all bad = bad.bad (all_here IsText bad.before bad.after bad.line (subst (All IsText) bad.are all))
+no_bad_line : (lines : List Line) (number : ℕ) → All IsUtf8Line lines → IsFirstBadLine lines number → ⊥
+no_bad_line lines number all bad = bad.bad (all_here IsUtf8Line bad.before bad.after bad.line (subst (All IsUtf8Line) bad.are all))
 
 one_bad_line : (lines : List Line) (m n : ℕ) → IsFirstBadLine lines m → IsFirstBadLine lines n → m ≡ n
 one_bad_line lines m n is are = elim (meets is.before is.after are.before are.after is.line are.line (sym is.are ∙ are.are)) [
   | same front here back ↦ is.at ∙ ap (λ (l : Line). l.number) here ∙ sym are.at
-  | behind between front back ↦ absurd (is.bad (all_here IsText is.before between is.line (subst (All IsText) front are.good)))
-  | ahead between front back ↦ absurd (are.bad (all_here IsText are.before between are.line (subst (All IsText) front is.good)))
+  | beyond between front back ↦ absurd (is.bad (all_here IsUtf8Line is.before between is.line (subst (All IsUtf8Line) front are.good)))
+  | ahead between front back ↦ absurd (are.bad (all_here IsUtf8Line are.before between are.line (subst (All IsUtf8Line) front is.good)))
 ]
 
 -- ---- texts
@@ -233,7 +233,7 @@ same_lines : (text : List ℕ) (lines others : List Line) → AreLinesOf text li
 same_lines text lines others are these = are.are ∙ sym these.are
 
 no_bad_text : (text : List ℕ) (lines : List Line) (number : ℕ) → AreLinesOf text lines → IsFirstBadLine (lines_of text) number → ⊥
-no_bad_text text lines number are bad = no_bad_line (lines_of text) number (subst (All IsText) are.are are.texts) bad
+no_bad_text text lines number are bad = no_bad_line (lines_of text) number (subst (All IsUtf8Line) are.are are.texts) bad
 
 pub one_fault : (text : List ℕ) (f g : ConfFault) → IsFaultOf text f → IsFaultOf text g → f ≡ g
 one_fault text f g (too_long long is) (too_long long' is') = is ∙ sym is'

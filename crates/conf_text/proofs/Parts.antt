@@ -29,7 +29,7 @@ ended_part part text =
     let rest = some_parts text in
     ap (λ (parts : List (List ℕ)). lines_of_parts (part ∷ parts)) rest.2 ∙ ap (λ (parts : List (List ℕ)). strip_carriage_return part ∷ lines_of_parts parts) (sym rest.2)
 
--- a part that LF ends, and the lines behind it
+-- a part that LF ends, and the lines after it
 pub first_line : (text : List ℕ) → place 10 text < length text → lines text ≡ strip_carriage_return (take (place 10 text) text) ∷ lines (drop (place 10 text + 1) text)
 first_line text within = ap lines_of_parts (slice_split_first (λ b. eqb b 10) text 0 within) ∙ ended_part (take (place 10 text) text) (drop (place 10 text + 1) text)
 

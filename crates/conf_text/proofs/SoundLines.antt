@@ -3,7 +3,7 @@ use Rattle.std.proofs.Common.{◌≡◌, ◌≢◌, ℕ, ◌<◌, ◌≤◌, Boo
 use Rattle.std.specs.Prelude.{All, Option, Some, None, ◌&&◌, ◌||◌, ◌==◌, not, nat_le, codes, reverse}
 use Rattle.std.specs.List.{list_all, list_any, filter_map, cons_option}
 use Rattle.std.specs.Str.{bytes_eq}
-use Rattle.std.proofs.lemmas.Bool.{leb-false, ltb-false}
+use Rattle.std.proofs.lemmas.Bool.{leb-false, ltb-false, or_parts}
 use Rattle.std.proofs.lemmas.List.{map-append, reverse-append, length-map}
 use Rattle.doc_types.specs.declared.schema.AttrKind.{AttrKind}
 use Rattle.conf_text.specs.declared.conf.Conf.{Conf}
@@ -13,17 +13,16 @@ use Rattle.conf_text.specs.declared.conf.IndexConf.{IndexConf}
 use Rattle.conf_text.specs.declared.conf.TheConstants.{MAX_INDEXES}
 use Rattle.conf_text.specs.declared.keys.Key.TheVariants as keys
 use Rattle.conf_text.specs.Confs.{IsIndexOf, IsSound, shape, shapes_back}
-use Rattle.conf_text.specs.Drafts.{AreIndexes, entry_with}
+use Rattle.conf_text.specs.steps.Drafts.{AreIndexes, entry_with}
 use Rattle.conf_text.specs.Faults.{AreGood, IsGoodAt, has_name, has_path, is_among, is_long, is_text}
 use Rattle.conf_text.specs.Lines.{Line, content}
-use Rattle.conf_text.specs.Sections.{Entry, IndexText, Place, Spot, attrs_in, behind_head, entry_of, fields_in, entries_behind, entries_in, given, headed, index, indexes_behind, indexes_in, inside, other, outside, place_behind, place_in, spot_at, spot_in}
-use Rattle.conf_text.specs.Shapes.{Shape, bare_head, before_brace, before_equals, behind_equals, behind_word, blank, closing, entry, entry_shape, first_word, has_equals, has_no_name, head, head_of, head_shape, index_head, is_name, misformed, named_head, opening, opens_section, other_head, shape_of, small, unknown_head, words_shape}
+use Rattle.conf_text.specs.Sections.{Entry, IndexText, Place, Spot, attrs_in, after_head, entry_of, fields_in, entries_after, entries_in, given, headed, index, indexes_after, indexes_in, inside, other, outside, place_after, place_in, spot_at, spot_in}
+use Rattle.conf_text.specs.Shapes.{Shape, bare_head, before_brace, before_equals, after_equals, after_word, blank, closing, entry, entry_shape, first_word, has_equals, has_no_name, head, head_of, head_shape, index_head, is_name, misformed, named_head, opening, opens_section, other_head, shape_of, small, unknown_head, words_shape}
 use Rattle.conf_text.specs.Shapes.{has_name as wants_name}
 use Rattle.conf_text.specs.Keys.{key_named}
 use Rattle.conf_text.proofs.Pairs.{all_cons, all_head, all_tail, distinct_both}
 use Rattle.conf_text.proofs.Among.{distinct_more}
 use Rattle.conf_text.proofs.Entries.{filter_map_more, list_any_map}
-use Rattle.conf_text.proofs.Flags.{or_no_left, or_no_right}
 use Rattle.conf_text.proofs.Spots.{as_many}
 use Rattle.conf_text.proofs.Sizes.{either_way}
 use Rattle.conf_text.proofs.Soundness.{GoodEntries, attr_names_in, good_more, good_none, is_false, small_name}
@@ -52,14 +51,14 @@ head_small word (b ∷ rest) opens = either_way HasSmall (is_name word && is_nam
 shape_small : (text : List ℕ) → HasSmall (shape_of text)
 unfolding shape_of
 shape_small text =
-    let keyed : HasSmall (entry_shape (before_equals text) (behind_equals text)) =
-    either_way HasSmall (is_name (before_equals text)) (entry (key_named (small (before_equals text))) (behind_equals text)) misformed tt tt in
+    let keyed : HasSmall (entry_shape (before_equals text) (after_equals text)) =
+    either_way HasSmall (is_name (before_equals text)) (entry (key_named (small (before_equals text))) (after_equals text)) misformed tt tt in
     let headed : HasSmall (head_shape text) =
     either_way HasSmall (opens_section text) (head_of (before_brace text) true) (head_of text false)
-    (head_small (first_word (before_brace text)) (behind_word (before_brace text)) true)
-    (head_small (first_word text) (behind_word text) false) in
+    (head_small (first_word (before_brace text)) (after_word (before_brace text)) true)
+    (head_small (first_word text) (after_word text) false) in
     let worded : HasSmall (words_shape text) =
-    either_way HasSmall (has_equals text) (entry_shape (before_equals text) (behind_equals text)) (head_shape text) keyed headed in
+    either_way HasSmall (has_equals text) (entry_shape (before_equals text) (after_equals text)) (head_shape text) keyed headed in
     either_way HasSmall (length text == 0) blank (cond (bytes_eq text (codes "{")) opening (cond (bytes_eq text (codes "}")) closing (words_shape text))) tt
     (either_way HasSmall (bytes_eq text (codes "{")) opening (cond (bytes_eq text (codes "}")) closing (words_shape text)) tt
     (either_way HasSmall (bytes_eq text (codes "}")) closing (words_shape text) tt worded))
@@ -158,27 +157,27 @@ start_good : (texts : List IndexText) (entries : List Entry) (name : List ℕ) (
 start_good texts entries name opens is_small good =
     let within : (is_long name || nat_le MAX_INDEXES (length texts)) ≡ false = is_false _ good.0 in
     record {
-      name_is = record { short = ltb-false _ _ (or_no_left _ _ within); small = is_small };
+      name_is = record { short = ltb-false _ _ (or_parts _ _ within).0; small = is_small };
       new = is_false _ good.1.1.0;
-      few = leb-false MAX_INDEXES (length texts) (or_no_right _ _ within);
+      few = leb-false MAX_INDEXES (length texts) (or_parts _ _ within).1;
     }
 
-headed_good : (texts : List IndexText) (name : List ℕ) (opens : Bool) → GoodStart texts name → GoodPlace texts [] (behind_head (index name) opens)
+headed_good : (texts : List IndexText) (name : List ℕ) (opens : Bool) → GoodStart texts name → GoodPlace texts [] (after_head (index name) opens)
 headed_good texts name true start = (start, good_none texts)
 headed_good texts name false start = (start, good_none texts)
 
-other_good : (texts : List IndexText) (opens : Bool) → GoodPlace texts [] (behind_head other opens)
+other_good : (texts : List IndexText) (opens : Bool) → GoodPlace texts [] (after_head other opens)
 other_good texts true = tt
 other_good texts false = tt
 
 -- a good line more
-sound_more : (texts : List IndexText) (entries : List Entry) (place : Place) (line : Shape) → HasSmall line → IsGoodAt (spot_at texts entries place) line false → SoundSpot (spot_at texts entries place) → SoundSpot (spot_at (indexes_behind texts place entries line) (entries_behind entries line) (place_behind place line))
+sound_more : (texts : List IndexText) (entries : List Entry) (place : Place) (line : Shape) → HasSmall line → IsGoodAt (spot_at texts entries place) line false → SoundSpot (spot_at texts entries place) → SoundSpot (spot_at (indexes_after texts place entries line) (entries_after entries line) (place_after place line))
 sound_more texts entries place blank is_small good sound = sound
 sound_more texts entries outside (index_head name opens) is_small good sound =
-    sound_at texts entries [] outside (behind_head (index name) opens) sound (headed_good texts name opens (start_good texts entries name opens is_small good))
+    sound_at texts entries [] outside (after_head (index name) opens) sound (headed_good texts name opens (start_good texts entries name opens is_small good))
 sound_more texts entries (headed section) (index_head name opens) is_small good sound = absurd (good.1.1.1.1.1.1.0 refl)
 sound_more texts entries (inside section) (index_head name opens) is_small good sound = absurd (good.1.1.1.1.1.1.0 refl)
-sound_more texts entries place (other_head opens) is_small good sound = sound_at texts entries [] place (behind_head other opens) sound (other_good texts opens)
+sound_more texts entries place (other_head opens) is_small good sound = sound_at texts entries [] place (after_head other opens) sound (other_good texts opens)
 sound_more texts entries place unknown_head is_small good sound = sound
 sound_more texts entries outside opening is_small good sound = sound
 sound_more texts entries (headed (index name)) opening is_small good sound = sound_at texts entries entries (headed (index name)) (inside (index name)) sound sound.place

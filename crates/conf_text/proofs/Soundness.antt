@@ -6,7 +6,7 @@ use Rattle.std.specs.List.{cons_option, list_all, list_any, slice_split}
 use Rattle.std.specs.Option.{is_some}
 use Rattle.std.specs.Str.{bytes_eq}
 use Rattle.std.proofs.lemmas.Bool.Decides.{nat_tests}
-use Rattle.std.proofs.lemmas.Bool.{true≢false, ltb-false, leb-false}
+use Rattle.std.proofs.lemmas.Bool.{true≢false, ltb-false, leb-false, and_parts, or_parts}
 use Rattle.std.proofs.lemmas.List.{map-append, length-map}
 use Rattle.std.proofs.lemmas.List.Elements.{All-nil, All-push}
 use Rattle.doc_types.specs.declared.schema.TheConstants.{MAX_FIELDS, MAX_ATTRS, MAX_ZONES}
@@ -15,7 +15,7 @@ use Rattle.std.proofs.lemmas.List.Folds.{list_any-append}
 use Rattle.conf_text.specs.declared.keys.Key.{Key}
 use Rattle.conf_text.specs.declared.keys.Key.TheVariants as keys
 use Rattle.conf_text.specs.Confs.{zones_by}
-use Rattle.conf_text.specs.Drafts.{entry_with}
+use Rattle.conf_text.specs.steps.Drafts.{entry_with}
 use Rattle.conf_text.specs.Faults.{has_path, is_among, is_column, is_long, is_repeated, passes_limit}
 use Rattle.conf_text.specs.Keys.{same_key}
 use Rattle.conf_text.specs.Sections.{Entry, IndexText, attr_by, attrs_in, field_by, fields_in, given}
@@ -25,7 +25,6 @@ use Rattle.conf_text.specs.Values.{AreZoneNames, IsValue, can_be_column, zones_i
 use Rattle.doc_types.specs.declared.schema.AttrKind.{AttrKind}
 use Rattle.conf_text.proofs.Among.{among_no, distinct_more}
 use Rattle.conf_text.proofs.Entries.{filter_map_more, given_new, given_other}
-use Rattle.conf_text.proofs.Flags.{and_left, or_no_left, or_no_right}
 use Rattle.conf_text.proofs.Pairs.{AreApart, all_cons, all_differ}
 
 -- names in small letters
@@ -40,7 +39,7 @@ small_name (b ∷ text) = ap (λ t. t && list_all (λ c. not (is_capital c)) (sm
 is_name_of : (text : List ℕ) → is_long (small text) ≡ false → IsName (small text)
 is_name_of text short = record { short = ltb-false _ _ short; small = small_name text }
 
--- the columns, the zones and the path of entries, behind other indexes
+-- the columns, the zones and the path of entries, after other indexes
 pub record GoodParts (texts : List IndexText) (fields attrs : List (List ℕ)) (zones path : Option (List ℕ)) : Type 0 where
   pub few_fields : length fields ≤ MAX_FIELDS
   pub few_attrs : length attrs ≤ MAX_ATTRS
@@ -125,7 +124,7 @@ same_more texts entries key value field attr zones path good =
 column_new : (column : List ℕ) (entries : List Entry) → is_column column entries ≡ false → (is_among column (fields_in entries) ≡ false) × (is_among column (attr_names_in entries) ≡ false)
 column_new column entries new =
     let split : (is_among column (fields_in entries) || is_among column (attr_names_in entries)) ≡ false = sym (list_any-append (λ other. bytes_eq other column) (fields_in entries) (attr_names_in entries)) ∙ new in
-    (or_no_left _ _ split, or_no_right _ _ split)
+    ((or_parts _ _ split).0, (or_parts _ _ split).1)
 
 few_more : (count limit : ℕ) → nat_le limit count ≡ false → count + 1 ≤ limit
 few_more count limit less = omega (arith, leb-false limit count less)
@@ -165,13 +164,13 @@ attr_parts texts fields attrs zones path name is form other new few good = recor
 names_of : (pieces : List (List ℕ)) → list_any is_long (map (λ piece. small (trimmed piece)) pieces) ≡ false → All IsName (map (λ piece. small (trimmed piece)) pieces)
 names_of [] short = All-nil IsName
 names_of (piece ∷ pieces) short =
-    all_cons IsName (small (trimmed piece)) (map (λ p. small (trimmed p)) pieces) (is_name_of (trimmed piece) (or_no_left _ _ short)) (names_of pieces (or_no_right _ _ short))
+    all_cons IsName (small (trimmed piece)) (map (λ p. small (trimmed p)) pieces) (is_name_of (trimmed piece) (or_parts _ _ short).0) (names_of pieces (or_parts _ _ short).1)
 
 -- zones within the limits
 zones_good : (value : List ℕ) → ¬ (¬ (AreZoneNames (zones_in value))) → (list_any is_long (zones_in value) || nat_lt MAX_ZONES (length (zones_in value))) ≡ false → AreZones (zones_in value)
 zones_good value are within = record {
-  few = ltb-false MAX_ZONES (length (zones_in value)) (or_no_right _ _ within);
-  names = names_of (slice_split (λ b. b == 44) value) (or_no_left _ _ within);
+  few = ltb-false MAX_ZONES (length (zones_in value)) (or_parts _ _ within).1;
+  names = names_of (slice_split (λ b. b == 44) value) (or_parts _ _ within).0;
   distinct = λ i j d order below same. are (λ names. names.distinct i j d order below same);
 }
 
@@ -214,24 +213,24 @@ path_parts texts fields attrs zones path value new good = record {
 attr_more : (texts : List IndexText) (entries : List Entry) (key : Key) (value : List ℕ) → field_by key value ≡ None → map (λ attr. attr.0) (cons_option (attr_by key value) []) ≡ small value ∷ [] → same_key key keys.IndexZones ≡ false → same_key key keys.Path ≡ false → ¬ (¬ (can_be_column value ≡ true)) → ¬ (is_column (small value) entries ≡ true) → ¬ ((is_long (small value) || nat_le MAX_ATTRS (length (attrs_in entries))) ≡ true) → GoodEntries texts entries → GoodEntries texts (entries ++ entry_with key value ∷ [])
 attr_more texts entries key value field attr zones path value_is new within good =
     let e : Entry = entry_with key value in
-    let form : is_column_name (small value) ≡ true = and_left _ _ (is_true (can_be_column value) value_is) in
+    let form : is_column_name (small value) ≡ true = (and_parts _ _ (is_true (can_be_column value) value_is)).0 in
     let other = column_new (small value) entries (is_false (is_column (small value) entries) new) in
     let size : (is_long (small value) || nat_le MAX_ATTRS (length (attrs_in entries))) ≡ false = is_false _ within in
-    let few : nat_le MAX_ATTRS (length (attr_names_in entries)) ≡ false = ap (nat_le MAX_ATTRS) (length-map (attrs_in entries) (λ (a : List ℕ × AttrKind). a.0)) ∙ or_no_right _ _ size in
+    let few : nat_le MAX_ATTRS (length (attr_names_in entries)) ≡ false = ap (nat_le MAX_ATTRS) (length-map (attrs_in entries) (λ (a : List ℕ × AttrKind). a.0)) ∙ (or_parts _ _ size).1 in
     parts_are texts (entries ++ e ∷ []) (fields_in entries) (attr_names_in entries ++ small value ∷ []) (given keys.IndexZones entries) (given keys.Path entries)
     (fields_same entries e field) (names_more entries e ∙ ap (λ ns. attr_names_in entries ++ ns) attr) (given_other keys.IndexZones entries e zones) (given_other keys.Path entries e path)
-    (attr_parts texts (fields_in entries) (attr_names_in entries) (given keys.IndexZones entries) (given keys.Path entries) (small value) (is_name_of value (or_no_left _ _ size)) form other.0 other.1 few good)
+    (attr_parts texts (fields_in entries) (attr_names_in entries) (given keys.IndexZones entries) (given keys.Path entries) (small value) (is_name_of value (or_parts _ _ size).0) form other.0 other.1 few good)
 
 -- an entry at which no fault stands
 pub good_more : (texts : List IndexText) (entries : List Entry) (key : Key) (value : List ℕ) → NoFault texts entries key value → GoodEntries texts entries → GoodEntries texts (entries ++ entry_with key value ∷ [])
 good_more texts entries keys.RtField value fine good =
     let e : Entry = entry_with keys.RtField value in
-    let form : is_column_name (small value) ≡ true = and_left _ _ (is_true (can_be_column value) fine.value_is) in
+    let form : is_column_name (small value) ≡ true = (and_parts _ _ (is_true (can_be_column value) fine.value_is)).0 in
     let other = column_new (small value) entries (is_false (is_column (small value) entries) fine.new) in
     let size : (is_long (small value) || nat_le MAX_FIELDS (length (fields_in entries))) ≡ false = is_false _ fine.within in
     parts_are texts (entries ++ e ∷ []) (fields_in entries ++ small value ∷ []) (attr_names_in entries) (given keys.IndexZones entries) (given keys.Path entries)
     (fields_more entries e) (names_same entries e refl) (given_other keys.IndexZones entries e refl) (given_other keys.Path entries e refl)
-    (field_parts texts (fields_in entries) (attr_names_in entries) (given keys.IndexZones entries) (given keys.Path entries) (small value) (is_name_of value (or_no_left _ _ size)) form other.0 other.1 (or_no_right _ _ size) good)
+    (field_parts texts (fields_in entries) (attr_names_in entries) (given keys.IndexZones entries) (given keys.Path entries) (small value) (is_name_of value (or_parts _ _ size).0) form other.0 other.1 (or_parts _ _ size).1 good)
 good_more texts entries keys.RtAttrUint value fine good = attr_more texts entries keys.RtAttrUint value refl refl refl refl fine.value_is fine.new fine.within good
 good_more texts entries keys.RtAttrBool value fine good = attr_more texts entries keys.RtAttrBool value refl refl refl refl fine.value_is fine.new fine.within good
 good_more texts entries keys.RtAttrBigint value fine good = attr_more texts entries keys.RtAttrBigint value refl refl refl refl fine.value_is fine.new fine.within good
@@ -245,6 +244,6 @@ good_more texts entries keys.Path value fine good =
     let e : Entry = entry_with keys.Path value in
     let new : (is_some (given keys.Path entries) || list_any (has_path value) texts) ≡ false = is_false _ fine.new in
     parts_are texts (entries ++ e ∷ []) (fields_in entries) (attr_names_in entries) (given keys.IndexZones entries) (Some value)
-    (fields_same entries e refl) (names_same entries e refl) (given_other keys.IndexZones entries e refl) (given_new keys.Path entries e refl (or_no_left _ _ new))
-    (path_parts texts (fields_in entries) (attr_names_in entries) (given keys.IndexZones entries) (given keys.Path entries) value (or_no_right _ _ new) good)
+    (fields_same entries e refl) (names_same entries e refl) (given_other keys.IndexZones entries e refl) (given_new keys.Path entries e refl (or_parts _ _ new).0)
+    (path_parts texts (fields_in entries) (attr_names_in entries) (given keys.IndexZones entries) (given keys.Path entries) value (or_parts _ _ new).1 good)
 good_more texts entries key value fine good = same_more texts entries key value refl refl refl refl good

@@ -10,10 +10,10 @@ use Rattle.conf_text.specs.declared.draft.Draft.{Draft}
 use Rattle.conf_text.specs.declared.reading.Place.{Place as CodePlace}
 use Rattle.conf_text.specs.declared.reading.Place.TheVariants as places
 use Rattle.conf_text.specs.declared.reading.Section.TheVariants as sections
-use Rattle.conf_text.specs.Taking.{Leads, PlaceHas, place_of}
-use Rattle.conf_text.specs.Drafts.{AreIndexes, IsDraft, IsEndFault, IsEntryFault, IsGoodEnd, IsGoodEntry}
+use Rattle.conf_text.specs.steps.Taking.{Leads, PlaceHas, place_of}
+use Rattle.conf_text.specs.steps.Drafts.{AreIndexes, IsDraft, IsEndFault, IsEntryFault, IsGoodEnd, IsGoodEntry}
 use Rattle.conf_text.specs.Faults.{IsFaultAt, IsGoodAt, StandsAt, StandsAtEnd, StandsAtEntry, is_syntax}
-use Rattle.conf_text.specs.Sections.{Entry, IndexText, Place, Spot, behind_head, headed, index, inside, other, outside, spot_at}
+use Rattle.conf_text.specs.Sections.{Entry, IndexText, Place, Spot, after_head, headed, index, inside, other, outside, spot_at}
 use Rattle.conf_text.specs.Shapes.{Shape, closing, entry, opening}
 
 -- no fault stands at a line that isn't misplaced, where none of the others does
@@ -87,7 +87,7 @@ faulty_end texts entries name last kinds.Missing fine fault = record {
 faulty_end texts entries name last _ fine fault = absurd fault
 
 -- an index that begins
-pub begins_index : (name : List ℕ) (draft : Draft) (opens : Bool) (next : CodePlace) → IsDraft name [] draft → next ≡ cond opens (places.Inside (sections.Index draft)) (places.Headed (sections.Index draft)) → Leads (behind_head (index name) opens) [] next
+pub begins_index : (name : List ℕ) (draft : Draft) (opens : Bool) (next : CodePlace) → IsDraft name [] draft → next ≡ cond opens (places.Inside (sections.Index draft)) (places.Headed (sections.Index draft)) → Leads (after_head (index name) opens) [] next
 begins_index name draft true next is made = record {
   place_is = ap place_of made ∙ ap (λ n. inside (index n)) is.named;
   has = subst (PlaceHas []) (sym made) (subst (λ n. IsDraft n [] draft) (sym is.named) is);

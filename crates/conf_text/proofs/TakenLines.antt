@@ -14,11 +14,11 @@ use Rattle.conf_text.specs.declared.reading.Place.{Place as CodePlace}
 use Rattle.conf_text.specs.declared.reading.Place.TheVariants as places
 use Rattle.conf_text.specs.declared.reading.Section.TheVariants as sections
 use Rattle.conf_text.specs.Confs.{IsIndexOf}
-use Rattle.conf_text.specs.Drafts.{AreIndexes, EndsIndex, IsDraft}
+use Rattle.conf_text.specs.steps.Drafts.{AreIndexes, EndsIndex, IsDraft}
 use Rattle.conf_text.specs.Faults.{IsFaultAt, is_syntax}
-use Rattle.conf_text.specs.Sections.{Entry, IndexText, Place, behind_opening, entries_behind, headed, index, inside, other, outside, spot_at}
+use Rattle.conf_text.specs.Sections.{Entry, IndexText, Place, after_opening, entries_after, headed, index, inside, other, outside, spot_at}
 use Rattle.conf_text.specs.Shapes.{closing, entry, opening}
-use Rattle.conf_text.specs.Taking.{Closes, Enters, Leads, PlaceHas, TakesLine, place_of}
+use Rattle.conf_text.specs.steps.Taking.{Closes, Enters, Leads, PlaceHas, TakesLine, place_of}
 use Rattle.conf_text.proofs.Spots.{faulty_end, faulty_entry, good_closing, good_entry, good_opening, good_other_closing, good_other_entry, unknown_entry}
 
 -- two lists side by side, with one more
@@ -37,7 +37,7 @@ closes_index texts entries place draft old new made is ends added are has =
     has
 
 -- `{` was taken
-pub opened : (texts : List IndexText) (entries : List Entry) (place : Place) (last : Bool) (old : List IndexConf) (next : CodePlace) → is_syntax place opening last ≡ false → AreIndexes texts old → Leads (behind_opening place) entries next → TakesLine (spot_at texts entries place) opening last old (Ok next)
+pub opened : (texts : List IndexText) (entries : List Entry) (place : Place) (last : Bool) (old : List IndexConf) (next : CodePlace) → is_syntax place opening last ≡ false → AreIndexes texts old → Leads (after_opening place) entries next → TakesLine (spot_at texts entries place) opening last old (Ok next)
 opened texts entries place last old next fine are leads = record { good = good_opening (spot_at texts entries place) last fine; indexes = are; leads = leads }
 
 -- `}` was taken
@@ -80,7 +80,7 @@ entered texts entries (inside (index name)) (Some key) value last old (Err (caus
 entered texts entries (inside other) key value last old (Ok next) fine are enters = record {
   good = good_other_entry texts entries key value last fine;
   indexes = are;
-  leads = record { place_is = ap place_of enters; has = subst (PlaceHas (entries_behind entries (entry key value))) (sym enters) tt };
+  leads = record { place_is = ap place_of enters; has = subst (PlaceHas (entries_after entries (entry key value))) (sym enters) tt };
 }
 entered texts entries (inside other) key value last old (Err causes.NoMemory) fine are enters = tt
 entered texts entries (inside other) key value last old (Err (causes.Fault kind)) fine are enters = absurd enters

@@ -6,19 +6,18 @@ use Rattle.std.specs.Cmp.Lexicographic.{slice_cmp}
 use Rattle.std.specs.Ordering.{is_eq, nat_cmp}
 use Rattle.std.specs.Str.{bytes_eq}
 use Rattle.std.specs.List.{list_all, list_any}
-use Rattle.std.proofs.lemmas.Bool.{true≢false, cases_lt}
+use Rattle.std.proofs.lemmas.Bool.{true≢false, cases_lt, and_cases, and_parts, not-false, not-true}
 use Rattle.std.proofs.lemmas.List.Folds.{list_all-append, list_any-append}
 use Rattle.std.proofs.lemmas.Map.Text.{is_eq-slice_cmp}
 use Rattle.std.proofs.lemmas.List.Splits.{slice_split_first, slice_split_none}
 use Rattle.std.proofs.lemmas.List.Sums.{fails_before_first}
 use Rattle.conf_text.specs.Faults.{is_among}
 use Rattle.conf_text.specs.Lines.{trimmed}
-use Rattle.conf_text.specs.Settings.{HasNames}
+use Rattle.conf_text.specs.steps.Settings.{HasNames}
 use Rattle.conf_text.specs.Shapes.{small}
 use Rattle.conf_text.specs.Values.{AreZoneNames, is_tag_name, zones_in}
 use Rattle.doc_types.specs.Schemas.{AreDistinct}
 use Rattle.conf_text.proofs.Among.{distinct_more, not_distinct}
-use Rattle.conf_text.proofs.Flags.{and_left, and_right, and_no, not_yes, not_no}
 use Rattle.conf_text.proofs.Parts.{place, place_within}
 
 -- the name that a part of a list is
@@ -61,16 +60,16 @@ form_more zones name form is = list_all-append is_tag_name zones (name ∷ []) �
 pub zones_more : (value rest : List ℕ) (zones : List (List ℕ)) (name : List ℕ) → ZonesRead value rest zones → place 44 rest < length rest → name ≡ zone (take (place 44 rest) rest) → (is_tag_name name && not (is_among name zones)) ≡ true → ZonesRead value (drop (place 44 rest + 1) rest) (zones ++ name ∷ [])
 zones_more value rest zones name read within is new = record {
   are = read.are ∙ ap (λ zs. zones ++ zs) (next_zone rest within) ∙ ap (λ n. zones ++ n ∷ zones_in (drop (place 44 rest + 1) rest)) (sym is) ∙ sym (append_assoc zones (name ∷ []) (zones_in (drop (place 44 rest + 1) rest)));
-  form = form_more zones name read.form (and_left _ _ new);
-  distinct = distinct_more zones name read.distinct (not_yes _ (and_right _ _ new));
+  form = form_more zones name read.form (and_parts _ _ new).0;
+  distinct = distinct_more zones name read.distinct (not-true _ (and_parts _ _ new).1);
 }
 
 pub zones_end : (value rest : List ℕ) (zones : List (List ℕ)) (name : List ℕ) → ZonesRead value rest zones → place 44 rest ≡ length rest → name ≡ zone (take (place 44 rest) rest) → (is_tag_name name && not (is_among name zones)) ≡ true → AreZoneNames (zones_in value) × (zones ++ name ∷ [] ≡ zones_in value)
 zones_end value rest zones name read end is new =
     let are : zones_in value ≡ zones ++ name ∷ [] = read.are ∙ ap (λ zs. zones ++ zs) (last_zone rest end) ∙ ap (λ n. zones ++ n ∷ []) (sym is) in
     let names : AreZoneNames (zones ++ name ∷ []) = record {
-      form = form_more zones name read.form (and_left _ _ new);
-      distinct = distinct_more zones name read.distinct (not_yes _ (and_right _ _ new));
+      form = form_more zones name read.form (and_parts _ _ new).0;
+      distinct = distinct_more zones name read.distinct (not-true _ (and_parts _ _ new).1);
     } in
     (subst AreZoneNames (sym are) names, sym are)
 
@@ -78,10 +77,10 @@ pub zones_bad : (value rest : List ℕ) (zones : List (List ℕ)) (name : List �
 zones_bad value rest zones name read is old names =
     let first = first_zone rest in
     let are : zones_in value ≡ zones ++ name ∷ first.0 = read.are ∙ ap (λ zs. zones ++ zs) first.1 ∙ ap (λ n. zones ++ n ∷ first.0) (sym is) in
-    elim (and_no (is_tag_name name) (not (is_among name zones)) old) [
+    elim (and_cases (is_tag_name name) (not (is_among name zones)) old) [
       | inl other ↦ (let form : (list_all is_tag_name zones && (is_tag_name name && list_all is_tag_name first.0)) ≡ true = sym (list_all-append is_tag_name zones (name ∷ first.0)) ∙ ap (list_all is_tag_name) (sym are) ∙ names.form in
-          true≢false (sym (and_left (is_tag_name name) (list_all is_tag_name first.0) (and_right (list_all is_tag_name zones) _ form)) ∙ other))
-      | inr twice ↦ not_distinct zones first.0 name (not_no _ twice) (subst AreDistinct are names.distinct)
+          true≢false (sym ((and_parts (is_tag_name name) (list_all is_tag_name first.0) ((and_parts (list_all is_tag_name zones) _ form).1)).0) ∙ other))
+      | inr twice ↦ not_distinct zones first.0 name (not-false _ twice) (subst AreDistinct are names.distinct)
     ]
 
 -- a set without names, and one with one more

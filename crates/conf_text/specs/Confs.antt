@@ -4,7 +4,7 @@ use Rattle.std.specs.Char.{IsScalar}
 use Rattle.std.specs.List.{AllZip}
 use Rattle.std.specs.Str.{IsUtf8}
 use Rattle.charset_map.specs.declared.span.Span.{Span}
-use Rattle.charset_map.specs.Reading.{IsTableOf, default_text}
+use Rattle.charset_map.specs.TableText.{IsTableOf, default_text}
 use Rattle.charset_map.specs.Spans.{folded}
 use Rattle.doc_types.specs.Schemas.{IsSchema, AreDistinct}
 use Rattle.srch_base.specs.declared.faults.Or.{Or}
@@ -22,8 +22,8 @@ use Rattle.conf_text.specs.Shapes.{Shape, shape_of}
 use Rattle.conf_text.specs.Values.{zones_in}
 
 -- a line is UTF-8: each of its parts is
-abbrev pub IsText : Line → Type 0
-IsText line = All IsUtf8 line.parts
+abbrev pub IsUtf8Line : Line → Type 0
+IsUtf8Line line = All IsUtf8 line.parts
 
 -- the shape of a line, and the shapes of lines, from the last one on
 abbrev pub shape : Line → Shape
@@ -38,8 +38,8 @@ pub record IsFirstBadLine (lines : List Line) (number : ℕ) : Type 0 where
   pub line : Line
   pub after : List Line
   pub are : lines ≡ before ++ line ∷ after
-  pub good : All IsText before
-  pub bad : ¬ (IsText line)
+  pub good : All IsUtf8Line before
+  pub bad : ¬ (IsUtf8Line line)
   pub at : number ≡ line.number
 
 -- no line follows
@@ -61,7 +61,7 @@ pub record IsFirstFault (lines : List Line) (fault : ConfFault) : Type 0 where
 pub record AreLinesOf (text : List ℕ) (lines : List Line) : Type 0 where
   pub are : lines ≡ lines_of text
   pub short : length text ≤ MAX_CONF_BYTES
-  pub texts : All IsText lines
+  pub texts : All IsUtf8Line lines
 
 -- no fault stands at a line, and each section is ended
 pub record AreFaultless (lines : List Line) : Type 0 where

@@ -8,7 +8,7 @@ use Rattle.conf_text.specs.declared.fault.ConfKind.{ConfKind}
 use Rattle.conf_text.specs.declared.fault.ConfKind.TheVariants as kinds
 use Rattle.conf_text.specs.declared.keys.Key.{Key}
 use Rattle.conf_text.specs.declared.keys.Key.TheVariants as keys
-use Rattle.conf_text.specs.Sections.{index, Place, outside, headed, inside, place_behind, Entry, IndexText, Spot, spot_in, given, fields_in, attrs_in}
+use Rattle.conf_text.specs.Sections.{index, Place, outside, headed, inside, place_after, Entry, IndexText, Spot, spot_in, given, fields_in, attrs_in}
 use Rattle.conf_text.specs.Shapes.{Shape, blank, index_head, other_head, unknown_head, opening, closing, entry, small}
 use Rattle.conf_text.specs.Values.{IsValue, zones_in}
 
@@ -33,7 +33,7 @@ is_outside (inside section) = false
 
 -- the line is misplaced, or it is the last one and a section is left open
 abbrev pub is_syntax : Place → Shape → Bool → Bool
-is_syntax place line last = not (fits place line) || (last && not (is_outside (place_behind place line)))
+is_syntax place line last = not (fits place line) || (last && not (is_outside (place_after place line)))
 
 -- a name stands among others
 abbrev pub is_among : List ℕ → List (List ℕ) → Bool
@@ -91,13 +91,13 @@ lacks_strip entries = is_some (given keys.IndexZones entries) && not (is_on (giv
 abbrev pub lacks_key : List Entry → Bool
 lacks_key entries = not (is_some (given keys.Type entries)) || not (is_some (given keys.Path entries)) || (length (fields_in entries) == 0)
 
--- A fault of this kind stands at the head of an index, behind other indexes.
+-- A fault of this kind stands at the head of an index, after other indexes.
 abbrev pub StandsAtHead : ConfKind → List IndexText → List ℕ → Type 0
 StandsAtHead kinds.Repeated indexes name = list_any (has_name name) indexes ≡ true
 StandsAtHead kinds.Limit indexes name = (is_long name || nat_le MAX_INDEXES (length indexes)) ≡ true
 StandsAtHead _ indexes name = ⊥
 
--- A fault of this kind stands at an entry of an index, behind other indexes and other entries of this one.
+-- A fault of this kind stands at an entry of an index, after other indexes and other entries of this one.
 abbrev pub StandsAtEntry : ConfKind → List IndexText → List Entry → Key → List ℕ → Type 0
 StandsAtEntry kinds.BadValue indexes entries key value = ¬ (IsValue key value)
 StandsAtEntry kinds.Repeated indexes entries key value = is_repeated indexes entries key value ≡ true
@@ -119,7 +119,7 @@ abbrev pub IsUnknownKey : ConfKind → Type 0
 IsUnknownKey kinds.UnknownKey = Unit {0}
 IsUnknownKey _ = ⊥
 
--- A fault of this kind stands at a line of this shape at a place, behind these indexes and these entries.
+-- A fault of this kind stands at a line of this shape at a place, after these indexes and these entries.
 abbrev pub StandsAt : ConfKind → List IndexText → List Entry → Place → Shape → Type 0
 StandsAt kind indexes entries outside unknown_head = IsUnknownSection kind
 StandsAt kind indexes entries outside (index_head name opens) = StandsAtHead kind indexes name

@@ -1,13 +1,18 @@
-pub mod FaultTexts
-pub mod Keys
+-- the lines of a text, and what each says
 pub mod Lines
+-- the keys of an index
+pub mod Keys
+-- what a line is by itself
 pub mod Shapes
+-- what stands before a line: its section, the entries and the indexes
 pub mod Sections
+-- the values that each key may have
 pub mod Values
+-- what is wrong with a line
 pub mod Faults
+-- what a text is: a configuration, or its first fault
 pub mod Confs
-pub mod Shaping
-pub mod Reading
-pub mod Settings
-pub mod Drafts
-pub mod Taking
+-- the kinds of faults in words
+pub mod FaultTexts
+-- what serves proofs and private functions alone
+pub mod steps

@@ -2,7 +2,7 @@
 use Rattle.std.specs.Prelude.{ℕ, ◌+◌, ◌-◌, List, [], ◌∷◌, Bool, ◌==◌, ◌&&◌, ◌||◌, if◌then◌else◌, length, map, take, slice_index}
 use Rattle.std.specs.List.{concat}
 use Rattle.std.specs.Str.Lines.{lines}
-use Rattle.charset_map.specs.Reading.{without_back, without_front}
+use Rattle.charset_map.specs.TableText.{without_back, without_front}
 
 -- A line: the number of its first part, and its parts as the text has them. A line of more than one part was joined.
 pub record Line : Type 0 where
@@ -30,7 +30,7 @@ lines_from number (part ∷ parts) =
     then onto_line number part (lines_from (number + 1) parts)
     else record { number = number; parts = part ∷ [] } ∷ lines_from (number + 1) parts
 
--- The lines of a text, from 1. Its parts end with LF or CR LF; what stands behind the last LF is a part, unless it is empty.
+-- The lines of a text, from 1. Its parts end with LF or CR LF; what stands after the last LF is a part, unless it is empty.
 abbrev pub lines_of : List ℕ → List Line
 lines_of text = lines_from 1 (lines text)
 
@@ -38,18 +38,18 @@ lines_of text = lines_from 1 (lines text)
 abbrev pub joined_parts : List (List ℕ) → List ℕ
 joined_parts parts = concat (map unjoined parts)
 
--- a comment begins with `#` behind a space or a tab
+-- a comment begins with `#` after a space or a tab
 abbrev pub begins_comment : ℕ → ℕ → Bool
 begins_comment before b = (b == 35) && ((before == 32) || (before == 9))
 
--- what stands before the comment of a text that stands behind a byte
-abbrev pub uncommented_behind : ℕ → List ℕ → List ℕ
-uncommented_behind before [] = []
-uncommented_behind before (b ∷ bytes) = if begins_comment before b then [] else b ∷ uncommented_behind b bytes
+-- what stands before the comment of a text that stands after a byte
+abbrev pub uncommented_after : ℕ → List ℕ → List ℕ
+uncommented_after before [] = []
+uncommented_after before (b ∷ bytes) = if begins_comment before b then [] else b ∷ uncommented_after b bytes
 
 -- a line without its comment, which may begin at its front too
 abbrev pub uncommented : List ℕ → List ℕ
-uncommented text = uncommented_behind 32 text
+uncommented text = uncommented_after 32 text
 
 -- a text without the blanks around it
 abbrev pub trimmed : List ℕ → List ℕ

@@ -13,37 +13,37 @@ pub data Section : Type 0 where
   index : List ℕ → Section
   other : Section
 
--- where a line stands: outside of sections, behind the head of one before its `{`, or inside
+-- where a line stands: outside of sections, after the head of one before its `{`, or inside
 pub data Place : Type 0 where
   outside : Place
   headed : Section → Place
   inside : Section → Place
 
--- behind the head of a section
-abbrev pub behind_head : Section → Bool → Place
-behind_head section opens = if opens then inside section else headed section
+-- after the head of a section
+abbrev pub after_head : Section → Bool → Place
+after_head section opens = if opens then inside section else headed section
 
--- behind `{`
-abbrev pub behind_opening : Place → Place
-behind_opening outside = outside
-behind_opening (headed section) = inside section
-behind_opening (inside section) = inside section
+-- after `{`
+abbrev pub after_opening : Place → Place
+after_opening outside = outside
+after_opening (headed section) = inside section
+after_opening (inside section) = inside section
 
--- where the line behind a line stands
-abbrev pub place_behind : Place → Shape → Place
-place_behind place blank = place
-place_behind place (index_head name opens) = behind_head (index name) opens
-place_behind place (other_head opens) = behind_head other opens
-place_behind place unknown_head = place
-place_behind place opening = behind_opening place
-place_behind place closing = outside
-place_behind place (entry key value) = place
-place_behind place misformed = place
+-- where the line after a line stands
+abbrev pub place_after : Place → Shape → Place
+place_after place blank = place
+place_after place (index_head name opens) = after_head (index name) opens
+place_after place (other_head opens) = after_head other opens
+place_after place unknown_head = place
+place_after place opening = after_opening place
+place_after place closing = outside
+place_after place (entry key value) = place
+place_after place misformed = place
 
--- where the line behind these lines stands
+-- where the line after these lines stands
 abbrev pub place_in : List Shape → Place
 place_in [] = outside
-place_in (line ∷ before) = place_behind (place_in before) line
+place_in (line ∷ before) = place_after (place_in before) line
 
 -- a key of an index, and its value
 pub record Entry : Type 0 where
@@ -56,20 +56,20 @@ entry_of None value = []
 entry_of (Some key) value = record { key = key; value = value } ∷ []
 
 -- the entries of a section with a line: a head begins a new one
-abbrev pub entries_behind : List Entry → Shape → List Entry
-entries_behind entries blank = entries
-entries_behind entries (index_head name opens) = []
-entries_behind entries (other_head opens) = []
-entries_behind entries unknown_head = entries
-entries_behind entries opening = entries
-entries_behind entries closing = entries
-entries_behind entries (entry key value) = entries ++ entry_of key value
-entries_behind entries misformed = entries
+abbrev pub entries_after : List Entry → Shape → List Entry
+entries_after entries blank = entries
+entries_after entries (index_head name opens) = []
+entries_after entries (other_head opens) = []
+entries_after entries unknown_head = entries
+entries_after entries opening = entries
+entries_after entries closing = entries
+entries_after entries (entry key value) = entries ++ entry_of key value
+entries_after entries misformed = entries
 
 -- the entries since the last head, in order
 abbrev pub entries_in : List Shape → List Entry
 entries_in [] = []
-entries_in (line ∷ before) = entries_behind (entries_in before) line
+entries_in (line ∷ before) = entries_after (entries_in before) line
 
 -- an index as the text has it: its name in small letters, and its entries in order
 pub record IndexText : Type 0 where
@@ -84,20 +84,20 @@ ended (inside (index name)) entries = record { name = name; entries = entries } 
 ended (inside other) entries = []
 
 -- the indexes with the one that a line ends
-abbrev pub indexes_behind : List IndexText → Place → List Entry → Shape → List IndexText
-indexes_behind indexes place entries blank = indexes
-indexes_behind indexes place entries (index_head name opens) = indexes
-indexes_behind indexes place entries (other_head opens) = indexes
-indexes_behind indexes place entries unknown_head = indexes
-indexes_behind indexes place entries opening = indexes
-indexes_behind indexes place entries closing = indexes ++ ended place entries
-indexes_behind indexes place entries (entry key value) = indexes
-indexes_behind indexes place entries misformed = indexes
+abbrev pub indexes_after : List IndexText → Place → List Entry → Shape → List IndexText
+indexes_after indexes place entries blank = indexes
+indexes_after indexes place entries (index_head name opens) = indexes
+indexes_after indexes place entries (other_head opens) = indexes
+indexes_after indexes place entries unknown_head = indexes
+indexes_after indexes place entries opening = indexes
+indexes_after indexes place entries closing = indexes ++ ended place entries
+indexes_after indexes place entries (entry key value) = indexes
+indexes_after indexes place entries misformed = indexes
 
 -- the indexes that these lines have whole, in order
 abbrev pub indexes_in : List Shape → List IndexText
 indexes_in [] = []
-indexes_in (line ∷ before) = indexes_behind (indexes_in before) (place_in before) (entries_in before) line
+indexes_in (line ∷ before) = indexes_after (indexes_in before) (place_in before) (entries_in before) line
 
 -- what stands before a line: the indexes that are whole, the entries since the last head, and the place of the line
 pub record Spot : Type 0 where
@@ -108,7 +108,7 @@ pub record Spot : Type 0 where
 abbrev pub spot_at : List IndexText → List Entry → Place → Spot
 spot_at indexes entries place = record { indexes = indexes; entries = entries; place = place }
 
--- what these lines are before the line behind them
+-- what these lines are before the line after them
 abbrev pub spot_in : List Shape → Spot
 spot_in before = spot_at (indexes_in before) (entries_in before) (place_in before)
 

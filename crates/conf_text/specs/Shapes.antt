@@ -3,7 +3,7 @@ use Rattle.std.specs.Prelude.{ℕ, ◌-◌, List, [], ◌∷◌, Bool, true, fal
 use Rattle.std.specs.List.{position_or_len, before_first, after_first}
 use Rattle.std.specs.Str.{bytes_eq, str_to_ascii_lowercase}
 use Rattle.charset_map.specs.Characters.{is_blank}
-use Rattle.charset_map.specs.Reading.{without_back, without_front}
+use Rattle.charset_map.specs.TableText.{without_back, without_front}
 use Rattle.doc_types.specs.Schemas.{is_column_name}
 use Rattle.conf_text.specs.declared.keys.Key.{Key}
 use Rattle.conf_text.specs.Keys.{key_named}
@@ -13,9 +13,9 @@ use Rattle.conf_text.specs.Lines.{trimmed}
 pub data Shape : Type 0 where
   -- nothing, or a comment
   blank : Shape
-  -- the head of an index: its name in small letters, and whether `{` stands behind it
+  -- the head of an index: its name in small letters, and whether `{` stands after it
   index_head : List ℕ → Bool → Shape
-  -- the head of a section of another kind, and whether `{` stands behind it
+  -- the head of a section of another kind, and whether `{` stands after it
   other_head : Bool → Shape
   -- the head of a section of no known kind
   unknown_head : Shape
@@ -53,21 +53,21 @@ named_head word name opens =
     else (if bytes_eq word (codes "source") then other_head opens
     else (if has_no_name word then misformed else unknown_head))
 
--- a text's first word, and what stands behind it
+-- a text's first word, and what stands after it
 abbrev pub first_word : List ℕ → List ℕ
 first_word text = before_first is_blank text
 
-abbrev pub behind_word : List ℕ → List ℕ
-behind_word text = without_front (drop (length (first_word text)) text)
+abbrev pub after_word : List ℕ → List ℕ
+after_word text = without_front (drop (length (first_word text)) text)
 
--- a head by its first word and what stands behind that
+-- a head by its first word and what stands after that
 unfoldable pub head : List ℕ → List ℕ → Bool → Shape
 head word [] opens = if is_name word then bare_head (small word) opens else misformed
 head word (b ∷ rest) opens = if is_name word && is_name (b ∷ rest) then named_head (small word) (small (b ∷ rest)) opens else misformed
 
 -- a head of these words
 abbrev pub head_of : List ℕ → Bool → Shape
-head_of words opens = head (first_word words) (behind_word words) opens
+head_of words opens = head (first_word words) (after_word words) opens
 
 -- whether a text ends with `{`, and what stands before that
 abbrev pub opens_section : List ℕ → Bool
@@ -80,23 +80,23 @@ before_brace text = without_back (take (length text - 1) text)
 abbrev pub head_shape : List ℕ → Shape
 head_shape text = if opens_section text then head_of (before_brace text) true else head_of text false
 
--- a line with `=`, by what stands before and behind the first one
+-- a line with `=`, by what stands before and after the first one
 abbrev pub entry_shape : List ℕ → List ℕ → Shape
 entry_shape key value = if is_name key then entry (key_named (small key)) value else misformed
 
--- whether a text has `=`, and what stands before and behind the first one
+-- whether a text has `=`, and what stands before and after the first one
 abbrev pub has_equals : List ℕ → Bool
 has_equals text = nat_lt (position_or_len (λ b. b == 61) text) (length text)
 
 abbrev pub before_equals : List ℕ → List ℕ
 before_equals text = trimmed (before_first (λ b. b == 61) text)
 
-abbrev pub behind_equals : List ℕ → List ℕ
-behind_equals text = trimmed (after_first (λ b. b == 61) text)
+abbrev pub after_equals : List ℕ → List ℕ
+after_equals text = trimmed (after_first (λ b. b == 61) text)
 
 -- the shape of a line that is no brace and not empty
 abbrev pub words_shape : List ℕ → Shape
-words_shape text = if has_equals text then entry_shape (before_equals text) (behind_equals text) else head_shape text
+words_shape text = if has_equals text then entry_shape (before_equals text) (after_equals text) else head_shape text
 
 -- the shape of a line that says this
 unfoldable pub shape_of : List ℕ → Shape

@@ -3,7 +3,7 @@ use Rattle.std.specs.Prelude.{not, ◌≡◌, ◌≢◌, ℕ, List, [], ◌∷�
 use Rattle.std.specs.Char.{is_ascii_alphabetic}
 use Rattle.std.specs.List.{list_all, slice_split}
 use Rattle.std.specs.Str.{IsUtf8, bytes_eq}
-use Rattle.charset_map.specs.Reading.{IsTableOf}
+use Rattle.charset_map.specs.TableText.{IsTableOf}
 use Rattle.doc_types.specs.Schemas.{AreDistinct}
 use Rattle.mark_scan.specs.Markup.{is_name_byte}
 use Rattle.conf_text.specs.declared.keys.Key.{Key}

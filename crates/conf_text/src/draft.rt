@@ -3,10 +3,10 @@ ghost use Rattle.std.specs.List.{list_any};
 ghost use Rattle.std.specs.Option.{is_some};
 ghost use Rattle.std.specs.Str.{bytes_eq};
 ghost use Rattle.conf_text.specs.declared.keys.Key.TheVariants as keys;
-ghost use Rattle.conf_text.specs.Drafts.{AreIndexes, EndsIndex, IsDraft, IsFinished, IsTableIn, Sets, TakesEntry, entry_with, exceeds, has_column, has_key, repeats};
+ghost use Rattle.conf_text.specs.steps.Drafts.{AreIndexes, EndsIndex, IsDraft, IsFinished, IsTableIn, Sets, TakesEntry, entry_with, exceeds, has_column, has_key, repeats};
 ghost use Rattle.conf_text.specs.Faults.{is_repeated};
 ghost use Rattle.conf_text.specs.Sections.{Entry, IndexText};
-ghost use Rattle.conf_text.specs.Settings.{IsSetting};
+ghost use Rattle.conf_text.specs.steps.Settings.{IsSetting};
 
 use crate::conf::IndexConf;
 use crate::fault::ConfKind;

@@ -1,7 +1,7 @@
 ghost use Rattle.std.specs.Prelude.{◌≡◌, ◌==◌, ◌<◌, ◌≤◌, ◌+◌, ◌^◌, ◌∷◌, length, IfOk};
 ghost use Rattle.std.specs.Str.Lines.{lines, strip_carriage_return};
 ghost use Rattle.conf_text.specs.Lines.{begins_comment, content_of, is_joined, joined_parts, uncommented, unjoined};
-ghost use Rattle.conf_text.specs.Reading.{IsPartRead, ReadsLine, bound, left};
+ghost use Rattle.conf_text.specs.steps.LineReader.{IsPartRead, ReadsLine, bound, left};
 
 use crate::text::{place_of, trim};
 use srch_base::NoMemory;
@@ -31,7 +31,7 @@ struct PartHead {
     utf8: bool,
 }
 
-/// The first part of a text, and the text behind it.
+/// The first part of a text, and the text after it.
 fn next_part(text: &[u8]) -> (&[u8], &[u8])
     requires { 0 < length text.now }
     ensures parts { lines text.now ≡ result.0.now ∷ lines result.1.now }
@@ -42,8 +42,8 @@ fn next_part(text: &[u8]) -> (&[u8], &[u8])
     if end == text.len() {
         return text.split_at(end);
     }
-    let (part, behind) = text.split_at(end);
-    (without_return(part), behind.split_at(1).1)
+    let (part, beyond) = text.split_at(end);
+    (without_return(part), beyond.split_at(1).1)
 }
 
 /// A part without the CR that it ends with.
@@ -87,7 +87,7 @@ pub fn content(line: &[u8]) -> &[u8]
     trim(before_comment(line))
 }
 
-/// Whether a comment begins with a byte that stands behind another one.
+/// Whether a comment begins with a byte that stands after another one.
 fn opens_comment(before: u8, byte: u8) -> bool
     ensures { result ≡ begins_comment before byte }
 {
@@ -134,12 +134,12 @@ impl<'a> Lines<'a> {
         requires bound { bound self.old < 2 ^ 32 }
         ensures { IfOk result (λ head. IsPartRead self.old buffer.old.items self.new buffer.new.items head) }
     {
-        let (part, behind) = next_part(self.rest);
+        let (part, beyond) = next_part(self.rest);
         buffer.extend_from_slice(without_join(part))?;
-        self.rest = behind;
+        self.rest = beyond;
         self.number += 1;
         Ok(PartHead {
-            goes_on: joins(part) && !behind.is_empty(),
+            goes_on: joins(part) && !beyond.is_empty(),
             utf8: str::from_utf8(part).is_ok(),
         })
     }

@@ -1,15 +1,15 @@
 ghost use Rattle.std.specs.Prelude.{◌≡◌, ◌||◌, nat_le, ◌<◌, ◌≤◌, ◌^◌, List, ℕ, IfOk, length, if◌then◌else◌};
 ghost use Rattle.conf_text.specs.declared.reading.Place.TheVariants.{Headed, Inside};
 ghost use Rattle.conf_text.specs.Confs.{IsSound, ReadsConf};
-ghost use Rattle.conf_text.specs.Drafts.{AreIndexes, IsDraft};
+ghost use Rattle.conf_text.specs.steps.Drafts.{AreIndexes, IsDraft};
 ghost use Rattle.conf_text.specs.Faults.{fits, is_long, is_outside, is_syntax};
 ghost use Rattle.conf_text.specs.Lines.{lines_of};
-ghost use Rattle.conf_text.specs.Reading.{FindsBadLine, ReadsIndexes};
+ghost use Rattle.conf_text.specs.steps.LineReader.{FindsBadLine, ReadsIndexes};
 ghost use Rattle.srch_base.specs.declared.faults.Or.TheVariants.{Fault};
-ghost use Rattle.conf_text.specs.Sections.{Entry, IndexText, behind_opening, place_behind, spot_at};
+ghost use Rattle.conf_text.specs.Sections.{Entry, IndexText, after_opening, place_after, spot_at};
 ghost use Rattle.conf_text.specs.Shapes.{small};
-ghost use Rattle.conf_text.specs.Shaping.{seen, value_length};
-ghost use Rattle.conf_text.specs.Taking.{Begins, Closes, Enters, EntersIndex, Leads, PlaceHas, TakesLine, place_of};
+ghost use Rattle.conf_text.specs.steps.SeenShapes.{seen, value_length};
+ghost use Rattle.conf_text.specs.steps.Taking.{Begins, Closes, Enters, EntersIndex, Leads, PlaceHas, TakesLine, place_of};
 
 use crate::conf::{Conf, IndexConf, MAX_CONF_BYTES, MAX_INDEXES};
 use crate::draft::{Draft, name_is_taken};
@@ -111,7 +111,7 @@ fn read_indexes(alloc: Global, text: &[u8]) -> Result<Items<IndexConf>, Or<ConfF
     }
 }
 
-/// Takes a line, which may be the last one, and gives the place behind it.
+/// Takes a line, which may be the last one, and gives the place after it.
 fn take_line(
     alloc: Global,
     indexes: &mut Vec<IndexConf>,
@@ -129,9 +129,9 @@ fn take_line(
     match line {
         Shape::Blank => Ok(place),
         Shape::IndexHead(name, opens) => start_index(alloc, indexes.as_slice(), name, opens),
-        Shape::OtherHead(opens) => Ok(behind_head(Section::Other, opens)),
+        Shape::OtherHead(opens) => Ok(after_head(Section::Other, opens)),
         Shape::UnknownHead => Err(Or::Fault(ConfKind::UnknownSection)),
-        Shape::Opening => Ok(behind_opening(place)),
+        Shape::Opening => Ok(after_opening(place)),
         Shape::Closing => close_section(alloc, indexes, place),
         Shape::Entry(key, value) => take_entry(alloc, indexes.as_slice(), place, key, value),
         Shape::Misformed => Err(Or::Fault(ConfKind::Syntax)),
@@ -159,9 +159,9 @@ fn fitting(place: &Place, line: &Shape<'_>) -> bool
     }
 }
 
-/// Whether the line behind this one stands outside of sections.
+/// Whether the line after this one stands outside of sections.
 fn ends_outside(place: &Place, line: &Shape<'_>) -> bool
-    ensures { result ≡ is_outside (place_behind (place_of place.now) (seen line.now)) }
+    ensures { result ≡ is_outside (place_after (place_of place.now) (seen line.now)) }
 {
     match line {
         Shape::IndexHead(..) | Shape::OtherHead(_) => false,
@@ -170,8 +170,8 @@ fn ends_outside(place: &Place, line: &Shape<'_>) -> bool
     }
 }
 
-/// The place behind a head.
-fn behind_head(section: Section, opens: bool) -> Place
+/// The place after a head.
+fn after_head(section: Section, opens: bool) -> Place
     ensures { result ≡ (if opens then Inside section else Headed section) }
 {
     if opens {
@@ -181,9 +181,9 @@ fn behind_head(section: Section, opens: bool) -> Place
     }
 }
 
-/// The place behind `{`.
-fn behind_opening(place: Place) -> Place
-    ensures { (entries : List Entry) → PlaceHas entries place → Leads (behind_opening (place_of place)) entries result }
+/// The place after `{`.
+fn after_opening(place: Place) -> Place
+    ensures { (entries : List Entry) → PlaceHas entries place → Leads (after_opening (place_of place)) entries result }
 {
     match place {
         Place::Outside => Place::Outside,
@@ -215,7 +215,7 @@ fn start_index(
     if head_exceeds(indexes, name.as_bytes()) {
         return Err(Or::Fault(ConfKind::Limit));
     }
-    Ok(behind_head(Section::Index(Draft::of(alloc, name)), opens))
+    Ok(after_head(Section::Index(Draft::of(alloc, name)), opens))
 }
 
 /// Takes an entry of a section.

@@ -1,8 +1,8 @@
 ghost use Rattle.std.specs.Prelude.{◌≡◌, ◌≢◌, ◌<◌, ◌^◌, [], codes, length, true, false};
 ghost use Rattle.std.specs.Str.{IsUtf8, bytes_eq};
-ghost use Rattle.charset_map.specs.Reading.{IsTableOf};
+ghost use Rattle.charset_map.specs.TableText.{IsTableOf};
 ghost use Rattle.charset_map.specs.Spans.{folded};
-ghost use Rattle.conf_text.specs.Settings.{ReadsSetting, ReadsValue};
+ghost use Rattle.conf_text.specs.steps.Settings.{ReadsSetting, ReadsValue};
 ghost use Rattle.conf_text.specs.Shapes.{small};
 ghost use Rattle.conf_text.specs.Values.{IsCharsetText, can_be_column, is_switch};
 ghost use Rattle.conf_text.specs.declared.setting.Setting.TheVariants.{Plain};

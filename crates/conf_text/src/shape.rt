@@ -3,19 +3,19 @@ ghost use Rattle.std.specs.Str.{bytes_eq};
 ghost use Rattle.charset_map.specs.Characters.{is_blank};
 ghost use Rattle.std.specs.List.{position_or_len};
 ghost use Rattle.conf_text.specs.Shapes.{bare_head, entry_shape, has_name, has_no_name, head, head_of, head_shape, named_head, shape_of, small, words_shape};
-ghost use Rattle.conf_text.specs.Shaping.{seen};
+ghost use Rattle.conf_text.specs.steps.SeenShapes.{seen};
 
 use crate::keys::Key;
-use crate::text::{before_blanks, behind_blanks, blank, name_like, place_of, trim};
+use crate::text::{before_blanks, after_blanks, blank, name_like, place_of, trim};
 
 /// What a line is, by itself.
 #[derive(Clone, Copy, Debug)]
 pub enum Shape<'a> {
     /// Nothing, or a comment.
     Blank,
-    /// The head of an index of this name, and whether `{` stands behind it.
+    /// The head of an index of this name, and whether `{` stands after it.
     IndexHead(&'a [u8], bool),
-    /// The head of a section of another kind, and whether `{` stands behind it.
+    /// The head of a section of another kind, and whether `{` stands after it.
     OtherHead(bool),
     /// The head of a section of no known kind.
     UnknownHead,
@@ -73,7 +73,7 @@ fn named<'a>(word: &[u8], name: &'a [u8], opens: bool) -> Shape<'a>
     }
 }
 
-/// A head by its first word and what stands behind that.
+/// A head by its first word and what stands after that.
 #[tactic(auto, unfolding(crate::specs::Shapes::head))]
 fn head<'a>(word: &[u8], rest: &'a [u8], opens: bool) -> Shape<'a>
     ensures { seen result ≡ head word.now rest.now opens }
@@ -103,7 +103,7 @@ fn head_of_words(words: &[u8], opens: bool) -> Shape<'_>
     ensures { seen result ≡ head_of words.now opens }
 {
     let (word, rest) = words.split_at(word_len(words));
-    head(word, behind_blanks(rest), opens)
+    head(word, after_blanks(rest), opens)
 }
 
 /// A line without `=`.
@@ -118,7 +118,7 @@ fn head_line(text: &[u8]) -> Shape<'_>
     }
 }
 
-/// A line with `=`, by what stands before and behind the first one.
+/// A line with `=`, by what stands before and after the first one.
 fn entry_line<'a>(key: &[u8], value: &'a [u8]) -> Shape<'a>
     ensures { seen result ≡ entry_shape key.now value.now }
 {

@@ -2,7 +2,7 @@ ghost use Rattle.std.specs.Prelude.{◌≡◌, ◌==◌, IfOk};
 ghost use Rattle.std.specs.Char.{to_ascii_lowercase};
 ghost use Rattle.std.specs.List.{list_all, position_or_len, prefix_len, suffix_len};
 ghost use Rattle.charset_map.specs.Characters.{is_blank};
-ghost use Rattle.charset_map.specs.Reading.{without_back, without_front};
+ghost use Rattle.charset_map.specs.TableText.{without_back, without_front};
 ghost use Rattle.doc_types.specs.Schemas.{begins_name, goes_on_in_name};
 ghost use Rattle.conf_text.specs.Lines.{trimmed};
 ghost use Rattle.conf_text.specs.Shapes.{is_name, small};
@@ -32,14 +32,14 @@ fn blanks_before(text: &[u8]) -> usize
 }
 
 /// How many blanks a text ends with.
-fn blanks_behind(text: &[u8]) -> usize
+fn blanks_after(text: &[u8]) -> usize
     ensures { result ≡ suffix_len is_blank text.now }
 {
     text.iter().rev().take_while(|byte| blank(**byte)).count()
 }
 
 /// A text without the blanks that it begins with.
-pub fn behind_blanks(text: &[u8]) -> &[u8]
+pub fn after_blanks(text: &[u8]) -> &[u8]
     ensures { result.now ≡ without_front text.now }
 {
     text.split_at(blanks_before(text)).1
@@ -49,14 +49,14 @@ pub fn behind_blanks(text: &[u8]) -> &[u8]
 pub fn before_blanks(text: &[u8]) -> &[u8]
     ensures { result.now ≡ without_back text.now }
 {
-    text.split_at(text.len() - blanks_behind(text)).0
+    text.split_at(text.len() - blanks_after(text)).0
 }
 
 /// A text without the blanks around it.
 pub fn trim(text: &[u8]) -> &[u8]
     ensures { result.now ≡ trimmed text.now }
 {
-    before_blanks(behind_blanks(text))
+    before_blanks(after_blanks(text))
 }
 
 /// Whether a byte can begin a name.
@@ -66,14 +66,14 @@ fn begins(byte: u8) -> bool
     byte.is_ascii_lowercase() || byte == b'_'
 }
 
-/// Whether a byte can stand in a name behind its first.
+/// Whether a byte can stand in a name after its first.
 fn goes_on(byte: u8) -> bool
     ensures { result ≡ goes_on_in_name byte }
 {
     begins(byte) || byte.is_ascii_digit()
 }
 
-/// Whether each byte can stand in a name behind its first, in either case.
+/// Whether each byte can stand in a name after its first, in either case.
 fn all_go_on(bytes: &[u8]) -> bool
     ensures { result ≡ list_all (λ b. goes_on_in_name (to_ascii_lowercase b)) bytes.now }
 {

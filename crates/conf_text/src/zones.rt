@@ -3,7 +3,7 @@ ghost use Rattle.std.specs.List.{list_all, list_any};
 ghost use Rattle.std.specs.Str.{bytes_eq};
 ghost use Rattle.mark_scan.specs.Markup.{is_name_byte};
 ghost use Rattle.conf_text.specs.Faults.{is_among, is_long};
-ghost use Rattle.conf_text.specs.Settings.{HasNames, ReadsValue, TakesZone};
+ghost use Rattle.conf_text.specs.steps.Settings.{HasNames, ReadsValue, TakesZone};
 ghost use Rattle.conf_text.specs.Values.{AreZoneNames, is_tag_name, zones_in};
 
 use crate::fault::ConfKind;

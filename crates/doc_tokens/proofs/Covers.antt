@@ -4,7 +4,7 @@ use Rattle.std.proofs.lemmas.Bool.Decides.{nat_tests}
 use Rattle.std.proofs.lemmas.List.Folds.{list_any-append}
 use Rattle.mark_scan.specs.declared.mark.Mark.{Mark}
 use Rattle.mark_scan.specs.declared.mark.MarkKind.{MarkKind}
-use Rattle.doc_tokens.specs.Reading.{reaches}
+use Rattle.doc_tokens.specs.steps.TokenReader.{reaches}
 
 -- a test of one mark
 one_mark : (kind : Bool) (far : Bool) → ((kind && far) || false) ≡ (kind && far)

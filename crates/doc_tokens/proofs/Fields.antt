@@ -10,17 +10,17 @@ use Rattle.doc_types.specs.declared.tokens.Gap.TheVariants as gaps
 use Rattle.doc_types.specs.declared.tokens.TokenWord.{TokenWord}
 use Rattle.doc_types.specs.declared.tokens.ZoneSpan.{ZoneSpan}
 use Rattle.doc_types.specs.Documents.{step, IsWord, Follow, ArePlaced, IsSpanOver, IsField}
-use Rattle.doc_tokens.specs.declared.sign.Sign.{Sign}
-use Rattle.doc_tokens.specs.declared.sign.Sign.TheVariants as signs
+use Rattle.doc_tokens.specs.declared.sign.TextSign.{TextSign}
+use Rattle.doc_tokens.specs.declared.sign.TextSign.TheVariants as signs
 use Rattle.doc_tokens.specs.declared.sign.ZoneTag.{ZoneTag}
-use Rattle.doc_tokens.specs.Words.{Piece, run, other, end_of, stronger}
-use Rattle.doc_tokens.specs.Spans.{tag_of, tags_behind, zone_end, last_of, span_over, span_within, spans_of}
+use Rattle.doc_tokens.specs.Words.{Segment, run, other, end_of, stronger}
+use Rattle.doc_tokens.specs.Spans.{tag_of, tags_after, zone_end, last_of, span_over, span_within, spans_of}
 use Rattle.doc_tokens.specs.Tokens.{AreSpans}
-use Rattle.doc_tokens.specs.Reading.{gap_behind, words_behind, all_words}
+use Rattle.doc_tokens.specs.steps.TokenReader.{gap_after, words_after, all_words}
 use Rattle.doc_tokens.proofs.WordLists.{all_placed}
 
--- a tag doesn't stand behind more words than there are
-tag_count : (count all : ℕ) (sign : Sign) → count ≤ all → AllByRecursion (λ tag. tag.words ≤ all) (tag_of count sign)
+-- a tag doesn't stand after more words than there are
+tag_count : (count all : ℕ) (sign : TextSign) → count ≤ all → AllByRecursion (λ tag. tag.words ≤ all) (tag_of count sign)
 tag_count count all (signs.Letter c) within = tt
 tag_count count all signs.Separator within = tt
 tag_count count all signs.Sentence within = tt
@@ -29,17 +29,17 @@ tag_count count all (signs.Open zone) within = (within, tt)
 tag_count count all (signs.Close zone) within = (within, tt)
 
 each_append : (all : ℕ) (first second : List ZoneTag) → AllByRecursion (λ tag. tag.words ≤ all) first → AllByRecursion (λ tag. tag.words ≤ all) second → AllByRecursion (λ tag. tag.words ≤ all) (first ++ second)
-each_append all [] second has behind = behind
-each_append all (tag ∷ first) second has behind = (has.0, each_append all first second has.1 behind)
+each_append all [] second has beyond = beyond
+each_append all (tag ∷ first) second has beyond = (has.0, each_append all first second has.1 beyond)
 
-tag_counts : (count all position : ℕ) (gap : Gap) (pieces : List Piece) → count + length (words_behind position gap pieces) ≤ all → AllByRecursion (λ tag. tag.words ≤ all) (tags_behind count pieces)
+tag_counts : (count all position : ℕ) (gap : Gap) (segments : List Segment) → count + length (words_after position gap segments) ≤ all → AllByRecursion (λ tag. tag.words ≤ all) (tags_after count segments)
 tag_counts count all position gap [] within = tt
-tag_counts count all position gap (run letters ∷ pieces) within = tag_counts (count + 1) all (position + step (gap_behind position gap)) gaps.None pieces (omega (arith, within))
-tag_counts count all position gap (other sign ∷ pieces) within =
-    each_append all (tag_of count sign) (tags_behind count pieces) (tag_count count all sign (omega (arith, within))) (tag_counts count all position (stronger gap (end_of sign)) pieces within)
+tag_counts count all position gap (run letters ∷ segments) within = tag_counts (count + 1) all (position + step (gap_after position gap)) gaps.None segments (omega (arith, within))
+tag_counts count all position gap (other sign ∷ segments) within =
+    each_append all (tag_of count sign) (tags_after count segments) (tag_count count all sign (omega (arith, within))) (tag_counts count all position (stronger gap (end_of sign)) segments within)
 
-pub tags_within : (pieces : List Piece) → All (λ tag. tag.words ≤ length (all_words pieces)) (tags_behind 0 pieces)
-tags_within pieces = All-from_recursion (λ (t : ZoneTag). t.words ≤ length (all_words pieces)) (tags_behind 0 pieces) (tag_counts 0 (length (all_words pieces)) 0 gaps.None pieces (omega arith))
+pub tags_within : (segments : List Segment) → All (λ tag. tag.words ≤ length (all_words segments)) (tags_after 0 segments)
+tags_within segments = All-from_recursion (λ (t : ZoneTag). t.words ≤ length (all_words segments)) (tags_after 0 segments) (tag_counts 0 (length (all_words segments)) 0 gaps.None segments (omega arith))
 
 -- positions that don't fall
 abbrev Rise : ℕ → List ℕ → Type 0
@@ -78,8 +78,8 @@ at_word words position (k, below, is) =
     (k, word, within, get_or_default words k word none within, sym (get_or-map (λ (w : TokenWord). w.position) words k none position within) ∙ is)
 
 last_in : (P : ℕ → Type 0) (first : ℕ) (rest : List ℕ) → P first → AllByRecursion P rest → P (last_of first rest)
-last_in P first [] here behind = here
-last_in P first (next ∷ rest) here behind = last_in P next rest behind.0 behind.1
+last_in P first [] here beyond = here
+last_in P first (next ∷ rest) here beyond = last_in P next rest beyond.0 beyond.1
 
 -- the span over some positions of words
 over_some : (words : List TokenWord) (zone low : ℕ) (positions : List ℕ) → Rise low positions → AllByRecursion (Contains (map (λ (w : TokenWord). w.position) words)) positions → AllByRecursion (IsSpanOver words) (span_over zone positions)
@@ -102,8 +102,8 @@ over_tag words tag end rise =
     elim tag.opens as (λ b. AllByRecursion (IsSpanOver words) (cond b (span_over tag.zone part) [])) [ true ↦ over_some words tag.zone 0 part risen in_words | false ↦ tt ]
 
 spans_append : (words : List TokenWord) (first second : List ZoneSpan) → AllByRecursion (IsSpanOver words) first → AllByRecursion (IsSpanOver words) second → AllByRecursion (IsSpanOver words) (first ++ second)
-spans_append words [] second has behind = behind
-spans_append words (span ∷ first) second has behind = (has.0, spans_append words first second has.1 behind)
+spans_append words [] second has beyond = beyond
+spans_append words (span ∷ first) second has beyond = (has.0, spans_append words first second has.1 beyond)
 
 over_tags : (words : List TokenWord) (tags : List ZoneTag) → Rise 0 (map (λ (w : TokenWord). w.position) words) → AllByRecursion (IsSpanOver words) (spans_of (map (λ (w : TokenWord). w.position) words) tags)
 over_tags words [] rise = tt
@@ -112,10 +112,10 @@ over_tags words (tag ∷ tags) rise =
     spans_append words (span_within positions tag (zone_end tag.zone (length positions) tags)) (spans_of positions tags) (over_tag words tag (zone_end tag.zone (length positions) tags) rise) (over_tags words tags rise)
 
 -- what is found is a field
-pub found_field : (pieces : List Piece) (tags : List ZoneTag) (words : List TokenWord) (spans : List ZoneSpan) → words ≡ all_words pieces
+pub found_field : (segments : List Segment) (tags : List ZoneTag) (words : List TokenWord) (spans : List ZoneSpan) → words ≡ all_words segments
     → All (λ word. word.position ≤ MAX_POSITION) words → All (λ word. IsWord word.word) words → AreSpans (map (λ word. word.position) words) tags spans → IsField (record { words = words; spans = spans })
-found_field pieces tags words spans are below sound found =
-    let placed = subst (λ (ws : List TokenWord). ArePlaced ws) (sym are) (all_placed pieces) in
+found_field segments tags words spans are below sound found =
+    let placed = subst (λ (ws : List TokenWord). ArePlaced ws) (sym are) (all_placed segments) in
     let positions = map (λ (w : TokenWord). w.position) words in
     let over = All-from_recursion (IsSpanOver words) (spans_of positions tags) (over_tags words tags (follow_rise 0 words placed.follow)) in
     record {

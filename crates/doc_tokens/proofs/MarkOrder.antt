@@ -8,13 +8,13 @@ use Rattle.std.proofs.lemmas.Str.{encodes-chars, length-encode, IsUtf8-take, IsU
 use Rattle.mark_scan.specs.declared.mark.Mark.{Mark}
 use Rattle.mark_scan.specs.declared.mark.MarkKind.{MarkKind}
 use Rattle.mark_scan.specs.declared.mark.MarkRules.{MarkRules}
-use Rattle.mark_scan.specs.Markup.{Part, plain, comment, tag, part_bytes, BeginsWith, Splits}
-use Rattle.mark_scan.specs.Marks.{sentences_of, part_marks, marks_behind, run_before, run_of, IsWhole, PartsBy, AreMarks}
+use Rattle.mark_scan.specs.Markup.{TextPart, plain, comment, tag, part_bytes, BeginsWith, Splits}
+use Rattle.mark_scan.specs.Marks.{sentences_of, part_marks, marks_after, run_before, run_of, IsWhole, PartsBy, AreMarks}
 use Rattle.mark_scan.specs.Sentences.{ends_sentence, sentence_mark, sentence_marks}
 use Rattle.mark_scan.specs.Tags.{span, tag_kinds}
 use Rattle.mark_scan.proofs.Fronts.{markup_opens, byte_within}
 use Rattle.mark_scan.proofs.Cuts.{part_within}
-use Rattle.doc_tokens.specs.Reading.{Ordered}
+use Rattle.doc_tokens.specs.steps.TokenReader.{Ordered}
 use Rattle.doc_tokens.proofs.Passing.{ordered_weaker}
 
 -- marks by the places where they begin, from a place up to another
@@ -23,11 +23,11 @@ OrderedTo low [] high = low ≤ high
 OrderedTo low (mark ∷ marks) high = (low ≤ mark.from) × OrderedTo mark.from marks high
 
 ordered_append : (low mid : ℕ) (first second : List Mark) → OrderedTo low first mid → Ordered mid second → Ordered low (first ++ second)
-ordered_append low mid [] second ordered behind = ordered_weaker low mid second ordered behind
-ordered_append low mid (mark ∷ first) second ordered behind = (ordered.0, ordered_append mark.from mid first second ordered.1 behind)
+ordered_append low mid [] second ordered beyond = ordered_weaker low mid second ordered beyond
+ordered_append low mid (mark ∷ first) second ordered beyond = (ordered.0, ordered_append mark.from mid first second ordered.1 beyond)
 
 to_weaker : (low mid high : ℕ) (marks : List Mark) → low ≤ mid → OrderedTo mid marks high → OrderedTo low marks high
-to_weaker low mid high [] below ordered = let behind = ordered in omega (arith, behind)
+to_weaker low mid high [] below ordered = let beyond = ordered in omega (arith, beyond)
 to_weaker low mid high (mark ∷ marks) below ordered = let from = ordered.0 in (omega (arith, from), ordered.1)
 
 -- the ends of sentences
@@ -54,34 +54,34 @@ kinds_ordered place size [] = omega arith
 kinds_ordered place size (kind ∷ kinds) = (omega arith, kinds_ordered place size kinds)
 
 -- the marks of a part
-part_ordered : (fold : ℕ → Option ℕ) (rules : MarkRules) (place : ℕ) (before : List Part) (part : Part) (after : List Part) → IsUtf8 (part_bytes part) → OrderedTo place (part_marks fold rules place before part after) (place + length (part_bytes part))
+part_ordered : (fold : ℕ → Option ℕ) (rules : MarkRules) (place : ℕ) (before : List TextPart) (part : TextPart) (after : List TextPart) → IsUtf8 (part_bytes part) → OrderedTo place (part_marks fold rules place before part after) (place + length (part_bytes part))
 part_ordered fold rules place before (plain bytes) after utf8 = (omega arith, sentences_ordered rules.sp fold place (run_before rules.zones before) bytes (chars (run_of rules.zones after)) utf8)
 part_ordered fold rules place before (comment bytes) after utf8 = omega arith
 part_ordered fold rules place before (tag t) after utf8 = kinds_ordered place (length t.text) (tag_kinds rules.sp rules.zones t)
 
 -- parts that are UTF-8
-abbrev EachUtf8 : List Part → Type 0
+abbrev EachUtf8 : List TextPart → Type 0
 EachUtf8 parts = AllByRecursion (λ part. IsUtf8 (part_bytes part)) parts
 
-parts_ordered : (fold : ℕ → Option ℕ) (rules : MarkRules) (place : ℕ) (before parts : List Part) → EachUtf8 parts → Ordered place (marks_behind fold rules place before parts)
+parts_ordered : (fold : ℕ → Option ℕ) (rules : MarkRules) (place : ℕ) (before parts : List TextPart) → EachUtf8 parts → Ordered place (marks_after fold rules place before parts)
 parts_ordered fold rules place before [] utf8 = tt
 parts_ordered fold rules place before (part ∷ parts) utf8 =
     ordered_append place (place + length (part_bytes part)) (part_marks fold rules place before part parts) _
     (part_ordered fold rules place before part parts utf8.0)
     (parts_ordered fold rules (place + length (part_bytes part)) (part ∷ before) parts utf8.1)
 
--- A text is cut behind a part at the beginning of a character.
-pub record CutAt (text : List ℕ) (part : Part) : Type 0 where
+-- A text is cut after a part at the beginning of a character.
+pub record CutAt (text : List ℕ) (part : TextPart) : Type 0 where
   pub boundary : IsCharBoundary text (length (part_bytes part))
   pub front : part_bytes part ≡ take (length (part_bytes part)) text
 
-behind_byte : (text bytes : List ℕ) (last byte : ℕ) → IsUtf8 text → get_or text last 0 ≡ byte → 0 < byte → byte < 128 → bytes ≡ take (last + 1) text → IsCharBoundary text (length bytes) × (bytes ≡ take (length bytes) text)
-behind_byte text bytes last byte utf8 is some ascii front =
+after_byte : (text bytes : List ℕ) (last byte : ℕ) → IsUtf8 text → get_or text last 0 ≡ byte → 0 < byte → byte < 128 → bytes ≡ take (last + 1) text → IsCharBoundary text (length bytes) × (bytes ≡ take (length bytes) text)
+after_byte text bytes last byte utf8 is some ascii front =
     let within = byte_within text last (omega (arith, is)) in
     let size : length bytes ≡ last + 1 = ap length front ∙ length-take-le (last + 1) text (omega (arith, within)) in
     (subst (IsCharBoundary text) (sym size) (IsCharBoundary-after_ascii text last utf8 within (omega (arith, is))), front ∙ ap (λ (n : ℕ). take n text) (sym size))
 
-cut_at : (text : List ℕ) (part : Part) → IsUtf8 text → BeginsWith text part → CutAt text part
+cut_at : (text : List ℕ) (part : TextPart) → IsUtf8 text → BeginsWith text part → CutAt text part
 cut_at text (plain bytes) utf8 begins = record {
   boundary = (
     part_within text (plain bytes) begins,
@@ -94,13 +94,13 @@ cut_at text (plain bytes) utf8 begins = record {
 }
 cut_at text (comment bytes) utf8 begins =
     let third : get_or text (begins.end + 2) 0 ≡ 62 = begins.begins.ends.third in
-    let cut = behind_byte text bytes (begins.end + 2) 62 utf8 third (omega arith) (omega arith) (begins.is ∙ ap (λ (n : ℕ). take n text) (omega arith)) in
+    let cut = after_byte text bytes (begins.end + 2) 62 utf8 third (omega arith) (omega arith) (begins.is ∙ ap (λ (n : ℕ). take n text) (omega arith)) in
     record { boundary = cut.0; front = cut.1 }
 cut_at text (tag t) utf8 begins =
-    let cut = behind_byte text t.text begins.last 62 utf8 begins.begins.closes (omega arith) (omega arith) begins.is in
+    let cut = after_byte text t.text begins.last 62 utf8 begins.begins.closes (omega arith) (omega arith) begins.is in
     record { boundary = cut.0; front = cut.1 }
 
-split_utf8 : (text : List ℕ) (parts : List Part) → IsUtf8 text → Splits text parts [] → EachUtf8 parts
+split_utf8 : (text : List ℕ) (parts : List TextPart) → IsUtf8 text → Splits text parts [] → EachUtf8 parts
 split_utf8 text [] utf8 splits = tt
 split_utf8 text (part ∷ parts) utf8 splits =
     let cut = cut_at text part utf8 splits.0 in
@@ -109,11 +109,11 @@ split_utf8 text (part ∷ parts) utf8 splits =
       split_utf8 (drop n text) parts (IsUtf8-drop text n utf8 cut.boundary) splits.1,
     )
 
-whole_utf8 : (text : List ℕ) (parts : List Part) → IsUtf8 text → IsWhole text parts → EachUtf8 parts
+whole_utf8 : (text : List ℕ) (parts : List TextPart) → IsUtf8 text → IsWhole text parts → EachUtf8 parts
 whole_utf8 [] parts utf8 is = subst EachUtf8 (sym is) tt
 whole_utf8 (b ∷ bytes) parts utf8 is = subst EachUtf8 (sym is) (utf8, tt)
 
-parts_utf8 : (strip : Bool) (text : List ℕ) (parts : List Part) → IsUtf8 text → PartsBy strip text parts → EachUtf8 parts
+parts_utf8 : (strip : Bool) (text : List ℕ) (parts : List TextPart) → IsUtf8 text → PartsBy strip text parts → EachUtf8 parts
 parts_utf8 true text parts utf8 are = split_utf8 text parts utf8 are
 parts_utf8 false text parts utf8 are = whole_utf8 text parts utf8 are
 

@@ -9,9 +9,9 @@ use Rattle.mark_scan.specs.declared.mark.Mark.{Mark}
 use Rattle.doc_tokens.specs.declared.field.TooLong.{TooLong}
 use Rattle.doc_tokens.specs.declared.reader.Reader.{Reader}
 use Rattle.doc_tokens.specs.declared.walk.Passed.{Passed}
-use Rattle.doc_tokens.specs.declared.sign.Sign.{Sign}
-use Rattle.doc_tokens.specs.Signs.{tags_in}
-use Rattle.doc_tokens.specs.Reading.{IsCover, tag_sign, Ordered, BeginFrom, IsNext, HasPassed, Wants, ReadsSome, PassesMarks}
+use Rattle.doc_tokens.specs.declared.sign.TextSign.{TextSign}
+use Rattle.doc_tokens.specs.TextSigns.{tags_in}
+use Rattle.doc_tokens.specs.steps.TokenReader.{IsCover, tag_sign, Ordered, BeginFrom, IsNext, HasPassed, Wants, ReadsSome, PassesMarks}
 use Rattle.doc_tokens.proofs.Passing.{ordered_from, ordered_weaker, tags_left, tags_late, tags_next, tag_sign-list}
 
 -- Some of the marks that begin in a character were passed, and their tags read.
@@ -19,7 +19,7 @@ pub record Passing (marks : List Mark) (old reader : Reader) (passed : Passed) (
   pub cover : IsCover passed.cover (take passed.next marks)
   pub before : All (λ mark. mark.from < to) (take passed.next marks)
   pub after : Ordered from (drop passed.next marks)
-  pub reads : (all rest : List Sign) → Wants all old (tags_in marks from to ++ rest) → Wants all reader (tags_in (drop passed.next marks) from to ++ rest)
+  pub reads : (all rest : List TextSign) → Wants all old (tags_in marks from to ++ rest) → Wants all reader (tags_in (drop passed.next marks) from to ++ rest)
 
 -- at the start
 pub passing_start : (marks : List Mark) (reader : Reader) (passed : Passed) (from to : ℕ) → from ≤ to → HasPassed marks passed from → Passing marks reader reader passed from to
@@ -27,7 +27,7 @@ passing_start marks reader passed from to below has = record {
   cover = has.cover;
   before = All-weaker (λ (m : Mark). m.from < from) (λ (m : Mark). m.from < to) (λ m early. omega arith) (take passed.next marks) has.before;
   after = has.after;
-  reads = λ all rest wants. subst (λ (signs : List Sign). Wants all reader (signs ++ rest)) (tags_left marks passed.next from to has.before) wants;
+  reads = λ all rest wants. subst (λ (signs : List TextSign). Wants all reader (signs ++ rest)) (tags_left marks passed.next from to has.before) wants;
 }
 
 -- the next mark is passed
@@ -51,16 +51,16 @@ passing_next marks old reader new passed next mark from to is count cover reads 
       after = subst (λ (n : ℕ). Ordered from (drop n marks)) (sym count) (ordered_weaker from mark.from (drop (at + 1) marks) ordered.0 ordered.1);
       reads = λ all rest wants. reads all (tags_in (drop next.next marks) from to ++ rest)
           (subst (Wants all reader) (append_assoc (option_to_list (tag_sign mark.kind)) _ rest)
-          (subst (λ (signs : List Sign). Wants all reader (signs ++ rest)) tags (passing.reads all rest wants)));
+          (subst (λ (signs : List TextSign). Wants all reader (signs ++ rest)) tags (passing.reads all rest wants)));
     }
 
 -- at the end
 pub passing_end : (marks : List Mark) (old reader : Reader) (passed : Passed) (from to : ℕ) → passed.next ≤ length marks → BeginFrom to (drop passed.next marks) → Passing marks old reader passed from to
-    → HasPassed marks passed to × ((all rest : List Sign) → Wants all old (tags_in marks from to ++ rest) → Wants all reader rest)
+    → HasPassed marks passed to × ((all rest : List TextSign) → Wants all old (tags_in marks from to ++ rest) → Wants all reader rest)
 passing_end marks old reader passed from to within begin passing =
     let after = ordered_from from to (drop passed.next marks) passing.after begin in (
       record { within = within; cover = passing.cover; before = passing.before; after = after },
-      λ all rest wants. subst (λ (signs : List Sign). Wants all reader (signs ++ rest)) (tags_late from to (drop passed.next marks) after) (passing.reads all rest wants),
+      λ all rest wants. subst (λ (signs : List TextSign). Wants all reader (signs ++ rest)) (tags_late from to (drop passed.next marks) after) (passing.reads all rest wants),
     )
 
 -- a word that stands above the limit
@@ -75,7 +75,7 @@ passing_above marks old reader new start passed mark to (causes.Fault too_long) 
     let tags : tags_in (drop passed.next marks) from to ≡ option_to_list (tag_sign mark.kind) ++ tags_in (drop (passed.next + 1) marks) from to =
     ap (λ (ms : List Mark). tags_in ms from to) is.is
     ∙ tags_next from to mark (drop (passed.next + 1) marks) ordered.0 is.begins
-    ∙ ap (λ (signs : List Sign). signs ++ tags_in (drop (passed.next + 1) marks) from to) (tag_sign-list mark.kind) in
+    ∙ ap (λ (signs : List TextSign). signs ++ tags_in (drop (passed.next + 1) marks) from to) (tag_sign-list mark.kind) in
     reads all (tags_in (drop (passed.next + 1) marks) from to ++ rest)
     (subst (Wants all reader) (append_assoc (option_to_list (tag_sign mark.kind)) _ rest)
-    (subst (λ (signs : List Sign). Wants all reader (signs ++ rest)) tags (now.reads all rest wants)))
+    (subst (λ (signs : List TextSign). Wants all reader (signs ++ rest)) tags (now.reads all rest wants)))

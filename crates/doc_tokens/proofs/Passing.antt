@@ -10,12 +10,12 @@ use Rattle.mark_scan.specs.declared.mark.Mark.{Mark}
 use Rattle.mark_scan.specs.declared.mark.MarkKind.{MarkKind}
 use Rattle.mark_scan.specs.declared.mark.MarkKind.TheVariants as kinds
 use Rattle.doc_tokens.specs.declared.walk.Passed.{Passed}
-use Rattle.doc_tokens.specs.declared.sign.Sign.{Sign}
-use Rattle.doc_tokens.specs.declared.sign.Sign.TheVariants as signs
-use Rattle.doc_tokens.specs.Signs.{is_text, is_removed_tag, is_sentence_end, covers, is_covered, run_sign, char_signs, tag_signs, begins_in, tags_in}
-use Rattle.doc_tokens.specs.Reading.{reaches, sign_by, tag_sign, Ordered, BeginFrom, HasPassed}
+use Rattle.doc_tokens.specs.declared.sign.TextSign.{TextSign}
+use Rattle.doc_tokens.specs.declared.sign.TextSign.TheVariants as signs
+use Rattle.doc_tokens.specs.TextSigns.{is_text, is_removed_tag, is_sentence_end, covers, is_covered, run_sign, char_signs, tag_signs, begins_in, tags_in}
+use Rattle.doc_tokens.specs.steps.TokenReader.{reaches, sign_by, tag_sign, Ordered, BeginFrom, HasPassed}
 
--- marks behind a place are behind each place before it
+-- marks after a place are after each place before it
 pub ordered_weaker : (low high : ℕ) (marks : List Mark) → low ≤ high → Ordered high marks → Ordered low marks
 ordered_weaker low high [] below ordered = tt
 ordered_weaker low high (mark ∷ marks) below ordered = let from = ordered.0 in (omega (arith, from), ordered.1)
@@ -42,7 +42,7 @@ covers_begun : (kind : Bool) (from to place end : ℕ) → place < to → (kind 
 covers_begun true from to place end begun = grind (arith, nat_tests)
 covers_begun false from to place end begun = refl
 
--- no tag begins before a place among marks that begin there or behind it
+-- no tag begins before a place among marks that begin there or after it
 pub tags_late : (from to : ℕ) (marks : List Mark) → Ordered to marks → tags_in marks from to ≡ []
 tags_late from to [] ordered = refl
 tags_late from to (mark ∷ marks) ordered =
@@ -59,7 +59,7 @@ filter_early from to (mark ∷ marks) early =
 -- the tags that begin from a place on are those of the marks that weren't passed
 pub tags_left : (marks : List Mark) (next from to : ℕ) → All (λ (m : Mark). m.from < from) (take next marks) → tags_in marks from to ≡ tags_in (drop next marks) from to
 tags_left marks next from to early =
-    let signs_of : List Mark → List Sign = flat_map (λ (m : Mark). tag_signs m.kind) in
+    let signs_of : List Mark → List TextSign = flat_map (λ (m : Mark). tag_signs m.kind) in
     ap (λ (ms : List Mark). tags_in ms from to) (sym (take-append-drop next marks))
     ∙ ap signs_of (filter-append (begins_in from to) (take next marks) (drop next marks))
     ∙ ap (λ (ms : List Mark). signs_of (ms ++ filter (begins_in from to) (drop next marks))) (filter_early from to (take next marks) early)
@@ -104,7 +104,7 @@ covered_is is_kind marks next from to before after =
     ∙ (λ i. any_begun is_kind from to (take next marks) before i || any_late is_kind from to (drop next marks) after i)
     ∙ or_false (reaches is_kind from (take next marks))
 
-sign_choice : (text removed : Bool) (sign : Sign) → cond text (sign ∷ []) (cond removed [] (signs.Separator ∷ [])) ≡ option_to_list (cond text (Some sign) (cond removed None (Some signs.Separator)))
+sign_choice : (text removed : Bool) (sign : TextSign) → cond text (sign ∷ []) (cond removed [] (signs.Separator ∷ [])) ≡ option_to_list (cond text (Some sign) (cond removed None (Some signs.Separator)))
 sign_choice true removed sign = refl
 sign_choice false true sign = refl
 sign_choice false false sign = refl

@@ -17,13 +17,13 @@ use Rattle.srch_base.specs.declared.faults.Or.{Or}
 use Rattle.srch_base.specs.declared.faults.Or.TheVariants as causes
 use Rattle.doc_tokens.specs.declared.field.TooLong.{TooLong}
 use Rattle.doc_tokens.specs.declared.reader.Reader.{Reader}
-use Rattle.doc_tokens.specs.declared.sign.Sign.{Sign}
-use Rattle.doc_tokens.specs.declared.sign.Sign.TheVariants as signs
-use Rattle.doc_tokens.specs.Words.{Piece, pieces, word_of}
-use Rattle.doc_tokens.specs.Spans.{tags_behind}
+use Rattle.doc_tokens.specs.declared.sign.TextSign.{TextSign}
+use Rattle.doc_tokens.specs.declared.sign.TextSign.TheVariants as signs
+use Rattle.doc_tokens.specs.Words.{Segment, segments, word_of}
+use Rattle.doc_tokens.specs.Spans.{tags_after}
 use Rattle.doc_tokens.specs.Tokens.{first_above}
-use Rattle.doc_tokens.specs.Reading.{gap_behind, word_behind, words_behind, all_words, BeginApart, Holds, Wants, EndsRun, ReadsSign, ReadsSome, Finds, IsFound}
-use Rattle.doc_tokens.proofs.Runs.{pieces_run, apart_before, ahead_letter, word_more, word_cut, encodes_short}
+use Rattle.doc_tokens.specs.steps.TokenReader.{gap_after, word_after, words_after, all_words, BeginApart, Holds, Wants, EndsRun, ReadsSign, ReadsSome, Finds, IsFound}
+use Rattle.doc_tokens.proofs.Runs.{segments_run, apart_before, ahead_letter, word_more, word_cut, encodes_short}
 use Rattle.doc_tokens.proofs.WordLists.{all_positions}
 
 -- tests of numbers
@@ -34,7 +34,7 @@ is_below : (m n : ℕ) → m < n → nat_lt m n ≡ true
 is_below m n h = grind (arith, nat_tests)
 
 -- a letter joins the run
-pub holds_letter : (all : List Sign) (old new : Reader) (letters : List ℕ) (c : ℕ) (rest : List Sign)
+pub holds_letter : (all : List TextSign) (old new : Reader) (letters : List ℕ) (c : ℕ) (rest : List TextSign)
     → new.found ≡ old.found → new.position ≡ old.position → new.gap ≡ old.gap
     → string_bytes new.run ≡ word_of (letters ++ c ∷ []) → new.letters ≡ length (take 42 (letters ++ c ∷ []))
     → Holds all old letters (signs.Letter c ∷ rest) → Holds all new (letters ++ c ∷ []) rest
@@ -43,8 +43,8 @@ holds_letter all old new letters c rest found position gap run_is count holds =
     record {
       run = run_is;
       count = count;
-      words = (λ i. (found i).words.items ++ words_behind (position i) (gap i) (pieces (ahead i))) ∙ holds.words;
-      tags = (λ i. (found i).tags.items ++ tags_behind (length (found i).words.items) (pieces (ahead i))) ∙ holds.tags;
+      words = (λ i. (found i).words.items ++ words_after (position i) (gap i) (segments (ahead i))) ∙ holds.words;
+      tags = (λ i. (found i).tags.items ++ tags_after (length (found i).words.items) (segments (ahead i))) ∙ holds.tags;
       below = subst (λ f. All (λ (w : TokenWord). w.position ≤ MAX_POSITION) f.words.items) (sym found) holds.below;
       sound = subst (λ f. All (λ (w : TokenWord). IsWord w.word) f.words.items) (sym found) holds.sound;
     }
@@ -54,7 +54,7 @@ nothing_taken : (letters : List ℕ) → length (take 42 letters) ≡ 0 → lett
 nothing_taken [] none = refl
 nothing_taken (c ∷ letters) none = absurd (omega (arith, none))
 
-pub holds_nothing : (all : List Sign) (reader : Reader) (letters : List ℕ) (rest : List Sign) → reader.letters ≡ 0 → Holds all reader letters rest → Holds all reader [] rest
+pub holds_nothing : (all : List TextSign) (reader : Reader) (letters : List ℕ) (rest : List TextSign) → reader.letters ≡ 0 → Holds all reader letters rest → Holds all reader [] rest
 holds_nothing all reader letters rest none holds =
     subst (λ (l : List ℕ). Holds all reader l rest) (nothing_taken letters (sym holds.count ∙ none)) holds
 
@@ -71,16 +71,16 @@ run_is_word c letters utf8 =
       utf8 = utf8;
     }
 
--- the run has ended: its word stands behind the others
-pub holds_word : (all : List Sign) (old new : Reader) (c : ℕ) (letters : List ℕ) (rest : List Sign) → BeginApart rest → IsUtf8 (string_bytes old.run)
-    → old.position + step (gap_behind old.position old.gap) ≤ MAX_POSITION
-    → string_bytes new.run ≡ [] → new.letters ≡ 0 → new.position ≡ old.position + step (gap_behind old.position old.gap) → new.gap ≡ gaps.None
+-- the run has ended: its word stands after the others
+pub holds_word : (all : List TextSign) (old new : Reader) (c : ℕ) (letters : List ℕ) (rest : List TextSign) → BeginApart rest → IsUtf8 (string_bytes old.run)
+    → old.position + step (gap_after old.position old.gap) ≤ MAX_POSITION
+    → string_bytes new.run ≡ [] → new.letters ≡ 0 → new.position ≡ old.position + step (gap_after old.position old.gap) → new.gap ≡ gaps.None
     → new.found.tags.items ≡ old.found.tags.items
-    → new.found.words.items ≡ old.found.words.items ++ record (word_behind old.position old.gap []) { word = string_bytes old.run } ∷ []
+    → new.found.words.items ≡ old.found.words.items ++ record (word_after old.position old.gap []) { word = string_bytes old.run } ∷ []
     → Holds all old (c ∷ letters) rest → Holds all new [] rest
 holds_word all old new c letters rest apart utf8 within run_is count position gap tags words holds =
-    let is = pieces_run c letters rest apart in
-    let word : TokenWord = word_behind old.position old.gap (c ∷ letters) in
+    let is = segments_run c letters rest apart in
+    let word : TokenWord = word_after old.position old.gap (c ∷ letters) in
     let words_are : new.found.words.items ≡ old.found.words.items ++ word ∷ [] =
     words ∙ ap (λ (w : List ℕ). old.found.words.items ++ record word { word = w } ∷ []) holds.run in
     let sound = run_is_word c letters (subst IsUtf8 holds.run utf8) in
@@ -88,14 +88,14 @@ holds_word all old new c letters rest apart utf8 within run_is count position ga
       run = run_is;
       count = count;
       words =
-          (λ i. words_are i ++ words_behind (position i) (gap i) (pieces rest))
+          (λ i. words_are i ++ words_after (position i) (gap i) (segments rest))
           ∙ append_assoc old.found.words.items (word ∷ []) _
-          ∙ ap (λ (ps : List Piece). old.found.words.items ++ words_behind old.position old.gap ps) (sym is)
+          ∙ ap (λ (ps : List Segment). old.found.words.items ++ words_after old.position old.gap ps) (sym is)
           ∙ holds.words;
       tags =
-          (λ i. tags i ++ tags_behind (length (words_are i)) (pieces rest))
-          ∙ ap (λ (n : ℕ). old.found.tags.items ++ tags_behind n (pieces rest)) (length_push old.found.words.items word)
-          ∙ ap (λ (ps : List Piece). old.found.tags.items ++ tags_behind (length old.found.words.items) ps) (sym is)
+          (λ i. tags i ++ tags_after (length (words_are i)) (segments rest))
+          ∙ ap (λ (n : ℕ). old.found.tags.items ++ tags_after n (segments rest)) (length_push old.found.words.items word)
+          ∙ ap (λ (ps : List Segment). old.found.tags.items ++ tags_after (length old.found.words.items) ps) (sym is)
           ∙ holds.tags;
       below = subst (All (λ (w : TokenWord). w.position ≤ MAX_POSITION)) (sym words_are) (All-push (λ (w : TokenWord). w.position ≤ MAX_POSITION) old.found.words.items word holds.below within);
       sound = subst (All (λ (w : TokenWord). IsWord w.word)) (sym words_are) (All-push (λ (w : TokenWord). IsWord w.word) old.found.words.items word holds.sound sound);
@@ -110,41 +110,41 @@ none_above (word ∷ words) below =
     ap (λ (b : Bool). cond b (Some word.position) (find (λ (p : ℕ). nat_lt MAX_POSITION p) (map (λ (w : TokenWord). w.position) words))) (not_below MAX_POSITION word.position here) ∙ rest
 
 -- a word above the limit is the first one
-pub word_above : (all : List Sign) (old : Reader) (c : ℕ) (letters : List ℕ) (rest : List Sign) (position : ℕ) → BeginApart rest
-    → MAX_POSITION < position → position ≡ old.position + step (gap_behind old.position old.gap)
-    → Holds all old (c ∷ letters) rest → first_above (pieces all) ≡ Some position
+pub word_above : (all : List TextSign) (old : Reader) (c : ℕ) (letters : List ℕ) (rest : List TextSign) (position : ℕ) → BeginApart rest
+    → MAX_POSITION < position → position ≡ old.position + step (gap_after old.position old.gap)
+    → Holds all old (c ∷ letters) rest → first_above (segments all) ≡ Some position
 word_above all old c letters rest position apart above is holds =
     let test : ℕ → Bool = λ p. nat_lt MAX_POSITION p in
     let at : TokenWord → ℕ = λ w. w.position in
     let found = old.found.words.items in
-    let word : TokenWord = word_behind old.position old.gap (c ∷ letters) in
-    let later = words_behind word.position gaps.None (pieces rest) in
-    let words : all_words (pieces all) ≡ found ++ word ∷ later =
-    sym holds.words ∙ ap (λ (ps : List Piece). found ++ words_behind old.position old.gap ps) (pieces_run c letters rest apart) in
-    ap (find test) (sym (all_positions (pieces all)) ∙ ap (map at) words ∙ map-append at found (word ∷ later))
+    let word : TokenWord = word_after old.position old.gap (c ∷ letters) in
+    let later = words_after word.position gaps.None (segments rest) in
+    let words : all_words (segments all) ≡ found ++ word ∷ later =
+    sym holds.words ∙ ap (λ (ps : List Segment). found ++ words_after old.position old.gap ps) (segments_run c letters rest apart) in
+    ap (find test) (sym (all_positions (segments all)) ∙ ap (map at) words ∙ map-append at found (word ∷ later))
     ∙ find-append test (map at found) (map at (word ∷ later))
     ∙ ap (λ (o : Option ℕ). option_or o (find test (map at (word ∷ later)))) (none_above found holds.below)
     ∙ ap (λ (b : Bool). cond b (Some word.position) (find test (map at later))) (is_below MAX_POSITION word.position (subst (λ (p : ℕ). MAX_POSITION < p) is above))
     ∙ ap Some (sym is)
 
 -- the same for any letters, of which the reader has some
-pub run_above : (all : List Sign) (old : Reader) (letters : List ℕ) (rest : List Sign) (position : ℕ) → (old.letters ≡ 0 → ⊥) → BeginApart rest
-    → MAX_POSITION < position → position ≡ old.position + step (gap_behind old.position old.gap)
-    → Holds all old letters rest → first_above (pieces all) ≡ Some position
+pub run_above : (all : List TextSign) (old : Reader) (letters : List ℕ) (rest : List TextSign) (position : ℕ) → (old.letters ≡ 0 → ⊥) → BeginApart rest
+    → MAX_POSITION < position → position ≡ old.position + step (gap_after old.position old.gap)
+    → Holds all old letters rest → first_above (segments all) ≡ Some position
 run_above all old [] rest position some apart above is holds = absurd (some holds.count)
 run_above all old (c ∷ letters) rest position some apart above is holds = word_above all old c letters rest position apart above is holds
 
-pub run_ended : (all : List Sign) (old new : Reader) (letters : List ℕ) (rest : List Sign) → (old.letters ≡ 0 → ⊥) → BeginApart rest → IsUtf8 (string_bytes old.run)
-    → old.position + step (gap_behind old.position old.gap) ≤ MAX_POSITION
-    → string_bytes new.run ≡ [] → new.letters ≡ 0 → new.position ≡ old.position + step (gap_behind old.position old.gap) → new.gap ≡ gaps.None
+pub run_ended : (all : List TextSign) (old new : Reader) (letters : List ℕ) (rest : List TextSign) → (old.letters ≡ 0 → ⊥) → BeginApart rest → IsUtf8 (string_bytes old.run)
+    → old.position + step (gap_after old.position old.gap) ≤ MAX_POSITION
+    → string_bytes new.run ≡ [] → new.letters ≡ 0 → new.position ≡ old.position + step (gap_after old.position old.gap) → new.gap ≡ gaps.None
     → new.found.tags.items ≡ old.found.tags.items
-    → new.found.words.items ≡ old.found.words.items ++ record (word_behind old.position old.gap []) { word = string_bytes old.run } ∷ []
+    → new.found.words.items ≡ old.found.words.items ++ record (word_after old.position old.gap []) { word = string_bytes old.run } ∷ []
     → Holds all old letters rest → Holds all new [] rest
 run_ended all old new [] rest some apart utf8 within run_is count position gap tags words holds = absurd (some holds.count)
 run_ended all old new (c ∷ letters) rest some apart utf8 within run_is count position gap tags words holds = holds_word all old new c letters rest apart utf8 within run_is count position gap tags words holds
 
 -- a letter joins a run that isn't cut, and one that is
-pub letter_kept : (all : List Sign) (old new : Reader) (letters : List ℕ) (c : ℕ) (rest : List Sign)
+pub letter_kept : (all : List TextSign) (old new : Reader) (letters : List ℕ) (c : ℕ) (rest : List TextSign)
     → new.found ≡ old.found → new.position ≡ old.position → new.gap ≡ old.gap → old.letters < 42
     → string_bytes new.run ≡ string_bytes old.run ++ encode_utf8 c → new.letters ≡ old.letters + 1
     → Holds all old letters (signs.Letter c ∷ rest) → Holds all new (letters ++ c ∷ []) rest
@@ -159,7 +159,7 @@ letter_kept all old new letters c rest found position gap below run_is count hol
     (omega (arith, size, taken, had, more, count))
     holds
 
-pub letter_cut : (all : List Sign) (old : Reader) (letters : List ℕ) (c : ℕ) (rest : List Sign) → 42 ≤ old.letters → Holds all old letters (signs.Letter c ∷ rest) → Holds all old (letters ++ c ∷ []) rest
+pub letter_cut : (all : List TextSign) (old : Reader) (letters : List ℕ) (c : ℕ) (rest : List TextSign) → 42 ≤ old.letters → Holds all old letters (signs.Letter c ∷ rest) → Holds all old (letters ++ c ∷ []) rest
 letter_cut all old letters c rest full holds =
     let size = length-take 42 letters in
     let had = holds.count in
@@ -170,16 +170,16 @@ letter_cut all old letters c rest full holds =
     holds
 
 -- a sign that can't be read for the word before it
-pub read_above : (old new : Reader) (sign : Sign) (fault : Or TooLong) → BeginApart (sign ∷ []) → EndsRun old new (Err fault) → ReadsSign old sign new (Err fault)
+pub read_above : (old new : Reader) (sign : TextSign) (fault : Or TooLong) → BeginApart (sign ∷ []) → EndsRun old new (Err fault) → ReadsSign old sign new (Err fault)
 read_above old new sign causes.NoMemory apart ends = tt
 read_above old new sign (causes.Fault too_long) apart ends = λ all rest wants. ends all wants.letters (sign ∷ rest) (apart_before sign rest apart) wants.holds
 
-pub finish_above : (old new : Reader) (fault : Or TooLong) (all : List Sign) → EndsRun old new (Err fault) → Wants all old [] → Finds all (Err fault)
+pub finish_above : (old new : Reader) (fault : Or TooLong) (all : List TextSign) → EndsRun old new (Err fault) → Wants all old [] → Finds all (Err fault)
 finish_above old new causes.NoMemory all ends wants = tt
 finish_above old new (causes.Fault too_long) all ends wants = ends all wants.letters [] tt wants.holds
 
 -- all was read
-pub all_found : (all : List Sign) (reader : Reader) → Holds all reader [] [] → IsFound all reader.found
+pub all_found : (all : List TextSign) (reader : Reader) → Holds all reader [] [] → IsFound all reader.found
 all_found all reader holds = record {
   words = sym (append-nil reader.found.words.items) ∙ holds.words;
   tags = sym (append-nil reader.found.tags.items) ∙ holds.tags;
@@ -188,7 +188,7 @@ all_found all reader holds = record {
 }
 
 -- a sign that was read is a list of one
-pub some_read : (old : Reader) (sign : Sign) (new : Reader) (result : Result (Unit {0}) (Or TooLong)) → ReadsSign old sign new result → ReadsSome old (sign ∷ []) new result
+pub some_read : (old : Reader) (sign : TextSign) (new : Reader) (result : Result (Unit {0}) (Or TooLong)) → ReadsSign old sign new result → ReadsSome old (sign ∷ []) new result
 some_read old sign new (Ok done) reads = reads
 some_read old sign new (Err causes.NoMemory) reads = tt
 some_read old sign new (Err (causes.Fault too_long)) reads = reads

@@ -1,15 +1,15 @@
--- Pieces of signs, sign by sign.
+-- Segments of signs, sign by sign.
 use Rattle.std.proofs.Common.{◌≡◌, ℕ, ◌*◌, ◌<◌, ◌≤◌, List, [], ◌∷◌, ◌++◌, length, map, take, refl, sym, ◌∙◌, ap, arith, append_assoc, append-nil, length-append, encode_utf8_all}
 use Rattle.std.specs.Char.{encode_utf8}
 use Rattle.std.proofs.lemmas.List.{map-append, take_all, take-append-le}
 use Rattle.std.proofs.lemmas.Str.{encodes-append, length-encode, len_utf8_bounds}
-use Rattle.doc_tokens.specs.declared.sign.Sign.{Sign}
-use Rattle.doc_tokens.specs.declared.sign.Sign.TheVariants as signs
-use Rattle.doc_tokens.specs.Words.{run, other, pieces, with_letter, word_of}
-use Rattle.doc_tokens.specs.Reading.{signs_ahead, BeginApart}
+use Rattle.doc_tokens.specs.declared.sign.TextSign.{TextSign}
+use Rattle.doc_tokens.specs.declared.sign.TextSign.TheVariants as signs
+use Rattle.doc_tokens.specs.Words.{run, other, segments, with_letter, word_of}
+use Rattle.doc_tokens.specs.steps.TokenReader.{signs_ahead, BeginApart}
 
 -- one letter before signs that don't go on with a run
-one_letter : (c : ℕ) (rest : List Sign) → BeginApart rest → with_letter c (pieces rest) ≡ run (c ∷ []) ∷ pieces rest
+one_letter : (c : ℕ) (rest : List TextSign) → BeginApart rest → with_letter c (segments rest) ≡ run (c ∷ []) ∷ segments rest
 one_letter c [] apart = refl
 one_letter c (signs.Letter d ∷ rest) apart = absurd apart
 one_letter c (signs.Separator ∷ rest) apart = refl
@@ -19,25 +19,25 @@ one_letter c (signs.Open zone ∷ rest) apart = refl
 one_letter c (signs.Close zone ∷ rest) apart = refl
 
 -- letters before signs that don't go on with a run are one run
-pub pieces_run : (c : ℕ) (letters : List ℕ) (rest : List Sign) → BeginApart rest → pieces (signs_ahead (c ∷ letters) rest) ≡ run (c ∷ letters) ∷ pieces rest
-pieces_run c [] rest apart = one_letter c rest apart
-pieces_run c (d ∷ letters) rest apart = ap (with_letter c) (pieces_run d letters rest apart)
+pub segments_run : (c : ℕ) (letters : List ℕ) (rest : List TextSign) → BeginApart rest → segments (signs_ahead (c ∷ letters) rest) ≡ run (c ∷ letters) ∷ segments rest
+segments_run c [] rest apart = one_letter c rest apart
+segments_run c (d ∷ letters) rest apart = ap (with_letter c) (segments_run d letters rest apart)
 
--- a letter behind the others of its run
-pub ahead_letter : (letters : List ℕ) (c : ℕ) (rest : List Sign) → signs_ahead letters (signs.Letter c ∷ rest) ≡ signs_ahead (letters ++ c ∷ []) rest
-ahead_letter letters c rest = sym (append_assoc (map signs.Letter letters) (signs.Letter c ∷ []) rest) ∙ ap (λ (s : List Sign). s ++ rest) (sym (map-append signs.Letter letters (c ∷ [])))
+-- a letter after the others of its run
+pub ahead_letter : (letters : List ℕ) (c : ℕ) (rest : List TextSign) → signs_ahead letters (signs.Letter c ∷ rest) ≡ signs_ahead (letters ++ c ∷ []) rest
+ahead_letter letters c rest = sym (append_assoc (map signs.Letter letters) (signs.Letter c ∷ []) rest) ∙ ap (λ (s : List TextSign). s ++ rest) (sym (map-append signs.Letter letters (c ∷ [])))
 
--- a sign that is no letter is a piece
-pub pieces_other : (sign : Sign) (rest : List Sign) → BeginApart (sign ∷ []) → pieces (sign ∷ rest) ≡ other sign ∷ pieces rest
-pieces_other (signs.Letter c) rest apart = absurd apart
-pieces_other signs.Separator rest apart = refl
-pieces_other signs.Sentence rest apart = refl
-pieces_other signs.Paragraph rest apart = refl
-pieces_other (signs.Open zone) rest apart = refl
-pieces_other (signs.Close zone) rest apart = refl
+-- a sign that is no letter is a segment
+pub segments_other : (sign : TextSign) (rest : List TextSign) → BeginApart (sign ∷ []) → segments (sign ∷ rest) ≡ other sign ∷ segments rest
+segments_other (signs.Letter c) rest apart = absurd apart
+segments_other signs.Separator rest apart = refl
+segments_other signs.Sentence rest apart = refl
+segments_other signs.Paragraph rest apart = refl
+segments_other (signs.Open zone) rest apart = refl
+segments_other (signs.Close zone) rest apart = refl
 
 -- signs that begin with such a sign begin apart
-pub apart_before : (sign : Sign) (rest : List Sign) → BeginApart (sign ∷ []) → BeginApart (sign ∷ rest)
+pub apart_before : (sign : TextSign) (rest : List TextSign) → BeginApart (sign ∷ []) → BeginApart (sign ∷ rest)
 apart_before (signs.Letter c) rest apart = absurd apart
 apart_before signs.Separator rest apart = tt
 apart_before signs.Sentence rest apart = tt

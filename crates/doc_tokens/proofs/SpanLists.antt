@@ -10,7 +10,7 @@ use Rattle.doc_tokens.specs.declared.sign.ZoneTag.{ZoneTag}
 use Rattle.doc_tokens.specs.Spans.{zone_end, last_of, span_over, span_within, spans_of}
 use Rattle.doc_types.specs.Documents.{precedes, Ascend}
 use Rattle.doc_tokens.specs.Tokens.{AreSpans}
-use Rattle.doc_tokens.specs.Reading.{Descend, PutsSpans}
+use Rattle.doc_tokens.specs.steps.TokenReader.{Descend, PutsSpans}
 
 -- the last position is the one at the last place
 last_at : (first : ℕ) (rest : List ℕ) → last_of first rest ≡ get_or (first ∷ rest) (length rest) 0

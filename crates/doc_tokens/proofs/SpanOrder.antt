@@ -8,7 +8,7 @@ use Rattle.std.proofs.lemmas.List.Edits.{length-insert, get_or-insert_below, get
 use Rattle.std.proofs.lemmas.List.Elements.{Contains-get_or}
 use Rattle.doc_types.specs.declared.tokens.ZoneSpan.{ZoneSpan}
 use Rattle.doc_types.specs.Documents.{precedes}
-use Rattle.doc_tokens.specs.Reading.{Descend, IsPlaceFor, PutsSpans}
+use Rattle.doc_tokens.specs.steps.TokenReader.{Descend, IsPlaceFor, PutsSpans}
 
 -- the order of spans
 pub precedes_trans : (a b c : ZoneSpan) → precedes a b ≡ true → precedes b c ≡ true → precedes a c ≡ true
@@ -86,9 +86,9 @@ all_before spans span at descend within above i d below =
     (λ not_further. let same : at - 1 ≡ i = omega arith in subst (λ (n : ℕ). precedes span (get_or spans n d) ≡ true) same (above d (omega arith)))
     (cases_lt i (at - 1))
 
--- the order of two spans of which the later one stands behind the place
-descend_behind : (spans : List ZoneSpan) (span : ZoneSpan) (at : ℕ) → Descend spans → IsPlaceFor spans span at → at ≤ length spans → (i k : ℕ) (d : ZoneSpan) → at ≤ k → i ≤ k → k < length spans → precedes (get_or spans k d) (get_or (insert spans at span) i d) ≡ true
-descend_behind spans span at descend place within i k d over order below =
+-- the order of two spans of which the later one stands after the place
+descend_after : (spans : List ZoneSpan) (span : ZoneSpan) (at : ℕ) → Descend spans → IsPlaceFor spans span at → at ≤ length spans → (i k : ℕ) (d : ZoneSpan) → at ≤ k → i ≤ k → k < length spans → precedes (get_or spans k d) (get_or (insert spans at span) i d) ≡ true
+descend_after spans span at descend place within i k d over order below =
     let last = get_or spans k d in
     ⊎_elim
     (λ under. subst (λ (s : ZoneSpan). precedes last s ≡ true) (sym (get_or-insert_below spans at span d i under within)) (descend i k d (omega arith) below))
@@ -100,7 +100,7 @@ descend_behind spans span at descend place within i k d over order below =
     (λ not_beyond.
     let same : at ≡ i = omega arith in
     let is = ap (λ (n : ℕ). get_or (insert spans at span) n d) (sym same) ∙ get_or-insert_at spans at span d within in
-    subst (λ (s : ZoneSpan). precedes last s ≡ true) (sym is) (place.behind k d over below))
+    subst (λ (s : ZoneSpan). precedes last s ≡ true) (sym is) (place.beyond k d over below))
     (cases_lt at i))
     (cases_lt i at)
 
@@ -118,7 +118,7 @@ descend_insert spans span at descend place within above = λ i j d order below.
     (λ beyond.
     let next : (j - 1) + 1 ≡ j = omega arith in
     let last_is = ap (λ (n : ℕ). get_or list n d) (sym next) ∙ get_or-insert_above spans at span d (j - 1) (omega arith) within in
-    subst (λ (s : ZoneSpan). precedes s first ≡ true) (sym last_is) (descend_behind spans span at descend place within i (j - 1) d (omega arith) (omega arith) (omega (arith, size))))
+    subst (λ (s : ZoneSpan). precedes s first ≡ true) (sym last_is) (descend_after spans span at descend place within i (j - 1) d (omega arith) (omega arith) (omega (arith, size))))
     (λ not_beyond.
     let same : at ≡ j = omega arith in
     let last_is = ap (λ (n : ℕ). get_or list n d) (sym same) ∙ get_or-insert_at spans at span d within in

@@ -11,9 +11,9 @@ use Rattle.doc_types.specs.declared.tokens.FieldTokens.{FieldTokens}
 use Rattle.doc_types.specs.declared.tokens.TokenWord.{TokenWord}
 use Rattle.doc_types.specs.declared.tokens.ZoneSpan.{ZoneSpan}
 use Rattle.doc_types.specs.Documents.{precedes, Ascend, IsField}
-use Rattle.doc_tokens.specs.Spans.{tags_behind}
+use Rattle.doc_tokens.specs.Spans.{tags_after}
 use Rattle.doc_tokens.specs.Words.{positions_in}
-use Rattle.doc_tokens.specs.Tokens.{pieces_of, first_above, AreWords, AreSpans, TokensOf, IsTooLong}
+use Rattle.doc_tokens.specs.Tokens.{segments_of, first_above, AreWords, AreSpans, TokensOf, IsTooLong}
 use Rattle.doc_tokens.proofs.SpanOrder.{precedes_trans}
 use Rattle.doc_tokens.proofs.ReaderSteps.{none_above}
 
@@ -37,31 +37,31 @@ contains_front x s xs (suc k, below, is) = inr (k, omega (arith, below), is)
 contains_head : (x : ZoneSpan) (xs : List ZoneSpan) → Contains (x ∷ xs) x
 contains_head x xs = (0, omega arith, refl)
 
-contains_behind : (x s : ZoneSpan) (xs : List ZoneSpan) → Contains xs s → Contains (x ∷ xs) s
-contains_behind x s xs (k, below, is) = (suc k, omega (arith, below), is)
+contains_after : (x s : ZoneSpan) (xs : List ZoneSpan) → Contains xs s → Contains (x ∷ xs) s
+contains_after x s xs (k, below, is) = (suc k, omega (arith, below), is)
 
 -- the first of spans in their order precedes the others
 head_first : (x s : ZoneSpan) (xs : List ZoneSpan) → Ascend (x ∷ xs) → Contains xs s → precedes x s ≡ true
 head_first x s xs ascend (k, below, is) = subst (λ (t : ZoneSpan). precedes x t ≡ true) is (ascend 0 (suc k) s (omega arith) (omega (arith, below)))
 
-ascend_behind : (x : ZoneSpan) (xs : List ZoneSpan) → Ascend (x ∷ xs) → Ascend xs
-ascend_behind x xs ascend = λ i j d order below. ascend (suc i) (suc j) d (omega (arith, order)) (omega (arith, below))
+ascend_after : (x : ZoneSpan) (xs : List ZoneSpan) → Ascend (x ∷ xs) → Ascend xs
+ascend_after x xs ascend = λ i j d order below. ascend (suc i) (suc j) d (omega (arith, order)) (omega (arith, below))
 
 not_itself : (s : ZoneSpan) → precedes s s ≡ true → ⊥
 not_itself s is = grind (arith, nat_tests)
 
--- what the second list has behind its first element is behind the first element of the first list
+-- what the second list has after its first element is after the first element of the first list
 tail_within : (x s : ZoneSpan) (xs ys : List ZoneSpan) → Ascend (x ∷ xs) → ((t : ZoneSpan) → Contains (x ∷ xs) t → Contains (x ∷ ys) t) → Contains xs s → Contains ys s
 tail_within x s xs ys ascend within has =
     ⊎_elim
     (λ same. absurd (not_itself x (subst (λ (t : ZoneSpan). precedes x t ≡ true) (sym same) (head_first x s xs ascend has))))
-    (λ behind. behind)
-    (contains_front x s ys (within s (contains_behind x s xs has)))
+    (λ beyond. beyond)
+    (contains_front x s ys (within s (contains_after x s xs has)))
 
 heads_same : (x y : ZoneSpan) (xs ys : List ZoneSpan) → Ascend (x ∷ xs) → Ascend (y ∷ ys) → Contains (y ∷ ys) x → Contains (x ∷ xs) y → x ≡ y
 heads_same x y xs ys first second has_x has_y =
     ⊎_elim (λ same. sym same)
-    (λ x_behind. ⊎_elim (λ same. same) (λ y_behind. absurd (not_itself x (precedes_trans x y x (head_first x y xs first y_behind) (head_first y x ys second x_behind)))) (contains_front x y xs has_y))
+    (λ x_after. ⊎_elim (λ same. same) (λ y_after. absurd (not_itself x (precedes_trans x y x (head_first x y xs first y_after) (head_first y x ys second x_after)))) (contains_front x y xs has_y))
     (contains_front y x ys has_x)
 
 spans_unique : (xs ys : List ZoneSpan) → Ascend xs → Ascend ys → ((s : ZoneSpan) → Contains xs s → Contains ys s) → ((s : ZoneSpan) → Contains ys s → Contains xs s) → xs ≡ ys
@@ -73,16 +73,16 @@ spans_unique (x ∷ xs) (y ∷ ys) first second there back =
     let there_x = subst (λ (z : ZoneSpan). (s : ZoneSpan) → Contains (x ∷ xs) s → Contains (z ∷ ys) s) (sym same) there in
     let back_x = subst (λ (z : ZoneSpan). (s : ZoneSpan) → Contains (z ∷ ys) s → Contains (x ∷ xs) s) (sym same) back in
     let second_x = subst (λ (z : ZoneSpan). Ascend (z ∷ ys)) (sym same) second in
-    let rest = spans_unique xs ys (ascend_behind x xs first) (ascend_behind y ys second) (λ s has. tail_within x s xs ys first there_x has) (λ s has. tail_within x s ys xs second_x back_x has) in
+    let rest = spans_unique xs ys (ascend_after x xs first) (ascend_after y ys second) (λ s has. tail_within x s xs ys first there_x has) (λ s has. tail_within x s ys xs second_x back_x has) in
     λ i. same i ∷ rest i
 
 -- the tokens of a text are determined
 pub tokens_unique : (fold : ℕ → Option ℕ) (rules : MarkRules) (text : List ℕ) (a b : FieldTokens) → TokensOf fold rules text a → TokensOf fold rules text b → a ≡ b
 tokens_unique fold rules text a b first second =
     let marks = marks_unique fold rules text second.marks first.marks second.are first.are in
-    let pieces = pieces_of fold text first.marks in
-    let words = subst (λ (ms : List Mark). AreWords (pieces_of fold text ms) b.words) marks second.words in
-    let spans = subst (λ (ms : List Mark). AreSpans (positions_in (pieces_of fold text ms)) (tags_behind 0 (pieces_of fold text ms)) b.spans) marks second.spans in
+    let segments = segments_of fold text first.marks in
+    let words = subst (λ (ms : List Mark). AreWords (segments_of fold text ms) b.words) marks second.words in
+    let spans = subst (λ (ms : List Mark). AreSpans (positions_in (segments_of fold text ms)) (tags_after 0 (segments_of fold text ms)) b.spans) marks second.spans in
     let words_are = words_unique a.words b.words (first.words.spelled ∙ sym words.spelled) (first.words.gaps ∙ sym words.gaps) (first.words.positions ∙ sym words.positions) in
     let spans_are = spans_unique a.spans b.spans first.spans.ascend spans.ascend (λ s has. (spans.same s).1 ((first.spans.same s).0 has)) (λ s has. (first.spans.same s).1 ((spans.same s).0 has)) in
     λ i. record { words = words_are i; spans = spans_are i }
@@ -91,6 +91,6 @@ tokens_unique fold rules text a b first second =
 pub not_too_long : (fold : ℕ → Option ℕ) (rules : MarkRules) (text : List ℕ) (tokens : FieldTokens) (position : ℕ) → TokensOf fold rules text tokens → IsField tokens → IsTooLong fold rules text position → ⊥
 not_too_long fold rules text tokens position are field long =
     let marks = marks_unique fold rules text long.marks are.marks long.are are.are in
-    let first = subst (λ (ms : List Mark). first_above (pieces_of fold text ms) ≡ Some position) marks long.first in
+    let first = subst (λ (ms : List Mark). first_above (segments_of fold text ms) ≡ Some position) marks long.first in
     let none = ap (find (λ (p : ℕ). nat_lt MAX_POSITION p)) are.words.positions in
     none-some position (sym (none_above tokens.words field.within) ∙ none ∙ first)

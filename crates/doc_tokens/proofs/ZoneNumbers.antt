@@ -10,22 +10,22 @@ use Rattle.mark_scan.specs.declared.mark.Mark.{Mark}
 use Rattle.mark_scan.specs.declared.mark.MarkKind.{MarkKind}
 use Rattle.mark_scan.specs.declared.mark.MarkKind.TheVariants as kinds
 use Rattle.mark_scan.specs.declared.mark.MarkRules.{MarkRules}
-use Rattle.mark_scan.specs.Markup.{Part, plain, comment, tag, TagText, part_bytes}
-use Rattle.mark_scan.specs.Marks.{sentences_of, part_marks, marks_behind, run_before, run_of, AreMarks}
+use Rattle.mark_scan.specs.Markup.{TextPart, plain, comment, tag, TagText, part_bytes}
+use Rattle.mark_scan.specs.Marks.{sentences_of, part_marks, marks_after, run_before, run_of, AreMarks}
 use Rattle.mark_scan.specs.Sentences.{ends_sentence, sentence_mark, sentence_marks}
 use Rattle.mark_scan.specs.Tags.{span, is_removed, is_among, block_tags, paragraph_kind, zone_of, span_kind, zone_kind, tag_kinds}
-use Rattle.doc_tokens.specs.declared.sign.Sign.{Sign}
-use Rattle.doc_tokens.specs.declared.sign.Sign.TheVariants as signs
+use Rattle.doc_tokens.specs.declared.sign.TextSign.{TextSign}
+use Rattle.doc_tokens.specs.declared.sign.TextSign.TheVariants as signs
 use Rattle.doc_tokens.specs.declared.sign.ZoneTag.{ZoneTag}
-use Rattle.doc_tokens.specs.Signs.{is_text, is_removed_tag, is_sentence_end, is_covered, run_sign, char_signs, tag_signs, begins_in, tags_in, signs_from}
-use Rattle.doc_tokens.specs.Words.{Piece, run, other, with_letter, with_sign, pieces}
-use Rattle.doc_tokens.specs.Spans.{tag_of, tags_behind}
-use Rattle.doc_tokens.specs.Tokens.{pieces_of}
+use Rattle.doc_tokens.specs.TextSigns.{is_text, is_removed_tag, is_sentence_end, is_covered, run_sign, char_signs, tag_signs, begins_in, tags_in, signs_from}
+use Rattle.doc_tokens.specs.Words.{Segment, run, other, with_letter, with_sign, segments}
+use Rattle.doc_tokens.specs.Spans.{tag_of, tags_after}
+use Rattle.doc_tokens.specs.Tokens.{segments_of}
 
 -- lists of which each element has a property
 each_append : {X : Type 0} (P : X → Type 0) (first second : List X) → AllByRecursion P first → AllByRecursion P second → AllByRecursion P (first ++ second)
-each_append P [] second has behind = behind
-each_append P (x ∷ first) second has behind = (has.0, each_append P first second has.1 behind)
+each_append P [] second has beyond = beyond
+each_append P (x ∷ first) second has beyond = (has.0, each_append P first second has.1 beyond)
 
 -- the zone that a mark opens or closes is below a number
 abbrev KindBelow : ℕ → MarkKind → Type 0
@@ -80,12 +80,12 @@ spans_below : (n from to : ℕ) (list : List MarkKind) → KindsBelow n list →
 spans_below n from to [] below = tt
 spans_below n from to (kind ∷ list) below = (below.0, spans_below n from to list below.1)
 
-part_below : (fold : ℕ → Option ℕ) (rules : MarkRules) (place : ℕ) (before : List Part) (part : Part) (after : List Part) → MarksBelow (length rules.zones) (part_marks fold rules place before part after)
+part_below : (fold : ℕ → Option ℕ) (rules : MarkRules) (place : ℕ) (before : List TextPart) (part : TextPart) (after : List TextPart) → MarksBelow (length rules.zones) (part_marks fold rules place before part after)
 part_below fold rules place before (plain bytes) after = (tt, sentences_below (length rules.zones) rules.sp fold place (run_before rules.zones before) (chars bytes) (chars (run_of rules.zones after)))
 part_below fold rules place before (comment bytes) after = tt
 part_below fold rules place before (tag t) after = spans_below (length rules.zones) place (place + length t.text) (tag_kinds rules.sp rules.zones t) (kinds_below rules.sp rules.zones t)
 
-parts_below : (fold : ℕ → Option ℕ) (rules : MarkRules) (place : ℕ) (before parts : List Part) → MarksBelow (length rules.zones) (marks_behind fold rules place before parts)
+parts_below : (fold : ℕ → Option ℕ) (rules : MarkRules) (place : ℕ) (before parts : List TextPart) → MarksBelow (length rules.zones) (marks_after fold rules place before parts)
 parts_below fold rules place before [] = tt
 parts_below fold rules place before (part ∷ parts) =
     each_append (λ (m : Mark). KindBelow (length rules.zones) m.kind) (part_marks fold rules place before part parts) _
@@ -93,7 +93,7 @@ parts_below fold rules place before (part ∷ parts) =
     (parts_below fold rules (place + length (part_bytes part)) (part ∷ before) parts)
 
 -- the same of signs
-abbrev SignBelow : ℕ → Sign → Type 0
+abbrev SignBelow : ℕ → TextSign → Type 0
 SignBelow n (signs.Letter c) = Unit {0}
 SignBelow n signs.Separator = Unit {0}
 SignBelow n signs.Sentence = Unit {0}
@@ -101,7 +101,7 @@ SignBelow n signs.Paragraph = Unit {0}
 SignBelow n (signs.Open zone) = zone < n
 SignBelow n (signs.Close zone) = zone < n
 
-abbrev SignsBelow : ℕ → List Sign → Type 0
+abbrev SignsBelow : ℕ → List TextSign → Type 0
 SignsBelow n list = AllByRecursion (SignBelow n) list
 
 tag_below : (n : ℕ) (kind : MarkKind) → KindBelow n kind → SignsBelow n (tag_signs kind)
@@ -116,7 +116,7 @@ tags_below : (n : ℕ) (marks : List Mark) (from to : ℕ) → MarksBelow n mark
 tags_below n [] from to below = tt
 tags_below n (mark ∷ marks) from to below =
     let rest = tags_below n marks from to below.1 in
-    let signs_of : List Mark → List Sign = flat_map (λ (m : Mark). tag_signs m.kind) in
+    let signs_of : List Mark → List TextSign = flat_map (λ (m : Mark). tag_signs m.kind) in
     elim (begins_in from to mark) as (λ b. SignsBelow n (signs_of (cond b (mark ∷ filter (begins_in from to) marks) (filter (begins_in from to) marks)))) [ true ↦ each_append (SignBelow n) (tag_signs mark.kind) (tags_in marks from to) (tag_below n mark.kind below.0) rest | false ↦ rest ]
 
 run_below : (n : ℕ) (folded : Option ℕ) (ends : Bool) → SignBelow n (run_sign folded ends)
@@ -124,7 +124,7 @@ run_below n (Some c) ends = tt
 run_below n None true = tt
 run_below n None false = tt
 
-choice_below : (n : ℕ) (text removed : Bool) (sign : Sign) → SignBelow n sign → SignsBelow n (cond text (sign ∷ []) (cond removed [] (signs.Separator ∷ [])))
+choice_below : (n : ℕ) (text removed : Bool) (sign : TextSign) → SignBelow n sign → SignsBelow n (cond text (sign ∷ []) (cond removed [] (signs.Separator ∷ [])))
 choice_below n true removed sign below = (below, tt)
 choice_below n false true sign below = tt
 choice_below n false false sign below = (tt, tt)
@@ -138,20 +138,20 @@ signs_below n fold marks place (c ∷ cs) below =
     (choice_below n (is_covered is_text marks place end) (is_covered is_removed_tag marks place end) (run_sign (fold c) (is_covered is_sentence_end marks place end)) (run_below n (fold c) (is_covered is_sentence_end marks place end)))
     (signs_below n fold marks end cs below))
 
--- the same of pieces
-abbrev PieceBelow : ℕ → Piece → Type 0
-PieceBelow n (run letters) = Unit {0}
-PieceBelow n (other sign) = SignBelow n sign
+-- the same of segments
+abbrev SegmentBelow : ℕ → Segment → Type 0
+SegmentBelow n (run letters) = Unit {0}
+SegmentBelow n (other sign) = SignBelow n sign
 
-abbrev PiecesBelow : ℕ → List Piece → Type 0
-PiecesBelow n list = AllByRecursion (PieceBelow n) list
+abbrev SegmentsBelow : ℕ → List Segment → Type 0
+SegmentsBelow n list = AllByRecursion (SegmentBelow n) list
 
-letter_below : (n c : ℕ) (list : List Piece) → PiecesBelow n list → PiecesBelow n (with_letter c list)
+letter_below : (n c : ℕ) (list : List Segment) → SegmentsBelow n list → SegmentsBelow n (with_letter c list)
 letter_below n c [] below = (tt, tt)
 letter_below n c (run letters ∷ list) below = (tt, below.1)
 letter_below n c (other sign ∷ list) below = (tt, below)
 
-sign_below : (n : ℕ) (sign : Sign) (list : List Piece) → SignBelow n sign → PiecesBelow n list → PiecesBelow n (with_sign sign list)
+sign_below : (n : ℕ) (sign : TextSign) (list : List Segment) → SignBelow n sign → SegmentsBelow n list → SegmentsBelow n (with_sign sign list)
 sign_below n (signs.Letter c) list below rest = letter_below n c list rest
 sign_below n signs.Separator list below rest = (tt, rest)
 sign_below n signs.Sentence list below rest = (tt, rest)
@@ -159,15 +159,15 @@ sign_below n signs.Paragraph list below rest = (tt, rest)
 sign_below n (signs.Open zone) list below rest = (below, rest)
 sign_below n (signs.Close zone) list below rest = (below, rest)
 
-pieces_below : (n : ℕ) (list : List Sign) → SignsBelow n list → PiecesBelow n (pieces list)
-pieces_below n [] below = tt
-pieces_below n (sign ∷ list) below = sign_below n sign (pieces list) below.0 (pieces_below n list below.1)
+segments_below : (n : ℕ) (list : List TextSign) → SignsBelow n list → SegmentsBelow n (segments list)
+segments_below n [] below = tt
+segments_below n (sign ∷ list) below = sign_below n sign (segments list) below.0 (segments_below n list below.1)
 
 -- and of tags among words
 abbrev TagsBelow : ℕ → List ZoneTag → Type 0
 TagsBelow n tags = AllByRecursion (λ tag. tag.zone < n) tags
 
-tag_of_below : (n words : ℕ) (sign : Sign) → SignBelow n sign → TagsBelow n (tag_of words sign)
+tag_of_below : (n words : ℕ) (sign : TextSign) → SignBelow n sign → TagsBelow n (tag_of words sign)
 tag_of_below n words (signs.Letter c) below = tt
 tag_of_below n words signs.Separator below = tt
 tag_of_below n words signs.Sentence below = tt
@@ -175,15 +175,15 @@ tag_of_below n words signs.Paragraph below = tt
 tag_of_below n words (signs.Open zone) below = (below, tt)
 tag_of_below n words (signs.Close zone) below = (below, tt)
 
-tags_behind_below : (n words : ℕ) (list : List Piece) → PiecesBelow n list → TagsBelow n (tags_behind words list)
-tags_behind_below n words [] below = tt
-tags_behind_below n words (run letters ∷ list) below = tags_behind_below n (words + 1) list below.1
-tags_behind_below n words (other sign ∷ list) below = each_append (λ (t : ZoneTag). t.zone < n) (tag_of words sign) (tags_behind words list) (tag_of_below n words sign below.0) (tags_behind_below n words list below.1)
+tags_after_below : (n words : ℕ) (list : List Segment) → SegmentsBelow n list → TagsBelow n (tags_after words list)
+tags_after_below n words [] below = tt
+tags_after_below n words (run letters ∷ list) below = tags_after_below n (words + 1) list below.1
+tags_after_below n words (other sign ∷ list) below = each_append (λ (t : ZoneTag). t.zone < n) (tag_of words sign) (tags_after words list) (tag_of_below n words sign below.0) (tags_after_below n words list below.1)
 
 -- the tags of a text are those of zones of its rules
-pub tags_of_zones : (fold : ℕ → Option ℕ) (rules : MarkRules) (text : List ℕ) (marks : List Mark) → AreMarks fold rules text marks → All (λ tag. tag.zone < length rules.zones) (tags_behind 0 (pieces_of fold text marks))
+pub tags_of_zones : (fold : ℕ → Option ℕ) (rules : MarkRules) (text : List ℕ) (marks : List Mark) → AreMarks fold rules text marks → All (λ tag. tag.zone < length rules.zones) (tags_after 0 (segments_of fold text marks))
 tags_of_zones fold rules text marks are =
     let n = length rules.zones in
     let below : MarksBelow n marks = subst (MarksBelow n) (sym are.marks_are) (parts_below fold rules 0 [] are.parts) in
-    All-from_recursion (λ (t : ZoneTag). t.zone < n) (tags_behind 0 (pieces_of fold text marks))
-    (tags_behind_below n 0 (pieces_of fold text marks) (pieces_below n (signs_from fold marks 0 (chars text)) (signs_below n fold marks 0 (chars text) below)))
+    All-from_recursion (λ (t : ZoneTag). t.zone < n) (tags_after 0 (segments_of fold text marks))
+    (tags_after_below n 0 (segments_of fold text marks) (segments_below n (signs_from fold marks 0 (chars text)) (signs_below n fold marks 0 (chars text) below)))

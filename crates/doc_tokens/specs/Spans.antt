@@ -1,13 +1,13 @@
 -- Spans: from the tag that opens a zone to the zone's next tag, or to the text's end, where words stand there.
 use Rattle.std.specs.Prelude.{ℕ, ◌+◌, List, [], ◌∷◌, ◌++◌, true, false, ◌==◌, length, if◌then◌else◌, slice_range}
 use Rattle.doc_types.specs.declared.tokens.ZoneSpan.{ZoneSpan}
-use Rattle.doc_tokens.specs.declared.sign.Sign.{Sign}
-use Rattle.doc_tokens.specs.declared.sign.Sign.TheVariants as signs
+use Rattle.doc_tokens.specs.declared.sign.TextSign.{TextSign}
+use Rattle.doc_tokens.specs.declared.sign.TextSign.TheVariants as signs
 use Rattle.doc_tokens.specs.declared.sign.ZoneTag.{ZoneTag}
-use Rattle.doc_tokens.specs.Words.{Piece, run, other}
+use Rattle.doc_tokens.specs.Words.{Segment, run, other}
 
--- the tag of a zone that a sign is, behind so many words
-abbrev pub tag_of : ℕ → Sign → List ZoneTag
+-- the tag of a zone that a sign is, after so many words
+abbrev pub tag_of : ℕ → TextSign → List ZoneTag
 tag_of words (signs.Letter c) = []
 tag_of words signs.Separator = []
 tag_of words signs.Sentence = []
@@ -15,11 +15,11 @@ tag_of words signs.Paragraph = []
 tag_of words (signs.Open zone) = record { zone = zone; opens = true; words = words } ∷ []
 tag_of words (signs.Close zone) = record { zone = zone; opens = false; words = words } ∷ []
 
--- the tags of zones among pieces that stand behind so many words
-abbrev pub tags_behind : ℕ → List Piece → List ZoneTag
-tags_behind words [] = []
-tags_behind words (run letters ∷ pieces) = tags_behind (words + 1) pieces
-tags_behind words (other sign ∷ pieces) = tag_of words sign ++ tags_behind words pieces
+-- the tags of zones among segments that stand after so many words
+abbrev pub tags_after : ℕ → List Segment → List ZoneTag
+tags_after words [] = []
+tags_after words (run letters ∷ segments) = tags_after (words + 1) segments
+tags_after words (other sign ∷ segments) = tag_of words sign ++ tags_after words segments
 
 -- how many words stand before the end of an open zone: before its first tag among these, or all of the text
 abbrev pub zone_end : ℕ → ℕ → List ZoneTag → ℕ

@@ -1,14 +1,14 @@
 ghost use Rattle.std.specs.Prelude.{◌≡◌, List, [], ◌∷◌, ◌++◌};
 ghost use Rattle.charset_map.specs.Spans.{folded};
 ghost use Rattle.mark_scan.specs.declared.mark.Mark.{Mark};
-ghost use Rattle.doc_tokens.specs.Signs.{run_sign};
-ghost use Rattle.doc_tokens.specs.Reading.{IsCover, sign_by, tag_sign};
+ghost use Rattle.doc_tokens.specs.TextSigns.{run_sign};
+ghost use Rattle.doc_tokens.specs.steps.TokenReader.{IsCover, sign_by, tag_sign};
 
-use crate::sign::Sign;
+use crate::sign::TextSign;
 use charset_map::Charset;
 use mark_scan::{Mark, MarkKind};
 
-/// How far the marks that were passed reach: for each kind the greatest place behind one.
+/// How far the marks that were passed reach: for each kind the greatest place after one.
 #[derive(Clone, Copy, Debug)]
 pub(crate) struct Cover {
     pub text: u32,
@@ -50,7 +50,7 @@ impl Cover {
     }
 
     /// What a character at a place is.
-    pub fn sign(self, charset: &Charset, place: u32, c: char) -> Option<Sign>
+    pub fn sign(self, charset: &Charset, place: u32, c: char) -> Option<TextSign>
         ensures { result ≡ sign_by (folded charset.now) self place c }
     {
         if place < self.text {
@@ -58,35 +58,35 @@ impl Cover {
         } else if place < self.removed {
             None
         } else {
-            Some(Sign::Separator)
+            Some(TextSign::Separator)
         }
     }
 }
 
 /// What a character of a text run is.
-fn in_run(folded: Option<char>, ends: bool) -> Sign
+fn in_run(folded: Option<char>, ends: bool) -> TextSign
     ensures { result ≡ run_sign folded ends }
 {
     match folded {
-        Some(letter) => Sign::Letter(letter),
+        Some(letter) => TextSign::Letter(letter),
         None => {
             if ends {
-                Sign::Sentence
+                TextSign::Sentence
             } else {
-                Sign::Separator
+                TextSign::Separator
             }
         }
     }
 }
 
 /// What the tag of a mark is.
-pub(crate) fn tag_sign_of(kind: MarkKind) -> Option<Sign>
+pub(crate) fn tag_sign_of(kind: MarkKind) -> Option<TextSign>
     ensures { result ≡ tag_sign kind }
 {
     match kind {
         MarkKind::Text | MarkKind::Inline | MarkKind::Sentence => None,
-        MarkKind::Paragraph => Some(Sign::Paragraph),
-        MarkKind::Open(zone) => Some(Sign::Open(zone)),
-        MarkKind::Close(zone) => Some(Sign::Close(zone)),
+        MarkKind::Paragraph => Some(TextSign::Paragraph),
+        MarkKind::Open(zone) => Some(TextSign::Open(zone)),
+        MarkKind::Close(zone) => Some(TextSign::Close(zone)),
     }
 }

@@ -10,4 +10,4 @@ mod spans;
 mod walk;
 
 pub use field::{TooLong, tokens};
-pub use laws::{a_text_has_one_answer, pieces_are_maximal_runs};
+pub use laws::{a_text_has_one_answer, segments_are_maximal_runs};

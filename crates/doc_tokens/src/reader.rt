@@ -4,7 +4,7 @@ ghost use Rattle.doc_tokens.specs.Words.{end_of, stronger};
 ghost use Rattle.doc_tokens.specs.Spans.{tag_of};
 
 use crate::field::TooLong;
-use crate::sign::{Sign, ZoneTag};
+use crate::sign::{TextSign, ZoneTag};
 use doc_types::{Gap, MAX_POSITION, MAX_WORD_CHARS, TokenWord};
 use srch_base::{NoMemory, Or, Word};
 use std::alloc::Global;
@@ -32,32 +32,32 @@ pub(crate) struct Reader {
 }
 
 /// The boundary that a sign makes.
-fn end(sign: Sign) -> Gap
+fn end(sign: TextSign) -> Gap
     ensures { result ≡ end_of sign }
 {
     match sign {
-        Sign::Sentence => Gap::Sentence,
-        Sign::Paragraph => Gap::Paragraph,
-        Sign::Letter(_) | Sign::Separator | Sign::Open(_) | Sign::Close(_) => Gap::None,
+        TextSign::Sentence => Gap::Sentence,
+        TextSign::Paragraph => Gap::Paragraph,
+        TextSign::Letter(_) | TextSign::Separator | TextSign::Open(_) | TextSign::Close(_) => Gap::None,
     }
 }
 
-/// The tag of a zone that a sign is, behind so many words.
-fn zone_tag(sign: Sign, words: usize) -> Option<ZoneTag>
+/// The tag of a zone that a sign is, after so many words.
+fn zone_tag(sign: TextSign, words: usize) -> Option<ZoneTag>
     ensures { option_to_list result ≡ tag_of words sign }
 {
     match sign {
-        Sign::Open(zone) => Some(ZoneTag {
+        TextSign::Open(zone) => Some(ZoneTag {
             zone,
             opens: true,
             words,
         }),
-        Sign::Close(zone) => Some(ZoneTag {
+        TextSign::Close(zone) => Some(ZoneTag {
             zone,
             opens: false,
             words,
         }),
-        Sign::Letter(_) | Sign::Separator | Sign::Sentence | Sign::Paragraph => None,
+        TextSign::Letter(_) | TextSign::Separator | TextSign::Sentence | TextSign::Paragraph => None,
     }
 }
 
@@ -86,11 +86,11 @@ fn stronger_of(first: Gap, second: Gap) -> Gap
 }
 
 impl Reader {
-    ghost use Rattle.doc_tokens.specs.Reading.{gap_behind, Wants, Holds, BeginApart, ReadsSign, EndsRun, Finds};
+    ghost use Rattle.doc_tokens.specs.steps.TokenReader.{gap_after, Wants, Holds, BeginApart, ReadsSign, EndsRun, Finds};
 
     /// Nothing was read.
     pub fn new(alloc: Global) -> Result<Reader, NoMemory>
-        ensures { IfOk result (λ reader. (all : List Sign) → Wants all reader all) }
+        ensures { IfOk result (λ reader. (all : List TextSign) → Wants all reader all) }
     {
         Ok(Reader {
             found: Found {
@@ -105,15 +105,15 @@ impl Reader {
     }
 
     /// Reads one more sign.
-    pub fn read(&mut self, alloc: Global, sign: Sign) -> Result<(), Or<TooLong>>
+    pub fn read(&mut self, alloc: Global, sign: TextSign) -> Result<(), Or<TooLong>>
         ensures { ReadsSign self.old sign self.new result }
     {
         match sign {
-            Sign::Letter(letter) => {
+            TextSign::Letter(letter) => {
                 self.letter(letter)?;
                 Ok(())
             }
-            Sign::Separator | Sign::Sentence | Sign::Paragraph | Sign::Open(_) | Sign::Close(_) => {
+            TextSign::Separator | TextSign::Sentence | TextSign::Paragraph | TextSign::Open(_) | TextSign::Close(_) => {
                 self.end_run(alloc)?;
                 self.put(sign)?;
                 Ok(())
@@ -123,7 +123,7 @@ impl Reader {
 
     /// A letter joins the run.
     fn letter(&mut self, letter: char) -> Result<(), NoMemory>
-        ensures { OnOk result ((all : List Sign) (letters : List ℕ) (rest : List Sign) → Holds all self.old letters (Sign.Letter letter ∷ rest) → Holds all self.new (letters ++ letter ∷ []) rest) }
+        ensures { OnOk result ((all : List TextSign) (letters : List ℕ) (rest : List TextSign) → Holds all self.old letters (TextSign.Letter letter ∷ rest) → Holds all self.new (letters ++ letter ∷ []) rest) }
     {
         if self.letters < MAX_WORD_CHARS {
             self.run.push(letter)?;
@@ -134,7 +134,7 @@ impl Reader {
 
     /// The boundary before the next word.
     fn gap_before(&self) -> Gap
-        ensures { result ≡ gap_behind self.now.position self.now.gap }
+        ensures { result ≡ gap_after self.now.position self.now.gap }
     {
         if self.position == 0 {
             Gap::None
@@ -169,9 +169,9 @@ impl Reader {
     }
 
     /// A sign that is no letter stands between two words.
-    fn put(&mut self, sign: Sign) -> Result<(), NoMemory>
+    fn put(&mut self, sign: TextSign) -> Result<(), NoMemory>
         requires { BeginApart (sign ∷ []) }
-        ensures { OnOk result ((all rest : List Sign) → Holds all self.old [] (sign ∷ rest) → Holds all self.new [] rest) }
+        ensures { OnOk result ((all rest : List TextSign) → Holds all self.old [] (sign ∷ rest) → Holds all self.new [] rest) }
     {
         let tag = zone_tag(sign, self.found.words.len());
         push_tag(&mut self.found.tags, tag)?;
@@ -181,7 +181,7 @@ impl Reader {
 
     /// The text ends here.
     pub fn finish(mut self, alloc: Global) -> Result<Found, Or<TooLong>>
-        ensures { (all : List Sign) → Wants all self [] → Finds all result }
+        ensures { (all : List TextSign) → Wants all self [] → Finds all result }
     {
         self.end_run(alloc)?;
         let Reader {

@@ -1,6 +1,6 @@
 /// What a character of a text, or a tag in it, is to the words of the text.
 #[derive(Clone, Copy, Debug, PartialEq, Eq)]
-pub enum Sign {
+pub enum TextSign {
     /// A character of the table in a text run, folded.
     Letter(char),
     /// Any other character that separates words.

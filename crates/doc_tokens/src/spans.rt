@@ -1,14 +1,14 @@
 ghost use Rattle.std.specs.Prelude.{◌≡◌, ◌<◌, ◌≤◌, [], ◌∷◌, All, IfOk, OnOk, length, map, option_to_list};
 ghost use Rattle.doc_tokens.specs.Tokens.{AreSpans};
 ghost use Rattle.doc_tokens.specs.Spans.{span_within};
-ghost use Rattle.doc_tokens.specs.Reading.{Descend, IsPlaceFor, PutsSpans};
+ghost use Rattle.doc_tokens.specs.steps.TokenReader.{Descend, IsPlaceFor, PutsSpans};
 
 use crate::sign::ZoneTag;
 use doc_types::{MAX_ZONES, TokenWord, ZoneSpan};
 use srch_base::NoMemory;
 use std::alloc::Global;
 
-/// Where a span goes in a list in which each precedes those before it: behind all that it precedes.
+/// Where a span goes in a list in which each precedes those before it: after all that it precedes.
 fn place_for(spans: &[ZoneSpan], span: ZoneSpan) -> usize
     ensures within { result ≤ length spans.now }
     ensures place { IsPlaceFor spans.now span result }

@@ -2,13 +2,13 @@ ghost use Rattle.std.specs.Prelude.{◌≡◌, ◌<◌, ◌≤◌, ◌^◌, ◌+
 ghost use Rattle.std.specs.Char.{encode_utf8};
 ghost use Rattle.std.specs.Str.{IsUtf8, chars};
 ghost use Rattle.charset_map.specs.Spans.{folded};
-ghost use Rattle.doc_tokens.specs.Signs.{signs_from};
-ghost use Rattle.doc_tokens.specs.Reading.{ReadsSome, Ordered, BeginFrom, IsNext, PassesMarks, Finds};
+ghost use Rattle.doc_tokens.specs.TextSigns.{signs_from};
+ghost use Rattle.doc_tokens.specs.steps.TokenReader.{ReadsSome, Ordered, BeginFrom, IsNext, PassesMarks, Finds};
 
 use crate::cover::{Cover, tag_sign_of};
 use crate::field::TooLong;
 use crate::reader::{Found, Reader};
-use crate::sign::Sign;
+use crate::sign::TextSign;
 use charset_map::Charset;
 use mark_scan::Mark;
 use srch_base::Or;
@@ -22,7 +22,7 @@ struct Passed {
     cover: Cover,
 }
 
-/// The first character of a text, and the text behind it.
+/// The first character of a text, and the text after it.
 fn first_char(text: &str) -> Option<(char, &str)>
     ensures next { MatchOption result (text.now ≡ []) (λ first. text.now ≡ encode_utf8 first.0 ++ first.1.now) }
     ensures utf8 { MatchOption result (IsUtf8 text.now) (λ first. IsUtf8 first.1.now) }
@@ -47,7 +47,7 @@ fn next_before(marks: &[Mark], next: usize, place: u32) -> Option<Mark>
 }
 
 /// Reads a sign, if there is one.
-fn read_some(reader: &mut Reader, alloc: Global, sign: Option<Sign>) -> Result<(), Or<TooLong>>
+fn read_some(reader: &mut Reader, alloc: Global, sign: Option<TextSign>) -> Result<(), Or<TooLong>>
     ensures { ReadsSome reader.old (option_to_list sign) reader.new result }
 {
     match sign {
@@ -99,12 +99,12 @@ pub(crate) fn read_text(
     'chars: loop {
         match first_char(rest) {
             None => return reader.finish(alloc),
-            Some((c, behind)) => {
+            Some((c, beyond)) => {
                 let end = place + c.len_utf8() as u32;
                 passed = pass_marks(&mut reader, alloc, marks, passed, end)?;
                 read_some(&mut reader, alloc, passed.cover.sign(charset, place, c))?;
                 place = end;
-                rest = behind;
+                rest = beyond;
             }
         }
     }

@@ -3,7 +3,7 @@ use Rattle.std.proofs.Common.{◌≡◌, ℕ, ◌+◌, ◌<◌, List, length, ge
 use Rattle.std.proofs.lemmas.List.{drop-drop, get_or_past}
 use Rattle.std.proofs.lemmas.Bool.{cases_lt}
 use Rattle.mark_scan.specs.Markup.{EndsComment, BeginsComment, BeginsTag, BeginsMarkup, by_comment, by_tag}
-use Rattle.mark_scan.specs.Reading.{Rules, Begins}
+use Rattle.mark_scan.specs.steps.Scanning.{Rules, Begins}
 use Rattle.mark_scan.specs.declared.markup.Found.{Found}
 use Rattle.mark_scan.specs.declared.markup.Found.TheVariants as founds
 use Rattle.mark_scan.specs.declared.markup.Ends.{Ends}
@@ -19,22 +19,22 @@ markup_opens text (by_comment end begins) = begins.opens
 markup_opens text (by_tag from to last begins) = begins.opens
 
 -- the byte at a place of what follows a front
-pub byte_behind : (n : ℕ) (text : List ℕ) (k : ℕ) → get_or (drop n text) k 0 ≡ get_or text (n + k) 0
-byte_behind n text k = get_or-drop n text k 0
+pub byte_after : (n : ℕ) (text : List ℕ) (k : ℕ) → get_or (drop n text) k 0 ≡ get_or text (n + k) 0
+byte_after n text k = get_or-drop n text k 0
 
--- `-->` behind a front is one of the text
-pub ends_behind : (n : ℕ) (text : List ℕ) (k : ℕ) → EndsComment (drop n text) k → EndsComment text (n + k)
-ends_behind n text k ends = record {
-  first = sym (byte_behind n text k) ∙ ends.first;
-  second = ap (λ i. get_or text i 0) (omega arith) ∙ sym (byte_behind n text (k + 1)) ∙ ends.second;
-  third = ap (λ i. get_or text i 0) (omega arith) ∙ sym (byte_behind n text (k + 2)) ∙ ends.third;
+-- `-->` after a front is one of the text
+pub ends_after : (n : ℕ) (text : List ℕ) (k : ℕ) → EndsComment (drop n text) k → EndsComment text (n + k)
+ends_after n text k ends = record {
+  first = sym (byte_after n text k) ∙ ends.first;
+  second = ap (λ i. get_or text i 0) (omega arith) ∙ sym (byte_after n text (k + 1)) ∙ ends.second;
+  third = ap (λ i. get_or text i 0) (omega arith) ∙ sym (byte_after n text (k + 2)) ∙ ends.third;
 }
 
--- what doesn't follow in a text doesn't follow behind a front of it
-pub rules_behind : (ends : Ends) (text : List ℕ) (n : ℕ) → Rules ends text → Rules ends (drop n text)
-rules_behind ends text n rules = record {
-  tag = λ none k is. rules.tag none (n + k) (sym (byte_behind n text k) ∙ is);
-  comment = λ none k above is. rules.comment none (n + k) (omega arith) (ends_behind n text k is);
+-- what doesn't follow in a text doesn't follow after a front of it
+pub rules_after : (ends : Ends) (text : List ℕ) (n : ℕ) → Rules ends text → Rules ends (drop n text)
+rules_after ends text n rules = record {
+  tag = λ none k is. rules.tag none (n + k) (sym (byte_after n text k) ∙ is);
+  comment = λ none k above is. rules.comment none (n + k) (omega arith) (ends_after n text k is);
 }
 
 -- a front and one byte more
@@ -43,7 +43,7 @@ drop_next n text = drop-drop 1 n text
 
 -- the same one byte further
 pub rules_next : (ends : Ends) (text : List ℕ) (n : ℕ) → Rules ends (drop n text) → Rules ends (drop (n + 1) text)
-rules_next ends text n rules = subst (Rules ends) (drop_next n text) (rules_behind ends (drop n text) 1 rules)
+rules_next ends text n rules = subst (Rules ends) (drop_next n text) (rules_after ends (drop n text) 1 rules)
 
 -- a byte that isn't 0 stands in the text
 pub byte_within : (text : List ℕ) (k : ℕ) → 0 < get_or text k 0 → k < length text

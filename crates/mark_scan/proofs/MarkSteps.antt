@@ -4,44 +4,44 @@ use Rattle.std.specs.Prelude.{Option}
 use Rattle.mark_scan.specs.declared.mark.Mark.{Mark}
 use Rattle.mark_scan.specs.declared.mark.MarkRules.{MarkRules}
 use Rattle.mark_scan.specs.declared.marking.Reader.{Reader}
-use Rattle.mark_scan.specs.Markup.{Part, TagText, comment, tag}
-use Rattle.mark_scan.specs.Marks.{run_before, part_marks, marks_behind}
-use Rattle.mark_scan.specs.Reading.{IsBefore, Keeps, AddsPart}
+use Rattle.mark_scan.specs.Markup.{TextPart, TagText, comment, tag}
+use Rattle.mark_scan.specs.Marks.{run_before, part_marks, marks_after}
+use Rattle.mark_scan.specs.steps.Scanning.{IsBefore, Keeps, AddsTextPart}
 use Rattle.mark_scan.specs.Tags.{is_removed, tag_kinds, span}
 use Rattle.mark_scan.specs.declared.piece.Piece.{Piece}
 
 -- The marks of some parts were made, and these are left: with theirs the list is as wanted.
-pub record Marked (fold : ℕ → Option ℕ) (rules : MarkRules) (parts : List Part) (reader : Reader) (left : List Part) (list : List Mark) : Type 0 where
-  pub before : List Part
+pub record Marked (fold : ℕ → Option ℕ) (rules : MarkRules) (parts : List TextPart) (reader : Reader) (left : List TextPart) (list : List Mark) : Type 0 where
+  pub before : List TextPart
   pub keeps : Keeps rules.sp fold reader.before (run_before rules.zones before)
-  pub marks : list ++ marks_behind fold rules reader.place before left ≡ marks_behind fold rules 0 [] parts
+  pub marks : list ++ marks_after fold rules reader.place before left ≡ marks_after fold rules 0 [] parts
 
 -- one part more
-pub marked_next : (fold : ℕ → Option ℕ) (rules : MarkRules) (parts : List Part) (reader next : Reader) (part : Part) (left : List Part) (list new : List Mark) → Marked fold rules parts reader (part ∷ left) list → AddsPart fold rules reader list part left next new → Marked fold rules parts next left new
+pub marked_next : (fold : ℕ → Option ℕ) (rules : MarkRules) (parts : List TextPart) (reader next : Reader) (part : TextPart) (left : List TextPart) (list new : List Mark) → Marked fold rules parts reader (part ∷ left) list → AddsTextPart fold rules reader list part left next new → Marked fold rules parts next left new
 marked_next fold rules parts reader next part left list new marked adds = record {
   before = part ∷ marked.before;
   keeps = adds.keeps marked.before marked.keeps;
   marks =
-      ap (λ (l : List Mark). l ++ marks_behind fold rules next.place (part ∷ marked.before) left) (adds.marks marked.before marked.keeps)
+      ap (λ (l : List Mark). l ++ marks_after fold rules next.place (part ∷ marked.before) left) (adds.marks marked.before marked.keeps)
       ∙ append_assoc list _ _
-      ∙ ap (λ (p : ℕ). list ++ (part_marks fold rules reader.place marked.before part left ++ marks_behind fold rules p (part ∷ marked.before) left)) adds.place
+      ∙ ap (λ (p : ℕ). list ++ (part_marks fold rules reader.place marked.before part left ++ marks_after fold rules p (part ∷ marked.before) left)) adds.place
       ∙ marked.marks;
 }
 
 -- at the end
-pub marked_end : (fold : ℕ → Option ℕ) (rules : MarkRules) (parts : List Part) (reader : Reader) (list : List Mark) → Marked fold rules parts reader [] list → list ≡ marks_behind fold rules 0 [] parts
+pub marked_end : (fold : ℕ → Option ℕ) (rules : MarkRules) (parts : List TextPart) (reader : Reader) (list : List Mark) → Marked fold rules parts reader [] list → list ≡ marks_after fold rules 0 [] parts
 marked_end fold rules parts reader list marked = sym (append-nil list) ∙ marked.marks
 
--- a comment has no marks, and a run begins behind it
-pub adds_comment : (fold : ℕ → Option ℕ) (rules : MarkRules) (reader : Reader) (old : List Mark) (bytes : List ℕ) (rest : List Part) (next : Reader) → next.place ≡ reader.place + length bytes → IsBefore fold next.before [] → AddsPart fold rules reader old (comment bytes) rest next old
+-- a comment has no marks, and a run begins after it
+pub adds_comment : (fold : ℕ → Option ℕ) (rules : MarkRules) (reader : Reader) (old : List Mark) (bytes : List ℕ) (rest : List TextPart) (next : Reader) → next.place ≡ reader.place + length bytes → IsBefore fold next.before [] → AddsTextPart fold rules reader old (comment bytes) rest next old
 adds_comment fold rules reader old bytes rest next place starts = record {
   place = place;
   marks = λ before keeps. sym (append-nil old);
   keeps = λ before keeps sp. starts;
 }
 
--- a tag that isn't removed has its marks, and a run begins behind it
-pub adds_kept : (fold : ℕ → Option ℕ) (rules : MarkRules) (reader : Reader) (old : List Mark) (t : TagText) (rest : List Part) (next : Reader) (new : List Mark) → next.place ≡ reader.place + length t.text → IsBefore fold next.before [] → is_removed rules.zones t.name ≡ false → new ≡ old ++ map (span reader.place (reader.place + length t.text)) (tag_kinds rules.sp rules.zones t) → AddsPart fold rules reader old (tag t) rest next new
+-- a tag that isn't removed has its marks, and a run begins after it
+pub adds_kept : (fold : ℕ → Option ℕ) (rules : MarkRules) (reader : Reader) (old : List Mark) (t : TagText) (rest : List TextPart) (next : Reader) (new : List Mark) → next.place ≡ reader.place + length t.text → IsBefore fold next.before [] → is_removed rules.zones t.name ≡ false → new ≡ old ++ map (span reader.place (reader.place + length t.text)) (tag_kinds rules.sp rules.zones t) → AddsTextPart fold rules reader old (tag t) rest next new
 adds_kept fold rules reader old t rest next new place starts kept is = record {
   place = place;
   marks = λ before keeps. is;

@@ -7,7 +7,7 @@ use Rattle.std.proofs.lemmas.Str.{chars_past_char, chars-append}
 use Rattle.std.proofs.lemmas.List.{reverse-append}
 use Rattle.mark_scan.specs.declared.mark.Mark.{Mark}
 use Rattle.mark_scan.specs.declared.sentences.Before.{Before}
-use Rattle.mark_scan.specs.Reading.{IsBefore}
+use Rattle.mark_scan.specs.steps.Scanning.{IsBefore}
 use Rattle.mark_scan.specs.Sentences.{ends_sentence, sentence_mark, sentence_marks}
 
 -- Some characters of a text were looked at, and these are left: with the marks of those the list is as wanted.
@@ -43,16 +43,16 @@ pub reached_end : (fold : ℕ → Option ℕ) (after : List ℕ) (from : ℕ) (t
 reached_end fold after from text seen old state place list reached = (sym (append-nil list) ∙ reached.marks, subst (IsBefore fold state) reached.same_end reached.is_before)
 
 -- one character more of a text that is left
-pub reached_step : (fold : ℕ → Option ℕ) (after : List ℕ) (from : ℕ) (text seen : List ℕ) (old : List Mark) (state next : Before) (place place' : ℕ) (c : ℕ) (rest behind : List ℕ) (list new : List Mark) (ends : Bool)
-    → IsUtf8 rest → rest ≡ encode_utf8 c ++ behind → IsUtf8 behind
+pub reached_step : (fold : ℕ → Option ℕ) (after : List ℕ) (from : ℕ) (text seen : List ℕ) (old : List Mark) (state next : Before) (place place' : ℕ) (c : ℕ) (rest beyond : List ℕ) (list new : List Mark) (ends : Bool)
+    → IsUtf8 rest → rest ≡ encode_utf8 c ++ beyond → IsUtf8 beyond
     → Reached fold (chars after) from text seen old state place (chars rest) list
     → ((now : List ℕ) → IsBefore fold state now → IsBefore fold next (c ∷ now))
-    → ((now : List ℕ) → IsBefore fold state now → ends ≡ ends_sentence fold now c (chars (behind ++ after)))
+    → ((now : List ℕ) → IsBefore fold state now → ends ≡ ends_sentence fold now c (chars (beyond ++ after)))
     → place' ≡ place + len_utf8 c
     → new ≡ list ++ sentence_mark ends place
-    → Reached fold (chars after) from text seen old next place' (chars behind) new
-reached_step fold after from text seen old state next place place' c rest behind list new ends utf8 is behind_utf8 reached next_is ends_is place_is new_is =
-    let turned = subst (λ (l : List ℕ). Reached fold (chars after) from text seen old state place l list) (chars_past_char rest behind c utf8 is) reached in
-    let ending = ends_is turned.now turned.is_before ∙ ap (λ (l : List ℕ). ends_sentence fold turned.now c l) (chars-append behind after behind_utf8) in
-    subst (λ (p : ℕ). Reached fold (chars after) from text seen old next p (chars behind) new) (sym place_is)
-    (reached_next fold (chars after) from text seen old state next place c (chars behind) list new turned (next_is turned.now turned.is_before) (new_is ∙ ap (λ (b : Bool). list ++ sentence_mark b place) ending))
+    → Reached fold (chars after) from text seen old next place' (chars beyond) new
+reached_step fold after from text seen old state next place place' c rest beyond list new ends utf8 is after_utf8 reached next_is ends_is place_is new_is =
+    let turned = subst (λ (l : List ℕ). Reached fold (chars after) from text seen old state place l list) (chars_past_char rest beyond c utf8 is) reached in
+    let ending = ends_is turned.now turned.is_before ∙ ap (λ (l : List ℕ). ends_sentence fold turned.now c l) (chars-append beyond after after_utf8) in
+    subst (λ (p : ℕ). Reached fold (chars after) from text seen old next p (chars beyond) new) (sym place_is)
+    (reached_next fold (chars after) from text seen old state next place c (chars beyond) list new turned (next_is turned.now turned.is_before) (new_is ∙ ap (λ (b : Bool). list ++ sentence_mark b place) ending))

@@ -5,8 +5,8 @@ use Rattle.std.specs.Char.{is_ascii_alphabetic}
 use Rattle.std.proofs.lemmas.Bool.{cases_lt}
 use Rattle.mark_scan.specs.declared.mark.Mark.{Mark}
 use Rattle.mark_scan.specs.declared.mark.MarkRules.{MarkRules}
-use Rattle.mark_scan.specs.Markup.{BeginsComment, BeginsTag, by_comment, by_tag, TagText, BeginsWith, BeginsPlain, BeginsWithTag, Part, plain, comment, tag, part_bytes, Splits, AreParts}
-use Rattle.mark_scan.specs.Marks.{PartsBy, IsWhole, AreMarks, marks_behind}
+use Rattle.mark_scan.specs.Markup.{BeginsComment, BeginsTag, by_comment, by_tag, TagText, BeginsWith, BeginsPlain, BeginsWithTag, TextPart, plain, comment, tag, part_bytes, Splits, AreParts}
+use Rattle.mark_scan.specs.Marks.{PartsBy, IsWhole, AreMarks, marks_after}
 use Rattle.mark_scan.proofs.Cuts.{part_some, part_within}
 
 -- two numbers, neither of which is below the other, are one
@@ -25,18 +25,18 @@ plain_unique text a b first second =
 
 comment_unique : (text : List ℕ) (m n : ℕ) → BeginsComment text m → BeginsComment text n → m ≡ n
 comment_unique text m n first second =
-    neither_below m n (λ below. second.next m first.behind below first.ends) (λ below. first.next n second.behind below second.ends)
+    neither_below m n (λ below. second.next m first.opened below first.ends) (λ below. first.next n second.opened below second.ends)
 
--- what stands behind `<` and isn't `/` is a letter
+-- what stands after `<` and isn't `/` is a letter
 no_letter : (text : List ℕ) (b : ℕ) → is_ascii_alphabetic b ≡ false → get_or text 1 0 ≡ b → IsTrue (is_ascii_alphabetic (get_or text 1 0)) → ⊥
 no_letter text b other is letter = let same = ap is_ascii_alphabetic is in cc
 
 tag_from : (text : List ℕ) (from to last from' to' last' : ℕ) → BeginsTag text from to last → BeginsTag text from' to' last' → from ≡ from'
 tag_from text from to last from' to' last' first second =
     ⊎_elim
-    (λ one. ⊎_elim (λ one'. omega arith) (λ two'. absurd (no_letter text 47 refl two'.1 (subst (λ (n : ℕ). IsTrue (is_ascii_alphabetic (get_or text n 0))) one first.letter))) second.behind)
-    (λ two. ⊎_elim (λ one'. absurd (no_letter text 47 refl two.1 (subst (λ (n : ℕ). IsTrue (is_ascii_alphabetic (get_or text n 0))) one' second.letter))) (λ two'. omega (arith, two.0, two'.0)) second.behind)
-    first.behind
+    (λ one. ⊎_elim (λ one'. omega arith) (λ two'. absurd (no_letter text 47 refl two'.1 (subst (λ (n : ℕ). IsTrue (is_ascii_alphabetic (get_or text n 0))) one first.letter))) second.slash)
+    (λ two. ⊎_elim (λ one'. absurd (no_letter text 47 refl two.1 (subst (λ (n : ℕ). IsTrue (is_ascii_alphabetic (get_or text n 0))) one' second.letter))) (λ two'. omega (arith, two.0, two'.0)) second.slash)
+    first.slash
 
 -- a name doesn't end before another that begins at its place
 tag_to_below : (text : List ℕ) (from to last from' to' last' : ℕ) → BeginsTag text from to last → BeginsTag text from' to' last' → from ≡ from' → to < to' → ⊥
@@ -53,7 +53,7 @@ comment_no_tag text end from to last first second =
     ⊎_elim
     (λ one. no_letter text 33 refl first.bang (subst (λ (n : ℕ). IsTrue (is_ascii_alphabetic (get_or text n 0))) one second.letter))
     (λ two. omega (arith, two.1, first.bang))
-    second.behind
+    second.slash
 
 tag_unique : (text : List ℕ) (s t : TagText) → BeginsWithTag text s → BeginsWithTag text t → s ≡ t
 tag_unique text s t first second =
@@ -67,7 +67,7 @@ tag_unique text s t first second =
     λ i. record { text = text_is i; name = name_is i; closing = closing_is i; empty = empty_is i }
 
 -- a text begins with one part
-part_unique : (text : List ℕ) (p q : Part) → BeginsWith text p → BeginsWith text q → p ≡ q
+part_unique : (text : List ℕ) (p q : TextPart) → BeginsWith text p → BeginsWith text q → p ≡ q
 part_unique text (plain a) (plain b) first second = ap plain (plain_unique text a b first second)
 part_unique text (plain a) (comment b) first second = absurd (first.none 0 first.some (by_comment second.end second.begins))
 part_unique text (plain a) (tag t) first second = absurd (first.none 0 first.some (by_tag second.from second.to second.last second.begins))
@@ -80,28 +80,28 @@ part_unique text (tag s) (comment b) first second = absurd (comment_no_tag text 
 part_unique text (tag s) (tag t) first second = ap tag (tag_unique text s t first second)
 
 -- an empty text has no part
-no_part : (part : Part) → BeginsWith [] part → ⊥
+no_part : (part : TextPart) → BeginsWith [] part → ⊥
 no_part part begins = omega (arith, part_some [] part begins, part_within [] part begins)
 
 -- a text has one list of parts
-parts_unique : (text : List ℕ) (ps qs : List Part) → AreParts text ps → AreParts text qs → ps ≡ qs
+parts_unique : (text : List ℕ) (ps qs : List TextPart) → AreParts text ps → AreParts text qs → ps ≡ qs
 parts_unique text [] [] first second = refl
 parts_unique text [] (q ∷ qs) first second = absurd (no_part q (subst (λ (s : List ℕ). BeginsWith s q) (sym first) second.0))
 parts_unique text (p ∷ ps) [] first second = absurd (no_part p (subst (λ (s : List ℕ). BeginsWith s p) (sym second) first.0))
 parts_unique text (p ∷ ps) (q ∷ qs) first second =
     let same = part_unique text p q first.0 second.0 in
-    let rest = parts_unique (drop (length (part_bytes p)) text) ps qs first.1 (subst (λ (r : Part). Splits (drop (length (part_bytes r)) text) qs []) (sym same) second.1) in
+    let rest = parts_unique (drop (length (part_bytes p)) text) ps qs first.1 (subst (λ (r : TextPart). Splits (drop (length (part_bytes r)) text) qs []) (sym same) second.1) in
     λ i. same i ∷ rest i
 
-whole_unique : (text : List ℕ) (ps qs : List Part) → IsWhole text ps → IsWhole text qs → ps ≡ qs
+whole_unique : (text : List ℕ) (ps qs : List TextPart) → IsWhole text ps → IsWhole text qs → ps ≡ qs
 whole_unique [] ps qs first second = first ∙ sym second
 whole_unique (b ∷ bytes) ps qs first second = first ∙ sym second
 
-by_unique : (strip : Bool) (text : List ℕ) (ps qs : List Part) → PartsBy strip text ps → PartsBy strip text qs → ps ≡ qs
+by_unique : (strip : Bool) (text : List ℕ) (ps qs : List TextPart) → PartsBy strip text ps → PartsBy strip text qs → ps ≡ qs
 by_unique true text ps qs first second = parts_unique text ps qs first second
 by_unique false text ps qs first second = whole_unique text ps qs first second
 
 -- a text has one list of marks
 pub marks_unique : (fold : ℕ → Option ℕ) (rules : MarkRules) (text : List ℕ) (ms ns : List Mark) → AreMarks fold rules text ms → AreMarks fold rules text ns → ms ≡ ns
 marks_unique fold rules text ms ns first second =
-    first.marks_are ∙ ap (λ (ps : List Part). marks_behind fold rules 0 [] ps) (by_unique rules.strip text first.parts second.parts first.are second.are) ∙ sym second.marks_are
+    first.marks_are ∙ ap (λ (ps : List TextPart). marks_after fold rules 0 [] ps) (by_unique rules.strip text first.parts second.parts first.are second.are) ∙ sym second.marks_are

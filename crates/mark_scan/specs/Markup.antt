@@ -18,15 +18,15 @@ pub record BeginsComment (text : List ℕ) (end : ℕ) : Type 0 where
   pub bang : slice_index text 1 ≡ 33
   pub first : slice_index text 2 ≡ 45
   pub second : slice_index text 3 ≡ 45
-  pub behind : 4 ≤ end
+  pub opened : 4 ≤ end
   pub ends : EndsComment text end
   pub next : (k : ℕ) → 4 ≤ k → k < end → EndsComment text k → ⊥
 
 -- The text begins with a tag: `<`, or `</`, a name from the place `from` to the place `to`, whose first byte is a letter
--- and behind which no further byte of a name stands, and then the next `>`, at the place `last`.
+-- and after which no further byte of a name stands, and then the next `>`, at the place `last`.
 pub record BeginsTag (text : List ℕ) (from to last : ℕ) : Type 0 where
   pub opens : slice_index text 0 ≡ 60
-  pub behind : (from ≡ 1) ⊎ ((from ≡ 2) × (slice_index text 1 ≡ 47))
+  pub slash : (from ≡ 1) ⊎ ((from ≡ 2) × (slice_index text 1 ≡ 47))
   pub letter : IsTrue (is_ascii_alphabetic (slice_index text from))
   pub some : from < to
   pub name : (k : ℕ) → from ≤ k → k < to → IsTrue (is_name_byte (slice_index text k))
@@ -50,12 +50,12 @@ pub record TagText : Type 0 where
   pub empty : Bool
 
 -- a part of a text
-pub data Part : Type 0 where
-  plain : List ℕ → Part
-  comment : List ℕ → Part
-  tag : TagText → Part
+pub data TextPart : Type 0 where
+  plain : List ℕ → TextPart
+  comment : List ℕ → TextPart
+  tag : TagText → TextPart
 
--- The text begins with this plain text: no markup begins at any of its bytes, and behind it markup begins or the text ends.
+-- The text begins with this plain text: no markup begins at any of its bytes, and after it markup begins or the text ends.
 pub record BeginsPlain (text plain : List ℕ) : Type 0 where
   pub some : 0 < length plain
   pub front : plain ≡ take (length plain) text
@@ -80,22 +80,22 @@ pub record BeginsWithTag (text : List ℕ) (tag : TagText) : Type 0 where
   pub empty : tag.empty ≡ (slice_index text (last - 1) == 47)
 
 -- The text begins with this part.
-abbrev pub BeginsWith : List ℕ → Part → Type 0
+abbrev pub BeginsWith : List ℕ → TextPart → Type 0
 BeginsWith text (plain bytes) = BeginsPlain text bytes
 BeginsWith text (comment bytes) = BeginsWithComment text bytes
 BeginsWith text (tag t) = BeginsWithTag text t
 
 -- the bytes of a part
-abbrev pub part_bytes : Part → List ℕ
+abbrev pub part_bytes : TextPart → List ℕ
 part_bytes (plain bytes) = bytes
 part_bytes (comment bytes) = bytes
 part_bytes (tag t) = t.text
 
 -- From its front the text is these parts, one after the other, and then the rest.
-abbrev pub Splits : List ℕ → List Part → List ℕ → Type 0
+abbrev pub Splits : List ℕ → List TextPart → List ℕ → Type 0
 Splits text [] rest = rest ≡ text
 Splits text (part ∷ parts) rest = BeginsWith text part × Splits (drop (length (part_bytes part)) text) parts rest
 
 -- These are the parts of a text.
-abbrev pub AreParts : List ℕ → List Part → Type 0
+abbrev pub AreParts : List ℕ → List TextPart → Type 0
 AreParts text parts = Splits text parts []

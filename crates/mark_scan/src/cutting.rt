@@ -1,7 +1,7 @@
 ghost use Rattle.std.specs.Prelude.{◌≡◌, ◌<◌, ◌+◌, ℕ, length, slice_index, take, drop, IfOk};
 ghost use Rattle.std.specs.Str.{IsUtf8};
 ghost use Rattle.mark_scan.specs.Markup.{BeginsComment, BeginsTag, BeginsMarkup};
-ghost use Rattle.mark_scan.specs.Reading.{Rules, Begins, IsCut, ArePieces, AreUtf8};
+ghost use Rattle.mark_scan.specs.steps.Scanning.{Rules, Begins, IsCut, ArePieces, AreUtf8};
 
 use crate::markup::{Ends, Found, TagPlaces, next_markup};
 use crate::piece::{Piece, Tag};
@@ -20,8 +20,8 @@ fn cut_before(text: &str, place: usize) -> (&str, &str)
     text.split_at(place)
 }
 
-/// Cuts a text behind an ASCII byte.
-fn cut_behind(text: &str, place: usize) -> (&str, &str)
+/// Cuts a text after an ASCII byte.
+fn cut_after(text: &str, place: usize) -> (&str, &str)
     requires within { place < length text.now }
     requires ascii { slice_index text.now place < 128 }
     ensures front { result.0.now ≡ take (place + 1) text.now }
@@ -45,16 +45,16 @@ fn plain_piece<'a>(text: &'a str, place: usize) -> (Piece<'a>, &'a str)
     (Piece::Plain(front), rest)
 }
 
-/// Cuts a text behind the comment that it begins with.
+/// Cuts a text after the comment that it begins with.
 fn comment_piece<'a>(text: &'a str, end: usize) -> (Piece<'a>, &'a str)
     requires { BeginsComment text.now end }
     ensures { IsCut text.now result.0 result.1.now }
 {
-    let (front, rest) = cut_behind(text, end + 2);
+    let (front, rest) = cut_after(text, end + 2);
     (Piece::Comment(front), rest)
 }
 
-/// Cuts a text behind the tag that it begins with.
+/// Cuts a text after the tag that it begins with.
 fn tag_piece<'a>(text: &'a str, places: TagPlaces) -> (Piece<'a>, &'a str)
     requires { BeginsTag text.now places.from places.to places.last }
     ensures { IsCut text.now result.0 result.1.now }
@@ -62,7 +62,7 @@ fn tag_piece<'a>(text: &'a str, places: TagPlaces) -> (Piece<'a>, &'a str)
     let bytes = text.as_bytes();
     let name = &bytes[places.from..places.to];
     let empty = bytes[places.last - 1] == b'/';
-    let (front, rest) = cut_behind(text, places.last);
+    let (front, rest) = cut_after(text, places.last);
     let tag = Tag {
         text: front,
         name,
@@ -72,7 +72,7 @@ fn tag_piece<'a>(text: &'a str, places: TagPlaces) -> (Piece<'a>, &'a str)
     (Piece::Tag(tag), rest)
 }
 
-/// Cuts a text behind the markup that it begins with.
+/// Cuts a text after the markup that it begins with.
 fn markup_piece<'a>(text: &'a str, found: Found) -> (Piece<'a>, &'a str)
     requires { Begins text.now found }
     ensures { IsCut text.now result.0 result.1.now }
@@ -83,7 +83,7 @@ fn markup_piece<'a>(text: &'a str, found: Found) -> (Piece<'a>, &'a str)
     }
 }
 
-/// The first piece of a text, and the text behind it.
+/// The first piece of a text, and the text after it.
 fn first_piece<'a>(text: &'a str, ends: &mut Ends) -> (Piece<'a>, &'a str)
     requires some { 0 < length text.now }
     requires ends { Rules ends.old text.now }
@@ -117,9 +117,9 @@ pub fn pieces<'a>(alloc: Global, text: &'a str) -> Result<Vec<Piece<'a>>, NoMemo
     };
     let mut rest = text;
     while !rest.is_empty() {
-        let (piece, behind) = first_piece(rest, &mut ends);
+        let (piece, beyond) = first_piece(rest, &mut ends);
         list.push(piece)?;
-        rest = behind;
+        rest = beyond;
     }
     Ok(list)
 }

@@ -11,7 +11,7 @@ pub struct MarkRules {
     pub zones: Items<Name>,
 }
 
-/// A mark of a text: the bytes from the place `from` up to `to`, which is the place behind the last of them.
+/// A mark of a text: the bytes from the place `from` up to `to`, which is the place after the last of them.
 #[derive(Clone, Copy, Debug, PartialEq, Eq)]
 pub struct Mark {
     pub kind: MarkKind,

@@ -1,9 +1,9 @@
 ghost use Rattle.std.specs.Prelude.{Option, ◌≡◌, ◌<◌, ◌≤◌, ◌+◌, ◌^◌, ◌++◌, ℕ, List, [], ◌∷◌, length, map, reverse, IfOk, true, false};
 ghost use Rattle.std.specs.Str.{IsUtf8, chars};
 ghost use Rattle.charset_map.specs.Spans.{folded};
-ghost use Rattle.mark_scan.specs.Markup.{Part, part_bytes};
+ghost use Rattle.mark_scan.specs.Markup.{TextPart, part_bytes};
 ghost use Rattle.mark_scan.specs.Marks.{run_of, run_before, sentences_of, part_marks, PartsBy, AreMarks};
-ghost use Rattle.mark_scan.specs.Reading.{AreUtf8, IsBefore, Keeps, AddsPart, part_of, bytes_in};
+ghost use Rattle.mark_scan.specs.steps.Scanning.{AreUtf8, IsBefore, Keeps, AddsTextPart, part_of, bytes_in};
 ghost use Rattle.mark_scan.specs.Tags.{span};
 ghost use Rattle.mark_scan.specs.declared.mark.Mark.{Mark};
 ghost use Rattle.mark_scan.specs.declared.mark.MarkRules.{MarkRules};
@@ -70,7 +70,7 @@ struct Reader {
     before: Before,
 }
 
-/// Appends the marks of a piece, before the pieces behind it.
+/// Appends the marks of a piece, before the pieces after it.
 fn push_piece(
     list: &mut Vec<Mark>,
     charset: &Charset,
@@ -83,7 +83,7 @@ fn push_piece(
     requires size { reader.place + length (part_bytes (part_of piece)) < 2 ^ 32 }
     requires utf8 { IsUtf8 (part_bytes (part_of piece)) }
     requires rest_utf8 { AreUtf8 rest.now }
-    ensures { IfOk result (λ next. AddsPart (folded charset.now) rules.now reader list.old.items (part_of piece.entry) (map part_of rest.now) next list.new.items) }
+    ensures { IfOk result (λ next. AddsTextPart (folded charset.now) rules.now reader list.old.items (part_of piece.entry) (map part_of rest.now) next list.new.items) }
 {
     let from = reader.place;
     match piece {

@@ -1,6 +1,6 @@
 ghost use Rattle.std.specs.Prelude.{◌≡◌, ◌≢◌, ◌<◌, ◌≤◌, ◌+◌, ℕ, IsTrue, IfSome, IfNone, MatchOption, length, slice_index, drop, true, false};
 ghost use Rattle.mark_scan.specs.Markup.{is_name_byte, EndsComment, BeginsComment, BeginsTag, BeginsMarkup};
-ghost use Rattle.mark_scan.specs.Reading.{Rules, Begins};
+ghost use Rattle.mark_scan.specs.steps.Scanning.{Rules, Begins};
 
 /// What may still follow in a text. A text in which no `>` or `-->` follows isn't searched for one again, so that reading
 /// it takes a time linear in its length.
@@ -169,8 +169,8 @@ fn markup_from(bytes: &[u8], place: usize, ends: &mut Ends) -> Option<Found>
     if bytes[place] != b'<' {
         return None;
     }
-    let (_, behind) = bytes.split_at(place);
-    markup_at(behind, ends)
+    let (_, beyond) = bytes.split_at(place);
+    markup_at(beyond, ends)
 }
 
 /// The place of the next markup of a text, and what it is.

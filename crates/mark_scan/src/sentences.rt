@@ -3,7 +3,7 @@ ghost use Rattle.std.specs.Char.{encode_utf8, IsScalar};
 ghost use Rattle.std.specs.Str.{IsUtf8, chars};
 ghost use Rattle.charset_map.specs.Spans.{folded};
 ghost use Rattle.mark_scan.specs.Marks.{run_of};
-ghost use Rattle.mark_scan.specs.Reading.{AreUtf8, IsBefore, part_of, next_of, then_of, run_from, IsNext, GoesOn};
+ghost use Rattle.mark_scan.specs.steps.Scanning.{AreUtf8, IsBefore, part_of, next_of, then_of, run_from, IsNext, GoesOn};
 ghost use Rattle.mark_scan.specs.Markup.{part_bytes};
 ghost use Rattle.mark_scan.specs.Sentences.{is_blank, is_capital, is_small, dot_goes_on, ends_sentence, sentence_mark, sentence_marks};
 
@@ -18,7 +18,7 @@ use srch_base::NoMemory;
 pub(crate) struct Before {
     /// Whether a blank stands before the place, or the run begins there.
     pub gap: bool,
-    /// Whether a capital letter stands before the place that itself stands behind a blank or the run's start.
+    /// Whether a capital letter stands before the place that itself stands after a blank or the run's start.
     pub initial: bool,
 }
 
@@ -68,7 +68,7 @@ impl Before {
     }
 }
 
-/// Whether the sentence goes on behind a dot, by the next two characters of the run.
+/// Whether the sentence goes on after a dot, by the next two characters of the run.
 fn goes_on(charset: &Charset, initial: bool, next: Option<char>, then: Option<char>) -> bool
     ensures { (after : List ℕ) → next ≡ next_of after → then ≡ then_of after → result ≡ dot_goes_on (folded charset.now) initial after }
 {
@@ -85,7 +85,7 @@ fn goes_on(charset: &Charset, initial: bool, next: Option<char>, then: Option<ch
     }
 }
 
-/// The first character of a text, and the text behind it.
+/// The first character of a text, and the text after it.
 fn first_char(text: &str) -> Option<(char, &str)>
     ensures next { MatchOption result (text.now ≡ []) (λ first. text.now ≡ encode_utf8 first.0 ++ first.1.now) }
     ensures utf8 { MatchOption result (IsUtf8 text.now) (λ first. IsUtf8 first.1.now) }
@@ -100,9 +100,9 @@ fn first_char(text: &str) -> Option<(char, &str)>
 /// What a piece gives to the run that goes on before it.
 #[derive(Clone, Copy, Debug)]
 enum Onward<'a> {
-    /// A character, and the text of the piece behind it.
+    /// A character, and the text of the piece after it.
     Char(char, &'a str),
-    /// Nothing: the run goes on behind the piece.
+    /// Nothing: the run goes on after the piece.
     Nothing,
     /// The run ends.
     End,
@@ -115,7 +115,7 @@ fn start_of<'a>(rules: &MarkRules, piece: Piece<'a>) -> Onward<'a>
 {
     match piece {
         Piece::Plain(text) => match first_char(text) {
-            Some((c, behind)) => Onward::Char(c, behind),
+            Some((c, beyond)) => Onward::Char(c, beyond),
             None => Onward::Nothing,
         },
         Piece::Comment(_) => Onward::End,
@@ -129,7 +129,7 @@ fn start_of<'a>(rules: &MarkRules, piece: Piece<'a>) -> Onward<'a>
     }
 }
 
-/// The next character of a run, and the rest of the run behind it.
+/// The next character of a run, and the rest of the run after it.
 fn next_char<'a, 'b>(
     rules: &MarkRules,
     text: &'a str,
@@ -140,15 +140,15 @@ fn next_char<'a, 'b>(
         MatchOption result (run ≡ []) (λ next. IsNext rules.now.zones run next.0 next.1.now next.2.now) }
 {
     match first_char(text) {
-        Some((c, behind)) => return Some((c, behind, pieces)),
+        Some((c, beyond)) => return Some((c, beyond, pieces)),
         None => {}
     }
     for place in 0..pieces.len() {
         let piece = pieces[place];
         match start_of(rules, piece) {
-            Onward::Char(c, behind) => {
+            Onward::Char(c, beyond) => {
                 let (_, rest) = pieces.split_at(place + 1);
-                return Some((c, behind, rest));
+                return Some((c, beyond, rest));
             }
             Onward::Nothing => {}
             Onward::End => return None,
@@ -165,7 +165,7 @@ fn two_next(rules: &MarkRules, text: &str, pieces: &[Piece<'_>]) -> (Option<char
 {
     match next_char(rules, text, pieces) {
         None => (None, None),
-        Some((next, behind, rest)) => match next_char(rules, behind, rest) {
+        Some((next, beyond, rest)) => match next_char(rules, beyond, rest) {
             None => (Some(next), None),
             Some((then, _, _)) => (Some(next), Some(then)),
         },
@@ -196,7 +196,7 @@ fn ends(
     !goes_on(charset, before.initial, next, then)
 }
 
-/// Appends the marks of the ends of sentences in a piece of a run, the place of which is given with the pieces behind it.
+/// Appends the marks of the ends of sentences in a piece of a run, the place of which is given with the pieces after it.
 /// The answer is what stands before the end of the piece.
 pub(crate) fn push_sentences(
     list: &mut Vec<Mark>,
@@ -219,12 +219,12 @@ pub(crate) fn push_sentences(
     'chars: loop {
         match first_char(rest) {
             None => return Ok(before),
-            Some((c, behind)) => {
+            Some((c, beyond)) => {
                 let width = c.len_utf8() as u32;
-                push_end(list, ends(charset, rules, before, c, behind, pieces), place)?;
+                push_end(list, ends(charset, rules, before, c, beyond, pieces), place)?;
                 before = before.then(charset, c);
                 place += width;
-                rest = behind;
+                rest = beyond;
             }
         }
     }

@@ -1,6 +1,6 @@
 ghost use Rattle.std.specs.Prelude.{◌≡◌, ◌≤◌, ◌<◌, ◌++◌, length, map, IfSome, OnOk, option_to_list};
 ghost use Rattle.name_table.specs.Order.{IsInOrder};
-ghost use Rattle.mark_scan.specs.Reading.{tag_text};
+ghost use Rattle.mark_scan.specs.steps.Scanning.{tag_text};
 ghost use Rattle.mark_scan.specs.Tags.{inline_tags, block_tags, is_among, zone_of, is_removed, paragraph_kind, zone_kind, tag_kinds, span};
 
 use crate::mark::{Mark, MarkKind, MarkRules};

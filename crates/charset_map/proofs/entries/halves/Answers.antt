@@ -1,5 +1,5 @@
 use Rattle.std.proofs.Common.{◌≡◌, ◌∙◌, ◌++◌, ◌∷◌, ◌-◌, ◌<◌, ◌≤◌, ◌≢◌, ℕ, List, get_or, length, length-drop, take, take_all, drop, arith, ap, sym, subst}
-use Rattle.charset_map.specs.Sides.{Lacks}
+use Rattle.charset_map.specs.steps.Sides.{Lacks}
 use Rattle.charset_map.proofs.Cutting.{place, place_within, lacks_before, mark_found, mark_short, mark_other}
 use Rattle.charset_map.proofs.entries.halves.Goals as goal
 use Rattle.charset_map.proofs.entries.halves.Goals.{then-rest-lt2-via-then-rest-lt2, then-rest-lt2-via-else-rest-lt2+then-rest-next}

@@ -1,7 +1,7 @@
 use Rattle.std.proofs.Common.{◌∙◌, sym, subst}
 use Rattle.charset_map.specs.declared.entries.Side.{Side}
 use Rattle.charset_map.specs.declared.entries.Side.TheVariants.{Single, Range}
-use Rattle.charset_map.specs.Sides.{IsSide}
+use Rattle.charset_map.specs.steps.Sides.{IsSide}
 use Rattle.charset_map.proofs.Spelling.{at_none, no_entry_whole, no_entry_cut, no_entry_left, no_entry_right, no_entry_single_range, no_entry_range_single}
 use Rattle.charset_map.proofs.entries.read_entry.Goals as goal
 

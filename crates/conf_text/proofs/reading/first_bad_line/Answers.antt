@@ -1,8 +1,8 @@
+use Rattle.std.proofs.lemmas.Bool.{not-false}
 use Rattle.std.proofs.Common.{subst}
 use Rattle.std.specs.Prelude.{Option}
 use Rattle.conf_text.specs.declared.lines.LineHead.{LineHead}
-use Rattle.conf_text.specs.Reading.{ReadsLine}
-use Rattle.conf_text.proofs.Flags.{not_no}
+use Rattle.conf_text.specs.steps.LineReader.{ReadsLine}
 use Rattle.conf_text.proofs.LineRuns.{texts_all, texts_more}
 use Rattle.conf_text.proofs.reading.first_bad_line.Goals as goal
 
@@ -13,4 +13,4 @@ pub lines-preserved : goal.lines-preserved
 lines-preserved c =
     texts_more c.args.text.now c.lines.lines c.next_line.new.self c.next_line.new.buffer.items c.in-Some.head c.lines.invariant
     (subst (λ (o : Option LineHead). ReadsLine c.lines.lines c.next_line.new.self c.next_line.new.buffer.items o) c.in-Some.is c.in_ok-next_line.ensures)
-    (not_no _ c.if-not-head.false)
+    (not-false _ c.if-not-head.false)

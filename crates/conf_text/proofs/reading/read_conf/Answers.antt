@@ -6,9 +6,9 @@ use Rattle.conf_text.specs.declared.conf.IndexConf.{IndexConf}
 use Rattle.conf_text.specs.declared.conf.TheConstants.{MAX_CONF_BYTES}
 use Rattle.conf_text.specs.declared.fault.ConfFault.{ConfFault}
 use Rattle.conf_text.specs.Confs.{AreLinesOf, IsFirstFault, ReadsConf, at_line, no_index}
-use Rattle.conf_text.specs.Drafts.{AreIndexes}
+use Rattle.conf_text.specs.steps.Drafts.{AreIndexes}
 use Rattle.conf_text.specs.Lines.{lines_of}
-use Rattle.conf_text.specs.Reading.{FindsBadLine, ReadsIndexes}
+use Rattle.conf_text.specs.steps.LineReader.{FindsBadLine, ReadsIndexes}
 use Rattle.conf_text.specs.Sections.{IndexText}
 use Rattle.conf_text.proofs.SoundLines.{sound_conf}
 use Rattle.conf_text.proofs.reading.read_conf.Goals as goal

@@ -7,13 +7,13 @@ use Rattle.conf_text.specs.declared.fault.ConfKind.{ConfKind}
 use Rattle.conf_text.specs.declared.lines.LineHead.{LineHead}
 use Rattle.conf_text.specs.declared.lines.Lines.{Lines}
 use Rattle.conf_text.specs.Confs.{shapes_back}
-use Rattle.conf_text.specs.Drafts.{AreIndexes}
+use Rattle.conf_text.specs.steps.Drafts.{AreIndexes}
 use Rattle.conf_text.specs.Lines.{content_of, lines_of}
-use Rattle.conf_text.specs.Reading.{IsLineRead, ReadsIndexes, ReadsLine}
+use Rattle.conf_text.specs.steps.LineReader.{IsLineRead, ReadsIndexes, ReadsLine}
 use Rattle.conf_text.specs.Sections.{entries_in, indexes_in, spot_at}
 use Rattle.conf_text.specs.Shapes.{Shape, shape_of}
-use Rattle.conf_text.specs.Shaping.{seen, value_length}
-use Rattle.conf_text.specs.Taking.{TakesLine, place_of}
+use Rattle.conf_text.specs.steps.SeenShapes.{seen, value_length}
+use Rattle.conf_text.specs.steps.Taking.{TakesLine, place_of}
 use Rattle.conf_text.proofs.LineRuns.{lines_all, lines_fault, lines_more, shape_read}
 use Rattle.conf_text.proofs.Sizes.{content_size, shape_size}
 use Rattle.conf_text.proofs.reading.read_indexes.Goals as goal

@@ -4,7 +4,7 @@ use Rattle.std.specs.List.{list_any}
 use Rattle.std.specs.Str.{bytes_eq}
 use Rattle.conf_text.specs.declared.conf.IndexConf.{IndexConf}
 use Rattle.conf_text.specs.declared.conf.TheConstants.{MAX_INDEXES}
-use Rattle.conf_text.specs.Drafts.{AreIndexes, IsDraft}
+use Rattle.conf_text.specs.steps.Drafts.{AreIndexes, IsDraft}
 use Rattle.conf_text.specs.Faults.{has_name, is_long}
 use Rattle.conf_text.specs.Sections.{IndexText}
 use Rattle.conf_text.specs.Shapes.{small}
@@ -37,5 +37,5 @@ returns c = λ texts are. (
     new = taken_is texts c.args.indexes.now (small c.args.name.now) c.as_bytes.result.now c.name_is_taken.result false are (c.as_bytes.ensures ∙ c.in_ok-name.ensures) c.name_is_taken.ensures c.if-name_is_taken.false;
     within = exceeds_is texts c.args.indexes.now (small c.args.name.now) c.as_bytes-2.result.now c.head_exceeds.result false are (c.as_bytes-2.ensures ∙ c.in_ok-name.ensures) c.head_exceeds.ensures c.if-head_exceeds.false;
   },
-  begins_index (small c.args.name.now) c.of.result c.args.opens c.behind_head.result (subst (λ (n : List ℕ). IsDraft n [] c.of.result) c.in_ok-name.ensures c.of.ensures) c.behind_head.ensures,
+  begins_index (small c.args.name.now) c.of.result c.args.opens c.after_head.result (subst (λ (n : List ℕ). IsDraft n [] c.of.result) c.in_ok-name.ensures c.of.ensures) c.after_head.ensures,
 )

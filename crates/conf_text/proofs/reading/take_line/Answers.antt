@@ -1,11 +1,11 @@
 use Rattle.std.proofs.Common.{◌≡◌, ◌∙◌, ap, sym, subst, false, Bool, Ok, List}
 use Rattle.conf_text.specs.declared.conf.IndexConf.{IndexConf}
-use Rattle.conf_text.specs.Drafts.{AreIndexes}
+use Rattle.conf_text.specs.steps.Drafts.{AreIndexes}
 use Rattle.conf_text.specs.Faults.{is_syntax}
 use Rattle.conf_text.specs.Sections.{Place, spot_at}
 use Rattle.conf_text.specs.Shapes.{Shape, closing, entry, opening}
-use Rattle.conf_text.specs.Shaping.{seen}
-use Rattle.conf_text.specs.Taking.{TakesLine, place_of}
+use Rattle.conf_text.specs.steps.SeenShapes.{seen}
+use Rattle.conf_text.specs.steps.Taking.{TakesLine, place_of}
 use Rattle.conf_text.proofs.TakenLines.{closed, entered, opened}
 use Rattle.conf_text.proofs.reading.take_line.Goals as goal
 
@@ -18,8 +18,8 @@ returns-in-Opening c = λ texts entries are has.
     let place : Place = place_of c.args.place in
     let same : seen c.args.line ≡ opening = ap seen c.in-Opening.is in
     let fine : is_syntax place opening c.args.last ≡ false = fine_at place (seen c.args.line) opening c.args.last c.misplaced.result same c.misplaced.ensures c.if-misplaced.false in
-    subst (λ (l : Shape). TakesLine (spot_at texts entries place) l c.args.last c.args.indexes.now.items (Ok c.behind_opening.result)) (sym same)
-    (opened texts entries place c.args.last c.args.indexes.now.items c.behind_opening.result fine are (c.behind_opening.ensures entries has))
+    subst (λ (l : Shape). TakesLine (spot_at texts entries place) l c.args.last c.args.indexes.now.items (Ok c.after_opening.result)) (sym same)
+    (opened texts entries place c.args.last c.args.indexes.now.items c.after_opening.result fine are (c.after_opening.ensures entries has))
 
 pub returns-in-Closing : goal.returns-in-Closing
 returns-in-Closing c = λ texts entries are has.

@@ -6,7 +6,7 @@ use Rattle.srch_base.specs.declared.faults.Or.{Or}
 use Rattle.srch_base.specs.declared.faults.Or.TheVariants.{Fault}
 use Rattle.charset_map.specs.declared.fault.CharsetKind.TheVariants.{Empty}
 use Rattle.charset_map.specs.Characters.{is_blank}
-use Rattle.charset_map.specs.Reading.{IsFirstFault, Reads}
+use Rattle.charset_map.specs.TableText.{IsFirstFault, ReadsTable}
 use Rattle.charset_map.specs.declared.fault.CharsetFault.{CharsetFault}
 use Rattle.conf_text.proofs.setting.charset.Goals as goal
 
@@ -18,8 +18,8 @@ returns-in-Err-Fault c = (
     | inr some ↦
         (let value = c.args.value.now in
         let fault : CharsetFault = c.in-Err-Fault.field-0-0 in
-        let there = subst (λ (e : Or CharsetFault). Reads c.in-Ok.text.now (Err e)) c.in-Err-Fault.field-0-is c.in-Err-Fault.ensures in
-        let here : Reads value (Err (Fault fault)) = subst (λ (t : List ℕ). Reads t (Err (Fault fault))) c.in-Ok.ensures.cases.0 there in
+        let there = subst (λ (e : Or CharsetFault). ReadsTable c.in-Ok.text.now (Err e)) c.in-Err-Fault.field-0-is c.in-Err-Fault.ensures in
+        let here : ReadsTable value (Err (Fault fault)) = subst (λ (t : List ℕ). ReadsTable t (Err (Fault fault))) c.in-Ok.ensures.cases.0 there in
         let first : IsFirstFault value fault = subst (λ (b : Bool). MatchBool b (fault ≡ record { place = 0; kind = Empty }) (IsFirstFault value fault)) some here in
         c.a_text_is_read_in_one_way.ensures.either value text.table fault text.is first)
   ],

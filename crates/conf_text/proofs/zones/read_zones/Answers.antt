@@ -1,6 +1,6 @@
 use Rattle.std.proofs.Common.{◌≡◌, ◌+◌, ◌<◌, ◌∙◌, ℕ, List, length, take, drop, refl, sym, ap, subst, arith}
 use Rattle.conf_text.specs.Lines.{trimmed}
-use Rattle.conf_text.specs.Settings.{HasNames}
+use Rattle.conf_text.specs.steps.Settings.{HasNames}
 use Rattle.conf_text.specs.Shapes.{small}
 use Rattle.conf_text.proofs.Parts.{place, place_within}
 use Rattle.conf_text.proofs.ZoneLists.{ZonesRead, zone, zones_more, zones_end, zones_bad}

@@ -1,5 +1,5 @@
 use Rattle.std.proofs.Common.{length}
-use Rattle.conf_text.specs.Settings.{HasNames}
+use Rattle.conf_text.specs.steps.Settings.{HasNames}
 use Rattle.conf_text.proofs.ZoneLists.{ZonesRead}
 use Rattle.conf_text.proofs.zones.read_zones.Given as goal
 

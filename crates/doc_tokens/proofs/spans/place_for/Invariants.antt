@@ -6,7 +6,7 @@ use Rattle.doc_tokens.proofs.spans.place_for.Given as goal
 abbrev pub invariant-loop-at : goal.invariant-loop-at
 invariant-loop-at l = record {
   within : l.at ≤ length l.spans;
-  behind : (k : ℕ) (d : ZoneSpan) → l.at ≤ k → k < length l.spans → precedes (get_or l.spans k d) l.span ≡ true;
+  beyond : (k : ℕ) (d : ZoneSpan) → l.at ≤ k → k < length l.spans → precedes (get_or l.spans k d) l.span ≡ true;
 }
 
 abbrev pub decreases-loop-at : goal.decreases-loop-at

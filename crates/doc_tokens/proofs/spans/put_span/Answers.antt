@@ -2,7 +2,7 @@ use Rattle.std.proofs.Common.{◌≡◌, ◌<◌, ◌≤◌, ◌-◌, ◌∷◌,
 use Rattle.std.proofs.lemmas.List.{get_or_read}
 use Rattle.doc_types.specs.declared.tokens.ZoneSpan.{ZoneSpan}
 use Rattle.doc_types.specs.Documents.{precedes}
-use Rattle.doc_tokens.specs.Reading.{IsPlaceFor, PutsSpans}
+use Rattle.doc_tokens.specs.steps.TokenReader.{IsPlaceFor, PutsSpans}
 use Rattle.doc_tokens.proofs.SpanOrder.{span_there, span_put}
 use Rattle.doc_tokens.proofs.spans.put_span.Goals as goal
 use Rattle.doc_tokens.proofs.spans.put_span.Goals.{else-at-gt0-via-then-at-gt0+else-not-precedes, else-at-gt0-via-else-at-gt0}

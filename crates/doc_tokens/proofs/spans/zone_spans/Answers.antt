@@ -6,7 +6,7 @@ use Rattle.doc_types.specs.declared.tokens.TokenWord.{TokenWord}
 use Rattle.doc_types.specs.declared.tokens.ZoneSpan.{ZoneSpan}
 use Rattle.doc_tokens.specs.declared.sign.ZoneTag.{ZoneTag}
 use Rattle.doc_tokens.specs.Spans.{zone_end, span_within, spans_of}
-use Rattle.doc_tokens.specs.Reading.{Descend, PutsSpans}
+use Rattle.doc_tokens.specs.steps.TokenReader.{Descend, PutsSpans}
 use Rattle.doc_tokens.specs.Tokens.{AreSpans}
 use Rattle.doc_tokens.proofs.SpanLists.{zone_end_within, same_next, ends_next, ends_start, no_spans, all_spans}
 use Rattle.doc_tokens.proofs.spans.zone_spans.Goals as goal

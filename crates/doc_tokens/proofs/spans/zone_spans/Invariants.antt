@@ -3,7 +3,7 @@ use Rattle.std.specs.Prelude.{Contains, ◌↔◌}
 use Rattle.doc_types.specs.declared.tokens.TokenWord.{TokenWord}
 use Rattle.doc_types.specs.declared.tokens.ZoneSpan.{ZoneSpan}
 use Rattle.doc_tokens.specs.Spans.{zone_end, spans_of}
-use Rattle.doc_tokens.specs.Reading.{Descend}
+use Rattle.doc_tokens.specs.steps.TokenReader.{Descend}
 use Rattle.doc_tokens.proofs.spans.zone_spans.Given as goal
 
 abbrev pub invariant-loop-left : goal.invariant-loop-left

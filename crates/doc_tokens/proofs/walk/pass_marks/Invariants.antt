@@ -1,5 +1,5 @@
 use Rattle.std.proofs.Common.{ℕ, ◌-◌, ◌≤◌, length}
-use Rattle.doc_tokens.specs.Reading.{HasPassed}
+use Rattle.doc_tokens.specs.steps.TokenReader.{HasPassed}
 use Rattle.doc_tokens.proofs.PassSteps.{Passing}
 use Rattle.doc_tokens.proofs.walk.pass_marks.Given as goal
 

@@ -1,8 +1,8 @@
 use Rattle.std.proofs.Common.{◌≡◌, ◌+◌, length, IsUtf8}
 use Rattle.std.specs.Str.{chars}
 use Rattle.charset_map.specs.Spans.{folded}
-use Rattle.doc_tokens.specs.Signs.{signs_from}
-use Rattle.doc_tokens.specs.Reading.{HasPassed, Wants}
+use Rattle.doc_tokens.specs.TextSigns.{signs_from}
+use Rattle.doc_tokens.specs.steps.TokenReader.{HasPassed, Wants}
 use Rattle.doc_tokens.proofs.walk.read_text.Given as goal
 
 abbrev pub invariant-chars : goal.invariant-chars

@@ -1,9 +1,9 @@
 use Rattle.std.proofs.Common.{ℕ, List, ◌<◌, drop, length, subst, sym, refl, [], ap, ◌∙◌}
 use Rattle.std.proofs.Math.Seq.{drop-length}
 use Rattle.mark_scan.specs.Markup.{BeginsMarkup}
-use Rattle.mark_scan.specs.Reading.{Rules}
+use Rattle.mark_scan.specs.steps.Scanning.{Rules}
 use Rattle.mark_scan.proofs.Cuts.{whole_plain}
-use Rattle.mark_scan.proofs.Fronts.{rules_behind, found_markup}
+use Rattle.mark_scan.proofs.Fronts.{rules_after, found_markup}
 use Rattle.mark_scan.proofs.cutting.first_piece.Goals as goal
 
 pub plain_piece-requires-clause-none : goal.plain_piece-requires-clause-none
@@ -19,7 +19,7 @@ returns-else-place-eq0-clause-ends c =
 pub returns-then-place-eq0-clause-ends : goal.returns-then-place-eq0-clause-ends
 returns-then-place-eq0-clause-ends c =
     let here : Rules c.next_markup.new.ends c.args.text.now = subst (λ (s : List ℕ). Rules c.next_markup.new.ends s) (ap (λ (n : ℕ). drop n c.as_bytes.result.now) c.if-place-eq0.true ∙ c.as_bytes.ensures.value) c.in-Some.ensures.ends in
-    subst (λ (s : List ℕ). Rules c.next_markup.new.ends s) (sym c.markup_piece.ensures.rest) (rules_behind c.next_markup.new.ends c.args.text.now _ here)
+    subst (λ (s : List ℕ). Rules c.next_markup.new.ends s) (sym c.markup_piece.ensures.rest) (rules_after c.next_markup.new.ends c.args.text.now _ here)
 
 pub returns-in-None-clause-cut : goal.returns-in-None-clause-cut
 returns-in-None-clause-cut c = record {

@@ -3,7 +3,7 @@ use Rattle.std.proofs.ResultArms.{chosen}
 use Rattle.std.proofs.lemmas.List.Elements.{All-push}
 use Rattle.mark_scan.specs.Markup.{Splits, part_bytes}
 use Rattle.mark_scan.specs.declared.piece.Piece.{Piece}
-use Rattle.mark_scan.specs.Reading.{part_of, AreUtf8}
+use Rattle.mark_scan.specs.steps.Scanning.{part_of, AreUtf8}
 use Rattle.mark_scan.proofs.Cuts.{pieces_push}
 use Rattle.mark_scan.proofs.cutting.pieces.Goals as goal
 

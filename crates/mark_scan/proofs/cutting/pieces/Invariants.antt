@@ -1,6 +1,6 @@
 use Rattle.std.proofs.Common.{length, map, IsUtf8}
 use Rattle.mark_scan.specs.Markup.{Splits}
-use Rattle.mark_scan.specs.Reading.{Rules, part_of, AreUtf8}
+use Rattle.mark_scan.specs.steps.Scanning.{Rules, part_of, AreUtf8}
 use Rattle.mark_scan.proofs.cutting.pieces.Given as goal
 
 abbrev pub invariant-loop-rest : goal.invariant-loop-rest

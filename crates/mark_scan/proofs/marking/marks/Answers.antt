@@ -5,8 +5,8 @@ use Rattle.mark_scan.specs.declared.mark.Mark.{Mark}
 use Rattle.mark_scan.specs.declared.piece.Piece.{Piece}
 use Rattle.mark_scan.specs.declared.piece.Piece.TheVariants as pieces
 use Rattle.mark_scan.specs.Markup.{part_bytes}
-use Rattle.mark_scan.specs.Marks.{marks_behind}
-use Rattle.mark_scan.specs.Reading.{AddsPart, AreUtf8, bytes_in, part_of}
+use Rattle.mark_scan.specs.Marks.{marks_after}
+use Rattle.mark_scan.specs.steps.Scanning.{AddsTextPart, AreUtf8, bytes_in, part_of}
 use Rattle.mark_scan.proofs.MarkSteps.{Marked, marked_next, pieces_from}
 use Rattle.mark_scan.proofs.Runs.{drop_utf8}
 use Rattle.mark_scan.proofs.marking.marks.Goals as goal
@@ -20,7 +20,7 @@ loop-at-init c =
       marked = record {
         before = [];
         keeps = λ sp. c.start.ensures fold;
-        marks = ap (λ (l : List Mark). l ++ marks_behind fold c.args.rules.now 0 [] (map part_of c.as_slice-pieces.result.now)) c.new-list.ensures.items;
+        marks = ap (λ (l : List Mark). l ++ marks_after fold c.args.rules.now 0 [] (map part_of c.as_slice-pieces.result.now)) c.new-list.ensures.items;
       };
     }
 
@@ -40,7 +40,7 @@ loop-at-preserved c =
     let at = c.loop-at.at in
     let next = c.in_ok-reader.reader in
     let d : Piece = pieces.Plain (record { ref_ptr = (0, 0); now = [] }) in
-    let adds = subst (λ (l : List Piece). AddsPart fold rules c.loop-at.reader c.loop-at.list.items (part_of (get_or list at d)) (map part_of l) next c.push_piece.new.list.items) c.split_at.ensures.back c.in_ok-reader.ensures in
+    let adds = subst (λ (l : List Piece). AddsTextPart fold rules c.loop-at.reader c.loop-at.list.items (part_of (get_or list at d)) (map part_of l) next c.push_piece.new.list.items) c.split_at.ensures.back c.in_ok-reader.ensures in
     let from = pieces_from list at d c.loop-at-test.true in
     let here = subst (λ (l : List Piece). Marked fold rules (map part_of list) c.loop-at.reader (map part_of l) c.loop-at.list.items) from c.loop-at.invariant.marked in
     record {

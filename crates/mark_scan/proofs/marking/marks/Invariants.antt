@@ -1,6 +1,6 @@
 use Rattle.std.proofs.Common.{◌≡◌, ◌+◌, drop, length, map}
 use Rattle.charset_map.specs.Spans.{folded}
-use Rattle.mark_scan.specs.Reading.{part_of, bytes_in}
+use Rattle.mark_scan.specs.steps.Scanning.{part_of, bytes_in}
 use Rattle.mark_scan.proofs.MarkSteps.{Marked}
 use Rattle.mark_scan.proofs.marking.marks.Given as goal
 

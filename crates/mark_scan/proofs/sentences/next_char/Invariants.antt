@@ -1,6 +1,6 @@
 use Rattle.std.proofs.Common.{◌≡◌, drop, map}
 use Rattle.mark_scan.specs.Marks.{run_of}
-use Rattle.mark_scan.specs.Reading.{run_from, part_of}
+use Rattle.mark_scan.specs.steps.Scanning.{run_from, part_of}
 use Rattle.mark_scan.proofs.sentences.next_char.Given as goal
 
 abbrev pub invariant-loop-place : goal.invariant-loop-place

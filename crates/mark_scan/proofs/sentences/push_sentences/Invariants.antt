@@ -2,7 +2,7 @@ use Rattle.std.proofs.Common.{◌≡◌, ℕ, ◌+◌, List, length, map, IsUtf8
 use Rattle.std.specs.Str.{chars}
 use Rattle.charset_map.specs.Spans.{folded}
 use Rattle.mark_scan.specs.Marks.{run_of}
-use Rattle.mark_scan.specs.Reading.{IsBefore, part_of}
+use Rattle.mark_scan.specs.steps.Scanning.{IsBefore, part_of}
 use Rattle.mark_scan.proofs.SentenceSteps.{Reached}
 use Rattle.mark_scan.proofs.sentences.push_sentences.Given as goal
 

@@ -1,7 +1,7 @@
 use Rattle.std.proofs.Common.{◌≡◌, ℕ, ◌++◌, List, map, sym, ◌∙◌, ap, subst}
 use Rattle.std.specs.Prelude.{OnOk, option_to_list}
 use Rattle.mark_scan.specs.declared.mark.MarkKind.{MarkKind}
-use Rattle.mark_scan.specs.Reading.{tag_text}
+use Rattle.mark_scan.specs.steps.Scanning.{tag_text}
 use Rattle.mark_scan.specs.Tags.{span, zone_kind, tag_kinds}
 use Rattle.mark_scan.proofs.TagKinds.{kinds_removed, kinds_kept, marks_twice}
 use Rattle.mark_scan.proofs.tags.push_tag.Goals as goal

@@ -1,5 +1,5 @@
 use Rattle.std.proofs.Common.{◌≡◌, length}
-use Rattle.charset_map.specs.Ascii.{HasAscii}
+use Rattle.charset_map.specs.steps.Ascii.{HasAscii}
 use Rattle.charset_map.proofs.charset.Charset.of.Given as goal
 
 abbrev pub invariant-loop-code : goal.invariant-loop-code

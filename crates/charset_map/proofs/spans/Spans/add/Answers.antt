@@ -1,8 +1,9 @@
 use Rattle.std.proofs.Common.{◌≡◌, ◌∙◌, List, ap, arith, sym, subst}
 use Rattle.std.specs.List.{insert}
 use Rattle.charset_map.specs.declared.span.Span.{Span}
-use Rattle.charset_map.specs.Spans.{AreApart, number_of, with_span}
-use Rattle.charset_map.specs.Placing.{IsPlaceFor}
+use Rattle.charset_map.specs.Spans.{number_of}
+use Rattle.charset_map.specs.steps.SpanLists.{AreApart, with_span}
+use Rattle.charset_map.specs.steps.Placing.{IsPlaceFor}
 use Rattle.charset_map.proofs.Inserting.{with_span_apart, with_span_values, same_where_both, put_in}
 use Rattle.charset_map.proofs.spans.Spans.add.Goals as goal
 

@@ -1,5 +1,5 @@
 use Rattle.std.proofs.Common.{ap}
-use Rattle.doc_tokens.specs.Signs.{is_text, is_removed_tag, is_sentence_end}
+use Rattle.doc_tokens.specs.TextSigns.{is_text, is_removed_tag, is_sentence_end}
 use Rattle.doc_tokens.proofs.Covers.{reaches_more, reaches_same}
 use Rattle.doc_tokens.proofs.cover.Cover.then.Goals as goal
 

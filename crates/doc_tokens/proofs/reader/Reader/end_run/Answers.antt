@@ -4,7 +4,7 @@ use Rattle.std.proofs.lemmas.Str.{IsUtf8-string_bytes}
 use Rattle.doc_types.specs.declared.tokens.TheConstants.{MAX_POSITION}
 use Rattle.doc_types.specs.declared.tokens.TokenWord.{TokenWord}
 use Rattle.doc_types.specs.Documents.{step}
-use Rattle.doc_tokens.specs.Reading.{gap_behind}
+use Rattle.doc_tokens.specs.steps.TokenReader.{gap_after}
 use Rattle.doc_tokens.proofs.ReaderSteps.{run_above, run_ended}
 use Rattle.doc_tokens.proofs.reader.Reader.end_run.Goals as goal
 
@@ -17,7 +17,7 @@ returns-then-position-gt-MAX_POSITION c = λ all letters rest apart holds.
 pub returns : goal.returns
 returns c = λ all letters rest apart holds.
     let reader = c.args.self.now in
-    let step_is : c.step.result ≡ step (gap_behind reader.position reader.gap) = c.step.ensures ∙ ap step c.gap_before-gap.ensures in
+    let step_is : c.step.result ≡ step (gap_after reader.position reader.gap) = c.step.ensures ∙ ap step c.gap_before-gap.ensures in
     let word_is : c.in_ok-word.word ≡ string_bytes reader.run = c.in_ok-word.ensures ∙ c.as_bytes.ensures.value in
     let word : TokenWord = record { word = c.in_ok-word.word; position = reader.position + c.step.result; gap = c.gap_before-gap.result } in
     run_ended all reader _ letters rest c.if-self-eq0.false apart (IsUtf8-string_bytes reader.run)

@@ -1,7 +1,7 @@
 use Rattle.std.proofs.Common.{rules, ◌++◌, [], ◌∷◌, subst}
 use Rattle.std.proofs.lemmas.Result.{err_from_is_err_and}
-use Rattle.doc_tokens.specs.declared.sign.Sign.{Sign}
-use Rattle.doc_tokens.specs.Reading.{BeginApart, Holds}
+use Rattle.doc_tokens.specs.declared.sign.TextSign.{TextSign}
+use Rattle.doc_tokens.specs.steps.TokenReader.{BeginApart, Holds}
 use Rattle.doc_tokens.proofs.Runs.{apart_before}
 use Rattle.doc_tokens.proofs.ReaderSteps.{read_above}
 use Rattle.doc_tokens.proofs.reader.Reader.read.Goals as goal
@@ -16,7 +16,7 @@ returns-in_err-end_run-in-Separator c =
 pub returns-in_ok-letter-in-Letter : goal.returns-in_ok-letter-in-Letter
 returns-in_ok-letter-in-Letter c = λ all rest wants. record {
   letters = wants.letters ++ c.in-Letter.letter ∷ [];
-  holds = c.in_ok-letter-in-Letter.ensures all wants.letters rest (subst (λ (s : Sign). Holds all c.args.self.now wants.letters (s ∷ rest)) c.in-Letter.is wants.holds);
+  holds = c.in_ok-letter-in-Letter.ensures all wants.letters rest (subst (λ (s : TextSign). Holds all c.args.self.now wants.letters (s ∷ rest)) c.in-Letter.is wants.holds);
 }
 
 pub returns-in_ok-put-in-Separator : goal.returns-in_ok-put-in-Separator

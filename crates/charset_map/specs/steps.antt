@@ -1,0 +1,5 @@
+pub mod Sides
+pub mod SpanLists
+pub mod Placing
+pub mod Adding
+pub mod Ascii
