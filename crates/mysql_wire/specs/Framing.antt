@@ -1,15 +1,24 @@
 -- What a framer stands for, what it answers, and what it holds afterwards.
-use Rattle.std.specs.Prelude.{◌≡◌, ◌⊎◌, ℕ, List, Option, Some, None}
+use Rattle.std.specs.Prelude.{◌≡◌, ◌⊎◌, ℕ, List, [], ◌++◌, Option, Some, None}
 use Rattle.mysql_wire.specs.Packets.{IsTooLarge, IsOutOfOrder, IsPartial, BeginsWith}
 use Rattle.mysql_wire.specs.declared.framer.Next.{Next}
 use Rattle.mysql_wire.specs.declared.framer.Next.TheVariants.{NeedMore, Packet, TooLarge, OutOfOrder}
 use Rattle.mysql_wire.specs.declared.framer.Refusal.{Refusal}
 use Rattle.mysql_wire.specs.declared.framer.Refusal.TheVariants as because
 
--- a stream in mid-way: the bytes that are held, and why nothing is read any more
+-- a stream in mid-way: the bytes that are held, why nothing is read any more, and how many more bytes can be held without taking memory
 pub record Stream : Type 0 where
   pub held : List ℕ
   pub refused : Option Refusal
+  pub room : ℕ
+
+-- nothing is held and nothing is refused
+abbrev pub IsFresh : Stream → Type 0
+IsFresh stream = (stream.held ≡ []) × (stream.refused ≡ None)
+
+-- These bytes follow what was held.
+abbrev pub HoldsMore : Stream → List ℕ → Stream → Type 0
+HoldsMore before bytes after = (after.held ≡ before.held ++ bytes) × (after.refused ≡ before.refused)
 
 -- The bytes begin with a header to refuse, where this sequence number is expected.
 abbrev pub IsRefused : ℕ → List ℕ → Refusal → Type 0

@@ -16,3 +16,4 @@ pub mod Heads
 pub mod Numbers
 pub mod HandshakeReading
 pub mod Answered
+pub mod steps

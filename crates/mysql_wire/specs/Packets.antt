@@ -1,5 +1,5 @@
 -- Packets: "MySQL Packets" of the client/server protocol. A length of three bytes, the low one first, a sequence byte, the payload.
-use Rattle.std.specs.Prelude.{◌≡◌, ◌≢◌, ◌⊎◌, ℕ, ◌+◌, ◌*◌, ◌<◌, ◌≤◌, List, ◌∷◌, ◌++◌, length, take, Option, Some, None, IsNone}
+use Rattle.std.specs.Prelude.{◌≡◌, ◌≢◌, ◌⊎◌, ℕ, ◌+◌, ◌*◌, ◌%◌, ◌<◌, ◌≤◌, List, [], ◌∷◌, ◌++◌, length, take, Option, Some, None, IsNone}
 use Rattle.std.specs.Int.{w32, to_le_bytes}
 
 -- the longest payload that is read, in bytes
@@ -9,6 +9,15 @@ max_payload = 8388608
 -- the one spelling of a packet
 unfoldable pub packet : ℕ → List ℕ → List ℕ
 packet seq payload = take 3 (to_le_bytes w32 (length payload)) ++ seq ∷ payload
+
+-- payloads as packets, one after another, numbered on from a sequence number, modulo 256
+abbrev pub packets_from : ℕ → List (List ℕ) → List ℕ
+packets_from seq [] = []
+packets_from seq (payload ∷ payloads) = packet seq payload ++ packets_from ((seq + 1) % 256) payloads
+
+-- the number of the packet after so many
+abbrev pub sequence_after : ℕ → List (List ℕ) → ℕ
+sequence_after seq payloads = (seq + length payloads) % 256
 
 -- the length and the sequence number that the first four bytes give
 abbrev pub header_of : List ℕ → Option (ℕ × ℕ)

@@ -9,6 +9,9 @@ use std::marker::Model;
 /// The longest payload that is read, in bytes.
 const MAX_PAYLOAD: u32 = 8_388_608;
 
+/// The memory that a framer keeps once the packets that needed more are gone, in bytes.
+const KEPT: usize = 65_536;
+
 /// What a framer answers.
 #[derive(Clone, Copy, Debug, PartialEq, Eq)]
 pub enum Next<'a> {
@@ -42,24 +45,24 @@ pub struct Framer {
 }
 
 impl Model for Framer {
-    ghost use Rattle.std.specs.Prelude.{◌≤◌, length, drop};
+    ghost use Rattle.std.specs.Prelude.{◌≤◌, ◌-◌, length, drop, vec_len, vec_capacity};
     ghost use Rattle.mysql_wire.specs.Framing.{Stream};
 
     ghost Value = { Stream };
 
-    ghost view = { λ f. record { held = drop f.start f.bytes.items; refused = f.refused } };
+    ghost view = { λ f. record { held = drop f.start f.bytes.items; refused = f.refused; room = vec_capacity f.bytes - vec_len f.bytes } };
 
     ghost invariant = { λ f. f.start ≤ length f.bytes.items };
 }
 
 impl Framer {
     ghost use Rattle.std.specs.Borrow.{sem};
-    ghost use Rattle.mysql_wire.specs.Framing.{Answers, Waits};
+    ghost use Rattle.mysql_wire.specs.Framing.{Answers, HoldsMore, IsFresh, Waits};
     ghost use Rattle.mysql_wire.specs.Lending.{LeavesFramer};
 
     /// A framer at the beginning of a stream.
     pub fn new(alloc: Global) -> Result<Framer, NoMemory>
-        ensures { IfOk result (λ f. f ≡ record { held = []; refused = None }) }
+        ensures { IfOk result IsFresh }
     {
         Ok(Framer {
             bytes: Vec::new(alloc),
@@ -75,15 +78,29 @@ impl Framer {
         self.bytes.len() - self.start
     }
 
-    /// Takes the next bytes of the stream.
-    pub fn feed(&mut self, piece: &[u8]) -> Result<(), NoMemory>
-        requires { length self.old.held + length piece.now ≤ 16777216 }
-        ensures ok { OnOk result (self.new ≡ record self.old { held = self.old.held ++ piece.now }) }
-        ensures err { OnErr result (self.new ≡ self.old) }
+    /// Takes memory for this many more bytes, so that feeding them takes none. What a large packet took is given back.
+    pub fn reserve(&mut self, count: usize) -> Result<(), NoMemory>
+        ensures same { HoldsMore self.old [] self.new }
+        ensures room { OnOk result (count ≤ self.new.room) }
     {
         if self.bytes.len() <= 2 * self.start {
             drop_front(&mut self.bytes, self.start);
             self.start = 0;
+            self.bytes.shrink_to(KEPT);
+        }
+        self.bytes.reserve(count)?;
+        Ok(())
+    }
+
+    /// Takes the next bytes of the stream. It fails only where they don't fit into the room that is there.
+    pub fn feed(&mut self, piece: &[u8]) -> Result<(), NoMemory>
+        requires { length self.old.held + length piece.now ≤ 16777216 }
+        ensures ok { OnOk result (HoldsMore self.old piece.now self.new) }
+        ensures err { OnErr result (HoldsMore self.old [] self.new) }
+        ensures full { OnErr result (self.old.room < length piece.now) }
+    {
+        if self.bytes.capacity() - self.bytes.len() < piece.len() {
+            self.reserve(piece.len())?;
         }
         self.bytes.extend_from_slice(piece)?;
         Ok(())

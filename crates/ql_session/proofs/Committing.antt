@@ -9,9 +9,10 @@ use Rattle.conf_text.specs.declared.conf.IndexConf.{IndexConf}
 use Rattle.doc_types.specs.declared.documents.Doc.{Doc}
 use Rattle.ql_session.specs.Documents.{Tables, HasTitle, IsDocument, PassesLimit, has_id, with_document}
 use Rattle.ql_session.specs.Texts.{Insert}
-use Rattle.ql_session.specs.Statements.{State, Committed, Duplicate, packets_from, refused}
-use Rattle.ql_session.specs.Building.{Builds, Commits}
-use Rattle.ql_session.specs.Steps.{Runs}
+use Rattle.mysql_wire.specs.Packets.{packets_from}
+use Rattle.ql_session.specs.Statements.{State, Committed, Duplicate, refused}
+use Rattle.ql_session.specs.steps.Building.{Builds, Commits}
+use Rattle.ql_session.specs.steps.Running.{Runs}
 
 -- a fault of building says that the title has too many positions
 pub fault_passes : (conf : IndexConf) (id : ℕ) (title : List ℕ) (e : Or TooLong) (f : TooLong) → e ≡ causes.Fault f → Builds conf id title (Err e) → PassesLimit conf title

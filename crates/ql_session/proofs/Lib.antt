@@ -1,5 +1,3 @@
-pub mod PieceLemmas
-pub mod Filling
 pub mod Adding
 pub mod Digits
 pub mod Frames
@@ -11,5 +9,3 @@ pub mod Stating
 pub mod Decisions
 pub mod Sets
 pub mod Replying
-pub mod Turning
-pub mod Reading

@@ -10,7 +10,7 @@ use Rattle.doc_tokens.specs.declared.field.TooLong.{TooLong}
 use Rattle.doc_tokens.specs.Tokens.{Gives}
 use Rattle.conf_text.specs.declared.conf.IndexConf.{IndexConf}
 use Rattle.ql_session.specs.Documents.{IsColumn, fold_of, title_column}
-use Rattle.ql_session.specs.Building.{BuildsColumn}
+use Rattle.ql_session.specs.steps.Building.{BuildsColumn}
 
 -- one more of each
 pub zip_more : {A B : Type 0} (R : A → B → Type 0) (xs : List A) (ys : List B) (x : A) (y : B) → AllZip R xs ys → R x y → AllZip R (xs ++ x ∷ []) (ys ++ y ∷ [])

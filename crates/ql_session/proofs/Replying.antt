@@ -1,11 +1,11 @@
 -- Replies of one packet.
 use Rattle.std.proofs.Common.{◌≡◌, ℕ, List, [], ◌∷◌, ◌++◌, Result, Ok, Err, OnOk, refl, sym, ap, ◌∙◌}
 use Rattle.std.proofs.lemmas.List.{append-nil}
-use Rattle.mysql_wire.specs.Packets.{packet}
+use Rattle.mysql_wire.specs.Packets.{packet, packets_from}
 use Rattle.ql_session.specs.Documents.{Tables}
 use Rattle.ql_session.specs.Texts.{Stated}
-use Rattle.ql_session.specs.Statements.{State, Event, NoMemory, CanHave, Follows, packets_from, reply}
-use Rattle.ql_session.specs.Steps.{Runs}
+use Rattle.ql_session.specs.Statements.{State, Event, NoMemory, CanHave, Follows, reply}
+use Rattle.ql_session.specs.steps.Running.{Runs}
 
 -- one packet, put where nothing was
 pub one_packet : (old new put payload : List ℕ) → old ≡ [] → new ≡ old ++ put → put ≡ packet 1 payload → new ≡ packets_from 1 (payload ∷ [])

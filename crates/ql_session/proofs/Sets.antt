@@ -7,7 +7,8 @@ use Rattle.std.proofs.lemmas.Fmt.{length-decimal-le}
 use Rattle.std.proofs.lemmas.Bool.Decides.{nat_tests}
 use Rattle.std.specs.Prelude.{All, IfSome, codes, option_to_list}
 use Rattle.std.specs.Fmt.{decimal}
-use Rattle.mysql_wire.specs.Packets.{packet}
+use Rattle.mysql_wire.specs.Packets.{packet, packets_from}
+use Rattle.mysql_wire.specs.steps.Numbering.{packets_from-append}
 use Rattle.mysql_wire.specs.LengthEncoded.{lenenc}
 use Rattle.mysql_wire.specs.Replies.{eof_payload}
 use Rattle.mysql_wire.specs.Rows.{column_payload, row_payload, type_bytes, type_of}
@@ -15,7 +16,7 @@ use Rattle.mysql_wire.specs.declared.rows.Column.{Column}
 use Rattle.mysql_wire.specs.declared.rows.ColumnKind.{ColumnKind}
 use Rattle.mysql_wire.specs.declared.rows.ColumnKind.TheVariants.{Uint, Whole, Unsigned, Text}
 use Rattle.mysql_wire.specs.declared.rows.Cell.{Cell}
-use Rattle.ql_session.specs.Statements.{packets_from, column_set, row, id_cell, text_cell}
+use Rattle.ql_session.specs.Statements.{column_set, row, id_cell, text_cell}
 
 -- an element doesn't depend on what stands past the end
 get_or_same : (xs : List ℕ) (k d e : ℕ) → k < length xs → get_or xs k d ≡ get_or xs k e
@@ -23,16 +24,6 @@ get_or_same xs k d e within = grind (arith, common_steps)
 
 first_of_one : (x : List ℕ) (k : ℕ) (d : List ℕ) → k < length (x ∷ []) → get_or (x ∷ []) k d ≡ x
 first_of_one x k d within = grind (arith, common_steps)
-
--- packets, and then more
-pub packets_from-append : (seq : ℕ) (first more : List (List ℕ)) → seq < 256
-    → packets_from seq (first ++ more) ≡ packets_from seq first ++ packets_from ((seq + length first) % 256) more
-packets_from-append seq [] more small = ap (λ (n : ℕ). packets_from n more) (omega arith)
-packets_from-append seq (payload ∷ first) more small =
-    ap (λ (bytes : List ℕ). packet seq payload ++ bytes)
-    (packets_from-append ((seq + 1) % 256) first more (omega arith)
-    ∙ ap (λ (n : ℕ). packets_from ((seq + 1) % 256) first ++ packets_from n more) (omega arith))
-    ∙ sym (append_assoc (packet seq payload) (packets_from ((seq + 1) % 256) first) (packets_from ((seq + length (payload ∷ first)) % 256) more))
 
 -- a result set of one column, packet by packet
 packets_of_set : (status : ℕ) (column : Column) (cells : List Cell) (old : List ℕ)

@@ -1,8 +1,9 @@
+-- documents, and the words in them
 pub mod Documents
+-- texts, and what they state
 pub mod Texts
-pub mod Stating
+-- what is replied to a statement
 pub mod Statements
-pub mod Building
+-- a session over a line
 pub mod Session
-pub mod Steps
-pub mod Pieces
+pub mod steps

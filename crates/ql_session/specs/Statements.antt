@@ -1,6 +1,5 @@
 -- The statement machine: what is replied to a statement, by what the store decided, and what becomes of the session.
-use Rattle.std.specs.Prelude.{◌≡◌, ⊤, ℕ, ◌+◌, ◌%◌, List, [], ◌∷◌, ◌++◌, Bool, true, false, length, take, map, codes, decimal, pos, if◌then◌else◌, Option, Some, None, option_to_list}
-use Rattle.mysql_wire.specs.Packets.{packet}
+use Rattle.std.specs.Prelude.{◌≡◌, ⊤, ℕ, List, [], ◌∷◌, ◌++◌, Bool, true, false, length, take, map, codes, decimal, pos, if◌then◌else◌, Option, Some, None, option_to_list}
 use Rattle.mysql_wire.specs.LengthEncoded.{lenenc}
 use Rattle.mysql_wire.specs.Replies.{ok_payload, err_payload, eof_payload}
 use Rattle.mysql_wire.specs.Rows.{column_payload, row_payload}
@@ -76,16 +75,6 @@ Follows old (Committed before front) new = (before ≡ old) × (new ≡ front)
 Follows old (Duplicate id front) new = (front ≡ old) × (new ≡ old)
 Follows old (TooLong front) new = (front ≡ old) × (new ≡ old)
 Follows old (NotOffered front) new = (front ≡ old) × (new ≡ old)
-
--- The tables before and after events, one after another.
-abbrev pub FollowAll : Tables → List Event → Tables → Type 0
-FollowAll old [] new = new ≡ old
-FollowAll old (event ∷ events) new = (next : Tables) × Follows old event next × FollowAll next events new
-
--- payloads as packets, numbered on from a sequence number, modulo 256
-abbrev pub packets_from : ℕ → List (List ℕ) → List ℕ
-packets_from seq [] = []
-packets_from seq (payload ∷ payloads) = packet seq payload ++ packets_from ((seq + 1) % 256) payloads
 
 -- the payloads of a result set: the number of columns, the columns, EOF, the rows, EOF
 abbrev pub result_set : ℕ → List (List ℕ) → List (List ℕ) → List (List ℕ)

@@ -4,7 +4,7 @@ ghost use Rattle.std.specs.Str.{chars};
 ghost use Rattle.doc_types.specs.Schemas.{AreZones};
 ghost use Rattle.ql_session.specs.Documents.{HasTitle, fold_of, is_one_word, field_has, has_word, word_of};
 ghost use Rattle.ql_session.specs.Statements.{Searches};
-ghost use Rattle.ql_session.specs.Building.{Builds, BuildsColumn};
+ghost use Rattle.ql_session.specs.steps.Building.{Builds, BuildsColumn};
 
 use conf_text::IndexConf;
 use doc_tokens::{TooLong, tokens};

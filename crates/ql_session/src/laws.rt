@@ -1,10 +1,8 @@
 //! Laws of the definitions. Each function does nothing: its contract is the law.
-ghost use Rattle.std.specs.Prelude.{◌≡◌, ◌≤◌, ◌++◌, ℕ, List, ◌∷◌, false, length, map, take};
-ghost use Rattle.std.specs.List.{flat_map};
+ghost use Rattle.std.specs.Prelude.{◌≡◌, ℕ, List, ◌∷◌, false};
 ghost use Rattle.std.specs.List.Sorted.{IsPermutation};
 ghost use Rattle.doc_types.specs.declared.documents.Doc.{Doc};
 ghost use Rattle.ql_session.specs.Documents.{Documents, IdsAscend, has_id, with_document};
-ghost use Rattle.ql_session.specs.Session.{Opened, Phase, Run, Turn};
 ghost use Rattle.ql_session.specs.Texts.{Stated, States};
 
 /// A text states one thing only.
@@ -21,13 +19,3 @@ pub fn a_document_takes_its_place()
         → IdsAscend (with_document documents id doc)
         × IsPermutation ((id, doc) ∷ documents) (with_document documents id doc) }
 {}
-
-/// The bytes of a line are read in one way: two runs of turns over the same bytes read the same packets, as far as both go.
-pub fn a_line_is_read_in_one_way()
-    ensures { (connection : ℕ) (turns more : List Turn) (new other : Phase) (rest left : List ℕ)
-        → Run connection Opened turns new → Run connection Opened more other
-        → flat_map (λ t. t.read) turns ++ rest ≡ flat_map (λ t. t.read) more ++ left → length turns ≤ length more
-        → map (λ t. t.read) turns ≡ take (length turns) (map (λ t. t.read) more) }
-{
-    mysql_wire::bytes_begin_in_one_way();
-}

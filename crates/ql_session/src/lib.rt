@@ -4,15 +4,14 @@
 mod documents;
 mod laws;
 mod line;
-mod moving;
-mod packets;
 mod replies;
 mod session;
 mod statements;
 mod tables;
 
-pub use laws::{a_document_takes_its_place, a_line_is_read_in_one_way, a_text_states_one_thing};
-pub use line::{LinkEnd, serve_link};
+pub use laws::{a_document_takes_its_place, a_text_states_one_thing};
+pub use line::serve_link;
+pub use serve_line::LinkEnd;
 pub use session::{Session, StepEnd};
 pub use tables::PlainTables;
 

@@ -1,8 +1,8 @@
 ghost use Rattle.std.specs.Prelude.{◌≡◌, ◌+◌, ◌%◌, ◌≤◌, ◌<◌, ◌++◌, length, map, decimal, All, IfOk, OnOk, IfSome, vec_len, vec_capacity, option_copied, option_to_list};
 ghost use Rattle.mysql_wire.specs.Replies.{eof_payload};
-ghost use Rattle.mysql_wire.specs.Packets.{packet};
 ghost use Rattle.mysql_wire.specs.Rows.{column_payload};
-ghost use Rattle.ql_session.specs.Statements.{packets_from, column_set, row, id_set, text_set, id_cell, text_cell};
+ghost use Rattle.mysql_wire.specs.Packets.{packet, packets_from};
+ghost use Rattle.ql_session.specs.Statements.{column_set, row, id_set, text_set, id_cell, text_cell};
 
 use arrayvec::ArrayVec;
 use itoa::Buffer;

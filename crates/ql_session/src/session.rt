@@ -1,9 +1,8 @@
 ghost use Rattle.std.specs.Prelude.{◌≡◌, ◌≤◌, ◌<◌, ◌^◌, [], codes, length, vec_capacity};
 ghost use Rattle.mysql_wire.specs.Asked.{asked_by};
-ghost use Rattle.ql_session.specs.Statements.{status_of};
-ghost use Rattle.ql_session.specs.Stating.{HasShortTitle, stated_by};
+ghost use Rattle.ql_session.specs.steps.Stating.{HasShortTitle, stated_by};
 ghost use Rattle.ql_session.specs.Texts.{Insert, Search};
-ghost use Rattle.ql_session.specs.Building.{Commits};
+ghost use Rattle.ql_session.specs.steps.Building.{Commits};
 ghost use Rattle.mysql_wire.specs.Replies.{err_packet};
 
 use crate::PlainTables;
@@ -12,6 +11,7 @@ use crate::replies::{numbered, put, put_ids, put_text};
 use crate::statements::{Statement, read_statement};
 use doc_types::Doc;
 use mysql_wire::{Command, Small, eof_packet, err_packet, ok_packet};
+use serve_line::Answerer;
 use srch_base::{NoMemory, Or};
 use std::alloc::Global;
 use std::marker::Model;
@@ -44,7 +44,8 @@ impl Model for Session {
 
 impl Session {
     ghost use Rattle.ql_session.specs.Statements.{new_state};
-    ghost use Rattle.ql_session.specs.Steps.{Steps, Replies, Runs};
+    ghost use Rattle.ql_session.specs.Session.{TakesStep};
+    ghost use Rattle.ql_session.specs.steps.Running.{Replies, Runs};
 
     /// A session that begins: autocommit is 1.
     pub fn new() -> Session
@@ -64,24 +65,16 @@ impl Session {
     ) -> StepEnd
         requires empty { out.old.items ≡ [] }
         requires room { 1024 ≤ vec_capacity out.old }
-        ensures steps { Steps result self.old (asked_by command.entry) tables.old tables.new out.new.items self.new }
+        ensures steps { TakesStep result self.old (asked_by command.entry) tables.old tables.new out.new.items self.new }
         ensures room { 1024 ≤ vec_capacity out.new }
     {
         match command {
-            Command::Quit => return StepEnd::Quit,
-            Command::Query(text) => self.query(alloc, tables, text, out),
-            Command::Ping | Command::InitDb(_) => put(&ok_packet(1, 0, self.status()), out),
-            Command::SetOption(_) => put(&eof_packet(1, self.status()), out),
-            Command::Unknown(_) => put(&err_packet(1, 1047, *b"08S01", b"unknown command"), out),
+            Command::Quit => StepEnd::Quit,
+            command => {
+                self.answer(alloc, tables, command, out);
+                StepEnd::Reply
+            }
         }
-        StepEnd::Reply
-    }
-
-    /// The status of a packet.
-    fn status(&self) -> u16
-        ensures { result ≡ status_of self.now }
-    {
-        if self.autocommit { 2 } else { 0 }
     }
 
     /// Answers the statement of a text.
@@ -201,6 +194,39 @@ impl Session {
         let word = folded_word(alloc, tables.conf(), text)?;
         let ids = tables.ids_with(alloc, word.as_bytes(), PAGE)?;
         put_ids(alloc, self.status(), &ids, out)
+    }
+}
+
+impl Answerer for Session {
+    ghost use Rattle.ql_session.specs.Statements.{Event, Follows};
+    ghost use Rattle.ql_session.specs.Session.{statement_machine};
+
+    type Store = PlainTables;
+
+    ghost Event = { Event };
+
+    ghost machine = { statement_machine };
+
+    ghost follows = { Follows };
+
+    fn status(&self) -> u16 {
+        if self.autocommit { 2 } else { 0 }
+    }
+
+    fn answer(
+        &mut self,
+        alloc: Global,
+        tables: &mut PlainTables,
+        command: Command<'_>,
+        out: &mut Vec<u8>,
+    ) {
+        match command {
+            Command::Quit => unreachable!(),
+            Command::Query(text) => self.query(alloc, tables, text, out),
+            Command::Ping | Command::InitDb(_) => put(&ok_packet(1, 0, self.status()), out),
+            Command::SetOption(_) => put(&eof_packet(1, self.status()), out),
+            Command::Unknown(_) => put(&err_packet(1, 1047, *b"08S01", b"unknown command"), out),
+        }
     }
 }
 

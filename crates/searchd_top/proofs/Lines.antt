@@ -6,10 +6,11 @@ use Rattle.srch_base.specs.declared.faults.Or.TheVariants as causes
 use Rattle.conf_text.specs.Confs.{IsFaultOf, ReadsConf}
 use Rattle.conf_text.specs.declared.fault.ConfFault.{ConfFault}
 use Rattle.ql_session.specs.Documents.{Documents, Tables}
-use Rattle.ql_session.specs.Statements.{Event, FollowAll}
+use Rattle.ql_session.specs.Statements.{Event, Follows}
+use Rattle.serve_line.specs.Machines.{FollowAll}
 use Rattle.ql_session.specs.Session.{Session}
-use Rattle.ql_session.specs.Pieces.{Moves}
-use Rattle.ql_session.specs.declared.line.LinkEnd.{LinkEnd}
+use Rattle.srch_base.specs.Moves.{Moves}
+use Rattle.serve_line.specs.declared.line.LinkEnd.{LinkEnd}
 use Rattle.searchd_top.specs.Sessions.{Serves, empty_index}
 
 -- tables without documents are those of an index that has none
@@ -18,12 +19,12 @@ empty_same tables none = ap (λ (documents : Documents). let t : Tables = record
 
 -- a line was served over tables without documents
 pub serves_line : {K : Type 0} (link : LinkWords K) (tables left : Tables) (end : LinkEnd) (line served : K) → tables.documents ≡ []
-    → Moves link line served (λ before now read written. (events : List Event) × Session 1 before now read written end events × FollowAll tables events left)
+    → Moves link line served (λ before now read written. (events : List Event) × Session 1 before now read written end events × FollowAll Follows tables events left)
     → Serves link 1 tables.conf line served
 serves_line {K} link tables left end line served none moves = (
   end,
   left,
-  let P : Tables → Type 0 = λ t. Moves link line served (λ before now read written. (events : List Event) × Session 1 before now read written end events × FollowAll t events left) in
+  let P : Tables → Type 0 = λ t. Moves link line served (λ before now read written. (events : List Event) × Session 1 before now read written end events × FollowAll Follows t events left) in
       subst P (empty_same tables none) moves,
 )
 

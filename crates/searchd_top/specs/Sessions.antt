@@ -6,10 +6,11 @@ use Rattle.srch_base.specs.declared.link.Link.{Ghosts as LinkWords}
 use Rattle.srch_base.specs.declared.door.Door.{Ghosts as DoorWords}
 use Rattle.conf_text.specs.declared.conf.IndexConf.{IndexConf}
 use Rattle.ql_session.specs.Documents.{Tables}
-use Rattle.ql_session.specs.Statements.{Event, FollowAll}
+use Rattle.ql_session.specs.Statements.{Event, Follows}
+use Rattle.serve_line.specs.Machines.{FollowAll}
 use Rattle.ql_session.specs.Session.{Session}
-use Rattle.ql_session.specs.Pieces.{Moves}
-use Rattle.ql_session.specs.declared.line.LinkEnd.{LinkEnd}
+use Rattle.srch_base.specs.Moves.{Moves}
+use Rattle.serve_line.specs.declared.line.LinkEnd.{LinkEnd}
 use Rattle.searchd_top.specs.Configuring.{Texts, IsConfigured, IsMisconfigured}
 use Rattle.searchd_top.specs.Lending.{HandsBack, SomeZip}
 use Rattle.searchd_top.specs.declared.host.Host.{Ghosts as HostWords}
@@ -24,7 +25,7 @@ empty_index index = record { conf = index; documents = [] }
 abbrev pub Serves : {K : Type 0} → LinkWords K → ℕ → IndexConf → K → K → Type 0
 Serves link connection index line served =
     (end : LinkEnd) × (tables : Tables) × Moves link line served (λ before now read written.
-    (events : List Event) × Session connection before now read written end events × FollowAll (empty_index index) events tables)
+    (events : List Event) × Session connection before now read written end events × FollowAll Follows (empty_index index) events tables)
 
 -- The door gave at most one line, and it was handed back, served as connection 1.
 abbrev pub ServesOne : {D K : Type 0} → DoorWords D K → LinkWords K → IndexConf → D → D → Type 0

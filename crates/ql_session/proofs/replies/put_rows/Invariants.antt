@@ -1,5 +1,6 @@
 use Rattle.std.proofs.Common.{◌≡◌, ◌+◌, ◌%◌, ◌≤◌, ◌++◌, map, drop, vec_capacity}
-use Rattle.ql_session.specs.Statements.{packets_from, row}
+use Rattle.mysql_wire.specs.Packets.{packets_from}
+use Rattle.ql_session.specs.Statements.{row}
 use Rattle.ql_session.proofs.replies.put_rows.Given as goal
 
 -- the rows so far, and those that are left

@@ -11,5 +11,5 @@ returns-in-Whole c =
     let front = begins_at c.args.expect start c.in-Whole.size all here in
     rw (c.deref-in-Whole.ensures.value, ← c.self.view_is) (
       (refl, λ _. tt, (c.in_default.is, front, c.in_default.is)),
-      record { leaves = tt; answers = (refl, (record { held = drop (start + 4 + c.in-Whole.size) all; refused = c.self.inside.refused }, (c.in_default.is, front, c.in_default.is))) },
+      record { leaves = tt; answers = (refl, (record { held = drop (start + 4 + c.in-Whole.size) all; refused = c.self.inside.refused; room = 0 }, (c.in_default.is, front, c.in_default.is))) },
     )

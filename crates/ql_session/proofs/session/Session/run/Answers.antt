@@ -3,7 +3,8 @@ use Rattle.std.proofs.lemmas.Result.{on_ok_weaker}
 use Rattle.std.specs.Prelude.{codes}
 use Rattle.mysql_wire.specs.Replies.{err_payload, ok_packet, ok_payload}
 use Rattle.ql_session.specs.Texts.{VersionComment, CurrentDatabase, ShowDatabases}
-use Rattle.ql_session.specs.Statements.{Nothing, status_of, packets_from, text_set}
+use Rattle.mysql_wire.specs.Packets.{packets_from}
+use Rattle.ql_session.specs.Statements.{Nothing, status_of, text_set}
 use Rattle.ql_session.proofs.Replying.{one_packet, runs_by}
 use Rattle.ql_session.proofs.session.Session.run.Goals as goal
 

@@ -5,7 +5,8 @@ use Rattle.mysql_wire.specs.Replies.{err_payload}
 use Rattle.conf_text.specs.declared.conf.IndexConf.{IndexConf}
 use Rattle.ql_session.specs.Documents.{ids_with, word_of}
 use Rattle.ql_session.specs.Texts.{Search}
-use Rattle.ql_session.specs.Statements.{Read, NotOffered, Searches, status_of, packets_from, id_set}
+use Rattle.mysql_wire.specs.Packets.{packets_from}
+use Rattle.ql_session.specs.Statements.{Read, NotOffered, Searches, status_of, id_set}
 use Rattle.ql_session.proofs.Decisions.{not_so}
 use Rattle.ql_session.proofs.Replying.{one_packet, runs_by}
 use Rattle.ql_session.proofs.session.Session.search.Goals as goal

@@ -1,0 +1,17 @@
+use Rattle.std.proofs.Common.{◌≡◌, ℕ, List, None}
+use Rattle.srch_base.specs.Moves.{Moves}
+use Rattle.serve_line.specs.Machines.{FollowAll}
+use Rattle.serve_line.specs.Line.{Greeted, Talking}
+use Rattle.serve_line.specs.steps.Pieces.{GoesOn}
+use Rattle.serve_line.proofs.line.converse.Given as goal
+
+-- the response and so many commands were answered
+abbrev pub invariant-commands : goal.invariant-commands
+invariant-commands g l =
+    let K = g.K.Link in
+    record {
+      good : l.room.framer.refused ≡ None;
+      talked : Moves K l.fn.link l.link (λ before now read written. (events : List g.A.Answerer.Event)
+          × GoesOn g.A.Answerer.machine (Greeted l.fn.answerer) l.fn.room.framer.held read written events (Talking l.answerer l.counter) l.room.framer.held
+          × FollowAll g.A.Answerer.follows l.fn.store events l.store);
+    }

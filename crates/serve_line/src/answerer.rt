@@ -1,0 +1,46 @@
+//! What answers the commands of a line. The line reads whole packets, writes whole replies and knows when to stop; what a
+//! command asks for, COM_QUIT aside, it hands on. So a server of other commands or statements writes an `Answerer`, and
+//! the loops that serve a line stay as they are.
+ghost use Rattle.std.specs.Prelude.{◌≡◌, ◌≢◌, ◌≤◌, [], vec_capacity};
+ghost use Rattle.mysql_wire.specs.Asked.{asked_by};
+ghost use Rattle.mysql_wire.specs.Commands.{Quit as asks_quit};
+ghost use Rattle.serve_line.specs.Machines.{Answered};
+
+use mysql_wire::Command;
+use std::alloc::Global;
+
+/// One client's session: it answers the commands of one line, and keeps what must be kept between them.
+pub trait Answerer {
+    ghost use Rattle.std.specs.Prelude.{◌≡◌};
+    ghost use Rattle.serve_line.specs.Machines.{Machine};
+
+    /// What the answers come from and change, beside the session: the documents.
+    type Store;
+
+    /// What the store decided about a command, as contracts tell it.
+    ghost Event: { Type 0 };
+
+    /// How commands are answered.
+    ghost machine: { Machine Self Event };
+
+    /// What an event says of the store before and after it.
+    ghost follows: { Self.Store → Event → Self.Store → Type 0 };
+
+    /// The status that packets carry in this state of the session.
+    fn status(&self) -> u16
+        ensures { result ≡ machine.status self.now };
+
+    /// Answers a command. `out` is empty and has 1,024 spare bytes at least, and has as much when the reply is gone.
+    fn answer(
+        &mut self,
+        alloc: Global,
+        store: &mut Self::Store,
+        command: Command<'_>,
+        out: &mut Vec<u8>,
+    )
+        requires other { asked_by command ≢ asks_quit }
+        requires empty { out.old.items ≡ [] }
+        requires room { 1024 ≤ vec_capacity out.old }
+        ensures answers { Answered machine follows self.old (asked_by command.entry) store.old store.new out.new.items self.new }
+        ensures room { 1024 ≤ vec_capacity out.new };
+}

@@ -1,0 +1,72 @@
+//! Taking the next packet from the framer: the response to the greeting, or a command.
+ghost use Rattle.std.specs.Prelude.{◌≡◌, ◌≤◌, [], None, vec_capacity};
+ghost use Rattle.mysql_wire.specs.Framing.{Waits};
+ghost use Rattle.serve_line.specs.steps.Pieces.{TakesCommand, TakesResponse};
+
+use crate::Answerer;
+use mysql_wire::{BadHandshake, Command, Framer, Next, read_command, read_response41};
+use std::alloc::Global;
+
+/// What came of the next command's packet.
+#[derive(Clone, Copy, Debug)]
+pub(crate) enum Taken {
+    Reply,
+    Quit,
+    TooLarge { length: u32, seq: u8 },
+    OutOfOrder { seq: u8 },
+}
+
+/// What came of the packet that answers the greeting.
+#[derive(Clone, Copy, Debug)]
+pub(crate) enum Shaken {
+    Accepted,
+    Bad { place: u32 },
+    TooLarge { length: u32, seq: u8 },
+    OutOfOrder { seq: u8 },
+}
+
+/// Takes the next command's packet from the framer, and puts its reply into `out`.
+pub(crate) fn take_command<A: Answerer>(
+    alloc: Global,
+    answerer: &mut A,
+    store: &mut A::Store,
+    framer: &mut Framer,
+    out: &mut Vec<u8>,
+) -> Taken
+    requires whole { Waits 0 framer.old → ⊥ }
+    requires good { framer.old.refused ≡ None }
+    requires empty { out.old.items ≡ [] }
+    requires room { 1024 ≤ vec_capacity out.old }
+    ensures takes { TakesCommand A.machine A.follows result framer.old.held framer.new answerer.old answerer.new store.old store.new out.new.items }
+    ensures room { 1024 ≤ vec_capacity out.new }
+{
+    match framer.next(0) {
+        Next::NeedMore => unreachable!(),
+        Next::TooLarge { length, seq } => Taken::TooLarge { length, seq },
+        Next::OutOfOrder { seq } => Taken::OutOfOrder { seq },
+        Next::Packet { payload, .. } => match read_command(payload) {
+            Command::Quit => Taken::Quit,
+            command => {
+                answerer.answer(alloc, store, command, out);
+                Taken::Reply
+            }
+        },
+    }
+}
+
+/// Takes the packet that answers the greeting from the framer.
+pub(crate) fn take_response(framer: &mut Framer) -> Shaken
+    requires whole { Waits 1 framer.old → ⊥ }
+    requires good { framer.old.refused ≡ None }
+    ensures { TakesResponse result framer.old.held framer.new }
+{
+    match framer.next(1) {
+        Next::NeedMore => unreachable!(),
+        Next::TooLarge { length, seq } => Shaken::TooLarge { length, seq },
+        Next::OutOfOrder { seq } => Shaken::OutOfOrder { seq },
+        Next::Packet { payload, .. } => match read_response41(payload) {
+            Ok(_) => Shaken::Accepted,
+            Err(BadHandshake { place }) => Shaken::Bad { place },
+        },
+    }
+}

@@ -1,0 +1,46 @@
+//! Writing whole packets over a link, and the packets with which a line ends.
+ghost use Rattle.std.specs.Prelude.{◌≡◌, ◌⊎◌, []};
+ghost use Rattle.srch_base.specs.Counts.{Rose};
+ghost use Rattle.srch_base.specs.Moves.{Moves, WritesAll, IsCut};
+ghost use Rattle.serve_line.specs.Line.{no_room};
+ghost use Rattle.serve_line.specs.steps.Pieces.{RefusesWith, SaysNoRoom};
+
+use crate::LinkEnd;
+use mysql_wire::{Small, err_packet};
+use srch_base::{Failed, Link};
+
+/// Writes all the bytes, in as many writes as the link takes.
+pub(crate) fn write_all<K: Link>(link: &mut K, bytes: &[u8]) -> Result<(), Failed>
+    ensures { Moves K.Link link.old link.new (WritesAll result bytes.now) }
+{
+    let mut done = 0;
+    'pieces: while done < bytes.len() {
+        match link.write(&bytes[done..]) {
+            Ok(0) => return Err(Failed),
+            Ok(count) => done += count,
+            Err(failed) => return Err(failed),
+        }
+    }
+    Ok(())
+}
+
+/// Writes the packet of a refusal, with which the line ends.
+pub(crate) fn refuse<K: Link>(link: &mut K, refusal: &Small, end: LinkEnd) -> LinkEnd
+    ensures { Moves K.Link link.old link.new (RefusesWith result refusal.now end) }
+{
+    match write_all(link, refusal.bytes()) {
+        Ok(()) => end,
+        Err(Failed) => LinkEnd::WriteFault,
+    }
+}
+
+/// Says that memory for reading was refused, where the link takes it. `seq` is the number of the packet.
+pub(crate) fn out_of_memory<K: Link>(link: &mut K, seq: u8) -> LinkEnd
+    ensures end { result ≡ LinkEnd.NoMemory }
+    ensures moves { Moves K.Link link.old link.new (SaysNoRoom seq) }
+{
+    let refusal = err_packet(seq, 1037, *b"HY001", b"out of memory");
+    match write_all(link, refusal.bytes()) {
+        Ok(()) | Err(Failed) => LinkEnd::NoMemory,
+    }
+}
