@@ -6,7 +6,7 @@ use Rattle.std.proofs.lemmas.Bool.{cases_lt, eqb-true, eq-eqb, lt-ltb, le-ltb}
 use Rattle.charset_map.specs.declared.span.Span.{Span}
 use Rattle.charset_map.specs.Spans.{number_in, number_of}
 use Rattle.charset_map.specs.steps.SpanLists.{IsSound, AreApart, AgreesWith, are_alike, joined, with_span, SameWhereBoth}
-use Rattle.charset_map.proofs.Gathering.{with_span_front, with_span_joined, with_span_before}
+use Rattle.charset_map.proofs.Overlaps.{with_span_front, with_span_joined, with_span_before}
 use Rattle.charset_map.proofs.SpanLemmas.{sound_at, from_at, in_span, before_span, after_span, is_in_span, none_below}
 
 -- two spans that share a number and are alike

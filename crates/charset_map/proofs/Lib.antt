@@ -2,9 +2,12 @@ pub mod CharacterLemmas
 pub mod Cutting
 pub mod Spelling
 pub mod SpanLemmas
-pub mod Gathering
+pub mod Overlaps
 pub mod Inserting
 pub mod EntryValues
-pub mod Readings
+pub mod Differing
+pub mod Joining
+pub mod Gatherings
+pub mod TableTexts
 pub mod Unique
 pub mod DefaultText

@@ -19,7 +19,7 @@ use Rattle.charset_map.specs.Table.{Rises, IsEven, value_in, value_of, IsTable}
 use Rattle.charset_map.specs.TableText.{EntryText, entry_text_at, entry_texts, without_front, without_back, AreEntries, GivesAnother, IsFaulty, IsTableOf, IsFirstFault}
 use Rattle.charset_map.specs.steps.Sides.{Lacks}
 use Rattle.charset_map.proofs.Cutting.{place, no_cut, place_of_lacking, left_is, right_is}
-use Rattle.charset_map.proofs.Readings.{first_entry_text}
+use Rattle.charset_map.proofs.Gatherings.{first_entry_text}
 use Rattle.charset_map.proofs.Spelling.{lacks_dot, single_lacks, range_lacks, not_both, left_same, right_same}
 
 -- ---- characters

@@ -1,33 +1,30 @@
-ghost use Rattle.charset_map.specs.steps.Adding.{AddsEntry, HasSpan};
-ghost use Rattle.charset_map.specs.Spans.{number_of};
+ghost use Rattle.std.specs.Prelude.{IfOk};
+ghost use Rattle.charset_map.specs.steps.Adding.{HasSpan};
+ghost use Rattle.charset_map.specs.steps.Gathering.{WritesSpan};
+ghost use Rattle.charset_map.specs.steps.SpanLists.{IsSound};
 
 use crate::characters::ordinal_of;
 use crate::entries::{Entry, read_entry};
 use crate::fault::CharsetKind;
 use crate::span::Span;
-use crate::spans::Spans;
-use srch_base::{NoMemory, Or};
 
-/// Adds the entry that a text is.
-pub fn add_entry(spans: &mut Spans, text: &[u8]) -> Result<(), Or<CharsetKind>>
-    ensures { AddsEntry (number_of spans.old) (number_of spans.new) text.now result }
+/// The span of the entry that a text is.
+pub fn read_span(text: &[u8]) -> Result<Span, CharsetKind>
+    ensures { WritesSpan text.now result }
 {
     let Some(entry) = read_entry(text) else {
-        return Err(Or::Fault(CharsetKind::Entry));
+        return Err(CharsetKind::Entry);
     };
     match span_of(&entry) {
-        Err(kind) => Err(Or::Fault(kind)),
-        Ok(span) => match spans.add(span) {
-            Ok(true) => Ok(()),
-            Ok(false) => Err(Or::Fault(CharsetKind::Twice)),
-            Err(NoMemory) => Err(Or::NoMemory),
-        },
+        Ok(span) => Ok(span),
+        Err(kind) => Err(kind),
     }
 }
 
 /// The span of an entry.
 fn span_of(entry: &Entry) -> Result<Span, CharsetKind>
-    ensures { HasSpan entry.now result }
+    ensures span { HasSpan entry.now result }
+    ensures sound { IfOk result IsSound }
 {
     if entry.from.last < entry.from.first || entry.to.last < entry.to.first {
         return Err(CharsetKind::Range);

@@ -1,13 +1,12 @@
 ghost use Rattle.std.specs.Prelude.{◌≡◌, ◌<◌, ◌^◌, IfOk, length};
 ghost use Rattle.charset_map.specs.TableText.{IsTableOf, ReadsTable, default_text};
-ghost use Rattle.charset_map.specs.steps.Adding.{ReadsEntries};
 ghost use Rattle.charset_map.specs.Spans.{folded};
 
-use crate::adding::add_entry;
 use crate::characters::{character_of, ordinal_of};
 use crate::fault::{CharsetFault, CharsetKind};
-use crate::trimming::{all_blank, blanks_before, place_of, trimmed};
+use crate::gathering::read_spans;
 use crate::spans::Spans;
+use crate::trimming::all_blank;
 use srch_base::{NoMemory, Or};
 use std::alloc::Global;
 use std::marker::Model;
@@ -39,8 +38,8 @@ impl Model for Charset {
 impl Charset {
     /// The table that a text is.
     ///
-    /// Its memory and the time of a look-up depend on the number of its ranges alone. Reading takes, for each entry, a
-    /// bisection of the ranges before it, and moves those that stand after it.
+    /// Reading n entries takes n log n steps, in whatever order they stand, and memory for each entry. The table has memory
+    /// for its ranges alone.
     pub fn read(alloc: Global, text: &str) -> Result<Charset, Or<CharsetFault>>
         requires { length text.now < 2 ^ 32 }
         ensures { ReadsTable text.now result }
@@ -89,34 +88,6 @@ impl Charset {
         } else {
             value(&self.spans, c)
         }
-    }
-}
-
-/// The spans of the entries of a text.
-fn read_spans(alloc: Global, text: &[u8]) -> Result<Spans, Or<CharsetFault>>
-    requires { length text.now < 2 ^ 32 }
-    ensures { ReadsEntries text.now result }
-{
-    let mut spans = Spans::new(alloc);
-    let mut rest = text;
-    'parts: loop {
-        let end = place_of(b',', rest);
-        let part = rest.split_at(end).0;
-        match add_entry(&mut spans, trimmed(part)) {
-            Ok(()) => {}
-            Err(Or::NoMemory) => return Err(Or::NoMemory),
-            Err(Or::Fault(kind)) => {
-                let place = text.len() - rest.len() + blanks_before(part);
-                return Err(Or::Fault(CharsetFault {
-                    place: place as u32,
-                    kind,
-                }));
-            }
-        }
-        if end == rest.len() {
-            return Ok(spans);
-        }
-        rest = rest.split_at(end + 1).1;
     }
 }
 

@@ -6,10 +6,11 @@ mod characters;
 mod charset;
 mod entries;
 mod fault;
+mod gathering;
 mod laws;
-mod trimming;
 mod span;
 mod spans;
+mod trimming;
 
 pub use charset::Charset;
 pub use fault::{CharsetFault, CharsetKind};

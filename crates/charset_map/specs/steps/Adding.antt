@@ -1,5 +1,5 @@
 -- Spans that stand for the entries of a table, and what it is to add one.
-use Rattle.std.specs.Prelude.{◌≡◌, ◌≢◌, ℕ, List, [], ◌∷◌, ◌++◌, Bool, true, false, Option, Result, Ok, Err}
+use Rattle.std.specs.Prelude.{◌≡◌, ◌≢◌, ℕ, List, Bool, true, false, Option, Result, Ok, Err}
 use Rattle.std.specs.Char.{IsScalar}
 use Rattle.std.specs.Option.{option_map, option_or}
 use Rattle.srch_base.specs.declared.faults.NoMemory.{NoMemory}
@@ -10,12 +10,10 @@ use Rattle.charset_map.specs.declared.fault.CharsetKind.TheVariants as kinds
 use Rattle.charset_map.specs.declared.entries.Entry.{Entry}
 use Rattle.charset_map.specs.declared.span.Span.{Span}
 use Rattle.charset_map.specs.Characters.{ordinal, character_at}
-use Rattle.charset_map.specs.Entries.{IsEntry}
 use Rattle.charset_map.specs.Table.{Rises, steps, IsEven, value_of, IsTable}
-use Rattle.charset_map.specs.TableText.{IsFaulty}
 use Rattle.charset_map.specs.Spans.{number_in}
 use Rattle.charset_map.specs.steps.SpanLists.{SameWhereBoth, Differ}
-use Rattle.std.specs.Prelude.{◌≡◌, ◌≢◌, ℕ, List, [], ◌∷◌, ◌++◌, Option, Result, Ok, Err}
+use Rattle.std.specs.Prelude.{◌≡◌, ◌≢◌, ℕ, List, Option, Result, Ok, Err}
 use Rattle.charset_map.specs.declared.fault.CharsetFault.{CharsetFault}
 use Rattle.charset_map.specs.Spans.{folded}
 use Rattle.charset_map.specs.Table.{Rises, steps, IsEven, value_of, IsTable}
@@ -51,12 +49,6 @@ abbrev pub AddsSpan : (ℕ → Option ℕ) → (ℕ → Option ℕ) → Span →
 AddsSpan old new span (Ok true) = SameWhereBoth old (number_in span) × ((n : ℕ) → new n ≡ option_or (old n) (number_in span n))
 AddsSpan old new span (Ok false) = Differ old (number_in span)
 AddsSpan old new span (Err e) = Unit {0}
-
--- the entry that a text is comes after the others, or the text is faulty after them
-abbrev pub AddsEntry : (ℕ → Option ℕ) → (ℕ → Option ℕ) → List ℕ → Result (Unit {0}) (Or CharsetKind) → Type 0
-AddsEntry old new text (Ok done) = (entry : Entry) × IsEntry text entry × ((entries : List Entry) → StandsFor old entries → StandsFor new (entries ++ entry ∷ []))
-AddsEntry old new text (Err causes.NoMemory) = Unit {0}
-AddsEntry old new text (Err (causes.Fault kind)) = (entries : List Entry) → StandsFor old entries → IsFaulty entries text kind
 
 -- what reading the entries of a text gives, where it is not blank: their table, or the first fault
 abbrev pub ReadsEntries : List ℕ → Result (List Span) (Or CharsetFault) → Type 0

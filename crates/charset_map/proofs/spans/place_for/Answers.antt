@@ -3,7 +3,7 @@ use Rattle.std.proofs.lemmas.List.Sorted.{IsPartitionPoint-from_clause}
 use Rattle.std.proofs.lemmas.List.{get_or_default}
 use Rattle.charset_map.specs.declared.span.Span.{Span}
 use Rattle.charset_map.proofs.SpanLemmas.{ends_parted, sound_at}
-use Rattle.charset_map.proofs.Gathering.{Gathers, gathers_none, gathers_more, gathered_all, gathers_differ}
+use Rattle.charset_map.proofs.Overlaps.{Gathers, gathers_none, gathers_more, gathered_all, gathers_differ}
 use Rattle.charset_map.proofs.spans.place_for.Goals as goal
 
 pub loop-to-init : goal.loop-to-init

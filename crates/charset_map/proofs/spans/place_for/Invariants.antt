@@ -1,5 +1,5 @@
 use Rattle.std.proofs.Common.{◌-◌, length}
-use Rattle.charset_map.proofs.Gathering.{Gathers}
+use Rattle.charset_map.proofs.Overlaps.{Gathers}
 use Rattle.charset_map.proofs.spans.place_for.Given as goal
 
 abbrev pub invariant-loop-to : goal.invariant-loop-to
