@@ -5,21 +5,10 @@ use Rattle.ql_lex.specs.declared.token.Sign.{Sign}
 use Rattle.ql_grammar.specs.declared.keyword.Keyword.{Keyword}
 use Rattle.ql_grammar.specs.declared.kind.Kind.{Kind}
 use Rattle.ql_grammar.specs.declared.kind.Kind.TheVariants as kinds
-use Rattle.ql_grammar.specs.Classes.{Class, the_word, any_name, name_but, a_number, a_text, a_sysvar, the_sign, a_comparison, the_end, fits, is_name, is_word}
-use Rattle.ql_grammar.specs.Firsts.{same_class}
-use Rattle.ql_grammar.proofs.Apart.{and_first}
-use Rattle.ql_grammar.proofs.KeywordNumbers.{keyword_same}
-use Rattle.ql_grammar.proofs.SignNumbers.{sign_same}
-
-pub class_same : (c d : Class) → same_class c d ≡ true → c ≡ d
-class_same (the_word v) (the_word w) e = ap the_word (keyword_same v w e)
-class_same any_name any_name e = refl
-class_same a_number a_number e = refl
-class_same a_text a_text e = refl
-class_same a_sysvar a_sysvar e = refl
-class_same a_comparison a_comparison e = refl
-class_same (the_sign v) (the_sign w) e = ap the_sign (sign_same v w e)
-class_same _ _ e = cc
+use Rattle.ql_grammar.specs.Classes.{the_word, name_but, a_number, a_text, a_sysvar, the_sign, the_end, fits, is_name, is_word}
+use Rattle.token_grammar.proofs.Bools.{and_first}
+use Rattle.ql_grammar.specs.KeywordLaws.{keyword_same}
+use Rattle.ql_grammar.specs.SignLaws.{sign_same}
 
 pub word_is : (w : Keyword) (k : Kind) → fits (the_word w) k ≡ true → k ≡ kinds.Keyword w
 word_is w (kinds.Keyword x) e = ap kinds.Keyword (sym (keyword_same w x e))

@@ -5,7 +5,7 @@ use denote.Enum.Bare.{sameb, same_true, same_false}
 use Rattle.ql_grammar.specs.contracts.keyword.Keyword.{the_type}
 use Rattle.ql_grammar.specs.declared.keyword.Keyword.{Keyword}
 use Rattle.ql_grammar.specs.Keywords.{same_keyword}
-use Rattle.ql_grammar.proofs.KeywordNumbers.{keyword_same, same_to_itself}
+use Rattle.ql_grammar.specs.KeywordLaws.{keyword_same, same_to_itself}
 
 pub compared : (v w : Keyword) → sameb the_type v w ≡ same_keyword v w
 compared v w = elim (cases_Bool (sameb the_type v w)) [

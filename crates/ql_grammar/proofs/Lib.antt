@@ -1,10 +1,4 @@
-pub mod KeywordNumbers
-pub mod SignNumbers
 pub mod KeywordEquality
-pub mod Laws
-pub mod Samples
-pub mod Verdicts
-pub mod Apart
 pub mod ClassKinds
 pub mod Agreement
 pub mod Agreements

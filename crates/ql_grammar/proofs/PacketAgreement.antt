@@ -5,16 +5,19 @@ use Rattle.ql_lex.specs.Tokens.{Lexeme}
 use Rattle.ql_grammar.specs.declared.statement.Statement.{Statement}
 use Rattle.ql_grammar.specs.Tokens.{kind}
 use Rattle.ql_grammar.specs.Classes.{the_end, fits}
-use Rattle.ql_grammar.specs.Language.{one, In}
+use Rattle.token_grammar.specs.Language.{one, In}
 use Rattle.ql_grammar.specs.Grammar.{more_statements, packet}
-use Rattle.ql_grammar.specs.Parts.{◌then◌, IsSign, IsPerhaps, AreListed}
+use Rattle.ql_grammar.specs.Parts.{IsSign}
+use Rattle.token_grammar.specs.Values.{◌then◌, IsPerhaps, AreListed}
 use Rattle.ql_grammar.specs.Packets.{IsEnd, IsPacket}
 use Rattle.ql_grammar.specs.Statements.{IsStatement}
-use Rattle.ql_grammar.proofs.Agreement.{Agrees, agree_sign}
+use Rattle.ql_grammar.proofs.Agreement.{agree_sign}
+use Rattle.token_grammar.proofs.Agreement.{Agrees}
 use Rattle.ql_grammar.proofs.StatementAgreement.{statement_agrees}
 use Rattle.ql_grammar.proofs.ClassKinds.{end_is}
+use Rattle.ql_grammar.specs.Alphabet.{sphinxql}
 
-pub agree_end : Agrees (one the_end) IsEnd
+pub agree_end : Agrees sphinxql (one the_end) IsEnd
 unfolding In
 agree_end = record {
   text = λ x u (t, e, k). (t, e, ap (fits the_end) k);
@@ -25,14 +28,14 @@ agree_end = record {
 abbrev pub IsEnding : List Lexeme → Type 0
 IsEnding = IsPerhaps (IsSign signs.Semicolon) then IsEnd
 
-pub ending_text : (n : ℕ) (v : List Lexeme) → IsEnding v → In (more_statements n) v
+pub ending_text : (n : ℕ) (v : List Lexeme) → IsEnding v → In sphinxql (more_statements n) v
 unfolding In
 ending_text zero v (a, b, e, inl s, end) = inl (a, b, e, (agree_sign signs.Semicolon).text tt a s, agree_end.text tt b end)
-ending_text zero v (a, b, e, inr none, end) = inr (subst (λ w. In (one the_end) w) (sym (e ∙ ap (λ w. w ++ b) none)) (agree_end.text tt b end))
+ending_text zero v (a, b, e, inr none, end) = inr (subst (λ w. In sphinxql (one the_end) w) (sym (e ∙ ap (λ w. w ++ b) none)) (agree_end.text tt b end))
 ending_text (suc n) v (a, b, e, inl s, end) = inl (a, b, e, (agree_sign signs.Semicolon).text tt a s, inr (agree_end.text tt b end))
-ending_text (suc n) v (a, b, e, inr none, end) = inr (subst (λ w. In (one the_end) w) (sym (e ∙ ap (λ w. w ++ b) none)) (agree_end.text tt b end))
+ending_text (suc n) v (a, b, e, inr none, end) = inr (subst (λ w. In sphinxql (one the_end) w) (sym (e ∙ ap (λ w. w ++ b) none)) (agree_end.text tt b end))
 
-statements_text : (n : ℕ) (list : List Statement) (u v : List Lexeme) → AreListed (IsSign signs.Semicolon) IsStatement list u → IsEnding v → length list ≤ suc n → In (packet n) (u ++ v)
+statements_text : (n : ℕ) (list : List Statement) (u v : List Lexeme) → AreListed (IsSign signs.Semicolon) IsStatement list u → IsEnding v → length list ≤ suc n → In sphinxql (packet n) (u ++ v)
 unfolding In
 statements_text n [] u v h end few = absurd h
 statements_text n (x ∷ []) u v h end few = (u, v, refl, statement_agrees.text x u h, ending_text n v end)
@@ -47,8 +50,8 @@ statements_text (suc n) (x ∷ y ∷ list) u v (a, bc, e, p, (b, c, f, s, rest))
     )
 
 -- A packet of so few statements is a text, ..
-pub packet_text : (n : ℕ) (list : List Statement) (u : List Lexeme) → IsPacket list u → length list ≤ suc n → In (packet n) u
-packet_text n list u (a, b, e, h, end) few = subst (λ w. In (packet n) w) (sym e) (statements_text n list a b h end few)
+pub packet_text : (n : ℕ) (list : List Statement) (u : List Lexeme) → IsPacket list u → length list ≤ suc n → In sphinxql (packet n) u
+packet_text n list u (a, b, e, h, end) few = subst (λ w. In sphinxql (packet n) w) (sym e) (statements_text n list a b h end few)
 
 -- The statements of a text, and that they are so few.
 Packet : ℕ → List Lexeme → Type 0
@@ -67,7 +70,7 @@ last_one n x u a b e p end =
     let few : length (x ∷ []) ≤ suc n = omega arith in
     (x ∷ [], (a, b, e, p, end), few)
 
-packet_of : (n : ℕ) (u : List Lexeme) → In (packet n) u → Packet n u
+packet_of : (n : ℕ) (u : List Lexeme) → In sphinxql (packet n) u → Packet n u
 unfolding In
 packet_of zero u (a, b, e, i, inl (s, t, f, j, k)) =
     let (x, p) = statement_agrees.value a i in
@@ -86,6 +89,6 @@ packet_of (suc n) u (a, b, e, i, inr k) =
     last_one (suc n) x u a b e p ([], b, refl, inr refl, (agree_end.value b k).1)
 
 -- .. and each text is such a packet.
-pub packet_value : (n : ℕ) (u : List Lexeme) → In (packet n) u → (list : List Statement) × IsPacket list u × (length list ≤ suc n)
+pub packet_value : (n : ℕ) (u : List Lexeme) → In sphinxql (packet n) u → (list : List Statement) × IsPacket list u × (length list ≤ suc n)
 unfolding Packet
 packet_value n u i = packet_of n u i

@@ -21,12 +21,18 @@ use Rattle.ql_grammar.specs.declared.select.SortName.{SortName}
 use Rattle.ql_grammar.specs.declared.select.SortName.TheVariants as sorts
 use Rattle.ql_grammar.specs.Tokens.{kind}
 use Rattle.ql_grammar.specs.Classes.{a_comparison, fits}
-use Rattle.ql_grammar.specs.Language.{Re, In}
-use Rattle.ql_grammar.specs.Grammar.{◌⨾◌, ◌∣◌, word, name, weight, count, counted, enclosed, expr, alias, item, comparison, cond, test, direction, having, limit, field_weight, option_value, option, facet, conds, group, within, having_part, order, options, select}
-use Rattle.ql_grammar.specs.Parts.{◌then◌, IsWord, IsSign, IsComma, IsName, IsNumber, IsText, IsWhole, IsEnclosed, AreParens, IsGiven, AreGiven, AreListed}
+use Rattle.token_grammar.specs.Language.{Re, In}
+use Rattle.ql_grammar.specs.Grammar.{word, name, weight, count, counted, enclosed, expr, alias, item, comparison, cond, test, direction, having, limit, field_weight, option_value, option, facet, conds, group, within, having_part, order, options, select}
+use Rattle.token_grammar.specs.Language.{◌⨾◌, ◌∣◌}
+use Rattle.ql_grammar.specs.Parts.{IsWord, IsSign, IsComma, IsName, IsNumber, IsText, IsWhole, IsEnclosed, AreParens}
+use Rattle.token_grammar.specs.Values.{◌then◌, IsGiven, AreGiven, AreListed}
 use Rattle.ql_grammar.specs.Selects.{comparison_sign, IsCounted, IsExpr, IsAlias, IsItem, IsComparison, IsCond, IsWeight, IsCount, IsSort, IsInnerSort, IsGroupSort, IsDirection, IsKeyBy, IsHaving, IsLimit, IsFieldWeight, IsOptionValue, IsOption, IsFacet, AreConds, IsGroup, AreInnerKeys, IsHavingPart, AreKeys, AreOptions, IsSelected}
-use Rattle.ql_grammar.proofs.Agreement.{Agree, Agrees, agree_as, agree_listed, agree_name, agree_number, agree_seq, agree_sign, agree_word}
-use Rattle.ql_grammar.proofs.Agreements.{IsEither, agree_behind, agree_enclosed, agree_lists, agree_optional, agree_or, agree_parens, agree_perhaps, agree_row, agree_text, agree_whole, agree_wholes, agree_words}
+use Rattle.ql_grammar.proofs.Agreement.{agree_name, agree_number, agree_sign, agree_word}
+use Rattle.token_grammar.proofs.Agreement.{Agree, Agrees, agree_as, agree_listed, agree_seq}
+use Rattle.ql_grammar.proofs.Agreements.{agree_enclosed, agree_parens, agree_text, agree_whole, agree_wholes, agree_words}
+use Rattle.token_grammar.proofs.Agreement.{IsEither, agree_after, agree_lists, agree_optional, agree_or, agree_perhaps, agree_row}
+use Rattle.ql_grammar.specs.Alphabet.{sphinxql}
+use Rattle.ql_grammar.specs.Classes.{Class}
 
 -- A comparison.
 pub sign_compares : (op : Comparison) → fits a_comparison (kinds.Sign (comparison_sign op)) ≡ true
@@ -38,8 +44,8 @@ sign_compares comparisons.AtMost = refl
 sign_compares comparisons.AtLeast = refl
 
 -- Expressions and items.
-agree_counted : Agree counted IsCounted
-agree_counted = agree_as (agree_or (agree_sign signs.Star) (agree_behind (agree_word keywords.Distinct) agree_name)) there back
+agree_counted : Agree sphinxql counted IsCounted
+agree_counted = agree_as (agree_or (agree_sign signs.Star) (agree_after (agree_word keywords.Distinct) agree_name)) there back
   where
     Is : Unit {0} ⊎ List ℕ → List Lexeme → Type 0
     Is = IsEither (λ _. IsSign signs.Star) (λ column. IsWord keywords.Distinct then IsName column)
@@ -52,26 +58,26 @@ agree_counted = agree_as (agree_or (agree_sign signs.Star) (agree_behind (agree_
     back None u h = (inl tt, h)
     back (Some column) u h = (inr column, h)
 
-agree_argument : (w : Keyword) → Agree (word w ⨾ enclosed name) (λ column. IsWord w then IsEnclosed (IsName column))
-agree_argument w = agree_behind (agree_word w) (agree_enclosed agree_name)
+agree_argument : (w : Keyword) → Agree sphinxql (word w ⨾ enclosed name) (λ column. IsWord w then IsEnclosed (IsName column))
+agree_argument w = agree_after (agree_word w) (agree_enclosed agree_name)
 
-agree_weight : Agrees weight IsWeight
-agree_weight = agree_behind (agree_word keywords.Weight) agree_parens
+agree_weight : Agrees sphinxql weight IsWeight
+agree_weight = agree_after (agree_word keywords.Weight) agree_parens
 
-agree_count : Agrees count IsCount
-agree_count = agree_behind (agree_word keywords.Count) (agree_enclosed (agree_sign signs.Star))
+agree_count : Agrees sphinxql count IsCount
+agree_count = agree_after (agree_word keywords.Count) (agree_enclosed (agree_sign signs.Star))
 
 abbrev ExprValue : Type 0
 ExprValue = Option (List ℕ) ⊎ (List ℕ ⊎ (List ℕ ⊎ (List ℕ ⊎ (Unit {0} ⊎ (Unit {0} ⊎ List ℕ)))))
 
-agree_expr : Agree expr IsExpr
+agree_expr : Agree sphinxql expr IsExpr
 agree_expr = agree_as
-    (agree_or (agree_behind (agree_word keywords.Count) (agree_enclosed agree_counted))
+    (agree_or (agree_after (agree_word keywords.Count) (agree_enclosed agree_counted))
     (agree_or (agree_argument keywords.Min)
     (agree_or (agree_argument keywords.Max)
     (agree_or (agree_argument keywords.Sum)
     (agree_or agree_weight
-    (agree_or (agree_behind (agree_word keywords.GroupBy) agree_parens) agree_name))))))
+    (agree_or (agree_after (agree_word keywords.GroupBy) agree_parens) agree_name))))))
     there back
   where
     Is : ExprValue → List Lexeme → Type 0
@@ -102,10 +108,10 @@ agree_expr = agree_as
     back exprs.GroupBy u h = (inr (inr (inr (inr (inr (inl tt))))), h)
     back (exprs.Column column) u h = (inr (inr (inr (inr (inr (inr column))))), h)
 
-agree_alias : Agree alias IsAlias
-agree_alias = agree_behind (agree_perhaps (agree_word keywords.As)) agree_name
+agree_alias : Agree sphinxql alias IsAlias
+agree_alias = agree_after (agree_perhaps (agree_word keywords.As)) agree_name
 
-agree_item : Agree item IsItem
+agree_item : Agree sphinxql item IsItem
 agree_item = agree_as (agree_or (agree_sign signs.Star) (agree_seq agree_expr (agree_optional agree_alias))) there back
   where
     Is : Unit {0} ⊎ SelectExpr × Option (List ℕ) → List Lexeme → Type 0
@@ -140,7 +146,7 @@ comparison_kind (kinds.Sign signs.Semicolon) e = cc
 comparison_kind (kinds.Sign signs.Star) e = cc
 comparison_kind (kinds.Sign signs.Minus) e = cc
 
-agree_comparison : Agree comparison IsComparison
+agree_comparison : Agree sphinxql comparison IsComparison
 unfolding In
 agree_comparison = record {
   text = λ op u (t, e, k). (t, e, ap (fits a_comparison) k ∙ sign_compares op);
@@ -157,15 +163,15 @@ IsTest =
     (IsEither (λ numbers. IsWord keywords.In then IsEnclosed (AreListed IsComma IsWhole numbers))
     (λ pair. IsComparison pair.0 then IsWhole pair.1)))
 
-agree_test : Agree test IsTest
+agree_test : Agree sphinxql test IsTest
 agree_test =
-    agree_or (agree_behind (agree_word keywords.Between) (agree_seq agree_whole (agree_behind (agree_word keywords.And) agree_whole)))
-    (agree_or (agree_behind (agree_word keywords.Not) (agree_behind (agree_word keywords.In) agree_wholes))
-    (agree_or (agree_behind (agree_word keywords.In) agree_wholes)
+    agree_or (agree_after (agree_word keywords.Between) (agree_seq agree_whole (agree_after (agree_word keywords.And) agree_whole)))
+    (agree_or (agree_after (agree_word keywords.Not) (agree_after (agree_word keywords.In) agree_wholes))
+    (agree_or (agree_after (agree_word keywords.In) agree_wholes)
     (agree_seq agree_comparison agree_whole)))
 
-agree_cond : Agree cond IsCond
-agree_cond = agree_as (agree_or (agree_behind (agree_word keywords.Match) (agree_enclosed agree_text)) (agree_seq agree_name agree_test)) there back
+agree_cond : Agree sphinxql cond IsCond
+agree_cond = agree_as (agree_or (agree_after (agree_word keywords.Match) (agree_enclosed agree_text)) (agree_seq agree_name agree_test)) there back
   where
     Is : List ℕ ⊎ List ℕ × TestValue → List Lexeme → Type 0
     Is = IsEither (λ query. IsWord keywords.Match then IsEnclosed (IsText query)) (λ x. IsName x.0 then IsTest x.1)
@@ -185,11 +191,11 @@ agree_cond = agree_as (agree_or (agree_behind (agree_word keywords.Match) (agree
         (inr (column, inr (inr (inl numbers))), (a, b, e, p, subst (λ v. (IsWord keywords.In then IsEnclosed (AreListed IsComma IsWhole numbers)) v) (sym (f ∙ ap (λ v. v ++ d) g)) q))
     back (condition.Compare column op value) u h = (inr (column, inr (inr (inr (op, value)))), h)
 
-agree_conds : Agree conds (AreGiven AreConds)
-agree_conds = agree_lists AreConds (λ u (a, b, e, p, q). q) (agree_behind (agree_word keywords.Where) (agree_listed (agree_word keywords.And) agree_cond))
+agree_conds : Agree sphinxql conds (AreGiven AreConds)
+agree_conds = agree_lists AreConds (λ u (a, b, e, p, q). q) (agree_after (agree_word keywords.Where) (agree_listed (agree_word keywords.And) agree_cond))
 
 -- Sorting.
-agree_sort : Agree (weight ∣ count ∣ name) IsSort
+agree_sort : Agree sphinxql (weight ∣ count ∣ name) IsSort
 agree_sort = agree_as (agree_or agree_weight (agree_or agree_count agree_name)) there back
   where
     Is : Unit {0} ⊎ (Unit {0} ⊎ List ℕ) → List Lexeme → Type 0
@@ -205,7 +211,7 @@ agree_sort = agree_as (agree_or agree_weight (agree_or agree_count agree_name)) 
     back sorts.CountAll u h = (inr (inl tt), h)
     back (sorts.Column column) u h = (inr (inr column), h)
 
-agree_inner_sort : Agree (weight ∣ name) IsInnerSort
+agree_inner_sort : Agree sphinxql (weight ∣ name) IsInnerSort
 agree_inner_sort = agree_as (agree_or agree_weight agree_name) there back
   where
     Is : Unit {0} ⊎ List ℕ → List Lexeme → Type 0
@@ -220,7 +226,7 @@ agree_inner_sort = agree_as (agree_or agree_weight agree_name) there back
     back sorts.CountAll u h = absurd h
     back (sorts.Column column) u h = (inr column, h)
 
-agree_group_sort : Agree (count ∣ name) IsGroupSort
+agree_group_sort : Agree sphinxql (count ∣ name) IsGroupSort
 agree_group_sort = agree_as (agree_or agree_count agree_name) there back
   where
     Is : Unit {0} ⊎ List ℕ → List Lexeme → Type 0
@@ -235,7 +241,7 @@ agree_group_sort = agree_as (agree_or agree_count agree_name) there back
     back sorts.CountAll u h = (inl tt, h)
     back (sorts.Column column) u h = (inr column, h)
 
-agree_direction : Agree direction (IsGiven IsDirection)
+agree_direction : Agree sphinxql direction (IsGiven IsDirection)
 agree_direction = agree_optional (agree_as (agree_or (agree_word keywords.Asc) (agree_word keywords.Desc)) there back)
   where
     Is : Unit {0} ⊎ Unit {0} → List Lexeme → Type 0
@@ -249,38 +255,38 @@ agree_direction = agree_optional (agree_as (agree_or (agree_word keywords.Asc) (
     back false u h = (inl tt, h)
     back true u h = (inr tt, h)
 
-agree_key_by : {r : Re} {Is : SortName → List Lexeme → Type 0} → Agree r Is → Agree (r ⨾ direction) (IsKeyBy Is)
+agree_key_by : {r : Re Class} {Is : SortName → List Lexeme → Type 0} → Agree sphinxql r Is → Agree sphinxql (r ⨾ direction) (IsKeyBy Is)
 agree_key_by h = agree_as (agree_seq h agree_direction) (λ x u i. (record { by = x.0; descending = x.1 }, i)) (λ y u i. ((y.by, y.descending), i))
 
-agree_group : Agree group (IsGiven IsGroup)
-agree_group = agree_optional (agree_behind (agree_words keywords.Group keywords.By) agree_name)
+agree_group : Agree sphinxql group (IsGiven IsGroup)
+agree_group = agree_optional (agree_after (agree_words keywords.Group keywords.By) agree_name)
 
-agree_within : Agree within (AreGiven AreInnerKeys)
+agree_within : Agree sphinxql within (AreGiven AreInnerKeys)
 agree_within = agree_lists AreInnerKeys (λ u (a, b, e, p, (c, d, f, q, i)). i)
-    (agree_behind (agree_words keywords.Within keywords.Group) (agree_behind (agree_words keywords.Order keywords.By) (agree_listed (agree_sign signs.Comma) (agree_key_by agree_inner_sort))))
+    (agree_after (agree_words keywords.Within keywords.Group) (agree_after (agree_words keywords.Order keywords.By) (agree_listed (agree_sign signs.Comma) (agree_key_by agree_inner_sort))))
 
-agree_order : Agree order (AreGiven AreKeys)
-agree_order = agree_lists AreKeys (λ u (a, b, e, p, q). q) (agree_behind (agree_words keywords.Order keywords.By) (agree_listed (agree_sign signs.Comma) (agree_key_by agree_sort)))
+agree_order : Agree sphinxql order (AreGiven AreKeys)
+agree_order = agree_lists AreKeys (λ u (a, b, e, p, q). q) (agree_after (agree_words keywords.Order keywords.By) (agree_listed (agree_sign signs.Comma) (agree_key_by agree_sort)))
 
 -- Other parts.
-agree_having : Agree having IsHaving
+agree_having : Agree sphinxql having IsHaving
 agree_having = agree_as (agree_seq agree_group_sort (agree_seq agree_comparison agree_whole)) (λ x u h. (record { left = x.0; op = x.1.0; value = x.1.1 }, h)) (λ y u h. ((y.left, (y.op, y.value)), h))
 
-agree_having_part : Agree having_part (IsGiven IsHavingPart)
-agree_having_part = agree_optional (agree_behind (agree_word keywords.Having) agree_having)
+agree_having_part : Agree sphinxql having_part (IsGiven IsHavingPart)
+agree_having_part = agree_optional (agree_after (agree_word keywords.Having) agree_having)
 
-agree_limit : Agree limit IsLimit
+agree_limit : Agree sphinxql limit IsLimit
 agree_limit = agree_as
-    (agree_behind (agree_word keywords.Limit) (agree_seq agree_number (agree_optional (agree_behind (agree_sign signs.Comma) agree_number))))
+    (agree_after (agree_word keywords.Limit) (agree_seq agree_number (agree_optional (agree_after (agree_sign signs.Comma) agree_number))))
     (λ x u h. (record { first = x.0; second = x.1 }, h)) (λ y u h. ((y.first, y.second), h))
 
-agree_field_weight : Agree field_weight IsFieldWeight
-agree_field_weight = agree_seq agree_name (agree_behind (agree_sign signs.Equal) agree_number)
+agree_field_weight : Agree sphinxql field_weight IsFieldWeight
+agree_field_weight = agree_seq agree_name (agree_after (agree_sign signs.Equal) agree_number)
 
 abbrev OptionParts : Type 0
 OptionParts = List ℕ ⊎ (ℕ ⊎ (List ℕ ⊎ List (List ℕ × ℕ)))
 
-agree_option_value : Agree option_value IsOptionValue
+agree_option_value : Agree sphinxql option_value IsOptionValue
 agree_option_value = agree_as
     (agree_or agree_name (agree_or agree_number (agree_or agree_text (agree_enclosed (agree_listed (agree_sign signs.Comma) agree_field_weight)))))
     there back
@@ -300,22 +306,22 @@ agree_option_value = agree_as
     back (values.Text words) u h = (inr (inr (inl words)), h)
     back (values.List pairs) u h = (inr (inr (inr pairs)), h)
 
-agree_option : Agree option IsOption
-agree_option = agree_as (agree_seq agree_name (agree_behind (agree_sign signs.Equal) agree_option_value)) (λ x u h. (record { name = x.0; value = x.1 }, h)) (λ y u h. ((y.name, y.value), h))
+agree_option : Agree sphinxql option IsOption
+agree_option = agree_as (agree_seq agree_name (agree_after (agree_sign signs.Equal) agree_option_value)) (λ x u h. (record { name = x.0; value = x.1 }, h)) (λ y u h. ((y.name, y.value), h))
 
-agree_options : Agree options (AreGiven AreOptions)
-agree_options = agree_lists AreOptions (λ u (a, b, e, p, q). q) (agree_behind (agree_word keywords.Option) (agree_listed (agree_sign signs.Comma) agree_option))
+agree_options : Agree sphinxql options (AreGiven AreOptions)
+agree_options = agree_lists AreOptions (λ u (a, b, e, p, q). q) (agree_after (agree_word keywords.Option) (agree_listed (agree_sign signs.Comma) agree_option))
 
-agree_facet : Agree facet IsFacet
-agree_facet = agree_behind (agree_word keywords.Facet) (agree_as
-    (agree_seq agree_name (agree_seq (agree_optional (agree_behind (agree_words keywords.Order keywords.By) (agree_key_by agree_group_sort))) (agree_optional agree_limit)))
+agree_facet : Agree sphinxql facet IsFacet
+agree_facet = agree_after (agree_word keywords.Facet) (agree_as
+    (agree_seq agree_name (agree_seq (agree_optional (agree_after (agree_words keywords.Order keywords.By) (agree_key_by agree_group_sort))) (agree_optional agree_limit)))
     (λ x u h. (record { column = x.0; order = x.1.0; limit = x.1.1 }, h)) (λ y u h. ((y.column, (y.order, y.limit)), h)))
 
 -- Each text of a SELECT stands for one, and what stands for one is a text.
-pub agree_select : Agree select IsSelected
+pub agree_select : Agree sphinxql select IsSelected
 agree_select = agree_as
     (agree_seq (agree_listed (agree_sign signs.Comma) agree_item)
-    (agree_behind (agree_word keywords.From)
+    (agree_after (agree_word keywords.From)
     (agree_seq agree_name
     (agree_seq agree_conds
     (agree_seq agree_group

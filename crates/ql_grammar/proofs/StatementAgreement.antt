@@ -20,24 +20,29 @@ use Rattle.ql_grammar.specs.declared.statement.Val.{Val}
 use Rattle.ql_grammar.specs.declared.statement.Val.TheVariants as vals
 use Rattle.ql_grammar.specs.Tokens.{kind, name_value}
 use Rattle.ql_grammar.specs.Classes.{a_sysvar, fits}
-use Rattle.ql_grammar.specs.Language.{In}
-use Rattle.ql_grammar.specs.Grammar.{◌∣◌, word, sysvar, target_name, select_variable, select_database, select, val, insert, ids, plain, setting, assignment, set_rest, shown, statement}
-use Rattle.ql_grammar.specs.Parts.{◌then◌, IsWord, AreWords, IsSign, IsComma, IsName, IsNumber, IsTargetName, IsText, IsVariable, IsWhole, IsEnclosed, AreParens, IsGiven, AreListed}
+use Rattle.token_grammar.specs.Language.{In}
+use Rattle.ql_grammar.specs.Grammar.{word, sysvar, target_name, select_variable, select_database, select, val, insert, ids, plain, setting, assignment, set_rest, shown, statement}
+use Rattle.token_grammar.specs.Language.{◌∣◌}
+use Rattle.ql_grammar.specs.Parts.{IsWord, AreWords, IsSign, IsComma, IsName, IsNumber, IsTargetName, IsText, IsVariable, IsWhole, IsEnclosed, AreParens}
+use Rattle.token_grammar.specs.Values.{◌then◌, IsGiven, AreListed}
 use Rattle.ql_grammar.specs.Selects.{IsSelected}
 use Rattle.ql_grammar.specs.Statements.{IsVal, IsPut, AreIds, IsPlain, IsTarget, IsSetting, IsAssignment, AreColumns, IsRow, IsRowLimit, IsStatement}
-use Rattle.ql_grammar.proofs.Agreement.{Agree, agree_as, agree_listed, agree_name, agree_number, agree_seq, agree_sign, agree_word}
-use Rattle.ql_grammar.proofs.Agreements.{IsEither, agree_behind, agree_enclosed, agree_optional, agree_or, agree_parens, agree_text, agree_whole, agree_words}
+use Rattle.ql_grammar.proofs.Agreement.{agree_name, agree_number, agree_sign, agree_word}
+use Rattle.token_grammar.proofs.Agreement.{Agree, agree_as, agree_listed, agree_seq}
+use Rattle.ql_grammar.proofs.Agreements.{agree_enclosed, agree_parens, agree_text, agree_whole, agree_words}
+use Rattle.token_grammar.proofs.Agreement.{IsEither, agree_after, agree_optional, agree_or}
 use Rattle.ql_grammar.proofs.SelectAgreement.{agree_select}
 use Rattle.ql_grammar.proofs.ClassKinds.{variable_is}
+use Rattle.ql_grammar.specs.Alphabet.{sphinxql}
 
-agree_variable : Agree sysvar IsVariable
+agree_variable : Agree sphinxql sysvar IsVariable
 unfolding In
 agree_variable = record {
   text = λ x u (t, e, (k, v)). (t, e, ap (fits a_sysvar) k);
   value = λ u (t, e, f). (name_value t, (t, e, (variable_is (kind t) f, refl)));
 }
 
-agree_target_name : Agree target_name IsTargetName
+agree_target_name : Agree sphinxql target_name IsTargetName
 unfolding In
 agree_target_name = record {
   text = λ x u (t, e, (f, v)). (t, e, f);
@@ -45,7 +50,7 @@ agree_target_name = record {
 }
 
 -- Values, and the documents of a DELETE.
-agree_val : Agree val IsVal
+agree_val : Agree sphinxql val IsVal
 agree_val = agree_as (agree_or agree_text agree_whole) there back
   where
     there : (x : List ℕ ⊎ ℤ) (u : List Lexeme) → IsEither IsText IsWhole x u → (y : Val) × IsVal y u
@@ -56,7 +61,7 @@ agree_val = agree_as (agree_or agree_text agree_whole) there back
     back (vals.Text text) u h = (inl text, h)
     back (vals.Number z) u h = (inr z, h)
 
-agree_put : Agree (word keywords.Replace ∣ word keywords.Insert) IsPut
+agree_put : Agree sphinxql (word keywords.Replace ∣ word keywords.Insert) IsPut
 agree_put = agree_as (agree_or (agree_word keywords.Replace) (agree_word keywords.Insert)) there back
   where
     Is : Unit {0} ⊎ Unit {0} → List Lexeme → Type 0
@@ -70,8 +75,8 @@ agree_put = agree_as (agree_or (agree_word keywords.Replace) (agree_word keyword
     back true u h = (inl tt, h)
     back false u h = (inr tt, h)
 
-agree_ids : Agree ids AreIds
-agree_ids = agree_as (agree_or (agree_behind (agree_sign signs.Equal) agree_number) (agree_behind (agree_word keywords.In) (agree_enclosed (agree_listed (agree_sign signs.Comma) agree_number)))) there back
+agree_ids : Agree sphinxql ids AreIds
+agree_ids = agree_as (agree_or (agree_after (agree_sign signs.Equal) agree_number) (agree_after (agree_word keywords.In) (agree_enclosed (agree_listed (agree_sign signs.Comma) agree_number)))) there back
   where
     Is : ℕ ⊎ List ℕ → List Lexeme → Type 0
     Is = IsEither (λ n. IsSign signs.Equal then IsNumber n) (λ ns. IsWord keywords.In then IsEnclosed (AreListed IsComma IsNumber ns))
@@ -85,7 +90,7 @@ agree_ids = agree_as (agree_or (agree_behind (agree_sign signs.Equal) agree_numb
     back (numbers.Several ns) u h = (inr ns, h)
 
 -- SET.
-agree_plain : Agree plain IsPlain
+agree_plain : Agree sphinxql plain IsPlain
 agree_plain = agree_as (agree_or agree_text agree_name) there back
   where
     there : (x : List ℕ ⊎ List ℕ) (u : List Lexeme) → IsEither IsText IsName x u → (y : Plain) × IsPlain y u
@@ -99,7 +104,7 @@ agree_plain = agree_as (agree_or agree_text agree_name) there back
 abbrev pub SettingValue : Type 0
 SettingValue = Unit {0} ⊎ (List ℕ ⊎ (List ℕ ⊎ ℤ))
 
-agree_setting : Agree setting IsSetting
+agree_setting : Agree sphinxql setting IsSetting
 agree_setting = agree_as (agree_or (agree_word keywords.Null) (agree_or agree_text (agree_or agree_name agree_whole))) there back
   where
     Is : SettingValue → List Lexeme → Type 0
@@ -117,7 +122,7 @@ agree_setting = agree_as (agree_or (agree_word keywords.Null) (agree_or agree_te
     back (settings.Name name) u h = (inr (inr (inl name)), h)
     back (settings.Number z) u h = (inr (inr (inr z)), h)
 
-agree_target : Agree (sysvar ∣ target_name) IsTarget
+agree_target : Agree sphinxql (sysvar ∣ target_name) IsTarget
 agree_target = agree_as (agree_or agree_variable agree_target_name) there back
   where
     there : (x : List ℕ ⊎ List ℕ) (u : List Lexeme) → IsEither IsVariable IsTargetName x u → (y : Target) × IsTarget y u
@@ -128,8 +133,8 @@ agree_target = agree_as (agree_or agree_variable agree_target_name) there back
     back (targets.Var name) u h = (inl name, h)
     back (targets.Name name) u h = (inr name, h)
 
-agree_assignment : Agree assignment IsAssignment
-agree_assignment = agree_seq agree_target (agree_behind (agree_sign signs.Equal) agree_setting)
+agree_assignment : Agree sphinxql assignment IsAssignment
+agree_assignment = agree_seq agree_target (agree_after (agree_sign signs.Equal) agree_setting)
 
 -- What stands behind the first words of the statements.
 abbrev pub Selection : Type 0
@@ -138,10 +143,10 @@ Selection = List ℕ × Option ℕ ⊎ (Unit {0} ⊎ Select)
 abbrev pub IsSelection : Selection → List Lexeme → Type 0
 IsSelection = IsEither (λ x. IsVariable x.0 then IsGiven IsRowLimit x.1) (IsEither (λ _. IsWord keywords.Database then AreParens) IsSelected)
 
-agree_selection : Agree (select_variable ∣ select_database ∣ select) IsSelection
+agree_selection : Agree sphinxql (select_variable ∣ select_database ∣ select) IsSelection
 agree_selection =
-    agree_or (agree_seq agree_variable (agree_optional (agree_behind (agree_word keywords.Limit) agree_number)))
-    (agree_or (agree_behind (agree_word keywords.Database) agree_parens) agree_select)
+    agree_or (agree_seq agree_variable (agree_optional (agree_after (agree_word keywords.Limit) agree_number)))
+    (agree_or (agree_after (agree_word keywords.Database) agree_parens) agree_select)
 
 abbrev pub Setting : Type 0
 Setting = ℕ ⊎ (Plain ⊎ (Target × SetValue ⊎ (Target × SetValue ⊎ Target × SetValue)))
@@ -153,12 +158,12 @@ IsSet =
     (IsEither (λ pair. IsWord keywords.Global then IsAssignment pair)
     (IsEither (λ pair. IsWord keywords.Session then IsAssignment pair) IsAssignment)))
 
-agree_set_rest : Agree set_rest IsSet
+agree_set_rest : Agree sphinxql set_rest IsSet
 agree_set_rest =
-    agree_or (agree_behind (agree_word keywords.Autocommit) (agree_behind (agree_sign signs.Equal) agree_number))
-    (agree_or (agree_behind (agree_word keywords.Names) agree_plain)
-    (agree_or (agree_behind (agree_word keywords.Global) agree_assignment)
-    (agree_or (agree_behind (agree_word keywords.Session) agree_assignment) agree_assignment)))
+    agree_or (agree_after (agree_word keywords.Autocommit) (agree_after (agree_sign signs.Equal) agree_number))
+    (agree_or (agree_after (agree_word keywords.Names) agree_plain)
+    (agree_or (agree_after (agree_word keywords.Global) agree_assignment)
+    (agree_or (agree_after (agree_word keywords.Session) agree_assignment) agree_assignment)))
 
 abbrev pub Shown : Type 0
 Shown = List ℕ × Unit {0} ⊎ (Unit {0} ⊎ (Unit {0} ⊎ (Unit {0} ⊎ (Unit {0} ⊎ Unit {0}))))
@@ -171,9 +176,9 @@ IsShown =
     (IsEither (λ _. IsWord keywords.Warnings)
     (IsEither (λ _. IsWord keywords.Variables) (λ _. IsWord keywords.Databases)))))
 
-agree_shown : Agree shown IsShown
+agree_shown : Agree sphinxql shown IsShown
 agree_shown =
-    agree_or (agree_behind (agree_word keywords.Index) (agree_seq agree_name (agree_word keywords.Status)))
+    agree_or (agree_after (agree_word keywords.Index) (agree_seq agree_name (agree_word keywords.Status)))
     (agree_or (agree_word keywords.Meta)
     (agree_or (agree_word keywords.Tables)
     (agree_or (agree_word keywords.Warnings)
@@ -188,11 +193,11 @@ Put = Bool × (List ℕ × (Option (List (List ℕ)) × List (List Val)))
 abbrev pub IsInserted : Put → List Lexeme → Type 0
 IsInserted x = IsPut x.0 then IsWord keywords.Into then IsName x.1.0 then IsGiven AreColumns x.1.1.0 then IsWord keywords.Values then AreListed IsComma IsRow x.1.1.1
 
-agree_insert : Agree insert IsInserted
+agree_insert : Agree sphinxql insert IsInserted
 agree_insert =
-    agree_seq agree_put (agree_behind (agree_word keywords.Into) (agree_seq agree_name
+    agree_seq agree_put (agree_after (agree_word keywords.Into) (agree_seq agree_name
     (agree_seq (agree_optional (agree_enclosed (agree_listed (agree_sign signs.Comma) agree_name)))
-    (agree_behind (agree_word keywords.Values) (agree_listed (agree_sign signs.Comma) (agree_enclosed (agree_listed (agree_sign signs.Comma) agree_val)))))))
+    (agree_after (agree_word keywords.Values) (agree_listed (agree_sign signs.Comma) (agree_enclosed (agree_listed (agree_sign signs.Comma) agree_val)))))))
 
 -- Statements, in the order of the grammar.
 abbrev pub Parts : Type 0
@@ -215,20 +220,20 @@ AreParts =
     (IsEither (λ name. IsWord keywords.Describe then IsName name)
     IsInserted)))))))))))
 
-agree_parts : Agree statement AreParts
+agree_parts : Agree sphinxql statement AreParts
 agree_parts =
-    agree_or (agree_behind (agree_word keywords.Select) agree_selection)
-    (agree_or (agree_behind (agree_words keywords.Delete keywords.From) (agree_seq agree_name (agree_behind (agree_words keywords.Where keywords.Id) agree_ids)))
-    (agree_or (agree_behind (agree_word keywords.Set) agree_set_rest)
-    (agree_or (agree_behind (agree_word keywords.Show) agree_shown)
-    (agree_or (agree_behind (agree_word keywords.Flush) (agree_or (agree_behind (agree_word keywords.RamChunk) agree_name) (agree_behind (agree_word keywords.RtIndex) agree_name)))
+    agree_or (agree_after (agree_word keywords.Select) agree_selection)
+    (agree_or (agree_after (agree_words keywords.Delete keywords.From) (agree_seq agree_name (agree_after (agree_words keywords.Where keywords.Id) agree_ids)))
+    (agree_or (agree_after (agree_word keywords.Set) agree_set_rest)
+    (agree_or (agree_after (agree_word keywords.Show) agree_shown)
+    (agree_or (agree_after (agree_word keywords.Flush) (agree_or (agree_after (agree_word keywords.RamChunk) agree_name) (agree_after (agree_word keywords.RtIndex) agree_name)))
     (agree_or (agree_word keywords.Begin)
     (agree_or (agree_words keywords.Start keywords.Transaction)
     (agree_or (agree_word keywords.Commit)
     (agree_or (agree_word keywords.Rollback)
-    (agree_or (agree_behind (agree_words keywords.Optimize keywords.Index) agree_name)
-    (agree_or (agree_behind (agree_words keywords.Truncate keywords.RtIndex) agree_name)
-    (agree_or (agree_behind (agree_word keywords.Describe) agree_name)
+    (agree_or (agree_after (agree_words keywords.Optimize keywords.Index) agree_name)
+    (agree_or (agree_after (agree_words keywords.Truncate keywords.RtIndex) agree_name)
+    (agree_or (agree_after (agree_word keywords.Describe) agree_name)
     agree_insert)))))))))))
 
 there : (x : Parts) (u : List Lexeme) → AreParts x u → (y : Statement) × IsStatement y u
@@ -286,5 +291,5 @@ back (statements.Describe name) u h = (inr (inr (inr (inr (inr (inr (inr (inr (i
 back (statements.Insert replace name columns rows) u h = (inr (inr (inr (inr (inr (inr (inr (inr (inr (inr (inr (inr (replace, (name, (columns, rows)))))))))))))), h)
 
 -- Each text of a statement stands for one, and what stands for one is a text.
-pub statement_agrees : Agree statement IsStatement
+pub statement_agrees : Agree sphinxql statement IsStatement
 statement_agrees = agree_as agree_parts there back

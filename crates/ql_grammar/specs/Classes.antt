@@ -112,3 +112,37 @@ fits a_sysvar k = kind_number k == 4
 fits (the_sign s) k = is_sign s k
 fits a_comparison k = compares k
 fits the_end k = kind_number k == 6
+
+-- some token may be of both classes
+abbrev pub meets : Class → Class → Bool
+meets (the_word v) (the_word w) = same_keyword v w
+meets (the_word v) any_name = not (is_reserved v)
+meets (the_word v) (name_but a b) = fits (name_but a b) (kinds.Keyword v)
+meets any_name (the_word w) = not (is_reserved w)
+meets any_name any_name = true
+meets any_name (name_but a b) = true
+meets (name_but a b) (the_word w) = fits (name_but a b) (kinds.Keyword w)
+meets (name_but a b) any_name = true
+meets (name_but a b) (name_but c d) = true
+meets a_number a_number = true
+meets a_text a_text = true
+meets a_sysvar a_sysvar = true
+meets (the_sign v) (the_sign w) = same_sign v w
+meets (the_sign v) a_comparison = is_comparison v
+meets a_comparison (the_sign w) = is_comparison w
+meets a_comparison a_comparison = true
+meets the_end the_end = true
+meets _ _ = false
+
+-- each token of the first class is one of the second
+abbrev pub within : Class → Class → Bool
+within (the_word v) d = fits d (kinds.Keyword v)
+within (the_sign v) d = fits d (kinds.Sign v)
+within any_name any_name = true
+within (name_but a b) any_name = true
+within a_number a_number = true
+within a_text a_text = true
+within a_sysvar a_sysvar = true
+within a_comparison a_comparison = true
+within the_end the_end = true
+within _ _ = false

@@ -11,7 +11,8 @@ use Rattle.ql_grammar.specs.declared.kind.Kind.TheVariants as kinds
 use Rattle.ql_grammar.specs.declared.statement.TheConstants.{MAX_STATEMENTS}
 use Rattle.ql_grammar.specs.declared.statement.Statement.{Statement}
 use Rattle.ql_grammar.specs.Tokens.{kind}
-use Rattle.ql_grammar.specs.Parts.{◌then◌, IsOne, IsSign, IsPerhaps, AreListed}
+use Rattle.ql_grammar.specs.Parts.{IsSign}
+use Rattle.token_grammar.specs.Values.{◌then◌, IsOne, IsPerhaps, AreListed}
 use Rattle.ql_grammar.specs.Statements.{IsStatement}
 
 -- the end of a text

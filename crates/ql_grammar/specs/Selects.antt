@@ -22,7 +22,8 @@ use Rattle.ql_grammar.specs.declared.select.SelectOption.{SelectOption}
 use Rattle.ql_grammar.specs.declared.select.SortKey.{SortKey}
 use Rattle.ql_grammar.specs.declared.select.SortName.{SortName}
 use Rattle.ql_grammar.specs.declared.select.SortName.TheVariants as sorts
-use Rattle.ql_grammar.specs.Parts.{◌then◌, IsAbsent, IsWord, AreWords, IsSign, IsComma, IsName, IsNumber, IsText, IsWhole, IsEnclosed, AreParens, IsPerhaps, IsGiven, AreGiven, AreListed, AreInRow}
+use Rattle.ql_grammar.specs.Parts.{IsWord, AreWords, IsSign, IsComma, IsName, IsNumber, IsText, IsWhole, IsEnclosed, AreParens}
+use Rattle.token_grammar.specs.Values.{◌then◌, IsAbsent, IsPerhaps, IsGiven, AreGiven, AreListed, AreInRow}
 
 -- name | COUNT(*) | COUNT(DISTINCT name) | MIN(name) | MAX(name) | SUM(name) | WEIGHT() | GROUPBY()
 abbrev pub IsExpr : SelectExpr → List Lexeme → Type 0

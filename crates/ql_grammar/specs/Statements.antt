@@ -17,7 +17,8 @@ use Rattle.ql_grammar.specs.declared.statement.Target.{Target}
 use Rattle.ql_grammar.specs.declared.statement.Target.TheVariants as targets
 use Rattle.ql_grammar.specs.declared.statement.Val.{Val}
 use Rattle.ql_grammar.specs.declared.statement.Val.TheVariants as vals
-use Rattle.ql_grammar.specs.Parts.{◌then◌, IsAbsent, IsWord, AreWords, IsSign, IsComma, IsName, IsNumber, IsTargetName, IsText, IsVariable, IsWhole, IsEnclosed, AreParens, IsGiven, AreListed}
+use Rattle.ql_grammar.specs.Parts.{IsWord, AreWords, IsSign, IsComma, IsName, IsNumber, IsTargetName, IsText, IsVariable, IsWhole, IsEnclosed, AreParens}
+use Rattle.token_grammar.specs.Values.{◌then◌, IsAbsent, IsGiven, AreListed}
 use Rattle.ql_grammar.specs.Selects.{IsSelect, IsSelected}
 
 -- num | text

@@ -4,7 +4,8 @@ use Rattle.ql_lex.specs.Tokens.{Lexeme}
 use Rattle.ql_grammar.specs.declared.keyword.Keyword.TheVariants as keywords
 use Rattle.ql_grammar.specs.declared.statement.Statement.{Statement}
 use Rattle.ql_grammar.specs.declared.statement.Statement.TheVariants as statements
-use Rattle.ql_grammar.specs.Parts.{◌then◌, IsWord}
+use Rattle.ql_grammar.specs.Parts.{IsWord}
+use Rattle.token_grammar.specs.Values.{◌then◌}
 use Rattle.ql_grammar.specs.Statements.{IsSelection, IsSetRest, IsShown, IsStatement}
 
 pub set_is : (s : Statement) (u : List Lexeme) → (IsWord keywords.Set then IsSetRest s) u → IsStatement s u

@@ -9,18 +9,20 @@ use Rattle.ql_grammar.specs.declared.fault.ParseKind.TheVariants.{Syntax}
 use Rattle.ql_grammar.specs.declared.statement.TheConstants.{MAX_STATEMENTS}
 use Rattle.ql_grammar.specs.declared.statement.Statement.{Statement}
 use Rattle.ql_grammar.specs.Grammar.{more_statements, packet}
-use Rattle.ql_grammar.specs.Language.{verdict}
+use Rattle.token_grammar.specs.Language.{verdict}
+use Rattle.token_grammar.specs.Reading.{first_place}
 use Rattle.ql_grammar.specs.Packets.{IsPacket}
-use Rattle.ql_grammar.specs.Parts.{AreListed, IsSign}
+use Rattle.ql_grammar.specs.Parts.{IsSign}
+use Rattle.token_grammar.specs.Values.{AreListed}
 use Rattle.ql_parts.specs.Progress.{IsStart}
 use Rattle.ql_grammar.specs.Statements.{IsStatement}
-use Rattle.ql_grammar.specs.Tokens.{first_place}
+use Rattle.ql_grammar.specs.Alphabet.{sphinxql}
 
 -- The tokens leave the packets at this place, however many statements more than are allowed these may have.
 pub record LeavesPackets (tokens : List Lexeme) (place : ℕ) : Type 0 where
   pub rest : List Lexeme
-  pub place_is : place ≡ first_place rest
-  pub leaves : (more : ℕ) → MAX_STATEMENTS ≤ more + 1 → verdict (packet more) tokens ≡ Some rest
+  pub place_is : place ≡ first_place sphinxql rest
+  pub leaves : (more : ℕ) → MAX_STATEMENTS ≤ more + 1 → verdict sphinxql (packet more) tokens ≡ Some rest
 
 -- As many statements as are allowed have been read, a `;` behind each, and one more begins.
 pub record IsTooLong (tokens now : List Lexeme) : Type 0 where
@@ -32,7 +34,7 @@ pub record IsTooLong (tokens now : List Lexeme) : Type 0 where
   pub has : AreListed (IsSign signs.Semicolon) IsStatement list used
   pub behind : IsSign signs.Semicolon semicolon
   pub starts : IsStart now true
-  pub leaves : (more : ℕ) → more + 1 ≡ MAX_STATEMENTS → verdict (packet more) tokens ≡ Some now
+  pub leaves : (more : ℕ) → more + 1 ≡ MAX_STATEMENTS → verdict sphinxql (packet more) tokens ≡ Some now
 
 -- The whole list of tokens is a packet, one that is too long, or none.
 abbrev pub ReadsPacket : List Lexeme → Result (Option (List Statement)) (Or ℕ) → List Lexeme → Type 0
@@ -45,7 +47,7 @@ pub record StatementsRead (before : List Lexeme) (list : List Statement) (now : 
   pub others : ℕ
   pub count : length list ≡ suc others
   pub few : length list ≤ MAX_STATEMENTS
-  pub takes : (m n : ℕ) → m ≡ n + others → verdict (packet m) before ≡ verdict (more_statements n) now
+  pub takes : (m n : ℕ) → m ≡ n + others → verdict sphinxql (packet m) before ≡ verdict sphinxql (more_statements n) now
   pub used : List Lexeme
   pub is : before ≡ used ++ now
   pub has : AreListed (IsSign signs.Semicolon) IsStatement list used

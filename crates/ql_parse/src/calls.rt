@@ -1,10 +1,13 @@
 ghost use Rattle.std.specs.Prelude.{◌≡◌, [], ◌∷◌};
+ghost use Rattle.ql_grammar.specs.Alphabet.{sphinxql};
 ghost use Rattle.ql_lex.specs.declared.token.Sign.TheVariants as signs;
 ghost use Rattle.ql_grammar.specs.declared.keyword.Keyword.TheVariants as keywords;
 ghost use Rattle.ql_grammar.specs.Classes.{the_sign};
-ghost use Rattle.ql_grammar.specs.Grammar.{◌⨾◌, count, counted, enclosed, expr, name, parens, word};
-ghost use Rattle.ql_grammar.specs.Parts.{◌then◌, AreParens, IsEnclosed, IsName, IsWord};
-ghost use Rattle.ql_parts.specs.Progress.{Reads};
+ghost use Rattle.ql_grammar.specs.Grammar.{count, counted, enclosed, expr, name, parens, word};
+ghost use Rattle.token_grammar.specs.Language.{◌⨾◌};
+ghost use Rattle.ql_grammar.specs.Parts.{AreParens, IsEnclosed, IsName, IsWord};
+ghost use Rattle.token_grammar.specs.Values.{◌then◌};
+ghost use Rattle.token_grammar.specs.Reading.{ReadsPart};
 ghost use Rattle.ql_grammar.specs.Selects.{IsCount, IsCounted, IsExpr, count_expr};
 
 use ql_grammar::{Keyword, SelectExpr};
@@ -13,9 +16,9 @@ use ql_parts::Cursor;
 use srch_base::{Name, Or};
 use std::alloc::Global;
 
-/// Reads a function's word and a name in parentheses.
+/// ReadsPart sphinxql a function's word and a name in parentheses.
 fn argument(alloc: Global, input: &mut Cursor<'_>, of: Keyword) -> Result<Name, Or<u32>>
-    ensures { Reads (word of ⨾ enclosed name) [] (λ name. IsWord of then IsEnclosed (IsName name)) input.old result input.new }
+    ensures { ReadsPart sphinxql (word of ⨾ enclosed name) [] (λ name. IsWord of then IsEnclosed (IsName name)) input.old result input.new }
 {
     input.word(of)?;
     input.sign(Sign::OpenParen)?;
@@ -24,9 +27,9 @@ fn argument(alloc: Global, input: &mut Cursor<'_>, of: Keyword) -> Result<Name, 
     Ok(name)
 }
 
-/// Reads a function's word and empty parentheses.
+/// ReadsPart sphinxql a function's word and empty parentheses.
 pub(crate) fn no_argument(input: &mut Cursor<'_>, of: Keyword) -> Result<(), Or<u32>>
-    ensures { Reads (word of ⨾ parens) [] (λ _. IsWord of then AreParens) input.old result input.new }
+    ensures { ReadsPart sphinxql (word of ⨾ parens) [] (λ _. IsWord of then AreParens) input.old result input.new }
 {
     input.word(of)?;
     input.sign(Sign::OpenParen)?;
@@ -34,9 +37,9 @@ pub(crate) fn no_argument(input: &mut Cursor<'_>, of: Keyword) -> Result<(), Or<
     Ok(())
 }
 
-/// Reads `COUNT(*)`.
+/// ReadsPart `COUNT(*)`.
 pub(crate) fn count_all(input: &mut Cursor<'_>) -> Result<(), Or<u32>>
-    ensures { Reads count [] (λ _. IsCount) input.old result input.new }
+    ensures { ReadsPart sphinxql count [] (λ _. IsCount) input.old result input.new }
 {
     input.word(Keyword::Count)?;
     input.sign(Sign::OpenParen)?;
@@ -45,9 +48,9 @@ pub(crate) fn count_all(input: &mut Cursor<'_>) -> Result<(), Or<u32>>
     Ok(())
 }
 
-/// Reads `*`, or `DISTINCT` and a name.
+/// ReadsPart `*`, or `DISTINCT` and a name.
 fn counted(alloc: Global, input: &mut Cursor<'_>) -> Result<Option<Name>, Or<u32>>
-    ensures { Reads counted [] IsCounted input.old result input.new }
+    ensures { ReadsPart sphinxql counted [] IsCounted input.old result input.new }
 {
     if input.takes_sign(Sign::Star) {
         return Ok(None);
@@ -66,9 +69,9 @@ fn count_expr(name: Option<Name>) -> SelectExpr
     }
 }
 
-/// Reads a count.
+/// ReadsPart sphinxql a count.
 fn counting(alloc: Global, input: &mut Cursor<'_>) -> Result<Option<Name>, Or<u32>>
-    ensures { Reads (word keywords.Count ⨾ enclosed counted) [] (λ name. IsWord keywords.Count then IsEnclosed (IsCounted name)) input.old result input.new }
+    ensures { ReadsPart sphinxql (word keywords.Count ⨾ enclosed counted) [] (λ name. IsWord keywords.Count then IsEnclosed (IsCounted name)) input.old result input.new }
 {
     input.word(Keyword::Count)?;
     input.sign(Sign::OpenParen)?;
@@ -77,9 +80,9 @@ fn counting(alloc: Global, input: &mut Cursor<'_>) -> Result<Option<Name>, Or<u3
     Ok(name)
 }
 
-/// Reads a call of a function, or a name.
+/// ReadsPart sphinxql a call of a function, or a name.
 pub(crate) fn expr(alloc: Global, input: &mut Cursor<'_>) -> Result<SelectExpr, Or<u32>>
-    ensures { Reads expr (the_sign signs.OpenParen ∷ []) IsExpr input.old result input.new }
+    ensures { ReadsPart sphinxql expr (the_sign signs.OpenParen ∷ []) IsExpr input.old result input.new }
 {
     if input.is_followed(Keyword::Count, Sign::OpenParen) {
         let name = counting(alloc, input)?;

@@ -1,6 +1,7 @@
 ghost use Rattle.std.specs.Prelude.{[]};
+ghost use Rattle.ql_grammar.specs.Alphabet.{sphinxql};
 ghost use Rattle.ql_grammar.specs.Grammar.{comparison};
-ghost use Rattle.ql_parts.specs.Progress.{Reads};
+ghost use Rattle.token_grammar.specs.Reading.{ReadsPart};
 ghost use Rattle.ql_parse.specs.Selecting.{IsNextComparison};
 ghost use Rattle.ql_grammar.specs.Selects.{IsComparison};
 
@@ -24,9 +25,9 @@ fn next_comparison(input: &Cursor<'_>) -> Option<Comparison>
     }
 }
 
-/// Reads a comparison.
+/// ReadsPart sphinxql a comparison.
 pub(crate) fn comparison(input: &mut Cursor<'_>) -> Result<Comparison, Or<u32>>
-    ensures { Reads comparison [] IsComparison input.old result input.new }
+    ensures { ReadsPart sphinxql comparison [] IsComparison input.old result input.new }
 {
     match next_comparison(input) {
         Some(op) => {

@@ -1,9 +1,12 @@
 ghost use Rattle.std.specs.Prelude.{[], ◌∷◌};
+ghost use Rattle.ql_grammar.specs.Alphabet.{sphinxql};
 ghost use Rattle.ql_grammar.specs.declared.keyword.Keyword.TheVariants as keywords;
 ghost use Rattle.ql_grammar.specs.Classes.{the_word};
-ghost use Rattle.ql_grammar.specs.Grammar.{◌⨾◌, word, text, enclosed, listed, whole, wholes, cond, conds};
-ghost use Rattle.ql_grammar.specs.Parts.{◌then◌, IsWord, IsComma, IsText, IsWhole, IsEnclosed, AreListed, AreGiven};
-ghost use Rattle.ql_parts.specs.Progress.{Reads};
+ghost use Rattle.ql_grammar.specs.Grammar.{word, text, enclosed, whole, wholes, cond, conds};
+ghost use Rattle.token_grammar.specs.Language.{◌⨾◌, listed};
+ghost use Rattle.ql_grammar.specs.Parts.{IsWord, IsComma, IsText, IsWhole, IsEnclosed};
+ghost use Rattle.token_grammar.specs.Values.{◌then◌, AreListed, AreGiven};
+ghost use Rattle.token_grammar.specs.Reading.{ReadsPart};
 ghost use Rattle.ql_grammar.specs.Selects.{IsCond, AreConds};
 
 use crate::comparisons::comparison;
@@ -13,9 +16,9 @@ use ql_parts::{Cursor, Part, Whole, enclosed};
 use srch_base::{Items, Or, Text};
 use std::alloc::Global;
 
-/// Reads `MATCH(text)`.
+/// ReadsPart `MATCH(text)`.
 fn matched(alloc: Global, input: &mut Cursor<'_>) -> Result<Text, Or<u32>>
-    ensures { Reads (word keywords.Match ⨾ enclosed text) [] (λ query. IsWord keywords.Match then IsEnclosed (IsText query)) input.old result input.new }
+    ensures { ReadsPart sphinxql (word keywords.Match ⨾ enclosed text) [] (λ query. IsWord keywords.Match then IsEnclosed (IsText query)) input.old result input.new }
 {
     input.word(Keyword::Match)?;
     input.sign(Sign::OpenParen)?;
@@ -24,9 +27,9 @@ fn matched(alloc: Global, input: &mut Cursor<'_>) -> Result<Text, Or<u32>>
     Ok(query)
 }
 
-/// Reads `BETWEEN num AND num`.
+/// ReadsPart `BETWEEN num AND num`.
 fn between(alloc: Global, input: &mut Cursor<'_>) -> Result<(i128, i128), Or<u32>>
-    ensures { Reads (word keywords.Between ⨾ whole ⨾ word keywords.And ⨾ whole) [] (λ pair. IsWord keywords.Between then IsWhole pair.0 then IsWord keywords.And then IsWhole pair.1) input.old result input.new }
+    ensures { ReadsPart sphinxql (word keywords.Between ⨾ whole ⨾ word keywords.And ⨾ whole) [] (λ pair. IsWord keywords.Between then IsWhole pair.0 then IsWord keywords.And then IsWhole pair.1) input.old result input.new }
 {
     input.word(Keyword::Between)?;
     let low = Whole::read(alloc, input)?;
@@ -35,9 +38,9 @@ fn between(alloc: Global, input: &mut Cursor<'_>) -> Result<(i128, i128), Or<u32
     Ok((low, high))
 }
 
-/// Reads `IN (num, ..)`.
+/// ReadsPart `IN (num, ..)`.
 fn among(alloc: Global, input: &mut Cursor<'_>) -> Result<Items<i128>, Or<u32>>
-    ensures { Reads (word keywords.In ⨾ wholes) [] (λ values. IsWord keywords.In then IsEnclosed (AreListed IsComma IsWhole values)) input.old result input.new }
+    ensures { ReadsPart sphinxql (word keywords.In ⨾ wholes) [] (λ values. IsWord keywords.In then IsEnclosed (AreListed IsComma IsWhole values)) input.old result input.new }
 {
     input.word(Keyword::In)?;
     let values = enclosed::<Whole>(alloc, input)?;
@@ -45,7 +48,7 @@ fn among(alloc: Global, input: &mut Cursor<'_>) -> Result<Items<i128>, Or<u32>>
 }
 
 fn cond(alloc: Global, input: &mut Cursor<'_>) -> Result<Cond, Or<u32>>
-    ensures { Reads cond [] IsCond input.old result input.new }
+    ensures { ReadsPart sphinxql cond [] IsCond input.old result input.new }
 {
     if input.is_word(Keyword::Match) {
         return Ok(Cond::Match(matched(alloc, input)?));
@@ -76,9 +79,9 @@ fn cond(alloc: Global, input: &mut Cursor<'_>) -> Result<Cond, Or<u32>>
     Ok(Cond::Compare { name, op, value })
 }
 
-/// Reads one condition or more, with `AND` between them.
+/// ReadsPart sphinxql one condition or more, with `AND` between them.
 fn all_conds(alloc: Global, input: &mut Cursor<'_>) -> Result<Items<Cond>, Or<u32>>
-    ensures { Reads (listed (the_word keywords.And) cond) (the_word keywords.And ∷ []) (AreListed (IsWord keywords.And) IsCond) input.old result input.new }
+    ensures { ReadsPart sphinxql (listed (the_word keywords.And) cond) (the_word keywords.And ∷ []) (AreListed (IsWord keywords.And) IsCond) input.old result input.new }
 {
     let mut conds = Vec::new(alloc);
     conds.push(cond(alloc, input)?)?;
@@ -88,9 +91,9 @@ fn all_conds(alloc: Global, input: &mut Cursor<'_>) -> Result<Items<Cond>, Or<u3
     Ok(Items::new(conds))
 }
 
-/// Reads WHERE, if it is there.
+/// ReadsPart sphinxql WHERE, if it is there.
 pub(crate) fn conds(alloc: Global, input: &mut Cursor<'_>) -> Result<Items<Cond>, Or<u32>>
-    ensures { Reads conds (the_word keywords.Where ∷ the_word keywords.And ∷ []) (AreGiven AreConds) input.old result input.new }
+    ensures { ReadsPart sphinxql conds (the_word keywords.Where ∷ the_word keywords.And ∷ []) (AreGiven AreConds) input.old result input.new }
 {
     if input.takes_word(Keyword::Where) {
         let conds = all_conds(alloc, input)?;

@@ -1,6 +1,7 @@
 ghost use Rattle.std.specs.Prelude.{[]};
+ghost use Rattle.ql_grammar.specs.Alphabet.{sphinxql};
 ghost use Rattle.ql_grammar.specs.Grammar.{ids, delete};
-ghost use Rattle.ql_parts.specs.Progress.{Reads};
+ghost use Rattle.token_grammar.specs.Reading.{ReadsPart};
 ghost use Rattle.ql_grammar.specs.Statements.{AreIds, IsStatement};
 
 use ql_grammar::{Ids, Keyword, Statement};
@@ -10,7 +11,7 @@ use srch_base::Or;
 use std::alloc::Global;
 
 fn ids(alloc: Global, input: &mut Cursor<'_>) -> Result<Ids, Or<u32>>
-    ensures { Reads ids [] AreIds input.old result input.new }
+    ensures { ReadsPart sphinxql ids [] AreIds input.old result input.new }
 {
     if input.takes_sign(Sign::Equal) {
         return Ok(Ids::One(input.number()?));
@@ -19,9 +20,9 @@ fn ids(alloc: Global, input: &mut Cursor<'_>) -> Result<Ids, Or<u32>>
     Ok(Ids::Several(enclosed::<Number>(alloc, input)?))
 }
 
-/// Reads a DELETE.
+/// ReadsPart sphinxql a DELETE.
 pub(crate) fn delete(alloc: Global, input: &mut Cursor<'_>) -> Result<Statement, Or<u32>>
-    ensures { Reads delete [] IsStatement input.old result input.new }
+    ensures { ReadsPart sphinxql delete [] IsStatement input.old result input.new }
 {
     input.words(Keyword::Delete, Keyword::From)?;
     let index = input.name(alloc)?;

@@ -1,10 +1,12 @@
 ghost use Rattle.std.specs.Prelude.{[], ◌∷◌};
+ghost use Rattle.ql_grammar.specs.Alphabet.{sphinxql};
 ghost use Rattle.ql_lex.specs.declared.token.Sign.TheVariants as signs;
 ghost use Rattle.ql_grammar.specs.declared.keyword.Keyword.TheVariants as keywords;
 ghost use Rattle.ql_grammar.specs.Classes.{the_sign};
-ghost use Rattle.ql_grammar.specs.Grammar.{◌∣◌, comma, enclosed, insert, listed, name, optional, row, val, word};
-ghost use Rattle.ql_grammar.specs.Parts.{IsGiven};
-ghost use Rattle.ql_parts.specs.Progress.{Reads};
+ghost use Rattle.ql_grammar.specs.Grammar.{comma, enclosed, insert, name, row, val, word};
+ghost use Rattle.token_grammar.specs.Language.{◌∣◌, listed, optional};
+ghost use Rattle.token_grammar.specs.Values.{IsGiven};
+ghost use Rattle.token_grammar.specs.Reading.{ReadsPart};
 ghost use Rattle.ql_grammar.specs.Statements.{AreColumns, IsPut, IsRow, IsStatement, IsVal};
 
 use ql_grammar::{Keyword, Statement, Val};
@@ -51,9 +53,9 @@ impl Part for Row {
     }
 }
 
-/// Reads `INSERT` or `REPLACE`, and tells whether it is the second.
+/// ReadsPart `INSERT` or `REPLACE`, and tells whether it is the second.
 fn replaces(input: &mut Cursor<'_>) -> Result<bool, Or<u32>>
-    ensures { Reads (word keywords.Replace ∣ word keywords.Insert) [] IsPut input.old result input.new }
+    ensures { ReadsPart sphinxql (word keywords.Replace ∣ word keywords.Insert) [] IsPut input.old result input.new }
 {
     if input.takes_word(Keyword::Replace) {
         return Ok(true);
@@ -62,9 +64,9 @@ fn replaces(input: &mut Cursor<'_>) -> Result<bool, Or<u32>>
     Ok(false)
 }
 
-/// Reads the names of the columns, if they are given.
+/// ReadsPart sphinxql the names of the columns, if they are given.
 fn columns(alloc: Global, input: &mut Cursor<'_>) -> Result<Option<Items<Name>>, Or<u32>>
-    ensures { Reads (optional (enclosed (listed comma name))) (the_sign signs.OpenParen ∷ []) (IsGiven AreColumns) input.old result input.new }
+    ensures { ReadsPart sphinxql (optional (enclosed (listed comma name))) (the_sign signs.OpenParen ∷ []) (IsGiven AreColumns) input.old result input.new }
 {
     if input.is_sign(Sign::OpenParen) {
         let names = enclosed::<AnyName>(alloc, input)?;
@@ -73,9 +75,9 @@ fn columns(alloc: Global, input: &mut Cursor<'_>) -> Result<Option<Items<Name>>,
     Ok(None)
 }
 
-/// Reads an INSERT or a REPLACE.
+/// ReadsPart sphinxql an INSERT or a REPLACE.
 pub(crate) fn insert(alloc: Global, input: &mut Cursor<'_>) -> Result<Statement, Or<u32>>
-    ensures { Reads insert (the_sign signs.Comma ∷ []) IsStatement input.old result input.new }
+    ensures { ReadsPart sphinxql insert (the_sign signs.Comma ∷ []) IsStatement input.old result input.new }
 {
     let replace = replaces(input)?;
     input.word(Keyword::Into)?;

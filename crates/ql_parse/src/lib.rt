@@ -22,5 +22,5 @@ pub use ql_grammar::{
     OptionValue, ParseFault, ParseKind, Plain, Scope, Select, SelectExpr, SelectItem, SelectOption,
     SetValue, SortKey, SortName, Statement, Target, Val,
 };
-pub use ql_one_value::tokens_have_one_value;
+pub use ql_laws::{packets_have_no_fault, tokens_have_one_fault, tokens_have_one_value};
 pub use ql_write::{canonical_text_is_read, packets_have_values, put_statement};

@@ -1,11 +1,13 @@
 ghost use Rattle.std.specs.Prelude.{[], ◌∷◌};
+ghost use Rattle.ql_grammar.specs.Alphabet.{sphinxql};
 ghost use Rattle.ql_lex.specs.declared.token.Sign.TheVariants as signs;
 ghost use Rattle.ql_grammar.specs.declared.keyword.Keyword.TheVariants as keywords;
 ghost use Rattle.ql_grammar.specs.Classes.{the_word, the_sign};
-ghost use Rattle.ql_grammar.specs.Grammar.{◌⨾◌, ◌∣◌, name, number, text, comma, listed, enclosed, optional, words, having, having_part, limit, field_weight, option_value, option, options, facet, facet_parts, group_key};
-ghost use Rattle.ql_grammar.specs.Language.{one, many};
-ghost use Rattle.ql_grammar.specs.Parts.{IsGiven, AreGiven, AreInRow};
-ghost use Rattle.ql_parts.specs.Progress.{Reads};
+ghost use Rattle.ql_grammar.specs.Grammar.{name, number, text, comma, enclosed, words, having, having_part, limit, field_weight, option_value, option, options, facet, facet_parts, group_key};
+ghost use Rattle.token_grammar.specs.Language.{◌⨾◌, ◌∣◌, listed, optional};
+ghost use Rattle.token_grammar.specs.Language.{one, many};
+ghost use Rattle.token_grammar.specs.Values.{IsGiven, AreGiven, AreInRow};
+ghost use Rattle.token_grammar.specs.Reading.{ReadsPart};
 ghost use Rattle.ql_grammar.specs.GoingOn.{key_goes_on, limit_goes_on, facet_goes_on};
 ghost use Rattle.ql_grammar.specs.Selects.{IsHaving, IsHavingPart, IsSecond, IsLimit, IsFieldWeight, IsOptionValue, IsOption, AreOptions, IsFacetOrder, IsFacet, IsFaceted};
 
@@ -18,7 +20,7 @@ use srch_base::{Items, Name, Or};
 use std::alloc::Global;
 
 fn having_cond(alloc: Global, input: &mut Cursor<'_>) -> Result<Having, Or<u32>>
-    ensures { Reads having [] IsHaving input.old result input.new }
+    ensures { ReadsPart sphinxql having [] IsHaving input.old result input.new }
 {
     let left = group_sort(alloc, input)?;
     let op = comparison(input)?;
@@ -26,9 +28,9 @@ fn having_cond(alloc: Global, input: &mut Cursor<'_>) -> Result<Having, Or<u32>>
     Ok(Having { left, op, value })
 }
 
-/// Reads HAVING, if it is there.
+/// ReadsPart sphinxql HAVING, if it is there.
 pub(crate) fn having(alloc: Global, input: &mut Cursor<'_>) -> Result<Option<Having>, Or<u32>>
-    ensures { Reads having_part (the_word keywords.Having ∷ []) (IsGiven IsHavingPart) input.old result input.new }
+    ensures { ReadsPart sphinxql having_part (the_word keywords.Having ∷ []) (IsGiven IsHavingPart) input.old result input.new }
 {
     if input.takes_word(Keyword::Having) {
         return Ok(Some(having_cond(alloc, input)?));
@@ -37,7 +39,7 @@ pub(crate) fn having(alloc: Global, input: &mut Cursor<'_>) -> Result<Option<Hav
 }
 
 fn second_number(input: &mut Cursor<'_>) -> Result<Option<u64>, Or<u32>>
-    ensures { Reads (optional (one comma ⨾ number)) (comma ∷ []) (IsGiven IsSecond) input.old result input.new }
+    ensures { ReadsPart sphinxql (optional (one comma ⨾ number)) (comma ∷ []) (IsGiven IsSecond) input.old result input.new }
 {
     if input.takes_sign(Sign::Comma) {
         return Ok(Some(input.number()?));
@@ -45,9 +47,9 @@ fn second_number(input: &mut Cursor<'_>) -> Result<Option<u64>, Or<u32>>
     Ok(None)
 }
 
-/// Reads LIMIT, if it is there.
+/// ReadsPart sphinxql LIMIT, if it is there.
 pub(crate) fn limit(input: &mut Cursor<'_>) -> Result<Option<LimitPart>, Or<u32>>
-    ensures { Reads (optional limit) limit_goes_on (IsGiven IsLimit) input.old result input.new }
+    ensures { ReadsPart sphinxql (optional limit) limit_goes_on (IsGiven IsLimit) input.old result input.new }
 {
     if input.takes_word(Keyword::Limit) {
         let first = input.number()?;
@@ -78,7 +80,7 @@ impl Part for FieldWeight {
 }
 
 fn option_value(alloc: Global, input: &mut Cursor<'_>) -> Result<OptionValue, Or<u32>>
-    ensures { Reads option_value [] IsOptionValue input.old result input.new }
+    ensures { ReadsPart sphinxql option_value [] IsOptionValue input.old result input.new }
 {
     if input.is_name() {
         return Ok(OptionValue::Name(input.name(alloc)?));
@@ -112,9 +114,9 @@ impl Part for OptionPart {
     }
 }
 
-/// Reads OPTION, if it is there.
+/// ReadsPart sphinxql OPTION, if it is there.
 pub(crate) fn options(alloc: Global, input: &mut Cursor<'_>) -> Result<Items<SelectOption>, Or<u32>>
-    ensures { Reads options (the_word keywords.Option ∷ comma ∷ []) (AreGiven AreOptions) input.old result input.new }
+    ensures { ReadsPart sphinxql options (the_word keywords.Option ∷ comma ∷ []) (AreGiven AreOptions) input.old result input.new }
 {
     if input.takes_word(Keyword::Option) {
         let options = listed::<OptionPart>(alloc, input, Sign::Comma)?;
@@ -124,7 +126,7 @@ pub(crate) fn options(alloc: Global, input: &mut Cursor<'_>) -> Result<Items<Sel
 }
 
 fn facet_order(alloc: Global, input: &mut Cursor<'_>) -> Result<Option<SortKey>, Or<u32>>
-    ensures { Reads (optional (words keywords.Order keywords.By ⨾ group_key)) (the_word keywords.Order ∷ key_goes_on) (IsGiven IsFacetOrder) input.old result input.new }
+    ensures { ReadsPart sphinxql (optional (words keywords.Order keywords.By ⨾ group_key)) (the_word keywords.Order ∷ key_goes_on) (IsGiven IsFacetOrder) input.old result input.new }
 {
     if input.is_word(Keyword::Order) {
         input.words(Keyword::Order, Keyword::By)?;
@@ -133,9 +135,9 @@ fn facet_order(alloc: Global, input: &mut Cursor<'_>) -> Result<Option<SortKey>,
     Ok(None)
 }
 
-/// Reads what follows the word FACET.
+/// ReadsPart sphinxql what follows the word FACET.
 fn facet_parts(alloc: Global, input: &mut Cursor<'_>) -> Result<FacetPart, Or<u32>>
-    ensures { Reads facet_parts facet_goes_on IsFaceted input.old result input.new }
+    ensures { ReadsPart sphinxql facet_parts facet_goes_on IsFaceted input.old result input.new }
 {
     let column = input.name(alloc)?;
     let order = facet_order(alloc, input)?;
@@ -147,9 +149,9 @@ fn facet_parts(alloc: Global, input: &mut Cursor<'_>) -> Result<FacetPart, Or<u3
     })
 }
 
-/// Reads the facets.
+/// ReadsPart sphinxql the facets.
 pub(crate) fn facets(alloc: Global, input: &mut Cursor<'_>) -> Result<Items<FacetPart>, Or<u32>>
-    ensures { Reads (many facet) (the_word keywords.Facet ∷ facet_goes_on) (AreInRow IsFacet) input.old result input.new }
+    ensures { ReadsPart sphinxql (many facet) (the_word keywords.Facet ∷ facet_goes_on) (AreInRow IsFacet) input.old result input.new }
 {
     let mut facets = Vec::new(alloc);
     'facets: while input.takes_word(Keyword::Facet) {

@@ -1,5 +1,6 @@
 ghost use Rattle.ql_grammar.specs.Grammar.{select};
-ghost use Rattle.ql_parts.specs.Progress.{Reads};
+ghost use Rattle.ql_grammar.specs.Alphabet.{sphinxql};
+ghost use Rattle.token_grammar.specs.Reading.{ReadsPart};
 ghost use Rattle.ql_grammar.specs.GoingOn.{select_goes_on};
 ghost use Rattle.ql_grammar.specs.Selects.{IsSelected};
 
@@ -13,9 +14,9 @@ use ql_parts::{Cursor, listed};
 use srch_base::Or;
 use std::alloc::Global;
 
-/// Reads what follows the word SELECT of a SELECT from an index.
+/// ReadsPart sphinxql what follows the word SELECT of a SELECT from an index.
 pub(crate) fn select(alloc: Global, input: &mut Cursor<'_>) -> Result<Select, Or<u32>>
-    ensures { Reads select select_goes_on IsSelected input.old result input.new }
+    ensures { ReadsPart sphinxql select select_goes_on IsSelected input.old result input.new }
 {
     let items = listed::<Item>(alloc, input, Sign::Comma)?;
     input.word(Keyword::From)?;

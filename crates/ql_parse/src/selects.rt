@@ -1,9 +1,11 @@
 ghost use Rattle.std.specs.Prelude.{[], ◌∷◌};
+ghost use Rattle.ql_grammar.specs.Alphabet.{sphinxql};
 ghost use Rattle.ql_grammar.specs.declared.keyword.Keyword.TheVariants as keywords;
 ghost use Rattle.ql_grammar.specs.Classes.{the_word};
-ghost use Rattle.ql_grammar.specs.Grammar.{◌⨾◌, ◌∣◌, number, optional, select, select_database, select_variable, selects, word};
-ghost use Rattle.ql_grammar.specs.Parts.{IsGiven};
-ghost use Rattle.ql_parts.specs.Progress.{Reads};
+ghost use Rattle.ql_grammar.specs.Grammar.{number, select, select_database, select_variable, selects, word};
+ghost use Rattle.token_grammar.specs.Language.{◌⨾◌, ◌∣◌, optional};
+ghost use Rattle.token_grammar.specs.Values.{IsGiven};
+ghost use Rattle.token_grammar.specs.Reading.{ReadsPart};
 ghost use Rattle.ql_grammar.specs.GoingOn.{select_goes_on};
 ghost use Rattle.ql_grammar.specs.Statements.{IsRowLimit, IsSelection, IsStatement};
 
@@ -14,9 +16,9 @@ use ql_parts::Cursor;
 use srch_base::Or;
 use std::alloc::Global;
 
-/// Reads `LIMIT n`, if it is there.
+/// ReadsPart `LIMIT n`, if it is there.
 fn row_limit(input: &mut Cursor<'_>) -> Result<Option<u64>, Or<u32>>
-    ensures { Reads (optional (word keywords.Limit ⨾ number)) (the_word keywords.Limit ∷ []) (IsGiven IsRowLimit) input.old result input.new }
+    ensures { ReadsPart sphinxql (optional (word keywords.Limit ⨾ number)) (the_word keywords.Limit ∷ []) (IsGiven IsRowLimit) input.old result input.new }
 {
     if input.is_word(Keyword::Limit) {
         input.word(Keyword::Limit)?;
@@ -25,9 +27,9 @@ fn row_limit(input: &mut Cursor<'_>) -> Result<Option<u64>, Or<u32>>
     Ok(None)
 }
 
-/// Reads what follows the word SELECT.
+/// ReadsPart sphinxql what follows the word SELECT.
 fn selection(alloc: Global, input: &mut Cursor<'_>) -> Result<Statement, Or<u32>>
-    ensures { Reads (select_variable ∣ select_database ∣ select) select_goes_on IsSelection input.old result input.new }
+    ensures { ReadsPart sphinxql (select_variable ∣ select_database ∣ select) select_goes_on IsSelection input.old result input.new }
 {
     if input.is_variable() {
         let name = input.variable(alloc)?;
@@ -44,9 +46,9 @@ fn selection(alloc: Global, input: &mut Cursor<'_>) -> Result<Statement, Or<u32>
     Ok(Statement::Select(select))
 }
 
-/// Reads a SELECT.
+/// ReadsPart sphinxql a SELECT.
 pub(crate) fn selects(alloc: Global, input: &mut Cursor<'_>) -> Result<Statement, Or<u32>>
-    ensures { Reads selects select_goes_on IsStatement input.old result input.new }
+    ensures { ReadsPart sphinxql selects select_goes_on IsStatement input.old result input.new }
 {
     input.word(Keyword::Select)?;
     let rest = selection(alloc, input)?;

@@ -1,6 +1,10 @@
 ghost use Rattle.std.specs.Prelude.{[]};
-ghost use Rattle.ql_grammar.specs.Grammar.{◌∣◌, assignment, plain, scoped, set, set_rest, setting, sysvar, target_name};
-ghost use Rattle.ql_parts.specs.Progress.{IsLeading, Reads};
+ghost use Rattle.ql_lex.specs.declared.token.Sign.TheVariants as signs;
+ghost use Rattle.ql_grammar.specs.Classes.{the_sign, the_word};
+ghost use Rattle.ql_grammar.specs.Alphabet.{sphinxql};
+ghost use Rattle.ql_grammar.specs.Grammar.{assignment, plain, scoped, set, set_rest, setting, sysvar, target_name};
+ghost use Rattle.token_grammar.specs.Language.{◌∣◌};
+ghost use Rattle.token_grammar.specs.Reading.{IsLeading, ReadsPart};
 ghost use Rattle.ql_grammar.specs.Statements.{IsAssignment, IsPlain, IsSetRest, IsSetting, IsStatement, IsTarget};
 
 use ql_grammar::{Keyword, Plain, Scope, SetValue, Statement, Target};
@@ -9,9 +13,9 @@ use ql_parts::{Cursor, Part, Whole};
 use srch_base::Or;
 use std::alloc::Global;
 
-/// Reads a name or a text.
+/// ReadsPart sphinxql a name or a text.
 fn plain(alloc: Global, input: &mut Cursor<'_>) -> Result<Plain, Or<u32>>
-    ensures { Reads plain [] IsPlain input.old result input.new }
+    ensures { ReadsPart sphinxql plain [] IsPlain input.old result input.new }
 {
     if input.is_text() {
         return Ok(Plain::Text(input.text(alloc)?));
@@ -19,9 +23,9 @@ fn plain(alloc: Global, input: &mut Cursor<'_>) -> Result<Plain, Or<u32>>
     Ok(Plain::Name(input.name(alloc)?))
 }
 
-/// Reads the variable that is set.
+/// ReadsPart sphinxql the variable that is set.
 fn target(alloc: Global, input: &mut Cursor<'_>) -> Result<Target, Or<u32>>
-    ensures { Reads (sysvar ∣ target_name) [] IsTarget input.old result input.new }
+    ensures { ReadsPart sphinxql (sysvar ∣ target_name) [] IsTarget input.old result input.new }
 {
     if input.is_variable() {
         return Ok(Target::Var(input.variable(alloc)?));
@@ -29,9 +33,9 @@ fn target(alloc: Global, input: &mut Cursor<'_>) -> Result<Target, Or<u32>>
     Ok(Target::Name(input.target_name(alloc)?))
 }
 
-/// Reads what a variable is set to.
+/// ReadsPart sphinxql what a variable is set to.
 fn setting(alloc: Global, input: &mut Cursor<'_>) -> Result<SetValue, Or<u32>>
-    ensures { Reads setting [] IsSetting input.old result input.new }
+    ensures { ReadsPart sphinxql setting [] IsSetting input.old result input.new }
 {
     if input.takes_word(Keyword::Null) {
         return Ok(SetValue::Null);
@@ -46,9 +50,9 @@ fn setting(alloc: Global, input: &mut Cursor<'_>) -> Result<SetValue, Or<u32>>
     Ok(SetValue::Number(number))
 }
 
-/// Reads a variable and what it is set to.
+/// ReadsPart sphinxql a variable and what it is set to.
 fn assignment(alloc: Global, input: &mut Cursor<'_>) -> Result<(Target, SetValue), Or<u32>>
-    ensures { Reads assignment [] IsAssignment input.old result input.new }
+    ensures { ReadsPart sphinxql assignment [] IsAssignment input.old result input.new }
 {
     let target = target(alloc, input)?;
     input.sign(Sign::Equal)?;
@@ -58,7 +62,7 @@ fn assignment(alloc: Global, input: &mut Cursor<'_>) -> Result<(Target, SetValue
 
 /// Whether a keyword is next, and is not itself the name that is set.
 fn leads(input: &Cursor<'_>, word: Keyword) -> bool
-    ensures { IsLeading word input.now result }
+    ensures { IsLeading sphinxql (the_word word) (the_sign signs.Equal) input.now result }
 {
     if input.is_word(word) {
         !input.is_followed(word, Sign::Equal)
@@ -67,9 +71,9 @@ fn leads(input: &Cursor<'_>, word: Keyword) -> bool
     }
 }
 
-/// Reads a scope, if there is one, and an assignment.
+/// ReadsPart sphinxql a scope, if there is one, and an assignment.
 fn scoped(alloc: Global, input: &mut Cursor<'_>) -> Result<Statement, Or<u32>>
-    ensures { Reads scoped [] IsSetRest input.old result input.new }
+    ensures { ReadsPart sphinxql scoped [] IsSetRest input.old result input.new }
 {
     if leads(input, Keyword::Global) {
         input.word(Keyword::Global)?;
@@ -97,9 +101,9 @@ fn scoped(alloc: Global, input: &mut Cursor<'_>) -> Result<Statement, Or<u32>>
     })
 }
 
-/// Reads what follows the word SET.
+/// ReadsPart sphinxql what follows the word SET.
 fn set_rest(alloc: Global, input: &mut Cursor<'_>) -> Result<Statement, Or<u32>>
-    ensures { Reads set_rest [] IsSetRest input.old result input.new }
+    ensures { ReadsPart sphinxql set_rest [] IsSetRest input.old result input.new }
 {
     if input.takes_word(Keyword::Autocommit) {
         input.sign(Sign::Equal)?;
@@ -112,9 +116,9 @@ fn set_rest(alloc: Global, input: &mut Cursor<'_>) -> Result<Statement, Or<u32>>
     Ok(other)
 }
 
-/// Reads a SET.
+/// ReadsPart sphinxql a SET.
 pub(crate) fn set(alloc: Global, input: &mut Cursor<'_>) -> Result<Statement, Or<u32>>
-    ensures { Reads set [] IsStatement input.old result input.new }
+    ensures { ReadsPart sphinxql set [] IsStatement input.old result input.new }
 {
     input.word(Keyword::Set)?;
     let rest = set_rest(alloc, input)?;

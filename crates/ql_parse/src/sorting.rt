@@ -1,10 +1,12 @@
 ghost use Rattle.std.specs.Prelude.{[], ◌∷◌};
+ghost use Rattle.ql_grammar.specs.Alphabet.{sphinxql};
 ghost use Rattle.ql_lex.specs.declared.token.Sign.TheVariants as signs;
 ghost use Rattle.ql_grammar.specs.declared.keyword.Keyword.TheVariants as keywords;
 ghost use Rattle.ql_grammar.specs.Classes.{the_word, the_sign};
-ghost use Rattle.ql_grammar.specs.Grammar.{◌∣◌, name, weight, count, comma, direction, key, inner_key, group_key, group, within, order};
-ghost use Rattle.ql_grammar.specs.Parts.{IsGiven, AreGiven};
-ghost use Rattle.ql_parts.specs.Progress.{Reads, Takes};
+ghost use Rattle.ql_grammar.specs.Grammar.{name, weight, count, comma, direction, key, inner_key, group_key, group, within, order};
+ghost use Rattle.token_grammar.specs.Language.{◌∣◌};
+ghost use Rattle.token_grammar.specs.Values.{IsGiven, AreGiven};
+ghost use Rattle.token_grammar.specs.Reading.{ReadsPart, TakesPart};
 ghost use Rattle.ql_grammar.specs.GoingOn.{key_goes_on};
 ghost use Rattle.ql_grammar.specs.Selects.{IsSort, IsInnerSort, IsGroupSort, IsDirection, IsKeyBy, IsGroup, AreInnerKeys, AreKeys};
 
@@ -15,9 +17,9 @@ use ql_parts::{Cursor, Part, listed};
 use srch_base::{Items, Name, Or};
 use std::alloc::Global;
 
-/// Reads what rows are sorted by.
+/// ReadsPart sphinxql what rows are sorted by.
 fn sort(alloc: Global, input: &mut Cursor<'_>) -> Result<SortName, Or<u32>>
-    ensures { Reads (weight ∣ count ∣ name) (the_sign signs.OpenParen ∷ []) IsSort input.old result input.new }
+    ensures { ReadsPart sphinxql (weight ∣ count ∣ name) (the_sign signs.OpenParen ∷ []) IsSort input.old result input.new }
 {
     if input.is_followed(Keyword::Weight, Sign::OpenParen) {
         no_argument(input, Keyword::Weight)?;
@@ -30,9 +32,9 @@ fn sort(alloc: Global, input: &mut Cursor<'_>) -> Result<SortName, Or<u32>>
     Ok(SortName::Column(input.name(alloc)?))
 }
 
-/// Reads what the rows of a group are sorted by.
+/// ReadsPart sphinxql what the rows of a group are sorted by.
 fn inner_sort(alloc: Global, input: &mut Cursor<'_>) -> Result<SortName, Or<u32>>
-    ensures { Reads (weight ∣ name) (the_sign signs.OpenParen ∷ []) IsInnerSort input.old result input.new }
+    ensures { ReadsPart sphinxql (weight ∣ name) (the_sign signs.OpenParen ∷ []) IsInnerSort input.old result input.new }
 {
     if input.is_followed(Keyword::Weight, Sign::OpenParen) {
         no_argument(input, Keyword::Weight)?;
@@ -41,9 +43,9 @@ fn inner_sort(alloc: Global, input: &mut Cursor<'_>) -> Result<SortName, Or<u32>
     Ok(SortName::Column(input.name(alloc)?))
 }
 
-/// Reads what groups are sorted by.
+/// ReadsPart sphinxql what groups are sorted by.
 pub(crate) fn group_sort(alloc: Global, input: &mut Cursor<'_>) -> Result<SortName, Or<u32>>
-    ensures { Reads (count ∣ name) (the_sign signs.OpenParen ∷ []) IsGroupSort input.old result input.new }
+    ensures { ReadsPart sphinxql (count ∣ name) (the_sign signs.OpenParen ∷ []) IsGroupSort input.old result input.new }
 {
     if input.is_followed(Keyword::Count, Sign::OpenParen) {
         count_all(input)?;
@@ -52,9 +54,9 @@ pub(crate) fn group_sort(alloc: Global, input: &mut Cursor<'_>) -> Result<SortNa
     Ok(SortName::Column(input.name(alloc)?))
 }
 
-/// Reads a direction, if it is there.
+/// ReadsPart sphinxql a direction, if it is there.
 fn direction(input: &mut Cursor<'_>) -> Option<bool>
-    ensures { Takes direction (the_word keywords.Asc ∷ the_word keywords.Desc ∷ []) (IsGiven IsDirection result) input.old input.new }
+    ensures { TakesPart sphinxql direction (the_word keywords.Asc ∷ the_word keywords.Desc ∷ []) (IsGiven IsDirection result) input.old input.new }
 {
     if input.takes_word(Keyword::Asc) {
         return Some(false);
@@ -103,18 +105,18 @@ impl Part for InnerKey {
     }
 }
 
-/// Reads what the groups of a facet are sorted by.
+/// ReadsPart sphinxql what the groups of a facet are sorted by.
 pub(crate) fn group_key(alloc: Global, input: &mut Cursor<'_>) -> Result<SortKey, Or<u32>>
-    ensures { Reads group_key key_goes_on (IsKeyBy IsGroupSort) input.old result input.new }
+    ensures { ReadsPart sphinxql group_key key_goes_on (IsKeyBy IsGroupSort) input.old result input.new }
 {
     let by = group_sort(alloc, input)?;
     let descending = direction(input);
     Ok(SortKey { by, descending })
 }
 
-/// Reads GROUP BY, if it is there.
+/// ReadsPart sphinxql GROUP BY, if it is there.
 pub(crate) fn group(alloc: Global, input: &mut Cursor<'_>) -> Result<Option<Name>, Or<u32>>
-    ensures { Reads group (the_word keywords.Group ∷ []) (IsGiven IsGroup) input.old result input.new }
+    ensures { ReadsPart sphinxql group (the_word keywords.Group ∷ []) (IsGiven IsGroup) input.old result input.new }
 {
     if input.is_word(Keyword::Group) {
         input.words(Keyword::Group, Keyword::By)?;
@@ -123,9 +125,9 @@ pub(crate) fn group(alloc: Global, input: &mut Cursor<'_>) -> Result<Option<Name
     Ok(None)
 }
 
-/// Reads WITHIN GROUP ORDER BY, if it is there.
+/// ReadsPart sphinxql WITHIN GROUP ORDER BY, if it is there.
 pub(crate) fn within(alloc: Global, input: &mut Cursor<'_>) -> Result<Items<SortKey>, Or<u32>>
-    ensures { Reads within (the_word keywords.Within ∷ comma ∷ key_goes_on) (AreGiven AreInnerKeys) input.old result input.new }
+    ensures { ReadsPart sphinxql within (the_word keywords.Within ∷ comma ∷ key_goes_on) (AreGiven AreInnerKeys) input.old result input.new }
 {
     if input.is_word(Keyword::Within) {
         input.words(Keyword::Within, Keyword::Group)?;
@@ -136,9 +138,9 @@ pub(crate) fn within(alloc: Global, input: &mut Cursor<'_>) -> Result<Items<Sort
     Ok(Items::new(Vec::new(alloc)))
 }
 
-/// Reads ORDER BY, if it is there.
+/// ReadsPart sphinxql ORDER BY, if it is there.
 pub(crate) fn order(alloc: Global, input: &mut Cursor<'_>) -> Result<Items<SortKey>, Or<u32>>
-    ensures { Reads order (the_word keywords.Order ∷ comma ∷ key_goes_on) (AreGiven AreKeys) input.old result input.new }
+    ensures { ReadsPart sphinxql order (the_word keywords.Order ∷ comma ∷ key_goes_on) (AreGiven AreKeys) input.old result input.new }
 {
     if input.is_word(Keyword::Order) {
         input.words(Keyword::Order, Keyword::By)?;

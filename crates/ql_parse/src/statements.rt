@@ -1,5 +1,6 @@
 ghost use Rattle.ql_grammar.specs.Grammar.{statement};
-ghost use Rattle.ql_parts.specs.Progress.{Reads};
+ghost use Rattle.ql_grammar.specs.Alphabet.{sphinxql};
+ghost use Rattle.token_grammar.specs.Reading.{ReadsPart};
 ghost use Rattle.ql_grammar.specs.GoingOn.{select_goes_on};
 ghost use Rattle.ql_grammar.specs.Statements.{IsStatement};
 
@@ -15,9 +16,9 @@ use ql_parts::Cursor;
 use srch_base::Or;
 use std::alloc::Global;
 
-/// Reads a statement, by its first keyword.
+/// ReadsPart sphinxql a statement, by its first keyword.
 pub(crate) fn statement(alloc: Global, input: &mut Cursor<'_>) -> Result<Statement, Or<u32>>
-    ensures { Reads statement select_goes_on IsStatement input.old result input.new }
+    ensures { ReadsPart sphinxql statement select_goes_on IsStatement input.old result input.new }
 {
     if input.is_word(Keyword::Select) {
         return selects(alloc, input);

@@ -1,4 +1,2 @@
-pub mod Steps
-pub mod Lookahead
-pub mod Choices
 pub mod Cursors
+pub mod Steps

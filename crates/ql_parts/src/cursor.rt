@@ -1,14 +1,16 @@
 ghost use Rattle.std.specs.Prelude.{◌≡◌, ◌≢◌, [], ◌∷◌, IsTrue, length};
+ghost use Rattle.ql_grammar.specs.Alphabet.{sphinxql};
 ghost use Rattle.ql_grammar.specs.declared.keyword.Keyword.TheVariants as keywords;
 ghost use Rattle.ql_grammar.specs.declared.kind.Kind.TheVariants as kinds;
 ghost use Rattle.ql_lex.specs.Shapes.{IsLexeme};
 ghost use Rattle.ql_lex.specs.Tokens.{lexeme_of, AreLexemes};
-ghost use Rattle.ql_grammar.specs.Tokens.{kind, lexemes, first_kind, first_place};
+ghost use Rattle.ql_grammar.specs.Tokens.{kind, lexemes, first_kind};
 ghost use Rattle.ql_grammar.specs.Classes.{fits, name_but, the_end, the_word, any_name, a_number, a_text, a_sysvar, the_sign};
-ghost use Rattle.ql_grammar.specs.Language.{one};
+ghost use Rattle.token_grammar.specs.Language.{one};
 ghost use Rattle.ql_grammar.specs.Grammar.{words, name, number, text, sysvar, target_name};
 ghost use Rattle.ql_grammar.specs.Parts.{IsWord, AreWords, IsSign, IsName, IsNumber, IsTargetName, IsText, IsVariable};
-ghost use Rattle.ql_parts.specs.Progress.{IsNext, IsNextOf, Reads, IsStart, TakesIf, IsFollowed, second_kind};
+ghost use Rattle.ql_parts.specs.Progress.{IsNext, IsStart, second_kind};
+ghost use Rattle.token_grammar.specs.Reading.{first_place, IsNextOf, ReadsPart, TakesIf, IsFollowed};
 
 use ql_grammar::{Keyword, Kind, keyword_named};
 use ql_lex::{Sign, Token, TokenKind, number_of, put_text, sign_of, token_name};
@@ -94,14 +96,14 @@ impl<'a> Cursor<'a> {
 
     /// The place of the next token.
     pub fn place(&self) -> u32
-        ensures { result ≡ first_place self.now }
+        ensures { result ≡ first_place sphinxql self.now }
     {
         self.rest[0].at
     }
 
     /// Whether a keyword is next.
     pub fn is_word(&self, word: Keyword) -> bool
-        ensures { IsNextOf (the_word word) self.now result }
+        ensures { IsNextOf sphinxql (the_word word) self.now result }
     {
         match self.kind() {
             Kind::Keyword(next) => word == next,
@@ -111,14 +113,14 @@ impl<'a> Cursor<'a> {
 
     /// Whether a sign is next.
     pub fn is_sign(&self, sign: Sign) -> bool
-        ensures { IsNextOf (the_sign sign) self.now result }
+        ensures { IsNextOf sphinxql (the_sign sign) self.now result }
     {
         is_the_sign(self.kind(), sign)
     }
 
     /// Takes a keyword.
     pub fn word(&mut self, word: Keyword) -> Result<(), Or<u32>>
-        ensures { Reads (one (the_word word)) [] (λ _. IsWord word) self.old result self.new }
+        ensures { ReadsPart sphinxql (one (the_word word)) [] (λ _. IsWord word) self.old result self.new }
     {
         if self.is_word(word) {
             self.skip();
@@ -130,7 +132,7 @@ impl<'a> Cursor<'a> {
 
     /// Takes a sign.
     pub fn sign(&mut self, sign: Sign) -> Result<(), Or<u32>>
-        ensures { Reads (one (the_sign sign)) [] (λ _. IsSign sign) self.old result self.new }
+        ensures { ReadsPart sphinxql (one (the_sign sign)) [] (λ _. IsSign sign) self.old result self.new }
     {
         if self.is_sign(sign) {
             self.skip();
@@ -142,7 +144,7 @@ impl<'a> Cursor<'a> {
 
     /// Takes a sign, if it is the next token.
     pub fn takes_sign(&mut self, sign: Sign) -> bool
-        ensures { TakesIf (the_sign sign) (IsSign sign) self.old result self.new }
+        ensures { TakesIf sphinxql (the_sign sign) (IsSign sign) self.old result self.new }
     {
         let found = self.is_sign(sign);
         if found {
@@ -153,7 +155,7 @@ impl<'a> Cursor<'a> {
 
     /// Takes two keywords in a row.
     pub fn words(&mut self, first: Keyword, second: Keyword) -> Result<(), Or<u32>>
-        ensures { Reads (words first second) [] (λ _. AreWords first second) self.old result self.new }
+        ensures { ReadsPart sphinxql (words first second) [] (λ _. AreWords first second) self.old result self.new }
     {
         self.word(first)?;
         self.word(second)?;
@@ -162,7 +164,7 @@ impl<'a> Cursor<'a> {
 
     /// Takes a keyword, if it is the next token.
     pub fn takes_word(&mut self, word: Keyword) -> bool
-        ensures { TakesIf (the_word word) (IsWord word) self.old result self.new }
+        ensures { TakesIf sphinxql (the_word word) (IsWord word) self.old result self.new }
     {
         let found = self.is_word(word);
         if found {
@@ -184,7 +186,7 @@ impl<'a> Cursor<'a> {
 
     /// Whether a keyword is next, and a sign behind it.
     pub fn is_followed(&self, word: Keyword, sign: Sign) -> bool
-        ensures { IsFollowed word sign self.now result }
+        ensures { IsFollowed sphinxql (the_word word) (the_sign sign) self.now result }
     {
         if self.is_word(word) {
             is_the_sign(self.second(), sign)
@@ -195,7 +197,7 @@ impl<'a> Cursor<'a> {
 
     /// Whether a name is next. A keyword that isn't reserved is one.
     pub fn is_name(&self) -> bool
-        ensures { IsNextOf any_name self.now result }
+        ensures { IsNextOf sphinxql any_name self.now result }
     {
         match self.kind() {
             Kind::Keyword(word) => !word.is_reserved(),
@@ -206,7 +208,7 @@ impl<'a> Cursor<'a> {
 
     /// Whether a name is next with which no other form of SET begins.
     pub(crate) fn is_target_name(&self) -> bool
-        ensures { IsNextOf (name_but keywords.Autocommit keywords.Names) self.now result }
+        ensures { IsNextOf sphinxql (name_but keywords.Autocommit keywords.Names) self.now result }
     {
         match self.kind() {
             Kind::Keyword(word) => !word.is_reserved() && !word.is_set_form(),
@@ -217,7 +219,7 @@ impl<'a> Cursor<'a> {
 
     /// Whether the end is next. Nothing stands behind it.
     pub fn is_end(&self) -> bool
-        ensures end { IsNextOf the_end self.now result }
+        ensures end { IsNextOf sphinxql the_end self.now result }
         ensures last { IsTrue result → length self.now ≡ 1 }
     {
         match kind_of(&self.rest[0]) {
@@ -238,7 +240,7 @@ impl<'a> Cursor<'a> {
 
     /// Whether a number is next.
     pub fn is_number(&self) -> bool
-        ensures { IsNextOf a_number self.now result }
+        ensures { IsNextOf sphinxql a_number self.now result }
     {
         match self.kind() {
             Kind::Number => true,
@@ -248,7 +250,7 @@ impl<'a> Cursor<'a> {
 
     /// Whether a text is next.
     pub fn is_text(&self) -> bool
-        ensures { IsNextOf a_text self.now result }
+        ensures { IsNextOf sphinxql a_text self.now result }
     {
         match self.kind() {
             Kind::Text => true,
@@ -258,7 +260,7 @@ impl<'a> Cursor<'a> {
 
     /// Whether a system variable is next.
     pub fn is_variable(&self) -> bool
-        ensures { IsNextOf a_sysvar self.now result }
+        ensures { IsNextOf sphinxql a_sysvar self.now result }
     {
         match self.kind() {
             Kind::SysVar => true,
@@ -268,7 +270,7 @@ impl<'a> Cursor<'a> {
 
     /// Takes a name.
     pub fn name(&mut self, alloc: Global) -> Result<Name, Or<u32>>
-        ensures { Reads name [] IsName self.old result self.new }
+        ensures { ReadsPart sphinxql name [] IsName self.old result self.new }
     {
         if self.is_name() {
             let token = self.skip();
@@ -280,7 +282,7 @@ impl<'a> Cursor<'a> {
 
     /// Takes a name with which no other form of SET begins.
     pub fn target_name(&mut self, alloc: Global) -> Result<Name, Or<u32>>
-        ensures { Reads target_name [] IsTargetName self.old result self.new }
+        ensures { ReadsPart sphinxql target_name [] IsTargetName self.old result self.new }
     {
         if self.is_target_name() {
             let token = self.skip();
@@ -292,7 +294,7 @@ impl<'a> Cursor<'a> {
 
     /// Takes a system variable, by its name.
     pub fn variable(&mut self, alloc: Global) -> Result<Name, Or<u32>>
-        ensures { Reads sysvar [] IsVariable self.old result self.new }
+        ensures { ReadsPart sphinxql sysvar [] IsVariable self.old result self.new }
     {
         if self.is_variable() {
             let token = self.skip();
@@ -304,7 +306,7 @@ impl<'a> Cursor<'a> {
 
     /// Takes a number.
     pub fn number(&mut self) -> Result<u64, Or<u32>>
-        ensures { Reads number [] IsNumber self.old result self.new }
+        ensures { ReadsPart sphinxql number [] IsNumber self.old result self.new }
     {
         if self.is_number() {
             let token = self.skip();
@@ -316,7 +318,7 @@ impl<'a> Cursor<'a> {
 
     /// Takes a text, with its escapes resolved.
     pub fn text(&mut self, alloc: Global) -> Result<Text, Or<u32>>
-        ensures { Reads text [] IsText self.old result self.new }
+        ensures { ReadsPart sphinxql text [] IsText self.old result self.new }
     {
         if self.is_text() {
             let token = self.skip();

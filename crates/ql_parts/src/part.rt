@@ -1,11 +1,14 @@
 ghost use Rattle.std.specs.Prelude.{◌≡◌, ◌∷◌, [], true, pos, neg_ℤ};
+ghost use Rattle.ql_grammar.specs.Alphabet.{sphinxql};
 ghost use Rattle.ql_lex.specs.declared.token.Sign.TheVariants as signs;
 ghost use Rattle.ql_grammar.specs.Classes.{the_sign};
-ghost use Rattle.ql_grammar.specs.Grammar.{comma, name, sign, listed, number, whole, enclosed, repeated};
-ghost use Rattle.ql_grammar.specs.Language.{many, seq, one};
-ghost use Rattle.ql_grammar.specs.Parts.{AreListed, IsEnclosed, IsSign, IsComma, IsName, IsNumber, IsWhole};
-ghost use Rattle.ql_parts.specs.Progress.{Reads};
-ghost use Rattle.ql_grammar.specs.Firsts.{may_follow};
+ghost use Rattle.ql_grammar.specs.Grammar.{comma, name, sign, number, whole, enclosed};
+ghost use Rattle.token_grammar.specs.Language.{listed, repeated};
+ghost use Rattle.token_grammar.specs.Language.{many, seq, one};
+ghost use Rattle.ql_grammar.specs.Parts.{IsEnclosed, IsSign, IsComma, IsName, IsNumber, IsWhole};
+ghost use Rattle.token_grammar.specs.Values.{AreListed};
+ghost use Rattle.token_grammar.specs.Reading.{ReadsPart};
+ghost use Rattle.token_grammar.specs.Firsts.{may_follow};
 
 use crate::cursor::Cursor;
 use ql_lex::Sign;
@@ -17,13 +20,13 @@ pub trait Part {
     ghost use Rattle.std.specs.Prelude.{List};
     ghost use Rattle.ql_lex.specs.Tokens.{Lexeme};
     ghost use Rattle.ql_grammar.specs.Classes.{Class};
-    ghost use Rattle.ql_grammar.specs.Language.{Re};
+    ghost use Rattle.token_grammar.specs.Language.{Re};
 
     /// What a text of the part stands for.
     type Value: Drop;
 
     /// The part, as the grammar has it.
-    ghost grammar: { Re };
+    ghost grammar: { Re Class };
 
     /// The classes of tokens with which it may go on where it could also end.
     ghost goes_on: { List Class };
@@ -31,9 +34,9 @@ pub trait Part {
     /// These tokens stand for the value.
     ghost is: { Self.Value → List Lexeme → Type 0 };
 
-    /// Reads the part, as far as it goes.
+    /// ReadsPart sphinxql the part, as far as it goes.
     fn read(alloc: Global, input: &mut Cursor<'_>) -> Result<Self::Value, Or<u32>>
-        ensures { Reads grammar goes_on is input.old result input.new };
+        ensures { ReadsPart sphinxql grammar goes_on is input.old result input.new };
 }
 
 /// `n`
@@ -104,14 +107,14 @@ impl Part for AnyName {
     }
 }
 
-/// Reads one part or more, with a sign between them.
+/// ReadsPart sphinxql one part or more, with a sign between them.
 pub fn listed<P: Part>(
     alloc: Global,
     input: &mut Cursor<'_>,
     sign: Sign,
 ) -> Result<Items<P::Value>, Or<u32>>
-    requires { may_follow P.goes_on (repeated (the_sign sign) P.grammar) (the_sign sign ∷ P.goes_on) ≡ true }
-    ensures { Reads (listed (the_sign sign) P.grammar) (the_sign sign ∷ P.goes_on) (AreListed (IsSign sign) P.is) input.old result input.new }
+    requires { may_follow sphinxql P.goes_on (repeated (the_sign sign) P.grammar) (the_sign sign ∷ P.goes_on) ≡ true }
+    ensures { ReadsPart sphinxql (listed (the_sign sign) P.grammar) (the_sign sign ∷ P.goes_on) (AreListed (IsSign sign) P.is) input.old result input.new }
 {
     let mut list = Vec::new(alloc);
     list.push(P::read(alloc, input)?)?;
@@ -121,11 +124,11 @@ pub fn listed<P: Part>(
     Ok(Items::new(list))
 }
 
-/// Reads one part or more in parentheses, with commas between them.
+/// ReadsPart sphinxql one part or more in parentheses, with commas between them.
 pub fn enclosed<P: Part>(alloc: Global, input: &mut Cursor<'_>) -> Result<Items<P::Value>, Or<u32>>
-    requires more { may_follow P.goes_on (repeated comma P.grammar) (comma ∷ P.goes_on) ≡ true }
-    requires closes { may_follow (comma ∷ P.goes_on) (sign signs.CloseParen) [] ≡ true }
-    ensures { Reads (enclosed (listed comma P.grammar)) [] (λ v. IsEnclosed (AreListed IsComma P.is v)) input.old result input.new }
+    requires more { may_follow sphinxql P.goes_on (repeated comma P.grammar) (comma ∷ P.goes_on) ≡ true }
+    requires closes { may_follow sphinxql (comma ∷ P.goes_on) (sign signs.CloseParen) [] ≡ true }
+    ensures { ReadsPart sphinxql (enclosed (listed comma P.grammar)) [] (λ v. IsEnclosed (AreListed IsComma P.is v)) input.old result input.new }
 {
     input.sign(Sign::OpenParen)?;
     let list = listed::<P>(alloc, input, Sign::Comma)?;

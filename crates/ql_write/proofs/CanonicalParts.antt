@@ -14,7 +14,8 @@ use Rattle.ql_grammar.specs.declared.keyword.Keyword.{Keyword}
 use Rattle.ql_grammar.specs.declared.kind.Kind.TheVariants as kinds
 use Rattle.ql_grammar.specs.Tokens.{kind, number_value}
 use Rattle.ql_grammar.specs.Classes.{is_name}
-use Rattle.ql_grammar.specs.Parts.{◌then◌, IsAbsent, IsOne, IsWord, AreWords, IsSign, IsComma, IsName, IsNumber, IsText, IsVariable, IsWhole, IsEnclosed, AreParens, IsGiven, AreGiven, AreListed, AreInRow}
+use Rattle.ql_grammar.specs.Parts.{IsWord, AreWords, IsSign, IsComma, IsName, IsNumber, IsText, IsVariable, IsWhole, IsEnclosed, AreParens}
+use Rattle.token_grammar.specs.Values.{◌then◌, IsAbsent, IsOne, IsGiven, AreGiven, AreListed, AreInRow}
 use Rattle.ql_write.specs.Pieces.{Piece, word, sign, name, number, text, variable, spelling, whole, listed, in_parentheses, given, given_all, in_row}
 use Rattle.ql_write.proofs.CanonicalNames.{IsNameBy, name_facts, variable_facts, number_facts, text_facts, decimal_fits}
 use Rattle.ql_write.proofs.CanonicalTexts.{text_fits}

@@ -20,7 +20,8 @@ use Rattle.ql_grammar.specs.declared.select.SelectOption.{SelectOption}
 use Rattle.ql_grammar.specs.declared.select.SortKey.{SortKey}
 use Rattle.ql_grammar.specs.declared.select.SortName.{SortName}
 use Rattle.ql_grammar.specs.declared.select.SortName.TheVariants as sorts
-use Rattle.ql_grammar.specs.Parts.{◌then◌, IsWord, AreWords, IsComma, IsPerhaps, AreListed}
+use Rattle.ql_grammar.specs.Parts.{IsWord, AreWords, IsComma}
+use Rattle.token_grammar.specs.Values.{◌then◌, IsPerhaps, AreListed}
 use Rattle.ql_write.specs.Pieces.{Piece, word, name, with_commas, given, given_all, in_row}
 use Rattle.ql_grammar.specs.Selects.{IsExpr, IsAlias, IsItem, IsNegation, IsCond, IsWeight, IsCount, IsSort, IsInnerSort, IsGroupSort, IsDirection, IsKeyBy, IsSecond, IsLimit, IsFieldWeight, IsOptionValue, IsOption, IsFacetOrder, IsFacet, AreConds, IsGroup, AreInnerKeys, IsHavingPart, AreKeys, AreOptions, IsSelect, comparison_sign}
 use Rattle.ql_write.specs.Canonical.{count_all, weight, expr, alias_pieces, item, negation, cond, sort_name, direction, sort_key, ordered, having_pieces, second_number, limit_pieces, field_weight, option_value, option, facet_order, facet, where_pieces, group_pieces, within_pieces, option_pieces, select_pieces}

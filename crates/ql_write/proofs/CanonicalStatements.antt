@@ -24,7 +24,8 @@ use Rattle.ql_grammar.specs.declared.statement.Val.{Val}
 use Rattle.ql_grammar.specs.declared.statement.Val.TheVariants as vals
 use Rattle.ql_grammar.specs.Classes.{fits, is_name, is_word, name_but}
 use Rattle.ql_grammar.specs.Packets.{IsPacket}
-use Rattle.ql_grammar.specs.Parts.{IsSign, IsTargetName, AreListed}
+use Rattle.ql_grammar.specs.Parts.{IsSign, IsTargetName}
+use Rattle.token_grammar.specs.Values.{AreListed}
 use Rattle.ql_write.specs.Pieces.{Piece, word, sign, name, written, spelling, with_commas, given}
 use Rattle.ql_write.specs.Reading.{IsValue, ReadsAs}
 use Rattle.ql_grammar.specs.Statements.{IsVal, IsPut, AreIds, IsPlain, IsScope, IsTarget, IsSetting, AreColumns, IsRow, IsRowLimit, IsStatement}

@@ -5,7 +5,7 @@ use Rattle.std.proofs.lemmas.Bool.{cases_Bool}
 use Rattle.token_grammar.specs.Alphabets.{Alphabet}
 use Rattle.token_grammar.specs.Language.{Re, empty, one, seq, alt, many, Repeats, none, more, In, nullable}
 use Rattle.token_grammar.specs.Firsts.{fits_some, meets_some, is_in, all_in, IsFree, apart, begins, may_follow, begun, excludes}
-use Rattle.token_grammar.proofs.Bools.{and_first, and_second, both_true, or_cases, or_left, or_right, or_other, implied, not_true, clash}
+use Rattle.token_grammar.proofs.Bools.{and_first, and_second, both_true, or_cases, or_left, or_right, or_other, or_first, or_second, implied, not_true, clash}
 use Rattle.token_grammar.proofs.Laws.{has_nullable, nullable_has, some_text}
 
 module _ {C T : Type 0} (Σ : Alphabet C T) where
@@ -149,3 +149,21 @@ module _ {C T : Type 0} (Σ : Alphabet C T) where
     pub begins_both : (r k : Re C) → begins g r ≡ true → (w : List T) × In Σ (seq r k) (t ∷ w)
     unfolding In
     begins_both r k e = let (w, h) = begins_some r e in let (v, i) = some_text Σ k in (w ++ v, (t ∷ w, v, refl, h, i))
+
+  -- Where a grammar doesn't begin with a token, no text does. The test says of each class of the token that it is one.
+  module _ (g : C → Bool) (t : T) (says : (c : C) → Σ.fits c t ≡ true → g c ≡ true) where
+    pub begins_no : (r : Re C) → begins g r ≡ false → (u : List T) → In Σ r (t ∷ u) → ⊥
+    unfolding In
+    begins_no empty e u h = cc
+    begins_no (one d) e u (x, is, f) =
+        let same : x ≡ t = cc in
+        clash (g d) (says d (subst (λ (y : T). Σ.fits d y ≡ true) same f)) e
+    begins_no (seq r s) e u (a, b, is, first, second) =
+        first_of_two r s t u a b is first second (begins_no r (or_first (begins g r) (nullable r && begins g s) e)) (λ nil. begins_no s (later (nullable r) (begins g s) nil (or_second (begins g r) (nullable r && begins g s) e)))
+      where
+        later : (b c : Bool) → b ≡ true → (b && c) ≡ false → c ≡ false
+        later true c is e = e
+        later false c is e = cc
+    begins_no (alt r s) e u (inl h) = begins_no r (or_first (begins g r) (begins g s) e) u h
+    begins_no (alt r s) e u (inr h) = begins_no s (or_second (begins g r) (begins g s) e) u h
+    begins_no (many r) e u h = first_of_many r t u (t ∷ u) refl h (begins_no r e)

@@ -15,7 +15,7 @@ value_no_stop {T} {A} {Is} {tokens} {stop} x h s =
     s.stops (x, s.rest, subst (λ u. Is x u) (s.is ∙ sym (append_assoc s.front (stop ∷ []) s.rest)) h)
 
 -- a front that goes on further than another goes on over its next token
-goes_over : {T : Type 0} (a b : List T) (x y : T) (v w : List T) → a ++ x ∷ v ≡ b ++ y ∷ w → (((more : List T) × (b ≡ a ++ x ∷ more)) → ⊥) → (((more : List T) × (a ≡ b ++ y ∷ more)) → ⊥) → (x ≡ y) × (a ≡ b)
+pub goes_over : {T : Type 0} (a b : List T) (x y : T) (v w : List T) → a ++ x ∷ v ≡ b ++ y ∷ w → (((more : List T) × (b ≡ a ++ x ∷ more)) → ⊥) → (((more : List T) × (a ≡ b ++ y ∷ more)) → ⊥) → (x ≡ y) × (a ≡ b)
 goes_over [] [] x y v w e none_left none_right = (cc, refl)
 goes_over [] (z ∷ b) x y v w e none_left none_right =
     let same : z ≡ x = cc in

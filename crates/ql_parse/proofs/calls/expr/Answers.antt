@@ -1,8 +1,8 @@
 use Rattle.std.proofs.Common.{sym, subst, refl}
 use Rattle.ql_grammar.specs.Selects.{IsExpr}
 use Rattle.ql_parse.proofs.SelectValues.{counting_is}
-use Rattle.ql_parts.proofs.Choices.{takes_followed, fails_followed, takes_unfollowed, fails_unfollowed}
-use Rattle.ql_parts.proofs.Steps.{fails_with, takes_as, takes_wider, fails_wider}
+use Rattle.token_grammar.proofs.Lookahead.{takes_followed, fails_followed, takes_unfollowed, fails_unfollowed}
+use Rattle.token_grammar.proofs.Rows.{fails_with, takes_as, takes_wider, fails_wider}
 use Rattle.ql_parse.proofs.calls.expr.Goals as goal
 
 pub returns-in_err-name : goal.returns-in_err-name

@@ -1,4 +1,4 @@
-use Rattle.ql_parts.proofs.Steps.{fails_with}
+use Rattle.token_grammar.proofs.Rows.{fails_with}
 use Rattle.ql_parse.proofs.commands.commit.Goals as goal
 
 pub returns-in_err-word : goal.returns-in_err-word

@@ -1,4 +1,4 @@
-use Rattle.ql_parts.proofs.Steps.{plain_seq, plain_first, plain_next, fails_with}
+use Rattle.token_grammar.proofs.Rows.{plain_seq, plain_first, plain_next, fails_with}
 use Rattle.ql_parse.proofs.commands.describe.Goals as goal
 
 pub returns-in_err-word : goal.returns-in_err-word

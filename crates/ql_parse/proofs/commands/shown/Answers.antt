@@ -1,5 +1,6 @@
 use Rattle.std.proofs.Common.{refl}
-use Rattle.ql_parts.proofs.Steps.{plain_seq, plain_first, plain_next, fails_with, takes_if, fails_if, takes_else, fails_else, from_there, fails_there}
+use Rattle.token_grammar.proofs.Rows.{plain_seq, plain_first, plain_next, fails_with, from_there, fails_there}
+use Rattle.token_grammar.proofs.Choices.{takes_if, fails_if, takes_else, fails_else}
 use Rattle.ql_parse.proofs.commands.shown.Goals as goal
 
 pub returns-in_err-index : goal.returns-in_err-index

@@ -1,4 +1,4 @@
-use Rattle.ql_parts.proofs.Steps.{fails_at}
+use Rattle.token_grammar.proofs.Rows.{fails_at}
 use Rattle.ql_parse.proofs.SelectSteps.{compared_none, takes_comparison}
 use Rattle.ql_parse.proofs.comparisons.comparison.Goals as goal
 

@@ -1,4 +1,4 @@
-use Rattle.ql_parts.proofs.Steps.{fails_with, plain_seq, plain_first, plain_next}
+use Rattle.token_grammar.proofs.Rows.{fails_with, plain_seq, plain_first, plain_next}
 use Rattle.ql_parse.proofs.conditions.among.Goals as goal
 
 pub returns-in_err-word : goal.returns-in_err-word

@@ -1,5 +1,5 @@
 use Rattle.std.proofs.Common.{rules}
-use Rattle.ql_parts.proofs.Steps.{fails_with, plain_seq, plain_first, plain_next}
+use Rattle.token_grammar.proofs.Rows.{fails_with, plain_seq, plain_first, plain_next}
 use Rattle.ql_parse.proofs.Wholes.{whole_kept}
 use mir.Syntax.{w128}
 use mir.Val.{SFits}

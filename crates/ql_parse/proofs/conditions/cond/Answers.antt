@@ -1,5 +1,6 @@
 use Rattle.std.proofs.Common.{rules, refl, []}
-use Rattle.ql_parts.proofs.Steps.{fails_with, plain_seq, plain_first, plain_next, takes_if, fails_if, takes_else, fails_else, from_there, fails_there, takes_as}
+use Rattle.token_grammar.proofs.Rows.{fails_with, plain_seq, plain_first, plain_next, from_there, fails_there, takes_as}
+use Rattle.token_grammar.proofs.Choices.{takes_if, fails_if, takes_else, fails_else}
 use Rattle.ql_parse.proofs.Wholes.{whole_kept, between_kept}
 use mir.Syntax.{w128}
 use mir.Val.{SFits}

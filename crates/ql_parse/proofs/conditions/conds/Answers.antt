@@ -1,5 +1,6 @@
 use Rattle.std.proofs.Common.{refl, ◌∙◌}
-use Rattle.ql_parts.proofs.Steps.{fails_with, plain_seq, plain_next, optional_if, optional_fails, optional_else}
+use Rattle.token_grammar.proofs.Rows.{fails_with, plain_seq, plain_next}
+use Rattle.token_grammar.proofs.Choices.{optional_if, optional_fails, optional_else}
 use Rattle.ql_parse.proofs.SelectSteps.{are_given, none_given}
 use Rattle.ql_grammar.specs.Selects.{AreConds}
 use Rattle.ql_parse.proofs.conditions.conds.Goals as goal

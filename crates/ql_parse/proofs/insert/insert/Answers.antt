@@ -1,5 +1,5 @@
 use Rattle.std.proofs.Common.{refl}
-use Rattle.ql_parts.proofs.Steps.{plain_seq, plain_first, plain_next, takes_seq, fails_first, fails_next, fails_with}
+use Rattle.token_grammar.proofs.Rows.{plain_seq, plain_first, plain_next, takes_seq, fails_first, fails_next, fails_with}
 use Rattle.ql_parse.proofs.insert.insert.Goals as goal
 
 pub returns-in_err-replace : goal.returns-in_err-replace

@@ -1,5 +1,6 @@
 use Rattle.std.proofs.Common.{refl}
-use Rattle.ql_parts.proofs.Steps.{fails_with, takes_if, takes_else, fails_else, from_there, fails_there}
+use Rattle.token_grammar.proofs.Rows.{fails_with, from_there, fails_there}
+use Rattle.token_grammar.proofs.Choices.{takes_if, takes_else, fails_else}
 use Rattle.ql_parse.proofs.insert.replaces.Goals as goal
 
 pub returns-then-takes_word : goal.returns-then-takes_word

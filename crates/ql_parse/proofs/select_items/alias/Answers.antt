@@ -1,5 +1,6 @@
 use Rattle.std.proofs.Common.{refl, []}
-use Rattle.ql_parts.proofs.Steps.{takes_seq, fails_next, fails_with, plain_seq, plain_next, optional_if, optional_fails}
+use Rattle.token_grammar.proofs.Rows.{takes_seq, fails_next, fails_with, plain_seq, plain_next}
+use Rattle.token_grammar.proofs.Choices.{optional_if, optional_fails}
 use Rattle.ql_parse.proofs.SelectSteps.{next_there, as_taken, no_as, no_alias}
 use Rattle.ql_parse.proofs.select_items.alias.Goals as goal
 

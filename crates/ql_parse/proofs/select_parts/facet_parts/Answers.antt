@@ -1,5 +1,5 @@
 use Rattle.std.proofs.Common.{refl}
-use Rattle.ql_parts.proofs.Steps.{takes_seq, fails_first, fails_next, fails_with, plain_seq, plain_first, plain_next, takes_wider, fails_wider}
+use Rattle.token_grammar.proofs.Rows.{takes_seq, fails_first, fails_next, fails_with, plain_seq, plain_first, plain_next, takes_wider, fails_wider}
 use Rattle.ql_parse.proofs.select_parts.facet_parts.Goals as goal
 
 pub returns-in_err-column : goal.returns-in_err-column

@@ -1,5 +1,5 @@
 use Rattle.std.proofs.Common.{rules, refl}
-use Rattle.ql_parts.proofs.Steps.{takes_seq, fails_first, fails_next, fails_with, plain_seq, plain_first, plain_next}
+use Rattle.token_grammar.proofs.Rows.{takes_seq, fails_first, fails_next, fails_with, plain_seq, plain_first, plain_next}
 use Rattle.ql_parse.proofs.Wholes.{whole_kept}
 use mir.Syntax.{w128}
 use mir.Val.{SFits}

@@ -1,5 +1,6 @@
 use Rattle.std.proofs.Common.{refl, []}
-use Rattle.ql_parts.proofs.Steps.{fails_with, plain_seq, plain_first, plain_next, optional_if, optional_fails, optional_else}
+use Rattle.token_grammar.proofs.Rows.{fails_with, plain_seq, plain_first, plain_next}
+use Rattle.token_grammar.proofs.Choices.{optional_if, optional_fails, optional_else}
 use Rattle.ql_parse.proofs.select_parts.limit.Goals as goal
 
 pub returns-in_err-first : goal.returns-in_err-first

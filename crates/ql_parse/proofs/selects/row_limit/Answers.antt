@@ -1,5 +1,6 @@
 use Rattle.std.proofs.Common.{[], refl}
-use Rattle.ql_parts.proofs.Steps.{plain_seq, plain_first, plain_next, fails_with, optional_if, optional_fails, optional_else}
+use Rattle.token_grammar.proofs.Rows.{plain_seq, plain_first, plain_next, fails_with}
+use Rattle.token_grammar.proofs.Choices.{optional_if, optional_fails, optional_else}
 use Rattle.ql_parse.proofs.selects.row_limit.Goals as goal
 
 pub returns-in_err-word : goal.returns-in_err-word

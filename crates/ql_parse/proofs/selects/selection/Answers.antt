@@ -1,6 +1,7 @@
 use Rattle.std.proofs.Common.{refl}
-use Rattle.ql_parts.proofs.Choices.{takes_followed, fails_followed, takes_unfollowed, fails_unfollowed}
-use Rattle.ql_parts.proofs.Steps.{plain_seq, plain_first, plain_next, fails_with, takes_if, fails_if, takes_else, fails_else, takes_wider, fails_wider}
+use Rattle.token_grammar.proofs.Lookahead.{takes_followed, fails_followed, takes_unfollowed, fails_unfollowed}
+use Rattle.token_grammar.proofs.Rows.{plain_seq, plain_first, plain_next, fails_with, takes_wider, fails_wider}
+use Rattle.token_grammar.proofs.Choices.{takes_if, fails_if, takes_else, fails_else}
 use Rattle.ql_parse.proofs.selects.selection.Goals as goal
 
 pub returns-in_err-name : goal.returns-in_err-name

@@ -1,7 +1,7 @@
 use Rattle.std.proofs.Common.{refl}
 use Rattle.std.proofs.Common.{[]}
-use Rattle.ql_parts.proofs.Choices.{takes_led, fails_led, takes_unled, fails_unled}
-use Rattle.ql_parts.proofs.Steps.{plain_seq, plain_first, plain_next, fails_with, takes_as}
+use Rattle.token_grammar.proofs.Lookahead.{takes_led, fails_led, takes_unled, fails_unled}
+use Rattle.token_grammar.proofs.Rows.{plain_seq, plain_first, plain_next, fails_with, takes_as}
 use Rattle.ql_parse.proofs.settings.scoped.Goals as goal
 
 pub returns-in_err-word : goal.returns-in_err-word

@@ -1,5 +1,5 @@
 use Rattle.ql_parse.proofs.StatementValues.{set_is}
-use Rattle.ql_parts.proofs.Steps.{plain_seq, plain_first, plain_next, fails_with, takes_as}
+use Rattle.token_grammar.proofs.Rows.{plain_seq, plain_first, plain_next, fails_with, takes_as}
 use Rattle.ql_parse.proofs.settings.set.Goals as goal
 
 pub returns-in_err-word : goal.returns-in_err-word

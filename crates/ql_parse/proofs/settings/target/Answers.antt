@@ -1,5 +1,6 @@
 use Rattle.std.proofs.Common.{refl}
-use Rattle.ql_parts.proofs.Steps.{fails_with, takes_if, fails_if, takes_else, fails_else}
+use Rattle.token_grammar.proofs.Rows.{fails_with}
+use Rattle.token_grammar.proofs.Choices.{takes_if, fails_if, takes_else, fails_else}
 use Rattle.ql_parse.proofs.settings.target.Goals as goal
 
 pub returns-in_err-variable : goal.returns-in_err-variable

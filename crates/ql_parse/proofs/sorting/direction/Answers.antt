@@ -1,5 +1,6 @@
 use Rattle.std.proofs.Common.{refl, []}
-use Rattle.ql_parts.proofs.Steps.{takes_if, takes_else, optional_if, from_there}
+use Rattle.token_grammar.proofs.Choices.{takes_if, takes_else, optional_if}
+use Rattle.token_grammar.proofs.Rows.{from_there}
 use Rattle.ql_parse.proofs.SelectSteps.{next_there, no_direction}
 use Rattle.ql_parse.proofs.sorting.direction.Goals as goal
 

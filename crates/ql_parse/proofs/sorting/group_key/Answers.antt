@@ -1,5 +1,5 @@
 use Rattle.std.proofs.Common.{refl}
-use Rattle.ql_parts.proofs.Steps.{takes_seq, fails_first, fails_with, takes_wider}
+use Rattle.token_grammar.proofs.Rows.{takes_seq, fails_first, fails_with, takes_wider}
 use Rattle.ql_parse.proofs.sorting.group_key.Goals as goal
 
 pub returns-in_err-by : goal.returns-in_err-by

@@ -1,6 +1,6 @@
 use Rattle.std.proofs.Common.{refl}
-use Rattle.ql_parts.proofs.Steps.{fails_with, takes_wider, fails_wider}
-use Rattle.ql_parts.proofs.Choices.{takes_followed, fails_followed, takes_unfollowed, fails_unfollowed}
+use Rattle.token_grammar.proofs.Rows.{fails_with, takes_wider, fails_wider}
+use Rattle.token_grammar.proofs.Lookahead.{takes_followed, fails_followed, takes_unfollowed, fails_unfollowed}
 use Rattle.ql_parse.proofs.sorting.sort.Goals as goal
 
 pub returns-in_err-no_argument : goal.returns-in_err-no_argument

@@ -1,5 +1,5 @@
 use Rattle.std.proofs.Common.{refl}
-use Rattle.ql_parts.proofs.Steps.{reads_if, reads_else, reads_wider}
+use Rattle.token_grammar.proofs.Choices.{reads_if, reads_else, reads_wider}
 use Rattle.ql_parse.proofs.statements.statement.Goals as goal
 
 pub returns-then-is_word : goal.returns-then-is_word
@@ -39,4 +39,4 @@ pub returns-then-is_word-12 : goal.returns-then-is_word-12
 returns-then-is_word-12 c = reads_else _ _ _ _ c.describe.new.input c.describe.result c.if-is_word.ensures refl (reads_else _ _ _ _ c.describe.new.input c.describe.result c.if-is_word-2.ensures refl (reads_else _ _ _ _ c.describe.new.input c.describe.result c.if-is_word-3.ensures refl (reads_else _ _ _ _ c.describe.new.input c.describe.result c.if-is_word-4.ensures refl (reads_else _ _ _ _ c.describe.new.input c.describe.result c.if-is_word-5.ensures refl (reads_else _ _ _ _ c.describe.new.input c.describe.result c.if-is_word-6.ensures refl (reads_else _ _ _ _ c.describe.new.input c.describe.result c.if-is_word-7.ensures refl (reads_else _ _ _ _ c.describe.new.input c.describe.result c.if-is_word-8.ensures refl (reads_else _ _ _ _ c.describe.new.input c.describe.result c.if-is_word-9.ensures refl (reads_else _ _ _ _ c.describe.new.input c.describe.result c.if-is_word-10.ensures refl (reads_else _ _ _ _ c.describe.new.input c.describe.result c.if-is_word-11.ensures refl (reads_if _ _ _ _ _ c.describe.new.input c.describe.result c.if-is_word-12.ensures refl c.describe.ensures)))))))))))
 
 pub returns : goal.returns
-returns c = reads_else _ _ _ _ c.insert.new.input c.insert.result c.if-is_word.ensures refl (reads_else _ _ _ _ c.insert.new.input c.insert.result c.if-is_word-2.ensures refl (reads_else _ _ _ _ c.insert.new.input c.insert.result c.if-is_word-3.ensures refl (reads_else _ _ _ _ c.insert.new.input c.insert.result c.if-is_word-4.ensures refl (reads_else _ _ _ _ c.insert.new.input c.insert.result c.if-is_word-5.ensures refl (reads_else _ _ _ _ c.insert.new.input c.insert.result c.if-is_word-6.ensures refl (reads_else _ _ _ _ c.insert.new.input c.insert.result c.if-is_word-7.ensures refl (reads_else _ _ _ _ c.insert.new.input c.insert.result c.if-is_word-8.ensures refl (reads_else _ _ _ _ c.insert.new.input c.insert.result c.if-is_word-9.ensures refl (reads_else _ _ _ _ c.insert.new.input c.insert.result c.if-is_word-10.ensures refl (reads_else _ _ _ _ c.insert.new.input c.insert.result c.if-is_word-11.ensures refl (reads_else _ _ _ _ c.insert.new.input c.insert.result c.if-is_word-12.ensures refl (reads_wider _ _ _ _ _ c.insert.new.input c.insert.result refl c.insert.ensures))))))))))))
+returns c = reads_else _ _ _ _ c.insert.new.input c.insert.result c.if-is_word.ensures refl (reads_else _ _ _ _ c.insert.new.input c.insert.result c.if-is_word-2.ensures refl (reads_else _ _ _ _ c.insert.new.input c.insert.result c.if-is_word-3.ensures refl (reads_else _ _ _ _ c.insert.new.input c.insert.result c.if-is_word-4.ensures refl (reads_else _ _ _ _ c.insert.new.input c.insert.result c.if-is_word-5.ensures refl (reads_else _ _ _ _ c.insert.new.input c.insert.result c.if-is_word-6.ensures refl (reads_else _ _ _ _ c.insert.new.input c.insert.result c.if-is_word-7.ensures refl (reads_else _ _ _ _ c.insert.new.input c.insert.result c.if-is_word-8.ensures refl (reads_else _ _ _ _ c.insert.new.input c.insert.result c.if-is_word-9.ensures refl (reads_else _ _ _ _ c.insert.new.input c.insert.result c.if-is_word-10.ensures refl (reads_else _ _ _ _ c.insert.new.input c.insert.result c.if-is_word-11.ensures refl (reads_else _ _ _ _ c.insert.new.input c.insert.result c.if-is_word-12.ensures refl (reads_wider _ _ _ _ _ _ c.insert.new.input c.insert.result refl c.insert.ensures))))))))))))

@@ -1,4 +1,4 @@
-use Rattle.ql_parts.proofs.Steps.{takes_seq, fails_first, fails_next, fails_with, plain_seq, plain_first, plain_next}
+use Rattle.token_grammar.proofs.Rows.{takes_seq, fails_first, fails_next, fails_with, plain_seq, plain_first, plain_next}
 use Rattle.ql_parts.proofs.part.enclosed.Goals as goal
 
 pub returns-in_err-sign : goal.returns-in_err-sign

@@ -1,6 +1,7 @@
 use Rattle.std.proofs.Common.{rules, refl}
 use Rattle.ql_parse.proofs.Wholes.{whole_kept}
-use Rattle.ql_parts.proofs.Steps.{fails_with, takes_if, fails_if, takes_else, fails_else}
+use Rattle.token_grammar.proofs.Rows.{fails_with}
+use Rattle.token_grammar.proofs.Choices.{takes_if, fails_if, takes_else, fails_else}
 use Rattle.ql_parse.proofs.insert.ValuePart.read.Goals as goal
 
 pub returns-in_err-text : goal.returns-in_err-text

@@ -1,5 +1,6 @@
 use Rattle.std.proofs.Common.{refl}
-use Rattle.ql_parts.proofs.Steps.{takes_seq, fails_first, fails_next, fails_with, takes_if, takes_else, fails_else, from_there, fails_there, takes_wider, fails_wider}
+use Rattle.token_grammar.proofs.Rows.{takes_seq, fails_first, fails_next, fails_with, from_there, fails_there, takes_wider, fails_wider}
+use Rattle.token_grammar.proofs.Choices.{takes_if, takes_else, fails_else}
 use Rattle.ql_parse.proofs.select_items.ItemPart.read.Goals as goal
 
 pub returns-then-takes_sign : goal.returns-then-takes_sign

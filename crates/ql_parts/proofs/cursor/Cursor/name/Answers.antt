@@ -2,13 +2,13 @@ use Rattle.std.proofs.Common.{refl, ap, ◌∙◌}
 use Rattle.std.specs.Str.{str_to_ascii_lowercase}
 use Rattle.ql_lex.specs.Tokens.{lexeme_of}
 use Rattle.ql_parts.proofs.Cursors.{named}
-use Rattle.ql_parts.proofs.Steps.{takes_next, fails_at, kind_next}
+use Rattle.token_grammar.proofs.Rows.{takes_next, fails_at, fits_next}
 use Rattle.ql_parts.proofs.cursor.Cursor.name.Goals as goal
 
 pub token_name-requires : goal.token_name-requires
 token_name-requires c =
     let token = c.skip-token.result.now in
-    named token.kind token.text.now (kind_next c.if-is_name.ensures c.skip-token.ensures.next) c.skip-token.ensures.lexeme
+    named token.kind token.text.now (fits_next c.if-is_name.ensures c.skip-token.ensures.next) c.skip-token.ensures.lexeme
 
 pub returns-in_ok-to_ascii_lowercase : goal.returns-in_ok-to_ascii_lowercase
 returns-in_ok-to_ascii_lowercase c =

@@ -1,4 +1,5 @@
-use Rattle.ql_parts.proofs.Steps.{takes_sign, fails_at}
+use Rattle.ql_parts.proofs.Steps.{takes_sign}
+use Rattle.token_grammar.proofs.Rows.{fails_at}
 use Rattle.ql_parts.proofs.cursor.Cursor.sign.Goals as goal
 
 pub returns-then-is_sign : goal.returns-then-is_sign

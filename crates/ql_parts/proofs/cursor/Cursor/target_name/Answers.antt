@@ -5,13 +5,13 @@ use Rattle.ql_grammar.specs.declared.keyword.Keyword.TheVariants as keywords
 use Rattle.ql_grammar.specs.Tokens.{kind}
 use Rattle.ql_parts.proofs.Cursors.{named}
 use Rattle.ql_grammar.proofs.ClassKinds.{but_name}
-use Rattle.ql_parts.proofs.Steps.{takes_next, fails_at, kind_next}
+use Rattle.token_grammar.proofs.Rows.{takes_next, fails_at, fits_next}
 use Rattle.ql_parts.proofs.cursor.Cursor.target_name.Goals as goal
 
 pub token_name-requires : goal.token_name-requires
 token_name-requires c =
     let token = c.skip-token.result.now in
-    named token.kind token.text.now (but_name keywords.Autocommit keywords.Names (kind (lexeme_of token)) (kind_next c.if-is_target_name.ensures c.skip-token.ensures.next)) c.skip-token.ensures.lexeme
+    named token.kind token.text.now (but_name keywords.Autocommit keywords.Names (kind (lexeme_of token)) (fits_next c.if-is_target_name.ensures c.skip-token.ensures.next)) c.skip-token.ensures.lexeme
 
 pub returns-in_ok-to_ascii_lowercase : goal.returns-in_ok-to_ascii_lowercase
 returns-in_ok-to_ascii_lowercase c =

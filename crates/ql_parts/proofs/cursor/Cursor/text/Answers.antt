@@ -5,14 +5,14 @@ use Rattle.ql_lex.specs.Values.{text_of}
 use Rattle.ql_lex.specs.Tokens.{lexeme_of}
 use Rattle.ql_grammar.specs.Tokens.{kind}
 use Rattle.ql_parts.proofs.Cursors.{text_form}
-use Rattle.ql_parts.proofs.Steps.{takes_next, fails_at, kind_next}
+use Rattle.token_grammar.proofs.Rows.{takes_next, fails_at, fits_next}
 use Rattle.ql_grammar.proofs.ClassKinds.{text_is}
 use Rattle.ql_parts.proofs.cursor.Cursor.text.Goals as goal
 
 pub put_text-requires : goal.put_text-requires
 put_text-requires c =
     let token = c.skip-token.result.now in
-    let form = text_form token.kind token.text.now (text_is (kind (lexeme_of token)) (kind_next c.if-is_text.ensures c.skip-token.ensures.next)) in
+    let form = text_form token.kind token.text.now (text_is (kind (lexeme_of token)) (fits_next c.if-is_text.ensures c.skip-token.ensures.next)) in
     let quoted = subst (λ (f : TokenKind). IsLexeme f token.text.now) form c.skip-token.ensures.lexeme in
     quoted.0
 

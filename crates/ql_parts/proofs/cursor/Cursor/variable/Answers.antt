@@ -5,14 +5,14 @@ use Rattle.ql_lex.specs.Shapes.{IsLexeme, IsNamed}
 use Rattle.ql_lex.specs.Tokens.{lexeme_of}
 use Rattle.ql_grammar.specs.Tokens.{kind}
 use Rattle.ql_parts.proofs.Cursors.{variable_form}
-use Rattle.ql_parts.proofs.Steps.{takes_next, fails_at, kind_next}
+use Rattle.token_grammar.proofs.Rows.{takes_next, fails_at, fits_next}
 use Rattle.ql_grammar.proofs.ClassKinds.{variable_is}
 use Rattle.ql_parts.proofs.cursor.Cursor.variable.Goals as goal
 
 pub token_name-requires : goal.token_name-requires
 token_name-requires c =
     let token = c.skip-token.result.now in
-    let form = variable_form token.kind token.text.now (variable_is (kind (lexeme_of token)) (kind_next c.if-is_variable.ensures c.skip-token.ensures.next)) in
+    let form = variable_form token.kind token.text.now (variable_is (kind (lexeme_of token)) (fits_next c.if-is_variable.ensures c.skip-token.ensures.next)) in
     let named = subst (λ (f : TokenKind). IsLexeme f token.text.now) form c.skip-token.ensures.lexeme in
     subst (λ (f : TokenKind). IsNamed f token.text.now) (sym form) named.0
 

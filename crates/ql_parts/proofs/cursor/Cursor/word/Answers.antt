@@ -1,4 +1,5 @@
-use Rattle.ql_parts.proofs.Steps.{takes_word, fails_at}
+use Rattle.ql_parts.proofs.Steps.{takes_word}
+use Rattle.token_grammar.proofs.Rows.{fails_at}
 use Rattle.ql_parts.proofs.cursor.Cursor.word.Goals as goal
 
 pub returns-then-is_word : goal.returns-then-is_word

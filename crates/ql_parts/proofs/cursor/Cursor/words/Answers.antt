@@ -1,5 +1,5 @@
 use Rattle.std.proofs.Common.{refl}
-use Rattle.ql_parts.proofs.Steps.{takes_seq, fails_first, fails_next, fails_with}
+use Rattle.token_grammar.proofs.Rows.{takes_seq, fails_first, fails_next, fails_with}
 use Rattle.ql_parts.proofs.cursor.Cursor.words.Goals as goal
 
 pub returns-in_err-word : goal.returns-in_err-word

@@ -1,7 +1,8 @@
 use Rattle.std.proofs.Common.{refl, inl, inr}
 use Rattle.std.proofs.Common.{arith}
 use Rattle.std.proofs.lemmas.Int.{ints}
-use Rattle.ql_parts.proofs.Steps.{plain_seq, plain_next, fails_with, takes_if, fails_if, takes_else, fails_else, from_there, fails_there, takes_as}
+use Rattle.token_grammar.proofs.Rows.{plain_seq, plain_next, fails_with, from_there, fails_there, takes_as}
+use Rattle.token_grammar.proofs.Choices.{takes_if, fails_if, takes_else, fails_else}
 use Rattle.ql_parts.proofs.part.WholePart.read.Goals as goal
 
 pub returns-in_err-number : goal.returns-in_err-number

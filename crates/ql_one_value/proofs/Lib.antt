@@ -1,6 +1,0 @@
-pub mod Once
-pub mod OnceChoices
-pub mod OnceParts
-pub mod OnceSelects
-pub mod OnceStatements
-pub mod OncePackets
