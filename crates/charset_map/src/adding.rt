@@ -1,3 +1,7 @@
+//! The span of one entry.
+//!
+//! An entry's two ranges must rise and be equally long; it then is a span of characters, by their numbers, whose values
+//! follow each other too. What is wrong with an entry by itself is found here, in the order Entry, Range, Lengths.
 ghost use Rattle.std.specs.Prelude.{IfOk};
 ghost use Rattle.charset_map.specs.steps.Adding.{HasSpan};
 ghost use Rattle.charset_map.specs.steps.Gathering.{WritesSpan};

@@ -1,3 +1,8 @@
+//! Characters: how a table writes them, and their numbers.
+//!
+//! A printable ASCII character writes itself, unless it is one of `,->./+`; any other is `U+` and one to six
+//! hexadecimal digits. The number of a character is its place among all characters: that of its code, less the 2,048
+//! surrogates where it comes after them. So ranges may pass over the surrogates, which count for nothing.
 ghost use Rattle.std.specs.Prelude.{◌≡◌, ◌<◌, ℕ, ◌∷◌, MatchOption};
 ghost use Rattle.charset_map.specs.Characters.{IsCharacter, IsCode, character_at, is_blank, is_plain, ordinal};
 

@@ -1,3 +1,8 @@
+//! A character table, as Sphinx's manual describes it for `charset_table`, without its checkerboard ranges.
+//!
+//! The table keeps spans in order and not characters, so that the table of all characters is one span. ASCII
+//! characters, which most texts are made of, have an array of their own: they take one look-up, and any other character
+//! a bisection of the spans.
 ghost use Rattle.std.specs.Prelude.{◌≡◌, ◌<◌, ◌^◌, IfOk, length};
 ghost use Rattle.charset_map.specs.TableText.{IsTableOf, ReadsTable, default_text};
 ghost use Rattle.charset_map.specs.Spans.{folded};

@@ -1,3 +1,7 @@
+//! The forms of an entry: `c`, `c..d`, `c->e` and `c..d->e..f`.
+//!
+//! A text without `-` is one side, and its characters are their own values; else it is split at its first `->`, and
+//! both sides must have one form. A side without `.` is one character; else it is split at its first `..`.
 ghost use Rattle.std.specs.Prelude.{◌≡◌, ◌≢◌, ℕ, List, ◌∷◌, ◌++◌, MatchOption};
 ghost use Rattle.charset_map.specs.declared.entries.Entry.{Entry};
 ghost use Rattle.charset_map.specs.declared.entries.Side.{Side};

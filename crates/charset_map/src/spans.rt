@@ -1,3 +1,8 @@
+//! Spans in order, of which no two share a number.
+//!
+//! A span says: the characters from one number to another, and the number of the first one's value. Spans that overlap
+//! and agree are joined into one, so that looking a number up is one bisection. A span that is added after all others
+//! costs no more than what it is joined with; one that is added before others moves these.
 ghost use Rattle.std.specs.Prelude.{◌≡◌, ◌<◌, [], IfSome, MatchOption};
 ghost use Rattle.charset_map.specs.steps.Adding.{AddsSpan};
 ghost use Rattle.charset_map.specs.Spans.{number_in, number_of};

@@ -1,3 +1,4 @@
+//! Texts without the blanks around them, and the place of a byte. Blanks are spaces, tabs, CR and LF.
 ghost use Rattle.std.specs.Prelude.{◌≡◌, ◌==◌};
 ghost use Rattle.std.specs.List.{list_all, position_or_len, prefix_len, suffix_len};
 ghost use Rattle.charset_map.specs.Characters.{is_blank};

@@ -1,3 +1,4 @@
+//! A configuration that was read, and its limits.
 use charset_map::Charset;
 use doc_types::Schema;
 use mark_scan::MarkRules;

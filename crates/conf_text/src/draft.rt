@@ -1,3 +1,8 @@
+//! An index whose section is being read.
+//!
+//! Each entry is first a setting, by itself; then it is tested against what the index has, in the order Repeated,
+//! Limit; then it is kept. At the `}` the index must have a type, a path and a field, and must strip markup where it
+//! has zones. Columns are few, and are compared one by one.
 ghost use Rattle.std.specs.Prelude.{◌≡◌, ◌++◌, ◌∷◌, ◌&&◌, ◌||◌, ◌==◌, ◌<◌, ◌^◌, [], Bool, List, ℕ, IfOk, IsSome, OnOk, false, length, not};
 ghost use Rattle.std.specs.List.{list_any};
 ghost use Rattle.std.specs.Option.{is_some};

@@ -1,3 +1,4 @@
+//! The kinds of faults of a configuration, in the order in which they are looked for at one line, and in words.
 ghost use Rattle.std.specs.Prelude.{◌≡◌};
 ghost use Rattle.conf_text.specs.FaultTexts.{kind_text};
 

@@ -1,3 +1,8 @@
+//! The keys of an index.
+//!
+//! All is in two lists: the kinds, and the names with their kinds, in the order of the names' bytes. The definitions
+//! have the same two lists (`specs/Keys`), and the check compares them row by row. What a key's value may be and sets
+//! is in `setting`.
 ghost use Rattle.std.specs.Prelude.{◌≡◌, Option, slice_get};
 ghost use Rattle.std.specs.Str.{str_to_ascii_lowercase};
 ghost use Rattle.name_table.specs.Order.{IsInOrder};

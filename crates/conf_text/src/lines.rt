@@ -1,3 +1,8 @@
+//! The lines of a text.
+//!
+//! The text is cut after each LF; a CR before it goes too. A part that ends in a backslash is joined with the next one,
+//! and the line has the number of its first part. A comment begins with `#` at the front of the line, or after a space
+//! or a tab, and ends with the line. One buffer holds the line that is being read.
 ghost use Rattle.std.specs.Prelude.{◌≡◌, ◌==◌, ◌<◌, ◌≤◌, ◌+◌, ◌^◌, ◌∷◌, length, IfOk};
 ghost use Rattle.std.specs.Str.Lines.{lines, strip_carriage_return};
 ghost use Rattle.conf_text.specs.Lines.{begins_comment, content_of, is_joined, joined_parts, uncommented, unjoined};

@@ -1,3 +1,15 @@
+//! A configuration, from its lines.
+//!
+//! ```text
+//! index NAME
+//! {
+//!     key = value
+//! }
+//! ```
+//!
+//! A first pass looks for a line that isn't UTF-8; a second one takes line by line: its shape by itself, then the shape
+//! at its place, then what it does to the index that is being read. The first fault ends the reading; of two at one
+//! line the first in the order of `ConfKind` is given.
 ghost use Rattle.std.specs.Prelude.{◌≡◌, ◌||◌, nat_le, ◌<◌, ◌≤◌, ◌^◌, List, ℕ, IfOk, length, if◌then◌else◌};
 ghost use Rattle.conf_text.specs.declared.reading.Place.TheVariants.{Headed, Inside};
 ghost use Rattle.conf_text.specs.Confs.{IsSound, ReadsConf};

@@ -1,3 +1,5 @@
+//! The value of a key, and what it sets. A value is good or bad by itself; what the index has already is looked at in
+//! `draft`.
 ghost use Rattle.std.specs.Prelude.{◌≡◌, ◌≢◌, ◌<◌, ◌^◌, [], codes, length, true, false};
 ghost use Rattle.std.specs.Str.{IsUtf8, bytes_eq};
 ghost use Rattle.charset_map.specs.TableText.{IsTableOf};

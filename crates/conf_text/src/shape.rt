@@ -1,3 +1,7 @@
+//! What a line is by itself: the head of a section, `{`, `}`, `key = value`, nothing, or none of these.
+//!
+//! A line with `=` is an entry, split at the first one. Any other line is a head: a word, a name where that kind of
+//! section has one, and perhaps a `{` at the end.
 ghost use Rattle.std.specs.Prelude.{◌≡◌, ◌&&◌};
 ghost use Rattle.std.specs.Str.{bytes_eq};
 ghost use Rattle.charset_map.specs.Characters.{is_blank};
@@ -6,7 +10,7 @@ ghost use Rattle.conf_text.specs.Shapes.{bare_head, entry_shape, has_name, has_n
 ghost use Rattle.conf_text.specs.steps.SeenShapes.{seen};
 
 use crate::keys::Key;
-use crate::text::{before_blanks, after_blanks, blank, name_like, place_of, trim};
+use crate::text::{after_blanks, before_blanks, blank, name_like, place_of, trim};
 
 /// What a line is, by itself.
 #[derive(Clone, Copy, Debug)]

@@ -1,3 +1,4 @@
+//! Texts without the blanks around them, names, and small letters.
 ghost use Rattle.std.specs.Prelude.{◌≡◌, ◌==◌, IfOk};
 ghost use Rattle.std.specs.Char.{to_ascii_lowercase};
 ghost use Rattle.std.specs.List.{list_all, position_or_len, prefix_len, suffix_len};

@@ -1,3 +1,5 @@
+//! The names of zones between commas: tags' names in small letters, each once. A set of those that were seen keeps a
+//! long list cheap: n log n comparisons for n names.
 ghost use Rattle.std.specs.Prelude.{◌≡◌, ◌&&◌, ℕ, List};
 ghost use Rattle.std.specs.List.{list_all, list_any};
 ghost use Rattle.std.specs.Str.{bytes_eq};

@@ -1,3 +1,7 @@
+//! What a character is to the words of its text, by the marks around it.
+//!
+//! Of the marks that begin before a character's end it is enough to know how far they reach, for each kind the greatest
+//! place: a mark covers the character where it reaches beyond its first byte.
 ghost use Rattle.std.specs.Prelude.{◌≡◌, List, [], ◌∷◌, ◌++◌};
 ghost use Rattle.charset_map.specs.Spans.{folded};
 ghost use Rattle.mark_scan.specs.declared.mark.Mark.{Mark};

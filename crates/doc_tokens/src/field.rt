@@ -1,3 +1,5 @@
+//! The tokens of a field, in three steps: its marks (`mark_scan`), its words and the tags of its zones (`walk`), and
+//! the spans of its zones (`spans`). Each step takes a time linear in what it reads, and no memory for a character.
 ghost use Rattle.std.specs.Prelude.{◌<◌, ◌^◌, IfOk, length};
 ghost use Rattle.charset_map.specs.Spans.{folded};
 ghost use Rattle.doc_types.specs.Schemas.{AreZones};

@@ -1,3 +1,8 @@
+//! Words, from signs one by one.
+//!
+//! A run of letters goes on until a sign that is no letter, and is then a word, cut after 42 letters. A boundary
+//! between two words takes a position of its own: several in a row are one, and those before the first word none. One
+//! buffer of 168 bytes holds the run; memory is taken for words alone.
 ghost use Rattle.std.specs.Prelude.{◌≡◌, ◌≤◌, ℕ, option_to_list, List, [], ◌∷◌, ◌++◌, IfOk, OnOk};
 ghost use Rattle.doc_types.specs.declared.tokens.TheConstants.{MAX_POSITION};
 ghost use Rattle.doc_tokens.specs.Words.{end_of, stronger};
@@ -38,7 +43,8 @@ fn end(sign: TextSign) -> Gap
     match sign {
         TextSign::Sentence => Gap::Sentence,
         TextSign::Paragraph => Gap::Paragraph,
-        TextSign::Letter(_) | TextSign::Separator | TextSign::Open(_) | TextSign::Close(_) => Gap::None,
+        TextSign::Letter(_) | TextSign::Separator | TextSign::Open(_) | TextSign::Close(_) =>
+            Gap::None,
     }
 }
 
@@ -57,7 +63,8 @@ fn zone_tag(sign: TextSign, words: usize) -> Option<ZoneTag>
             opens: false,
             words,
         }),
-        TextSign::Letter(_) | TextSign::Separator | TextSign::Sentence | TextSign::Paragraph => None,
+        TextSign::Letter(_) | TextSign::Separator | TextSign::Sentence | TextSign::Paragraph =>
+            None,
     }
 }
 
@@ -113,7 +120,11 @@ impl Reader {
                 self.letter(letter)?;
                 Ok(())
             }
-            TextSign::Separator | TextSign::Sentence | TextSign::Paragraph | TextSign::Open(_) | TextSign::Close(_) => {
+            TextSign::Separator
+            | TextSign::Sentence
+            | TextSign::Paragraph
+            | TextSign::Open(_)
+            | TextSign::Close(_) => {
                 self.end_run(alloc)?;
                 self.put(sign)?;
                 Ok(())

@@ -1,3 +1,4 @@
+//! What a text is read as: signs of its characters and tags, and the tags of its zones among its words.
 /// What a character of a text, or a tag in it, is to the words of the text.
 #[derive(Clone, Copy, Debug, PartialEq, Eq)]
 pub enum TextSign {

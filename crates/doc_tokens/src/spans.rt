@@ -1,3 +1,8 @@
+//! The spans of zones, from the tags of zones among the words.
+//!
+//! A span goes from a tag that opens a zone to the zone's next tag, or to the text's end. The tags are read from the
+//! last one on, with the place where each zone ends in an array: so the end is known at the tag that opens. Spans
+//! without a word are dropped.
 ghost use Rattle.std.specs.Prelude.{◌≡◌, ◌<◌, ◌≤◌, [], ◌∷◌, All, IfOk, OnOk, length, map, option_to_list};
 ghost use Rattle.doc_tokens.specs.Tokens.{AreSpans};
 ghost use Rattle.doc_tokens.specs.Spans.{span_within};

@@ -1,3 +1,7 @@
+//! A text read from left to right beside its marks.
+//!
+//! Before each character the marks that begin before its end are passed: their tags come before the character, and what
+//! they cover is kept. Then the character is read as what the marks make of it.
 ghost use Rattle.std.specs.Prelude.{◌≡◌, ◌<◌, ◌≤◌, ◌^◌, ◌++◌, [], length, drop, MatchOption, option_to_list};
 ghost use Rattle.std.specs.Char.{encode_utf8};
 ghost use Rattle.std.specs.Str.{IsUtf8, chars};

@@ -1,3 +1,13 @@
+//! A text cut into its pieces: comments, tags, and plain text between them.
+//!
+//! ```text
+//! one <b>two</b><!-- three -->
+//! plain  tag plain tag comment
+//! ```
+//!
+//! Each piece is a part of the text, which isn't copied. The pieces, one after the other, are the text. A text is read
+//! once from left to right; a tag is looked at twice, once after the plain text before it and once as the first piece
+//! of what is left.
 ghost use Rattle.std.specs.Prelude.{◌≡◌, ◌<◌, ◌+◌, ℕ, length, slice_index, take, drop, IfOk};
 ghost use Rattle.std.specs.Str.{IsUtf8};
 ghost use Rattle.mark_scan.specs.Markup.{BeginsComment, BeginsTag, BeginsMarkup};

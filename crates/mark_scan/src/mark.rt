@@ -1,3 +1,4 @@
+//! What marks are, and the rules that they are made by: `html_strip`, `index_sp` and `index_zones` of Sphinx's manual.
 use srch_base::{Items, Name};
 
 /// How marks are made of a text.

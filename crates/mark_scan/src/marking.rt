@@ -1,3 +1,8 @@
+//! The marks of a text, from its pieces.
+//!
+//! A reader goes from piece to piece. Plain text is a mark, after which come the ends of the sentences in it; a tag has
+//! the marks of its name; a comment has none. A run goes on across tags that are removed, and ends at all other tags
+//! and at comments: the reader keeps what the next dot must know of the run before it.
 ghost use Rattle.std.specs.Prelude.{Option, ◌≡◌, ◌<◌, ◌≤◌, ◌+◌, ◌^◌, ◌++◌, ℕ, List, [], ◌∷◌, length, map, reverse, IfOk, true, false};
 ghost use Rattle.std.specs.Str.{IsUtf8, chars};
 ghost use Rattle.charset_map.specs.Spans.{folded};

@@ -1,3 +1,8 @@
+//! Where markup begins and ends.
+//!
+//! A comment is `<!--` up to the next `-->`, which may not share its dashes. A tag is `<` or `</`, a letter and further
+//! bytes of a name, and all up to the next `>`. What begins neither is plain text. Once no `>` or no `-->` follows any
+//! more, none is searched for again, so that a text of a million `<` takes a time linear in its length.
 ghost use Rattle.std.specs.Prelude.{◌≡◌, ◌≢◌, ◌<◌, ◌≤◌, ◌+◌, ℕ, IsTrue, IfSome, IfNone, MatchOption, length, slice_index, drop, true, false};
 ghost use Rattle.mark_scan.specs.Markup.{is_name_byte, EndsComment, BeginsComment, BeginsTag, BeginsMarkup};
 ghost use Rattle.mark_scan.specs.steps.Scanning.{Rules, Begins};

@@ -1,3 +1,4 @@
+//! A piece of a text, as it lies in the text.
 /// A part of a text. The parts of a text, one after the other, are the text.
 #[derive(Clone, Copy, Debug)]
 pub enum Piece<'a> {

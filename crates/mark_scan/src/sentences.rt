@@ -1,3 +1,9 @@
+//! The ends of sentences in a text run, by the rule of `index_sp` in Sphinx's manual.
+//!
+//! `?` and `!` end a sentence. A dot doesn't where the sentence goes on: before a letter or a comma (`S.T.A.L.K.E.R.`),
+//! before a blank and a small letter (`e.g. that`), and between an initial and a blank (`John D. Doe`). So a dot asks
+//! what stands before it, which is kept in `Before`, and the next two characters of its run, which may be in later
+//! pieces.
 ghost use Rattle.std.specs.Prelude.{Option, ◌≡◌, ◌<◌, ◌≤◌, ◌+◌, ◌-◌, ◌^◌, ◌++◌, ℕ, List, [], ◌∷◌, length, map, reverse, MatchOption, IfOk, OnOk, true, false};
 ghost use Rattle.std.specs.Char.{encode_utf8, IsScalar};
 ghost use Rattle.std.specs.Str.{IsUtf8, chars};

@@ -1,3 +1,8 @@
+//! What a tag does, by its name in either case.
+//!
+//! An inline tag that is no zone is removed, with nothing in its place. A block tag ends a paragraph, where sentences
+//! and paragraphs are looked for. A tag of a zone opens or closes it, unless it closes itself. The two lists are those
+//! of Sphinx's manual for `html_strip` and `index_sp`.
 ghost use Rattle.std.specs.Prelude.{◌≡◌, ◌≤◌, ◌<◌, ◌++◌, length, map, IfSome, OnOk, option_to_list};
 ghost use Rattle.name_table.specs.Order.{IsInOrder};
 ghost use Rattle.mark_scan.specs.steps.Scanning.{tag_text};

@@ -1,3 +1,7 @@
+//! A list of words and their values, written once.
+//!
+//! A caller's macro holds the list; `words_of!` makes the table's words of it, and `value_at!` a match with an arm for
+//! each place. So a new word is one line, and no place is counted by hand.
 /// The words of a list `"word" => value, ..`, as `NameTable::ordered` takes them.
 ///
 /// A macro of the caller's holds the list once, and hands it to this macro and to `value_at`:

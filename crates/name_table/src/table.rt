@@ -1,3 +1,8 @@
+//! A table of fixed words, looked up in either case.
+//!
+//! The words lie in the program's constants, in the order of their bytes and each once. So a word is found by
+//! bisection, in about log2 N comparisons and without memory. That the words are in order is either proved where the
+//! table is written out (`ordered`) or tested once at run time (`check`).
 ghost use Rattle.std.specs.Prelude.{◌≡◌, ◌≤◌, ◌↔◌, IsTrue, Contains, MatchOption, length, map, slice_get};
 ghost use Rattle.std.specs.Cmp.Lexicographic.{slice_cmp};
 ghost use Rattle.std.specs.Ordering.{is_lt, nat_cmp};
