@@ -1,11 +1,11 @@
 -- Chunks: what each call answers, as facts about the chunk's list of rows.
-use Rattle.std.specs.Prelude.{◌≡◌, ◌<◌, ℕ, ◌-◌, List, [], ◌++◌, Bool, true, false, Option, length, map, drop, slice_get}
-use Rattle.std.specs.Option.{option_map, option_and_then, option_map_or}
+use Rattle.std.specs.Prelude.{◌≡◌, ◌<◌, ℕ, ◌-◌, List, [], ◌++◌, Bool, true, false, Option, length, map, drop, slice_get, All, AllPairs, Contains}
+use Rattle.std.specs.Option.{option_and_then, option_map_or}
 use Rattle.std.specs.List.{filter, list_any, flat_map, enumerate_from}
 use Rattle.std.specs.Str.{bytes_eq}
 use Rattle.std.specs.Cmp.Lexicographic.{slice_cmp}
 use Rattle.std.specs.Ordering.{nat_cmp}
-use Rattle.std.specs.FinSet as sets
+use Rattle.std.specs.declared.cmp.Ordering.TheVariants.{Less}
 use Rattle.doc_types.specs.declared.documents.DocRow.{DocRow}
 use Rattle.doc_types.specs.declared.schema.Schema.{Schema}
 use Rattle.doc_types.specs.declared.schema.Value.{Value}
@@ -47,13 +47,11 @@ has_word word row = list_any (λ field. list_any (is_word word) field.words) row
 abbrev pub rows_with : List ℕ → List DocRow → List ℕ
 rows_with word rows = numbers_where (has_word word) rows
 
--- all words of the rows, as often as they stand there
-abbrev pub occurrences : List DocRow → List (List ℕ)
-occurrences rows = flat_map (λ row. flat_map (λ field. map (λ token. token.word) field.words) row.doc.fields) rows
-
--- the words of the rows, each once, ascending by their bytes
-abbrev pub words_of : List DocRow → List (List ℕ)
-words_of rows = sets.items (sets.from_list {R = slice_cmp nat_cmp} (occurrences rows))
+-- the words of the rows: ascending by their bytes, each in some row, and all that some row has
+pub record AreWordsOf (rows : List DocRow) (words : List (List ℕ)) : Type 0 where
+  pub ascend : AllPairs (λ word later. slice_cmp nat_cmp word later ≡ Less) words
+  pub each : All (λ word. 0 < length (rows_with word rows)) words
+  pub all : (word : List ℕ) → 0 < length (rows_with word rows) → Contains words word
 
 -- the position of the field's last word, or 0 where it has no word
 abbrev pub last_position : FieldTokens → ℕ

@@ -1,5 +1,5 @@
 -- Commits: what an entry of an index's history makes of its rows, and what becomes of a transaction.
-use Rattle.std.specs.Prelude.{ℕ, ◌+◌, List, [], ◌∷◌, Bool, false, ◌==◌, ◌||◌, ◌&&◌, not, if◌then◌else◌, map}
+use Rattle.std.specs.Prelude.{ℕ, ◌+◌, List, [], ◌∷◌, Bool, false, ◌==◌, ◌||◌, ◌&&◌, not, if◌then◌else◌}
 use Rattle.std.specs.List.{fold}
 use Rattle.std.specs.FinMap as finite
 use Rattle.doc_types.specs.declared.documents.Doc.{Doc}

@@ -12,3 +12,5 @@ pub mod Commits
 pub mod Chunks
 -- layers of chunks, and the rows that live
 pub mod Snapshots
+-- what serves proofs alone
+pub mod steps

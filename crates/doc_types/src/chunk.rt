@@ -1,4 +1,4 @@
-ghost use Rattle.std.specs.Prelude.{◌≡◌, ◌+◌, ◌<◌, ◌==◌, ◌++◌, List, [], length, ◌↔◌, IsSome, IfSome, IfNone, OnOk, OnErr, slice_get};
+ghost use Rattle.std.specs.Prelude.{◌≡◌, ℕ, ◌+◌, ◌<◌, ◌==◌, ◌++◌, List, [], length, ◌↔◌, IsSome, IfSome, IfNone, OnOk, OnErr, slice_get};
 ghost use Rattle.std.specs.Option.{option_map, option_map_or};
 ghost use Rattle.std.specs.List.{position};
 ghost use Rattle.doc_types.specs.Chunks.{
@@ -6,7 +6,7 @@ ghost use Rattle.doc_types.specs.Chunks.{
   field_at,
   value_at,
   rows_with,
-  words_of,
+  AreWordsOf,
   last_position,
   gaps_of,
   spans_of,
@@ -33,6 +33,9 @@ use std::sync::ledger::Ledger;
 pub trait Chunk: Drop {
     /// The rows.
     ghost content: { Self → List DocRow };
+
+    /// The words of the rows, ascending.
+    ghost words_of: { Self → List (List ℕ) };
 
     /// The cursor is one of this chunk.
     ghost belongs: { Self → Cursor → Type 0 };
@@ -70,12 +73,12 @@ pub trait Chunk: Drop {
 
     /// How many different words there are.
     fn words(&self) -> u32
-        ensures { result ≡ length (words_of (content self.now)) };
+        ensures { result ≡ length (words_of self.now) };
 
     /// The word of this number, in the order of their bytes.
     fn word_at(&self, n: u32) -> &[u8]
-        requires { n < length (words_of (content self.now)) }
-        ensures { slice_get (words_of (content self.now)) n ≡ Some result.now };
+        requires { n < length (words_of self.now) }
+        ensures { slice_get (words_of self.now) n ≡ Some result.now };
 
     /// A cursor before all rows that have the word. None exactly where no row has it.
     fn start(&self, word: &[u8]) -> Option<Cursor>
@@ -121,7 +124,10 @@ pub trait Chunk: Drop {
         ensures err { OnErr result (into.new.items ≡ into.old.items) };
 
     /// Its rows are of some schema, ascend by their ids, and are not too many.
-    ghost whole: { (chunk : Self) → IsContent (content chunk) };
+    ghost whole: { (chunk : Self) → ∥ IsContent (content chunk) ∥₁ };
+
+    /// Its words are those of its rows.
+    ghost all_words: { (chunk : Self) → AreWordsOf (content chunk) (words_of chunk) };
 
     /// Its cursors stand at rows of it.
     ghost places: { (chunk : Self) (cursor : Cursor) → belongs chunk cursor → IsPlace (content chunk) (place chunk cursor) };

@@ -2,9 +2,13 @@
 #![tactic(auto)]
 
 mod chunk;
+mod collecting;
 mod cursor;
 mod documents;
 mod hits;
+mod plain_chunk;
+mod plain_index;
+mod row_parts;
 mod schema;
 mod snapshot;
 mod tokens;
@@ -14,6 +18,7 @@ pub use chunk::Chunk;
 pub use cursor::Cursor;
 pub use documents::{Doc, DocRow};
 pub use hits::{Hit, Hits};
+pub use plain_chunk::PlainChunk;
 pub use schema::{AttrKind, MAX_ATTRS, MAX_FIELDS, MAX_NAME_BYTES, MAX_ZONES, Schema, Value};
 pub use snapshot::{Layer, Snapshot};
 pub use tokens::{

@@ -1,0 +1,7 @@
+-- What a chunk's rows keep, as bounds.
+use Rattle.std.proofs.Common.{◌<◌, ◌^◌, length, arith, All, List}
+use Rattle.doc_types.specs.declared.documents.DocRow.{DocRow}
+use Rattle.doc_types.specs.Chunks.{IsContent}
+
+pub few_fields : (rows : List DocRow) → IsContent rows → All (λ row. length row.doc.fields < 2 ^ 16) rows
+few_fields rows content k d h = omega (arith, (content.of.docs k d h).fields, content.limits.few_fields)

@@ -1,0 +1,6 @@
+pub mod FieldParts
+pub mod Bisecting
+pub mod PlainPlaces
+pub mod Collected
+pub mod Indexed
+pub mod Contents

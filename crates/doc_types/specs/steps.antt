@@ -1,0 +1,2 @@
+pub mod PlainIndex
+pub mod Collecting

@@ -1,0 +1,142 @@
+ghost use Rattle.std.specs.Prelude.{◌≡◌, ◌+◌, ◌<◌, ◌==◌, ◌++◌, ◌↔◌, List, [], length, map, IsSome, IfSome, IfNone, IfOk, OnOk, OnErr, slice_get};
+ghost use Rattle.std.specs.Option.{option_map, option_map_or};
+ghost use Rattle.std.specs.List.{position};
+ghost use Rattle.doc_types.specs.Chunks.{IsContent};
+ghost use Rattle.doc_types.specs.steps.PlainIndex.{IsIndex, StandsIn, place_in, place_in-IsPlace, words-AreWordsOf};
+
+use crate::chunk::Chunk;
+use crate::cursor::Cursor;
+use crate::documents::DocRow;
+use crate::plain_index::{WordRows, entry_at, entry_of, index_of, row_of};
+use crate::row_parts::{put_gaps, put_hits, put_spans};
+use crate::schema::Value;
+use crate::tokens::{Gap, ZoneSpan};
+use srch_base::{Items, NoMemory, Steps};
+use std::alloc::Global;
+use std::sync::ledger::Ledger;
+
+/// A chunk over a plain list: its rows, and its words with the rows of each.
+///
+/// `start` and `find` bisect; what a row has is looked up in its document.
+#[derive(Debug, Drop)]
+pub struct PlainChunk {
+    rows: Items<DocRow>,
+    index: Items<WordRows>,
+    ghost whole: { ∥ IsContent rows ∥₁ },
+    ghost indexed: { IsIndex rows index },
+}
+
+impl PlainChunk {
+    /// A chunk of these rows.
+    pub fn build(alloc: Global, rows: Vec<DocRow>) -> Result<PlainChunk, NoMemory>
+        requires { IsContent rows.items }
+        ensures { IfOk result (λ chunk. chunk.rows ≡ rows.items) }
+    {
+        let rows = Items::new(rows);
+        let index = index_of(alloc, &rows)?;
+        Ok(PlainChunk { rows, index })
+    }
+}
+
+impl Chunk for PlainChunk {
+    ghost content = { λ chunk. chunk.rows };
+
+    ghost words_of = { λ chunk. map (λ entry. entry.word) chunk.index };
+
+    ghost belongs = { λ chunk cursor. StandsIn chunk.index cursor };
+
+    ghost place = { λ chunk cursor. place_in chunk.index cursor };
+
+    fn rows(&self) -> u32 {
+        self.rows.len() as u32
+    }
+
+    fn id(&self, row: u32) -> u64 {
+        self.rows.as_slice()[row as usize].doc.id
+    }
+
+    fn born(&self, row: u32) -> u64 {
+        self.rows.as_slice()[row as usize].born
+    }
+
+    fn value(&self, row: u32, attr: u16) -> Value {
+        self.rows.as_slice()[row as usize].doc.values.as_slice()[attr as usize]
+    }
+
+    fn last(&self, row: u32, field: u16) -> u32 {
+        match self.rows.as_slice()[row as usize].doc.fields.as_slice()[field as usize]
+            .words
+            .as_slice()
+            .last()
+        {
+            Some(token) => token.position,
+            None => 0,
+        }
+    }
+
+    fn find(&self, id: u64) -> Option<u32> {
+        Some(row_of(self.rows.as_slice(), id)? as u32)
+    }
+
+    fn words(&self) -> u32 {
+        self.index.len() as u32
+    }
+
+    fn word_at(&self, n: u32) -> &[u8] {
+        self.index.as_slice()[n as usize].word.as_bytes()
+    }
+
+    fn start(&self, word: &[u8]) -> Option<Cursor> {
+        let found = entry_of(self.index.as_slice(), word)?;
+        Some(Cursor {
+            word: found as u32,
+            at: 0,
+            index: 0,
+        })
+    }
+
+    fn row(&self, cursor: &Cursor) -> Option<u32> {
+        let entry = entry_at(self.index.as_slice(), cursor);
+        entry.rows.as_slice().get(cursor.index as usize).copied()
+    }
+
+    fn advance(&self, cursor: &mut Cursor) {
+        let entry = entry_at(self.index.as_slice(), cursor);
+        if (cursor.index as usize) < entry.rows.len() {
+            cursor.index += 1;
+        }
+    }
+
+    fn open<L: Ledger>(
+        &self,
+        cursor: &Cursor,
+        into: &mut Vec<(u16, u32)>,
+        steps: &mut Steps<L>,
+    ) -> Result<(), NoMemory> {
+        steps.tick();
+        let entry = entry_at(self.index.as_slice(), cursor);
+        let row = entry.rows.as_slice()[cursor.index as usize];
+        put_hits(
+            &self.rows.as_slice()[row as usize],
+            entry.word.as_bytes(),
+            into,
+        )
+    }
+
+    fn gaps(&self, row: u32, field: u16, into: &mut Vec<(u32, Gap)>) -> Result<(), NoMemory> {
+        put_gaps(
+            &self.rows.as_slice()[row as usize].doc.fields.as_slice()[field as usize],
+            into,
+        )
+    }
+
+    fn spans(&self, row: u32, into: &mut Vec<(u16, ZoneSpan)>) -> Result<(), NoMemory> {
+        put_spans(&self.rows.as_slice()[row as usize], into)
+    }
+
+    ghost whole = { λ chunk. chunk.whole };
+
+    ghost all_words = { λ chunk. words-AreWordsOf chunk.rows chunk.index chunk.indexed };
+
+    ghost places = { λ chunk cursor stands. place_in-IsPlace chunk.rows chunk.index cursor chunk.indexed stands };
+}
