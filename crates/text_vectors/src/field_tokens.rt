@@ -10,7 +10,7 @@ use std::alloc::Global;
 use std::test::Fail;
 
 /// A text with markup in an index with the zones `th` and `i`; whether sentences and paragraphs are looked for; its words,
-/// each with its position and, behind it, `s` or `p` for the boundary before it; its spans by zone, first and last position.
+/// each with its position and, after it, `s` or `p` for the boundary before it; its spans by zone, first and last position.
 const MARKUP: [(&str, bool, &str, &[(u16, u32, u32)]); 31] = [
     ("", true, "", &[]),
     (" <p>.<!-- a -->", true, "", &[]),
@@ -34,7 +34,7 @@ const MARKUP: [(&str, bool, &str, &[(u16, u32, u32)]); 31] = [
     ("a. <p>b", true, "a 1, b 3p", &[]),
     ("a<p>! b", true, "a 1, b 3p", &[]),
     ("a<p></p><p>b", true, "a 1, b 3p", &[]),
-    // Ends before the first word and behind the last one are no boundaries.
+    // Ends before the first word and after the last one are no boundaries.
     ("!<p>a b!</p>", true, "a 1, b 2", &[]),
     // Each element of a zone is a span of its own.
     (
@@ -77,7 +77,7 @@ const MARKUP: [(&str, bool, &str, &[(u16, u32, u32)]); 31] = [
 ];
 
 /// A text whose markup isn't looked at, and its words with and without boundaries.
-const PLAIN: [(&str, &str, &str); 4] = [
+const PLAIN: [(&str, &str, &str); 5] = [
     (
         "John D. Doe met S.T.A.L.K.E.R. He left!",
         "john 1, d 2, doe 3, met 4, s 5, t 6, a 7, l 8, k 9, e 10, r 11, he 13s, left 14",
@@ -89,6 +89,12 @@ const PLAIN: [(&str, &str, &str); 4] = [
         "123456789-123456789_123456789_123456789_12345",
         "123456789 1, 123456789_123456789_123456789_12345 2",
         "123456789 1, 123456789_123456789_123456789_12345 2",
+    ),
+    // Runs of 43 letters, of one and of two bytes, are cut after 42.
+    (
+        "0123456789_0123456789_0123456789_0123456789-абвгдежзийклмнопрстуфхцчшщъыьэюяабвгдежзийк",
+        "0123456789_0123456789_0123456789_012345678 1, абвгдежзийклмнопрстуфхцчшщъыьэюяабвгдежзий 2",
+        "0123456789_0123456789_0123456789_012345678 1, абвгдежзийклмнопрстуфхцчшщъыьэюяабвгдежзий 2",
     ),
 ];
 
@@ -202,7 +208,7 @@ fn letters_make_no_boundary(rt: HostRuntime) -> Result<(), Fail> {
     Ok(())
 }
 
-/// The position of the last word of a text that ends like this behind so many words, or the position that is too great.
+/// The position of the last word of a text that ends like this after so many words, or the position that is too great.
 fn last_position(alloc: Global, count: u32, end: &str) -> Result<Result<u32, u32>, Fail> {
     let mut text = String::new(alloc);
     for _ in 0..count {
@@ -270,10 +276,35 @@ fn first_other_long(alloc: Global) -> Result<Option<usize>, Fail> {
     Ok(None)
 }
 
+/// How many bytes the word of a run of so many letters of four bytes has.
+fn word_bytes(alloc: Global, count: u32) -> Result<usize, Fail> {
+    let mut text = String::new(alloc);
+    for _ in 0..count {
+        text.push('\u{10428}')?;
+    }
+    let charset = Charset::read(alloc, "U+10428..U+1044F").or(Err("no table"))?;
+    let found = read(alloc, &charset, false, false, text.as_str()).or(Err("no tokens"))?;
+    Ok(found.words.as_slice().first().ok_or("no word")?.word.as_bytes().len())
+}
+
+/// How many letters of four bytes a run has, and how many bytes its word has: at most 42 times 4.
+const BYTES: [(u32, usize); 4] = [(1, 4), (41, 164), (42, 168), (43, 168)];
+
+/// The number of the first run whose word has other bytes.
+fn first_other_bytes(alloc: Global) -> Result<Option<usize>, Fail> {
+    for (at, (count, bytes)) in BYTES.iter().enumerate() {
+        if word_bytes(alloc, *count)? != *bytes {
+            return Ok(Some(at));
+        }
+    }
+    Ok(None)
+}
+
 #[test]
 fn texts_have_their_words(rt: HostRuntime) -> Result<(), Fail> {
     assert_eq!(rt; first_other_markup(rt.alloc())?, None);
     assert_eq!(rt; first_other_plain(rt.alloc())?, None);
+    assert_eq!(rt; first_other_bytes(rt.alloc())?, None);
     assert_eq!(rt; first_other_last(rt.alloc())?, None);
     assert_eq!(rt; first_other_long(rt.alloc())?, None);
     Ok(())
