@@ -1,5 +1,5 @@
 ghost use Rattle.std.specs.Prelude.{◌<◌, ◌^◌, length};
-ghost use Rattle.ql_lex.specs.Reading.{Reads};
+ghost use Rattle.ql_lex.specs.steps.Reading.{Reads};
 ghost use Rattle.ql_lex.specs.Tokens.{Lexes};
 
 use crate::bytes::{is_blank, is_letter, is_quote};

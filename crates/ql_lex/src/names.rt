@@ -1,5 +1,5 @@
 ghost use Rattle.std.specs.Prelude.{◌≡◌, ◌<◌, ◌^◌, IsTrue, length, slice_index};
-ghost use Rattle.ql_lex.specs.Reading.{Reads};
+ghost use Rattle.ql_lex.specs.steps.Reading.{Reads};
 ghost use Rattle.ql_lex.specs.Shapes.{is_letter as is_letter_byte};
 
 use crate::bytes::{byte_at, is_letter, is_name, name_len, next_backquote, variable_len};

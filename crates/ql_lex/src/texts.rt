@@ -1,5 +1,5 @@
 ghost use Rattle.std.specs.Prelude.{◌≡◌, ◌<◌, ◌≤◌, ◌+◌, ◌^◌, ℕ, IsTrue, IfSome, IfNone, length, slice_index, slice_range};
-ghost use Rattle.ql_lex.specs.Reading.{Reads};
+ghost use Rattle.ql_lex.specs.steps.Reading.{Reads};
 ghost use Rattle.ql_lex.specs.Shapes.{is_quote as is_quote_byte, is_inner};
 
 use crate::fault::LexKind;

@@ -5,11 +5,12 @@ ghost use Rattle.ql_grammar.specs.declared.kind.Kind.TheVariants as kinds;
 ghost use Rattle.ql_lex.specs.Shapes.{IsLexeme};
 ghost use Rattle.ql_lex.specs.Tokens.{lexeme_of, AreLexemes};
 ghost use Rattle.ql_grammar.specs.Tokens.{kind, lexemes, first_kind};
-ghost use Rattle.ql_grammar.specs.Classes.{fits, name_but, the_end, the_word, any_name, a_number, a_text, a_sysvar, the_sign};
+ghost use Rattle.ql_grammar.specs.Classes.{fits, name_but, the_end, the_keyword, any_name, a_number, a_text, a_sysvar, the_sign};
 ghost use Rattle.token_grammar.specs.Language.{one};
-ghost use Rattle.ql_grammar.specs.Grammar.{words, name, number, text, sysvar, target_name};
-ghost use Rattle.ql_grammar.specs.Parts.{IsWord, AreWords, IsSign, IsName, IsNumber, IsTargetName, IsText, IsVariable};
-ghost use Rattle.ql_parts.specs.Progress.{IsNext, IsStart, second_kind};
+ghost use Rattle.ql_grammar.specs.Terminals.{two_keywords, name, number, text, sysvar, target_name};
+ghost use Rattle.ql_grammar.specs.Parts.{IsKeyword, AreKeywords, IsSign, IsName, IsNumber, IsTargetName, IsText, IsVariable};
+ghost use Rattle.ql_parts.specs.Progress.{IsNext, IsStart};
+ghost use Rattle.ql_parts.specs.steps.Seconds.{second_kind};
 ghost use Rattle.token_grammar.specs.Reading.{first_place, IsNextOf, ReadsPart, TakesIf, IsFollowed};
 
 use ql_grammar::{Keyword, Kind, keyword_named};
@@ -43,7 +44,7 @@ fn kind_of(token: &Token<'_>) -> Kind
 {
     match token.kind {
         TokenKind::Name => match keyword_named(token.text) {
-            Some(word) => Kind::Keyword(word),
+            Some(keyword) => Kind::Keyword(keyword),
             None => Kind::Name,
         },
         TokenKind::Quoted => Kind::Name,
@@ -102,11 +103,11 @@ impl<'a> Cursor<'a> {
     }
 
     /// Whether a keyword is next.
-    pub fn is_word(&self, word: Keyword) -> bool
-        ensures { IsNextOf sphinxql (the_word word) self.now result }
+    pub fn is_keyword(&self, keyword: Keyword) -> bool
+        ensures { IsNextOf sphinxql (the_keyword keyword) self.now result }
     {
         match self.kind() {
-            Kind::Keyword(next) => word == next,
+            Kind::Keyword(next) => keyword == next,
             _ => false,
         }
     }
@@ -119,10 +120,10 @@ impl<'a> Cursor<'a> {
     }
 
     /// Takes a keyword.
-    pub fn word(&mut self, word: Keyword) -> Result<(), Or<u32>>
-        ensures { ReadsPart sphinxql (one (the_word word)) [] (λ _. IsWord word) self.old result self.new }
+    pub fn keyword(&mut self, keyword: Keyword) -> Result<(), Or<u32>>
+        ensures { ReadsPart sphinxql (one (the_keyword keyword)) [] (λ _. IsKeyword keyword) self.old result self.new }
     {
-        if self.is_word(word) {
+        if self.is_keyword(keyword) {
             self.skip();
             Ok(())
         } else {
@@ -154,19 +155,19 @@ impl<'a> Cursor<'a> {
     }
 
     /// Takes two keywords in a row.
-    pub fn words(&mut self, first: Keyword, second: Keyword) -> Result<(), Or<u32>>
-        ensures { ReadsPart sphinxql (words first second) [] (λ _. AreWords first second) self.old result self.new }
+    pub fn two_keywords(&mut self, first: Keyword, second: Keyword) -> Result<(), Or<u32>>
+        ensures { ReadsPart sphinxql (two_keywords first second) [] (λ _. AreKeywords first second) self.old result self.new }
     {
-        self.word(first)?;
-        self.word(second)?;
+        self.keyword(first)?;
+        self.keyword(second)?;
         Ok(())
     }
 
     /// Takes a keyword, if it is the next token.
-    pub fn takes_word(&mut self, word: Keyword) -> bool
-        ensures { TakesIf sphinxql (the_word word) (IsWord word) self.old result self.new }
+    pub fn takes_keyword(&mut self, keyword: Keyword) -> bool
+        ensures { TakesIf sphinxql (the_keyword keyword) (IsKeyword keyword) self.old result self.new }
     {
-        let found = self.is_word(word);
+        let found = self.is_keyword(keyword);
         if found {
             self.skip();
         }
@@ -185,10 +186,10 @@ impl<'a> Cursor<'a> {
     }
 
     /// Whether a keyword is next, and a sign behind it.
-    pub fn is_followed(&self, word: Keyword, sign: Sign) -> bool
-        ensures { IsFollowed sphinxql (the_word word) (the_sign sign) self.now result }
+    pub fn is_followed(&self, keyword: Keyword, sign: Sign) -> bool
+        ensures { IsFollowed sphinxql (the_keyword keyword) (the_sign sign) self.now result }
     {
-        if self.is_word(word) {
+        if self.is_keyword(keyword) {
             is_the_sign(self.second(), sign)
         } else {
             false
@@ -200,7 +201,7 @@ impl<'a> Cursor<'a> {
         ensures { IsNextOf sphinxql any_name self.now result }
     {
         match self.kind() {
-            Kind::Keyword(word) => !word.is_reserved(),
+            Kind::Keyword(keyword) => !keyword.is_reserved(),
             Kind::Name => true,
             _ => false,
         }
@@ -211,7 +212,7 @@ impl<'a> Cursor<'a> {
         ensures { IsNextOf sphinxql (name_but keywords.Autocommit keywords.Names) self.now result }
     {
         match self.kind() {
-            Kind::Keyword(word) => !word.is_reserved() && !word.is_set_form(),
+            Kind::Keyword(keyword) => !keyword.is_reserved() && !keyword.is_set_form(),
             Kind::Name => true,
             _ => false,
         }
@@ -233,7 +234,7 @@ impl<'a> Cursor<'a> {
         ensures { IsStart self.now result }
     {
         match self.kind() {
-            Kind::Keyword(word) => word.begins_statement(),
+            Kind::Keyword(keyword) => keyword.begins_statement(),
             _ => false,
         }
     }

@@ -2,7 +2,7 @@ ghost use Rattle.std.specs.Prelude.{◌≡◌, ◌∷◌, [], true, pos, neg_ℤ
 ghost use Rattle.ql_grammar.specs.Alphabet.{sphinxql};
 ghost use Rattle.ql_lex.specs.declared.token.Sign.TheVariants as signs;
 ghost use Rattle.ql_grammar.specs.Classes.{the_sign};
-ghost use Rattle.ql_grammar.specs.Grammar.{comma, name, sign, number, whole, enclosed};
+ghost use Rattle.ql_grammar.specs.Terminals.{comma, name, sign, number, whole, enclosed};
 ghost use Rattle.token_grammar.specs.Language.{listed, repeated};
 ghost use Rattle.token_grammar.specs.Language.{many, seq, one};
 ghost use Rattle.ql_grammar.specs.Parts.{IsEnclosed, IsSign, IsComma, IsName, IsNumber, IsWhole};

@@ -1,7 +1,7 @@
 ghost use Rattle.std.specs.Prelude.{◌≡◌, ◌++◌, ◌∷◌, [], OnOk};
 ghost use Rattle.std.specs.List.{flat_map};
 ghost use Rattle.ql_write.specs.Pieces.{whole, listed, with_commas, in_parentheses, given, in_row};
-ghost use Rattle.ql_write.specs.Writing.{piece_of, Appends};
+ghost use Rattle.ql_write.specs.steps.Writing.{piece_of, Appends};
 
 use crate::writing::{Token, put_all, put_one};
 use ql_grammar::Keyword;

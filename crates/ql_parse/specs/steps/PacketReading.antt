@@ -8,7 +8,7 @@ use Rattle.ql_grammar.specs.declared.fault.ParseFault.{ParseFault}
 use Rattle.ql_grammar.specs.declared.fault.ParseKind.TheVariants.{Syntax}
 use Rattle.ql_grammar.specs.declared.statement.TheConstants.{MAX_STATEMENTS}
 use Rattle.ql_grammar.specs.declared.statement.Statement.{Statement}
-use Rattle.ql_grammar.specs.Grammar.{more_statements, packet}
+use Rattle.ql_grammar.specs.steps.Grammar.{more_statements, packet}
 use Rattle.token_grammar.specs.Language.{verdict}
 use Rattle.token_grammar.specs.Reading.{first_place}
 use Rattle.ql_grammar.specs.Packets.{IsPacket}

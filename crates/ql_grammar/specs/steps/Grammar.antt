@@ -1,48 +1,14 @@
 -- The grammar, line by line.
 use Rattle.std.specs.Prelude.{ℕ, zero, suc}
-use Rattle.ql_lex.specs.declared.token.Sign.{Sign}
 use Rattle.ql_lex.specs.declared.token.Sign.TheVariants as signs
-use Rattle.ql_grammar.specs.declared.keyword.Keyword.{Keyword}
 use Rattle.ql_grammar.specs.declared.keyword.Keyword.TheVariants as keywords
-use Rattle.ql_grammar.specs.Classes.{Class, the_word, any_name, name_but, a_number, a_text, a_sysvar, the_sign, a_comparison, the_end}
+use Rattle.ql_grammar.specs.Classes.{Class, the_keyword, a_comparison, the_end}
 use Rattle.token_grammar.specs.Language.{Re, one, many, ◌⨾◌, ◌∣◌, optional, listed}
-
-abbrev pub word : Keyword → Re Class
-word w = one (the_word w)
-
--- two keywords in a row
-abbrev pub words : Keyword → Keyword → Re Class
-words v w = word v ⨾ word w
-
-abbrev pub sign : Sign → Re Class
-sign s = one (the_sign s)
-
-abbrev pub name : Re Class
-name = one any_name
-
-abbrev pub number : Re Class
-number = one a_number
-
-abbrev pub text : Re Class
-text = one a_text
-
-abbrev pub sysvar : Re Class
-sysvar = one a_sysvar
-
-abbrev pub comma : Class
-comma = the_sign signs.Comma
-
--- a part in parentheses
-abbrev pub enclosed : Re Class → Re Class
-enclosed r = sign signs.OpenParen ⨾ r ⨾ sign signs.CloseParen
+use Rattle.ql_grammar.specs.Terminals.{keyword, two_keywords, sign, name, number, text, sysvar, comma, enclosed, whole, target_name}
 
 -- nothing in parentheses
 abbrev pub parens : Re Class
 parens = sign signs.OpenParen ⨾ sign signs.CloseParen
-
--- [-] n
-abbrev pub whole : Re Class
-whole = sign signs.Minus ⨾ number ∣ number
 
 -- num | text
 abbrev pub val : Re Class
@@ -50,30 +16,30 @@ val = text ∣ whole
 
 -- * | DISTINCT name
 abbrev pub counted : Re Class
-counted = sign signs.Star ∣ word keywords.Distinct ⨾ name
+counted = sign signs.Star ∣ keyword keywords.Distinct ⨾ name
 
 -- WEIGHT()
 abbrev pub weight : Re Class
-weight = word keywords.Weight ⨾ parens
+weight = keyword keywords.Weight ⨾ parens
 
 -- COUNT(*)
 abbrev pub count : Re Class
-count = word keywords.Count ⨾ enclosed (sign signs.Star)
+count = keyword keywords.Count ⨾ enclosed (sign signs.Star)
 
 -- COUNT(*) | COUNT(DISTINCT name) | MIN(name) | MAX(name) | SUM(name) | WEIGHT() | GROUPBY() | name
 abbrev pub expr : Re Class
 expr =
-    word keywords.Count ⨾ enclosed counted
-    ∣ word keywords.Min ⨾ enclosed name
-    ∣ word keywords.Max ⨾ enclosed name
-    ∣ word keywords.Sum ⨾ enclosed name
+    keyword keywords.Count ⨾ enclosed counted
+    ∣ keyword keywords.Min ⨾ enclosed name
+    ∣ keyword keywords.Max ⨾ enclosed name
+    ∣ keyword keywords.Sum ⨾ enclosed name
     ∣ weight
-    ∣ word keywords.GroupBy ⨾ parens
+    ∣ keyword keywords.GroupBy ⨾ parens
     ∣ name
 
 -- [AS] name
 abbrev pub alias : Re Class
-alias = optional (word keywords.As) ⨾ name
+alias = optional (keyword keywords.As) ⨾ name
 
 -- * | expr [[AS] name]
 abbrev pub item : Re Class
@@ -90,18 +56,18 @@ wholes = enclosed (listed comma whole)
 -- op num | [NOT] IN (num, ..) | BETWEEN num AND num
 abbrev pub test : Re Class
 test =
-    word keywords.Between ⨾ whole ⨾ word keywords.And ⨾ whole
-    ∣ word keywords.Not ⨾ word keywords.In ⨾ wholes
-    ∣ word keywords.In ⨾ wholes
+    keyword keywords.Between ⨾ whole ⨾ keyword keywords.And ⨾ whole
+    ∣ keyword keywords.Not ⨾ keyword keywords.In ⨾ wholes
+    ∣ keyword keywords.In ⨾ wholes
     ∣ comparison ⨾ whole
 
 -- MATCH(text) | name test
 abbrev pub cond : Re Class
-cond = word keywords.Match ⨾ enclosed text ∣ name ⨾ test
+cond = keyword keywords.Match ⨾ enclosed text ∣ name ⨾ test
 
 -- [ASC | DESC]
 abbrev pub direction : Re Class
-direction = optional (word keywords.Asc ∣ word keywords.Desc)
+direction = optional (keyword keywords.Asc ∣ keyword keywords.Desc)
 
 -- (name | WEIGHT() | COUNT(*)) [ASC | DESC]
 abbrev pub key : Re Class
@@ -121,7 +87,7 @@ having = (count ∣ name) ⨾ comparison ⨾ whole
 
 -- LIMIT n [, n]
 abbrev pub limit : Re Class
-limit = word keywords.Limit ⨾ number ⨾ optional (one comma ⨾ number)
+limit = keyword keywords.Limit ⨾ number ⨾ optional (one comma ⨾ number)
 
 -- name = n
 abbrev pub field_weight : Re Class
@@ -137,35 +103,35 @@ option = name ⨾ sign signs.Equal ⨾ option_value
 
 -- name [ORDER BY group_key] [LIMIT n [, n]]
 abbrev pub facet_parts : Re Class
-facet_parts = name ⨾ optional (words keywords.Order keywords.By ⨾ group_key) ⨾ optional limit
+facet_parts = name ⨾ optional (two_keywords keywords.Order keywords.By ⨾ group_key) ⨾ optional limit
 
 -- FACET ..
 abbrev pub facet : Re Class
-facet = word keywords.Facet ⨾ facet_parts
+facet = keyword keywords.Facet ⨾ facet_parts
 
 -- [WHERE ..]
 abbrev pub conds : Re Class
-conds = optional (word keywords.Where ⨾ listed (the_word keywords.And) cond)
+conds = optional (keyword keywords.Where ⨾ listed (the_keyword keywords.And) cond)
 
 -- [GROUP BY ..]
 abbrev pub group : Re Class
-group = optional (words keywords.Group keywords.By ⨾ name)
+group = optional (two_keywords keywords.Group keywords.By ⨾ name)
 
 -- [WITHIN GROUP ORDER BY ..]
 abbrev pub within : Re Class
-within = optional (words keywords.Within keywords.Group ⨾ words keywords.Order keywords.By ⨾ listed comma inner_key)
+within = optional (two_keywords keywords.Within keywords.Group ⨾ two_keywords keywords.Order keywords.By ⨾ listed comma inner_key)
 
 -- [HAVING ..]
 abbrev pub having_part : Re Class
-having_part = optional (word keywords.Having ⨾ having)
+having_part = optional (keyword keywords.Having ⨾ having)
 
 -- [ORDER BY ..]
 abbrev pub order : Re Class
-order = optional (words keywords.Order keywords.By ⨾ listed comma key)
+order = optional (two_keywords keywords.Order keywords.By ⨾ listed comma key)
 
 -- [OPTION ..]
 abbrev pub options : Re Class
-options = optional (word keywords.Option ⨾ listed comma option)
+options = optional (keyword keywords.Option ⨾ listed comma option)
 
 -- what may follow the index of a SELECT
 abbrev pub select_parts : Re Class
@@ -173,18 +139,18 @@ select_parts = conds ⨾ group ⨾ within ⨾ having_part ⨾ order ⨾ optional
 
 -- item (, item)* FROM name ..
 abbrev pub select : Re Class
-select = listed comma item ⨾ word keywords.From ⨾ name ⨾ select_parts
+select = listed comma item ⨾ keyword keywords.From ⨾ name ⨾ select_parts
 
 -- sysvar [LIMIT n]
 abbrev pub select_variable : Re Class
-select_variable = sysvar ⨾ optional (word keywords.Limit ⨾ number)
+select_variable = sysvar ⨾ optional (keyword keywords.Limit ⨾ number)
 
 -- DATABASE ( )
 abbrev pub select_database : Re Class
-select_database = word keywords.Database ⨾ parens
+select_database = keyword keywords.Database ⨾ parens
 
 abbrev pub selects : Re Class
-selects = word keywords.Select ⨾ (select_variable ∣ select_database ∣ select)
+selects = keyword keywords.Select ⨾ (select_variable ∣ select_database ∣ select)
 
 -- ( val, .. )
 abbrev pub row : Re Class
@@ -193,16 +159,16 @@ row = enclosed (listed comma val)
 -- (INSERT | REPLACE) INTO name [( name, .. )] VALUES ( val, .. ) (, ( val, .. ))*
 abbrev pub insert : Re Class
 insert =
-    (word keywords.Replace ∣ word keywords.Insert) ⨾ word keywords.Into ⨾ name
-    ⨾ optional (enclosed (listed comma name)) ⨾ word keywords.Values ⨾ listed comma row
+    (keyword keywords.Replace ∣ keyword keywords.Insert) ⨾ keyword keywords.Into ⨾ name
+    ⨾ optional (enclosed (listed comma name)) ⨾ keyword keywords.Values ⨾ listed comma row
 
 -- = n | IN (n, ..)
 abbrev pub ids : Re Class
-ids = sign signs.Equal ⨾ number ∣ word keywords.In ⨾ enclosed (listed comma number)
+ids = sign signs.Equal ⨾ number ∣ keyword keywords.In ⨾ enclosed (listed comma number)
 
 -- DELETE FROM name WHERE ID = n | DELETE FROM name WHERE ID IN (n, ..)
 abbrev pub delete : Re Class
-delete = words keywords.Delete keywords.From ⨾ name ⨾ words keywords.Where keywords.Id ⨾ ids
+delete = two_keywords keywords.Delete keywords.From ⨾ name ⨾ two_keywords keywords.Where keywords.Id ⨾ ids
 
 -- name | text
 abbrev pub plain : Re Class
@@ -210,11 +176,7 @@ plain = text ∣ name
 
 -- name | num | text | NULL
 abbrev pub setting : Re Class
-setting = word keywords.Null ∣ text ∣ name ∣ whole
-
--- a name that is neither AUTOCOMMIT nor NAMES
-abbrev pub target_name : Re Class
-target_name = one (name_but keywords.Autocommit keywords.Names)
+setting = keyword keywords.Null ∣ text ∣ name ∣ whole
 
 -- AUTOCOMMIT and NAMES aside: (name | sysvar) = (name | num | text | NULL)
 abbrev pub assignment : Re Class
@@ -222,30 +184,30 @@ assignment = (sysvar ∣ target_name) ⨾ sign signs.Equal ⨾ setting
 
 -- [GLOBAL | SESSION] assignment
 abbrev pub scoped : Re Class
-scoped = word keywords.Global ⨾ assignment ∣ word keywords.Session ⨾ assignment ∣ assignment
+scoped = keyword keywords.Global ⨾ assignment ∣ keyword keywords.Session ⨾ assignment ∣ assignment
 
 -- AUTOCOMMIT = n | NAMES (name | text) | scoped
 abbrev pub set_rest : Re Class
-set_rest = word keywords.Autocommit ⨾ sign signs.Equal ⨾ number ∣ word keywords.Names ⨾ plain ∣ scoped
+set_rest = keyword keywords.Autocommit ⨾ sign signs.Equal ⨾ number ∣ keyword keywords.Names ⨾ plain ∣ scoped
 
 abbrev pub set : Re Class
-set = word keywords.Set ⨾ set_rest
+set = keyword keywords.Set ⨾ set_rest
 
 abbrev pub flush : Re Class
-flush = word keywords.Flush ⨾ (word keywords.RamChunk ⨾ name ∣ word keywords.RtIndex ⨾ name)
+flush = keyword keywords.Flush ⨾ (keyword keywords.RamChunk ⨾ name ∣ keyword keywords.RtIndex ⨾ name)
 
 -- INDEX name STATUS | META | TABLES | WARNINGS | VARIABLES | DATABASES
 abbrev pub shown : Re Class
 shown =
-    word keywords.Index ⨾ name ⨾ word keywords.Status
-    ∣ word keywords.Meta
-    ∣ word keywords.Tables
-    ∣ word keywords.Warnings
-    ∣ word keywords.Variables
-    ∣ word keywords.Databases
+    keyword keywords.Index ⨾ name ⨾ keyword keywords.Status
+    ∣ keyword keywords.Meta
+    ∣ keyword keywords.Tables
+    ∣ keyword keywords.Warnings
+    ∣ keyword keywords.Variables
+    ∣ keyword keywords.Databases
 
 abbrev pub show : Re Class
-show = word keywords.Show ⨾ shown
+show = keyword keywords.Show ⨾ shown
 
 abbrev pub statement : Re Class
 statement =
@@ -254,13 +216,13 @@ statement =
     ∣ set
     ∣ show
     ∣ flush
-    ∣ word keywords.Begin
-    ∣ words keywords.Start keywords.Transaction
-    ∣ word keywords.Commit
-    ∣ word keywords.Rollback
-    ∣ words keywords.Optimize keywords.Index ⨾ name
-    ∣ words keywords.Truncate keywords.RtIndex ⨾ name
-    ∣ word keywords.Describe ⨾ name
+    ∣ keyword keywords.Begin
+    ∣ two_keywords keywords.Start keywords.Transaction
+    ∣ keyword keywords.Commit
+    ∣ keyword keywords.Rollback
+    ∣ two_keywords keywords.Optimize keywords.Index ⨾ name
+    ∣ two_keywords keywords.Truncate keywords.RtIndex ⨾ name
+    ∣ keyword keywords.Describe ⨾ name
     ∣ insert
 
 -- what may follow a statement, where so many more are allowed
