@@ -1,5 +1,5 @@
 -- The two halves of a session: its configuration is read, and its door is served.
-use Rattle.std.specs.Prelude.{◌≡◌, ◌⊎◌, ⊤, ℕ, List, Option, Some, Result, Ok, Err, slice_get, length}
+use Rattle.std.specs.Prelude.{◌≡◌, ◌⊎◌, ⊤, ℕ, ◌≤◌, List, Option, Some, Result, Ok, Err, slice_get, length}
 use Rattle.std.specs.List.{AllZip}
 use Rattle.srch_base.specs.Counts.{Rose}
 use Rattle.srch_base.specs.declared.link.Link.{Ghosts as LinkWords}
@@ -10,7 +10,7 @@ use Rattle.conf_text.specs.declared.conf.IndexConf.{IndexConf}
 use Rattle.conf_text.specs.declared.conf.TheConstants.{MAX_CONF_BYTES}
 use Rattle.searchd_top.specs.Configuring.{AreReadOf}
 use Rattle.searchd_top.specs.Lending.{HandsBack, SomeZip}
-use Rattle.searchd_top.specs.Sessions.{DidWork, DoorFailed, ServesOne}
+use Rattle.searchd_top.specs.Sessions.{DidWork, DoorFailed, ServesOne, WorkedOrFailed}
 use Rattle.searchd_top.specs.declared.host.Host.{Ghosts as HostWords}
 use Rattle.searchd_top.specs.declared.status.Status.{Status}
 use Rattle.searchd_top.specs.declared.status.Status.TheVariants.{Done, Usage, Config, HostFault, NoMemory}
@@ -23,6 +23,14 @@ Configures told (Err HostFault) before now = Rose before now
 Configures told (Err NoMemory) before now = ⊤
 Configures told (Err Done) before now = ⊥
 Configures told (Err Usage) before now = ⊥
+
+-- what a status says of the one door
+abbrev pub SaysOfDoor : {D K : Type 0} → Status → DoorWords D K → D → D → Type 0
+SaysOfDoor Done door old new = DidWork door old new
+SaysOfDoor HostFault door old new = DoorFailed door old new
+SaysOfDoor Usage door old new = ⊥
+SaysOfDoor (Config line kind) door old new = ⊥
+SaysOfDoor NoMemory door old new = ⊥
 
 -- what a status says once doors are asked for
 abbrev pub SaysServing : {D K : Type 0} → Status → DoorWords D K → ℕ → ℕ → List D → List D → Type 0
@@ -37,4 +45,5 @@ abbrev pub ServesFirst : {H D K : Type 0} → HostWords H D K → DoorWords D K 
 ServesFirst host door link indexes status old new =
     (index : IndexConf) × (slice_get indexes 0 ≡ Some index)
     × HandsBack (host.doors_given old) (host.doors_given new) (host.doors_back old) (host.doors_back new) (λ doors after.
-    AllZip (ServesOne door link index) doors after × SaysServing status door (host.faults old) (host.faults new) doors after)
+    AllZip (ServesOne door link index) doors after × (length doors ≤ 1) × AllZip (WorkedOrFailed door) doors after
+    × SaysServing status door (host.faults old) (host.faults new) doors after)
