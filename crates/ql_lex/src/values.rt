@@ -1,3 +1,6 @@
+//! What a token stands for: the name without its backquotes or `@@`, the number, and the text with its escapes resolved
+//! (`\n`, `\r`, `\t`, `\0`, and any other byte for itself). Only a text is copied, into a buffer that the caller hands in.
+
 ghost use Rattle.std.specs.Prelude.{◌≡◌, ◌++◌, ℕ, List, OnOk, OnErr};
 ghost use Rattle.std.specs.Str.{IsUtf8};
 ghost use Rattle.std.specs.Str.Parse.{digits_value};

@@ -1,3 +1,7 @@
+//! A cursor over the tokens of a text, of which the last is the end. Tests look at the next token, or at two; takers go on
+//! after it. A taker that doesn't find its token answers the place of the next one and takes nothing.
+//! No token but a name or a text is copied.
+
 ghost use Rattle.std.specs.Prelude.{◌≡◌, ◌≢◌, [], ◌∷◌, IsTrue, length};
 ghost use Rattle.ql_grammar.specs.Alphabet.{sphinxql};
 ghost use Rattle.ql_grammar.specs.declared.keyword.Keyword.TheVariants as keywords;
@@ -84,7 +88,7 @@ impl<'a> Cursor<'a> {
         kind_of(&self.rest[0])
     }
 
-    /// Goes on behind the next token.
+    /// Goes on after the next token.
     pub fn skip(&mut self) -> &'a Token<'a>
         requires { first_kind self.old ≢ kinds.End }
         ensures next { self.old ≡ lexeme_of result.now ∷ self.new }
@@ -174,7 +178,7 @@ impl<'a> Cursor<'a> {
         found
     }
 
-    /// What the token behind the next one is. It is the end too where there is no such token.
+    /// What the token after the next one is. It is the end too where there is no such token.
     pub(crate) fn second(&self) -> Kind
         ensures { result ≡ second_kind self.now }
     {
@@ -185,7 +189,7 @@ impl<'a> Cursor<'a> {
         }
     }
 
-    /// Whether a keyword is next, and a sign behind it.
+    /// Whether a keyword is next, and a sign after it.
     pub fn is_followed(&self, keyword: Keyword, sign: Sign) -> bool
         ensures { IsFollowed sphinxql (the_keyword keyword) (the_sign sign) self.now result }
     {
@@ -218,7 +222,7 @@ impl<'a> Cursor<'a> {
         }
     }
 
-    /// Whether the end is next. Nothing stands behind it.
+    /// Whether the end is next. Nothing stands after it.
     pub fn is_end(&self) -> bool
         ensures end { IsNextOf sphinxql the_end self.now result }
         ensures last { IsTrue result → length self.now ≡ 1 }

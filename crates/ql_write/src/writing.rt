@@ -1,3 +1,6 @@
+//! How each token of a canonical text is spelled: keywords in capitals, names between backquotes, numbers in decimal, texts
+//! between `'` with `\` before `'` and `\`. Each is followed by one space, the last of which the writer of a statement takes off.
+
 ghost use Rattle.std.specs.Prelude.{◌≡◌, ◌++◌, ◌∷◌, [], map, decimal};
 ghost use Rattle.ql_write.specs.Pieces.{in_capitals as word_text, sign_text as sign_bytes, escaped_byte, spelling, name as name_piece, text as text_piece, variable};
 ghost use Rattle.ql_write.specs.steps.Writing.{piece_of, Appends, Appended};
@@ -151,7 +154,7 @@ fn put_text(text: &[u8], out: &mut Vec<u8>) -> Result<(), NoMemory>
     Ok(())
 }
 
-/// Appends a token, and a space behind it.
+/// Appends a token, and a space after it.
 pub(crate) fn put_one(token: Token<'_>, out: &mut Vec<u8>) -> Result<(), NoMemory>
     ensures { Appends (piece_of token.entry ∷ []) out.old.items result out.new.items }
 {
@@ -167,7 +170,7 @@ pub(crate) fn put_one(token: Token<'_>, out: &mut Vec<u8>) -> Result<(), NoMemor
     Ok(())
 }
 
-/// Appends tokens, with a space behind each.
+/// Appends tokens, with a space after each.
 #[tactic(auto, using(crate::proofs::Writings::failed, crate::proofs::Writings::kept, crate::proofs::Writings::kept_all))]
 pub(crate) fn put_all(tokens: &[Token<'_>], out: &mut Vec<u8>) -> Result<(), NoMemory>
     ensures { Appends (map piece_of tokens.now) out.old.items result out.new.items }

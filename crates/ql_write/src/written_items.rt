@@ -1,3 +1,5 @@
+//! The writers of a SELECT's items: calls, names and aliases.
+
 ghost use Rattle.std.specs.Prelude.{◌≡◌, ◌++◌, ◌∷◌, []};
 ghost use Rattle.ql_grammar.specs.declared.keyword.Keyword.TheVariants as keywords;
 ghost use Rattle.ql_grammar.specs.declared.select.SelectExpr.TheVariants as exprs;

@@ -1,3 +1,6 @@
+//! The writers of conditions, keys and the other parts of a SELECT, and of a SELECT itself, which is three pieces: what is
+//! selected from where, what is said of groups, and order, limit, options and facets.
+
 ghost use Rattle.std.specs.Prelude.{◌≡◌, ◌++◌, ◌∷◌, []};
 ghost use Rattle.ql_grammar.specs.declared.keyword.Keyword.TheVariants as keywords;
 ghost use Rattle.ql_grammar.specs.declared.select.Cond.TheVariants as conds;
@@ -62,7 +65,10 @@ fn put_among(column: &Name, negated: bool, out: &mut Vec<u8>) -> Result<(), NoMe
 fn put_between(column: &Name, low: i128, high: i128, out: &mut Vec<u8>) -> Result<(), NoMemory>
     ensures { Appends (cond (conds.Between column.now low high)) out.old.items result out.new.items }
 {
-    put_all(&[Token::Name(column), Token::Keyword(Keyword::Between)], out)?;
+    put_all(
+        &[Token::Name(column), Token::Keyword(Keyword::Between)],
+        out,
+    )?;
     low.put(out)?;
     put_one(Token::Keyword(Keyword::And), out)?;
     high.put(out)
@@ -285,7 +291,10 @@ fn put_within(keys: &[SortKey], out: &mut Vec<u8>) -> Result<(), NoMemory>
         return Ok(());
     }
     put_all(
-        &[Token::Keyword(Keyword::Within), Token::Keyword(Keyword::Group)],
+        &[
+            Token::Keyword(Keyword::Within),
+            Token::Keyword(Keyword::Group),
+        ],
         out,
     )?;
     put_order(keys, out)
@@ -335,7 +344,7 @@ fn put_groups(select: &Select, out: &mut Vec<u8>) -> Result<(), NoMemory>
     put_given(&select.having, out)
 }
 
-/// What a SELECT says of its rows' order, and what stands behind it.
+/// What a SELECT says of its rows' order, and what stands after it.
 #[tactic(auto, using(crate::proofs::Writings::failed, crate::proofs::Writings::kept, crate::proofs::Writings::kept_all))]
 fn put_tail(select: &Select, out: &mut Vec<u8>) -> Result<(), NoMemory>
     ensures { Appends (tail_pieces select.now) out.old.items result out.new.items }

@@ -1,3 +1,5 @@
+//! The writer of a statement. After want of memory the output is as before: it is cut to where the statement began.
+
 ghost use Rattle.std.specs.Prelude.{◌≡◌, ◌++◌, ◌∷◌, [], OnOk, OnErr};
 ghost use Rattle.ql_grammar.specs.declared.keyword.Keyword.TheVariants as keywords;
 ghost use Rattle.ql_grammar.specs.declared.statement.Statement.TheVariants as statements;
@@ -176,7 +178,10 @@ fn put_delete(index: &Name, ids: &Ids, out: &mut Vec<u8>) -> Result<(), NoMemory
     ensures { Appends (pieces (statements.Delete index.now ids.now)) out.old.items result out.new.items }
 {
     put_all(
-        &[Token::Keyword(Keyword::Delete), Token::Keyword(Keyword::From)],
+        &[
+            Token::Keyword(Keyword::Delete),
+            Token::Keyword(Keyword::From),
+        ],
         out,
     )?;
     index.put(out)?;
@@ -235,7 +240,11 @@ fn put_of_index(
     ensures { Appends (keyword first ∷ keyword second ∷ name index.now ∷ []) out.old.items result out.new.items }
 {
     put_all(
-        &[Token::Keyword(first), Token::Keyword(second), Token::Name(index)],
+        &[
+            Token::Keyword(first),
+            Token::Keyword(second),
+            Token::Name(index),
+        ],
         out,
     )
 }
@@ -309,7 +318,10 @@ impl Written for Statement {
                 put_of_index(Keyword::Truncate, Keyword::RtIndex, index, out)
             }
             Statement::Describe(index) => {
-                put_all(&[Token::Keyword(Keyword::Describe), Token::Name(index)], out)
+                put_all(
+                    &[Token::Keyword(Keyword::Describe), Token::Name(index)],
+                    out,
+                )
             }
             Statement::ShowIndexStatus(index) => put_status(index, out),
             Statement::ShowMeta => put_words(Keyword::Show, Keyword::Meta, out),
