@@ -64,9 +64,9 @@ def mentions(text):
     return set(re.findall(NAME, text)), set(re.findall(r"[^\s\w(){}\[\],.;:'λ→×]+", text))
 
 
-def names_operator(name, signs):
+def names_operator(name, mentioned):
     parts = [part for part in name.split("◌") if part]
-    return bool(parts) and all(part in signs for part in parts)
+    return bool(parts) and all(part in mentioned for part in parts)
 
 
 class House:
@@ -209,7 +209,7 @@ class House:
         words, signs = mentions(text)
         known = [*names.here, *names.imported]
         for name in known:
-            if name in words or ("◌" in name and names_operator(name, signs)):
+            if name in words or ("◌" in name and names_operator(name, words | signs)):
                 found = self.find(names, name)
                 if found:
                     yield found

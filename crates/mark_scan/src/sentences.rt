@@ -3,15 +3,15 @@
 //! `?` and `!` end a sentence. A dot doesn't where the sentence goes on: before a letter or a comma (`S.T.A.L.K.E.R.`),
 //! before a blank and a small letter (`e.g. that`), and between an initial and a blank (`John D. Doe`). So a dot asks
 //! what stands before it, which is kept in `Before`, and the next two characters of its run, which may be in later
-//! pieces.
+//! pieces. Characters are folded beside dots alone.
 ghost use Rattle.std.specs.Prelude.{Option, ◌≡◌, ◌<◌, ◌≤◌, ◌+◌, ◌-◌, ◌^◌, ◌++◌, ℕ, List, [], ◌∷◌, length, map, reverse, MatchOption, IfOk, OnOk, true, false};
 ghost use Rattle.std.specs.Char.{encode_utf8, IsScalar};
 ghost use Rattle.std.specs.Str.{IsUtf8, chars};
 ghost use Rattle.charset_map.specs.Spans.{folded};
 ghost use Rattle.mark_scan.specs.Marks.{run_of};
-ghost use Rattle.mark_scan.specs.steps.Scanning.{AreUtf8, IsBefore, part_of, next_of, then_of, run_from, IsNext, GoesOn};
+ghost use Rattle.mark_scan.specs.steps.Scanning.{AreUtf8, IsBefore, part_of, next_of, then_of, run_from, IsNext, GoesOn, is_initial};
 ghost use Rattle.mark_scan.specs.Markup.{part_bytes};
-ghost use Rattle.mark_scan.specs.Sentences.{is_blank, is_capital, is_small, dot_goes_on, ends_sentence, sentence_mark, sentence_marks};
+ghost use Rattle.mark_scan.specs.Sentences.{is_blank, is_capital, is_small, begins_small, dot_goes_on, ends_sentence, sentence_mark, sentence_marks};
 
 use crate::mark::{Mark, MarkKind, MarkRules};
 use crate::piece::Piece;
@@ -24,8 +24,9 @@ use srch_base::NoMemory;
 pub(crate) struct Before {
     /// Whether a blank stands before the place, or the run begins there.
     pub gap: bool,
-    /// Whether a capital letter stands before the place that itself stands after a blank or the run's start.
-    pub initial: bool,
+    /// The character before the place, where it stands by itself so far: after a blank or the run's start. It is an
+    /// initial where it is a capital letter, which is asked at a dot alone.
+    pub single: Option<char>,
 }
 
 fn blank(c: char) -> bool
@@ -59,18 +60,44 @@ impl Before {
     {
         Before {
             gap: true,
-            initial: false,
+            single: None,
         }
     }
 
-    /// Behind one more character.
-    pub fn then(self, charset: &Charset, c: char) -> Before
-        ensures { (before : List ℕ) → IsBefore (folded charset.now) self before → IsBefore (folded charset.now) result (c ∷ before) }
+    /// After one more character.
+    pub fn then(self, c: char) -> Before
+        ensures { (fold : ℕ → Option ℕ) (before : List ℕ) → IsBefore fold self before → IsBefore fold result (c ∷ before) }
     {
+        if self.gap {
+            return Before {
+                gap: blank(c),
+                single: Some(c),
+            };
+        }
         Before {
             gap: blank(c),
-            initial: capital(charset, c) && self.gap,
+            single: None,
         }
+    }
+
+    /// Whether an initial stands before the place.
+    fn after_initial(self, charset: &Charset) -> bool
+        ensures { result ≡ is_initial (folded charset.now) self.single }
+    {
+        match self.single {
+            Some(c) => capital(charset, c),
+            None => false,
+        }
+    }
+}
+
+/// Whether the next character is a small letter.
+fn begins_small(charset: &Charset, next: Option<char>) -> bool
+    ensures { (after : List ℕ) → next ≡ next_of after → result ≡ begins_small (folded charset.now) after }
+{
+    match next {
+        Some(c) => small(charset, c),
+        None => false,
     }
 }
 
@@ -82,11 +109,7 @@ fn goes_on(charset: &Charset, initial: bool, next: Option<char>, then: Option<ch
         None => false,
         Some(next) => {
             let known = charset.fold(next).is_some();
-            let small = match then {
-                Some(then) => small(charset, then),
-                None => false,
-            };
-            known || next == ',' || (blank(next) && (small || initial))
+            known || next == ',' || (blank(next) && (begins_small(charset, then) || initial))
         }
     }
 }
@@ -199,7 +222,7 @@ fn ends(
         return false;
     }
     let (next, then) = two_next(rules, text, pieces);
-    !goes_on(charset, before.initial, next, then)
+    !goes_on(charset, before.after_initial(charset), next, then)
 }
 
 /// Appends the marks of the ends of sentences in a piece of a run, the place of which is given with the pieces after it.
@@ -228,7 +251,7 @@ pub(crate) fn push_sentences(
             Some((c, beyond)) => {
                 let width = c.len_utf8() as u32;
                 push_end(list, ends(charset, rules, before, c, beyond, pieces), place)?;
-                before = before.then(charset, c);
+                before = before.then(c);
                 place += width;
                 rest = beyond;
             }

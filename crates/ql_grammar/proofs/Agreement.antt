@@ -3,21 +3,21 @@ use Rattle.std.proofs.Common.{refl, ◌∙◌, ap}
 use Rattle.ql_lex.specs.declared.token.Sign.{Sign}
 use Rattle.ql_grammar.specs.declared.keyword.Keyword.{Keyword}
 use Rattle.ql_grammar.specs.Tokens.{kind, name_value, number_value}
-use Rattle.ql_grammar.specs.Classes.{the_word, a_number, the_sign, fits}
+use Rattle.ql_grammar.specs.Classes.{the_keyword, a_number, the_sign, fits}
 use Rattle.token_grammar.specs.Language.{In}
-use Rattle.ql_grammar.specs.Grammar.{word, sign, name, number}
-use Rattle.ql_grammar.specs.Parts.{IsWord, IsSign, IsName, IsNumber}
+use Rattle.ql_grammar.specs.Terminals.{keyword, sign, name, number}
+use Rattle.ql_grammar.specs.Parts.{IsKeyword, IsSign, IsName, IsNumber}
 use Rattle.ql_grammar.specs.KeywordLaws.{same_to_itself}
-use Rattle.ql_grammar.proofs.ClassKinds.{word_is, sign_is, number_is}
+use Rattle.ql_grammar.proofs.ClassKinds.{keyword_is, sign_is, number_is}
 use Rattle.ql_grammar.specs.SignLaws.{sign_to_itself}
 use Rattle.ql_grammar.specs.Alphabet.{sphinxql}
 use Rattle.token_grammar.proofs.Agreement.{Agree, Agrees}
 
-pub agree_word : (w : Keyword) → Agrees sphinxql (word w) (IsWord w)
+pub agree_keyword : (w : Keyword) → Agrees sphinxql (keyword w) (IsKeyword w)
 unfolding In
-agree_word w = record {
-  text = λ x u (t, e, k). (t, e, ap (fits (the_word w)) k ∙ same_to_itself w);
-  value = λ u (t, e, f). (tt, (t, e, word_is w (kind t) f));
+agree_keyword w = record {
+  text = λ x u (t, e, k). (t, e, ap (fits (the_keyword w)) k ∙ same_to_itself w);
+  value = λ u (t, e, f). (tt, (t, e, keyword_is w (kind t) f));
 }
 
 pub agree_sign : (s : Sign) → Agrees sphinxql (sign s) (IsSign s)

@@ -7,11 +7,12 @@ use Rattle.ql_grammar.specs.declared.keyword.Keyword.{Keyword}
 use Rattle.ql_grammar.specs.Tokens.{kind, text_value}
 use Rattle.ql_grammar.specs.Classes.{a_text, fits}
 use Rattle.token_grammar.specs.Language.{Re, In}
-use Rattle.ql_grammar.specs.Grammar.{words, text, whole, wholes, parens, enclosed}
-use Rattle.ql_grammar.specs.Parts.{AreWords, IsText, IsWhole, IsNumber, IsSign, IsComma, IsEnclosed, AreParens}
+use Rattle.ql_grammar.specs.Terminals.{two_keywords, text, whole, enclosed}
+use Rattle.ql_grammar.specs.steps.Grammar.{wholes, parens}
+use Rattle.ql_grammar.specs.Parts.{AreKeywords, IsText, IsWhole, IsNumber, IsSign, IsComma, IsEnclosed, AreParens}
 use Rattle.token_grammar.specs.Values.{◌then◌, AreListed}
 use Rattle.ql_grammar.proofs.ClassKinds.{text_is}
-use Rattle.ql_grammar.proofs.Agreement.{agree_number, agree_sign, agree_word}
+use Rattle.ql_grammar.proofs.Agreement.{agree_number, agree_sign, agree_keyword}
 use Rattle.token_grammar.proofs.Agreement.{Agree, Agrees, IsEither, agree_after, agree_before, agree_as, agree_listed, agree_or}
 use Rattle.ql_grammar.specs.Alphabet.{sphinxql}
 use Rattle.ql_grammar.specs.Classes.{Class}
@@ -23,8 +24,8 @@ agree_text = record {
   value = λ u (t, e, f). (text_value t, (t, e, (text_is (kind t) f, refl)));
 }
 
-pub agree_words : (v w : Keyword) → Agrees sphinxql (words v w) (AreWords v w)
-agree_words v w = agree_after (agree_word v) (agree_word w)
+pub agree_keywords : (v w : Keyword) → Agrees sphinxql (two_keywords v w) (AreKeywords v w)
+agree_keywords v w = agree_after (agree_keyword v) (agree_keyword w)
 
 pub agree_parens : Agrees sphinxql parens AreParens
 agree_parens = agree_after (agree_sign signs.OpenParen) (agree_sign signs.CloseParen)

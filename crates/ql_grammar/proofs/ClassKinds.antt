@@ -5,19 +5,19 @@ use Rattle.ql_lex.specs.declared.token.Sign.{Sign}
 use Rattle.ql_grammar.specs.declared.keyword.Keyword.{Keyword}
 use Rattle.ql_grammar.specs.declared.kind.Kind.{Kind}
 use Rattle.ql_grammar.specs.declared.kind.Kind.TheVariants as kinds
-use Rattle.ql_grammar.specs.Classes.{the_word, name_but, a_number, a_text, a_sysvar, the_sign, the_end, fits, is_name, is_word}
+use Rattle.ql_grammar.specs.Classes.{the_keyword, name_but, a_number, a_text, a_sysvar, the_sign, the_end, fits, is_name, is_keyword}
 use Rattle.token_grammar.proofs.Bools.{and_first}
 use Rattle.ql_grammar.specs.KeywordLaws.{keyword_same}
 use Rattle.ql_grammar.specs.SignLaws.{sign_same}
 
-pub word_is : (w : Keyword) (k : Kind) → fits (the_word w) k ≡ true → k ≡ kinds.Keyword w
-word_is w (kinds.Keyword x) e = ap kinds.Keyword (sym (keyword_same w x e))
-word_is w kinds.Name e = cc
-word_is w kinds.Number e = cc
-word_is w kinds.Text e = cc
-word_is w kinds.SysVar e = cc
-word_is w (kinds.Sign s) e = cc
-word_is w kinds.End e = cc
+pub keyword_is : (w : Keyword) (k : Kind) → fits (the_keyword w) k ≡ true → k ≡ kinds.Keyword w
+keyword_is w (kinds.Keyword x) e = ap kinds.Keyword (sym (keyword_same w x e))
+keyword_is w kinds.Name e = cc
+keyword_is w kinds.Number e = cc
+keyword_is w kinds.Text e = cc
+keyword_is w kinds.SysVar e = cc
+keyword_is w (kinds.Sign s) e = cc
+keyword_is w kinds.End e = cc
 
 pub sign_is : (v : Sign) (k : Kind) → fits (the_sign v) k ≡ true → k ≡ kinds.Sign v
 sign_is v (kinds.Keyword x) e = cc
@@ -65,4 +65,4 @@ end_is (kinds.Sign s) e = cc
 end_is kinds.End e = refl
 
 pub but_name : (v w : Keyword) (k : Kind) → fits (name_but v w) k ≡ true → is_name k ≡ true
-but_name v w k e = and_first (is_name k) (not (is_word v k)) (and_first (is_name k && not (is_word v k)) (not (is_word w k)) e)
+but_name v w k e = and_first (is_name k) (not (is_keyword v k)) (and_first (is_name k && not (is_keyword v k)) (not (is_keyword w k)) e)

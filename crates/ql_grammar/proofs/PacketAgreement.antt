@@ -6,7 +6,7 @@ use Rattle.ql_grammar.specs.declared.statement.Statement.{Statement}
 use Rattle.ql_grammar.specs.Tokens.{kind}
 use Rattle.ql_grammar.specs.Classes.{the_end, fits}
 use Rattle.token_grammar.specs.Language.{one, In}
-use Rattle.ql_grammar.specs.Grammar.{more_statements, packet}
+use Rattle.ql_grammar.specs.steps.Grammar.{more_statements, packet}
 use Rattle.ql_grammar.specs.Parts.{IsSign}
 use Rattle.token_grammar.specs.Values.{◌then◌, IsPerhaps, AreListed}
 use Rattle.ql_grammar.specs.Packets.{IsEnd, IsPacket}

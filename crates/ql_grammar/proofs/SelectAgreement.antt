@@ -22,14 +22,16 @@ use Rattle.ql_grammar.specs.declared.select.SortName.TheVariants as sorts
 use Rattle.ql_grammar.specs.Tokens.{kind}
 use Rattle.ql_grammar.specs.Classes.{a_comparison, fits}
 use Rattle.token_grammar.specs.Language.{Re, In}
-use Rattle.ql_grammar.specs.Grammar.{word, name, weight, count, counted, enclosed, expr, alias, item, comparison, cond, test, direction, having, limit, field_weight, option_value, option, facet, conds, group, within, having_part, order, options, select}
+use Rattle.ql_grammar.specs.Terminals.{keyword, name, enclosed}
+use Rattle.ql_grammar.specs.steps.Grammar.{weight, count, counted, expr, alias, item, comparison, cond, test, direction, having, limit, field_weight, option_value, option, facet, conds, group, within, having_part, order, options, select}
 use Rattle.token_grammar.specs.Language.{◌⨾◌, ◌∣◌}
-use Rattle.ql_grammar.specs.Parts.{IsWord, IsSign, IsComma, IsName, IsNumber, IsText, IsWhole, IsEnclosed, AreParens}
+use Rattle.ql_grammar.specs.Parts.{IsKeyword, IsSign, IsComma, IsName, IsNumber, IsText, IsWhole, IsEnclosed, AreParens}
 use Rattle.token_grammar.specs.Values.{◌then◌, IsGiven, AreGiven, AreListed}
-use Rattle.ql_grammar.specs.Selects.{comparison_sign, IsCounted, IsExpr, IsAlias, IsItem, IsComparison, IsCond, IsWeight, IsCount, IsSort, IsInnerSort, IsGroupSort, IsDirection, IsKeyBy, IsHaving, IsLimit, IsFieldWeight, IsOptionValue, IsOption, IsFacet, AreConds, IsGroup, AreInnerKeys, IsHavingPart, AreKeys, AreOptions, IsSelected}
-use Rattle.ql_grammar.proofs.Agreement.{agree_name, agree_number, agree_sign, agree_word}
+use Rattle.ql_grammar.specs.Selects.{comparison_sign, IsExpr, IsAlias, IsItem, IsComparison, IsCond, IsWeight, IsCount, IsSort, IsInnerSort, IsGroupSort, IsDirection, IsKeyBy, IsHaving, IsLimit, IsFieldWeight, IsOptionValue, IsOption, IsFacet, AreConds, IsGroup, AreInnerKeys, IsHavingPart, AreKeys, AreOptions, IsSelected}
+use Rattle.ql_grammar.specs.steps.Selecting.{IsCounted}
+use Rattle.ql_grammar.proofs.Agreement.{agree_name, agree_number, agree_sign, agree_keyword}
 use Rattle.token_grammar.proofs.Agreement.{Agree, Agrees, agree_as, agree_listed, agree_seq}
-use Rattle.ql_grammar.proofs.Agreements.{agree_enclosed, agree_parens, agree_text, agree_whole, agree_wholes, agree_words}
+use Rattle.ql_grammar.proofs.Agreements.{agree_enclosed, agree_parens, agree_text, agree_whole, agree_wholes, agree_keywords}
 use Rattle.token_grammar.proofs.Agreement.{IsEither, agree_after, agree_lists, agree_optional, agree_or, agree_perhaps, agree_row}
 use Rattle.ql_grammar.specs.Alphabet.{sphinxql}
 use Rattle.ql_grammar.specs.Classes.{Class}
@@ -45,10 +47,10 @@ sign_compares comparisons.AtLeast = refl
 
 -- Expressions and items.
 agree_counted : Agree sphinxql counted IsCounted
-agree_counted = agree_as (agree_or (agree_sign signs.Star) (agree_after (agree_word keywords.Distinct) agree_name)) there back
+agree_counted = agree_as (agree_or (agree_sign signs.Star) (agree_after (agree_keyword keywords.Distinct) agree_name)) there back
   where
     Is : Unit {0} ⊎ List ℕ → List Lexeme → Type 0
-    Is = IsEither (λ _. IsSign signs.Star) (λ column. IsWord keywords.Distinct then IsName column)
+    Is = IsEither (λ _. IsSign signs.Star) (λ column. IsKeyword keywords.Distinct then IsName column)
 
     there : (x : Unit {0} ⊎ List ℕ) (u : List Lexeme) → Is x u → (y : Option (List ℕ)) × IsCounted y u
     there (inl _) u h = (None, h)
@@ -58,35 +60,35 @@ agree_counted = agree_as (agree_or (agree_sign signs.Star) (agree_after (agree_w
     back None u h = (inl tt, h)
     back (Some column) u h = (inr column, h)
 
-agree_argument : (w : Keyword) → Agree sphinxql (word w ⨾ enclosed name) (λ column. IsWord w then IsEnclosed (IsName column))
-agree_argument w = agree_after (agree_word w) (agree_enclosed agree_name)
+agree_argument : (w : Keyword) → Agree sphinxql (keyword w ⨾ enclosed name) (λ column. IsKeyword w then IsEnclosed (IsName column))
+agree_argument w = agree_after (agree_keyword w) (agree_enclosed agree_name)
 
 agree_weight : Agrees sphinxql weight IsWeight
-agree_weight = agree_after (agree_word keywords.Weight) agree_parens
+agree_weight = agree_after (agree_keyword keywords.Weight) agree_parens
 
 agree_count : Agrees sphinxql count IsCount
-agree_count = agree_after (agree_word keywords.Count) (agree_enclosed (agree_sign signs.Star))
+agree_count = agree_after (agree_keyword keywords.Count) (agree_enclosed (agree_sign signs.Star))
 
 abbrev ExprValue : Type 0
 ExprValue = Option (List ℕ) ⊎ (List ℕ ⊎ (List ℕ ⊎ (List ℕ ⊎ (Unit {0} ⊎ (Unit {0} ⊎ List ℕ)))))
 
 agree_expr : Agree sphinxql expr IsExpr
 agree_expr = agree_as
-    (agree_or (agree_after (agree_word keywords.Count) (agree_enclosed agree_counted))
+    (agree_or (agree_after (agree_keyword keywords.Count) (agree_enclosed agree_counted))
     (agree_or (agree_argument keywords.Min)
     (agree_or (agree_argument keywords.Max)
     (agree_or (agree_argument keywords.Sum)
     (agree_or agree_weight
-    (agree_or (agree_after (agree_word keywords.GroupBy) agree_parens) agree_name))))))
+    (agree_or (agree_after (agree_keyword keywords.GroupBy) agree_parens) agree_name))))))
     there back
   where
     Is : ExprValue → List Lexeme → Type 0
     Is =
-        IsEither (λ column. IsWord keywords.Count then IsEnclosed (IsCounted column))
-        (IsEither (λ column. IsWord keywords.Min then IsEnclosed (IsName column))
-        (IsEither (λ column. IsWord keywords.Max then IsEnclosed (IsName column))
-        (IsEither (λ column. IsWord keywords.Sum then IsEnclosed (IsName column))
-        (IsEither (λ _. IsWeight) (IsEither (λ _. IsWord keywords.GroupBy then AreParens) IsName)))))
+        IsEither (λ column. IsKeyword keywords.Count then IsEnclosed (IsCounted column))
+        (IsEither (λ column. IsKeyword keywords.Min then IsEnclosed (IsName column))
+        (IsEither (λ column. IsKeyword keywords.Max then IsEnclosed (IsName column))
+        (IsEither (λ column. IsKeyword keywords.Sum then IsEnclosed (IsName column))
+        (IsEither (λ _. IsWeight) (IsEither (λ _. IsKeyword keywords.GroupBy then AreParens) IsName)))))
 
     there : (x : ExprValue) (u : List Lexeme) → Is x u → (y : SelectExpr) × IsExpr y u
     there (inl None) u h = (exprs.CountAll, h)
@@ -109,7 +111,7 @@ agree_expr = agree_as
     back (exprs.Column column) u h = (inr (inr (inr (inr (inr (inr column))))), h)
 
 agree_alias : Agree sphinxql alias IsAlias
-agree_alias = agree_after (agree_perhaps (agree_word keywords.As)) agree_name
+agree_alias = agree_after (agree_perhaps (agree_keyword keywords.As)) agree_name
 
 agree_item : Agree sphinxql item IsItem
 agree_item = agree_as (agree_or (agree_sign signs.Star) (agree_seq agree_expr (agree_optional agree_alias))) there back
@@ -158,23 +160,23 @@ TestValue = ℤ × ℤ ⊎ (List ℤ ⊎ (List ℤ ⊎ Comparison × ℤ))
 
 abbrev IsTest : TestValue → List Lexeme → Type 0
 IsTest =
-    IsEither (λ pair. IsWord keywords.Between then IsWhole pair.0 then IsWord keywords.And then IsWhole pair.1)
-    (IsEither (λ numbers. IsWord keywords.Not then IsWord keywords.In then IsEnclosed (AreListed IsComma IsWhole numbers))
-    (IsEither (λ numbers. IsWord keywords.In then IsEnclosed (AreListed IsComma IsWhole numbers))
+    IsEither (λ pair. IsKeyword keywords.Between then IsWhole pair.0 then IsKeyword keywords.And then IsWhole pair.1)
+    (IsEither (λ numbers. IsKeyword keywords.Not then IsKeyword keywords.In then IsEnclosed (AreListed IsComma IsWhole numbers))
+    (IsEither (λ numbers. IsKeyword keywords.In then IsEnclosed (AreListed IsComma IsWhole numbers))
     (λ pair. IsComparison pair.0 then IsWhole pair.1)))
 
 agree_test : Agree sphinxql test IsTest
 agree_test =
-    agree_or (agree_after (agree_word keywords.Between) (agree_seq agree_whole (agree_after (agree_word keywords.And) agree_whole)))
-    (agree_or (agree_after (agree_word keywords.Not) (agree_after (agree_word keywords.In) agree_wholes))
-    (agree_or (agree_after (agree_word keywords.In) agree_wholes)
+    agree_or (agree_after (agree_keyword keywords.Between) (agree_seq agree_whole (agree_after (agree_keyword keywords.And) agree_whole)))
+    (agree_or (agree_after (agree_keyword keywords.Not) (agree_after (agree_keyword keywords.In) agree_wholes))
+    (agree_or (agree_after (agree_keyword keywords.In) agree_wholes)
     (agree_seq agree_comparison agree_whole)))
 
 agree_cond : Agree sphinxql cond IsCond
-agree_cond = agree_as (agree_or (agree_after (agree_word keywords.Match) (agree_enclosed agree_text)) (agree_seq agree_name agree_test)) there back
+agree_cond = agree_as (agree_or (agree_after (agree_keyword keywords.Match) (agree_enclosed agree_text)) (agree_seq agree_name agree_test)) there back
   where
     Is : List ℕ ⊎ List ℕ × TestValue → List Lexeme → Type 0
-    Is = IsEither (λ query. IsWord keywords.Match then IsEnclosed (IsText query)) (λ x. IsName x.0 then IsTest x.1)
+    Is = IsEither (λ query. IsKeyword keywords.Match then IsEnclosed (IsText query)) (λ x. IsName x.0 then IsTest x.1)
 
     there : (x : List ℕ ⊎ List ℕ × TestValue) (u : List Lexeme) → Is x u → (y : Cond) × IsCond y u
     there (inl query) u h = (condition.Match query, h)
@@ -188,11 +190,11 @@ agree_cond = agree_as (agree_or (agree_after (agree_word keywords.Match) (agree_
     back (condition.Between column low high) u h = (inr (column, inl (low, high)), h)
     back (condition.Among column numbers true) u h = (inr (column, inr (inl numbers)), h)
     back (condition.Among column numbers false) u (a, b, e, p, (c, d, f, g, q)) =
-        (inr (column, inr (inr (inl numbers))), (a, b, e, p, subst (λ v. (IsWord keywords.In then IsEnclosed (AreListed IsComma IsWhole numbers)) v) (sym (f ∙ ap (λ v. v ++ d) g)) q))
+        (inr (column, inr (inr (inl numbers))), (a, b, e, p, subst (λ v. (IsKeyword keywords.In then IsEnclosed (AreListed IsComma IsWhole numbers)) v) (sym (f ∙ ap (λ v. v ++ d) g)) q))
     back (condition.Compare column op value) u h = (inr (column, inr (inr (inr (op, value)))), h)
 
 agree_conds : Agree sphinxql conds (AreGiven AreConds)
-agree_conds = agree_lists AreConds (λ u (a, b, e, p, q). q) (agree_after (agree_word keywords.Where) (agree_listed (agree_word keywords.And) agree_cond))
+agree_conds = agree_lists AreConds (λ u (a, b, e, p, q). q) (agree_after (agree_keyword keywords.Where) (agree_listed (agree_keyword keywords.And) agree_cond))
 
 -- Sorting.
 agree_sort : Agree sphinxql (weight ∣ count ∣ name) IsSort
@@ -242,10 +244,10 @@ agree_group_sort = agree_as (agree_or agree_count agree_name) there back
     back (sorts.Column column) u h = (inr column, h)
 
 agree_direction : Agree sphinxql direction (IsGiven IsDirection)
-agree_direction = agree_optional (agree_as (agree_or (agree_word keywords.Asc) (agree_word keywords.Desc)) there back)
+agree_direction = agree_optional (agree_as (agree_or (agree_keyword keywords.Asc) (agree_keyword keywords.Desc)) there back)
   where
     Is : Unit {0} ⊎ Unit {0} → List Lexeme → Type 0
-    Is = IsEither (λ _. IsWord keywords.Asc) (λ _. IsWord keywords.Desc)
+    Is = IsEither (λ _. IsKeyword keywords.Asc) (λ _. IsKeyword keywords.Desc)
 
     there : (x : Unit {0} ⊎ Unit {0}) (u : List Lexeme) → Is x u → (y : Bool) × IsDirection y u
     there (inl _) u h = (false, h)
@@ -259,25 +261,25 @@ agree_key_by : {r : Re Class} {Is : SortName → List Lexeme → Type 0} → Agr
 agree_key_by h = agree_as (agree_seq h agree_direction) (λ x u i. (record { by = x.0; descending = x.1 }, i)) (λ y u i. ((y.by, y.descending), i))
 
 agree_group : Agree sphinxql group (IsGiven IsGroup)
-agree_group = agree_optional (agree_after (agree_words keywords.Group keywords.By) agree_name)
+agree_group = agree_optional (agree_after (agree_keywords keywords.Group keywords.By) agree_name)
 
 agree_within : Agree sphinxql within (AreGiven AreInnerKeys)
 agree_within = agree_lists AreInnerKeys (λ u (a, b, e, p, (c, d, f, q, i)). i)
-    (agree_after (agree_words keywords.Within keywords.Group) (agree_after (agree_words keywords.Order keywords.By) (agree_listed (agree_sign signs.Comma) (agree_key_by agree_inner_sort))))
+    (agree_after (agree_keywords keywords.Within keywords.Group) (agree_after (agree_keywords keywords.Order keywords.By) (agree_listed (agree_sign signs.Comma) (agree_key_by agree_inner_sort))))
 
 agree_order : Agree sphinxql order (AreGiven AreKeys)
-agree_order = agree_lists AreKeys (λ u (a, b, e, p, q). q) (agree_after (agree_words keywords.Order keywords.By) (agree_listed (agree_sign signs.Comma) (agree_key_by agree_sort)))
+agree_order = agree_lists AreKeys (λ u (a, b, e, p, q). q) (agree_after (agree_keywords keywords.Order keywords.By) (agree_listed (agree_sign signs.Comma) (agree_key_by agree_sort)))
 
 -- Other parts.
 agree_having : Agree sphinxql having IsHaving
 agree_having = agree_as (agree_seq agree_group_sort (agree_seq agree_comparison agree_whole)) (λ x u h. (record { left = x.0; op = x.1.0; value = x.1.1 }, h)) (λ y u h. ((y.left, (y.op, y.value)), h))
 
 agree_having_part : Agree sphinxql having_part (IsGiven IsHavingPart)
-agree_having_part = agree_optional (agree_after (agree_word keywords.Having) agree_having)
+agree_having_part = agree_optional (agree_after (agree_keyword keywords.Having) agree_having)
 
 agree_limit : Agree sphinxql limit IsLimit
 agree_limit = agree_as
-    (agree_after (agree_word keywords.Limit) (agree_seq agree_number (agree_optional (agree_after (agree_sign signs.Comma) agree_number))))
+    (agree_after (agree_keyword keywords.Limit) (agree_seq agree_number (agree_optional (agree_after (agree_sign signs.Comma) agree_number))))
     (λ x u h. (record { first = x.0; second = x.1 }, h)) (λ y u h. ((y.first, y.second), h))
 
 agree_field_weight : Agree sphinxql field_weight IsFieldWeight
@@ -295,13 +297,13 @@ agree_option_value = agree_as
     Is = IsEither IsName (IsEither IsNumber (IsEither IsText (λ pairs. IsEnclosed (AreListed IsComma IsFieldWeight pairs))))
 
     there : (x : OptionParts) (u : List Lexeme) → Is x u → (y : OptionValue) × IsOptionValue y u
-    there (inl word) u h = (values.Name word, h)
+    there (inl keyword) u h = (values.Name keyword, h)
     there (inr (inl n)) u h = (values.Number n, h)
     there (inr (inr (inl words))) u h = (values.Text words, h)
     there (inr (inr (inr pairs))) u h = (values.List pairs, h)
 
     back : (y : OptionValue) (u : List Lexeme) → IsOptionValue y u → (x : OptionParts) × Is x u
-    back (values.Name word) u h = (inl word, h)
+    back (values.Name keyword) u h = (inl keyword, h)
     back (values.Number n) u h = (inr (inl n), h)
     back (values.Text words) u h = (inr (inr (inl words)), h)
     back (values.List pairs) u h = (inr (inr (inr pairs)), h)
@@ -310,18 +312,18 @@ agree_option : Agree sphinxql option IsOption
 agree_option = agree_as (agree_seq agree_name (agree_after (agree_sign signs.Equal) agree_option_value)) (λ x u h. (record { name = x.0; value = x.1 }, h)) (λ y u h. ((y.name, y.value), h))
 
 agree_options : Agree sphinxql options (AreGiven AreOptions)
-agree_options = agree_lists AreOptions (λ u (a, b, e, p, q). q) (agree_after (agree_word keywords.Option) (agree_listed (agree_sign signs.Comma) agree_option))
+agree_options = agree_lists AreOptions (λ u (a, b, e, p, q). q) (agree_after (agree_keyword keywords.Option) (agree_listed (agree_sign signs.Comma) agree_option))
 
 agree_facet : Agree sphinxql facet IsFacet
-agree_facet = agree_after (agree_word keywords.Facet) (agree_as
-    (agree_seq agree_name (agree_seq (agree_optional (agree_after (agree_words keywords.Order keywords.By) (agree_key_by agree_group_sort))) (agree_optional agree_limit)))
+agree_facet = agree_after (agree_keyword keywords.Facet) (agree_as
+    (agree_seq agree_name (agree_seq (agree_optional (agree_after (agree_keywords keywords.Order keywords.By) (agree_key_by agree_group_sort))) (agree_optional agree_limit)))
     (λ x u h. (record { column = x.0; order = x.1.0; limit = x.1.1 }, h)) (λ y u h. ((y.column, (y.order, y.limit)), h)))
 
 -- Each text of a SELECT stands for one, and what stands for one is a text.
 pub agree_select : Agree sphinxql select IsSelected
 agree_select = agree_as
     (agree_seq (agree_listed (agree_sign signs.Comma) agree_item)
-    (agree_after (agree_word keywords.From)
+    (agree_after (agree_keyword keywords.From)
     (agree_seq agree_name
     (agree_seq agree_conds
     (agree_seq agree_group

@@ -21,15 +21,17 @@ use Rattle.ql_grammar.specs.declared.statement.Val.TheVariants as vals
 use Rattle.ql_grammar.specs.Tokens.{kind, name_value}
 use Rattle.ql_grammar.specs.Classes.{a_sysvar, fits}
 use Rattle.token_grammar.specs.Language.{In}
-use Rattle.ql_grammar.specs.Grammar.{word, sysvar, target_name, select_variable, select_database, select, val, insert, ids, plain, setting, assignment, set_rest, shown, statement}
+use Rattle.ql_grammar.specs.Terminals.{keyword, sysvar, target_name}
+use Rattle.ql_grammar.specs.steps.Grammar.{select_variable, select_database, select, val, insert, ids, plain, setting, assignment, set_rest, shown, statement}
 use Rattle.token_grammar.specs.Language.{◌∣◌}
-use Rattle.ql_grammar.specs.Parts.{IsWord, AreWords, IsSign, IsComma, IsName, IsNumber, IsTargetName, IsText, IsVariable, IsWhole, IsEnclosed, AreParens}
+use Rattle.ql_grammar.specs.Parts.{IsKeyword, AreKeywords, IsSign, IsComma, IsName, IsNumber, IsTargetName, IsText, IsVariable, IsWhole, IsEnclosed, AreParens}
 use Rattle.token_grammar.specs.Values.{◌then◌, IsGiven, AreListed}
 use Rattle.ql_grammar.specs.Selects.{IsSelected}
-use Rattle.ql_grammar.specs.Statements.{IsVal, IsPut, AreIds, IsPlain, IsTarget, IsSetting, IsAssignment, AreColumns, IsRow, IsRowLimit, IsStatement}
-use Rattle.ql_grammar.proofs.Agreement.{agree_name, agree_number, agree_sign, agree_word}
+use Rattle.ql_grammar.specs.Statements.{IsVal, IsPut, AreIds, IsPlain, IsTarget, IsSetting, AreColumns, IsRow, IsRowLimit, IsStatement}
+use Rattle.ql_grammar.specs.steps.Stating.{IsAssignment}
+use Rattle.ql_grammar.proofs.Agreement.{agree_name, agree_number, agree_sign, agree_keyword}
 use Rattle.token_grammar.proofs.Agreement.{Agree, agree_as, agree_listed, agree_seq}
-use Rattle.ql_grammar.proofs.Agreements.{agree_enclosed, agree_parens, agree_text, agree_whole, agree_words}
+use Rattle.ql_grammar.proofs.Agreements.{agree_enclosed, agree_parens, agree_text, agree_whole, agree_keywords}
 use Rattle.token_grammar.proofs.Agreement.{IsEither, agree_after, agree_optional, agree_or}
 use Rattle.ql_grammar.proofs.SelectAgreement.{agree_select}
 use Rattle.ql_grammar.proofs.ClassKinds.{variable_is}
@@ -61,11 +63,11 @@ agree_val = agree_as (agree_or agree_text agree_whole) there back
     back (vals.Text text) u h = (inl text, h)
     back (vals.Number z) u h = (inr z, h)
 
-agree_put : Agree sphinxql (word keywords.Replace ∣ word keywords.Insert) IsPut
-agree_put = agree_as (agree_or (agree_word keywords.Replace) (agree_word keywords.Insert)) there back
+agree_put : Agree sphinxql (keyword keywords.Replace ∣ keyword keywords.Insert) IsPut
+agree_put = agree_as (agree_or (agree_keyword keywords.Replace) (agree_keyword keywords.Insert)) there back
   where
     Is : Unit {0} ⊎ Unit {0} → List Lexeme → Type 0
-    Is = IsEither (λ _. IsWord keywords.Replace) (λ _. IsWord keywords.Insert)
+    Is = IsEither (λ _. IsKeyword keywords.Replace) (λ _. IsKeyword keywords.Insert)
 
     there : (x : Unit {0} ⊎ Unit {0}) (u : List Lexeme) → Is x u → (y : Bool) × IsPut y u
     there (inl _) u h = (true, h)
@@ -76,10 +78,10 @@ agree_put = agree_as (agree_or (agree_word keywords.Replace) (agree_word keyword
     back false u h = (inr tt, h)
 
 agree_ids : Agree sphinxql ids AreIds
-agree_ids = agree_as (agree_or (agree_after (agree_sign signs.Equal) agree_number) (agree_after (agree_word keywords.In) (agree_enclosed (agree_listed (agree_sign signs.Comma) agree_number)))) there back
+agree_ids = agree_as (agree_or (agree_after (agree_sign signs.Equal) agree_number) (agree_after (agree_keyword keywords.In) (agree_enclosed (agree_listed (agree_sign signs.Comma) agree_number)))) there back
   where
     Is : ℕ ⊎ List ℕ → List Lexeme → Type 0
-    Is = IsEither (λ n. IsSign signs.Equal then IsNumber n) (λ ns. IsWord keywords.In then IsEnclosed (AreListed IsComma IsNumber ns))
+    Is = IsEither (λ n. IsSign signs.Equal then IsNumber n) (λ ns. IsKeyword keywords.In then IsEnclosed (AreListed IsComma IsNumber ns))
 
     there : (x : ℕ ⊎ List ℕ) (u : List Lexeme) → Is x u → (y : Ids) × AreIds y u
     there (inl n) u h = (numbers.One n, h)
@@ -105,10 +107,10 @@ abbrev pub SettingValue : Type 0
 SettingValue = Unit {0} ⊎ (List ℕ ⊎ (List ℕ ⊎ ℤ))
 
 agree_setting : Agree sphinxql setting IsSetting
-agree_setting = agree_as (agree_or (agree_word keywords.Null) (agree_or agree_text (agree_or agree_name agree_whole))) there back
+agree_setting = agree_as (agree_or (agree_keyword keywords.Null) (agree_or agree_text (agree_or agree_name agree_whole))) there back
   where
     Is : SettingValue → List Lexeme → Type 0
-    Is = IsEither (λ _. IsWord keywords.Null) (IsEither IsText (IsEither IsName IsWhole))
+    Is = IsEither (λ _. IsKeyword keywords.Null) (IsEither IsText (IsEither IsName IsWhole))
 
     there : (x : SettingValue) (u : List Lexeme) → Is x u → (y : SetValue) × IsSetting y u
     there (inl _) u h = (settings.Null, h)
@@ -141,63 +143,63 @@ abbrev pub Selection : Type 0
 Selection = List ℕ × Option ℕ ⊎ (Unit {0} ⊎ Select)
 
 abbrev pub IsSelection : Selection → List Lexeme → Type 0
-IsSelection = IsEither (λ x. IsVariable x.0 then IsGiven IsRowLimit x.1) (IsEither (λ _. IsWord keywords.Database then AreParens) IsSelected)
+IsSelection = IsEither (λ x. IsVariable x.0 then IsGiven IsRowLimit x.1) (IsEither (λ _. IsKeyword keywords.Database then AreParens) IsSelected)
 
 agree_selection : Agree sphinxql (select_variable ∣ select_database ∣ select) IsSelection
 agree_selection =
-    agree_or (agree_seq agree_variable (agree_optional (agree_after (agree_word keywords.Limit) agree_number)))
-    (agree_or (agree_after (agree_word keywords.Database) agree_parens) agree_select)
+    agree_or (agree_seq agree_variable (agree_optional (agree_after (agree_keyword keywords.Limit) agree_number)))
+    (agree_or (agree_after (agree_keyword keywords.Database) agree_parens) agree_select)
 
 abbrev pub Setting : Type 0
 Setting = ℕ ⊎ (Plain ⊎ (Target × SetValue ⊎ (Target × SetValue ⊎ Target × SetValue)))
 
 abbrev pub IsSet : Setting → List Lexeme → Type 0
 IsSet =
-    IsEither (λ n. IsWord keywords.Autocommit then IsSign signs.Equal then IsNumber n)
-    (IsEither (λ plain. IsWord keywords.Names then IsPlain plain)
-    (IsEither (λ pair. IsWord keywords.Global then IsAssignment pair)
-    (IsEither (λ pair. IsWord keywords.Session then IsAssignment pair) IsAssignment)))
+    IsEither (λ n. IsKeyword keywords.Autocommit then IsSign signs.Equal then IsNumber n)
+    (IsEither (λ plain. IsKeyword keywords.Names then IsPlain plain)
+    (IsEither (λ pair. IsKeyword keywords.Global then IsAssignment pair)
+    (IsEither (λ pair. IsKeyword keywords.Session then IsAssignment pair) IsAssignment)))
 
 agree_set_rest : Agree sphinxql set_rest IsSet
 agree_set_rest =
-    agree_or (agree_after (agree_word keywords.Autocommit) (agree_after (agree_sign signs.Equal) agree_number))
-    (agree_or (agree_after (agree_word keywords.Names) agree_plain)
-    (agree_or (agree_after (agree_word keywords.Global) agree_assignment)
-    (agree_or (agree_after (agree_word keywords.Session) agree_assignment) agree_assignment)))
+    agree_or (agree_after (agree_keyword keywords.Autocommit) (agree_after (agree_sign signs.Equal) agree_number))
+    (agree_or (agree_after (agree_keyword keywords.Names) agree_plain)
+    (agree_or (agree_after (agree_keyword keywords.Global) agree_assignment)
+    (agree_or (agree_after (agree_keyword keywords.Session) agree_assignment) agree_assignment)))
 
 abbrev pub Shown : Type 0
 Shown = List ℕ × Unit {0} ⊎ (Unit {0} ⊎ (Unit {0} ⊎ (Unit {0} ⊎ (Unit {0} ⊎ Unit {0}))))
 
 abbrev pub IsShown : Shown → List Lexeme → Type 0
 IsShown =
-    IsEither (λ x. IsWord keywords.Index then IsName x.0 then IsWord keywords.Status)
-    (IsEither (λ _. IsWord keywords.Meta)
-    (IsEither (λ _. IsWord keywords.Tables)
-    (IsEither (λ _. IsWord keywords.Warnings)
-    (IsEither (λ _. IsWord keywords.Variables) (λ _. IsWord keywords.Databases)))))
+    IsEither (λ x. IsKeyword keywords.Index then IsName x.0 then IsKeyword keywords.Status)
+    (IsEither (λ _. IsKeyword keywords.Meta)
+    (IsEither (λ _. IsKeyword keywords.Tables)
+    (IsEither (λ _. IsKeyword keywords.Warnings)
+    (IsEither (λ _. IsKeyword keywords.Variables) (λ _. IsKeyword keywords.Databases)))))
 
 agree_shown : Agree sphinxql shown IsShown
 agree_shown =
-    agree_or (agree_after (agree_word keywords.Index) (agree_seq agree_name (agree_word keywords.Status)))
-    (agree_or (agree_word keywords.Meta)
-    (agree_or (agree_word keywords.Tables)
-    (agree_or (agree_word keywords.Warnings)
-    (agree_or (agree_word keywords.Variables) (agree_word keywords.Databases)))))
+    agree_or (agree_after (agree_keyword keywords.Index) (agree_seq agree_name (agree_keyword keywords.Status)))
+    (agree_or (agree_keyword keywords.Meta)
+    (agree_or (agree_keyword keywords.Tables)
+    (agree_or (agree_keyword keywords.Warnings)
+    (agree_or (agree_keyword keywords.Variables) (agree_keyword keywords.Databases)))))
 
 abbrev pub IsFlushed : List ℕ ⊎ List ℕ → List Lexeme → Type 0
-IsFlushed = IsEither (λ name. IsWord keywords.RamChunk then IsName name) (λ name. IsWord keywords.RtIndex then IsName name)
+IsFlushed = IsEither (λ name. IsKeyword keywords.RamChunk then IsName name) (λ name. IsKeyword keywords.RtIndex then IsName name)
 
 abbrev pub Put : Type 0
 Put = Bool × (List ℕ × (Option (List (List ℕ)) × List (List Val)))
 
 abbrev pub IsInserted : Put → List Lexeme → Type 0
-IsInserted x = IsPut x.0 then IsWord keywords.Into then IsName x.1.0 then IsGiven AreColumns x.1.1.0 then IsWord keywords.Values then AreListed IsComma IsRow x.1.1.1
+IsInserted x = IsPut x.0 then IsKeyword keywords.Into then IsName x.1.0 then IsGiven AreColumns x.1.1.0 then IsKeyword keywords.Values then AreListed IsComma IsRow x.1.1.1
 
 agree_insert : Agree sphinxql insert IsInserted
 agree_insert =
-    agree_seq agree_put (agree_after (agree_word keywords.Into) (agree_seq agree_name
+    agree_seq agree_put (agree_after (agree_keyword keywords.Into) (agree_seq agree_name
     (agree_seq (agree_optional (agree_enclosed (agree_listed (agree_sign signs.Comma) agree_name)))
-    (agree_after (agree_word keywords.Values) (agree_listed (agree_sign signs.Comma) (agree_enclosed (agree_listed (agree_sign signs.Comma) agree_val)))))))
+    (agree_after (agree_keyword keywords.Values) (agree_listed (agree_sign signs.Comma) (agree_enclosed (agree_listed (agree_sign signs.Comma) agree_val)))))))
 
 -- Statements, in the order of the grammar.
 abbrev pub Parts : Type 0
@@ -206,34 +208,34 @@ Parts =
 
 abbrev pub AreParts : Parts → List Lexeme → Type 0
 AreParts =
-    IsEither (λ x. IsWord keywords.Select then IsSelection x)
-    (IsEither (λ x. AreWords keywords.Delete keywords.From then IsName x.0 then AreWords keywords.Where keywords.Id then AreIds x.1)
-    (IsEither (λ x. IsWord keywords.Set then IsSet x)
-    (IsEither (λ x. IsWord keywords.Show then IsShown x)
-    (IsEither (λ x. IsWord keywords.Flush then IsFlushed x)
-    (IsEither (λ _. IsWord keywords.Begin)
-    (IsEither (λ _. AreWords keywords.Start keywords.Transaction)
-    (IsEither (λ _. IsWord keywords.Commit)
-    (IsEither (λ _. IsWord keywords.Rollback)
-    (IsEither (λ name. AreWords keywords.Optimize keywords.Index then IsName name)
-    (IsEither (λ name. AreWords keywords.Truncate keywords.RtIndex then IsName name)
-    (IsEither (λ name. IsWord keywords.Describe then IsName name)
+    IsEither (λ x. IsKeyword keywords.Select then IsSelection x)
+    (IsEither (λ x. AreKeywords keywords.Delete keywords.From then IsName x.0 then AreKeywords keywords.Where keywords.Id then AreIds x.1)
+    (IsEither (λ x. IsKeyword keywords.Set then IsSet x)
+    (IsEither (λ x. IsKeyword keywords.Show then IsShown x)
+    (IsEither (λ x. IsKeyword keywords.Flush then IsFlushed x)
+    (IsEither (λ _. IsKeyword keywords.Begin)
+    (IsEither (λ _. AreKeywords keywords.Start keywords.Transaction)
+    (IsEither (λ _. IsKeyword keywords.Commit)
+    (IsEither (λ _. IsKeyword keywords.Rollback)
+    (IsEither (λ name. AreKeywords keywords.Optimize keywords.Index then IsName name)
+    (IsEither (λ name. AreKeywords keywords.Truncate keywords.RtIndex then IsName name)
+    (IsEither (λ name. IsKeyword keywords.Describe then IsName name)
     IsInserted)))))))))))
 
 agree_parts : Agree sphinxql statement AreParts
 agree_parts =
-    agree_or (agree_after (agree_word keywords.Select) agree_selection)
-    (agree_or (agree_after (agree_words keywords.Delete keywords.From) (agree_seq agree_name (agree_after (agree_words keywords.Where keywords.Id) agree_ids)))
-    (agree_or (agree_after (agree_word keywords.Set) agree_set_rest)
-    (agree_or (agree_after (agree_word keywords.Show) agree_shown)
-    (agree_or (agree_after (agree_word keywords.Flush) (agree_or (agree_after (agree_word keywords.RamChunk) agree_name) (agree_after (agree_word keywords.RtIndex) agree_name)))
-    (agree_or (agree_word keywords.Begin)
-    (agree_or (agree_words keywords.Start keywords.Transaction)
-    (agree_or (agree_word keywords.Commit)
-    (agree_or (agree_word keywords.Rollback)
-    (agree_or (agree_after (agree_words keywords.Optimize keywords.Index) agree_name)
-    (agree_or (agree_after (agree_words keywords.Truncate keywords.RtIndex) agree_name)
-    (agree_or (agree_after (agree_word keywords.Describe) agree_name)
+    agree_or (agree_after (agree_keyword keywords.Select) agree_selection)
+    (agree_or (agree_after (agree_keywords keywords.Delete keywords.From) (agree_seq agree_name (agree_after (agree_keywords keywords.Where keywords.Id) agree_ids)))
+    (agree_or (agree_after (agree_keyword keywords.Set) agree_set_rest)
+    (agree_or (agree_after (agree_keyword keywords.Show) agree_shown)
+    (agree_or (agree_after (agree_keyword keywords.Flush) (agree_or (agree_after (agree_keyword keywords.RamChunk) agree_name) (agree_after (agree_keyword keywords.RtIndex) agree_name)))
+    (agree_or (agree_keyword keywords.Begin)
+    (agree_or (agree_keywords keywords.Start keywords.Transaction)
+    (agree_or (agree_keyword keywords.Commit)
+    (agree_or (agree_keyword keywords.Rollback)
+    (agree_or (agree_after (agree_keywords keywords.Optimize keywords.Index) agree_name)
+    (agree_or (agree_after (agree_keywords keywords.Truncate keywords.RtIndex) agree_name)
+    (agree_or (agree_after (agree_keyword keywords.Describe) agree_name)
     agree_insert)))))))))))
 
 there : (x : Parts) (u : List Lexeme) → AreParts x u → (y : Statement) × IsStatement y u

@@ -26,7 +26,7 @@ same_sign a b = sign_number a == sign_number b
 
 pub data Class : Type 0 where
   -- this keyword
-  the_word : Keyword → Class
+  the_keyword : Keyword → Class
   -- any name: also one between backquotes, and a keyword that isn't reserved
   any_name : Class
   -- a name that isn't this keyword or that one
@@ -50,14 +50,14 @@ is_name kinds.SysVar = false
 is_name (kinds.Sign s) = false
 is_name kinds.End = false
 
-abbrev pub is_word : Keyword → Kind → Bool
-is_word v (kinds.Keyword w) = same_keyword v w
-is_word v kinds.Name = false
-is_word v kinds.Number = false
-is_word v kinds.Text = false
-is_word v kinds.SysVar = false
-is_word v (kinds.Sign s) = false
-is_word v kinds.End = false
+abbrev pub is_keyword : Keyword → Kind → Bool
+is_keyword v (kinds.Keyword w) = same_keyword v w
+is_keyword v kinds.Name = false
+is_keyword v kinds.Number = false
+is_keyword v kinds.Text = false
+is_keyword v kinds.SysVar = false
+is_keyword v (kinds.Sign s) = false
+is_keyword v kinds.End = false
 
 abbrev pub is_sign : Sign → Kind → Bool
 is_sign v (kinds.Keyword w) = false
@@ -103,9 +103,9 @@ kind_number kinds.End = 6
 
 -- a token of this kind is of the class
 abbrev pub fits : Class → Kind → Bool
-fits (the_word w) k = is_word w k
+fits (the_keyword w) k = is_keyword w k
 fits any_name k = is_name k
-fits (name_but v w) k = is_name k && not (is_word v k) && not (is_word w k)
+fits (name_but v w) k = is_name k && not (is_keyword v k) && not (is_keyword w k)
 fits a_number k = kind_number k == 2
 fits a_text k = kind_number k == 3
 fits a_sysvar k = kind_number k == 4
@@ -115,13 +115,13 @@ fits the_end k = kind_number k == 6
 
 -- some token may be of both classes
 abbrev pub meets : Class → Class → Bool
-meets (the_word v) (the_word w) = same_keyword v w
-meets (the_word v) any_name = not (is_reserved v)
-meets (the_word v) (name_but a b) = fits (name_but a b) (kinds.Keyword v)
-meets any_name (the_word w) = not (is_reserved w)
+meets (the_keyword v) (the_keyword w) = same_keyword v w
+meets (the_keyword v) any_name = not (is_reserved v)
+meets (the_keyword v) (name_but a b) = fits (name_but a b) (kinds.Keyword v)
+meets any_name (the_keyword w) = not (is_reserved w)
 meets any_name any_name = true
 meets any_name (name_but a b) = true
-meets (name_but a b) (the_word w) = fits (name_but a b) (kinds.Keyword w)
+meets (name_but a b) (the_keyword w) = fits (name_but a b) (kinds.Keyword w)
 meets (name_but a b) any_name = true
 meets (name_but a b) (name_but c d) = true
 meets a_number a_number = true
@@ -136,7 +136,7 @@ meets _ _ = false
 
 -- each token of the first class is one of the second
 abbrev pub within : Class → Class → Bool
-within (the_word v) d = fits d (kinds.Keyword v)
+within (the_keyword v) d = fits d (kinds.Keyword v)
 within (the_sign v) d = fits d (kinds.Sign v)
 within any_name any_name = true
 within (name_but a b) any_name = true

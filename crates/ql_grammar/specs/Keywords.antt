@@ -19,7 +19,7 @@ keyword_values =
 unfoldable pub keyword_named : List ℕ → Option Keyword
 keyword_named name = value_named keyword_words keyword_values (str_to_ascii_lowercase name)
 
--- a reserved word is a name nowhere; every other keyword is one wherever the grammar has a name
+-- a reserved keyword is a name nowhere; every other keyword is one wherever the grammar has a name
 abbrev pub is_reserved : Keyword → Bool
 is_reserved keywords.And = true
 is_reserved keywords.As = true

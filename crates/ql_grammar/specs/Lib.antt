@@ -20,6 +20,7 @@ pub mod Statements
 pub mod Packets
 -- What the faults print
 pub mod FaultTexts
--- The grammar of these tokens, which needs no belief beside them: it says where readers stop
-pub mod Grammar
-pub mod GoingOn
+-- The words of the grammar: one token, and parts in parentheses
+pub mod Terminals
+-- The grammar itself, and what serves proofs and private functions alone
+pub mod steps

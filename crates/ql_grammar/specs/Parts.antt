@@ -10,12 +10,12 @@ use Rattle.ql_grammar.specs.Tokens.{kind, name_value, number_value, text_value}
 use Rattle.ql_grammar.specs.Classes.{fits, is_name, name_but}
 use Rattle.token_grammar.specs.Values.{◌then◌, IsOne}
 
-abbrev pub IsWord : Keyword → List Lexeme → Type 0
-IsWord w = IsOne (λ t. kind t ≡ kinds.Keyword w)
+abbrev pub IsKeyword : Keyword → List Lexeme → Type 0
+IsKeyword w = IsOne (λ t. kind t ≡ kinds.Keyword w)
 
 -- two keywords in a row
-abbrev pub AreWords : Keyword → Keyword → List Lexeme → Type 0
-AreWords v w = IsWord v then IsWord w
+abbrev pub AreKeywords : Keyword → Keyword → List Lexeme → Type 0
+AreKeywords v w = IsKeyword v then IsKeyword w
 
 abbrev pub IsSign : Sign → List Lexeme → Type 0
 IsSign s = IsOne (λ t. kind t ≡ kinds.Sign s)
@@ -23,7 +23,7 @@ IsSign s = IsOne (λ t. kind t ≡ kinds.Sign s)
 abbrev pub IsComma : List Lexeme → Type 0
 IsComma = IsSign signs.Comma
 
--- a name, in small letters: any name but a reserved word
+-- a name, in small letters: any name but a reserved keyword
 abbrev pub IsName : List ℕ → List Lexeme → Type 0
 IsName name = IsOne (λ t. IsTrue (is_name (kind t)) × (name ≡ name_value t))
 

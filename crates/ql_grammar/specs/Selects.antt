@@ -1,5 +1,5 @@
 -- The tokens of a SELECT from an index.
-use Rattle.std.specs.Prelude.{ℕ, Bool, true, false, List, Option, Some, None}
+use Rattle.std.specs.Prelude.{ℕ, Bool, true, false, List}
 use Rattle.ql_lex.specs.declared.token.Sign.{Sign}
 use Rattle.ql_lex.specs.declared.token.Sign.TheVariants as signs
 use Rattle.ql_lex.specs.Tokens.{Lexeme}
@@ -22,33 +22,23 @@ use Rattle.ql_grammar.specs.declared.select.SelectOption.{SelectOption}
 use Rattle.ql_grammar.specs.declared.select.SortKey.{SortKey}
 use Rattle.ql_grammar.specs.declared.select.SortName.{SortName}
 use Rattle.ql_grammar.specs.declared.select.SortName.TheVariants as sorts
-use Rattle.ql_grammar.specs.Parts.{IsWord, AreWords, IsSign, IsComma, IsName, IsNumber, IsText, IsWhole, IsEnclosed, AreParens}
+use Rattle.ql_grammar.specs.Parts.{IsKeyword, AreKeywords, IsSign, IsComma, IsName, IsNumber, IsText, IsWhole, IsEnclosed, AreParens}
 use Rattle.token_grammar.specs.Values.{◌then◌, IsAbsent, IsPerhaps, IsGiven, AreGiven, AreListed, AreInRow}
 
 -- name | COUNT(*) | COUNT(DISTINCT name) | MIN(name) | MAX(name) | SUM(name) | WEIGHT() | GROUPBY()
 abbrev pub IsExpr : SelectExpr → List Lexeme → Type 0
 IsExpr (exprs.Column name) = IsName name
-IsExpr exprs.CountAll = IsWord keywords.Count then IsEnclosed (IsSign signs.Star)
-IsExpr (exprs.CountDistinct name) = IsWord keywords.Count then IsEnclosed (IsWord keywords.Distinct then IsName name)
-IsExpr (exprs.Least name) = IsWord keywords.Min then IsEnclosed (IsName name)
-IsExpr (exprs.Greatest name) = IsWord keywords.Max then IsEnclosed (IsName name)
-IsExpr (exprs.Sum name) = IsWord keywords.Sum then IsEnclosed (IsName name)
-IsExpr exprs.Weight = IsWord keywords.Weight then AreParens
-IsExpr exprs.GroupBy = IsWord keywords.GroupBy then AreParens
-
--- * | DISTINCT name
-abbrev pub IsCounted : Option (List ℕ) → List Lexeme → Type 0
-IsCounted None = IsSign signs.Star
-IsCounted (Some name) = IsWord keywords.Distinct then IsName name
-
--- the count of all, or of the distinct values of a column
-abbrev pub count_expr : Option (List ℕ) → SelectExpr
-count_expr None = exprs.CountAll
-count_expr (Some name) = exprs.CountDistinct name
+IsExpr exprs.CountAll = IsKeyword keywords.Count then IsEnclosed (IsSign signs.Star)
+IsExpr (exprs.CountDistinct name) = IsKeyword keywords.Count then IsEnclosed (IsKeyword keywords.Distinct then IsName name)
+IsExpr (exprs.Least name) = IsKeyword keywords.Min then IsEnclosed (IsName name)
+IsExpr (exprs.Greatest name) = IsKeyword keywords.Max then IsEnclosed (IsName name)
+IsExpr (exprs.Sum name) = IsKeyword keywords.Sum then IsEnclosed (IsName name)
+IsExpr exprs.Weight = IsKeyword keywords.Weight then AreParens
+IsExpr exprs.GroupBy = IsKeyword keywords.GroupBy then AreParens
 
 -- [AS] name
 abbrev pub IsAlias : List ℕ → List Lexeme → Type 0
-IsAlias name = IsPerhaps (IsWord keywords.As) then IsName name
+IsAlias name = IsPerhaps (IsKeyword keywords.As) then IsName name
 
 -- * | expr [[AS] name]
 abbrev pub IsItem : SelectItem → List Lexeme → Type 0
@@ -69,23 +59,23 @@ IsComparison op = IsSign (comparison_sign op)
 
 -- [NOT]
 abbrev pub IsNegation : Bool → List Lexeme → Type 0
-IsNegation true = IsWord keywords.Not
+IsNegation true = IsKeyword keywords.Not
 IsNegation false = IsAbsent
 
 -- MATCH(text) | name op num | name [NOT] IN (num, ..) | name BETWEEN num AND num
 abbrev pub IsCond : Cond → List Lexeme → Type 0
-IsCond (conds.Match text) = IsWord keywords.Match then IsEnclosed (IsText text)
+IsCond (conds.Match text) = IsKeyword keywords.Match then IsEnclosed (IsText text)
 IsCond (conds.Compare name op value) = IsName name then IsComparison op then IsWhole value
-IsCond (conds.Among name values negated) = IsName name then IsNegation negated then IsWord keywords.In then IsEnclosed (AreListed IsComma IsWhole values)
-IsCond (conds.Between name low high) = IsName name then IsWord keywords.Between then IsWhole low then IsWord keywords.And then IsWhole high
+IsCond (conds.Among name values negated) = IsName name then IsNegation negated then IsKeyword keywords.In then IsEnclosed (AreListed IsComma IsWhole values)
+IsCond (conds.Between name low high) = IsName name then IsKeyword keywords.Between then IsWhole low then IsKeyword keywords.And then IsWhole high
 
 -- WEIGHT()
 abbrev pub IsWeight : List Lexeme → Type 0
-IsWeight = IsWord keywords.Weight then AreParens
+IsWeight = IsKeyword keywords.Weight then AreParens
 
 -- COUNT(*)
 abbrev pub IsCount : List Lexeme → Type 0
-IsCount = IsWord keywords.Count then IsEnclosed (IsSign signs.Star)
+IsCount = IsKeyword keywords.Count then IsEnclosed (IsSign signs.Star)
 
 -- name | WEIGHT() | COUNT(*)
 abbrev pub IsSort : SortName → List Lexeme → Type 0
@@ -107,8 +97,8 @@ IsGroupSort sorts.CountAll = IsCount
 
 -- ASC | DESC
 abbrev pub IsDirection : Bool → List Lexeme → Type 0
-IsDirection false = IsWord keywords.Asc
-IsDirection true = IsWord keywords.Desc
+IsDirection false = IsKeyword keywords.Asc
+IsDirection true = IsKeyword keywords.Desc
 
 -- what is sorted by, with its direction
 abbrev pub IsKeyBy : (SortName → List Lexeme → Type 0) → SortKey → List Lexeme → Type 0
@@ -124,7 +114,7 @@ IsSecond n = IsComma then IsNumber n
 
 -- LIMIT n [, n]
 abbrev pub IsLimit : LimitPart → List Lexeme → Type 0
-IsLimit limit = IsWord keywords.Limit then IsNumber limit.first then IsGiven IsSecond limit.second
+IsLimit limit = IsKeyword keywords.Limit then IsNumber limit.first then IsGiven IsSecond limit.second
 
 -- name = n
 abbrev pub IsFieldWeight : List ℕ × ℕ → List Lexeme → Type 0
@@ -143,7 +133,7 @@ IsOption option = IsName option.name then IsSign signs.Equal then IsOptionValue 
 
 -- ORDER BY (name | COUNT(*)) [ASC | DESC]
 abbrev pub IsFacetOrder : SortKey → List Lexeme → Type 0
-IsFacetOrder key = AreWords keywords.Order keywords.By then IsKeyBy IsGroupSort key
+IsFacetOrder key = AreKeywords keywords.Order keywords.By then IsKeyBy IsGroupSort key
 
 -- name [ORDER BY key] [LIMIT n [, n]]
 abbrev pub IsFaceted : FacetPart → List Lexeme → Type 0
@@ -151,37 +141,37 @@ IsFaceted facet = IsName facet.column then IsGiven IsFacetOrder facet.order then
 
 -- FACET ..
 abbrev pub IsFacet : FacetPart → List Lexeme → Type 0
-IsFacet facet = IsWord keywords.Facet then IsFaceted facet
+IsFacet facet = IsKeyword keywords.Facet then IsFaceted facet
 
 -- WHERE cond (AND cond)*
 abbrev pub AreConds : List Cond → List Lexeme → Type 0
-AreConds conds = IsWord keywords.Where then AreListed (IsWord keywords.And) IsCond conds
+AreConds conds = IsKeyword keywords.Where then AreListed (IsKeyword keywords.And) IsCond conds
 
 -- GROUP BY name
 abbrev pub IsGroup : List ℕ → List Lexeme → Type 0
-IsGroup name = AreWords keywords.Group keywords.By then IsName name
+IsGroup name = AreKeywords keywords.Group keywords.By then IsName name
 
 -- WITHIN GROUP ORDER BY inner (, inner)*
 abbrev pub AreInnerKeys : List SortKey → List Lexeme → Type 0
-AreInnerKeys keys = AreWords keywords.Within keywords.Group then AreWords keywords.Order keywords.By then AreListed IsComma (IsKeyBy IsInnerSort) keys
+AreInnerKeys keys = AreKeywords keywords.Within keywords.Group then AreKeywords keywords.Order keywords.By then AreListed IsComma (IsKeyBy IsInnerSort) keys
 
 -- HAVING have
 abbrev pub IsHavingPart : Having → List Lexeme → Type 0
-IsHavingPart having = IsWord keywords.Having then IsHaving having
+IsHavingPart having = IsKeyword keywords.Having then IsHaving having
 
 -- ORDER BY key (, key)*
 abbrev pub AreKeys : List SortKey → List Lexeme → Type 0
-AreKeys keys = AreWords keywords.Order keywords.By then AreListed IsComma (IsKeyBy IsSort) keys
+AreKeys keys = AreKeywords keywords.Order keywords.By then AreListed IsComma (IsKeyBy IsSort) keys
 
 -- OPTION opt (, opt)*
 abbrev pub AreOptions : List SelectOption → List Lexeme → Type 0
-AreOptions options = IsWord keywords.Option then AreListed IsComma IsOption options
+AreOptions options = IsKeyword keywords.Option then AreListed IsComma IsOption options
 
 -- item (, item)* FROM name [WHERE ..] [GROUP BY ..] [WITHIN GROUP ORDER BY ..] [HAVING ..] [ORDER BY ..] [LIMIT ..] [OPTION ..] facet*
 abbrev pub IsSelected : Select → List Lexeme → Type 0
 IsSelected select =
     AreListed IsComma IsItem select.items
-    then IsWord keywords.From then IsName select.index
+    then IsKeyword keywords.From then IsName select.index
     then AreGiven AreConds select.conds
     then IsGiven IsGroup select.group
     then AreGiven AreInnerKeys select.within
@@ -192,4 +182,4 @@ IsSelected select =
     then AreInRow IsFacet select.facets
 
 abbrev pub IsSelect : Select → List Lexeme → Type 0
-IsSelect select = IsWord keywords.Select then IsSelected select
+IsSelect select = IsKeyword keywords.Select then IsSelected select

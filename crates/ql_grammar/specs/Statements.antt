@@ -17,9 +17,9 @@ use Rattle.ql_grammar.specs.declared.statement.Target.{Target}
 use Rattle.ql_grammar.specs.declared.statement.Target.TheVariants as targets
 use Rattle.ql_grammar.specs.declared.statement.Val.{Val}
 use Rattle.ql_grammar.specs.declared.statement.Val.TheVariants as vals
-use Rattle.ql_grammar.specs.Parts.{IsWord, AreWords, IsSign, IsComma, IsName, IsNumber, IsTargetName, IsText, IsVariable, IsWhole, IsEnclosed, AreParens}
+use Rattle.ql_grammar.specs.Parts.{IsKeyword, AreKeywords, IsSign, IsComma, IsName, IsNumber, IsTargetName, IsText, IsVariable, IsWhole, IsEnclosed, AreParens}
 use Rattle.token_grammar.specs.Values.{◌then◌, IsAbsent, IsGiven, AreListed}
-use Rattle.ql_grammar.specs.Selects.{IsSelect, IsSelected}
+use Rattle.ql_grammar.specs.Selects.{IsSelect}
 
 -- num | text
 abbrev pub IsVal : Val → List Lexeme → Type 0
@@ -28,13 +28,13 @@ IsVal (vals.Text text) = IsText text
 
 -- INSERT | REPLACE
 abbrev pub IsPut : Bool → List Lexeme → Type 0
-IsPut true = IsWord keywords.Replace
-IsPut false = IsWord keywords.Insert
+IsPut true = IsKeyword keywords.Replace
+IsPut false = IsKeyword keywords.Insert
 
 -- = n | IN (n, ..)
 abbrev pub AreIds : Ids → List Lexeme → Type 0
 AreIds (ids.One n) = IsSign signs.Equal then IsNumber n
-AreIds (ids.Several ns) = IsWord keywords.In then IsEnclosed (AreListed IsComma IsNumber ns)
+AreIds (ids.Several ns) = IsKeyword keywords.In then IsEnclosed (AreListed IsComma IsNumber ns)
 
 -- name | text
 abbrev pub IsPlain : Plain → List Lexeme → Type 0
@@ -44,8 +44,8 @@ IsPlain (plains.Text text) = IsText text
 -- [GLOBAL | SESSION]
 abbrev pub IsScope : Scope → List Lexeme → Type 0
 IsScope scopes.Absent = IsAbsent
-IsScope scopes.Global = IsWord keywords.Global
-IsScope scopes.Session = IsWord keywords.Session
+IsScope scopes.Global = IsKeyword keywords.Global
+IsScope scopes.Session = IsKeyword keywords.Session
 
 -- name | sysvar, where the name is neither AUTOCOMMIT nor NAMES, unless it stands between backquotes
 abbrev pub IsTarget : Target → List Lexeme → Type 0
@@ -57,11 +57,7 @@ abbrev pub IsSetting : SetValue → List Lexeme → Type 0
 IsSetting (settings.Name name) = IsName name
 IsSetting (settings.Number z) = IsWhole z
 IsSetting (settings.Text text) = IsText text
-IsSetting settings.Null = IsWord keywords.Null
-
--- (name | sysvar) = (name | num | text | NULL)
-abbrev pub IsAssignment : Target × SetValue → List Lexeme → Type 0
-IsAssignment pair = IsTarget pair.0 then IsSign signs.Equal then IsSetting pair.1
+IsSetting settings.Null = IsKeyword keywords.Null
 
 -- ( name, .. )
 abbrev pub AreColumns : List (List ℕ) → List Lexeme → Type 0
@@ -73,65 +69,41 @@ IsRow row = IsEnclosed (AreListed IsComma IsVal row)
 
 -- LIMIT n
 abbrev pub IsRowLimit : ℕ → List Lexeme → Type 0
-IsRowLimit n = IsWord keywords.Limit then IsNumber n
+IsRowLimit n = IsKeyword keywords.Limit then IsNumber n
 
 abbrev pub IsStatement : Statement → List Lexeme → Type 0
 IsStatement (statements.Select select) = IsSelect select
 -- SELECT sysvar [LIMIT n]
-IsStatement (statements.SelectVar name limit) = IsWord keywords.Select then IsVariable name then IsGiven IsRowLimit limit
+IsStatement (statements.SelectVar name limit) = IsKeyword keywords.Select then IsVariable name then IsGiven IsRowLimit limit
 -- SELECT DATABASE ( )
-IsStatement statements.SelectDatabase = IsWord keywords.Select then IsWord keywords.Database then AreParens
+IsStatement statements.SelectDatabase = IsKeyword keywords.Select then IsKeyword keywords.Database then AreParens
 -- (INSERT | REPLACE) INTO name [( name, .. )] VALUES ( val, .. ) (, ( val, .. ))*
 IsStatement (statements.Insert replace index columns rows) =
-    IsPut replace then IsWord keywords.Into then IsName index
+    IsPut replace then IsKeyword keywords.Into then IsName index
     then IsGiven AreColumns columns
-    then IsWord keywords.Values then AreListed IsComma IsRow rows
+    then IsKeyword keywords.Values then AreListed IsComma IsRow rows
 -- DELETE FROM name WHERE ID = n | DELETE FROM name WHERE ID IN (n, ..)
 IsStatement (statements.Delete index which) =
-    AreWords keywords.Delete keywords.From then IsName index then AreWords keywords.Where keywords.Id then AreIds which
-IsStatement statements.Begin = IsWord keywords.Begin
-IsStatement statements.StartTransaction = AreWords keywords.Start keywords.Transaction
-IsStatement statements.Commit = IsWord keywords.Commit
-IsStatement statements.Rollback = IsWord keywords.Rollback
+    AreKeywords keywords.Delete keywords.From then IsName index then AreKeywords keywords.Where keywords.Id then AreIds which
+IsStatement statements.Begin = IsKeyword keywords.Begin
+IsStatement statements.StartTransaction = AreKeywords keywords.Start keywords.Transaction
+IsStatement statements.Commit = IsKeyword keywords.Commit
+IsStatement statements.Rollback = IsKeyword keywords.Rollback
 -- SET AUTOCOMMIT = n
-IsStatement (statements.SetAutocommit n) = IsWord keywords.Set then IsWord keywords.Autocommit then IsSign signs.Equal then IsNumber n
+IsStatement (statements.SetAutocommit n) = IsKeyword keywords.Set then IsKeyword keywords.Autocommit then IsSign signs.Equal then IsNumber n
 -- SET NAMES (name | text)
-IsStatement (statements.SetNames plain) = IsWord keywords.Set then IsWord keywords.Names then IsPlain plain
+IsStatement (statements.SetNames plain) = IsKeyword keywords.Set then IsKeyword keywords.Names then IsPlain plain
 -- SET [GLOBAL | SESSION] (name | sysvar) = (name | num | text | NULL)
 IsStatement (statements.SetOther scope target value) =
-    IsWord keywords.Set then IsScope scope then IsTarget target then IsSign signs.Equal then IsSetting value
-IsStatement (statements.FlushRamchunk name) = IsWord keywords.Flush then IsWord keywords.RamChunk then IsName name
-IsStatement (statements.FlushRtindex name) = IsWord keywords.Flush then IsWord keywords.RtIndex then IsName name
-IsStatement (statements.OptimizeIndex name) = AreWords keywords.Optimize keywords.Index then IsName name
-IsStatement (statements.TruncateRtindex name) = AreWords keywords.Truncate keywords.RtIndex then IsName name
-IsStatement (statements.Describe name) = IsWord keywords.Describe then IsName name
-IsStatement (statements.ShowIndexStatus name) = IsWord keywords.Show then IsWord keywords.Index then IsName name then IsWord keywords.Status
-IsStatement statements.ShowMeta = AreWords keywords.Show keywords.Meta
-IsStatement statements.ShowTables = AreWords keywords.Show keywords.Tables
-IsStatement statements.ShowWarnings = AreWords keywords.Show keywords.Warnings
-IsStatement statements.ShowVariables = AreWords keywords.Show keywords.Variables
-IsStatement statements.ShowDatabases = AreWords keywords.Show keywords.Databases
-
--- what follows the word SET
-abbrev pub IsSetRest : Statement → List Lexeme → Type 0
-IsSetRest (statements.SetAutocommit n) = IsWord keywords.Autocommit then IsSign signs.Equal then IsNumber n
-IsSetRest (statements.SetNames plain) = IsWord keywords.Names then IsPlain plain
-IsSetRest (statements.SetOther scope target value) = IsScope scope then IsTarget target then IsSign signs.Equal then IsSetting value
-IsSetRest _ = λ u. ⊥
-
--- what follows the word SHOW
-abbrev pub IsShown : Statement → List Lexeme → Type 0
-IsShown (statements.ShowIndexStatus name) = IsWord keywords.Index then IsName name then IsWord keywords.Status
-IsShown statements.ShowMeta = IsWord keywords.Meta
-IsShown statements.ShowTables = IsWord keywords.Tables
-IsShown statements.ShowWarnings = IsWord keywords.Warnings
-IsShown statements.ShowVariables = IsWord keywords.Variables
-IsShown statements.ShowDatabases = IsWord keywords.Databases
-IsShown _ = λ u. ⊥
-
--- what follows the word SELECT
-abbrev pub IsSelection : Statement → List Lexeme → Type 0
-IsSelection (statements.Select select) = IsSelected select
-IsSelection (statements.SelectVar name limit) = IsVariable name then IsGiven IsRowLimit limit
-IsSelection statements.SelectDatabase = IsWord keywords.Database then AreParens
-IsSelection _ = λ u. ⊥
+    IsKeyword keywords.Set then IsScope scope then IsTarget target then IsSign signs.Equal then IsSetting value
+IsStatement (statements.FlushRamchunk name) = IsKeyword keywords.Flush then IsKeyword keywords.RamChunk then IsName name
+IsStatement (statements.FlushRtindex name) = IsKeyword keywords.Flush then IsKeyword keywords.RtIndex then IsName name
+IsStatement (statements.OptimizeIndex name) = AreKeywords keywords.Optimize keywords.Index then IsName name
+IsStatement (statements.TruncateRtindex name) = AreKeywords keywords.Truncate keywords.RtIndex then IsName name
+IsStatement (statements.Describe name) = IsKeyword keywords.Describe then IsName name
+IsStatement (statements.ShowIndexStatus name) = IsKeyword keywords.Show then IsKeyword keywords.Index then IsName name then IsKeyword keywords.Status
+IsStatement statements.ShowMeta = AreKeywords keywords.Show keywords.Meta
+IsStatement statements.ShowTables = AreKeywords keywords.Show keywords.Tables
+IsStatement statements.ShowWarnings = AreKeywords keywords.Show keywords.Warnings
+IsStatement statements.ShowVariables = AreKeywords keywords.Show keywords.Variables
+IsStatement statements.ShowDatabases = AreKeywords keywords.Show keywords.Databases

@@ -18,9 +18,9 @@ abbrev pub lexemes : List Token → List Lexeme
 lexemes tokens = map lexeme_of tokens
 
 -- a name that may be a keyword
-abbrev pub word_kind : Option Keyword → Kind
-word_kind None = kinds.Name
-word_kind (Some word) = kinds.Keyword word
+abbrev pub name_kind : Option Keyword → Kind
+name_kind None = kinds.Name
+name_kind (Some keyword) = kinds.Keyword keyword
 
 -- a sign; tokens of a text spell one
 abbrev pub sign_kind : Option Sign → Kind
@@ -29,7 +29,7 @@ sign_kind (Some sign) = kinds.Sign sign
 
 -- what a token of this form with these bytes is
 unfoldable pub kind_by : TokenKind → List ℕ → Kind
-kind_by forms.Name text = word_kind (keyword_named text)
+kind_by forms.Name text = name_kind (keyword_named text)
 kind_by forms.Quoted text = kinds.Name
 kind_by forms.Number text = kinds.Number
 kind_by forms.Text text = kinds.Text
@@ -56,7 +56,3 @@ text_value token = text_of token.text
 abbrev pub first_kind : List Lexeme → Kind
 first_kind [] = kinds.End
 first_kind (t ∷ ts) = kind t
-
-abbrev pub first_place : List Lexeme → ℕ
-first_place [] = 0
-first_place (t ∷ ts) = t.at

@@ -1,3 +1,6 @@
+//! Why tokens are no packet: the place of the first token with which no packet goes on, and whether one goes on that has more
+//! statements than are allowed. It prints `syntax error at PLACE` or `too many statements`.
+
 ghost use Rattle.ql_grammar.specs.FaultTexts.{fault_text};
 
 use std::error::Error;

@@ -1,3 +1,7 @@
+//! The keywords, and what the grammar has to know of each: whether it is a name nowhere, whether a statement begins with it,
+//! whether SET has a form of its own for it. A keyword is found in a sorted table, in letters of either case, by bisection.
+//! A new keyword has one row in the enum, one in the table here, and rows of its own in `specs/Keywords`.
+
 ghost use Rattle.std.specs.Prelude.{◌≡◌, slice_get};
 ghost use Rattle.name_table.specs.NamedValues.{value_named};
 ghost use Rattle.name_table.specs.Order.{IsInOrder};

@@ -1,3 +1,7 @@
+//! The parts of a SELECT, in the order of the text. Names are in small letters, texts have their escapes resolved, and whole
+//! numbers keep their sign, so a value says no more than the text and no less. Lists are empty, and options none, where the
+//! text has no such part.
+
 use srch_base::{Items, Name, Text};
 
 /// A SELECT from an index.

@@ -1,3 +1,6 @@
+//! The statements of SphinxQL, one variant a form. What a variant holds is what the text says, before anybody looks at an
+//! index: whether names exist, and whether numbers are in range, is asked later.
+
 use crate::select::Select;
 use srch_base::{Items, Name, Text};
 

@@ -4,11 +4,12 @@ use Rattle.ql_lex.specs.declared.token.Sign.TheVariants as signs
 use Rattle.ql_lex.specs.Tokens.{Lexeme}
 use Rattle.ql_grammar.specs.declared.statement.Statement.{Statement}
 use Rattle.token_grammar.specs.Language.{seq, In}
-use Rattle.ql_grammar.specs.Grammar.{sign, statement, more_statements}
+use Rattle.ql_grammar.specs.Terminals.{sign}
+use Rattle.ql_grammar.specs.steps.Grammar.{statement, more_statements}
 use Rattle.ql_grammar.specs.Packets.{IsPacket}
 use Rattle.ql_grammar.specs.Parts.{IsSign}
 use Rattle.token_grammar.specs.Values.{AreListed}
-use Rattle.ql_grammar.specs.GoingOn.{select_goes_on}
+use Rattle.ql_grammar.specs.steps.GoingOn.{select_goes_on}
 use Rattle.ql_grammar.specs.Statements.{IsStatement}
 use Rattle.token_grammar.proofs.Once.{StartsApart, follows}
 use Rattle.token_grammar.proofs.OnceChoices.{Parted, as_row, parted_after, parted_first, parted_left}

@@ -11,10 +11,11 @@ use Rattle.ql_grammar.specs.declared.kind.Kind.TheVariants as kinds
 use Rattle.ql_grammar.specs.declared.select.Comparison.{Comparison}
 use Rattle.ql_grammar.specs.declared.select.Comparison.TheVariants as comparisons
 use Rattle.ql_grammar.specs.Tokens.{kind, name_value, number_value, text_value}
-use Rattle.ql_grammar.specs.Classes.{Class, the_word, any_name, name_but, a_number, a_text, a_sysvar, the_sign, a_comparison, fits, is_name}
+use Rattle.ql_grammar.specs.Classes.{Class, the_keyword, any_name, name_but, a_number, a_text, a_sysvar, the_sign, a_comparison, fits, is_name}
 use Rattle.token_grammar.specs.Language.{Re, seq}
-use Rattle.ql_grammar.specs.Grammar.{word, words, sign, name, number, text, sysvar, target_name, whole, wholes, parens, enclosed, comparison}
-use Rattle.ql_grammar.specs.Parts.{IsWord, AreWords, IsSign, IsComma, IsName, IsTargetName, IsNumber, IsText, IsVariable, IsWhole, IsEnclosed, AreParens}
+use Rattle.ql_grammar.specs.Terminals.{keyword, two_keywords, sign, name, number, text, sysvar, target_name, whole, enclosed}
+use Rattle.ql_grammar.specs.steps.Grammar.{wholes, parens, comparison}
+use Rattle.ql_grammar.specs.Parts.{IsKeyword, AreKeywords, IsSign, IsComma, IsName, IsTargetName, IsNumber, IsText, IsVariable, IsWhole, IsEnclosed, AreParens}
 use Rattle.token_grammar.specs.Values.{◌then◌, AreListed}
 use Rattle.token_grammar.specs.Firsts.{apart}
 use Rattle.ql_grammar.specs.Selects.{comparison_sign, IsComparison}
@@ -27,8 +28,8 @@ use Rattle.ql_grammar.specs.SignLaws.{sign_to_itself}
 use Rattle.token_grammar.proofs.Beginnings.{apart_none}
 use Rattle.ql_grammar.specs.Alphabet.{sphinxql}
 
-pub once_word : (w : Keyword) → IsOnce sphinxql (word w) [] (IsWord w)
-once_word w = once_one sphinxql (the_word w) (λ _ t. kind t ≡ kinds.Keyword w) (λ x t k. ap (fits (the_word w)) k ∙ same_to_itself w) (λ x y t h k. refl)
+pub once_keyword : (w : Keyword) → IsOnce sphinxql (keyword w) [] (IsKeyword w)
+once_keyword w = once_one sphinxql (the_keyword w) (λ _ t. kind t ≡ kinds.Keyword w) (λ x t k. ap (fits (the_keyword w)) k ∙ same_to_itself w) (λ x y t h k. refl)
 
 pub once_sign : (s : Sign) → IsOnce sphinxql (sign s) [] (IsSign s)
 once_sign s = once_one sphinxql (the_sign s) (λ _ t. kind t ≡ kinds.Sign s) (λ x t k. ap (fits (the_sign s)) k ∙ sign_to_itself s) (λ x y t h k. refl)
@@ -49,8 +50,8 @@ once_text = once_one sphinxql a_text (λ x t. (kind t ≡ kinds.Text) × (x ≡ 
 pub once_variable : Once sphinxql sysvar [] IsVariable
 once_variable = once_one sphinxql a_sysvar (λ x t. (kind t ≡ kinds.SysVar) × (x ≡ name_value t)) (λ x t h. ap (fits a_sysvar) h.0) (λ x y t h k. h.1 ∙ sym k.1)
 
-pub once_words : (v w : Keyword) → IsOnce sphinxql (words v w) [] (AreWords v w)
-once_words v w = once_after (once_word v) (once_word w) refl
+pub once_keywords : (v w : Keyword) → IsOnce sphinxql (two_keywords v w) [] (AreKeywords v w)
+once_keywords v w = once_after (once_keyword v) (once_keyword w) refl
 
 pub once_parens : IsOnce sphinxql parens [] AreParens
 once_parens = once_after (once_sign signs.OpenParen) (once_sign signs.CloseParen) refl

@@ -22,18 +22,20 @@ use Rattle.ql_grammar.specs.declared.select.SelectOption.{SelectOption}
 use Rattle.ql_grammar.specs.declared.select.SortKey.{SortKey}
 use Rattle.ql_grammar.specs.declared.select.SortName.{SortName}
 use Rattle.ql_grammar.specs.declared.select.SortName.TheVariants as sorts
-use Rattle.ql_grammar.specs.Classes.{Class, the_word, the_sign}
+use Rattle.ql_grammar.specs.Classes.{Class, the_keyword, the_sign}
 use Rattle.token_grammar.specs.Language.{Re}
-use Rattle.ql_grammar.specs.Grammar.{word, name, weight, count, counted, enclosed, expr, alias, item, cond, test, direction, having, limit, field_weight, option_value, option, facet, conds, group, within, having_part, order, options, select}
+use Rattle.ql_grammar.specs.Terminals.{keyword, name, enclosed}
+use Rattle.ql_grammar.specs.steps.Grammar.{weight, count, counted, expr, alias, item, cond, test, direction, having, limit, field_weight, option_value, option, facet, conds, group, within, having_part, order, options, select}
 use Rattle.token_grammar.specs.Language.{◌⨾◌, ◌∣◌}
-use Rattle.ql_grammar.specs.Parts.{IsWord, IsSign, IsComma, IsName, IsNumber, IsText, IsWhole, IsEnclosed, AreParens}
+use Rattle.ql_grammar.specs.Parts.{IsKeyword, IsSign, IsComma, IsName, IsNumber, IsText, IsWhole, IsEnclosed, AreParens}
 use Rattle.token_grammar.specs.Values.{◌then◌, IsGiven, AreGiven, AreListed}
-use Rattle.ql_grammar.specs.GoingOn.{item_goes_on, key_goes_on, facet_goes_on, select_goes_on}
-use Rattle.ql_grammar.specs.Selects.{IsCounted, IsExpr, IsAlias, IsItem, IsComparison, IsCond, IsWeight, IsCount, IsSort, IsInnerSort, IsGroupSort, IsDirection, IsKeyBy, IsHaving, IsLimit, IsFieldWeight, IsOptionValue, IsOption, IsFacet, AreConds, IsGroup, AreInnerKeys, IsHavingPart, AreKeys, AreOptions, IsSelected}
+use Rattle.ql_grammar.specs.steps.GoingOn.{item_goes_on, key_goes_on, facet_goes_on, select_goes_on}
+use Rattle.ql_grammar.specs.Selects.{IsExpr, IsAlias, IsItem, IsComparison, IsCond, IsWeight, IsCount, IsSort, IsInnerSort, IsGroupSort, IsDirection, IsKeyBy, IsHaving, IsLimit, IsFieldWeight, IsOptionValue, IsOption, IsFacet, AreConds, IsGroup, AreInnerKeys, IsHavingPart, AreKeys, AreOptions, IsSelected}
+use Rattle.ql_grammar.specs.steps.Selecting.{IsCounted}
 use Rattle.token_grammar.proofs.Agreement.{IsEither}
 use Rattle.token_grammar.proofs.Once.{Once, IsOnce, once_as, once_after, once_seq, once_wider}
 use Rattle.token_grammar.proofs.OnceChoices.{once_either, once_listed, once_lists, once_optional, once_or, once_perhaps, once_row, parted_two}
-use Rattle.ql_laws.proofs.OnceParts.{once_comparison, once_enclosed, once_name, once_number, once_parens, once_sign, once_text, once_whole, once_wholes, once_word, once_words}
+use Rattle.ql_laws.proofs.OnceParts.{once_comparison, once_enclosed, once_name, once_number, once_parens, once_sign, once_text, once_whole, once_wholes, once_keyword, once_keywords}
 use Rattle.ql_grammar.specs.Alphabet.{sphinxql}
 
 -- a name may go on as a call
@@ -42,46 +44,46 @@ opens = the_sign signs.OpenParen ∷ []
 
 -- Expressions and items.
 once_counted : Once sphinxql counted [] IsCounted
-once_counted = once_as (once_either (once_sign signs.Star) (once_after (once_word keywords.Distinct) once_name refl) refl refl refl) value back
+once_counted = once_as (once_either (once_sign signs.Star) (once_after (once_keyword keywords.Distinct) once_name refl) refl refl refl) value back
   where
     value : Unit {0} ⊎ List ℕ → Option (List ℕ)
     value (inl _) = None
     value (inr column) = Some column
 
-    back : (y : Option (List ℕ)) (u : List Lexeme) → IsCounted y u → (x : Unit {0} ⊎ List ℕ) × IsEither (λ _. IsSign signs.Star) (λ column. IsWord keywords.Distinct then IsName column) x u × (value x ≡ y)
+    back : (y : Option (List ℕ)) (u : List Lexeme) → IsCounted y u → (x : Unit {0} ⊎ List ℕ) × IsEither (λ _. IsSign signs.Star) (λ column. IsKeyword keywords.Distinct then IsName column) x u × (value x ≡ y)
     back None u h = (inl tt, h, refl)
     back (Some column) u h = (inr column, h, refl)
 
-once_argument : (w : Keyword) → Once sphinxql (word w ⨾ enclosed name) [] (λ column. IsWord w then IsEnclosed (IsName column))
-once_argument w = once_after (once_word w) (once_enclosed once_name refl) refl
+once_argument : (w : Keyword) → Once sphinxql (keyword w ⨾ enclosed name) [] (λ column. IsKeyword w then IsEnclosed (IsName column))
+once_argument w = once_after (once_keyword w) (once_enclosed once_name refl) refl
 
 once_weight : IsOnce sphinxql weight [] IsWeight
-once_weight = once_after (once_word keywords.Weight) once_parens refl
+once_weight = once_after (once_keyword keywords.Weight) once_parens refl
 
 once_count : IsOnce sphinxql count [] IsCount
-once_count = once_after (once_word keywords.Count) (once_enclosed (once_sign signs.Star) refl) refl
+once_count = once_after (once_keyword keywords.Count) (once_enclosed (once_sign signs.Star) refl) refl
 
 abbrev ExprValue : Type 0
 ExprValue = Option (List ℕ) ⊎ (List ℕ ⊎ (List ℕ ⊎ (List ℕ ⊎ (Unit {0} ⊎ (Unit {0} ⊎ List ℕ)))))
 
 once_expr : Once sphinxql expr opens IsExpr
 once_expr = once_wider (once_as
-    (once_or opens (once_after (once_word keywords.Count) (once_enclosed once_counted refl) refl)
+    (once_or opens (once_after (once_keyword keywords.Count) (once_enclosed once_counted refl) refl)
     (once_or opens (once_argument keywords.Min)
     (once_or opens (once_argument keywords.Max)
     (once_or opens (once_argument keywords.Sum)
     (once_or opens once_weight
-    (once_or opens (once_after (once_word keywords.GroupBy) once_parens refl) once_name (parted_two refl refl))
+    (once_or opens (once_after (once_keyword keywords.GroupBy) once_parens refl) once_name (parted_two refl refl))
     (parted_two refl refl)) (parted_two refl refl)) (parted_two refl refl)) (parted_two refl refl)) (parted_two refl refl))
     value back) refl
   where
     Is : ExprValue → List Lexeme → Type 0
     Is =
-        IsEither (λ column. IsWord keywords.Count then IsEnclosed (IsCounted column))
-        (IsEither (λ column. IsWord keywords.Min then IsEnclosed (IsName column))
-        (IsEither (λ column. IsWord keywords.Max then IsEnclosed (IsName column))
-        (IsEither (λ column. IsWord keywords.Sum then IsEnclosed (IsName column))
-        (IsEither (λ _. IsWeight) (IsEither (λ _. IsWord keywords.GroupBy then AreParens) IsName)))))
+        IsEither (λ column. IsKeyword keywords.Count then IsEnclosed (IsCounted column))
+        (IsEither (λ column. IsKeyword keywords.Min then IsEnclosed (IsName column))
+        (IsEither (λ column. IsKeyword keywords.Max then IsEnclosed (IsName column))
+        (IsEither (λ column. IsKeyword keywords.Sum then IsEnclosed (IsName column))
+        (IsEither (λ _. IsWeight) (IsEither (λ _. IsKeyword keywords.GroupBy then AreParens) IsName)))))
 
     value : ExprValue → SelectExpr
     value (inl None) = exprs.CountAll
@@ -104,7 +106,7 @@ once_expr = once_wider (once_as
     back (exprs.Column column) u h = (inr (inr (inr (inr (inr (inr column))))), h, refl)
 
 once_alias : Once sphinxql alias [] IsAlias
-once_alias = once_after (once_perhaps (once_word keywords.As) refl) once_name refl
+once_alias = once_after (once_perhaps (once_keyword keywords.As) refl) once_name refl
 
 once_item : Once sphinxql item item_goes_on IsItem
 once_item = once_wider (once_as (once_either (once_sign signs.Star) (once_seq once_expr (once_optional once_alias refl) refl) refl refl refl) value back) refl
@@ -129,22 +131,22 @@ AreWholes numbers = IsEnclosed (AreListed IsComma IsWhole numbers)
 
 abbrev IsTest : TestValue → List Lexeme → Type 0
 IsTest =
-    IsEither (λ x. IsWord keywords.Between then IsWhole x.0 then IsWord keywords.And then IsWhole x.1)
-    (IsEither (λ numbers. IsWord keywords.Not then IsWord keywords.In then AreWholes numbers)
-    (IsEither (λ numbers. IsWord keywords.In then AreWholes numbers) (λ x. IsComparison x.0 then IsWhole x.1)))
+    IsEither (λ x. IsKeyword keywords.Between then IsWhole x.0 then IsKeyword keywords.And then IsWhole x.1)
+    (IsEither (λ numbers. IsKeyword keywords.Not then IsKeyword keywords.In then AreWholes numbers)
+    (IsEither (λ numbers. IsKeyword keywords.In then AreWholes numbers) (λ x. IsComparison x.0 then IsWhole x.1)))
 
 once_test : Once sphinxql test [] IsTest
 once_test =
-    once_either (once_after (once_word keywords.Between) (once_seq once_whole (once_after (once_word keywords.And) once_whole refl) refl) refl)
-    (once_either (once_after (once_word keywords.Not) (once_after (once_word keywords.In) once_wholes refl) refl)
-    (once_either (once_after (once_word keywords.In) once_wholes refl)
+    once_either (once_after (once_keyword keywords.Between) (once_seq once_whole (once_after (once_keyword keywords.And) once_whole refl) refl) refl)
+    (once_either (once_after (once_keyword keywords.Not) (once_after (once_keyword keywords.In) once_wholes refl) refl)
+    (once_either (once_after (once_keyword keywords.In) once_wholes refl)
     (once_seq once_comparison once_whole refl) refl refl refl) refl refl refl) refl refl refl
 
 once_cond : Once sphinxql cond [] IsCond
-once_cond = once_as (once_either (once_after (once_word keywords.Match) (once_enclosed once_text refl) refl) (once_seq once_name once_test refl) refl refl refl) value back
+once_cond = once_as (once_either (once_after (once_keyword keywords.Match) (once_enclosed once_text refl) refl) (once_seq once_name once_test refl) refl refl refl) value back
   where
     Is : List ℕ ⊎ List ℕ × TestValue → List Lexeme → Type 0
-    Is = IsEither (λ query. IsWord keywords.Match then IsEnclosed (IsText query)) (λ x. IsName x.0 then IsTest x.1)
+    Is = IsEither (λ query. IsKeyword keywords.Match then IsEnclosed (IsText query)) (λ x. IsName x.0 then IsTest x.1)
 
     value : List ℕ ⊎ List ℕ × TestValue → Cond
     value (inl query) = condition.Match query
@@ -158,11 +160,11 @@ once_cond = once_as (once_either (once_after (once_word keywords.Match) (once_en
     back (condition.Between column low high) u h = (inr (column, inl (low, high)), h, refl)
     back (condition.Among column numbers true) u h = (inr (column, inr (inl numbers)), h, refl)
     back (condition.Among column numbers false) u (a, b, e, p, (c, d, f, g, q)) =
-        (inr (column, inr (inr (inl numbers))), (a, b, e, p, subst (λ v. (IsWord keywords.In then AreWholes numbers) v) (sym (f ∙ ap (λ v. v ++ d) g)) q), refl)
+        (inr (column, inr (inr (inl numbers))), (a, b, e, p, subst (λ v. (IsKeyword keywords.In then AreWholes numbers) v) (sym (f ∙ ap (λ v. v ++ d) g)) q), refl)
     back (condition.Compare column op z) u h = (inr (column, inr (inr (inr (op, z)))), h, refl)
 
-once_conds : Once sphinxql conds (the_word keywords.Where ∷ the_word keywords.And ∷ []) (AreGiven AreConds)
-once_conds = once_lists AreConds (once_after (once_word keywords.Where) (once_listed (once_word keywords.And) once_cond refl refl) refl) refl
+once_conds : Once sphinxql conds (the_keyword keywords.Where ∷ the_keyword keywords.And ∷ []) (AreGiven AreConds)
+once_conds = once_lists AreConds (once_after (once_keyword keywords.Where) (once_listed (once_keyword keywords.And) once_cond refl refl) refl) refl
 
 -- Sorting.
 once_sort : Once sphinxql (weight ∣ count ∣ name) opens IsSort
@@ -205,14 +207,14 @@ once_group_sort = once_as (once_or opens once_count once_name (parted_two refl r
     back sorts.CountAll u h = (inl tt, h, refl)
     back (sorts.Column column) u h = (inr column, h, refl)
 
-once_direction : Once sphinxql direction (the_word keywords.Asc ∷ the_word keywords.Desc ∷ []) (IsGiven IsDirection)
-once_direction = once_optional (once_as (once_either (once_word keywords.Asc) (once_word keywords.Desc) refl refl refl) value back) refl
+once_direction : Once sphinxql direction (the_keyword keywords.Asc ∷ the_keyword keywords.Desc ∷ []) (IsGiven IsDirection)
+once_direction = once_optional (once_as (once_either (once_keyword keywords.Asc) (once_keyword keywords.Desc) refl refl refl) value back) refl
   where
     value : Unit {0} ⊎ Unit {0} → Bool
     value (inl _) = false
     value (inr _) = true
 
-    back : (y : Bool) (u : List Lexeme) → IsDirection y u → (x : Unit {0} ⊎ Unit {0}) × IsEither (λ _. IsWord keywords.Asc) (λ _. IsWord keywords.Desc) x u × (value x ≡ y)
+    back : (y : Bool) (u : List Lexeme) → IsDirection y u → (x : Unit {0} ⊎ Unit {0}) × IsEither (λ _. IsKeyword keywords.Asc) (λ _. IsKeyword keywords.Desc) x u × (value x ≡ y)
     back false u h = (inl tt, h, refl)
     back true u h = (inr tt, h, refl)
 
@@ -222,16 +224,16 @@ once_key_by h = once_as (once_seq h once_direction refl) value (λ y u i. ((y.by
     value : SortName × Option Bool → SortKey
     value x = record { by = x.0; descending = x.1 }
 
-once_group : Once sphinxql group (the_word keywords.Group ∷ []) (IsGiven IsGroup)
-once_group = once_optional (once_after (once_words keywords.Group keywords.By) once_name refl) refl
+once_group : Once sphinxql group (the_keyword keywords.Group ∷ []) (IsGiven IsGroup)
+once_group = once_optional (once_after (once_keywords keywords.Group keywords.By) once_name refl) refl
 
-once_within : Once sphinxql within (the_word keywords.Within ∷ the_sign signs.Comma ∷ key_goes_on) (AreGiven AreInnerKeys)
+once_within : Once sphinxql within (the_keyword keywords.Within ∷ the_sign signs.Comma ∷ key_goes_on) (AreGiven AreInnerKeys)
 once_within = once_wider (once_lists AreInnerKeys
-    (once_after (once_words keywords.Within keywords.Group) (once_after (once_words keywords.Order keywords.By) (once_listed (once_sign signs.Comma) (once_key_by once_inner_sort) refl refl) refl) refl) refl) refl
+    (once_after (once_keywords keywords.Within keywords.Group) (once_after (once_keywords keywords.Order keywords.By) (once_listed (once_sign signs.Comma) (once_key_by once_inner_sort) refl refl) refl) refl) refl) refl
 
-once_order : Once sphinxql order (the_word keywords.Order ∷ the_sign signs.Comma ∷ key_goes_on) (AreGiven AreKeys)
+once_order : Once sphinxql order (the_keyword keywords.Order ∷ the_sign signs.Comma ∷ key_goes_on) (AreGiven AreKeys)
 once_order = once_wider (once_lists AreKeys
-    (once_after (once_words keywords.Order keywords.By) (once_listed (once_sign signs.Comma) (once_key_by once_sort) refl refl) refl) refl) refl
+    (once_after (once_keywords keywords.Order keywords.By) (once_listed (once_sign signs.Comma) (once_key_by once_sort) refl refl) refl) refl) refl
 
 -- Other parts.
 once_having : Once sphinxql having [] IsHaving
@@ -240,12 +242,12 @@ once_having = once_as (once_seq once_group_sort (once_seq once_comparison once_w
     value : SortName × (Comparison × ℤ) → Having
     value x = record { left = x.0; op = x.1.0; value = x.1.1 }
 
-once_having_part : Once sphinxql having_part (the_word keywords.Having ∷ []) (IsGiven IsHavingPart)
-once_having_part = once_optional (once_after (once_word keywords.Having) once_having refl) refl
+once_having_part : Once sphinxql having_part (the_keyword keywords.Having ∷ []) (IsGiven IsHavingPart)
+once_having_part = once_optional (once_after (once_keyword keywords.Having) once_having refl) refl
 
 once_limit : Once sphinxql limit (the_sign signs.Comma ∷ []) IsLimit
 once_limit = once_as
-    (once_after (once_word keywords.Limit) (once_seq once_number (once_optional (once_after (once_sign signs.Comma) once_number refl) refl) refl) refl)
+    (once_after (once_keyword keywords.Limit) (once_seq once_number (once_optional (once_after (once_sign signs.Comma) once_number refl) refl) refl) refl)
     value (λ y u h. ((y.first, y.second), h, refl))
   where
     value : ℕ × Option ℕ → LimitPart
@@ -266,13 +268,13 @@ once_option_value = once_as
     Is = IsEither IsName (IsEither IsNumber (IsEither IsText (λ pairs. IsEnclosed (AreListed IsComma IsFieldWeight pairs))))
 
     value : OptionParts → OptionValue
-    value (inl word) = values.Name word
+    value (inl keyword) = values.Name keyword
     value (inr (inl n)) = values.Number n
     value (inr (inr (inl words))) = values.Text words
     value (inr (inr (inr pairs))) = values.List pairs
 
     back : (y : OptionValue) (u : List Lexeme) → IsOptionValue y u → (x : OptionParts) × Is x u × (value x ≡ y)
-    back (values.Name word) u h = (inl word, h, refl)
+    back (values.Name keyword) u h = (inl keyword, h, refl)
     back (values.Number n) u h = (inr (inl n), h, refl)
     back (values.Text words) u h = (inr (inr (inl words)), h, refl)
     back (values.List pairs) u h = (inr (inr (inr pairs)), h, refl)
@@ -283,12 +285,12 @@ once_option = once_as (once_seq once_name (once_after (once_sign signs.Equal) on
     value : List ℕ × OptionValue → SelectOption
     value x = record { name = x.0; value = x.1 }
 
-once_options : Once sphinxql options (the_word keywords.Option ∷ the_sign signs.Comma ∷ []) (AreGiven AreOptions)
-once_options = once_lists AreOptions (once_after (once_word keywords.Option) (once_listed (once_sign signs.Comma) once_option refl refl) refl) refl
+once_options : Once sphinxql options (the_keyword keywords.Option ∷ the_sign signs.Comma ∷ []) (AreGiven AreOptions)
+once_options = once_lists AreOptions (once_after (once_keyword keywords.Option) (once_listed (once_sign signs.Comma) once_option refl refl) refl) refl
 
 once_facet : Once sphinxql facet facet_goes_on IsFacet
-once_facet = once_after (once_word keywords.Facet) (once_as
-    (once_seq once_name (once_seq (once_optional (once_after (once_words keywords.Order keywords.By) (once_key_by once_group_sort) refl) refl) (once_optional once_limit refl) refl) refl)
+once_facet = once_after (once_keyword keywords.Facet) (once_as
+    (once_seq once_name (once_seq (once_optional (once_after (once_keywords keywords.Order keywords.By) (once_key_by once_group_sort) refl) refl) (once_optional once_limit refl) refl) refl)
     value (λ y u h. ((y.column, (y.order, y.limit)), h, refl))) refl
   where
     value : List ℕ × (Option SortKey × Option LimitPart) → FacetPart
@@ -302,7 +304,7 @@ SelectParts =
 pub once_select : Once sphinxql select select_goes_on IsSelected
 once_select = once_wider (once_as
     (once_seq (once_listed (once_sign signs.Comma) once_item refl refl)
-    (once_after (once_word keywords.From)
+    (once_after (once_keyword keywords.From)
     (once_seq once_name
     (once_seq once_conds
     (once_seq once_group

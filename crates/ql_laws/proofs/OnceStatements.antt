@@ -18,16 +18,18 @@ use Rattle.ql_grammar.specs.declared.statement.Target.TheVariants as targets
 use Rattle.ql_grammar.specs.declared.statement.Val.{Val}
 use Rattle.ql_grammar.specs.declared.statement.Val.TheVariants as vals
 use Rattle.ql_grammar.specs.Classes.{the_sign}
-use Rattle.ql_grammar.specs.Grammar.{word, sysvar, target_name, select_variable, select_database, select, val, insert, ids, plain, setting, assignment, set_rest, shown, statement}
+use Rattle.ql_grammar.specs.Terminals.{keyword, sysvar, target_name}
+use Rattle.ql_grammar.specs.steps.Grammar.{select_variable, select_database, select, val, insert, ids, plain, setting, assignment, set_rest, shown, statement}
 use Rattle.token_grammar.specs.Language.{◌∣◌}
-use Rattle.ql_grammar.specs.Parts.{IsWord, IsSign, IsComma, IsName, IsNumber, IsTargetName, IsText, IsVariable, IsWhole, IsEnclosed}
+use Rattle.ql_grammar.specs.Parts.{IsKeyword, IsSign, IsComma, IsName, IsNumber, IsTargetName, IsText, IsVariable, IsWhole, IsEnclosed}
 use Rattle.token_grammar.specs.Values.{◌then◌, AreListed}
-use Rattle.ql_grammar.specs.GoingOn.{select_goes_on}
-use Rattle.ql_grammar.specs.Statements.{IsVal, IsPut, AreIds, IsPlain, IsTarget, IsSetting, IsAssignment, IsStatement}
+use Rattle.ql_grammar.specs.steps.GoingOn.{select_goes_on}
+use Rattle.ql_grammar.specs.Statements.{IsVal, IsPut, AreIds, IsPlain, IsTarget, IsSetting, IsStatement}
+use Rattle.ql_grammar.specs.steps.Stating.{IsAssignment}
 use Rattle.token_grammar.proofs.Agreement.{IsEither}
 use Rattle.token_grammar.proofs.Once.{Once, once_as, once_after, once_seq, once_wider}
 use Rattle.token_grammar.proofs.OnceChoices.{once_either, once_listed, once_optional, once_or, parted_after, parted_choice, parted_first, parted_right, parted_two}
-use Rattle.ql_laws.proofs.OnceParts.{once_enclosed, once_name, once_number, once_parens, once_sign, once_target_name, once_text, once_variable, once_whole, once_word, once_words}
+use Rattle.ql_laws.proofs.OnceParts.{once_enclosed, once_name, once_number, once_parens, once_sign, once_target_name, once_text, once_variable, once_whole, once_keyword, once_keywords}
 use Rattle.ql_laws.proofs.OnceSelects.{once_select}
 use Rattle.ql_grammar.proofs.StatementAgreement.{SettingValue, IsSelection, IsSet, IsShown, IsInserted, Parts, AreParts}
 use Rattle.ql_grammar.specs.Alphabet.{sphinxql}
@@ -44,25 +46,25 @@ once_val = once_as (once_either once_text once_whole refl refl refl) value back
     back (vals.Text text) u h = (inl text, h, refl)
     back (vals.Number z) u h = (inr z, h, refl)
 
-once_put : Once sphinxql (word keywords.Replace ∣ word keywords.Insert) [] IsPut
-once_put = once_as (once_either (once_word keywords.Replace) (once_word keywords.Insert) refl refl refl) value back
+once_put : Once sphinxql (keyword keywords.Replace ∣ keyword keywords.Insert) [] IsPut
+once_put = once_as (once_either (once_keyword keywords.Replace) (once_keyword keywords.Insert) refl refl refl) value back
   where
     value : Unit {0} ⊎ Unit {0} → Bool
     value (inl _) = true
     value (inr _) = false
 
-    back : (y : Bool) (u : List Lexeme) → IsPut y u → (x : Unit {0} ⊎ Unit {0}) × IsEither (λ _. IsWord keywords.Replace) (λ _. IsWord keywords.Insert) x u × (value x ≡ y)
+    back : (y : Bool) (u : List Lexeme) → IsPut y u → (x : Unit {0} ⊎ Unit {0}) × IsEither (λ _. IsKeyword keywords.Replace) (λ _. IsKeyword keywords.Insert) x u × (value x ≡ y)
     back true u h = (inl tt, h, refl)
     back false u h = (inr tt, h, refl)
 
 once_ids : Once sphinxql ids [] AreIds
 once_ids = once_as
     (once_either (once_after (once_sign signs.Equal) once_number refl)
-    (once_after (once_word keywords.In) (once_enclosed (once_listed (once_sign signs.Comma) once_number refl refl) refl) refl) refl refl refl)
+    (once_after (once_keyword keywords.In) (once_enclosed (once_listed (once_sign signs.Comma) once_number refl refl) refl) refl) refl refl refl)
     value back
   where
     Is : ℕ ⊎ List ℕ → List Lexeme → Type 0
-    Is = IsEither (λ n. IsSign signs.Equal then IsNumber n) (λ ns. IsWord keywords.In then IsEnclosed (AreListed IsComma IsNumber ns))
+    Is = IsEither (λ n. IsSign signs.Equal then IsNumber n) (λ ns. IsKeyword keywords.In then IsEnclosed (AreListed IsComma IsNumber ns))
 
     value : ℕ ⊎ List ℕ → Ids
     value (inl n) = numbers.One n
@@ -86,11 +88,11 @@ once_plain = once_as (once_either once_text once_name refl refl refl) value back
 
 once_setting : Once sphinxql setting [] IsSetting
 once_setting = once_as
-    (once_either (once_word keywords.Null) (once_either once_text (once_either once_name once_whole refl refl refl) refl refl refl) refl refl refl)
+    (once_either (once_keyword keywords.Null) (once_either once_text (once_either once_name once_whole refl refl refl) refl refl refl) refl refl refl)
     value back
   where
     Is : SettingValue → List Lexeme → Type 0
-    Is = IsEither (λ _. IsWord keywords.Null) (IsEither IsText (IsEither IsName IsWhole))
+    Is = IsEither (λ _. IsKeyword keywords.Null) (IsEither IsText (IsEither IsName IsWhole))
 
     value : SettingValue → SetValue
     value (inl _) = settings.Null
@@ -121,52 +123,52 @@ once_assignment = once_seq once_target (once_after (once_sign signs.Equal) once_
 -- What stands behind the first words of the statements.
 once_selection : Once sphinxql (select_variable ∣ select_database ∣ select) select_goes_on IsSelection
 once_selection = once_wider
-    (once_either (once_seq once_variable (once_optional (once_after (once_word keywords.Limit) once_number refl) refl) refl)
-    (once_or [] (once_after (once_word keywords.Database) once_parens refl) once_select (parted_two refl refl))
+    (once_either (once_seq once_variable (once_optional (once_after (once_keyword keywords.Limit) once_number refl) refl) refl)
+    (once_or [] (once_after (once_keyword keywords.Database) once_parens refl) once_select (parted_two refl refl))
     refl refl refl) refl
 
 -- a scope is a name where `=` follows it
 once_set_rest : Once sphinxql set_rest [] IsSet
 once_set_rest =
-    once_either (once_after (once_word keywords.Autocommit) (once_after (once_sign signs.Equal) once_number refl) refl)
-    (once_either (once_after (once_word keywords.Names) once_plain refl)
-    (once_or [] (once_after (once_word keywords.Global) once_assignment refl)
-    (once_or [] (once_after (once_word keywords.Session) once_assignment refl) once_assignment
+    once_either (once_after (once_keyword keywords.Autocommit) (once_after (once_sign signs.Equal) once_number refl) refl)
+    (once_either (once_after (once_keyword keywords.Names) once_plain refl)
+    (once_or [] (once_after (once_keyword keywords.Global) once_assignment refl)
+    (once_or [] (once_after (once_keyword keywords.Session) once_assignment refl) once_assignment
     (parted_choice (parted_first refl refl refl) (parted_after (parted_first refl refl refl))))
     (parted_right (parted_first refl refl refl) (parted_choice (parted_first refl refl refl) (parted_after (parted_first refl refl refl)))))
     refl refl refl) refl refl refl
 
 once_shown : Once sphinxql shown [] IsShown
 once_shown =
-    once_either (once_after (once_word keywords.Index) (once_seq once_name (once_word keywords.Status) refl) refl)
-    (once_either (once_word keywords.Meta)
-    (once_either (once_word keywords.Tables)
-    (once_either (once_word keywords.Warnings)
-    (once_either (once_word keywords.Variables) (once_word keywords.Databases)
+    once_either (once_after (once_keyword keywords.Index) (once_seq once_name (once_keyword keywords.Status) refl) refl)
+    (once_either (once_keyword keywords.Meta)
+    (once_either (once_keyword keywords.Tables)
+    (once_either (once_keyword keywords.Warnings)
+    (once_either (once_keyword keywords.Variables) (once_keyword keywords.Databases)
     refl refl refl) refl refl refl) refl refl refl) refl refl refl) refl refl refl
 
 once_insert : Once sphinxql insert (the_sign signs.Comma ∷ []) IsInserted
 once_insert =
-    once_seq once_put (once_after (once_word keywords.Into) (once_seq once_name
+    once_seq once_put (once_after (once_keyword keywords.Into) (once_seq once_name
     (once_seq (once_optional (once_enclosed (once_listed (once_sign signs.Comma) once_name refl refl) refl) refl)
-    (once_after (once_word keywords.Values) (once_listed (once_sign signs.Comma) (once_enclosed (once_listed (once_sign signs.Comma) once_val refl refl) refl) refl refl) refl)
+    (once_after (once_keyword keywords.Values) (once_listed (once_sign signs.Comma) (once_enclosed (once_listed (once_sign signs.Comma) once_val refl refl) refl) refl refl) refl)
     refl) refl) refl) refl
 
 -- Statements, in the order of the grammar.
 once_parts : Once sphinxql statement select_goes_on AreParts
 once_parts = once_wider
-    (once_either (once_after (once_word keywords.Select) once_selection refl)
-    (once_either (once_after (once_words keywords.Delete keywords.From) (once_seq once_name (once_after (once_words keywords.Where keywords.Id) once_ids refl) refl) refl)
-    (once_either (once_after (once_word keywords.Set) once_set_rest refl)
-    (once_either (once_after (once_word keywords.Show) once_shown refl)
-    (once_either (once_after (once_word keywords.Flush) (once_either (once_after (once_word keywords.RamChunk) once_name refl) (once_after (once_word keywords.RtIndex) once_name refl) refl refl refl) refl)
-    (once_either (once_word keywords.Begin)
-    (once_either (once_words keywords.Start keywords.Transaction)
-    (once_either (once_word keywords.Commit)
-    (once_either (once_word keywords.Rollback)
-    (once_either (once_after (once_words keywords.Optimize keywords.Index) once_name refl)
-    (once_either (once_after (once_words keywords.Truncate keywords.RtIndex) once_name refl)
-    (once_either (once_after (once_word keywords.Describe) once_name refl)
+    (once_either (once_after (once_keyword keywords.Select) once_selection refl)
+    (once_either (once_after (once_keywords keywords.Delete keywords.From) (once_seq once_name (once_after (once_keywords keywords.Where keywords.Id) once_ids refl) refl) refl)
+    (once_either (once_after (once_keyword keywords.Set) once_set_rest refl)
+    (once_either (once_after (once_keyword keywords.Show) once_shown refl)
+    (once_either (once_after (once_keyword keywords.Flush) (once_either (once_after (once_keyword keywords.RamChunk) once_name refl) (once_after (once_keyword keywords.RtIndex) once_name refl) refl refl refl) refl)
+    (once_either (once_keyword keywords.Begin)
+    (once_either (once_keywords keywords.Start keywords.Transaction)
+    (once_either (once_keyword keywords.Commit)
+    (once_either (once_keyword keywords.Rollback)
+    (once_either (once_after (once_keywords keywords.Optimize keywords.Index) once_name refl)
+    (once_either (once_after (once_keywords keywords.Truncate keywords.RtIndex) once_name refl)
+    (once_either (once_after (once_keyword keywords.Describe) once_name refl)
     once_insert refl refl refl)
     refl refl refl) refl refl refl) refl refl refl) refl refl refl) refl refl refl) refl refl refl) refl refl refl) refl refl refl) refl refl refl) refl refl refl) refl refl refl)
     refl

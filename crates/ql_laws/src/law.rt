@@ -1,3 +1,5 @@
+//! Laws on the meaning of tokens. Each is a function without a body; its contract is the law.
+
 ghost use Rattle.std.specs.Prelude.{◌≡◌, ◌≤◌, List, length};
 ghost use Rattle.ql_lex.specs.Tokens.{Lexeme};
 ghost use Rattle.ql_grammar.specs.declared.fault.ParseFault.{ParseFault as Fault};

@@ -6,7 +6,7 @@ use Rattle.std.specs.List.{list_all}
 use Rattle.std.proofs.lemmas.Bool.{and_parts, and_left, cases_order, both_ways, false≢true, cond-false, eq-eqb, not_from_true, and_right}
 use Rattle.ql_lex.specs.declared.token.TokenKind.{TokenKind}
 use Rattle.ql_lex.specs.declared.token.TokenKind.TheVariants.{Name, Quoted, Number, Text, SysVar, Sign, End}
-use Rattle.ql_lex.specs.Shapes.{is_letter, is_quote, is_digits, is_name_byte, is_variable_byte, is_word, is_plain, is_inner, IsText, IsNamed}
+use Rattle.ql_lex.specs.Shapes.{is_letter, is_quote, is_digits, is_name_byte, is_variable_byte, is_word, is_plain, is_inner, IsQuotedText, IsNamed}
 use Rattle.ql_lex.specs.Tokens.{IsToken, IsWhole, IsComment}
 use Rattle.ql_lex.proofs.Heads.{letter_some, digit_some, quote_no_backslash}
 use Rattle.ql_lex.proofs.Slices.{slice_first, slice_at, slice_drop, slice_split}
@@ -95,7 +95,7 @@ text_before text at a b first second before =
     sym (inner_append quote (slice_range text (at + 1) a) (get_or text a 0 ∷ slice_range text (a + 1) b) first.inner) ∙ ap (is_inner quote) (sym split) ∙ second.inner in
     both_ways (is_inner quote (get_or text a 0 ∷ slice_range text (a + 1) b)) (ap (λ (c : ℕ). is_inner quote (c ∷ slice_range text (a + 1) b)) first.quotes.closes ∙ quote_ends quote (slice_range text (a + 1) b) first.quote) inner
 
-pub text_end : (text : List ℕ) (at a b : ℕ) → a ≤ length text → b ≤ length text → IsText (slice_range text at a) → IsText (slice_range text at b) → a ≡ b
+pub text_end : (text : List ℕ) (at a b : ℕ) → a ≤ length text → b ≤ length text → IsQuotedText (slice_range text at a) → IsQuotedText (slice_range text at b) → a ≡ b
 text_end text at a b a_within b_within first second =
     let one = ends_from text at a a_within first in
     let other = ends_from text at b b_within second in

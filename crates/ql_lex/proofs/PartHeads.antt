@@ -9,7 +9,7 @@ use Rattle.ql_lex.specs.declared.part.Part.TheVariants as parts
 use Rattle.ql_lex.specs.declared.token.TokenKind.{TokenKind}
 use Rattle.ql_lex.specs.declared.token.TokenKind.TheVariants.{Name, Quoted, Number, Text, SysVar, Sign, End}
 use Rattle.ql_lex.specs.declared.token.Sign.TheVariants as signs
-use Rattle.ql_lex.specs.Shapes.{is_letter, is_digits, is_name_byte, is_word, IsText, IsNamed, sign_of, sign_of_one, sign_of_two}
+use Rattle.ql_lex.specs.Shapes.{is_letter, is_digits, is_name_byte, is_word, IsQuotedText, IsNamed, sign_of, sign_of_one, sign_of_two}
 use Rattle.ql_lex.specs.Tokens.{IsToken, Stands, IsUnclosed, open_text, open_name}
 use Rattle.ql_lex.proofs.Heads.{head, head_letter, head_digit, head_quote, head_blank, letter_some, digit_some, quote_some}
 use Rattle.ql_lex.proofs.Slices.{slice_first}
@@ -60,7 +60,7 @@ digits_head text at to digits =
     let digit : is_ascii_digit (get_or (slice_range text at to) 0 0) ≡ true = (and_parts _ (list_all is_ascii_digit (slice_range text at to)) digits).0 in
     first_head text at to 3 (digit_some (get_or (slice_range text at to) 0 0) digit) (head_digit (get_or (slice_range text at to) 0 0) digit)
 
-pub text_head : (text : List ℕ) (at to : ℕ) → IsText (slice_range text at to) → head (get_or text at 0) ≡ 4
+pub text_head : (text : List ℕ) (at to : ℕ) → IsQuotedText (slice_range text at to) → head (get_or text at 0) ≡ 4
 text_head text at to is = first_head text at to 4 (quote_some (get_or (slice_range text at to) 0 0) is.quote) (head_quote (get_or (slice_range text at to) 0 0) is.quote)
 
 -- a byte that is known

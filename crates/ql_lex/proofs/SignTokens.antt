@@ -6,7 +6,7 @@ use Rattle.ql_lex.specs.declared.token.TokenKind.{TokenKind}
 use Rattle.ql_lex.specs.declared.token.TokenKind.TheVariants.{Sign}
 use Rattle.ql_lex.specs.Shapes.{sign_of, sign_of_one, sign_of_two, IsNamed}
 use Rattle.ql_lex.specs.Tokens.{IsToken, IsBad}
-use Rattle.ql_lex.specs.Reading.{IsOther}
+use Rattle.ql_lex.specs.steps.Reading.{IsOther}
 use Rattle.ql_lex.proofs.Heads.{head}
 use Rattle.ql_lex.proofs.PartHeads.{kind_head, same_kind, two_second}
 use Rattle.ql_lex.proofs.BadBytes.{no_part, no_fault}

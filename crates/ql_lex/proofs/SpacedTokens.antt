@@ -1,5 +1,5 @@
 -- Tokens with one space between them are read as themselves.
-use Rattle.std.proofs.Common.{◌≡◌, ◌≢◌, ℕ, zero, suc, ◌+◌, ◌-◌, ◌<◌, ◌≤◌, Bool, true, false, ◌&&◌, if◌then◌else◌, List, [], ◌∷◌, ◌++◌, Option, None, length, get_or, take, drop, slice_range, refl, sym, ap, ◌∙◌, subst, arith, append_assoc, append-nil, length-append, eqb}
+use Rattle.std.proofs.Common.{◌≡◌, ◌≢◌, ℕ, suc, ◌+◌, ◌-◌, ◌<◌, ◌≤◌, Bool, true, false, ◌&&◌, if◌then◌else◌, List, [], ◌∷◌, ◌++◌, Option, None, length, get_or, take, drop, slice_range, refl, sym, ap, ◌∙◌, subst, arith, append_assoc, append-nil, length-append, eqb}
 use Rattle.std.proofs.Math.Seq.{take-append_seam, drop-append_seam, take-append-add}
 use Rattle.std.proofs.lemmas.List.{get_or-append-add}
 use Rattle.std.specs.Char.{is_ascii_digit}
@@ -11,7 +11,7 @@ use Rattle.ql_lex.specs.declared.token.TokenKind.{TokenKind}
 use Rattle.ql_lex.specs.declared.token.TokenKind.TheVariants as forms
 use Rattle.ql_lex.specs.Shapes.{is_blank, is_name_byte, is_variable_byte, sign_of, sign_of_two, IsLexeme}
 use Rattle.ql_lex.specs.Tokens.{IsToken, IsWhole, Splits, tokens_among}
-use Rattle.ql_lex.specs.Spacing.{Spelling, IsSpelling, AreSpellings, spaced, IsSpelled, AreSpelled, HasTokens}
+use Rattle.ql_lex.specs.Spacing.{Spelling, IsSpelling, AreSpellings, spaced, AreSpelled, HasTokens}
 
 -- A token ends before a space, and at the end of the text.
 pub data Ends (rest : List ℕ) : Type 0 where

@@ -2,7 +2,7 @@
 use Rattle.std.proofs.Common.{◌≡◌, ℕ, ◌+◌, ◌-◌, ◌≤◌, true, List, length, get_or, slice_range, sym, ap, ◌∙◌, subst, arith}
 use Rattle.std.specs.Str.{IsUtf8}
 use Rattle.ql_lex.specs.declared.token.TokenKind.TheVariants.{Text}
-use Rattle.ql_lex.specs.Shapes.{is_quote, is_inner, inside, IsEnclosed, IsText}
+use Rattle.ql_lex.specs.Shapes.{is_quote, is_inner, inside, IsEnclosed, IsQuotedText}
 use Rattle.ql_lex.specs.Tokens.{IsToken, IsNotUtf8, IsUnclosed, open_text}
 use Rattle.ql_lex.proofs.Heads.{quote_some}
 use Rattle.ql_lex.proofs.Slices.{slice_first}
@@ -14,7 +14,7 @@ pub record EndsAt (text : List ℕ) (at last : ℕ) : Type 0 where
   pub quotes : QuotesAt (get_or text at 0) text at last
   pub inner : is_inner (get_or text at 0) (slice_range text (at + 1) last) ≡ true
 
-text_is : (text : List ℕ) (at last : ℕ) → EndsAt text at last → IsText (slice_range text at (last + 1))
+text_is : (text : List ℕ) (at last : ℕ) → EndsAt text at last → IsQuotedText (slice_range text at (last + 1))
 text_is text at last ends =
     let enclosed = enclosed_at (get_or text at 0) text at last ends.quotes in
     let within : is_inner (get_or text at 0) (inside (slice_range text at (last + 1))) ≡ true = ap (is_inner (get_or text at 0)) (inside_at text at last ends.quotes.before ends.quotes.within) ∙ ends.inner in
@@ -40,7 +40,7 @@ text_other text at last ends other = record {
 }
 
 -- a text that stands at a place ends at a quote that isn't escaped
-pub ends_from : (text : List ℕ) (at to : ℕ) → to ≤ length text → IsText (slice_range text at to) → (to ≡ (to - 1) + 1) × EndsAt text at (to - 1)
+pub ends_from : (text : List ℕ) (at to : ℕ) → to ≤ length text → IsQuotedText (slice_range text at to) → (to ≡ (to - 1) + 1) × EndsAt text at (to - 1)
 ends_from text at to within is =
     let first = (slice_first text at to (quote_some (get_or (slice_range text at to) 0 0) is.quote)).1 in
     let quotes = quotes_from (get_or (slice_range text at to) 0 0) text at to within is.enclosed in

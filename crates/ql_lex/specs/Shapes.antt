@@ -58,7 +58,7 @@ is_inner quote (b ∷ []) = is_plain quote b
 is_inner quote (b ∷ c ∷ bytes) = if b == 92 then is_inner quote bytes else (is_plain quote b && is_inner quote (c ∷ bytes))
 
 -- a text between `'` or between `"`, whatever its characters
-pub record IsText (bytes : List ℕ) : Type 0 where
+pub record IsQuotedText (bytes : List ℕ) : Type 0 where
   pub quote : IsTrue (is_quote (slice_index bytes 0))
   pub enclosed : IsEnclosed (slice_index bytes 0) bytes
   pub inner : IsTrue (is_inner (slice_index bytes 0) (inside bytes))
@@ -113,6 +113,6 @@ IsLexeme Name bytes = IsNamed Name bytes × (length (bare_name Name bytes) ≤ 6
 IsLexeme Quoted bytes = IsNamed Quoted bytes × (length (bare_name Quoted bytes) ≤ 64)
 IsLexeme SysVar bytes = IsNamed SysVar bytes × (length (bare_name SysVar bytes) ≤ 64)
 IsLexeme Number bytes = IsTrue (is_digits bytes) × (digits_value 10 bytes < 2 ^ 64)
-IsLexeme Text bytes = IsText bytes × IsUtf8 (inside bytes)
+IsLexeme Text bytes = IsQuotedText bytes × IsUtf8 (inside bytes)
 IsLexeme Sign bytes = IsSome (sign_of bytes)
 IsLexeme End bytes = bytes ≡ []

@@ -13,7 +13,7 @@ use Rattle.ql_lex.specs.declared.part.Part.TheVariants.{Blank, Comment, Token as
 use Rattle.ql_lex.specs.declared.token.TokenKind.{TokenKind}
 use Rattle.ql_lex.specs.declared.token.TokenKind.TheVariants.{Name, Quoted, Number, Text, SysVar, Sign, End}
 use Rattle.ql_lex.specs.declared.token.Token.{Token}
-use Rattle.ql_lex.specs.Shapes.{is_blank, is_name_byte, is_variable_byte, is_quote, is_digits, inside, IsText, sign_of, bare_name, IsNamed, IsLexeme}
+use Rattle.ql_lex.specs.Shapes.{is_blank, is_name_byte, is_variable_byte, is_quote, is_digits, inside, IsQuotedText, sign_of, bare_name, IsNamed, IsLexeme}
 
 -- `/*` stands at the place
 pub record OpensComment (text : List ℕ) (place : ℕ) : Type 0 where
@@ -67,12 +67,12 @@ Stands text place (TokenPart kind to) = IsToken kind text place to
 pub record IsNotUtf8 (text : List ℕ) (place : ℕ) : Type 0 where
   pub to : ℕ
   pub within : to ≤ length text
-  pub quoted : IsText (slice_range text place to)
+  pub quoted : IsQuotedText (slice_range text place to)
   pub other : IsUtf8 (inside (slice_range text place to)) → ⊥
 
 -- A quote opens a text at the place, and no text ends behind it; or a backquote stands there, and no other behind it.
 pub data IsUnclosed (text : List ℕ) (place : ℕ) : Type 0 where
-  open_text : IsTrue (is_quote (slice_index text place)) → ((to : ℕ) → to ≤ length text → IsText (slice_range text place to) → ⊥) → IsUnclosed text place
+  open_text : IsTrue (is_quote (slice_index text place)) → ((to : ℕ) → to ≤ length text → IsQuotedText (slice_range text place to) → ⊥) → IsUnclosed text place
   open_name : slice_index text place ≡ 96 → ((k : ℕ) → place < k → slice_index text k ≢ 96) → IsUnclosed text place
 
 -- A comment opens at the place, and `*/` doesn't follow.

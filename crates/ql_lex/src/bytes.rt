@@ -1,3 +1,6 @@
+//! The classes of bytes by which the readers tell what may begin or go on at a place: blanks, letters, digits, quotes.
+//! Each is a test of one byte; `byte_at` gives 0 past the end, which is in no class, so no reader looks at the length first.
+
 ghost use Rattle.std.specs.Prelude.{◌≡◌, ◌≢◌, ◌<◌, ◌≤◌, ℕ, IfSome, IfNone, length, slice_index};
 ghost use Rattle.std.specs.Char.{is_ascii_digit as is_digit_byte};
 ghost use Rattle.std.specs.List.{list_all, prefix_len};

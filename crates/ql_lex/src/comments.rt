@@ -1,5 +1,8 @@
+//! Comments: `/*`, anything, and the first `*/` after it. They don't nest, and `/*/` is not closed by its own opening.
+//! One pass over the comment; one that isn't closed is a fault at its opening.
+
 ghost use Rattle.std.specs.Prelude.{◌≡◌, ◌<◌, ◌≤◌, ◌+◌, ◌^◌, ℕ, true, false, IfSome, IfNone, length, slice_index};
-ghost use Rattle.ql_lex.specs.Reading.{Reads};
+ghost use Rattle.ql_lex.specs.steps.Reading.{Reads};
 ghost use Rattle.ql_lex.specs.Tokens.{ClosesComment};
 
 use crate::bytes::byte_at;

@@ -1,3 +1,5 @@
+//! What is wrong with a text: the place of the first fault from the left, in bytes, and its kind, and what it prints.
+
 ghost use Rattle.ql_lex.specs.Faults.{fault_text, kind_text};
 
 use std::error::Error;

@@ -1,5 +1,9 @@
+//! From a text to its tokens. At each place the first byte tells which reader is asked: a name, a number, a text between
+//! quotes, a name between backquotes, a system variable, a comment or a sign. What it finds ends where the next one begins.
+//! The first reader that finds a fault ends the whole: a text has all its tokens or its first fault.
+
 ghost use Rattle.std.specs.Prelude.{◌<◌, ◌^◌, length};
-ghost use Rattle.ql_lex.specs.Reading.{Reads};
+ghost use Rattle.ql_lex.specs.steps.Reading.{Reads};
 ghost use Rattle.ql_lex.specs.Tokens.{Lexes};
 
 use crate::bytes::{is_blank, is_letter, is_quote};

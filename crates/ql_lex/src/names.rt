@@ -1,5 +1,8 @@
+//! Names: plain ones, which may be keywords, names between backquotes, which never are, and system variables after `@@`.
+//! A name has at most 64 bytes without its backquotes or `@@`; a longer one is a fault at its first byte.
+
 ghost use Rattle.std.specs.Prelude.{◌≡◌, ◌<◌, ◌^◌, IsTrue, length, slice_index};
-ghost use Rattle.ql_lex.specs.Reading.{Reads};
+ghost use Rattle.ql_lex.specs.steps.Reading.{Reads};
 ghost use Rattle.ql_lex.specs.Shapes.{is_letter as is_letter_byte};
 
 use crate::bytes::{byte_at, is_letter, is_name, name_len, next_backquote, variable_len};

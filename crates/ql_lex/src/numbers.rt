@@ -1,8 +1,11 @@
+//! Numbers: decimal digits whose value fits 64 bits. A number above is a fault, and so is a point after the digits, since
+//! SphinxQL's values here are whole; the number is looked at first, so a text that is both too large and pointed is too large.
+
 ghost use Rattle.std.specs.Prelude.{◌<◌, ◌^◌, IsTrue, length, slice_index};
 ghost use Rattle.std.specs.Char.{is_ascii_digit as is_digit_byte};
 ghost use Rattle.std.specs.Option.{SomeIff};
 ghost use Rattle.std.specs.Str.Parse.{digits_value};
-ghost use Rattle.ql_lex.specs.Reading.{Reads};
+ghost use Rattle.ql_lex.specs.steps.Reading.{Reads};
 ghost use Rattle.ql_lex.specs.Shapes.{is_digits};
 
 use crate::bytes::{byte_at, digits_len};

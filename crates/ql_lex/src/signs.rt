@@ -1,5 +1,7 @@
+//! Signs of one byte or two. The longer one is taken where both stand there; `<>` and `!=` are one sign.
+
 ghost use Rattle.std.specs.Prelude.{◌≡◌, ◌<◌, ◌^◌, length, slice_index};
-ghost use Rattle.ql_lex.specs.Reading.{Reads, IsOther};
+ghost use Rattle.ql_lex.specs.steps.Reading.{Reads, IsOther};
 ghost use Rattle.ql_lex.specs.Shapes.{sign_of as sign_of_bytes, sign_of_one as sign_of_byte, sign_of_two as sign_of_pair};
 
 use crate::bytes::byte_at;

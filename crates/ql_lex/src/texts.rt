@@ -1,5 +1,8 @@
+//! Texts between `'` or `"`. A `\` takes the byte after it along, so a quote after one doesn't end the text. The bytes between
+//! the quotes have to be UTF-8, which is looked at once the end is known.
+
 ghost use Rattle.std.specs.Prelude.{◌≡◌, ◌<◌, ◌≤◌, ◌+◌, ◌^◌, ℕ, IsTrue, IfSome, IfNone, length, slice_index, slice_range};
-ghost use Rattle.ql_lex.specs.Reading.{Reads};
+ghost use Rattle.ql_lex.specs.steps.Reading.{Reads};
 ghost use Rattle.ql_lex.specs.Shapes.{is_quote as is_quote_byte, is_inner};
 
 use crate::fault::LexKind;

@@ -1,3 +1,5 @@
+//! The tokens of a text: a kind, the bytes as they stand there, and their place. A token borrows the text and copies nothing.
+
 /// What a token is.
 #[derive(Clone, Copy, Debug, PartialEq, Eq)]
 pub enum TokenKind {
@@ -9,7 +11,7 @@ pub enum TokenKind {
     Number,
     /// A text between `'` or between `"`.
     Text,
-    /// `@@` and a name, which may have dots behind its first character.
+    /// `@@` and a name, which may have dots after its first character.
     SysVar,
     /// One of `( ) , ; * = != <> < > <= >= -`.
     Sign,

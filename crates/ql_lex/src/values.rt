@@ -1,8 +1,11 @@
+//! What a token stands for: the name without its backquotes or `@@`, the number, and the text with its escapes resolved
+//! (`\n`, `\r`, `\t`, `\0`, and any other byte for itself). Only a text is copied, into a buffer that the caller hands in.
+
 ghost use Rattle.std.specs.Prelude.{◌≡◌, ◌++◌, ℕ, List, OnOk, OnErr};
 ghost use Rattle.std.specs.Str.{IsUtf8};
 ghost use Rattle.std.specs.Str.Parse.{digits_value};
 ghost use Rattle.ql_lex.specs.declared.token.TokenKind.TheVariants.{Number};
-ghost use Rattle.ql_lex.specs.Shapes.{bare_name, inside, IsNamed, IsLexeme, IsText};
+ghost use Rattle.ql_lex.specs.Shapes.{bare_name, inside, IsNamed, IsLexeme, IsQuotedText};
 ghost use Rattle.ql_lex.specs.Values.{escaped as escaped_byte, text_of};
 
 use crate::numbers::value_of;
@@ -44,7 +47,7 @@ fn escaped(byte: u8) -> u8
 
 /// Appends the value of a text token: what stands between its quotes, with the escapes resolved.
 pub fn put_text(token: &[u8], out: &mut Vec<u8>) -> Result<(), NoMemory>
-    requires { IsText token.now }
+    requires { IsQuotedText token.now }
     ensures ok { OnOk result (out.new.items ≡ out.old.items ++ text_of token.now) }
     ensures err { OnErr result (out.new.items ≡ out.old.items) }
 {

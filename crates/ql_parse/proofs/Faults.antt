@@ -8,10 +8,10 @@ use Rattle.ql_grammar.specs.declared.statement.TheConstants.{MAX_STATEMENTS}
 use Rattle.token_grammar.specs.Reading.{first_place}
 use Rattle.ql_grammar.specs.Classes.{the_end}
 use Rattle.token_grammar.specs.Language.{one, In}
-use Rattle.ql_grammar.specs.Grammar.{packet, statement}
+use Rattle.ql_grammar.specs.steps.Grammar.{packet, statement}
 use Rattle.ql_grammar.specs.Parts.{IsSign}
 use Rattle.ql_grammar.specs.Packets.{IsPacket, BeginsLong, BeginsPacket, IsFault}
-use Rattle.ql_parse.specs.PacketReading.{LeavesPackets, IsTooLong}
+use Rattle.ql_parse.specs.steps.PacketReading.{LeavesPackets, IsTooLong}
 use Rattle.ql_grammar.specs.Statements.{IsStatement}
 use Rattle.ql_grammar.proofs.PacketAgreement.{agree_end, packet_text, packet_value}
 use Rattle.ql_parse.proofs.PacketSteps.{start_begins}

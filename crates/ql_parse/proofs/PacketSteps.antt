@@ -22,14 +22,15 @@ use Rattle.token_grammar.proofs.Beginnings.{apart_free, begins_some, begins_no}
 use Rattle.token_grammar.proofs.Laws.{has_nullable}
 use Rattle.ql_grammar.specs.Classes.{the_sign, the_end, fits}
 use Rattle.token_grammar.specs.Language.{Re, one, seq, alt, In, after, next, verdict}
-use Rattle.ql_grammar.specs.Grammar.{more_statements, statement}
+use Rattle.ql_grammar.specs.steps.Grammar.{more_statements, statement}
 use Rattle.ql_grammar.specs.Parts.{IsSign}
 use Rattle.ql_grammar.specs.Packets.{IsPacket}
-use Rattle.ql_parse.specs.PacketReading.{LeavesPackets, IsTooLong, ReadsPacket, StatementsRead}
-use Rattle.token_grammar.specs.Firsts.{apart, begins}
+use Rattle.ql_parse.specs.steps.PacketReading.{LeavesPackets, IsTooLong, ReadsPacket, StatementsRead}
+use Rattle.token_grammar.specs.Firsts.{apart}
+use Rattle.token_grammar.specs.steps.Deciding.{begins}
 use Rattle.ql_parts.specs.Progress.{is_start, IsStart}
 use Rattle.token_grammar.specs.Reading.{TakesPart, FailsPart, IsNextOf}
-use Rattle.ql_grammar.specs.GoingOn.{select_goes_on}
+use Rattle.ql_grammar.specs.steps.GoingOn.{select_goes_on}
 use Rattle.ql_grammar.specs.Statements.{IsStatement}
 use Rattle.token_grammar.proofs.Laws.{InAny, after_to}
 use Rattle.token_grammar.proofs.Laws.{some_text}

@@ -5,7 +5,7 @@ use Rattle.srch_base.specs.declared.faults.Or.{Or}
 use Rattle.srch_base.specs.declared.faults.Or.TheVariants.{NoMemory, Fault}
 use Rattle.ql_lex.specs.Tokens.{Lexeme}
 use Rattle.ql_grammar.specs.Packets.{Parses}
-use Rattle.ql_parse.specs.PacketReading.{LeavesPackets, syntax_error}
+use Rattle.ql_parse.specs.steps.PacketReading.{LeavesPackets, syntax_error}
 use Rattle.ql_parse.proofs.Faults.{syntax_fault}
 
 pub syntax_parses : (M : Type 0) {tokens : List Lexeme} (e : Or ℕ) → ((place : ℕ) → e ≡ Fault place → LeavesPackets tokens place) → Parses {M = M} tokens (Err (syntax_error e))

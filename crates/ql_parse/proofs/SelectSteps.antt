@@ -4,16 +4,17 @@ use Rattle.ql_lex.specs.Tokens.{Lexeme}
 use Rattle.ql_grammar.specs.declared.keyword.Keyword.TheVariants as keywords
 use Rattle.ql_grammar.specs.declared.select.Comparison.{Comparison}
 use Rattle.ql_grammar.specs.Tokens.{kind}
-use Rattle.ql_grammar.specs.Classes.{Class, the_word, any_name, the_sign, a_comparison, fits}
+use Rattle.ql_grammar.specs.Classes.{Class, the_keyword, any_name, the_sign, a_comparison, fits}
 use Rattle.token_grammar.specs.Language.{Re, one, alt, In}
-use Rattle.ql_grammar.specs.Grammar.{word, comparison, alias, direction}
+use Rattle.ql_grammar.specs.Terminals.{keyword}
+use Rattle.ql_grammar.specs.steps.Grammar.{comparison, alias, direction}
 use Rattle.token_grammar.specs.Language.{optional}
-use Rattle.ql_grammar.specs.Parts.{IsWord}
+use Rattle.ql_grammar.specs.Parts.{IsKeyword}
 use Rattle.token_grammar.specs.Values.{IsPerhaps, AreGiven}
-use Rattle.token_grammar.specs.Firsts.{begun}
+use Rattle.token_grammar.specs.steps.Deciding.{begun}
 use Rattle.token_grammar.specs.Reading.{TakesPart, IsNextOf}
 use Rattle.ql_grammar.specs.Selects.{comparison_sign, IsComparison}
-use Rattle.ql_parse.specs.Selecting.{IsNextComparison}
+use Rattle.ql_parse.specs.steps.Selecting.{IsNextComparison}
 use Rattle.token_grammar.proofs.Choices.{optional_else, optional_if, takes_nothing}
 use Rattle.token_grammar.proofs.Rows.{fits_next, takes_as, takes_next}
 use Rattle.ql_grammar.proofs.ClassKinds.{sign_is}
@@ -53,10 +54,10 @@ pub next_there : {c : Class} {answer : Bool} {before there : List Lexeme} → th
 next_there {c} {answer} same n = subst (λ u. IsNextOf sphinxql c u answer) same n
 
 -- An alias: AS, or none.
-pub as_taken : {before now : List Lexeme} → IsNextOf sphinxql (the_word keywords.As) before true → TakesPart sphinxql (word keywords.As) [] (IsWord keywords.As) before now → TakesPart sphinxql (optional (word keywords.As)) (the_word keywords.As ∷ []) (IsPerhaps (IsWord keywords.As)) before now
+pub as_taken : {before now : List Lexeme} → IsNextOf sphinxql (the_keyword keywords.As) before true → TakesPart sphinxql (keyword keywords.As) [] (IsKeyword keywords.As) before now → TakesPart sphinxql (optional (keyword keywords.As)) (the_keyword keywords.As ∷ []) (IsPerhaps (IsKeyword keywords.As)) before now
 as_taken n h = optional_if n refl (takes_as (λ u i. inl i) h)
 
-pub no_as : {before there : List Lexeme} → IsNextOf sphinxql (the_word keywords.As) before false → there ≡ before → TakesPart sphinxql (optional (word keywords.As)) [] (IsPerhaps (IsWord keywords.As)) before there
+pub no_as : {before there : List Lexeme} → IsNextOf sphinxql (the_keyword keywords.As) before false → there ≡ before → TakesPart sphinxql (optional (keyword keywords.As)) [] (IsPerhaps (IsKeyword keywords.As)) before there
 no_as n same = optional_else n refl (inr refl) same
 
 -- The next token is of neither class.
@@ -70,20 +71,20 @@ begins_neither c d r s t e e' f f' u (inl h) = clash (fits c (kind t)) (begun_fi
 begins_neither c d r s t e e' f f' u (inr h) = clash (fits d (kind t)) (begun_fits sphinxql d s t u e' h) f'
 
 -- neither AS nor a name begins an alias
-alias_no : (t : Lexeme) → fits (the_word keywords.As) (kind t) ≡ false → fits any_name (kind t) ≡ false → (u : List Lexeme) → In sphinxql alias (t ∷ u) → ⊥
+alias_no : (t : Lexeme) → fits (the_keyword keywords.As) (kind t) ≡ false → fits any_name (kind t) ≡ false → (u : List Lexeme) → In sphinxql alias (t ∷ u) → ⊥
 unfolding In
 alias_no t e f u ([], b, is, first, second) = clash (fits any_name (kind t)) (begun_fits sphinxql any_name (one any_name) t u refl (subst (λ v. In sphinxql (one any_name) v) (sym is) second)) f
 alias_no t e f u (x ∷ a, b, is, inl first, second) =
     let same : x ≡ t = cc in
-    clash (fits (the_word keywords.As) (kind t)) (begun_fits sphinxql (the_word keywords.As) (word keywords.As) t a refl (subst (λ (y : Lexeme). In sphinxql (word keywords.As) (y ∷ a)) same first)) e
+    clash (fits (the_keyword keywords.As) (kind t)) (begun_fits sphinxql (the_keyword keywords.As) (keyword keywords.As) t a refl (subst (λ (y : Lexeme). In sphinxql (keyword keywords.As) (y ∷ a)) same first)) e
 alias_no t e f u (x ∷ a, b, is, inr first, second) = cc
 
-pub no_alias : {P : List Lexeme → Type 0} {cs : List Class} {before there : List Lexeme} → IsNextOf sphinxql (the_word keywords.As) before false → there ≡ before → IsNextOf sphinxql any_name there false → P [] → TakesPart sphinxql (optional alias) cs P before there
+pub no_alias : {P : List Lexeme → Type 0} {cs : List Class} {before there : List Lexeme} → IsNextOf sphinxql (the_keyword keywords.As) before false → there ≡ before → IsNextOf sphinxql any_name there false → P [] → TakesPart sphinxql (optional alias) cs P before there
 no_alias {P} {cs} {before} {there} n same other h =
     let m = next_there same other in
     subst (λ u. TakesPart sphinxql (optional alias) cs P before u) (sym same) (takes_nothing n.next n.rest n.is (alias_no n.next n.fits (next_same n m)) h)
 
-pub no_direction : {P : List Lexeme → Type 0} {cs : List Class} {before there now : List Lexeme} → IsNextOf sphinxql (the_word keywords.Asc) before false → there ≡ before → IsNextOf sphinxql (the_word keywords.Desc) there false → now ≡ there → P [] → TakesPart sphinxql direction cs P before now
+pub no_direction : {P : List Lexeme → Type 0} {cs : List Class} {before there now : List Lexeme} → IsNextOf sphinxql (the_keyword keywords.Asc) before false → there ≡ before → IsNextOf sphinxql (the_keyword keywords.Desc) there false → now ≡ there → P [] → TakesPart sphinxql direction cs P before now
 no_direction {P} {cs} {before} {there} {now} n same other after h =
     let m = next_there same other in
-    subst (λ u. TakesPart sphinxql direction cs P before u) (sym (after ∙ same)) (takes_nothing n.next n.rest n.is (begins_neither (the_word keywords.Asc) (the_word keywords.Desc) (word keywords.Asc) (word keywords.Desc) n.next refl refl n.fits (next_same n m)) h)
+    subst (λ u. TakesPart sphinxql direction cs P before u) (sym (after ∙ same)) (takes_nothing n.next n.rest n.is (begins_neither (the_keyword keywords.Asc) (the_keyword keywords.Desc) (keyword keywords.Asc) (keyword keywords.Desc) n.next refl refl n.fits (next_same n m)) h)

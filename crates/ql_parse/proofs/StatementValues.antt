@@ -4,11 +4,12 @@ use Rattle.ql_lex.specs.Tokens.{Lexeme}
 use Rattle.ql_grammar.specs.declared.keyword.Keyword.TheVariants as keywords
 use Rattle.ql_grammar.specs.declared.statement.Statement.{Statement}
 use Rattle.ql_grammar.specs.declared.statement.Statement.TheVariants as statements
-use Rattle.ql_grammar.specs.Parts.{IsWord}
+use Rattle.ql_grammar.specs.Parts.{IsKeyword}
 use Rattle.token_grammar.specs.Values.{◌then◌}
-use Rattle.ql_grammar.specs.Statements.{IsSelection, IsSetRest, IsShown, IsStatement}
+use Rattle.ql_grammar.specs.Statements.{IsStatement}
+use Rattle.ql_grammar.specs.steps.Stating.{IsSelection, IsSetRest, IsShown}
 
-pub set_is : (s : Statement) (u : List Lexeme) → (IsWord keywords.Set then IsSetRest s) u → IsStatement s u
+pub set_is : (s : Statement) (u : List Lexeme) → (IsKeyword keywords.Set then IsSetRest s) u → IsStatement s u
 set_is (statements.Select a0) u (a, b, e, p, q) = absurd q
 set_is (statements.SelectVar a0 a1) u (a, b, e, p, q) = absurd q
 set_is statements.SelectDatabase u (a, b, e, p, q) = absurd q
@@ -33,7 +34,7 @@ set_is statements.ShowWarnings u (a, b, e, p, q) = absurd q
 set_is statements.ShowVariables u (a, b, e, p, q) = absurd q
 set_is statements.ShowDatabases u (a, b, e, p, q) = absurd q
 
-pub show_is : (s : Statement) (u : List Lexeme) → (IsWord keywords.Show then IsShown s) u → IsStatement s u
+pub show_is : (s : Statement) (u : List Lexeme) → (IsKeyword keywords.Show then IsShown s) u → IsStatement s u
 show_is (statements.Select a0) u (a, b, e, p, q) = absurd q
 show_is (statements.SelectVar a0 a1) u (a, b, e, p, q) = absurd q
 show_is statements.SelectDatabase u (a, b, e, p, q) = absurd q
@@ -58,7 +59,7 @@ show_is statements.ShowWarnings u h = h
 show_is statements.ShowVariables u h = h
 show_is statements.ShowDatabases u h = h
 
-pub selection_is : (s : Statement) (u : List Lexeme) → (IsWord keywords.Select then IsSelection s) u → IsStatement s u
+pub selection_is : (s : Statement) (u : List Lexeme) → (IsKeyword keywords.Select then IsSelection s) u → IsStatement s u
 selection_is (statements.Select a0) u h = h
 selection_is (statements.SelectVar a0 a1) u h = h
 selection_is statements.SelectDatabase u h = h

@@ -1,5 +1,3 @@
-pub mod Selecting
-pub mod PacketReading
 pub use Rattle.ql_grammar.specs.Keywords
 pub use Rattle.ql_grammar.specs.Tokens
 pub use Rattle.ql_grammar.specs.Parts
@@ -9,3 +7,5 @@ pub use Rattle.ql_grammar.specs.Packets
 pub use Rattle.ql_grammar.specs.FaultTexts
 pub use Rattle.ql_write.specs.Canonical
 pub use Rattle.ql_write.specs.Reading
+-- What serves proofs and private functions alone
+pub mod steps

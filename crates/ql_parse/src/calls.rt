@@ -1,14 +1,19 @@
+//! Calls in an item or a key: `COUNT(*)`, `MIN(name)`, `WEIGHT()` and their kin. Their keywords are names too where no `(`
+//! follows, so a reader looks at two tokens before it takes one.
+
 ghost use Rattle.std.specs.Prelude.{◌≡◌, [], ◌∷◌};
 ghost use Rattle.ql_grammar.specs.Alphabet.{sphinxql};
 ghost use Rattle.ql_lex.specs.declared.token.Sign.TheVariants as signs;
 ghost use Rattle.ql_grammar.specs.declared.keyword.Keyword.TheVariants as keywords;
 ghost use Rattle.ql_grammar.specs.Classes.{the_sign};
-ghost use Rattle.ql_grammar.specs.Grammar.{count, counted, enclosed, expr, name, parens, word};
+ghost use Rattle.ql_grammar.specs.Terminals.{enclosed, name, keyword};
+ghost use Rattle.ql_grammar.specs.steps.Grammar.{count, counted, expr, parens};
 ghost use Rattle.token_grammar.specs.Language.{◌⨾◌};
-ghost use Rattle.ql_grammar.specs.Parts.{AreParens, IsEnclosed, IsName, IsWord};
+ghost use Rattle.ql_grammar.specs.Parts.{AreParens, IsEnclosed, IsName, IsKeyword};
 ghost use Rattle.token_grammar.specs.Values.{◌then◌};
 ghost use Rattle.token_grammar.specs.Reading.{ReadsPart};
-ghost use Rattle.ql_grammar.specs.Selects.{IsCount, IsCounted, IsExpr, count_expr};
+ghost use Rattle.ql_grammar.specs.Selects.{IsCount, IsExpr};
+ghost use Rattle.ql_grammar.specs.steps.Selecting.{IsCounted, count_expr};
 
 use ql_grammar::{Keyword, SelectExpr};
 use ql_lex::Sign;
@@ -16,22 +21,22 @@ use ql_parts::Cursor;
 use srch_base::{Name, Or};
 use std::alloc::Global;
 
-/// ReadsPart sphinxql a function's word and a name in parentheses.
+/// ReadsPart sphinxql a function's keyword and a name in parentheses.
 fn argument(alloc: Global, input: &mut Cursor<'_>, of: Keyword) -> Result<Name, Or<u32>>
-    ensures { ReadsPart sphinxql (word of ⨾ enclosed name) [] (λ name. IsWord of then IsEnclosed (IsName name)) input.old result input.new }
+    ensures { ReadsPart sphinxql (keyword of ⨾ enclosed name) [] (λ name. IsKeyword of then IsEnclosed (IsName name)) input.old result input.new }
 {
-    input.word(of)?;
+    input.keyword(of)?;
     input.sign(Sign::OpenParen)?;
     let name = input.name(alloc)?;
     input.sign(Sign::CloseParen)?;
     Ok(name)
 }
 
-/// ReadsPart sphinxql a function's word and empty parentheses.
+/// ReadsPart sphinxql a function's keyword and empty parentheses.
 pub(crate) fn no_argument(input: &mut Cursor<'_>, of: Keyword) -> Result<(), Or<u32>>
-    ensures { ReadsPart sphinxql (word of ⨾ parens) [] (λ _. IsWord of then AreParens) input.old result input.new }
+    ensures { ReadsPart sphinxql (keyword of ⨾ parens) [] (λ _. IsKeyword of then AreParens) input.old result input.new }
 {
-    input.word(of)?;
+    input.keyword(of)?;
     input.sign(Sign::OpenParen)?;
     input.sign(Sign::CloseParen)?;
     Ok(())
@@ -41,7 +46,7 @@ pub(crate) fn no_argument(input: &mut Cursor<'_>, of: Keyword) -> Result<(), Or<
 pub(crate) fn count_all(input: &mut Cursor<'_>) -> Result<(), Or<u32>>
     ensures { ReadsPart sphinxql count [] (λ _. IsCount) input.old result input.new }
 {
-    input.word(Keyword::Count)?;
+    input.keyword(Keyword::Count)?;
     input.sign(Sign::OpenParen)?;
     input.sign(Sign::Star)?;
     input.sign(Sign::CloseParen)?;
@@ -55,7 +60,7 @@ fn counted(alloc: Global, input: &mut Cursor<'_>) -> Result<Option<Name>, Or<u32
     if input.takes_sign(Sign::Star) {
         return Ok(None);
     }
-    input.word(Keyword::Distinct)?;
+    input.keyword(Keyword::Distinct)?;
     Ok(Some(input.name(alloc)?))
 }
 
@@ -71,9 +76,9 @@ fn count_expr(name: Option<Name>) -> SelectExpr
 
 /// ReadsPart sphinxql a count.
 fn counting(alloc: Global, input: &mut Cursor<'_>) -> Result<Option<Name>, Or<u32>>
-    ensures { ReadsPart sphinxql (word keywords.Count ⨾ enclosed counted) [] (λ name. IsWord keywords.Count then IsEnclosed (IsCounted name)) input.old result input.new }
+    ensures { ReadsPart sphinxql (keyword keywords.Count ⨾ enclosed counted) [] (λ name. IsKeyword keywords.Count then IsEnclosed (IsCounted name)) input.old result input.new }
 {
-    input.word(Keyword::Count)?;
+    input.keyword(Keyword::Count)?;
     input.sign(Sign::OpenParen)?;
     let name = counted(alloc, input)?;
     input.sign(Sign::CloseParen)?;

@@ -1,10 +1,14 @@
+//! Statements of a few keywords and at most one name: BEGIN, FLUSH, OPTIMIZE, SHOW and others.
+
 ghost use Rattle.std.specs.Prelude.{[]};
 ghost use Rattle.ql_grammar.specs.Alphabet.{sphinxql};
 ghost use Rattle.ql_grammar.specs.declared.keyword.Keyword.TheVariants as keywords;
-ghost use Rattle.ql_grammar.specs.Grammar.{flush, name, show, shown, word, words};
+ghost use Rattle.ql_grammar.specs.Terminals.{name, keyword, two_keywords};
+ghost use Rattle.ql_grammar.specs.steps.Grammar.{flush, show, shown};
 ghost use Rattle.token_grammar.specs.Language.{◌⨾◌};
 ghost use Rattle.token_grammar.specs.Reading.{ReadsPart};
-ghost use Rattle.ql_grammar.specs.Statements.{IsShown, IsStatement};
+ghost use Rattle.ql_grammar.specs.Statements.{IsStatement};
+ghost use Rattle.ql_grammar.specs.steps.Stating.{IsShown};
 
 use ql_grammar::{Keyword, Statement};
 use ql_parts::Cursor;
@@ -15,36 +19,36 @@ use std::alloc::Global;
 pub(crate) fn flush(alloc: Global, input: &mut Cursor<'_>) -> Result<Statement, Or<u32>>
     ensures { ReadsPart sphinxql flush [] IsStatement input.old result input.new }
 {
-    input.word(Keyword::Flush)?;
-    if input.takes_word(Keyword::RamChunk) {
+    input.keyword(Keyword::Flush)?;
+    if input.takes_keyword(Keyword::RamChunk) {
         return Ok(Statement::FlushRamchunk(input.name(alloc)?));
     }
-    input.word(Keyword::RtIndex)?;
+    input.keyword(Keyword::RtIndex)?;
     Ok(Statement::FlushRtindex(input.name(alloc)?))
 }
 
-/// ReadsPart sphinxql what follows the word SHOW.
+/// ReadsPart sphinxql what follows the keyword SHOW.
 fn shown(alloc: Global, input: &mut Cursor<'_>) -> Result<Statement, Or<u32>>
     ensures { ReadsPart sphinxql shown [] IsShown input.old result input.new }
 {
-    if input.takes_word(Keyword::Index) {
+    if input.takes_keyword(Keyword::Index) {
         let index = input.name(alloc)?;
-        input.word(Keyword::Status)?;
+        input.keyword(Keyword::Status)?;
         return Ok(Statement::ShowIndexStatus(index));
     }
-    if input.takes_word(Keyword::Meta) {
+    if input.takes_keyword(Keyword::Meta) {
         return Ok(Statement::ShowMeta);
     }
-    if input.takes_word(Keyword::Tables) {
+    if input.takes_keyword(Keyword::Tables) {
         return Ok(Statement::ShowTables);
     }
-    if input.takes_word(Keyword::Warnings) {
+    if input.takes_keyword(Keyword::Warnings) {
         return Ok(Statement::ShowWarnings);
     }
-    if input.takes_word(Keyword::Variables) {
+    if input.takes_keyword(Keyword::Variables) {
         return Ok(Statement::ShowVariables);
     }
-    input.word(Keyword::Databases)?;
+    input.keyword(Keyword::Databases)?;
     Ok(Statement::ShowDatabases)
 }
 
@@ -52,63 +56,63 @@ fn shown(alloc: Global, input: &mut Cursor<'_>) -> Result<Statement, Or<u32>>
 pub(crate) fn show(alloc: Global, input: &mut Cursor<'_>) -> Result<Statement, Or<u32>>
     ensures { ReadsPart sphinxql show [] IsStatement input.old result input.new }
 {
-    input.word(Keyword::Show)?;
+    input.keyword(Keyword::Show)?;
     let rest = shown(alloc, input)?;
     Ok(rest)
 }
 
 /// ReadsPart sphinxql a BEGIN.
 pub(crate) fn begin(input: &mut Cursor<'_>) -> Result<Statement, Or<u32>>
-    ensures { ReadsPart sphinxql (word keywords.Begin) [] IsStatement input.old result input.new }
+    ensures { ReadsPart sphinxql (keyword keywords.Begin) [] IsStatement input.old result input.new }
 {
-    input.word(Keyword::Begin)?;
+    input.keyword(Keyword::Begin)?;
     Ok(Statement::Begin)
 }
 
 /// ReadsPart sphinxql a START TRANSACTION.
 pub(crate) fn start_transaction(input: &mut Cursor<'_>) -> Result<Statement, Or<u32>>
-    ensures { ReadsPart sphinxql (words keywords.Start keywords.Transaction) [] IsStatement input.old result input.new }
+    ensures { ReadsPart sphinxql (two_keywords keywords.Start keywords.Transaction) [] IsStatement input.old result input.new }
 {
-    input.words(Keyword::Start, Keyword::Transaction)?;
+    input.two_keywords(Keyword::Start, Keyword::Transaction)?;
     Ok(Statement::StartTransaction)
 }
 
 /// ReadsPart sphinxql a COMMIT.
 pub(crate) fn commit(input: &mut Cursor<'_>) -> Result<Statement, Or<u32>>
-    ensures { ReadsPart sphinxql (word keywords.Commit) [] IsStatement input.old result input.new }
+    ensures { ReadsPart sphinxql (keyword keywords.Commit) [] IsStatement input.old result input.new }
 {
-    input.word(Keyword::Commit)?;
+    input.keyword(Keyword::Commit)?;
     Ok(Statement::Commit)
 }
 
 /// ReadsPart sphinxql a ROLLBACK.
 pub(crate) fn rollback(input: &mut Cursor<'_>) -> Result<Statement, Or<u32>>
-    ensures { ReadsPart sphinxql (word keywords.Rollback) [] IsStatement input.old result input.new }
+    ensures { ReadsPart sphinxql (keyword keywords.Rollback) [] IsStatement input.old result input.new }
 {
-    input.word(Keyword::Rollback)?;
+    input.keyword(Keyword::Rollback)?;
     Ok(Statement::Rollback)
 }
 
 /// ReadsPart sphinxql an OPTIMIZE INDEX.
 pub(crate) fn optimize(alloc: Global, input: &mut Cursor<'_>) -> Result<Statement, Or<u32>>
-    ensures { ReadsPart sphinxql (words keywords.Optimize keywords.Index ⨾ name) [] IsStatement input.old result input.new }
+    ensures { ReadsPart sphinxql (two_keywords keywords.Optimize keywords.Index ⨾ name) [] IsStatement input.old result input.new }
 {
-    input.words(Keyword::Optimize, Keyword::Index)?;
+    input.two_keywords(Keyword::Optimize, Keyword::Index)?;
     Ok(Statement::OptimizeIndex(input.name(alloc)?))
 }
 
 /// ReadsPart sphinxql a TRUNCATE RTINDEX.
 pub(crate) fn truncate(alloc: Global, input: &mut Cursor<'_>) -> Result<Statement, Or<u32>>
-    ensures { ReadsPart sphinxql (words keywords.Truncate keywords.RtIndex ⨾ name) [] IsStatement input.old result input.new }
+    ensures { ReadsPart sphinxql (two_keywords keywords.Truncate keywords.RtIndex ⨾ name) [] IsStatement input.old result input.new }
 {
-    input.words(Keyword::Truncate, Keyword::RtIndex)?;
+    input.two_keywords(Keyword::Truncate, Keyword::RtIndex)?;
     Ok(Statement::TruncateRtindex(input.name(alloc)?))
 }
 
 /// ReadsPart sphinxql a DESCRIBE.
 pub(crate) fn describe(alloc: Global, input: &mut Cursor<'_>) -> Result<Statement, Or<u32>>
-    ensures { ReadsPart sphinxql (word keywords.Describe ⨾ name) [] IsStatement input.old result input.new }
+    ensures { ReadsPart sphinxql (keyword keywords.Describe ⨾ name) [] IsStatement input.old result input.new }
 {
-    input.word(Keyword::Describe)?;
+    input.keyword(Keyword::Describe)?;
     Ok(Statement::Describe(input.name(alloc)?))
 }

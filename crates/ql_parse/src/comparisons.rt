@@ -1,8 +1,10 @@
+//! Comparisons of a number: `=`, `!=`, `<>`, `<`, `>`, `<=`, `>=`.
+
 ghost use Rattle.std.specs.Prelude.{[]};
 ghost use Rattle.ql_grammar.specs.Alphabet.{sphinxql};
-ghost use Rattle.ql_grammar.specs.Grammar.{comparison};
+ghost use Rattle.ql_grammar.specs.steps.Grammar.{comparison};
 ghost use Rattle.token_grammar.specs.Reading.{ReadsPart};
-ghost use Rattle.ql_parse.specs.Selecting.{IsNextComparison};
+ghost use Rattle.ql_parse.specs.steps.Selecting.{IsNextComparison};
 ghost use Rattle.ql_grammar.specs.Selects.{IsComparison};
 
 use ql_grammar::{Comparison, Kind};

@@ -1,6 +1,8 @@
+//! DELETE, of one document or of several by their ids.
+
 ghost use Rattle.std.specs.Prelude.{[]};
 ghost use Rattle.ql_grammar.specs.Alphabet.{sphinxql};
-ghost use Rattle.ql_grammar.specs.Grammar.{ids, delete};
+ghost use Rattle.ql_grammar.specs.steps.Grammar.{ids, delete};
 ghost use Rattle.token_grammar.specs.Reading.{ReadsPart};
 ghost use Rattle.ql_grammar.specs.Statements.{AreIds, IsStatement};
 
@@ -16,7 +18,7 @@ fn ids(alloc: Global, input: &mut Cursor<'_>) -> Result<Ids, Or<u32>>
     if input.takes_sign(Sign::Equal) {
         return Ok(Ids::One(input.number()?));
     }
-    input.word(Keyword::In)?;
+    input.keyword(Keyword::In)?;
     Ok(Ids::Several(enclosed::<Number>(alloc, input)?))
 }
 
@@ -24,9 +26,9 @@ fn ids(alloc: Global, input: &mut Cursor<'_>) -> Result<Ids, Or<u32>>
 pub(crate) fn delete(alloc: Global, input: &mut Cursor<'_>) -> Result<Statement, Or<u32>>
     ensures { ReadsPart sphinxql delete [] IsStatement input.old result input.new }
 {
-    input.words(Keyword::Delete, Keyword::From)?;
+    input.two_keywords(Keyword::Delete, Keyword::From)?;
     let index = input.name(alloc)?;
-    input.words(Keyword::Where, Keyword::Id)?;
+    input.two_keywords(Keyword::Where, Keyword::Id)?;
     let ids = ids(alloc, input)?;
     Ok(Statement::Delete { index, ids })
 }

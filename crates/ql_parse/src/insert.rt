@@ -1,9 +1,12 @@
+//! INSERT and REPLACE: an index, columns or none, and rows of values.
+
 ghost use Rattle.std.specs.Prelude.{[], ◌∷◌};
 ghost use Rattle.ql_grammar.specs.Alphabet.{sphinxql};
 ghost use Rattle.ql_lex.specs.declared.token.Sign.TheVariants as signs;
 ghost use Rattle.ql_grammar.specs.declared.keyword.Keyword.TheVariants as keywords;
 ghost use Rattle.ql_grammar.specs.Classes.{the_sign};
-ghost use Rattle.ql_grammar.specs.Grammar.{comma, enclosed, insert, name, row, val, word};
+ghost use Rattle.ql_grammar.specs.Terminals.{comma, enclosed, name, keyword};
+ghost use Rattle.ql_grammar.specs.steps.Grammar.{insert, row, val};
 ghost use Rattle.token_grammar.specs.Language.{◌∣◌, listed, optional};
 ghost use Rattle.token_grammar.specs.Values.{IsGiven};
 ghost use Rattle.token_grammar.specs.Reading.{ReadsPart};
@@ -55,12 +58,12 @@ impl Part for Row {
 
 /// ReadsPart `INSERT` or `REPLACE`, and tells whether it is the second.
 fn replaces(input: &mut Cursor<'_>) -> Result<bool, Or<u32>>
-    ensures { ReadsPart sphinxql (word keywords.Replace ∣ word keywords.Insert) [] IsPut input.old result input.new }
+    ensures { ReadsPart sphinxql (keyword keywords.Replace ∣ keyword keywords.Insert) [] IsPut input.old result input.new }
 {
-    if input.takes_word(Keyword::Replace) {
+    if input.takes_keyword(Keyword::Replace) {
         return Ok(true);
     }
-    input.word(Keyword::Insert)?;
+    input.keyword(Keyword::Insert)?;
     Ok(false)
 }
 
@@ -80,10 +83,10 @@ pub(crate) fn insert(alloc: Global, input: &mut Cursor<'_>) -> Result<Statement,
     ensures { ReadsPart sphinxql insert (the_sign signs.Comma ∷ []) IsStatement input.old result input.new }
 {
     let replace = replaces(input)?;
-    input.word(Keyword::Into)?;
+    input.keyword(Keyword::Into)?;
     let index = input.name(alloc)?;
     let columns = columns(alloc, input)?;
-    input.word(Keyword::Values)?;
+    input.keyword(Keyword::Values)?;
     let rows = listed::<Row>(alloc, input, Sign::Comma)?;
     Ok(Statement::Insert {
         replace,

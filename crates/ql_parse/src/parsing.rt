@@ -1,7 +1,10 @@
+//! A packet: statements with `;` between them, and maybe one after the last. A packet has at most 32; one more is a fault of
+//! its own kind where a statement begins there, and a syntax error where none does.
+
 ghost use Rattle.std.specs.Prelude.{◌≡◌};
 ghost use Rattle.ql_lex.specs.Tokens.{AreLexemes};
 ghost use Rattle.ql_grammar.specs.Packets.{Parses};
-ghost use Rattle.ql_parse.specs.PacketReading.{ReadsPacket, syntax_error};
+ghost use Rattle.ql_parse.specs.steps.PacketReading.{ReadsPacket, syntax_error};
 ghost use Rattle.ql_grammar.specs.Tokens.{lexemes};
 
 use crate::statements::statement;

@@ -1,13 +1,15 @@
+//! The items of a SELECT, each with an alias or none.
+
 ghost use Rattle.std.specs.Prelude.{[], ◌∷◌};
 ghost use Rattle.ql_grammar.specs.Alphabet.{sphinxql};
 ghost use Rattle.ql_lex.specs.declared.token.Sign.TheVariants as signs;
 ghost use Rattle.ql_grammar.specs.declared.keyword.Keyword.TheVariants as keywords;
-ghost use Rattle.ql_grammar.specs.Classes.{the_word, any_name, the_sign};
-ghost use Rattle.ql_grammar.specs.Grammar.{alias, item};
+ghost use Rattle.ql_grammar.specs.Classes.{the_keyword, any_name, the_sign};
+ghost use Rattle.ql_grammar.specs.steps.Grammar.{alias, item};
 ghost use Rattle.token_grammar.specs.Language.{optional};
 ghost use Rattle.token_grammar.specs.Values.{IsGiven};
 ghost use Rattle.token_grammar.specs.Reading.{ReadsPart};
-ghost use Rattle.ql_grammar.specs.GoingOn.{item_goes_on};
+ghost use Rattle.ql_grammar.specs.steps.GoingOn.{item_goes_on};
 ghost use Rattle.ql_grammar.specs.Selects.{IsAlias, IsItem};
 
 use crate::calls::expr;
@@ -19,9 +21,9 @@ use std::alloc::Global;
 
 /// ReadsPart sphinxql an item's name in the answer, if it is there.
 fn alias(alloc: Global, input: &mut Cursor<'_>) -> Result<Option<Name>, Or<u32>>
-    ensures { ReadsPart sphinxql (optional alias) (the_word keywords.As ∷ any_name ∷ []) (IsGiven IsAlias) input.old result input.new }
+    ensures { ReadsPart sphinxql (optional alias) (the_keyword keywords.As ∷ any_name ∷ []) (IsGiven IsAlias) input.old result input.new }
 {
-    if input.takes_word(Keyword::As) {
+    if input.takes_keyword(Keyword::As) {
         return Ok(Some(input.name(alloc)?));
     }
     if input.is_name() {

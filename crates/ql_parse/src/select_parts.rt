@@ -1,14 +1,17 @@
+//! What may follow the conditions of a SELECT: HAVING, LIMIT, OPTION and FACET. Each is none where its keyword isn't next.
+
 ghost use Rattle.std.specs.Prelude.{[], ◌∷◌};
 ghost use Rattle.ql_grammar.specs.Alphabet.{sphinxql};
 ghost use Rattle.ql_lex.specs.declared.token.Sign.TheVariants as signs;
 ghost use Rattle.ql_grammar.specs.declared.keyword.Keyword.TheVariants as keywords;
-ghost use Rattle.ql_grammar.specs.Classes.{the_word, the_sign};
-ghost use Rattle.ql_grammar.specs.Grammar.{name, number, text, comma, enclosed, words, having, having_part, limit, field_weight, option_value, option, options, facet, facet_parts, group_key};
+ghost use Rattle.ql_grammar.specs.Classes.{the_keyword, the_sign};
+ghost use Rattle.ql_grammar.specs.Terminals.{name, number, text, comma, enclosed, two_keywords};
+ghost use Rattle.ql_grammar.specs.steps.Grammar.{having, having_part, limit, field_weight, option_value, option, options, facet, facet_parts, group_key};
 ghost use Rattle.token_grammar.specs.Language.{◌⨾◌, ◌∣◌, listed, optional};
 ghost use Rattle.token_grammar.specs.Language.{one, many};
 ghost use Rattle.token_grammar.specs.Values.{IsGiven, AreGiven, AreInRow};
 ghost use Rattle.token_grammar.specs.Reading.{ReadsPart};
-ghost use Rattle.ql_grammar.specs.GoingOn.{key_goes_on, limit_goes_on, facet_goes_on};
+ghost use Rattle.ql_grammar.specs.steps.GoingOn.{key_goes_on, limit_goes_on, facet_goes_on};
 ghost use Rattle.ql_grammar.specs.Selects.{IsHaving, IsHavingPart, IsSecond, IsLimit, IsFieldWeight, IsOptionValue, IsOption, AreOptions, IsFacetOrder, IsFacet, IsFaceted};
 
 use crate::comparisons::comparison;
@@ -30,9 +33,9 @@ fn having_cond(alloc: Global, input: &mut Cursor<'_>) -> Result<Having, Or<u32>>
 
 /// ReadsPart sphinxql HAVING, if it is there.
 pub(crate) fn having(alloc: Global, input: &mut Cursor<'_>) -> Result<Option<Having>, Or<u32>>
-    ensures { ReadsPart sphinxql having_part (the_word keywords.Having ∷ []) (IsGiven IsHavingPart) input.old result input.new }
+    ensures { ReadsPart sphinxql having_part (the_keyword keywords.Having ∷ []) (IsGiven IsHavingPart) input.old result input.new }
 {
-    if input.takes_word(Keyword::Having) {
+    if input.takes_keyword(Keyword::Having) {
         return Ok(Some(having_cond(alloc, input)?));
     }
     Ok(None)
@@ -51,7 +54,7 @@ fn second_number(input: &mut Cursor<'_>) -> Result<Option<u64>, Or<u32>>
 pub(crate) fn limit(input: &mut Cursor<'_>) -> Result<Option<LimitPart>, Or<u32>>
     ensures { ReadsPart sphinxql (optional limit) limit_goes_on (IsGiven IsLimit) input.old result input.new }
 {
-    if input.takes_word(Keyword::Limit) {
+    if input.takes_keyword(Keyword::Limit) {
         let first = input.number()?;
         let second = second_number(input)?;
         return Ok(Some(LimitPart { first, second }));
@@ -116,9 +119,9 @@ impl Part for OptionPart {
 
 /// ReadsPart sphinxql OPTION, if it is there.
 pub(crate) fn options(alloc: Global, input: &mut Cursor<'_>) -> Result<Items<SelectOption>, Or<u32>>
-    ensures { ReadsPart sphinxql options (the_word keywords.Option ∷ comma ∷ []) (AreGiven AreOptions) input.old result input.new }
+    ensures { ReadsPart sphinxql options (the_keyword keywords.Option ∷ comma ∷ []) (AreGiven AreOptions) input.old result input.new }
 {
-    if input.takes_word(Keyword::Option) {
+    if input.takes_keyword(Keyword::Option) {
         let options = listed::<OptionPart>(alloc, input, Sign::Comma)?;
         return Ok(options);
     }
@@ -126,16 +129,16 @@ pub(crate) fn options(alloc: Global, input: &mut Cursor<'_>) -> Result<Items<Sel
 }
 
 fn facet_order(alloc: Global, input: &mut Cursor<'_>) -> Result<Option<SortKey>, Or<u32>>
-    ensures { ReadsPart sphinxql (optional (words keywords.Order keywords.By ⨾ group_key)) (the_word keywords.Order ∷ key_goes_on) (IsGiven IsFacetOrder) input.old result input.new }
+    ensures { ReadsPart sphinxql (optional (two_keywords keywords.Order keywords.By ⨾ group_key)) (the_keyword keywords.Order ∷ key_goes_on) (IsGiven IsFacetOrder) input.old result input.new }
 {
-    if input.is_word(Keyword::Order) {
-        input.words(Keyword::Order, Keyword::By)?;
+    if input.is_keyword(Keyword::Order) {
+        input.two_keywords(Keyword::Order, Keyword::By)?;
         return Ok(Some(group_key(alloc, input)?));
     }
     Ok(None)
 }
 
-/// ReadsPart sphinxql what follows the word FACET.
+/// ReadsPart sphinxql what follows the keyword FACET.
 fn facet_parts(alloc: Global, input: &mut Cursor<'_>) -> Result<FacetPart, Or<u32>>
     ensures { ReadsPart sphinxql facet_parts facet_goes_on IsFaceted input.old result input.new }
 {
@@ -151,10 +154,10 @@ fn facet_parts(alloc: Global, input: &mut Cursor<'_>) -> Result<FacetPart, Or<u3
 
 /// ReadsPart sphinxql the facets.
 pub(crate) fn facets(alloc: Global, input: &mut Cursor<'_>) -> Result<Items<FacetPart>, Or<u32>>
-    ensures { ReadsPart sphinxql (many facet) (the_word keywords.Facet ∷ facet_goes_on) (AreInRow IsFacet) input.old result input.new }
+    ensures { ReadsPart sphinxql (many facet) (the_keyword keywords.Facet ∷ facet_goes_on) (AreInRow IsFacet) input.old result input.new }
 {
     let mut facets = Vec::new(alloc);
-    'facets: while input.takes_word(Keyword::Facet) {
+    'facets: while input.takes_keyword(Keyword::Facet) {
         facets.push(facet_parts(alloc, input)?)?;
     }
     Ok(Items::new(facets))

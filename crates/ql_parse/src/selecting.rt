@@ -1,7 +1,9 @@
-ghost use Rattle.ql_grammar.specs.Grammar.{select};
+//! A SELECT from an index, part after part in the order of the text.
+
+ghost use Rattle.ql_grammar.specs.steps.Grammar.{select};
 ghost use Rattle.ql_grammar.specs.Alphabet.{sphinxql};
 ghost use Rattle.token_grammar.specs.Reading.{ReadsPart};
-ghost use Rattle.ql_grammar.specs.GoingOn.{select_goes_on};
+ghost use Rattle.ql_grammar.specs.steps.GoingOn.{select_goes_on};
 ghost use Rattle.ql_grammar.specs.Selects.{IsSelected};
 
 use crate::conditions::conds;
@@ -14,12 +16,12 @@ use ql_parts::{Cursor, listed};
 use srch_base::Or;
 use std::alloc::Global;
 
-/// ReadsPart sphinxql what follows the word SELECT of a SELECT from an index.
+/// ReadsPart sphinxql what follows the keyword SELECT of a SELECT from an index.
 pub(crate) fn select(alloc: Global, input: &mut Cursor<'_>) -> Result<Select, Or<u32>>
     ensures { ReadsPart sphinxql select select_goes_on IsSelected input.old result input.new }
 {
     let items = listed::<Item>(alloc, input, Sign::Comma)?;
-    input.word(Keyword::From)?;
+    input.keyword(Keyword::From)?;
     let index = input.name(alloc)?;
     let conds = conds(alloc, input)?;
     let group = group(alloc, input)?;

@@ -1,13 +1,18 @@
+//! What may follow the keyword SELECT: a system variable, `DATABASE()`, or the items of a SELECT from an index. DATABASE is a
+//! name too where no `(` follows.
+
 ghost use Rattle.std.specs.Prelude.{[], ◌∷◌};
 ghost use Rattle.ql_grammar.specs.Alphabet.{sphinxql};
 ghost use Rattle.ql_grammar.specs.declared.keyword.Keyword.TheVariants as keywords;
-ghost use Rattle.ql_grammar.specs.Classes.{the_word};
-ghost use Rattle.ql_grammar.specs.Grammar.{number, select, select_database, select_variable, selects, word};
+ghost use Rattle.ql_grammar.specs.Classes.{the_keyword};
+ghost use Rattle.ql_grammar.specs.Terminals.{number, keyword};
+ghost use Rattle.ql_grammar.specs.steps.Grammar.{select, select_database, select_variable, selects};
 ghost use Rattle.token_grammar.specs.Language.{◌⨾◌, ◌∣◌, optional};
 ghost use Rattle.token_grammar.specs.Values.{IsGiven};
 ghost use Rattle.token_grammar.specs.Reading.{ReadsPart};
-ghost use Rattle.ql_grammar.specs.GoingOn.{select_goes_on};
-ghost use Rattle.ql_grammar.specs.Statements.{IsRowLimit, IsSelection, IsStatement};
+ghost use Rattle.ql_grammar.specs.steps.GoingOn.{select_goes_on};
+ghost use Rattle.ql_grammar.specs.Statements.{IsRowLimit, IsStatement};
+ghost use Rattle.ql_grammar.specs.steps.Stating.{IsSelection};
 
 use crate::selecting::select;
 use ql_grammar::{Keyword, Statement};
@@ -18,16 +23,16 @@ use std::alloc::Global;
 
 /// ReadsPart `LIMIT n`, if it is there.
 fn row_limit(input: &mut Cursor<'_>) -> Result<Option<u64>, Or<u32>>
-    ensures { ReadsPart sphinxql (optional (word keywords.Limit ⨾ number)) (the_word keywords.Limit ∷ []) (IsGiven IsRowLimit) input.old result input.new }
+    ensures { ReadsPart sphinxql (optional (keyword keywords.Limit ⨾ number)) (the_keyword keywords.Limit ∷ []) (IsGiven IsRowLimit) input.old result input.new }
 {
-    if input.is_word(Keyword::Limit) {
-        input.word(Keyword::Limit)?;
+    if input.is_keyword(Keyword::Limit) {
+        input.keyword(Keyword::Limit)?;
         return Ok(Some(input.number()?));
     }
     Ok(None)
 }
 
-/// ReadsPart sphinxql what follows the word SELECT.
+/// ReadsPart sphinxql what follows the keyword SELECT.
 fn selection(alloc: Global, input: &mut Cursor<'_>) -> Result<Statement, Or<u32>>
     ensures { ReadsPart sphinxql (select_variable ∣ select_database ∣ select) select_goes_on IsSelection input.old result input.new }
 {
@@ -37,7 +42,7 @@ fn selection(alloc: Global, input: &mut Cursor<'_>) -> Result<Statement, Or<u32>
         return Ok(Statement::SelectVar { name, limit });
     }
     if input.is_followed(Keyword::Database, Sign::OpenParen) {
-        input.word(Keyword::Database)?;
+        input.keyword(Keyword::Database)?;
         input.sign(Sign::OpenParen)?;
         input.sign(Sign::CloseParen)?;
         return Ok(Statement::SelectDatabase);
@@ -50,7 +55,7 @@ fn selection(alloc: Global, input: &mut Cursor<'_>) -> Result<Statement, Or<u32>
 pub(crate) fn selects(alloc: Global, input: &mut Cursor<'_>) -> Result<Statement, Or<u32>>
     ensures { ReadsPart sphinxql selects select_goes_on IsStatement input.old result input.new }
 {
-    input.word(Keyword::Select)?;
+    input.keyword(Keyword::Select)?;
     let rest = selection(alloc, input)?;
     Ok(rest)
 }

@@ -1,11 +1,16 @@
+//! SET and its forms. GLOBAL and SESSION may be the variable that is set, so the token after them decides.
+
 ghost use Rattle.std.specs.Prelude.{[]};
 ghost use Rattle.ql_lex.specs.declared.token.Sign.TheVariants as signs;
-ghost use Rattle.ql_grammar.specs.Classes.{the_sign, the_word};
+ghost use Rattle.ql_grammar.specs.Classes.{the_sign, the_keyword};
 ghost use Rattle.ql_grammar.specs.Alphabet.{sphinxql};
-ghost use Rattle.ql_grammar.specs.Grammar.{assignment, plain, scoped, set, set_rest, setting, sysvar, target_name};
+ghost use Rattle.ql_grammar.specs.Terminals.{sysvar, target_name};
+ghost use Rattle.ql_grammar.specs.steps.Grammar.{assignment, plain, scoped, set, set_rest, setting};
 ghost use Rattle.token_grammar.specs.Language.{◌∣◌};
-ghost use Rattle.token_grammar.specs.Reading.{IsLeading, ReadsPart};
-ghost use Rattle.ql_grammar.specs.Statements.{IsAssignment, IsPlain, IsSetRest, IsSetting, IsStatement, IsTarget};
+ghost use Rattle.token_grammar.specs.Reading.{ReadsPart};
+ghost use Rattle.token_grammar.specs.steps.Progress.{IsLeading};
+ghost use Rattle.ql_grammar.specs.Statements.{IsPlain, IsSetting, IsStatement, IsTarget};
+ghost use Rattle.ql_grammar.specs.steps.Stating.{IsAssignment, IsSetRest};
 
 use ql_grammar::{Keyword, Plain, Scope, SetValue, Statement, Target};
 use ql_lex::Sign;
@@ -37,7 +42,7 @@ fn target(alloc: Global, input: &mut Cursor<'_>) -> Result<Target, Or<u32>>
 fn setting(alloc: Global, input: &mut Cursor<'_>) -> Result<SetValue, Or<u32>>
     ensures { ReadsPart sphinxql setting [] IsSetting input.old result input.new }
 {
-    if input.takes_word(Keyword::Null) {
+    if input.takes_keyword(Keyword::Null) {
         return Ok(SetValue::Null);
     }
     if input.is_text() {
@@ -61,11 +66,11 @@ fn assignment(alloc: Global, input: &mut Cursor<'_>) -> Result<(Target, SetValue
 }
 
 /// Whether a keyword is next, and is not itself the name that is set.
-fn leads(input: &Cursor<'_>, word: Keyword) -> bool
-    ensures { IsLeading sphinxql (the_word word) (the_sign signs.Equal) input.now result }
+fn leads(input: &Cursor<'_>, keyword: Keyword) -> bool
+    ensures { IsLeading sphinxql (the_keyword keyword) (the_sign signs.Equal) input.now result }
 {
-    if input.is_word(word) {
-        !input.is_followed(word, Sign::Equal)
+    if input.is_keyword(keyword) {
+        !input.is_followed(keyword, Sign::Equal)
     } else {
         false
     }
@@ -76,7 +81,7 @@ fn scoped(alloc: Global, input: &mut Cursor<'_>) -> Result<Statement, Or<u32>>
     ensures { ReadsPart sphinxql scoped [] IsSetRest input.old result input.new }
 {
     if leads(input, Keyword::Global) {
-        input.word(Keyword::Global)?;
+        input.keyword(Keyword::Global)?;
         let set = assignment(alloc, input)?;
         return Ok(Statement::SetOther {
             scope: Scope::Global,
@@ -85,7 +90,7 @@ fn scoped(alloc: Global, input: &mut Cursor<'_>) -> Result<Statement, Or<u32>>
         });
     }
     if leads(input, Keyword::Session) {
-        input.word(Keyword::Session)?;
+        input.keyword(Keyword::Session)?;
         let set = assignment(alloc, input)?;
         return Ok(Statement::SetOther {
             scope: Scope::Session,
@@ -101,15 +106,15 @@ fn scoped(alloc: Global, input: &mut Cursor<'_>) -> Result<Statement, Or<u32>>
     })
 }
 
-/// ReadsPart sphinxql what follows the word SET.
+/// ReadsPart sphinxql what follows the keyword SET.
 fn set_rest(alloc: Global, input: &mut Cursor<'_>) -> Result<Statement, Or<u32>>
     ensures { ReadsPart sphinxql set_rest [] IsSetRest input.old result input.new }
 {
-    if input.takes_word(Keyword::Autocommit) {
+    if input.takes_keyword(Keyword::Autocommit) {
         input.sign(Sign::Equal)?;
         return Ok(Statement::SetAutocommit(input.number()?));
     }
-    if input.takes_word(Keyword::Names) {
+    if input.takes_keyword(Keyword::Names) {
         return Ok(Statement::SetNames(plain(alloc, input)?));
     }
     let other = scoped(alloc, input)?;
@@ -120,7 +125,7 @@ fn set_rest(alloc: Global, input: &mut Cursor<'_>) -> Result<Statement, Or<u32>>
 pub(crate) fn set(alloc: Global, input: &mut Cursor<'_>) -> Result<Statement, Or<u32>>
     ensures { ReadsPart sphinxql set [] IsStatement input.old result input.new }
 {
-    input.word(Keyword::Set)?;
+    input.keyword(Keyword::Set)?;
     let rest = set_rest(alloc, input)?;
     Ok(rest)
 }

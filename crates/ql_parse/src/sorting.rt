@@ -1,13 +1,16 @@
+//! Sort keys and their directions: GROUP BY, WITHIN GROUP ORDER BY and ORDER BY.
+
 ghost use Rattle.std.specs.Prelude.{[], ◌∷◌};
 ghost use Rattle.ql_grammar.specs.Alphabet.{sphinxql};
 ghost use Rattle.ql_lex.specs.declared.token.Sign.TheVariants as signs;
 ghost use Rattle.ql_grammar.specs.declared.keyword.Keyword.TheVariants as keywords;
-ghost use Rattle.ql_grammar.specs.Classes.{the_word, the_sign};
-ghost use Rattle.ql_grammar.specs.Grammar.{name, weight, count, comma, direction, key, inner_key, group_key, group, within, order};
+ghost use Rattle.ql_grammar.specs.Classes.{the_keyword, the_sign};
+ghost use Rattle.ql_grammar.specs.Terminals.{name, comma};
+ghost use Rattle.ql_grammar.specs.steps.Grammar.{weight, count, direction, key, inner_key, group_key, group, within, order};
 ghost use Rattle.token_grammar.specs.Language.{◌∣◌};
 ghost use Rattle.token_grammar.specs.Values.{IsGiven, AreGiven};
 ghost use Rattle.token_grammar.specs.Reading.{ReadsPart, TakesPart};
-ghost use Rattle.ql_grammar.specs.GoingOn.{key_goes_on};
+ghost use Rattle.ql_grammar.specs.steps.GoingOn.{key_goes_on};
 ghost use Rattle.ql_grammar.specs.Selects.{IsSort, IsInnerSort, IsGroupSort, IsDirection, IsKeyBy, IsGroup, AreInnerKeys, AreKeys};
 
 use crate::calls::{count_all, no_argument};
@@ -56,12 +59,12 @@ pub(crate) fn group_sort(alloc: Global, input: &mut Cursor<'_>) -> Result<SortNa
 
 /// ReadsPart sphinxql a direction, if it is there.
 fn direction(input: &mut Cursor<'_>) -> Option<bool>
-    ensures { TakesPart sphinxql direction (the_word keywords.Asc ∷ the_word keywords.Desc ∷ []) (IsGiven IsDirection result) input.old input.new }
+    ensures { TakesPart sphinxql direction (the_keyword keywords.Asc ∷ the_keyword keywords.Desc ∷ []) (IsGiven IsDirection result) input.old input.new }
 {
-    if input.takes_word(Keyword::Asc) {
+    if input.takes_keyword(Keyword::Asc) {
         return Some(false);
     }
-    if input.takes_word(Keyword::Desc) {
+    if input.takes_keyword(Keyword::Desc) {
         return Some(true);
     }
     None
@@ -116,10 +119,10 @@ pub(crate) fn group_key(alloc: Global, input: &mut Cursor<'_>) -> Result<SortKey
 
 /// ReadsPart sphinxql GROUP BY, if it is there.
 pub(crate) fn group(alloc: Global, input: &mut Cursor<'_>) -> Result<Option<Name>, Or<u32>>
-    ensures { ReadsPart sphinxql group (the_word keywords.Group ∷ []) (IsGiven IsGroup) input.old result input.new }
+    ensures { ReadsPart sphinxql group (the_keyword keywords.Group ∷ []) (IsGiven IsGroup) input.old result input.new }
 {
-    if input.is_word(Keyword::Group) {
-        input.words(Keyword::Group, Keyword::By)?;
+    if input.is_keyword(Keyword::Group) {
+        input.two_keywords(Keyword::Group, Keyword::By)?;
         return Ok(Some(input.name(alloc)?));
     }
     Ok(None)
@@ -127,11 +130,11 @@ pub(crate) fn group(alloc: Global, input: &mut Cursor<'_>) -> Result<Option<Name
 
 /// ReadsPart sphinxql WITHIN GROUP ORDER BY, if it is there.
 pub(crate) fn within(alloc: Global, input: &mut Cursor<'_>) -> Result<Items<SortKey>, Or<u32>>
-    ensures { ReadsPart sphinxql within (the_word keywords.Within ∷ comma ∷ key_goes_on) (AreGiven AreInnerKeys) input.old result input.new }
+    ensures { ReadsPart sphinxql within (the_keyword keywords.Within ∷ comma ∷ key_goes_on) (AreGiven AreInnerKeys) input.old result input.new }
 {
-    if input.is_word(Keyword::Within) {
-        input.words(Keyword::Within, Keyword::Group)?;
-        input.words(Keyword::Order, Keyword::By)?;
+    if input.is_keyword(Keyword::Within) {
+        input.two_keywords(Keyword::Within, Keyword::Group)?;
+        input.two_keywords(Keyword::Order, Keyword::By)?;
         let keys = listed::<InnerKey>(alloc, input, Sign::Comma)?;
         return Ok(keys);
     }
@@ -140,10 +143,10 @@ pub(crate) fn within(alloc: Global, input: &mut Cursor<'_>) -> Result<Items<Sort
 
 /// ReadsPart sphinxql ORDER BY, if it is there.
 pub(crate) fn order(alloc: Global, input: &mut Cursor<'_>) -> Result<Items<SortKey>, Or<u32>>
-    ensures { ReadsPart sphinxql order (the_word keywords.Order ∷ comma ∷ key_goes_on) (AreGiven AreKeys) input.old result input.new }
+    ensures { ReadsPart sphinxql order (the_keyword keywords.Order ∷ comma ∷ key_goes_on) (AreGiven AreKeys) input.old result input.new }
 {
-    if input.is_word(Keyword::Order) {
-        input.words(Keyword::Order, Keyword::By)?;
+    if input.is_keyword(Keyword::Order) {
+        input.two_keywords(Keyword::Order, Keyword::By)?;
         let keys = listed::<Key>(alloc, input, Sign::Comma)?;
         return Ok(keys);
     }

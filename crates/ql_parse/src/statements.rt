@@ -1,7 +1,9 @@
-ghost use Rattle.ql_grammar.specs.Grammar.{statement};
+//! A statement, by its first keyword. INSERT and REPLACE come last, so a token with which no statement begins is refused there.
+
+ghost use Rattle.ql_grammar.specs.steps.Grammar.{statement};
 ghost use Rattle.ql_grammar.specs.Alphabet.{sphinxql};
 ghost use Rattle.token_grammar.specs.Reading.{ReadsPart};
-ghost use Rattle.ql_grammar.specs.GoingOn.{select_goes_on};
+ghost use Rattle.ql_grammar.specs.steps.GoingOn.{select_goes_on};
 ghost use Rattle.ql_grammar.specs.Statements.{IsStatement};
 
 use crate::commands::{
@@ -20,40 +22,40 @@ use std::alloc::Global;
 pub(crate) fn statement(alloc: Global, input: &mut Cursor<'_>) -> Result<Statement, Or<u32>>
     ensures { ReadsPart sphinxql statement select_goes_on IsStatement input.old result input.new }
 {
-    if input.is_word(Keyword::Select) {
+    if input.is_keyword(Keyword::Select) {
         return selects(alloc, input);
     }
-    if input.is_word(Keyword::Delete) {
+    if input.is_keyword(Keyword::Delete) {
         return delete(alloc, input);
     }
-    if input.is_word(Keyword::Set) {
+    if input.is_keyword(Keyword::Set) {
         return set(alloc, input);
     }
-    if input.is_word(Keyword::Show) {
+    if input.is_keyword(Keyword::Show) {
         return show(alloc, input);
     }
-    if input.is_word(Keyword::Flush) {
+    if input.is_keyword(Keyword::Flush) {
         return flush(alloc, input);
     }
-    if input.is_word(Keyword::Begin) {
+    if input.is_keyword(Keyword::Begin) {
         return begin(input);
     }
-    if input.is_word(Keyword::Start) {
+    if input.is_keyword(Keyword::Start) {
         return start_transaction(input);
     }
-    if input.is_word(Keyword::Commit) {
+    if input.is_keyword(Keyword::Commit) {
         return commit(input);
     }
-    if input.is_word(Keyword::Rollback) {
+    if input.is_keyword(Keyword::Rollback) {
         return rollback(input);
     }
-    if input.is_word(Keyword::Optimize) {
+    if input.is_keyword(Keyword::Optimize) {
         return optimize(alloc, input);
     }
-    if input.is_word(Keyword::Truncate) {
+    if input.is_keyword(Keyword::Truncate) {
         return truncate(alloc, input);
     }
-    if input.is_word(Keyword::Describe) {
+    if input.is_keyword(Keyword::Describe) {
         return describe(alloc, input);
     }
     insert(alloc, input)

@@ -13,7 +13,7 @@ use Rattle.ql_lex.specs.Tokens.{Lexeme, lexeme_of, AreLexemes}
 use Rattle.ql_grammar.specs.declared.keyword.Keyword.{Keyword}
 use Rattle.ql_grammar.specs.declared.kind.Kind.TheVariants as kinds
 use Rattle.ql_grammar.specs.Keywords.{keyword_named}
-use Rattle.ql_grammar.specs.Tokens.{kind, kind_by, word_kind, sign_kind, lexemes, first_kind}
+use Rattle.ql_grammar.specs.Tokens.{kind, kind_by, name_kind, sign_kind, lexemes, first_kind}
 use Rattle.ql_grammar.specs.Classes.{is_name}
 
 end_kind : (f : TokenKind) (t : Lexeme) → t.kind ≡ f → f ≡ forms.End → kind t ≡ kinds.End
@@ -43,7 +43,7 @@ tokens_behind (t ∷ ts) h other =
     subst (λ (us : List Token). AreLexemes (lexemes us)) (sym same) (lexemes_behind (lexeme_of t) (lexemes ts) h other)
 
 -- what the kinds say of the forms
-no_Number : (o : Option Keyword) → word_kind o ≡ kinds.Number → ⊥
+no_Number : (o : Option Keyword) → name_kind o ≡ kinds.Number → ⊥
 no_Number None e = cc
 no_Number (Some w) e = cc
 
@@ -61,7 +61,7 @@ number_form forms.SysVar text e = cc
 number_form forms.Sign text e = absurd (sign_no_Number (sign_of text) e)
 number_form forms.End text e = cc
 
-no_Text : (o : Option Keyword) → word_kind o ≡ kinds.Text → ⊥
+no_Text : (o : Option Keyword) → name_kind o ≡ kinds.Text → ⊥
 no_Text None e = cc
 no_Text (Some w) e = cc
 
@@ -79,7 +79,7 @@ text_form forms.SysVar text e = cc
 text_form forms.Sign text e = absurd (sign_no_Text (sign_of text) e)
 text_form forms.End text e = cc
 
-no_SysVar : (o : Option Keyword) → word_kind o ≡ kinds.SysVar → ⊥
+no_SysVar : (o : Option Keyword) → name_kind o ≡ kinds.SysVar → ⊥
 no_SysVar None e = cc
 no_SysVar (Some w) e = cc
 
@@ -113,7 +113,7 @@ named forms.Sign text e h = absurd (sign_no_name (sign_of text) e)
 named forms.End text e h = cc
 
 -- the end is the last token
-no_End : (o : Option Keyword) → word_kind o ≡ kinds.End → ⊥
+no_End : (o : Option Keyword) → name_kind o ≡ kinds.End → ⊥
 no_End None e = cc
 no_End (Some w) e = cc
 

@@ -9,14 +9,14 @@ use Rattle.token_grammar.proofs.Rows.{takes_next}
 use Rattle.ql_grammar.specs.declared.keyword.Keyword.{Keyword}
 use Rattle.ql_grammar.specs.declared.kind.Kind.TheVariants as kinds
 use Rattle.ql_grammar.specs.Alphabet.{sphinxql}
-use Rattle.ql_grammar.specs.Classes.{Class, the_word, the_sign, fits}
-use Rattle.ql_grammar.specs.Parts.{IsWord, IsSign}
+use Rattle.ql_grammar.specs.Classes.{Class, the_keyword, the_sign, fits}
+use Rattle.ql_grammar.specs.Parts.{IsKeyword, IsSign}
 use Rattle.ql_grammar.specs.Tokens.{kind, first_kind}
-use Rattle.ql_grammar.proofs.ClassKinds.{word_is, sign_is}
-use Rattle.ql_parts.specs.Progress.{second_kind}
+use Rattle.ql_grammar.proofs.ClassKinds.{keyword_is, sign_is}
+use Rattle.ql_parts.specs.steps.Seconds.{second_kind}
 
-pub takes_word : {w : Keyword} {cs : List Class} {t : Lexeme} {before now : List Lexeme} → IsNextOf sphinxql (the_word w) before true → before ≡ t ∷ now → TakesPart sphinxql (one (the_word w)) cs (IsWord w) before now
-takes_word {w} {cs} {t} {before} {now} n is = takes_next n is (λ fit. (t, refl, word_is w (kind t) fit))
+pub takes_keyword : {w : Keyword} {cs : List Class} {t : Lexeme} {before now : List Lexeme} → IsNextOf sphinxql (the_keyword w) before true → before ≡ t ∷ now → TakesPart sphinxql (one (the_keyword w)) cs (IsKeyword w) before now
+takes_keyword {w} {cs} {t} {before} {now} n is = takes_next n is (λ fit. (t, refl, keyword_is w (kind t) fit))
 
 pub takes_sign : {s : Sign} {cs : List Class} {t : Lexeme} {before now : List Lexeme} → IsNextOf sphinxql (the_sign s) before true → before ≡ t ∷ now → TakesPart sphinxql (one (the_sign s)) cs (IsSign s) before now
 takes_sign {s} {cs} {t} {before} {now} n is = takes_next n is (λ fit. (t, refl, sign_is s (kind t) fit))

@@ -13,12 +13,6 @@ pub record IsNext (k : Kind) (tokens : List Lexeme) : Type 0 where
   pub is : tokens ≡ next ∷ rest
   pub kind_is : kind next ≡ k
 
--- the kind of the token after the next one
-abbrev pub second_kind : List Lexeme → Kind
-second_kind [] = kinds.End
-second_kind (t ∷ []) = kinds.End
-second_kind (t ∷ u ∷ ts) = kind u
-
 -- a statement begins with a token of this kind
 abbrev pub is_start : Kind → Bool
 is_start (kinds.Keyword w) = begins_statement w

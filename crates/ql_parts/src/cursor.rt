@@ -1,3 +1,7 @@
+//! A cursor over the tokens of a text, of which the last is the end. Tests look at the next token, or at two; takers go on
+//! after it. A taker that doesn't find its token answers the place of the next one and takes nothing.
+//! No token but a name or a text is copied.
+
 ghost use Rattle.std.specs.Prelude.{◌≡◌, ◌≢◌, [], ◌∷◌, IsTrue, length};
 ghost use Rattle.ql_grammar.specs.Alphabet.{sphinxql};
 ghost use Rattle.ql_grammar.specs.declared.keyword.Keyword.TheVariants as keywords;
@@ -5,11 +9,12 @@ ghost use Rattle.ql_grammar.specs.declared.kind.Kind.TheVariants as kinds;
 ghost use Rattle.ql_lex.specs.Shapes.{IsLexeme};
 ghost use Rattle.ql_lex.specs.Tokens.{lexeme_of, AreLexemes};
 ghost use Rattle.ql_grammar.specs.Tokens.{kind, lexemes, first_kind};
-ghost use Rattle.ql_grammar.specs.Classes.{fits, name_but, the_end, the_word, any_name, a_number, a_text, a_sysvar, the_sign};
+ghost use Rattle.ql_grammar.specs.Classes.{fits, name_but, the_end, the_keyword, any_name, a_number, a_text, a_sysvar, the_sign};
 ghost use Rattle.token_grammar.specs.Language.{one};
-ghost use Rattle.ql_grammar.specs.Grammar.{words, name, number, text, sysvar, target_name};
-ghost use Rattle.ql_grammar.specs.Parts.{IsWord, AreWords, IsSign, IsName, IsNumber, IsTargetName, IsText, IsVariable};
-ghost use Rattle.ql_parts.specs.Progress.{IsNext, IsStart, second_kind};
+ghost use Rattle.ql_grammar.specs.Terminals.{two_keywords, name, number, text, sysvar, target_name};
+ghost use Rattle.ql_grammar.specs.Parts.{IsKeyword, AreKeywords, IsSign, IsName, IsNumber, IsTargetName, IsText, IsVariable};
+ghost use Rattle.ql_parts.specs.Progress.{IsNext, IsStart};
+ghost use Rattle.ql_parts.specs.steps.Seconds.{second_kind};
 ghost use Rattle.token_grammar.specs.Reading.{first_place, IsNextOf, ReadsPart, TakesIf, IsFollowed};
 
 use ql_grammar::{Keyword, Kind, keyword_named};
@@ -43,7 +48,7 @@ fn kind_of(token: &Token<'_>) -> Kind
 {
     match token.kind {
         TokenKind::Name => match keyword_named(token.text) {
-            Some(word) => Kind::Keyword(word),
+            Some(keyword) => Kind::Keyword(keyword),
             None => Kind::Name,
         },
         TokenKind::Quoted => Kind::Name,
@@ -83,7 +88,7 @@ impl<'a> Cursor<'a> {
         kind_of(&self.rest[0])
     }
 
-    /// Goes on behind the next token.
+    /// Goes on after the next token.
     pub fn skip(&mut self) -> &'a Token<'a>
         requires { first_kind self.old ≢ kinds.End }
         ensures next { self.old ≡ lexeme_of result.now ∷ self.new }
@@ -102,11 +107,11 @@ impl<'a> Cursor<'a> {
     }
 
     /// Whether a keyword is next.
-    pub fn is_word(&self, word: Keyword) -> bool
-        ensures { IsNextOf sphinxql (the_word word) self.now result }
+    pub fn is_keyword(&self, keyword: Keyword) -> bool
+        ensures { IsNextOf sphinxql (the_keyword keyword) self.now result }
     {
         match self.kind() {
-            Kind::Keyword(next) => word == next,
+            Kind::Keyword(next) => keyword == next,
             _ => false,
         }
     }
@@ -119,10 +124,10 @@ impl<'a> Cursor<'a> {
     }
 
     /// Takes a keyword.
-    pub fn word(&mut self, word: Keyword) -> Result<(), Or<u32>>
-        ensures { ReadsPart sphinxql (one (the_word word)) [] (λ _. IsWord word) self.old result self.new }
+    pub fn keyword(&mut self, keyword: Keyword) -> Result<(), Or<u32>>
+        ensures { ReadsPart sphinxql (one (the_keyword keyword)) [] (λ _. IsKeyword keyword) self.old result self.new }
     {
-        if self.is_word(word) {
+        if self.is_keyword(keyword) {
             self.skip();
             Ok(())
         } else {
@@ -154,26 +159,26 @@ impl<'a> Cursor<'a> {
     }
 
     /// Takes two keywords in a row.
-    pub fn words(&mut self, first: Keyword, second: Keyword) -> Result<(), Or<u32>>
-        ensures { ReadsPart sphinxql (words first second) [] (λ _. AreWords first second) self.old result self.new }
+    pub fn two_keywords(&mut self, first: Keyword, second: Keyword) -> Result<(), Or<u32>>
+        ensures { ReadsPart sphinxql (two_keywords first second) [] (λ _. AreKeywords first second) self.old result self.new }
     {
-        self.word(first)?;
-        self.word(second)?;
+        self.keyword(first)?;
+        self.keyword(second)?;
         Ok(())
     }
 
     /// Takes a keyword, if it is the next token.
-    pub fn takes_word(&mut self, word: Keyword) -> bool
-        ensures { TakesIf sphinxql (the_word word) (IsWord word) self.old result self.new }
+    pub fn takes_keyword(&mut self, keyword: Keyword) -> bool
+        ensures { TakesIf sphinxql (the_keyword keyword) (IsKeyword keyword) self.old result self.new }
     {
-        let found = self.is_word(word);
+        let found = self.is_keyword(keyword);
         if found {
             self.skip();
         }
         found
     }
 
-    /// What the token behind the next one is. It is the end too where there is no such token.
+    /// What the token after the next one is. It is the end too where there is no such token.
     pub(crate) fn second(&self) -> Kind
         ensures { result ≡ second_kind self.now }
     {
@@ -184,11 +189,11 @@ impl<'a> Cursor<'a> {
         }
     }
 
-    /// Whether a keyword is next, and a sign behind it.
-    pub fn is_followed(&self, word: Keyword, sign: Sign) -> bool
-        ensures { IsFollowed sphinxql (the_word word) (the_sign sign) self.now result }
+    /// Whether a keyword is next, and a sign after it.
+    pub fn is_followed(&self, keyword: Keyword, sign: Sign) -> bool
+        ensures { IsFollowed sphinxql (the_keyword keyword) (the_sign sign) self.now result }
     {
-        if self.is_word(word) {
+        if self.is_keyword(keyword) {
             is_the_sign(self.second(), sign)
         } else {
             false
@@ -200,7 +205,7 @@ impl<'a> Cursor<'a> {
         ensures { IsNextOf sphinxql any_name self.now result }
     {
         match self.kind() {
-            Kind::Keyword(word) => !word.is_reserved(),
+            Kind::Keyword(keyword) => !keyword.is_reserved(),
             Kind::Name => true,
             _ => false,
         }
@@ -211,13 +216,13 @@ impl<'a> Cursor<'a> {
         ensures { IsNextOf sphinxql (name_but keywords.Autocommit keywords.Names) self.now result }
     {
         match self.kind() {
-            Kind::Keyword(word) => !word.is_reserved() && !word.is_set_form(),
+            Kind::Keyword(keyword) => !keyword.is_reserved() && !keyword.is_set_form(),
             Kind::Name => true,
             _ => false,
         }
     }
 
-    /// Whether the end is next. Nothing stands behind it.
+    /// Whether the end is next. Nothing stands after it.
     pub fn is_end(&self) -> bool
         ensures end { IsNextOf sphinxql the_end self.now result }
         ensures last { IsTrue result → length self.now ≡ 1 }
@@ -233,7 +238,7 @@ impl<'a> Cursor<'a> {
         ensures { IsStart self.now result }
     {
         match self.kind() {
-            Kind::Keyword(word) => word.begins_statement(),
+            Kind::Keyword(keyword) => keyword.begins_statement(),
             _ => false,
         }
     }

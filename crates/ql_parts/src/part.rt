@@ -1,8 +1,11 @@
+//! Parts of the grammar as types: each has its expression, the classes of tokens with which it may go on, the meaning of its
+//! texts and its reader. `listed` and `enclosed` read lists of any such part, and are proved once for all of them.
+
 ghost use Rattle.std.specs.Prelude.{◌≡◌, ◌∷◌, [], true, pos, neg_ℤ};
 ghost use Rattle.ql_grammar.specs.Alphabet.{sphinxql};
 ghost use Rattle.ql_lex.specs.declared.token.Sign.TheVariants as signs;
 ghost use Rattle.ql_grammar.specs.Classes.{the_sign};
-ghost use Rattle.ql_grammar.specs.Grammar.{comma, name, sign, number, whole, enclosed};
+ghost use Rattle.ql_grammar.specs.Terminals.{comma, name, sign, number, whole, enclosed};
 ghost use Rattle.token_grammar.specs.Language.{listed, repeated};
 ghost use Rattle.token_grammar.specs.Language.{many, seq, one};
 ghost use Rattle.ql_grammar.specs.Parts.{IsEnclosed, IsSign, IsComma, IsName, IsNumber, IsWhole};
@@ -70,7 +73,7 @@ fn negative(n: u64) -> i128
     -i128::from(n)
 }
 
-/// A number, maybe behind a `-`
+/// A number, maybe after a `-`
 pub struct Whole;
 
 impl Part for Whole {

@@ -1,4 +1,4 @@
-ghost use Rattle.ql_lex.specs.Shapes.{IsText};
+ghost use Rattle.ql_lex.specs.Shapes.{IsQuotedText};
 
 use ql_lex::TokenKind::{Name, Quoted, SysVar};
 use ql_lex::{Sign, Token, number_of, put_text, sign_of, token_name};
@@ -7,7 +7,7 @@ use std::alloc::Global;
 
 /// Whether a text token has this value, which is appended.
 fn has_value(alloc: Global, token: &[u8], value: &str) -> Result<bool, NoMemory>
-    requires { IsText token.now }
+    requires { IsQuotedText token.now }
 {
     let mut out = b"x".to_vec(alloc)?;
     put_text(token, &mut out)?;

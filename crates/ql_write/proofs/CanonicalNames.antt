@@ -21,7 +21,7 @@ use Rattle.ql_lex.proofs.Heads.{each_ascii}
 use Rattle.ql_grammar.specs.declared.keyword.Keyword.{Keyword}
 use Rattle.ql_grammar.specs.declared.kind.Kind.{Kind}
 use Rattle.ql_grammar.specs.declared.kind.Kind.TheVariants as kinds
-use Rattle.ql_grammar.specs.Tokens.{kind_by, word_kind, sign_kind}
+use Rattle.ql_grammar.specs.Tokens.{kind_by, name_kind, sign_kind}
 use Rattle.ql_grammar.specs.Classes.{is_name}
 use Rattle.ql_grammar.specs.Keywords.{keyword_named}
 
@@ -78,13 +78,13 @@ small_twice (b ∷ bytes) = ap (λ c. c ∷ str_to_ascii_lowercase (str_to_ascii
 
 -- the name of a token: small letters, digits and what else its test passes
 pub record IsNameBy (test : ℕ → Bool) (bytes : List ℕ) : Type 0 where
-  pub word : is_word test bytes ≡ true
+  pub keyword : is_word test bytes ≡ true
   pub size : length bytes ≤ 64
   pub small : str_to_ascii_lowercase bytes ≡ bytes
 
 made_small : (test : ℕ → Bool) → ((b : ℕ) → test b ≡ true → test (to_ascii_lowercase b) ≡ true) → (bytes : List ℕ) → is_word test bytes ≡ true → length bytes ≤ 64 → IsNameBy test (str_to_ascii_lowercase bytes)
 made_small test small bytes is size = record {
-  word = small_word test small bytes is;
+  keyword = small_word test small bytes is;
   size = omega (arith, length-map bytes to_ascii_lowercase);
   small = small_twice bytes;
 }
@@ -115,7 +115,7 @@ is_other kinds.SysVar = true
 is_other (kinds.Sign s) = false
 is_other kinds.End = false
 
-no_word : (o : Option Keyword) → is_other (word_kind o) ≡ true → ⊥
+no_word : (o : Option Keyword) → is_other (name_kind o) ≡ true → ⊥
 no_word None e = cc
 no_word (Some w) e = cc
 

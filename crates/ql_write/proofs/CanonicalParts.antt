@@ -14,9 +14,9 @@ use Rattle.ql_grammar.specs.declared.keyword.Keyword.{Keyword}
 use Rattle.ql_grammar.specs.declared.kind.Kind.TheVariants as kinds
 use Rattle.ql_grammar.specs.Tokens.{kind, number_value}
 use Rattle.ql_grammar.specs.Classes.{is_name}
-use Rattle.ql_grammar.specs.Parts.{IsWord, AreWords, IsSign, IsComma, IsName, IsNumber, IsText, IsVariable, IsWhole, IsEnclosed, AreParens}
+use Rattle.ql_grammar.specs.Parts.{IsKeyword, AreKeywords, IsSign, IsComma, IsName, IsNumber, IsText, IsVariable, IsWhole, IsEnclosed, AreParens}
 use Rattle.token_grammar.specs.Values.{◌then◌, IsAbsent, IsOne, IsGiven, AreGiven, AreListed, AreInRow}
-use Rattle.ql_write.specs.Pieces.{Piece, word, sign, name, number, text, variable, spelling, whole, listed, in_parentheses, given, given_all, in_row}
+use Rattle.ql_write.specs.Pieces.{Piece, keyword, sign, name, number, text, variable, spelling, whole, listed, in_parentheses, given, given_all, in_row}
 use Rattle.ql_write.proofs.CanonicalNames.{IsNameBy, name_facts, variable_facts, number_facts, text_facts, decimal_fits}
 use Rattle.ql_write.proofs.CanonicalTexts.{text_fits}
 use Rattle.ql_write.proofs.CanonicalPieces.{form, spelled_as, AllFit, Spells, fits, word_fits, word_reads, sign_fits, sign_reads, kind_is, quoted_fits, quoted_kind, quoted_name, variable_fits, variable_kind, variable_name, number_kind, number_is, text_kind, text_is}
@@ -103,13 +103,13 @@ stays_one {P} p fit is = record {
   is = λ u good (t, e, q) v s. one_back p (λ r. is t (good_one t (subst AreGood e good)) q r) v s;
 }
 
-pub word_back : (w : Keyword) (v : List Lexeme) → Spells (word w ∷ []) v → IsWord w v
-word_back w v s = one_back (word w) (λ r is. kind_is (word w) r is ∙ word_reads w) v s
+pub word_back : (w : Keyword) (v : List Lexeme) → Spells (keyword w ∷ []) v → IsKeyword w v
+word_back w v s = one_back (keyword w) (λ r is. kind_is (keyword w) r is ∙ word_reads w) v s
 
-pub stays_word : (w : Keyword) → Stays (IsWord w) (word w ∷ [])
-stays_word w = stays_one (word w) (λ t good e. word_fits w) (λ t good e s is. kind_is (word w) s is ∙ word_reads w)
+pub stays_word : (w : Keyword) → Stays (IsKeyword w) (keyword w ∷ [])
+stays_word w = stays_one (keyword w) (λ t good e. word_fits w) (λ t good e s is. kind_is (keyword w) s is ∙ word_reads w)
 
-pub stays_words : (v w : Keyword) → Stays (AreWords v w) (word v ∷ word w ∷ [])
+pub stays_words : (v w : Keyword) → Stays (AreKeywords v w) (keyword v ∷ keyword w ∷ [])
 stays_words v w = stays_then (stays_word v) (stays_word w)
 
 pub stays_sign : (s : Sign) → Stays (IsSign s) (sign s ∷ [])

@@ -17,13 +17,13 @@ use Rattle.ql_grammar.specs.declared.keyword.Keyword.TheVariants as keywords
 use Rattle.ql_grammar.specs.declared.kind.Kind.TheVariants as kinds
 use Rattle.ql_grammar.specs.Tokens.{kind, kind_by, name_value, number_value, text_value}
 use Rattle.ql_grammar.specs.Keywords.{keyword_named}
-use Rattle.ql_write.specs.Pieces.{Piece, word, sign, name, number, text, variable, in_capitals, sign_text, spelling}
+use Rattle.ql_write.specs.Pieces.{Piece, keyword, sign, name, number, text, variable, in_capitals, sign_text, spelling}
 use Rattle.ql_write.proofs.CanonicalNames.{IsNameBy, inside_of, enclosed_of, decimal_value}
 use Rattle.ql_write.proofs.CanonicalTexts.{text_back}
 
 -- what a piece is as a token
 abbrev pub form : Piece → TokenKind
-form (word w) = forms.Name
+form (keyword w) = forms.Name
 form (sign s) = forms.Sign
 form (name bytes) = forms.Quoted
 form (number n) = forms.Number
@@ -41,7 +41,7 @@ abbrev pub Spells : List Piece → List Lexeme → Type 0
 Spells ps u = AreSpelled (map spelled_as ps) u
 
 not_end : (p : Piece) → form p ≡ forms.End → ⊥
-not_end (word w) e = cc
+not_end (keyword w) e = cc
 not_end (sign s) e = cc
 not_end (name bytes) e = cc
 not_end (number n) e = cc
@@ -215,10 +215,10 @@ sign_reads signs.GreaterOrEqual = refl
 
 pub quoted_fits : (bytes : List ℕ) → IsNameBy is_name_byte bytes → IsLexeme forms.Quoted (spelling (name bytes))
 quoted_fits bytes is =
-    ((enclosed_of 96 bytes, ap (is_word is_name_byte) (inside_of 96 bytes) ∙ is.word), subst (λ (v : List ℕ). length v ≤ 64) (sym (inside_of 96 bytes)) is.size)
+    ((enclosed_of 96 bytes, ap (is_word is_name_byte) (inside_of 96 bytes) ∙ is.keyword), subst (λ (v : List ℕ). length v ≤ 64) (sym (inside_of 96 bytes)) is.size)
 
 pub variable_fits : (bytes : List ℕ) → IsNameBy is_variable_byte bytes → IsLexeme forms.SysVar (spelling (variable bytes))
-variable_fits bytes is = ((refl, refl, is.word), is.size)
+variable_fits bytes is = ((refl, refl, is.keyword), is.size)
 
 -- what a token spelled as a piece is
 pub kind_is : (p : Piece) (t : Lexeme) → IsSpelled (spelled_as p) t → kind t ≡ kind_by (form p) (spelling p)

@@ -20,18 +20,18 @@ use Rattle.ql_grammar.specs.declared.select.SelectOption.{SelectOption}
 use Rattle.ql_grammar.specs.declared.select.SortKey.{SortKey}
 use Rattle.ql_grammar.specs.declared.select.SortName.{SortName}
 use Rattle.ql_grammar.specs.declared.select.SortName.TheVariants as sorts
-use Rattle.ql_grammar.specs.Parts.{IsWord, AreWords, IsComma}
+use Rattle.ql_grammar.specs.Parts.{IsKeyword, AreKeywords, IsComma}
 use Rattle.token_grammar.specs.Values.{◌then◌, IsPerhaps, AreListed}
-use Rattle.ql_write.specs.Pieces.{Piece, word, name, with_commas, given, given_all, in_row}
+use Rattle.ql_write.specs.Pieces.{Piece, keyword, name, with_commas, given, given_all, in_row}
 use Rattle.ql_grammar.specs.Selects.{IsExpr, IsAlias, IsItem, IsNegation, IsCond, IsWeight, IsCount, IsSort, IsInnerSort, IsGroupSort, IsDirection, IsKeyBy, IsSecond, IsLimit, IsFieldWeight, IsOptionValue, IsOption, IsFacetOrder, IsFacet, AreConds, IsGroup, AreInnerKeys, IsHavingPart, AreKeys, AreOptions, IsSelect, comparison_sign}
 use Rattle.ql_write.specs.Canonical.{count_all, weight, expr, alias_pieces, item, negation, cond, sort_name, direction, sort_key, ordered, having_pieces, second_number, limit_pieces, field_weight, option_value, option, facet_order, facet, where_pieces, group_pieces, within_pieces, option_pieces, select_pieces}
 use Rattle.ql_write.proofs.CanonicalPieces.{fits, word_fits}
 use Rattle.ql_write.proofs.CanonicalParts.{Stays, word_back, stays_then, stays_absent, stays_given, stays_given_all, stays_in_row, stays_listed, stays_with_commas, stays_word, stays_words, stays_sign, stays_name, stays_number, stays_text, stays_whole, stays_enclosed, stays_parens}
 
--- a word that may be left out is written
-stays_perhaps_word : (w : Keyword) → Stays (IsPerhaps (IsWord w)) (word w ∷ [])
+-- a keyword that may be left out is written
+stays_perhaps_word : (w : Keyword) → Stays (IsPerhaps (IsKeyword w)) (keyword w ∷ [])
 stays_perhaps_word w = record {
-  fit = λ u good p. (fits (word w) (word_fits w), tt);
+  fit = λ u good p. (fits (keyword w) (word_fits w), tt);
   is = λ u good p v s. inl (word_back w v s);
 }
 
@@ -93,7 +93,7 @@ stays_direction true = stays_word keywords.Desc
 stays_key_by : {Is : SortName → List Lexeme → Type 0} → ((s : SortName) → Stays (Is s) (sort_name s)) → (key : SortKey) → Stays (IsKeyBy Is key) (sort_key key)
 stays_key_by each key = stays_then (each key.by) (stays_given stays_direction key.descending)
 
-stays_order : {Is : SortName → List Lexeme → Type 0} → ((s : SortName) → Stays (Is s) (sort_name s)) → (keys : List SortKey) → Stays (AreWords keywords.Order keywords.By then AreListed IsComma (IsKeyBy Is) keys) (ordered keys)
+stays_order : {Is : SortName → List Lexeme → Type 0} → ((s : SortName) → Stays (Is s) (sort_name s)) → (keys : List SortKey) → Stays (AreKeywords keywords.Order keywords.By then AreListed IsComma (IsKeyBy Is) keys) (ordered keys)
 stays_order each keys = stays_then (stays_words keywords.Order keywords.By) (stays_with_commas (stays_key_by each) keys)
 
 stays_keys : (keys : List SortKey) → Stays (AreKeys keys) (ordered keys)
@@ -144,7 +144,7 @@ regrouped a f n i c g w h o l p t = simp append_assoc
 pub stays_select : (s : Select) → Stays (IsSelect s) (select_pieces s)
 stays_select s =
     subst (λ ps. Stays (IsSelect s) ps)
-    (sym (regrouped (word keywords.Select) (word keywords.From) (name s.index) (with_commas item s.items) (given_all where_pieces s.conds) (given group_pieces s.group) (given_all within_pieces s.within) (given having_pieces s.having) (given_all ordered s.order) (given limit_pieces s.limit) (given_all option_pieces s.options) (in_row facet s.facets)))
+    (sym (regrouped (keyword keywords.Select) (keyword keywords.From) (name s.index) (with_commas item s.items) (given_all where_pieces s.conds) (given group_pieces s.group) (given_all within_pieces s.within) (given having_pieces s.having) (given_all ordered s.order) (given limit_pieces s.limit) (given_all option_pieces s.options) (in_row facet s.facets)))
     (stays_then (stays_word keywords.Select) (stays_then (stays_with_commas stays_item s.items)
     (stays_then (stays_word keywords.From) (stays_then (stays_name s.index)
     (stays_then (stays_given_all stays_conds s.conds)

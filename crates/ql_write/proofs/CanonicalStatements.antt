@@ -22,11 +22,11 @@ use Rattle.ql_grammar.specs.declared.statement.Target.{Target}
 use Rattle.ql_grammar.specs.declared.statement.Target.TheVariants as targets
 use Rattle.ql_grammar.specs.declared.statement.Val.{Val}
 use Rattle.ql_grammar.specs.declared.statement.Val.TheVariants as vals
-use Rattle.ql_grammar.specs.Classes.{fits, is_name, is_word, name_but}
+use Rattle.ql_grammar.specs.Classes.{fits, is_name, is_keyword, name_but}
 use Rattle.ql_grammar.specs.Packets.{IsPacket}
 use Rattle.ql_grammar.specs.Parts.{IsSign, IsTargetName}
 use Rattle.token_grammar.specs.Values.{AreListed}
-use Rattle.ql_write.specs.Pieces.{Piece, word, sign, name, written, spelling, with_commas, given}
+use Rattle.ql_write.specs.Pieces.{Piece, keyword, sign, name, written, spelling, with_commas, given}
 use Rattle.ql_write.specs.Reading.{IsValue, ReadsAs}
 use Rattle.ql_grammar.specs.Statements.{IsVal, IsPut, AreIds, IsPlain, IsScope, IsTarget, IsSetting, AreColumns, IsRow, IsRowLimit, IsStatement}
 use Rattle.ql_grammar.specs.Tokens.{kind, kind_by}
@@ -38,8 +38,8 @@ use Rattle.ql_write.proofs.CanonicalSelects.{stays_select}
 
 target_is_name : (t : Lexeme) → fits (name_but keywords.Autocommit keywords.Names) (kind t) ≡ true → is_name (kind t) ≡ true
 target_is_name t e =
-    let both = and_parts (is_name (kind t) && not (is_word keywords.Autocommit (kind t))) (not (is_word keywords.Names (kind t))) e in
-    (and_parts (is_name (kind t)) (not (is_word keywords.Autocommit (kind t))) both.0).0
+    let both = and_parts (is_name (kind t) && not (is_keyword keywords.Autocommit (kind t))) (not (is_keyword keywords.Names (kind t))) e in
+    (and_parts (is_name (kind t)) (not (is_keyword keywords.Autocommit (kind t))) both.0).0
 
 stays_target_name : (bytes : List ℕ) → Stays (IsTargetName bytes) (name bytes ∷ [])
 stays_target_name bytes = stays_one (name bytes)
@@ -93,7 +93,7 @@ stays_statement (statements.SelectVar bytes limit) = stays_then (stays_word keyw
 stays_statement statements.SelectDatabase = stays_then (stays_word keywords.Select) (stays_then (stays_word keywords.Database) stays_parens)
 stays_statement (statements.Insert replace index columns rows) =
     subst (λ ps. Stays (IsStatement (statements.Insert replace index columns rows)) ps)
-    (sym (append_assoc (put_word replace) (word keywords.Into ∷ name index ∷ given columns_pieces columns) (word keywords.Values ∷ with_commas row rows)))
+    (sym (append_assoc (put_word replace) (keyword keywords.Into ∷ name index ∷ given columns_pieces columns) (keyword keywords.Values ∷ with_commas row rows)))
     (stays_then (stays_put replace) (stays_then (stays_word keywords.Into) (stays_then (stays_name index)
     (stays_then (stays_given stays_columns columns) (stays_then (stays_word keywords.Values) (stays_with_commas stays_row rows))))))
 stays_statement (statements.Delete index which) =
@@ -106,7 +106,7 @@ stays_statement (statements.SetAutocommit n) = stays_then (stays_word keywords.S
 stays_statement (statements.SetNames what) = stays_then (stays_word keywords.Set) (stays_then (stays_word keywords.Names) (stays_plain what))
 stays_statement (statements.SetOther for_whom what setting_value) =
     subst (λ ps. Stays (IsStatement (statements.SetOther for_whom what setting_value)) ps)
-    (sym (append_assoc (word keywords.Set ∷ scope for_whom) (target what) (sign signs.Equal ∷ setting setting_value)))
+    (sym (append_assoc (keyword keywords.Set ∷ scope for_whom) (target what) (sign signs.Equal ∷ setting setting_value)))
     (stays_then (stays_word keywords.Set) (stays_then (stays_scope for_whom) (stays_then (stays_target what) (stays_then (stays_sign signs.Equal) (stays_setting setting_value)))))
 stays_statement (statements.FlushRamchunk index) = stays_then (stays_word keywords.Flush) (stays_then (stays_word keywords.RamChunk) (stays_name index))
 stays_statement (statements.FlushRtindex index) = stays_then (stays_word keywords.Flush) (stays_then (stays_word keywords.RtIndex) (stays_name index))

@@ -33,42 +33,42 @@ use Rattle.ql_grammar.specs.declared.statement.Target.TheVariants as targets
 use Rattle.ql_grammar.specs.declared.statement.Val.{Val}
 use Rattle.ql_grammar.specs.declared.statement.Val.TheVariants as vals
 use Rattle.ql_grammar.specs.Selects.{comparison_sign}
-use Rattle.ql_write.specs.Pieces.{Piece, word, sign, name, number, text, variable, whole, listed, with_commas, in_parentheses, given, given_all, in_row, name_piece, number_piece, written}
+use Rattle.ql_write.specs.Pieces.{Piece, keyword, sign, name, number, text, variable, whole, listed, with_commas, in_parentheses, given, given_all, in_row, name_piece, number_piece, written}
 
 -- COUNT ( * )
 abbrev pub count_all : List Piece
-count_all = word keywords.Count ∷ in_parentheses (sign signs.Star ∷ [])
+count_all = keyword keywords.Count ∷ in_parentheses (sign signs.Star ∷ [])
 
 -- WEIGHT ( )
 abbrev pub weight : List Piece
-weight = word keywords.Weight ∷ in_parentheses []
+weight = keyword keywords.Weight ∷ in_parentheses []
 
 abbrev pub expr : SelectExpr → List Piece
 expr (exprs.Column column) = name column ∷ []
 expr exprs.CountAll = count_all
-expr (exprs.CountDistinct column) = word keywords.Count ∷ in_parentheses (word keywords.Distinct ∷ name column ∷ [])
-expr (exprs.Least column) = word keywords.Min ∷ in_parentheses (name column ∷ [])
-expr (exprs.Greatest column) = word keywords.Max ∷ in_parentheses (name column ∷ [])
-expr (exprs.Sum column) = word keywords.Sum ∷ in_parentheses (name column ∷ [])
+expr (exprs.CountDistinct column) = keyword keywords.Count ∷ in_parentheses (keyword keywords.Distinct ∷ name column ∷ [])
+expr (exprs.Least column) = keyword keywords.Min ∷ in_parentheses (name column ∷ [])
+expr (exprs.Greatest column) = keyword keywords.Max ∷ in_parentheses (name column ∷ [])
+expr (exprs.Sum column) = keyword keywords.Sum ∷ in_parentheses (name column ∷ [])
 expr exprs.Weight = weight
-expr exprs.GroupBy = word keywords.GroupBy ∷ in_parentheses []
+expr exprs.GroupBy = keyword keywords.GroupBy ∷ in_parentheses []
 
 abbrev pub alias_pieces : List ℕ → List Piece
-alias_pieces alias = word keywords.As ∷ name alias ∷ []
+alias_pieces alias = keyword keywords.As ∷ name alias ∷ []
 
 abbrev pub item : SelectItem → List Piece
 item items.All = sign signs.Star ∷ []
 item (items.One what alias) = expr what ++ given alias_pieces alias
 
 abbrev pub negation : Bool → List Piece
-negation true = word keywords.Not ∷ []
+negation true = keyword keywords.Not ∷ []
 negation false = []
 
 abbrev pub cond : Cond → List Piece
-cond (conds.Match query) = word keywords.Match ∷ in_parentheses (text query ∷ [])
+cond (conds.Match query) = keyword keywords.Match ∷ in_parentheses (text query ∷ [])
 cond (conds.Compare column op value) = name column ∷ sign (comparison_sign op) ∷ whole value
-cond (conds.Among column values negated) = name column ∷ negation negated ++ word keywords.In ∷ in_parentheses (with_commas whole values)
-cond (conds.Between column low high) = name column ∷ word keywords.Between ∷ whole low ++ word keywords.And ∷ whole high
+cond (conds.Among column values negated) = name column ∷ negation negated ++ keyword keywords.In ∷ in_parentheses (with_commas whole values)
+cond (conds.Between column low high) = name column ∷ keyword keywords.Between ∷ whole low ++ keyword keywords.And ∷ whole high
 
 abbrev pub sort_name : SortName → List Piece
 sort_name (sorts.Column column) = name column ∷ []
@@ -76,24 +76,24 @@ sort_name sorts.Weight = weight
 sort_name sorts.CountAll = count_all
 
 abbrev pub direction : Bool → List Piece
-direction false = word keywords.Asc ∷ []
-direction true = word keywords.Desc ∷ []
+direction false = keyword keywords.Asc ∷ []
+direction true = keyword keywords.Desc ∷ []
 
 abbrev pub sort_key : SortKey → List Piece
 sort_key key = sort_name key.by ++ given direction key.descending
 
 -- ORDER BY, and keys
 abbrev pub ordered : List SortKey → List Piece
-ordered keys = word keywords.Order ∷ word keywords.By ∷ with_commas sort_key keys
+ordered keys = keyword keywords.Order ∷ keyword keywords.By ∷ with_commas sort_key keys
 
 abbrev pub having_pieces : Having → List Piece
-having_pieces having = word keywords.Having ∷ sort_name having.left ++ sign (comparison_sign having.op) ∷ whole having.value
+having_pieces having = keyword keywords.Having ∷ sort_name having.left ++ sign (comparison_sign having.op) ∷ whole having.value
 
 abbrev pub second_number : ℕ → List Piece
 second_number n = sign signs.Comma ∷ number n ∷ []
 
 abbrev pub limit_pieces : LimitPart → List Piece
-limit_pieces limit = word keywords.Limit ∷ number limit.first ∷ given second_number limit.second
+limit_pieces limit = keyword keywords.Limit ∷ number limit.first ∷ given second_number limit.second
 
 abbrev pub field_weight : List ℕ × ℕ → List Piece
 field_weight pair = name pair.0 ∷ sign signs.Equal ∷ number pair.1 ∷ []
@@ -108,29 +108,29 @@ abbrev pub option : SelectOption → List Piece
 option given_option = name given_option.name ∷ sign signs.Equal ∷ option_value given_option.value
 
 abbrev pub facet_order : SortKey → List Piece
-facet_order key = word keywords.Order ∷ word keywords.By ∷ sort_key key
+facet_order key = keyword keywords.Order ∷ keyword keywords.By ∷ sort_key key
 
 abbrev pub facet : FacetPart → List Piece
-facet part = word keywords.Facet ∷ name part.column ∷ given facet_order part.order ++ given limit_pieces part.limit
+facet part = keyword keywords.Facet ∷ name part.column ∷ given facet_order part.order ++ given limit_pieces part.limit
 
 -- The parts of a SELECT behind its index, each absent where it has no value.
 
 abbrev pub where_pieces : List Cond → List Piece
-where_pieces list = word keywords.Where ∷ listed (word keywords.And) cond list
+where_pieces list = keyword keywords.Where ∷ listed (keyword keywords.And) cond list
 
 abbrev pub group_pieces : List ℕ → List Piece
-group_pieces column = word keywords.Group ∷ word keywords.By ∷ name column ∷ []
+group_pieces column = keyword keywords.Group ∷ keyword keywords.By ∷ name column ∷ []
 
 abbrev pub within_pieces : List SortKey → List Piece
-within_pieces keys = word keywords.Within ∷ word keywords.Group ∷ ordered keys
+within_pieces keys = keyword keywords.Within ∷ keyword keywords.Group ∷ ordered keys
 
 abbrev pub option_pieces : List SelectOption → List Piece
-option_pieces list = word keywords.Option ∷ with_commas option list
+option_pieces list = keyword keywords.Option ∷ with_commas option list
 
 abbrev pub select_pieces : Select → List Piece
 select_pieces select =
-    word keywords.Select ∷ with_commas item select.items
-    ++ word keywords.From ∷ name select.index
+    keyword keywords.Select ∷ with_commas item select.items
+    ++ keyword keywords.From ∷ name select.index
     ∷ given_all where_pieces select.conds
     ++ given group_pieces select.group
     ++ given_all within_pieces select.within
@@ -145,8 +145,8 @@ value (vals.Number z) = whole z
 value (vals.Text bytes) = text bytes ∷ []
 
 abbrev pub put_word : Bool → List Piece
-put_word true = word keywords.Replace ∷ []
-put_word false = word keywords.Insert ∷ []
+put_word true = keyword keywords.Replace ∷ []
+put_word false = keyword keywords.Insert ∷ []
 
 abbrev pub columns_pieces : List (List ℕ) → List Piece
 columns_pieces names = in_parentheses (with_commas name_piece names)
@@ -156,7 +156,7 @@ row cells = in_parentheses (with_commas value cells)
 
 abbrev pub ids_pieces : Ids → List Piece
 ids_pieces (ids.One n) = sign signs.Equal ∷ number n ∷ []
-ids_pieces (ids.Several ns) = word keywords.In ∷ in_parentheses (with_commas number_piece ns)
+ids_pieces (ids.Several ns) = keyword keywords.In ∷ in_parentheses (with_commas number_piece ns)
 
 abbrev pub plain : Plain → List Piece
 plain (plains.Name bytes) = name bytes ∷ []
@@ -164,8 +164,8 @@ plain (plains.Text bytes) = text bytes ∷ []
 
 abbrev pub scope : Scope → List Piece
 scope scopes.Absent = []
-scope scopes.Global = word keywords.Global ∷ []
-scope scopes.Session = word keywords.Session ∷ []
+scope scopes.Global = keyword keywords.Global ∷ []
+scope scopes.Session = keyword keywords.Session ∷ []
 
 abbrev pub target : Target → List Piece
 target (targets.Name bytes) = name bytes ∷ []
@@ -175,39 +175,39 @@ abbrev pub setting : SetValue → List Piece
 setting (settings.Name bytes) = name bytes ∷ []
 setting (settings.Number z) = whole z
 setting (settings.Text bytes) = text bytes ∷ []
-setting settings.Null = word keywords.Null ∷ []
+setting settings.Null = keyword keywords.Null ∷ []
 
 abbrev pub row_limit : ℕ → List Piece
-row_limit n = word keywords.Limit ∷ number n ∷ []
+row_limit n = keyword keywords.Limit ∷ number n ∷ []
 
 abbrev pub pieces : Statement → List Piece
 pieces (statements.Select select) = select_pieces select
-pieces (statements.SelectVar bytes limit) = word keywords.Select ∷ variable bytes ∷ given row_limit limit
-pieces statements.SelectDatabase = word keywords.Select ∷ word keywords.Database ∷ in_parentheses []
+pieces (statements.SelectVar bytes limit) = keyword keywords.Select ∷ variable bytes ∷ given row_limit limit
+pieces statements.SelectDatabase = keyword keywords.Select ∷ keyword keywords.Database ∷ in_parentheses []
 pieces (statements.Insert replace index columns rows) =
-    put_word replace ++ word keywords.Into ∷ name index ∷ given columns_pieces columns
-    ++ word keywords.Values ∷ with_commas row rows
+    put_word replace ++ keyword keywords.Into ∷ name index ∷ given columns_pieces columns
+    ++ keyword keywords.Values ∷ with_commas row rows
 pieces (statements.Delete index which) =
-    word keywords.Delete ∷ word keywords.From ∷ name index ∷ word keywords.Where ∷ word keywords.Id ∷ ids_pieces which
-pieces statements.Begin = word keywords.Begin ∷ []
-pieces statements.StartTransaction = word keywords.Start ∷ word keywords.Transaction ∷ []
-pieces statements.Commit = word keywords.Commit ∷ []
-pieces statements.Rollback = word keywords.Rollback ∷ []
-pieces (statements.SetAutocommit n) = word keywords.Set ∷ word keywords.Autocommit ∷ sign signs.Equal ∷ number n ∷ []
-pieces (statements.SetNames what) = word keywords.Set ∷ word keywords.Names ∷ plain what
+    keyword keywords.Delete ∷ keyword keywords.From ∷ name index ∷ keyword keywords.Where ∷ keyword keywords.Id ∷ ids_pieces which
+pieces statements.Begin = keyword keywords.Begin ∷ []
+pieces statements.StartTransaction = keyword keywords.Start ∷ keyword keywords.Transaction ∷ []
+pieces statements.Commit = keyword keywords.Commit ∷ []
+pieces statements.Rollback = keyword keywords.Rollback ∷ []
+pieces (statements.SetAutocommit n) = keyword keywords.Set ∷ keyword keywords.Autocommit ∷ sign signs.Equal ∷ number n ∷ []
+pieces (statements.SetNames what) = keyword keywords.Set ∷ keyword keywords.Names ∷ plain what
 pieces (statements.SetOther for_whom what setting_value) =
-    word keywords.Set ∷ scope for_whom ++ target what ++ sign signs.Equal ∷ setting setting_value
-pieces (statements.FlushRamchunk index) = word keywords.Flush ∷ word keywords.RamChunk ∷ name index ∷ []
-pieces (statements.FlushRtindex index) = word keywords.Flush ∷ word keywords.RtIndex ∷ name index ∷ []
-pieces (statements.OptimizeIndex index) = word keywords.Optimize ∷ word keywords.Index ∷ name index ∷ []
-pieces (statements.TruncateRtindex index) = word keywords.Truncate ∷ word keywords.RtIndex ∷ name index ∷ []
-pieces (statements.Describe index) = word keywords.Describe ∷ name index ∷ []
-pieces (statements.ShowIndexStatus index) = word keywords.Show ∷ word keywords.Index ∷ name index ∷ word keywords.Status ∷ []
-pieces statements.ShowMeta = word keywords.Show ∷ word keywords.Meta ∷ []
-pieces statements.ShowTables = word keywords.Show ∷ word keywords.Tables ∷ []
-pieces statements.ShowWarnings = word keywords.Show ∷ word keywords.Warnings ∷ []
-pieces statements.ShowVariables = word keywords.Show ∷ word keywords.Variables ∷ []
-pieces statements.ShowDatabases = word keywords.Show ∷ word keywords.Databases ∷ []
+    keyword keywords.Set ∷ scope for_whom ++ target what ++ sign signs.Equal ∷ setting setting_value
+pieces (statements.FlushRamchunk index) = keyword keywords.Flush ∷ keyword keywords.RamChunk ∷ name index ∷ []
+pieces (statements.FlushRtindex index) = keyword keywords.Flush ∷ keyword keywords.RtIndex ∷ name index ∷ []
+pieces (statements.OptimizeIndex index) = keyword keywords.Optimize ∷ keyword keywords.Index ∷ name index ∷ []
+pieces (statements.TruncateRtindex index) = keyword keywords.Truncate ∷ keyword keywords.RtIndex ∷ name index ∷ []
+pieces (statements.Describe index) = keyword keywords.Describe ∷ name index ∷ []
+pieces (statements.ShowIndexStatus index) = keyword keywords.Show ∷ keyword keywords.Index ∷ name index ∷ keyword keywords.Status ∷ []
+pieces statements.ShowMeta = keyword keywords.Show ∷ keyword keywords.Meta ∷ []
+pieces statements.ShowTables = keyword keywords.Show ∷ keyword keywords.Tables ∷ []
+pieces statements.ShowWarnings = keyword keywords.Show ∷ keyword keywords.Warnings ∷ []
+pieces statements.ShowVariables = keyword keywords.Show ∷ keyword keywords.Variables ∷ []
+pieces statements.ShowDatabases = keyword keywords.Show ∷ keyword keywords.Databases ∷ []
 
 -- the text of a statement
 unfoldable pub canonical_text : Statement → List ℕ

@@ -8,7 +8,7 @@ use Rattle.ql_grammar.specs.declared.keyword.Keyword.TheVariants as keywords
 
 -- A token of a statement, by what it stands for.
 pub data Piece : Type 0 where
-  word : Keyword → Piece
+  keyword : Keyword → Piece
   sign : Sign → Piece
   name : List ℕ → Piece
   number : ℕ → Piece
@@ -101,7 +101,7 @@ escaped_text bytes = flat_map escaped_byte bytes
 
 -- a name between backquotes, a number in decimal digits, a text between `'`, a system variable behind `@@`
 abbrev pub spelling : Piece → List ℕ
-spelling (word w) = in_capitals w
+spelling (keyword w) = in_capitals w
 spelling (sign s) = sign_text s
 spelling (name bytes) = 96 ∷ bytes ++ 96 ∷ []
 spelling (number n) = decimal n

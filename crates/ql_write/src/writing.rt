@@ -1,6 +1,9 @@
+//! How each token of a canonical text is spelled: keywords in capitals, names between backquotes, numbers in decimal, texts
+//! between `'` with `\` before `'` and `\`. Each is followed by one space, the last of which the writer of a statement takes off.
+
 ghost use Rattle.std.specs.Prelude.{◌≡◌, ◌++◌, ◌∷◌, [], map, decimal};
 ghost use Rattle.ql_write.specs.Pieces.{in_capitals as word_text, sign_text as sign_bytes, escaped_byte, spelling, name as name_piece, text as text_piece, variable};
-ghost use Rattle.ql_write.specs.Writing.{piece_of, Appends, Appended};
+ghost use Rattle.ql_write.specs.steps.Writing.{piece_of, Appends, Appended};
 
 use itoa::Buffer;
 use ql_grammar::Keyword;
@@ -10,7 +13,7 @@ use srch_base::{Name, NoMemory, Text};
 /// A token that is written.
 #[derive(Clone, Copy)]
 pub(crate) enum Token<'a> {
-    Word(Keyword),
+    Keyword(Keyword),
     Sign(Sign),
     Name(&'a Name),
     Number(u128),
@@ -19,10 +22,10 @@ pub(crate) enum Token<'a> {
 }
 
 /// A keyword as it is written.
-fn in_capitals(word: Keyword) -> &'static [u8]
-    ensures { result.now ≡ word_text word }
+fn in_capitals(keyword: Keyword) -> &'static [u8]
+    ensures { result.now ≡ word_text keyword }
 {
-    match word {
+    match keyword {
         Keyword::And => b"AND",
         Keyword::As => b"AS",
         Keyword::Asc => b"ASC",
@@ -151,12 +154,12 @@ fn put_text(text: &[u8], out: &mut Vec<u8>) -> Result<(), NoMemory>
     Ok(())
 }
 
-/// Appends a token, and a space behind it.
+/// Appends a token, and a space after it.
 pub(crate) fn put_one(token: Token<'_>, out: &mut Vec<u8>) -> Result<(), NoMemory>
     ensures { Appends (piece_of token.entry ∷ []) out.old.items result out.new.items }
 {
     match token {
-        Token::Word(word) => out.extend_from_slice(in_capitals(word))?,
+        Token::Keyword(keyword) => out.extend_from_slice(in_capitals(keyword))?,
         Token::Sign(sign) => out.extend_from_slice(sign_text(sign))?,
         Token::Name(name) => put_name(name.as_bytes(), out)?,
         Token::Number(number) => put_number(number, out)?,
@@ -167,7 +170,7 @@ pub(crate) fn put_one(token: Token<'_>, out: &mut Vec<u8>) -> Result<(), NoMemor
     Ok(())
 }
 
-/// Appends tokens, with a space behind each.
+/// Appends tokens, with a space after each.
 #[tactic(auto, using(crate::proofs::Writings::failed, crate::proofs::Writings::kept, crate::proofs::Writings::kept_all))]
 pub(crate) fn put_all(tokens: &[Token<'_>], out: &mut Vec<u8>) -> Result<(), NoMemory>
     ensures { Appends (map piece_of tokens.now) out.old.items result out.new.items }

@@ -1,7 +1,10 @@
+//! What can be written: a type whose values have pieces of a statement, and a writer that appends them with a space after each.
+//! Lists with commas and parts in a row are written by generic writers, and are proved once.
+
 ghost use Rattle.std.specs.Prelude.{◌≡◌, ◌++◌, ◌∷◌, [], OnOk};
 ghost use Rattle.std.specs.List.{flat_map};
 ghost use Rattle.ql_write.specs.Pieces.{whole, listed, with_commas, in_parentheses, given, in_row};
-ghost use Rattle.ql_write.specs.Writing.{piece_of, Appends};
+ghost use Rattle.ql_write.specs.steps.Writing.{piece_of, Appends};
 
 use crate::writing::{Token, put_all, put_one};
 use ql_grammar::Keyword;
@@ -16,7 +19,7 @@ pub(crate) trait Written {
     /// The part's tokens.
     ghost pieces: { Self → List Piece };
 
-    /// Appends the part, with a space behind each token.
+    /// Appends the part, with a space after each token.
     fn put(&self, out: &mut Vec<u8>) -> Result<(), NoMemory>
         ensures { Appends (pieces self.now) out.old.items result out.new.items };
 }
@@ -56,7 +59,7 @@ impl Written for i128 {
     }
 }
 
-/// Appends a token and the part behind it.
+/// Appends a token and the part after it.
 fn put_next<T: Written>(between: Token<'_>, part: &T, out: &mut Vec<u8>) -> Result<(), NoMemory>
     ensures { Appends (piece_of between.entry ∷ T.pieces part.now) out.old.items result out.new.items }
 {
@@ -124,7 +127,7 @@ pub(crate) fn put_given<T: Written>(part: &Option<T>, out: &mut Vec<u8>) -> Resu
     }
 }
 
-/// Appends the parts of a list, one behind the other.
+/// Appends the parts of a list, one after the other.
 #[tactic(auto, using(crate::proofs::Writings::failed, crate::proofs::Writings::kept, crate::proofs::Writings::kept_all))]
 pub(crate) fn put_in_row<T: Written>(parts: &[T], out: &mut Vec<u8>) -> Result<(), NoMemory>
     ensures { Appends (in_row T.pieces parts.now) out.old.items result out.new.items }

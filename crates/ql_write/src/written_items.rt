@@ -1,9 +1,11 @@
+//! The writers of a SELECT's items: calls, names and aliases.
+
 ghost use Rattle.std.specs.Prelude.{◌≡◌, ◌++◌, ◌∷◌, []};
 ghost use Rattle.ql_grammar.specs.declared.keyword.Keyword.TheVariants as keywords;
 ghost use Rattle.ql_grammar.specs.declared.select.SelectExpr.TheVariants as exprs;
-ghost use Rattle.ql_write.specs.Pieces.{given, in_parentheses, name, word};
+ghost use Rattle.ql_write.specs.Pieces.{given, in_parentheses, name, keyword};
 ghost use Rattle.ql_write.specs.Canonical.{count_all, expr, alias_pieces};
-ghost use Rattle.ql_write.specs.Writing.{Appends};
+ghost use Rattle.ql_write.specs.steps.Writing.{Appends};
 
 use crate::writing::{Token, put_all, put_one};
 use crate::written::Written;
@@ -17,7 +19,7 @@ pub(crate) fn put_count(out: &mut Vec<u8>) -> Result<(), NoMemory>
 {
     put_all(
         &[
-            Token::Word(Keyword::Count),
+            Token::Keyword(Keyword::Count),
             Token::Sign(Sign::OpenParen),
             Token::Sign(Sign::Star),
             Token::Sign(Sign::CloseParen),
@@ -28,11 +30,11 @@ pub(crate) fn put_count(out: &mut Vec<u8>) -> Result<(), NoMemory>
 
 /// A function without an argument.
 pub(crate) fn put_call(function: Keyword, out: &mut Vec<u8>) -> Result<(), NoMemory>
-    ensures { Appends (word function ∷ in_parentheses []) out.old.items result out.new.items }
+    ensures { Appends (keyword function ∷ in_parentheses []) out.old.items result out.new.items }
 {
     put_all(
         &[
-            Token::Word(function),
+            Token::Keyword(function),
             Token::Sign(Sign::OpenParen),
             Token::Sign(Sign::CloseParen),
         ],
@@ -42,11 +44,11 @@ pub(crate) fn put_call(function: Keyword, out: &mut Vec<u8>) -> Result<(), NoMem
 
 /// A function of a column.
 fn put_call_of(function: Keyword, column: &Name, out: &mut Vec<u8>) -> Result<(), NoMemory>
-    ensures { Appends (word function ∷ in_parentheses (name column.now ∷ [])) out.old.items result out.new.items }
+    ensures { Appends (keyword function ∷ in_parentheses (name column.now ∷ [])) out.old.items result out.new.items }
 {
     put_all(
         &[
-            Token::Word(function),
+            Token::Keyword(function),
             Token::Sign(Sign::OpenParen),
             Token::Name(column),
             Token::Sign(Sign::CloseParen),
@@ -61,9 +63,9 @@ fn put_count_distinct(column: &Name, out: &mut Vec<u8>) -> Result<(), NoMemory>
 {
     put_all(
         &[
-            Token::Word(Keyword::Count),
+            Token::Keyword(Keyword::Count),
             Token::Sign(Sign::OpenParen),
-            Token::Word(Keyword::Distinct),
+            Token::Keyword(Keyword::Distinct),
             Token::Name(column),
             Token::Sign(Sign::CloseParen),
         ],
@@ -95,7 +97,7 @@ fn put_alias(alias: &Option<Name>, out: &mut Vec<u8>) -> Result<(), NoMemory>
     ensures { Appends (given alias_pieces alias.now) out.old.items result out.new.items }
 {
     match alias {
-        Some(alias) => put_all(&[Token::Word(Keyword::As), Token::Name(alias)], out),
+        Some(alias) => put_all(&[Token::Keyword(Keyword::As), Token::Name(alias)], out),
         None => Ok(()),
     }
 }

@@ -1,9 +1,12 @@
+//! The writers of conditions, keys and the other parts of a SELECT, and of a SELECT itself, which is three pieces: what is
+//! selected from where, what is said of groups, and order, limit, options and facets.
+
 ghost use Rattle.std.specs.Prelude.{◌≡◌, ◌++◌, ◌∷◌, []};
 ghost use Rattle.ql_grammar.specs.declared.keyword.Keyword.TheVariants as keywords;
 ghost use Rattle.ql_grammar.specs.declared.select.Cond.TheVariants as conds;
-ghost use Rattle.ql_write.specs.Pieces.{word, name, text, in_parentheses, given, given_all};
+ghost use Rattle.ql_write.specs.Pieces.{keyword, name, text, in_parentheses, given, given_all};
 ghost use Rattle.ql_write.specs.Canonical.{negation, cond, direction, ordered, facet_order, where_pieces, group_pieces, within_pieces, option_pieces};
-ghost use Rattle.ql_write.specs.Writing.{Appends, head_pieces, groups_pieces, tail_pieces};
+ghost use Rattle.ql_write.specs.steps.Writing.{Appends, head_pieces, groups_pieces, tail_pieces};
 ghost use Rattle.ql_grammar.specs.Selects.{comparison_sign as sign_of};
 
 use crate::writing::{Token, put_all, put_one};
@@ -32,11 +35,11 @@ fn comparison_sign(comparison: Comparison) -> Sign
 
 /// `MATCH ( text )`
 fn put_match(query: &Text, out: &mut Vec<u8>) -> Result<(), NoMemory>
-    ensures { Appends (word keywords.Match ∷ in_parentheses (text query.now ∷ [])) out.old.items result out.new.items }
+    ensures { Appends (keyword keywords.Match ∷ in_parentheses (text query.now ∷ [])) out.old.items result out.new.items }
 {
     put_all(
         &[
-            Token::Word(Keyword::Match),
+            Token::Keyword(Keyword::Match),
             Token::Sign(Sign::OpenParen),
             Token::Text(query),
             Token::Sign(Sign::CloseParen),
@@ -47,9 +50,9 @@ fn put_match(query: &Text, out: &mut Vec<u8>) -> Result<(), NoMemory>
 
 /// `column [NOT] IN`
 fn put_among(column: &Name, negated: bool, out: &mut Vec<u8>) -> Result<(), NoMemory>
-    ensures { Appends (name column.now ∷ negation negated ++ word keywords.In ∷ []) out.old.items result out.new.items }
+    ensures { Appends (name column.now ∷ negation negated ++ keyword keywords.In ∷ []) out.old.items result out.new.items }
 {
-    let [not, within] = [Token::Word(Keyword::Not), Token::Word(Keyword::In)];
+    let [not, within] = [Token::Keyword(Keyword::Not), Token::Keyword(Keyword::In)];
     if negated {
         put_all(&[Token::Name(column), not, within], out)
     } else {
@@ -62,9 +65,12 @@ fn put_among(column: &Name, negated: bool, out: &mut Vec<u8>) -> Result<(), NoMe
 fn put_between(column: &Name, low: i128, high: i128, out: &mut Vec<u8>) -> Result<(), NoMemory>
     ensures { Appends (cond (conds.Between column.now low high)) out.old.items result out.new.items }
 {
-    put_all(&[Token::Name(column), Token::Word(Keyword::Between)], out)?;
+    put_all(
+        &[Token::Name(column), Token::Keyword(Keyword::Between)],
+        out,
+    )?;
     low.put(out)?;
-    put_one(Token::Word(Keyword::And), out)?;
+    put_one(Token::Keyword(Keyword::And), out)?;
     high.put(out)
 }
 
@@ -113,8 +119,8 @@ fn put_direction(descending: Option<bool>, out: &mut Vec<u8>) -> Result<(), NoMe
     ensures { Appends (given direction descending) out.old.items result out.new.items }
 {
     match descending {
-        Some(true) => put_one(Token::Word(Keyword::Desc), out),
-        Some(false) => put_one(Token::Word(Keyword::Asc), out),
+        Some(true) => put_one(Token::Keyword(Keyword::Desc), out),
+        Some(false) => put_one(Token::Keyword(Keyword::Asc), out),
         None => Ok(()),
     }
 }
@@ -137,7 +143,7 @@ fn put_order(keys: &[SortKey], out: &mut Vec<u8>) -> Result<(), NoMemory>
     ensures { Appends (ordered keys.now) out.old.items result out.new.items }
 {
     put_all(
-        &[Token::Word(Keyword::Order), Token::Word(Keyword::By)],
+        &[Token::Keyword(Keyword::Order), Token::Keyword(Keyword::By)],
         out,
     )?;
     put_with_commas(keys, out)
@@ -150,7 +156,7 @@ impl Written for Having {
 
     #[tactic(auto, using(crate::proofs::Writings::failed, crate::proofs::Writings::kept, crate::proofs::Writings::kept_all))]
     fn put(&self, out: &mut Vec<u8>) -> Result<(), NoMemory> {
-        put_one(Token::Word(Keyword::Having), out)?;
+        put_one(Token::Keyword(Keyword::Having), out)?;
         self.left.put(out)?;
         put_one(Token::Sign(comparison_sign(self.op)), out)?;
         self.value.put(out)
@@ -163,7 +169,7 @@ impl Written for LimitPart {
     ghost pieces = { limit_pieces };
 
     fn put(&self, out: &mut Vec<u8>) -> Result<(), NoMemory> {
-        let limit = Token::Word(Keyword::Limit);
+        let limit = Token::Keyword(Keyword::Limit);
         let first = Token::Number(u128::from(self.first));
         match self.second {
             Some(second) => {
@@ -228,7 +234,7 @@ fn put_facet_order(key: &Option<SortKey>, out: &mut Vec<u8>) -> Result<(), NoMem
     match key {
         Some(key) => {
             put_all(
-                &[Token::Word(Keyword::Order), Token::Word(Keyword::By)],
+                &[Token::Keyword(Keyword::Order), Token::Keyword(Keyword::By)],
                 out,
             )?;
             key.put(out)
@@ -245,7 +251,7 @@ impl Written for FacetPart {
     #[tactic(auto, using(crate::proofs::Writings::failed, crate::proofs::Writings::kept, crate::proofs::Writings::kept_all))]
     fn put(&self, out: &mut Vec<u8>) -> Result<(), NoMemory> {
         put_all(
-            &[Token::Word(Keyword::Facet), Token::Name(&self.column)],
+            &[Token::Keyword(Keyword::Facet), Token::Name(&self.column)],
             out,
         )?;
         put_facet_order(&self.order, out)?;
@@ -261,15 +267,15 @@ fn put_where(conds: &[Cond], out: &mut Vec<u8>) -> Result<(), NoMemory>
     if conds.is_empty() {
         return Ok(());
     }
-    put_one(Token::Word(Keyword::Where), out)?;
-    put_listed(conds, Token::Word(Keyword::And), out)
+    put_one(Token::Keyword(Keyword::Where), out)?;
+    put_listed(conds, Token::Keyword(Keyword::And), out)
 }
 
 /// `[GROUP BY column]`
 fn put_group(column: &Option<Name>, out: &mut Vec<u8>) -> Result<(), NoMemory>
     ensures { Appends (given group_pieces column.now) out.old.items result out.new.items }
 {
-    let [group, by] = [Token::Word(Keyword::Group), Token::Word(Keyword::By)];
+    let [group, by] = [Token::Keyword(Keyword::Group), Token::Keyword(Keyword::By)];
     match column {
         Some(column) => put_all(&[group, by, Token::Name(column)], out),
         None => Ok(()),
@@ -285,7 +291,10 @@ fn put_within(keys: &[SortKey], out: &mut Vec<u8>) -> Result<(), NoMemory>
         return Ok(());
     }
     put_all(
-        &[Token::Word(Keyword::Within), Token::Word(Keyword::Group)],
+        &[
+            Token::Keyword(Keyword::Within),
+            Token::Keyword(Keyword::Group),
+        ],
         out,
     )?;
     put_order(keys, out)
@@ -309,7 +318,7 @@ fn put_options(options: &[SelectOption], out: &mut Vec<u8>) -> Result<(), NoMemo
     if options.is_empty() {
         return Ok(());
     }
-    put_one(Token::Word(Keyword::Option), out)?;
+    put_one(Token::Keyword(Keyword::Option), out)?;
     put_with_commas(options, out)
 }
 
@@ -318,9 +327,9 @@ fn put_options(options: &[SelectOption], out: &mut Vec<u8>) -> Result<(), NoMemo
 fn put_head(select: &Select, out: &mut Vec<u8>) -> Result<(), NoMemory>
     ensures { Appends (head_pieces select.now) out.old.items result out.new.items }
 {
-    put_one(Token::Word(Keyword::Select), out)?;
+    put_one(Token::Keyword(Keyword::Select), out)?;
     put_with_commas(select.items.as_slice(), out)?;
-    put_one(Token::Word(Keyword::From), out)?;
+    put_one(Token::Keyword(Keyword::From), out)?;
     select.index.put(out)?;
     put_where(select.conds.as_slice(), out)
 }
@@ -335,7 +344,7 @@ fn put_groups(select: &Select, out: &mut Vec<u8>) -> Result<(), NoMemory>
     put_given(&select.having, out)
 }
 
-/// What a SELECT says of its rows' order, and what stands behind it.
+/// What a SELECT says of its rows' order, and what stands after it.
 #[tactic(auto, using(crate::proofs::Writings::failed, crate::proofs::Writings::kept, crate::proofs::Writings::kept_all))]
 fn put_tail(select: &Select, out: &mut Vec<u8>) -> Result<(), NoMemory>
     ensures { Appends (tail_pieces select.now) out.old.items result out.new.items }

@@ -1,9 +1,11 @@
+//! The writer of a statement. After want of memory the output is as before: it is cut to where the statement began.
+
 ghost use Rattle.std.specs.Prelude.{◌≡◌, ◌++◌, ◌∷◌, [], OnOk, OnErr};
 ghost use Rattle.ql_grammar.specs.declared.keyword.Keyword.TheVariants as keywords;
 ghost use Rattle.ql_grammar.specs.declared.statement.Statement.TheVariants as statements;
-ghost use Rattle.ql_write.specs.Pieces.{word, name, given, with_commas};
+ghost use Rattle.ql_write.specs.Pieces.{keyword, name, given, with_commas};
 ghost use Rattle.ql_write.specs.Canonical.{columns_pieces, scope as scope_of, row, put_word as put_keyword, pieces, canonical_text};
-ghost use Rattle.ql_write.specs.Writing.{Appends};
+ghost use Rattle.ql_write.specs.steps.Writing.{Appends};
 
 use crate::writing::{Token, put_all, put_one};
 use crate::written::{Written, put_enclosed, put_with_commas};
@@ -47,7 +49,7 @@ impl Written for Ids {
                 out,
             ),
             Ids::Several(ids) => {
-                put_one(Token::Word(Keyword::In), out)?;
+                put_one(Token::Keyword(Keyword::In), out)?;
                 put_enclosed(ids.as_slice(), out)
             }
         }
@@ -73,8 +75,8 @@ fn put_scope(scope: Scope, out: &mut Vec<u8>) -> Result<(), NoMemory>
 {
     match scope {
         Scope::Absent => Ok(()),
-        Scope::Global => put_one(Token::Word(Keyword::Global), out),
-        Scope::Session => put_one(Token::Word(Keyword::Session), out),
+        Scope::Global => put_one(Token::Keyword(Keyword::Global), out),
+        Scope::Session => put_one(Token::Keyword(Keyword::Session), out),
     }
 }
 
@@ -101,7 +103,7 @@ impl Written for SetValue {
             SetValue::Name(name) => name.put(out),
             SetValue::Number(number) => number.put(out),
             SetValue::Text(text) => put_one(Token::Text(text), out),
-            SetValue::Null => put_one(Token::Word(Keyword::Null), out),
+            SetValue::Null => put_one(Token::Keyword(Keyword::Null), out),
         }
     }
 }
@@ -110,7 +112,7 @@ impl Written for SetValue {
 fn put_variable(variable: &Name, limit: Option<u64>, out: &mut Vec<u8>) -> Result<(), NoMemory>
     ensures { Appends (pieces (statements.SelectVar variable.now limit)) out.old.items result out.new.items }
 {
-    let select = Token::Word(Keyword::Select);
+    let select = Token::Keyword(Keyword::Select);
     match limit {
         Some(limit) => {
             let rows = Token::Number(u128::from(limit));
@@ -118,7 +120,7 @@ fn put_variable(variable: &Name, limit: Option<u64>, out: &mut Vec<u8>) -> Resul
                 &[
                     select,
                     Token::Var(variable),
-                    Token::Word(Keyword::Limit),
+                    Token::Keyword(Keyword::Limit),
                     rows,
                 ],
                 out,
@@ -130,7 +132,7 @@ fn put_variable(variable: &Name, limit: Option<u64>, out: &mut Vec<u8>) -> Resul
 
 /// `INSERT INTO index` or `REPLACE INTO index`
 fn put_into(replace: bool, index: &Name, out: &mut Vec<u8>) -> Result<(), NoMemory>
-    ensures { Appends (put_keyword replace ++ word keywords.Into ∷ name index.now ∷ []) out.old.items result out.new.items }
+    ensures { Appends (put_keyword replace ++ keyword keywords.Into ∷ name index.now ∷ []) out.old.items result out.new.items }
 {
     let verb = if replace {
         Keyword::Replace
@@ -139,8 +141,8 @@ fn put_into(replace: bool, index: &Name, out: &mut Vec<u8>) -> Result<(), NoMemo
     };
     put_all(
         &[
-            Token::Word(verb),
-            Token::Word(Keyword::Into),
+            Token::Keyword(verb),
+            Token::Keyword(Keyword::Into),
             Token::Name(index),
         ],
         out,
@@ -164,10 +166,10 @@ fn put_rows(
     rows: &Items<Items<Val>>,
     out: &mut Vec<u8>,
 ) -> Result<(), NoMemory>
-    ensures { Appends (given columns_pieces columns.now ++ word keywords.Values ∷ with_commas row rows.now) out.old.items result out.new.items }
+    ensures { Appends (given columns_pieces columns.now ++ keyword keywords.Values ∷ with_commas row rows.now) out.old.items result out.new.items }
 {
     put_columns(columns, out)?;
-    put_one(Token::Word(Keyword::Values), out)?;
+    put_one(Token::Keyword(Keyword::Values), out)?;
     put_with_commas(rows.as_slice(), out)
 }
 
@@ -176,12 +178,15 @@ fn put_delete(index: &Name, ids: &Ids, out: &mut Vec<u8>) -> Result<(), NoMemory
     ensures { Appends (pieces (statements.Delete index.now ids.now)) out.old.items result out.new.items }
 {
     put_all(
-        &[Token::Word(Keyword::Delete), Token::Word(Keyword::From)],
+        &[
+            Token::Keyword(Keyword::Delete),
+            Token::Keyword(Keyword::From),
+        ],
         out,
     )?;
     index.put(out)?;
     put_all(
-        &[Token::Word(Keyword::Where), Token::Word(Keyword::Id)],
+        &[Token::Keyword(Keyword::Where), Token::Keyword(Keyword::Id)],
         out,
     )?;
     ids.put(out)
@@ -193,8 +198,8 @@ fn put_autocommit(value: u64, out: &mut Vec<u8>) -> Result<(), NoMemory>
 {
     put_all(
         &[
-            Token::Word(Keyword::Set),
-            Token::Word(Keyword::Autocommit),
+            Token::Keyword(Keyword::Set),
+            Token::Keyword(Keyword::Autocommit),
             Token::Sign(Sign::Equal),
             Token::Number(u128::from(value)),
         ],
@@ -211,7 +216,7 @@ fn put_setting(
 ) -> Result<(), NoMemory>
     ensures { Appends (pieces (statements.SetOther scope target.now value.now)) out.old.items result out.new.items }
 {
-    put_one(Token::Word(Keyword::Set), out)?;
+    put_one(Token::Keyword(Keyword::Set), out)?;
     put_scope(scope, out)?;
     target.put(out)?;
     put_one(Token::Sign(Sign::Equal), out)?;
@@ -220,9 +225,9 @@ fn put_setting(
 
 /// Two keywords.
 fn put_words(first: Keyword, second: Keyword, out: &mut Vec<u8>) -> Result<(), NoMemory>
-    ensures { Appends (word first ∷ word second ∷ []) out.old.items result out.new.items }
+    ensures { Appends (keyword first ∷ keyword second ∷ []) out.old.items result out.new.items }
 {
-    put_all(&[Token::Word(first), Token::Word(second)], out)
+    put_all(&[Token::Keyword(first), Token::Keyword(second)], out)
 }
 
 /// Two keywords and the name of an index.
@@ -232,10 +237,14 @@ fn put_of_index(
     index: &Name,
     out: &mut Vec<u8>,
 ) -> Result<(), NoMemory>
-    ensures { Appends (word first ∷ word second ∷ name index.now ∷ []) out.old.items result out.new.items }
+    ensures { Appends (keyword first ∷ keyword second ∷ name index.now ∷ []) out.old.items result out.new.items }
 {
     put_all(
-        &[Token::Word(first), Token::Word(second), Token::Name(index)],
+        &[
+            Token::Keyword(first),
+            Token::Keyword(second),
+            Token::Name(index),
+        ],
         out,
     )
 }
@@ -246,7 +255,7 @@ fn put_status(index: &Name, out: &mut Vec<u8>) -> Result<(), NoMemory>
     ensures { Appends (pieces (statements.ShowIndexStatus index.now)) out.old.items result out.new.items }
 {
     put_of_index(Keyword::Show, Keyword::Index, index, out)?;
-    put_one(Token::Word(Keyword::Status), out)
+    put_one(Token::Keyword(Keyword::Status), out)
 }
 
 /// `SELECT DATABASE ( )`
@@ -282,10 +291,10 @@ impl Written for Statement {
                 put_rows(columns, rows, out)
             }
             Statement::Delete { index, ids } => put_delete(index, ids, out),
-            Statement::Begin => put_one(Token::Word(Keyword::Begin), out),
+            Statement::Begin => put_one(Token::Keyword(Keyword::Begin), out),
             Statement::StartTransaction => put_words(Keyword::Start, Keyword::Transaction, out),
-            Statement::Commit => put_one(Token::Word(Keyword::Commit), out),
-            Statement::Rollback => put_one(Token::Word(Keyword::Rollback), out),
+            Statement::Commit => put_one(Token::Keyword(Keyword::Commit), out),
+            Statement::Rollback => put_one(Token::Keyword(Keyword::Rollback), out),
             Statement::SetAutocommit(value) => put_autocommit(*value, out),
             Statement::SetNames(names) => {
                 put_words(Keyword::Set, Keyword::Names, out)?;
@@ -309,7 +318,10 @@ impl Written for Statement {
                 put_of_index(Keyword::Truncate, Keyword::RtIndex, index, out)
             }
             Statement::Describe(index) => {
-                put_all(&[Token::Word(Keyword::Describe), Token::Name(index)], out)
+                put_all(
+                    &[Token::Keyword(Keyword::Describe), Token::Name(index)],
+                    out,
+                )
             }
             Statement::ShowIndexStatus(index) => put_status(index, out),
             Statement::ShowMeta => put_words(Keyword::Show, Keyword::Meta, out),

@@ -4,8 +4,12 @@
 ghost use Rattle.std.specs.Prelude.{◌≡◌};
 
 mod real_host;
+mod retrying;
 mod std_door;
 mod std_line;
+
+#[cfg(test)]
+mod tests;
 
 use real_host::RealHost;
 use searchd_top::{Host, Status, Stream, searchd};

@@ -20,6 +20,8 @@ pub struct RealHost<R> {
     gave: Option<StdDoor>,
     back: Option<StdDoor>,
     faults: u64,
+    out_faults: u64,
+    error_faults: u64,
 }
 
 impl<R> RealHost<R> {
@@ -36,12 +38,15 @@ impl<R> RealHost<R> {
             gave: None,
             back: None,
             faults: 0,
+            out_faults: 0,
+            error_faults: 0,
         }
     }
 }
 
 impl<R: Files> Host for RealHost<R> {
     ghost use Rattle.std.specs.Prelude.{None};
+    ghost use Rattle.searchd_top.specs.Printing.{of_stream};
 
     type Entry = StdDoor;
 
@@ -54,6 +59,8 @@ impl<R: Files> Host for RealHost<R> {
     ghost doors_back = { λ host. option_to_list host.back };
 
     ghost faults = { λ host. host.faults };
+
+    ghost print_faults = { λ host to. of_stream to host.out_faults host.error_faults };
 
     fn read_text(&mut self, path: &str, limit: u32) -> Result<Vec<u8>, OpenFault> {
         match read_file(self.alloc, &self.files, path, limit) {
@@ -71,10 +78,14 @@ impl<R: Files> Host for RealHost<R> {
             Stream::Out => self.output.write_all(line),
             Stream::Err => self.errors.write_all(line),
         };
-        match printed {
-            Ok(()) => Ok(()),
-            Err(_) => {
-                self.faults = self.faults.saturating_add(1);
+        match (printed, to) {
+            (Ok(()), _) => Ok(()),
+            (Err(_), Stream::Out) => {
+                self.out_faults = self.out_faults.saturating_add(1);
+                Err(Failed)
+            }
+            (Err(_), Stream::Err) => {
+                self.error_faults = self.error_faults.saturating_add(1);
                 Err(Failed)
             }
         }

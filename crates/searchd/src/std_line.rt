@@ -1,11 +1,12 @@
 ghost use Rattle.std.specs.Prelude.{◌≡◌, false};
 
+use crate::retrying;
 use srch_base::{Failed, Link};
-use std::io::{Read, Stdin, Stdout, Write};
+use std::io::{Stdin, Stdout};
 
 /// The line over the standard streams: it reads standard input and writes standard output, neither through a buffer.
 ///
-/// A read takes what is there. It tells nothing of the bytes.
+/// A read takes what is there. A read or a write that a signal interrupts is made again. The line tells nothing of the bytes.
 #[derive(Clone, Copy)]
 pub struct StdLine {
     input: Stdin,
@@ -46,7 +47,7 @@ impl Link for StdLine {
     ghost write_faults = { λ line. line.write_faults };
 
     fn read(&mut self, into: &mut [u8]) -> Result<usize, Failed> {
-        match self.input.read(into) {
+        match retrying::read(&mut self.input, into) {
             Ok(count) => {
                 self.ended = self.ended || count == 0 && !into.is_empty();
                 Ok(count)
@@ -59,7 +60,7 @@ impl Link for StdLine {
     }
 
     fn write(&mut self, piece: &[u8]) -> Result<usize, Failed> {
-        match self.output.write(piece) {
+        match retrying::write(&mut self.output, piece) {
             Ok(count) if count > 0 || piece.is_empty() => Ok(count),
             _ => {
                 self.write_faults = self.write_faults.saturating_add(1);

@@ -1,7 +1,6 @@
 -- Runs that take no door, a run whose door is served, and a run whose status is reported.
 use Rattle.std.proofs.Common.{◌≡◌, ℕ, ◌≤◌, ◌<◌, List, [], ◌∷◌, ◌++◌, length, arith, refl, sym, ap, subst, ◌∙◌, inl, inr, append-nil}
 use Rattle.std.specs.Prelude.{Some, Err, slice_get}
-use Rattle.srch_base.specs.Counts.{Rose-later}
 use Rattle.srch_base.specs.declared.link.Link.{Ghosts as LinkWords}
 use Rattle.srch_base.specs.declared.door.Door.{Ghosts as DoorWords}
 use Rattle.srch_base.specs.declared.faults.OpenFault.{OpenFault}
@@ -13,10 +12,9 @@ use Rattle.conf_text.specs.declared.conf.TheConstants.{MAX_CONF_BYTES}
 use Rattle.searchd_top.specs.Words.{session}
 use Rattle.searchd_top.specs.Configuring.{Texts, AreReadOf}
 use Rattle.searchd_top.specs.Lending.{CountsOpening}
-use Rattle.searchd_top.specs.Printing.{CountsReport}
-use Rattle.searchd_top.specs.Sessions.{Says, SaysOfDoor, ServesOne, Runs}
-use Rattle.searchd_top.specs.Serving.{Configures, SaysServing, ServesFirst}
-use Rattle.searchd_top.specs.Statuses.{line_of, status_of}
+use Rattle.searchd_top.specs.Sessions.{Says, ServesOne, WorkedOrFailed, Runs}
+use Rattle.searchd_top.specs.steps.Halves.{Configures, SaysOfDoor, SaysServing, ServesFirst}
+use Rattle.searchd_top.specs.Statuses.{status_of}
 use Rattle.searchd_top.specs.declared.host.Host.{Ghosts as HostWords}
 use Rattle.searchd_top.specs.declared.status.Status.{Status}
 use Rattle.searchd_top.specs.declared.status.Status.TheVariants.{Done, Usage, Config, HostFault, NoMemory}
@@ -30,7 +28,7 @@ module _ {H D K : Type 0} (host : HostWords H D K) (door : DoorWords D K) (link 
     returned = [];
     gives = given ∙ sym (append-nil (host.doors_given old));
     takes = back ∙ sym (append-nil (host.doors_back old));
-    holds = (inl (refl, refl), says);
+    holds = (inl (refl, refl), omega arith, tt, says);
   }
 
   -- no door was served
@@ -45,7 +43,7 @@ module _ {H D K : Type 0} (host : HostWords H D K) (door : DoorWords D K) (link 
       returned = [];
       gives = given ∙ sym (append-nil (host.doors_given old));
       takes = back ∙ sym (append-nil (host.doors_back old));
-      holds = (tt, says);
+      holds = (tt, omega arith, tt, says);
     },
   )
 
@@ -53,9 +51,17 @@ module _ {H D K : Type 0} (host : HostWords H D K) (door : DoorWords D K) (link 
   served_one : (status : Status) (before now : ℕ) (d d' : D) → now ≡ before → SaysOfDoor status door d d' → SaysServing status door before now (d ∷ []) (d' ∷ [])
   served_one Done before now d d' still says = (still, refl, (says, tt))
   served_one HostFault before now d d' still says = inr (inl says)
-  served_one NoMemory before now d d' still says = tt
+  served_one NoMemory before now d d' still says = absurd says
   served_one Usage before now d d' still says = absurd says
   served_one (Config line kind) before now d d' still says = absurd says
+
+  -- it did its work or failed
+  worked : (status : Status) (d d' : D) → SaysOfDoor status door d d' → WorkedOrFailed door d d'
+  worked Done d d' says = inl says
+  worked HostFault d d' says = inr says
+  worked NoMemory d d' says = absurd says
+  worked Usage d d' says = absurd says
+  worked (Config line kind) d d' says = absurd says
 
   -- the one door was served and handed back
   pub serves_door : (indexes : List IndexConf) (index : IndexConf) (status : Status) (old mid new : H) (doors after : List D) (d d' : D)
@@ -71,7 +77,7 @@ module _ {H D K : Type 0} (host : HostWords H D K) (door : DoorWords D K) (link 
       returned = d' ∷ [];
       gives = given ∙ gives ∙ ap (λ (xs : List D). host.doors_given old ++ xs) one;
       takes = back ∙ ap (λ (xs : List D). xs ++ after) backs ∙ ap (λ (xs : List D). host.doors_back old ++ xs) one';
-      holds = ((serves, tt), served_one status (host.faults old) (host.faults new) d d' still says);
+      holds = ((serves, tt), omega arith, (worked status d d' says, tt), served_one status (host.faults old) (host.faults new) d d' still says);
     },
   )
 
@@ -115,28 +121,25 @@ module _ {H D K : Type 0} (host : HostWords H D K) (door : DoorWords D K) (link 
         record { bytes = bytes; read = record { file = file; named = refl; read = read }; conf = conf; is = is; first = first },
         hands.holds.0,
       ),
+      hands.holds.1,
+      hands.holds.2,
       says_served (host.text old) (session file) status (host.faults old) (host.faults new) hands.taken hands.returned
-          (subst (λ (n : ℕ). SaysServing status door n (host.faults new) hands.taken hands.returned) still hands.holds.1),
+          (subst (λ (n : ℕ). SaysServing status door n (host.faults new) hands.taken hands.returned) still hands.holds.3),
     );
   }
 
   -- a report changes nothing of what a status says
-  pub says_still : (texts : Texts) (words : List (List ℕ)) (status : Status) (before between now : ℕ) (doors after : List D) → before ≤ between → CountsReport (line_of status) between now
-      → Says status texts words door before between doors after → Says status texts words door before now doors after
-  says_still texts words Done before between now doors after later still says = (still ∙ says.0, says.1, says.2)
-  says_still texts words Usage before between now doors after later still says = says
-  says_still texts words (Config line kind) before between now doors after later still says = says
-  says_still texts words HostFault before between now doors after later still (inl rose) = inl (Rose-later before between now later still rose)
-  says_still texts words HostFault before between now doors after later still (inr failed) = inr failed
-  says_still texts words NoMemory before between now doors after later still says = tt
-
   pub runs_reported : (words : List (List ℕ)) (status : Status) (old between new : H) → host.doors_given new ≡ host.doors_given between → host.doors_back new ≡ host.doors_back between
-      → host.faults old ≤ host.faults between → CountsReport (line_of status) (host.faults between) (host.faults new)
-      → Runs host door link words status old between → Runs host door link words status old new
-  runs_reported words status old between new given back later still runs = record {
+      → host.faults new ≡ host.faults between → Runs host door link words status old between → Runs host door link words status old new
+  runs_reported words status old between new given back still runs = record {
     taken = runs.taken;
     returned = runs.returned;
     gives = given ∙ runs.gives;
     takes = back ∙ runs.takes;
-    holds = (runs.holds.0, says_still (host.text old) words status _ _ _ runs.taken runs.returned later still runs.holds.1);
+    holds = (
+      runs.holds.0,
+      runs.holds.1,
+      runs.holds.2,
+      subst (λ (n : ℕ). Says status (host.text old) words door (host.faults old) n runs.taken runs.returned) (sym still) runs.holds.3,
+    );
   }

@@ -5,6 +5,7 @@ use Rattle.std.specs.List.{list_any}
 use Rattle.srch_base.specs.Memory.{Lines, one_more}
 use Rattle.srch_base.specs.declared.faults.OpenFault.{OpenFault}
 use Rattle.srch_base.specs.declared.faults.OpenFault.TheVariants as opening
+use Rattle.searchd_top.specs.Printing.{of_stream}
 use Rattle.searchd_top.specs.declared.host.Stream.{Stream}
 use Rattle.searchd_top.specs.declared.host.Stream.TheVariants as streams
 
@@ -22,12 +23,15 @@ pub record HostMemory : Type 0 where
   -- what was printed to each stream
   pub out : List ℕ
   pub errors : List ℕ
+  -- how many calls for texts and doors failed, and how many prints to each stream
   pub faults : ℕ
+  pub out_faults : ℕ
+  pub error_faults : ℕ
 
 -- the host over these files and doors before its first call
 abbrev pub host_over : List (List ℕ × List ℕ) → List Lines → List ℕ → HostMemory
 host_over texts doors failing =
-    record { texts = texts; doors = doors; at = 0; back = []; failing = failing; calls = 0; out = []; errors = []; faults = 0 }
+    record { texts = texts; doors = doors; at = 0; back = []; failing = failing; calls = 0; out = []; errors = []; faults = 0; out_faults = 0; error_faults = 0 }
 
 -- the text of the first file with this path
 abbrev pub text_at : List (List ℕ × List ℕ) → List ℕ → Option (List ℕ)
@@ -46,6 +50,10 @@ printed_to streams.Err h = h.errors
 abbrev pub printed_of : HostMemory → Stream → Option (List ℕ)
 printed_of h stream = Some (printed_to stream h)
 
+-- how often printing to each stream has failed
+abbrev pub print_faults_of : HostMemory → Stream → ℕ
+print_faults_of h to = of_stream to h.out_faults h.error_faults
+
 -- the doors that it gave
 abbrev pub doors_of : HostMemory → List Lines
 doors_of h = take h.at h.doors
@@ -62,9 +70,14 @@ reads_none h path = fails_next h || is_none (text_of h path)
 abbrev pub opens_none : HostMemory → ℕ → Bool
 opens_none h n = fails_next h || nat_lt (length h.doors - h.at) n
 
--- the host after a call that failed
+-- the host after a call for a text or doors that failed
 abbrev pub after_fault : HostMemory → HostMemory
 after_fault h = record h { calls = one_more h.calls; faults = one_more h.faults }
+
+-- the host with one more print to this stream that failed
+abbrev pub with_print_fault : HostMemory → Stream → HostMemory
+with_print_fault h streams.Out = record h { out_faults = one_more h.out_faults }
+with_print_fault h streams.Err = record h { error_faults = one_more h.error_faults }
 
 -- the host that has printed this as well
 abbrev pub with_printed : HostMemory → Stream → List ℕ → HostMemory
@@ -73,7 +86,7 @@ with_printed h streams.Err bytes = record h { errors = h.errors ++ bytes }
 
 -- the host after a print that failed, or printed the whole line
 abbrev pub after_print : {T E : Type 0} → HostMemory → Stream → List ℕ → Result T E → HostMemory
-after_print h to line (Err e) = after_fault h
+after_print h to line (Err e) = with_print_fault (record h { calls = one_more h.calls }) to
 after_print h to line (Ok x) = with_printed (record h { calls = one_more h.calls }) to line
 
 -- the host after a call that failed, was refused memory, or read a text

@@ -1,8 +1,15 @@
+-- the words after the program's name
 pub mod Words
+-- the configuration that they name
 pub mod Configuring
+-- statuses, and what they print
 pub mod Statuses
+-- what is printed on the two streams
 pub mod Printing
+-- things that are given out and handed back
 pub mod Lending
+-- what a run does with its doors and lines
 pub mod Sessions
-pub mod Serving
+-- a host over memory
 pub mod HostMemory
+pub mod steps

@@ -22,12 +22,22 @@ abbrev pub PrintsLine : {T E : Type 0} → Result T E → Stream → List ℕ �
 PrintsLine (Ok x) to line old new = Prints to line old new
 PrintsLine (Err e) to line old new = (front : List ℕ) × StartsWith line front × Prints to front old new
 
--- The line was printed to the errors, or a front of it and the host's count rose. Nothing was printed to the output.
+-- the stream that isn't this one
+abbrev pub other : Stream → Stream
+other Out = Errors
+other Errors = Out
+
+-- of two numbers the one of this stream
+abbrev pub of_stream : Stream → ℕ → ℕ → ℕ
+of_stream Out out errors = out
+of_stream Errors out errors = errors
+
+-- How often printing to each stream has failed: the count of its own stream rose where a print failed, and no other moved.
+abbrev pub CountsPrint : {T E : Type 0} → Result T E → Stream → (Stream → ℕ) → (Stream → ℕ) → Type 0
+CountsPrint (Ok x) to before now = (now to ≡ before to) × (now (other to) ≡ before (other to))
+CountsPrint (Err e) to before now = (before to ≤ now to) × Rose (before to) (now to) × (now (other to) ≡ before (other to))
+
+-- The line was printed to the errors, or a front of it and the count of failed prints to the errors rose. Nothing was printed to the output.
 abbrev pub Reports : List ℕ → (Stream → Option (List ℕ)) → (Stream → Option (List ℕ)) → ℕ → ℕ → Type 0
 Reports line old new before now =
     (front : List ℕ) × ((front ≡ line) ⊎ (StartsWith line front × Rose before now)) × Prints Errors front old new
-
--- The count didn't fall, and where there is no line it stands still.
-abbrev pub CountsReport : List ℕ → ℕ → ℕ → Type 0
-CountsReport [] before now = now ≡ before
-CountsReport line before now = before ≤ now

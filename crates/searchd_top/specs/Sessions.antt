@@ -41,6 +41,10 @@ DidWork {D} {K} door old new =
 abbrev pub DoorFailed : {D K : Type 0} → DoorWords D K → D → D → Type 0
 DoorFailed door old new = Rose (door.faults old) (door.faults new)
 
+-- The door did its work, or it failed.
+abbrev pub WorkedOrFailed : {D K : Type 0} → DoorWords D K → D → D → Type 0
+WorkedOrFailed door old new = DidWork door old new ⊎ DoorFailed door old new
+
 -- What a status says of the words and the host's texts, of the host's count, and of its doors before and after.
 abbrev pub Says : {D K : Type 0} → Status → Texts → List (List ℕ) → DoorWords D K → ℕ → ℕ → List D → List D → Type 0
 Says Done texts words door before now doors after = (now ≡ before) × (length doors ≡ 1) × AllZip (DidWork door) doors after
@@ -49,21 +53,14 @@ Says (Config line kind) texts words door before now doors after = (doors ≡ [])
 Says HostFault texts words door before now doors after = Rose before now ⊎ SomeZip (DoorFailed door) doors after
 Says NoMemory texts words door before now doors after = ⊤
 
--- what it says of one door
-abbrev pub SaysOfDoor : {D K : Type 0} → Status → DoorWords D K → D → D → Type 0
-SaysOfDoor Done door old new = DidWork door old new
-SaysOfDoor Usage door old new = ⊥
-SaysOfDoor (Config line kind) door old new = ⊥
-SaysOfDoor HostFault door old new = DoorFailed door old new
-SaysOfDoor NoMemory door old new = ⊤
-
 -- No door was taken, or the words' file is a configuration, by whose first index each door was served.
 abbrev pub ServesAll : {D K : Type 0} → Texts → List (List ℕ) → DoorWords D K → LinkWords K → List D → List D → Type 0
 ServesAll texts words door link doors after =
     ((doors ≡ []) × (after ≡ [])) ⊎ ((index : IndexConf) × IsConfigured texts words index × AllZip (ServesOne door link index) doors after)
 
--- A run: the doors that the host gave were served and handed back, and the status says how it went.
+-- A run: the host gave one door at most, which was served and handed back with its work done or its count risen, and the status says how it went.
 abbrev pub Runs : {H D K : Type 0} → HostWords H D K → DoorWords D K → LinkWords K → List (List ℕ) → Status → H → H → Type 0
 Runs host door link words status old new =
     HandsBack (host.doors_given old) (host.doors_given new) (host.doors_back old) (host.doors_back new) (λ doors after.
-    ServesAll (host.text old) words door link doors after × Says status (host.text old) words door (host.faults old) (host.faults new) doors after)
+    ServesAll (host.text old) words door link doors after × (length doors ≤ 1) × AllZip (WorkedOrFailed door) doors after
+    × Says status (host.text old) words door (host.faults old) (host.faults new) doors after)

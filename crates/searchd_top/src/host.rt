@@ -1,9 +1,8 @@
-ghost use Rattle.std.specs.Prelude.{◌≡◌, ◌+◌, ◌≤◌, ◌++◌, ℕ, List, Option, length, IfOk, OnOk, OnErr, MatchResult};
+ghost use Rattle.std.specs.Prelude.{◌≡◌, ◌+◌, ◌≤◌, ◌++◌, ℕ, List, Option, length, IfOk, MatchResult};
 ghost use Rattle.std.specs.List.{All};
 ghost use Rattle.searchd_top.specs.declared.host.Stream.{Stream};
-ghost use Rattle.srch_base.specs.Counts.{HasCause};
 ghost use Rattle.searchd_top.specs.Configuring.{AreReadOf};
-ghost use Rattle.searchd_top.specs.Printing.{PrintsLine};
+ghost use Rattle.searchd_top.specs.Printing.{PrintsLine, CountsPrint};
 ghost use Rattle.searchd_top.specs.Lending.{IsWithin, CountsOpening};
 
 use srch_base::{Door, Failed, OpenFault};
@@ -30,8 +29,11 @@ pub trait Host {
     /// The doors handed back so far, as they were when they came back.
     ghost doors_back: { Self → List Self.Entry };
 
-    /// How often the host has failed.
+    /// How often the host has failed to give a text or doors.
     ghost faults: { Self → ℕ };
+
+    /// How often printing to each stream has failed.
+    ghost print_faults: { Self → Stream → ℕ };
 
     /// The text of each file, as a path names it, where it is told.
     ghost text: { Self → List ℕ → Option (List ℕ) };
@@ -41,6 +43,7 @@ pub trait Host {
         ensures reads { IfOk result (λ bytes. AreReadOf (text self.old path.now) limit bytes.items) }
         ensures short { IfOk result (λ bytes. length bytes.items ≤ limit + 1) }
         ensures cause { CountsOpening result (faults self.old) (faults self.new) }
+        ensures print_count { print_faults self.new ≡ print_faults self.old }
         ensures tells { text self.new ≡ text self.old }
         ensures gives { doors_given self.new ≡ doors_given self.old }
         ensures back { doors_back self.new ≡ doors_back self.old }
@@ -49,8 +52,8 @@ pub trait Host {
     /// Prints a line. `line` has its LF at its end.
     fn print(&mut self, to: Stream, line: &[u8]) -> Result<(), Failed>
         ensures prints { PrintsLine result to line.now (printed self.old) (printed self.new) }
-        ensures cause { HasCause (faults self.old) (faults self.new) result }
-        ensures calm { OnOk result (faults self.new ≡ faults self.old) }
+        ensures cause { CountsPrint result to (print_faults self.old) (print_faults self.new) }
+        ensures count { faults self.new ≡ faults self.old }
         ensures gives { doors_given self.new ≡ doors_given self.old }
         ensures back { doors_back self.new ≡ doors_back self.old };
 
@@ -60,6 +63,7 @@ pub trait Host {
         ensures within { IfOk result (λ doors. All (IsWithin Self.Entry.returned Self.Entry.given) doors.items) }
         ensures gives { MatchResult result (λ doors. doors_given self.new ≡ doors_given self.old ++ doors.items) (λ fault. doors_given self.new ≡ doors_given self.old) }
         ensures cause { CountsOpening result (faults self.old) (faults self.new) }
+        ensures print_count { print_faults self.new ≡ print_faults self.old }
         ensures back { doors_back self.new ≡ doors_back self.old }
         ensures prints { printed self.new ≡ printed self.old };
 
@@ -69,5 +73,6 @@ pub trait Host {
         ensures back { doors_back self.new ≡ doors_back self.old ++ doors.items }
         ensures gives { doors_given self.new ≡ doors_given self.old }
         ensures count { faults self.new ≡ faults self.old }
+        ensures print_count { print_faults self.new ≡ print_faults self.old }
         ensures prints { printed self.new ≡ printed self.old };
 }

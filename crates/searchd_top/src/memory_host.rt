@@ -1,11 +1,11 @@
 ghost use Rattle.std.specs.Prelude.{◌≡◌, ◌+◌, ◌≤◌, ◌++◌, ◌==◌, length, map, take, drop, is_err, option_copied, IfOk, OnOk, OnErr, IsTrue, IsErr, MatchResult};
 ghost use Rattle.std.specs.List.{All, list_any};
-ghost use Rattle.srch_base.specs.Counts.{HasCause, Rose};
+ghost use Rattle.srch_base.specs.Counts.{Rose};
 ghost use Rattle.srch_base.specs.Memory.{one_more, lines_given};
 ghost use Rattle.searchd_top.specs.Configuring.{AreReadOf};
-ghost use Rattle.searchd_top.specs.Printing.{PrintsLine};
+ghost use Rattle.searchd_top.specs.Printing.{PrintsLine, CountsPrint, other};
 ghost use Rattle.searchd_top.specs.Lending.{IsWithin, CountsOpening};
-ghost use Rattle.searchd_top.specs.HostMemory.{host_over, text_of, printed_to, with_printed, printed_of, doors_of, fails_next, opens_none, reads_none, after_print, after_doors, after_read};
+ghost use Rattle.searchd_top.specs.HostMemory.{host_over, text_of, printed_to, with_printed, with_print_fault, print_faults_of, printed_of, doors_of, fails_next, opens_none, reads_none, after_print, after_doors, after_read};
 
 use crate::{Host, Stream};
 use srch_base::{Failed, ListDoor, NoMemory, OpenFault, Text};
@@ -31,6 +31,8 @@ pub struct MemoryHost {
     out: Vec<u8>,
     errors: Vec<u8>,
     faults: u64,
+    out_faults: u64,
+    error_faults: u64,
 }
 
 impl Model for MemoryHost {
@@ -49,6 +51,8 @@ impl Model for MemoryHost {
       out = a.out.items;
       errors = a.errors.items;
       faults = a.faults;
+      out_faults = a.out_faults;
+      error_faults = a.error_faults;
     } };
 
     ghost invariant = { λ a. (a.at ≤ length a.doors.items) × (length a.doors.items ≤ vec_capacity a.back) };
@@ -76,6 +80,8 @@ impl MemoryHost {
             out: Vec::new(alloc),
             errors: Vec::new(alloc),
             faults: 0,
+            out_faults: 0,
+            error_faults: 0,
         })
     }
 
@@ -128,6 +134,20 @@ impl MemoryHost {
         Failed
     }
 
+    /// Counts one more print to a stream that failed.
+    fn fail_print(&mut self, to: Stream) -> Failed
+        ensures after { self.new ≡ with_print_fault self.old to }
+        ensures later { print_faults_of self.old to ≤ print_faults_of self.new to }
+        ensures rose { Rose (print_faults_of self.old to) (print_faults_of self.new to) }
+        ensures other { print_faults_of self.new (other to) ≡ print_faults_of self.old (other to) }
+    {
+        match to {
+            Stream::Out => self.out_faults = self.out_faults.saturating_add(1),
+            Stream::Err => self.error_faults = self.error_faults.saturating_add(1),
+        }
+        Failed
+    }
+
     /// Takes what is printed to a stream.
     fn append(&mut self, to: Stream, line: &[u8]) -> Result<(), NoMemory>
         ensures ok { OnOk result (self.new ≡ with_printed self.old to line.now) }
@@ -154,6 +174,8 @@ impl Host for MemoryHost {
 
     ghost faults = { λ h. h.faults };
 
+    ghost print_faults = { print_faults_of };
+
     /// Fails exactly where this call's number is one of those, or no file has this path.
     fn read_text(&mut self, path: &str, limit: u32) -> Result<Vec<u8>, OpenFault>
         ensures fails { IsTrue (reads_none self.old path.now) → result ≡ Err OpenFault.Failed }
@@ -176,14 +198,14 @@ impl Host for MemoryHost {
         ensures fails { IsTrue (fails_next self.old) → IsErr result }
         ensures after { self.new ≡ after_print self.old to line.now result }
         ensures prints { PrintsLine result to line.now (printed_of self.old) (printed_of self.new) }
-        ensures cause { HasCause self.old.faults self.new.faults result }
+        ensures cause { CountsPrint result to (print_faults_of self.old) (print_faults_of self.new) }
     {
         if self.next_fails() {
-            return Err(self.fail());
+            return Err(self.fail_print(to));
         }
         match self.append(to, line) {
             Ok(()) => Ok(()),
-            Err(NoMemory) => Err(self.fail()),
+            Err(NoMemory) => Err(self.fail_print(to)),
         }
     }
 

@@ -2,9 +2,9 @@ ghost use Rattle.std.specs.Prelude.{◌≡◌, ◌↔◌, ◌≤◌, length, map
 ghost use Rattle.conf_text.specs.Confs.{IsSound};
 ghost use Rattle.searchd_top.specs.Words.{AsksSession, session};
 ghost use Rattle.searchd_top.specs.Statuses.{line_of};
-ghost use Rattle.searchd_top.specs.Printing.{Reports, CountsReport};
+ghost use Rattle.searchd_top.specs.Printing.{Reports};
 ghost use Rattle.searchd_top.specs.Sessions.{Runs};
-ghost use Rattle.searchd_top.specs.Serving.{Configures, ServesFirst};
+ghost use Rattle.searchd_top.specs.steps.Halves.{Configures, ServesFirst};
 
 use crate::serving::serve_one;
 use crate::words::session_file;
@@ -23,7 +23,7 @@ pub fn searchd<H: Host>(alloc: Global, words: &[String], host: &mut H) -> Status
     requires { length (H.doors_back host.old) ≤ length (H.doors_given host.old) }
     ensures usage { (result ≡ Status.Usage) ↔ ¬ AsksSession (map string_bytes words.now) }
     ensures runs { Runs H.Host H.Entry.Door H.Entry.Line.Link (map string_bytes words.now) result host.old host.new }
-    ensures prints { Reports (line_of result) (H.printed host.old) (H.printed host.new) (H.faults host.old) (H.faults host.new) }
+    ensures prints { Reports (line_of result) (H.printed host.old) (H.printed host.new) (H.print_faults host.old Stream.Err) (H.print_faults host.new Stream.Err) }
 {
     let status = match session_file(words) {
         Some(file) => run_session(alloc, file, host),
@@ -38,8 +38,8 @@ fn run_session<H: Host>(alloc: Global, file: &str, host: &mut H) -> Status
     requires { length (H.doors_back host.old) ≤ length (H.doors_given host.old) }
     ensures runs { Runs H.Host H.Entry.Door H.Entry.Line.Link (session file.now) result host.old host.new }
     ensures asked { ¬ (result ≡ Status.Usage) }
-    ensures later { H.faults host.old ≤ H.faults host.new }
     ensures prints { H.printed host.new ≡ H.printed host.old }
+    ensures print_count { H.print_faults host.new ≡ H.print_faults host.old }
 {
     match configure(alloc, file, host) {
         Ok(conf) => serve(alloc, conf, host),
@@ -50,7 +50,7 @@ fn run_session<H: Host>(alloc: Global, file: &str, host: &mut H) -> Status
 /// The configuration in a file.
 fn configure<H: Host>(alloc: Global, file: &str, host: &mut H) -> Result<Conf, Status>
     ensures configures { Configures (H.text host.old file.now) result (H.faults host.old) (H.faults host.new) }
-    ensures later { H.faults host.old ≤ H.faults host.new }
+    ensures print_count { H.print_faults host.new ≡ H.print_faults host.old }
     ensures gives { H.doors_given host.new ≡ H.doors_given host.old }
     ensures back { H.doors_back host.new ≡ H.doors_back host.old }
     ensures prints { H.printed host.new ≡ H.printed host.old }
@@ -71,8 +71,8 @@ fn serve<H: Host>(alloc: Global, conf: Conf, host: &mut H) -> Status
     requires sound { IsSound conf }
     requires back { length (H.doors_back host.old) ≤ length (H.doors_given host.old) }
     ensures serves { ServesFirst H.Host H.Entry.Door H.Entry.Line.Link conf.indexes result host.old host.new }
-    ensures later { H.faults host.old ≤ H.faults host.new }
     ensures prints { H.printed host.new ≡ H.printed host.old }
+    ensures print_count { H.print_faults host.new ≡ H.print_faults host.old }
 {
     let mut tables = match PlainTables::new(alloc, conf.indexes.into_vec()) {
         Ok(tables) => tables,
@@ -89,10 +89,10 @@ fn serve<H: Host>(alloc: Global, conf: Conf, host: &mut H) -> Status
 
 /// Prints the status's line to the errors. A print that fails changes nothing else.
 fn report<H: Host>(status: Status, host: &mut H)
-    ensures prints { Reports (line_of status) (H.printed host.old) (H.printed host.new) (H.faults host.old) (H.faults host.new) }
+    ensures prints { Reports (line_of status) (H.printed host.old) (H.printed host.new) (H.print_faults host.old Stream.Err) (H.print_faults host.new Stream.Err) }
     ensures gives { H.doors_given host.new ≡ H.doors_given host.old }
     ensures back { H.doors_back host.new ≡ H.doors_back host.old }
-    ensures count { CountsReport (line_of status) (H.faults host.old) (H.faults host.new) }
+    ensures count { H.faults host.new ≡ H.faults host.old }
 {
     if let Status::Done = status {
         return;

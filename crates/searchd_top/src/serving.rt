@@ -1,6 +1,7 @@
 ghost use Rattle.std.specs.Prelude.{◌≡◌, []};
 ghost use Rattle.searchd_top.specs.Lending.{IsWithin};
-ghost use Rattle.searchd_top.specs.Sessions.{ServesOne, SaysOfDoor};
+ghost use Rattle.searchd_top.specs.Sessions.{ServesOne};
+ghost use Rattle.searchd_top.specs.steps.Halves.{SaysOfDoor};
 
 use crate::Status;
 use ql_session::{PlainTables, serve_link};

@@ -4,7 +4,8 @@ use Rattle.std.specs.Prelude.{◌&&◌, ◌||◌, not}
 use Rattle.std.proofs.lemmas.Bool.{cases_Bool}
 use Rattle.token_grammar.specs.Alphabets.{Alphabet}
 use Rattle.token_grammar.specs.Language.{Re, empty, one, seq, alt, many, Repeats, none, more, In, nullable}
-use Rattle.token_grammar.specs.Firsts.{fits_some, meets_some, is_in, all_in, IsFree, apart, begins, may_follow, begun, excludes}
+use Rattle.token_grammar.specs.Firsts.{fits_some, meets_some, is_in, all_in, IsFree, apart, may_follow}
+use Rattle.token_grammar.specs.steps.Deciding.{begins, begun, excludes}
 use Rattle.token_grammar.proofs.Bools.{and_first, and_second, both_true, or_cases, or_left, or_right, or_other, or_first, or_second, implied, not_true, clash}
 use Rattle.token_grammar.proofs.Laws.{has_nullable, nullable_has, some_text}
 

@@ -4,7 +4,8 @@ use Rattle.std.specs.Prelude.{◌&&◌, Result, Ok, Err}
 use Rattle.srch_base.specs.declared.faults.Or.{Or}
 use Rattle.token_grammar.specs.Alphabets.{Alphabet}
 use Rattle.token_grammar.specs.Language.{Re, seq, alt, many, optional, Repeats, none, more, In, verdict}
-use Rattle.token_grammar.specs.Firsts.{fits_some, is_in, all_in, IsFree, begun, excludes}
+use Rattle.token_grammar.specs.Firsts.{fits_some, is_in, all_in, IsFree}
+use Rattle.token_grammar.specs.steps.Deciding.{begun, excludes}
 use Rattle.token_grammar.specs.Reading.{TakesPart, FailsPart, ReadsPart, IsNextOf}
 use Rattle.token_grammar.proofs.Bools.{and_first, and_second}
 use Rattle.token_grammar.proofs.Beginnings.{Misses, begun_misses, excluded_misses, missed, fits_in}

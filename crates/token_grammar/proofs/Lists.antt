@@ -3,9 +3,11 @@ use Rattle.std.proofs.Common.{◌≡◌, ℕ, List, [], ◌∷◌, ◌++◌, tru
 use Rattle.srch_base.specs.declared.faults.Or.{Or}
 use Rattle.token_grammar.specs.Alphabets.{Alphabet}
 use Rattle.token_grammar.specs.Language.{Re, one, seq, many, listed, repeated, In}
-use Rattle.token_grammar.specs.Firsts.{fits_some, may_follow, begun}
+use Rattle.token_grammar.specs.Firsts.{fits_some, may_follow}
+use Rattle.token_grammar.specs.steps.Deciding.{begun}
 use Rattle.token_grammar.specs.Values.{AreListed, AreInRow}
-use Rattle.token_grammar.specs.Reading.{TakesPart, FailsPart, IsNextOf, TakesListed, TakesRow}
+use Rattle.token_grammar.specs.Reading.{TakesPart, FailsPart, IsNextOf}
+use Rattle.token_grammar.specs.steps.Progress.{TakesListed, TakesRow}
 use Rattle.token_grammar.proofs.Bools.{or_left, clash}
 use Rattle.token_grammar.proofs.Beginnings.{begun_misses, free_none, free_rest}
 use Rattle.token_grammar.proofs.Rows.{regroup}

@@ -4,8 +4,10 @@ use Rattle.std.specs.Prelude.{◌&&◌, ◌||◌, not}
 use Rattle.srch_base.specs.declared.faults.Or.{Or}
 use Rattle.token_grammar.specs.Alphabets.{Alphabet}
 use Rattle.token_grammar.specs.Language.{Re, seq, alt, In, nullable, derivative, after, next, verdict}
-use Rattle.token_grammar.specs.Firsts.{is_in, IsFree, apart, begins, begun, clear, begun_after, drops_by_two, drops_by_other}
-use Rattle.token_grammar.specs.Reading.{TakesPart, FailsPart, IsNextOf, second_fits, IsFollowed, followed, unlike, unfollowed, IsLeading, leads, other, led}
+use Rattle.token_grammar.specs.Firsts.{is_in, IsFree, apart}
+use Rattle.token_grammar.specs.steps.Deciding.{begins, begun, clear, begun_after, drops_by_two, drops_by_other}
+use Rattle.token_grammar.specs.Reading.{TakesPart, FailsPart, IsNextOf, second_fits, IsFollowed, followed, unlike, unfollowed}
+use Rattle.token_grammar.specs.steps.Progress.{IsLeading, leads, other, led}
 use Rattle.token_grammar.proofs.Bools.{and_first, and_second, and_all, or_left, implied, not_true, clash}
 use Rattle.token_grammar.proofs.Laws.{InAny, has_nullable, derivative_from, after_from, after_to}
 use Rattle.token_grammar.proofs.Beginnings.{apart_no, fits_in, begun_filled, begun_fits, begins_both}

@@ -4,7 +4,8 @@ use Rattle.std.specs.Prelude.{◌||◌, not}
 use Rattle.token_grammar.specs.Alphabets.{Alphabet}
 use Rattle.token_grammar.specs.Language.{Re, one, seq, alt, many, optional, listed, repeated, Repeats, none, more, In, nullable, derivative}
 use Rattle.token_grammar.specs.Values.{◌then◌, IsPerhaps, IsGiven, AreGiven, AreListed, AreInRow}
-use Rattle.token_grammar.specs.Firsts.{fits_some, is_in, apart, clear}
+use Rattle.token_grammar.specs.Firsts.{fits_some, is_in, apart}
+use Rattle.token_grammar.specs.steps.Deciding.{clear}
 use Rattle.token_grammar.proofs.Bools.{and_first, and_second, or_left, implied, clash}
 use Rattle.token_grammar.proofs.Laws.{InAny, derivative_from, has_nullable}
 use Rattle.token_grammar.proofs.Beginnings.{apart_no, apart_none, fits_in}

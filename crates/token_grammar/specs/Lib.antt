@@ -8,3 +8,5 @@ pub mod Firsts
 pub mod Values
 -- What a reader makes of the tokens before it
 pub mod Reading
+-- What serves proofs and private functions alone
+pub mod steps

@@ -3,9 +3,8 @@ use Rattle.std.specs.Prelude.{◌≡◌, ℕ, List, [], ◌∷◌, ◌++◌, Boo
 use Rattle.srch_base.specs.declared.faults.Or.{Or}
 use Rattle.srch_base.specs.declared.faults.Or.TheVariants.{Fault}
 use Rattle.token_grammar.specs.Alphabets.{Alphabet}
-use Rattle.token_grammar.specs.Language.{Re, one, seq, many, listed, repeated, verdict}
+use Rattle.token_grammar.specs.Language.{Re, one, seq, verdict}
 use Rattle.token_grammar.specs.Firsts.{IsFree}
-use Rattle.token_grammar.specs.Values.{AreListed, AreInRow}
 
 -- the place of the next token
 abbrev pub first_place : {C T : Type 0} → Alphabet C T → List T → ℕ
@@ -59,23 +58,3 @@ pub data IsFollowed {C T : Type 0} (Σ : Alphabet C T) (c d : C) (tokens : List 
   followed : IsNextOf Σ c tokens true → second_fits Σ d tokens ≡ true → IsFollowed Σ c d tokens true
   unlike : IsNextOf Σ c tokens false → IsFollowed Σ c d tokens false
   unfollowed : IsNextOf Σ c tokens true → second_fits Σ d tokens ≡ false → IsFollowed Σ c d tokens false
-
--- Whether a token of the class c is next, and none of the class d after it.
-pub data IsLeading {C T : Type 0} (Σ : Alphabet C T) (c d : C) (tokens : List T) : Bool → Type 0 where
-  leads : IsNextOf Σ c tokens true → second_fits Σ d tokens ≡ false → IsLeading Σ c d tokens true
-  other : IsNextOf Σ c tokens false → IsLeading Σ c d tokens false
-  led : IsNextOf Σ c tokens true → second_fits Σ d tokens ≡ true → IsLeading Σ c d tokens false
-
--- Of parts with a separator between them these have been read, and others may follow.
-pub record TakesListed {C T A : Type 0} (Σ : Alphabet C T) (c : C) (Between : List T → Type 0) (r : Re C) (goes_on : List C) (Is : A → List T → Type 0) (before : List T) (items : List A) (now : List T) : Type 0 where
-  pub takes : (rest : Re C) → IsFree Σ goes_on rest → verdict Σ (seq (listed c r) rest) before ≡ verdict Σ (seq (repeated c r) rest) now
-  pub used : List T
-  pub is : before ≡ used ++ now
-  pub has : AreListed Between Is items used
-
--- Of parts in a row these have been read, and others may follow.
-pub record TakesRow {C T A : Type 0} (Σ : Alphabet C T) (r : Re C) (goes_on : List C) (Is : A → List T → Type 0) (before : List T) (items : List A) (now : List T) : Type 0 where
-  pub takes : (rest : Re C) → IsFree Σ goes_on rest → verdict Σ (seq (many r) rest) before ≡ verdict Σ (seq (many r) rest) now
-  pub used : List T
-  pub is : before ≡ used ++ now
-  pub has : AreInRow Is items used

@@ -15,7 +15,7 @@ use Rattle.mark_scan.specs.declared.sentences.Before.{Before}
 use Rattle.mark_scan.specs.declared.sentences.Onward.{Onward}
 use Rattle.mark_scan.specs.declared.sentences.Onward.TheVariants as onwards
 use Rattle.mark_scan.specs.Marks.{run_of, run_before, part_marks}
-use Rattle.mark_scan.specs.Sentences.{ends_with_gap, ends_with_initial}
+use Rattle.mark_scan.specs.Sentences.{ends_with_gap, ends_with_initial, is_capital}
 use Rattle.mark_scan.specs.Markup.{EndsComment, BeginsComment, BeginsTag, TagText, TextPart, plain, comment, tag, BeginsWith, part_bytes, AreParts}
 
 -- a tag without where it lies in memory
@@ -62,10 +62,15 @@ abbrev pub then_of : List ℕ → Option ℕ
 then_of [] = None
 then_of (c ∷ after) = next_of after
 
+-- what stands by itself before a place is a capital letter
+abbrev pub is_initial : (ℕ → Option ℕ) → Option ℕ → Bool
+is_initial fold None = false
+is_initial fold (Some c) = is_capital fold c
+
 -- What is kept of the characters before a place, which are given from the last one on.
 pub record IsBefore (fold : ℕ → Option ℕ) (state : Before) (before : List ℕ) : Type 0 where
   pub gap : state.gap ≡ ends_with_gap before
-  pub initial : state.initial ≡ ends_with_initial fold before
+  pub initial : is_initial fold state.single ≡ ends_with_initial fold before
 
 -- the rest of a text run: this text, and what follows of the run in the pieces after it
 abbrev pub run_from : List (List ℕ) → List ℕ → List Piece → List ℕ

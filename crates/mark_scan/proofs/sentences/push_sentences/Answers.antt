@@ -25,5 +25,5 @@ chars-preserved c = record {
   size = omega (arith, c.chars.invariant.size, ap length c.in-Some.ensures.next, length-append (encode_utf8 c.in-Some.c) c.in-Some.beyond.now, c.len_utf8-width.ensures.len);
   reached = λ seen is.
       reached_step (folded c.args.charset.now) (run_of c.args.rules.now.zones (map part_of c.args.pieces.now)) c.args.from (chars c.args.text.now) seen c.args.list.now.items c.chars.before c.then-before.result c.chars.place _ c.in-Some.c c.chars.rest.now c.in-Some.beyond.now c.chars.list.items c.push_end.new.list.items c.ends.result
-      c.chars.invariant.utf8 c.in-Some.ensures.next c.in-Some.ensures.utf8 (c.chars.invariant.reached seen is) c.then-before.ensures c.ends.ensures (ap (λ (n : ℕ). c.chars.place + n) c.len_utf8-width.ensures.value) c.in_ok-push_end-in-Some.ensures;
+      c.chars.invariant.utf8 c.in-Some.ensures.next c.in-Some.ensures.utf8 (c.chars.invariant.reached seen is) (c.then-before.ensures (folded c.args.charset.now)) c.ends.ensures (ap (λ (n : ℕ). c.chars.place + n) c.len_utf8-width.ensures.value) c.in_ok-push_end-in-Some.ensures;
 }

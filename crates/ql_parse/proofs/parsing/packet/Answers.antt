@@ -2,7 +2,7 @@ use Rattle.std.proofs.Common.{arith, ◌≡◌, ◌≤◌, ◌<◌, List, [], �
 use Rattle.ql_grammar.specs.declared.statement.TheConstants.{MAX_STATEMENTS}
 use Rattle.ql_grammar.specs.declared.statement.Statement.{Statement}
 use Rattle.ql_grammar.specs.Packets.{IsPacket}
-use Rattle.ql_parse.specs.PacketReading.{StatementsRead}
+use Rattle.ql_parse.specs.steps.PacketReading.{StatementsRead}
 use Rattle.ql_parse.proofs.PacketSteps.{statements_one, statements_more, packet_ends, packet_ends_behind, first_fails, later_fails, full_fails, end_fails, too_long, packet_fails_with}
 use Rattle.ql_parse.proofs.parsing.packet.Goals as goal
 

@@ -1,5 +1,5 @@
 use Rattle.std.proofs.Common.{length}
-use Rattle.ql_parse.specs.PacketReading.{StatementsRead}
+use Rattle.ql_parse.specs.steps.PacketReading.{StatementsRead}
 use Rattle.ql_parse.proofs.parsing.packet.Given as goal
 
 abbrev pub invariant-statements : goal.invariant-statements

@@ -5,7 +5,7 @@ use Rattle.ql_grammar.specs.declared.fault.ParseKind.TheVariants.{TooMany}
 use Rattle.ql_grammar.specs.declared.statement.TheConstants.{MAX_STATEMENTS}
 use Rattle.ql_grammar.specs.declared.statement.Statement.{Statement}
 use Rattle.ql_grammar.specs.Packets.{IsFault, IsPacket, Parses}
-use Rattle.ql_parse.specs.PacketReading.{ReadsPacket}
+use Rattle.ql_parse.specs.steps.PacketReading.{ReadsPacket}
 use Rattle.ql_parse.proofs.Faults.{too_many_fault}
 use Rattle.ql_parse.proofs.ParseAnswers.{syntax_parses}
 use Rattle.ql_parse.proofs.parsing.parse.Goals as goal

@@ -3,14 +3,14 @@ use Rattle.token_grammar.proofs.Rows.{fails_with, plain_seq, plain_first, plain_
 use Rattle.token_grammar.proofs.Choices.{optional_if, optional_fails, optional_else}
 use Rattle.ql_parse.proofs.select_parts.facet_order.Goals as goal
 
-pub returns-in_err-words : goal.returns-in_err-words
-returns-in_err-words c = fails_with _ _ c.from_residual.result c.from_residual.ensures.1 (optional_fails {cs = []} c.if-is_word.ensures refl (plain_first c.in_err-words.ensures))
+pub returns-in_err-two_keywords : goal.returns-in_err-two_keywords
+returns-in_err-two_keywords c = fails_with _ _ c.from_residual.result c.from_residual.ensures.1 (optional_fails {cs = []} c.if-is_keyword.ensures refl (plain_first c.in_err-two_keywords.ensures))
 
 pub returns-in_err-group_key : goal.returns-in_err-group_key
-returns-in_err-group_key c = fails_with _ _ c.from_residual-in_err-group_key.result c.from_residual-in_err-group_key.ensures.1 (optional_fails c.if-is_word.ensures refl (plain_next c.in_ok-words.ensures c.in_err-group_key.ensures))
+returns-in_err-group_key c = fails_with _ _ c.from_residual-in_err-group_key.result c.from_residual-in_err-group_key.ensures.1 (optional_fails c.if-is_keyword.ensures refl (plain_next c.in_ok-two_keywords.ensures c.in_err-group_key.ensures))
 
-pub returns-then-is_word : goal.returns-then-is_word
-returns-then-is_word c = optional_if c.if-is_word.ensures refl (plain_seq c.in_ok-words.ensures c.in_ok-group_key.ensures)
+pub returns-then-is_keyword : goal.returns-then-is_keyword
+returns-then-is_keyword c = optional_if c.if-is_keyword.ensures refl (plain_seq c.in_ok-two_keywords.ensures c.in_ok-group_key.ensures)
 
 pub returns : goal.returns
-returns c = optional_else c.if-is_word.ensures refl refl refl
+returns c = optional_else c.if-is_keyword.ensures refl refl refl

@@ -13,17 +13,17 @@ returns-in_err-limit c = fails_with _ _ c.from_residual-in_err-limit.result c.fr
 pub returns-then-is_variable : goal.returns-then-is_variable
 returns-then-is_variable c = takes_if c.if-is_variable.ensures refl (plain_seq c.in_ok-name.ensures (takes_wider refl c.in_ok-limit.ensures))
 
-pub returns-in_err-word : goal.returns-in_err-word
-returns-in_err-word c = fails_with _ _ c.from_residual-in_err-word.result c.from_residual-in_err-word.ensures.1 (fails_else c.if-is_variable.ensures refl (fails_followed c.if-is_followed.ensures refl (plain_first c.in_err-word.ensures)))
+pub returns-in_err-keyword : goal.returns-in_err-keyword
+returns-in_err-keyword c = fails_with _ _ c.from_residual-in_err-keyword.result c.from_residual-in_err-keyword.ensures.1 (fails_else c.if-is_variable.ensures refl (fails_followed c.if-is_followed.ensures refl (plain_first c.in_err-keyword.ensures)))
 
 pub returns-in_err-sign : goal.returns-in_err-sign
-returns-in_err-sign c = fails_with _ _ c.from_residual-in_err-sign.result c.from_residual-in_err-sign.ensures.1 (fails_else c.if-is_variable.ensures refl (fails_followed c.if-is_followed.ensures refl (plain_next c.in_ok-word.ensures (plain_first c.in_err-sign.ensures))))
+returns-in_err-sign c = fails_with _ _ c.from_residual-in_err-sign.result c.from_residual-in_err-sign.ensures.1 (fails_else c.if-is_variable.ensures refl (fails_followed c.if-is_followed.ensures refl (plain_next c.in_ok-keyword.ensures (plain_first c.in_err-sign.ensures))))
 
 pub returns-in_err-sign-2 : goal.returns-in_err-sign-2
-returns-in_err-sign-2 c = fails_with _ _ c.from_residual-in_err-sign-2.result c.from_residual-in_err-sign-2.ensures.1 (fails_else c.if-is_variable.ensures refl (fails_followed c.if-is_followed.ensures refl (plain_next c.in_ok-word.ensures (plain_next c.in_ok-sign.ensures (fails_wider refl c.in_err-sign-2.ensures)))))
+returns-in_err-sign-2 c = fails_with _ _ c.from_residual-in_err-sign-2.result c.from_residual-in_err-sign-2.ensures.1 (fails_else c.if-is_variable.ensures refl (fails_followed c.if-is_followed.ensures refl (plain_next c.in_ok-keyword.ensures (plain_next c.in_ok-sign.ensures (fails_wider refl c.in_err-sign-2.ensures)))))
 
 pub returns-then-is_followed : goal.returns-then-is_followed
-returns-then-is_followed c = takes_else c.if-is_variable.ensures refl (takes_followed c.if-is_followed.ensures refl (plain_seq c.in_ok-word.ensures (plain_seq c.in_ok-sign.ensures (takes_wider refl c.in_ok-sign-2.ensures))))
+returns-then-is_followed c = takes_else c.if-is_variable.ensures refl (takes_followed c.if-is_followed.ensures refl (plain_seq c.in_ok-keyword.ensures (plain_seq c.in_ok-sign.ensures (takes_wider refl c.in_ok-sign-2.ensures))))
 
 pub returns-in_err-select : goal.returns-in_err-select
 returns-in_err-select c = fails_with _ _ c.from_residual-in_err-select.result c.from_residual-in_err-select.ensures.1 (fails_else c.if-is_variable.ensures refl (fails_unfollowed c.if-is_followed.ensures refl c.in_err-select.ensures))

@@ -1,6 +1,7 @@
 use Rattle.std.proofs.Common.{[], ◌∷◌, ◌++◌, sym, ap, ◌∙◌, subst}
 use Rattle.ql_grammar.specs.Classes.{the_sign}
-use Rattle.token_grammar.specs.Reading.{TakesPart, TakesListed}
+use Rattle.token_grammar.specs.Reading.{TakesPart}
+use Rattle.token_grammar.specs.steps.Progress.{TakesListed}
 use Rattle.token_grammar.specs.Language.{listed}
 use Rattle.ql_grammar.specs.Parts.{IsSign}
 use Rattle.token_grammar.specs.Values.{AreListed}

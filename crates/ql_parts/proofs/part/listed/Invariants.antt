@@ -1,7 +1,7 @@
 use Rattle.std.proofs.Common.{◌∷◌, length}
 use Rattle.ql_grammar.specs.Classes.{the_sign}
 use Rattle.ql_grammar.specs.Parts.{IsSign}
-use Rattle.token_grammar.specs.Reading.{TakesListed}
+use Rattle.token_grammar.specs.steps.Progress.{TakesListed}
 use Rattle.ql_grammar.specs.Alphabet.{sphinxql}
 use Rattle.ql_parts.proofs.part.listed.Given as goal
 

@@ -13,7 +13,7 @@ returns-clause-runs g c =
           let r = w.run_session-status.ensures in
           rw w.status-is (runs_reported g.H.Host g.H.Entry.Door g.H.Entry.Line.Link words w.run_session-status.result c.args.host.now w.run_session-status.new.host c.report.new.host
           (c.report.ensures.gives ∙ ap g.H.Host.doors_given w.host-is) (c.report.ensures.back ∙ ap g.H.Host.doors_back w.host-is)
-          r.later (rw (w.status-is, w.host-is) at c.report.ensures.count)
+          (c.report.ensures.count ∙ ap g.H.Host.faults w.host-is)
           (subst (λ (ws : List (List ℕ)). Runs g.H.Host g.H.Entry.Door g.H.Entry.Line.Link ws w.run_session-status.result c.args.host.now w.run_session-status.new.host) (sym w.in-Some.ensures) r.runs))
       | in-None w ↦
           rw w.status-is (runs_none g.H.Host g.H.Entry.Door g.H.Entry.Line.Link words Usage c.args.host.now c.report.new.host

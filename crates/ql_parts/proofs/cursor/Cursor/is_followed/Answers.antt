@@ -5,8 +5,8 @@ use Rattle.token_grammar.proofs.Lookahead.{followed_by}
 use Rattle.ql_parts.proofs.Steps.{second_same}
 use Rattle.ql_parts.proofs.cursor.Cursor.is_followed.Goals as goal
 
-pub returns-then-is_word : goal.returns-then-is_word
-returns-then-is_word c = followed_by c.is_the_sign.result c.if-is_word.ensures (c.is_the_sign.ensures ∙ ap (fits (the_sign c.args.sign)) c.second.ensures ∙ sym (second_same c.args.sign c.args.self.now))
+pub returns-then-is_keyword : goal.returns-then-is_keyword
+returns-then-is_keyword c = followed_by c.is_the_sign.result c.if-is_keyword.ensures (c.is_the_sign.ensures ∙ ap (fits (the_sign c.args.sign)) c.second.ensures ∙ sym (second_same c.args.sign c.args.self.now))
 
-pub returns-else-is_word : goal.returns-else-is_word
-returns-else-is_word c = unlike c.if-is_word.ensures
+pub returns-else-is_keyword : goal.returns-else-is_keyword
+returns-else-is_keyword c = unlike c.if-is_keyword.ensures

@@ -1,5 +1,5 @@
 use Rattle.std.proofs.Common.{sym, subst, ◌++◌}
-use Rattle.ql_write.specs.Writing.{Appends, head_pieces, groups_pieces, tail_pieces}
+use Rattle.ql_write.specs.steps.Writing.{Appends, head_pieces, groups_pieces, tail_pieces}
 use Rattle.ql_write.proofs.Writings.{then_appends, select_parts}
 use Rattle.ql_write.proofs.written_select.SelectWritten.put.Goals as goal
 

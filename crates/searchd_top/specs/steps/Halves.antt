@@ -1,0 +1,49 @@
+-- The two halves of a session: its configuration is read, and its door is served.
+use Rattle.std.specs.Prelude.{◌≡◌, ◌⊎◌, ⊤, ℕ, ◌≤◌, List, Option, Some, Result, Ok, Err, slice_get, length}
+use Rattle.std.specs.List.{AllZip}
+use Rattle.srch_base.specs.Counts.{Rose}
+use Rattle.srch_base.specs.declared.link.Link.{Ghosts as LinkWords}
+use Rattle.srch_base.specs.declared.door.Door.{Ghosts as DoorWords}
+use Rattle.conf_text.specs.Confs.{IsConfOf, IsFaultOf, IsSound}
+use Rattle.conf_text.specs.declared.conf.Conf.{Conf}
+use Rattle.conf_text.specs.declared.conf.IndexConf.{IndexConf}
+use Rattle.conf_text.specs.declared.conf.TheConstants.{MAX_CONF_BYTES}
+use Rattle.searchd_top.specs.Configuring.{AreReadOf}
+use Rattle.searchd_top.specs.Lending.{HandsBack, SomeZip}
+use Rattle.searchd_top.specs.Sessions.{DidWork, DoorFailed, ServesOne, WorkedOrFailed}
+use Rattle.searchd_top.specs.declared.host.Host.{Ghosts as HostWords}
+use Rattle.searchd_top.specs.declared.status.Status.{Status}
+use Rattle.searchd_top.specs.declared.status.Status.TheVariants.{Done, Usage, Config, HostFault, NoMemory}
+
+-- A text was read as a configuration, or the run ends with a status.
+abbrev pub Configures : Option (List ℕ) → Result Conf Status → ℕ → ℕ → Type 0
+Configures told (Ok conf) before now = (bytes : List ℕ) × AreReadOf told MAX_CONF_BYTES bytes × IsConfOf bytes conf × IsSound conf × (now ≡ before)
+Configures told (Err (Config line kind)) before now = (bytes : List ℕ) × AreReadOf told MAX_CONF_BYTES bytes × IsFaultOf bytes (record { line = line; kind = kind })
+Configures told (Err HostFault) before now = Rose before now
+Configures told (Err NoMemory) before now = ⊤
+Configures told (Err Done) before now = ⊥
+Configures told (Err Usage) before now = ⊥
+
+-- what a status says of the one door
+abbrev pub SaysOfDoor : {D K : Type 0} → Status → DoorWords D K → D → D → Type 0
+SaysOfDoor Done door old new = DidWork door old new
+SaysOfDoor HostFault door old new = DoorFailed door old new
+SaysOfDoor Usage door old new = ⊥
+SaysOfDoor (Config line kind) door old new = ⊥
+SaysOfDoor NoMemory door old new = ⊥
+
+-- what a status says once doors are asked for
+abbrev pub SaysServing : {D K : Type 0} → Status → DoorWords D K → ℕ → ℕ → List D → List D → Type 0
+SaysServing Done door before now doors after = (now ≡ before) × (length doors ≡ 1) × AllZip (DidWork door) doors after
+SaysServing HostFault door before now doors after = Rose before now ⊎ SomeZip (DoorFailed door) doors after
+SaysServing NoMemory door before now doors after = ⊤
+SaysServing Usage door before now doors after = ⊥
+SaysServing (Config line kind) door before now doors after = ⊥
+
+-- The doors that the host gave were served by the first of these indexes and handed back.
+abbrev pub ServesFirst : {H D K : Type 0} → HostWords H D K → DoorWords D K → LinkWords K → List IndexConf → Status → H → H → Type 0
+ServesFirst host door link indexes status old new =
+    (index : IndexConf) × (slice_get indexes 0 ≡ Some index)
+    × HandsBack (host.doors_given old) (host.doors_given new) (host.doors_back old) (host.doors_back new) (λ doors after.
+    AllZip (ServesOne door link index) doors after × (length doors ≤ 1) × AllZip (WorkedOrFailed door) doors after
+    × SaysServing status door (host.faults old) (host.faults new) doors after)
