@@ -10,7 +10,9 @@ the sources, follows each public clause to the definitions that it reaches, and 
     idle        definitions of specs/ that no public clause reaches
 
 It fails where a public clause reaches a definition of specs/steps/, and where a definition is idle: that one belongs
-into specs/steps/. With names of crates it prints these alone.
+into specs/steps/. What an impl gives for a ghost member of a trait may be a step, since callers rest on the trait's
+clauses; a crate that has no function of its own is read by the crates above it, and may define what they don't use yet.
+With names of crates it prints these alone.
 
     python3 scripts/promises.py [CRATE..]
 """
@@ -78,6 +80,7 @@ class House:
         self.modules = {}
         self.passed_on = {}
         self.clauses = []
+        self.members = []
         for crate in self.crates:
             self.read_specs(crate)
         for crate in self.crates:
@@ -138,12 +141,13 @@ class House:
         for line in lines:
             if line.strip().startswith("ghost use "):
                 names.add_import(line)
-        owner, is_public, is_trait = None, False, False
+        owner, is_public, is_trait, is_member = None, False, False, False
         at = 0
         while at < len(lines):
             line = lines[at]
             if line and not line[0].isspace():
                 owner, is_public, is_trait = self.block(line, exported)
+                is_member = re.match(r"^impl(<.*?>)? (?!Model\b).* for ", line) is not None
             found = FUNCTION.match(line)
             if found:
                 end = self.end_of_head(lines, at, found.group(1))
@@ -159,7 +163,8 @@ class House:
                 end = at + 1
                 while end < len(lines) and not lines[end - 1].rstrip().endswith((";", ",", "}")):
                     end += 1
-                self.clauses.append((crate, f"{owner}.{member.group(1)}", names, "\n".join(lines[at:end])))
+                roots = self.members if is_member else self.clauses
+                roots.append((crate, f"{owner}.{member.group(1)}", names, "\n".join(lines[at:end])))
             at += 1
 
     @staticmethod
@@ -214,11 +219,11 @@ class House:
                 if found:
                     yield found
 
-    def reach(self):
-        """Each definition that a public clause reaches, with how it was reached."""
+    def reach(self, roots):
+        """Each definition that these clauses reach, with how it was reached."""
         reached = {}
         todo = []
-        for crate, title, names, text in self.clauses:
+        for crate, title, names, text in roots:
             for definition in self.used(names, text):
                 if definition not in reached:
                     reached[definition] = f"a clause of {crate}::{title}"
@@ -235,7 +240,9 @@ class House:
 
 def main(chosen):
     house = House()
-    reached = house.reach()
+    believed = house.reach(house.clauses)
+    reached = house.reach(house.clauses + house.members)
+    with_functions = {crate for crate, *_ in house.clauses}
     wrong = idle_count = 0
     print(f"{'crate':16} {'believed':>8} {'steps':>6} {'idle':>5}")
     for crate in house.crates:
@@ -245,12 +252,13 @@ def main(chosen):
         steps = {d for d in all_of if d.is_step}
         idle = {d for d in all_of - steps if d not in reached}
         print(f"{crate:16} {len(all_of - steps - idle):8} {len(steps):6} {len(idle):5}")
-        for definition in sorted(steps & reached.keys(), key=str):
-            print(f"  {definition} is of steps, and used by {reached[definition]}")
+        for definition in sorted(steps & believed.keys(), key=str):
+            print(f"  {definition} is of steps, and used by {believed[definition]}")
             wrong += 1
-        for definition in sorted(idle, key=str):
-            print(f"  {definition} is reached by no public clause")
-        idle_count += len(idle)
+        if crate in with_functions:
+            for definition in sorted(idle, key=str):
+                print(f"  {definition} is reached by no public clause")
+            idle_count += len(idle)
     print(f"public clauses: {len(house.clauses)}; reached in steps: {wrong}; idle: {idle_count}")
     return 1 if wrong or idle_count else 0
 

@@ -43,8 +43,8 @@ impl Model for Charset {
 impl Charset {
     /// The table that a text is.
     ///
-    /// Reading n entries takes n log n steps, in whatever order they stand, and memory for each entry. The table has memory
-    /// for its ranges alone.
+    /// Reading n entries takes n log n steps, in whatever order they stand, and n log² n where two of them give a character
+    /// different values; and memory for each entry. The table has memory for its ranges alone.
     pub fn read(alloc: Global, text: &str) -> Result<Charset, Or<CharsetFault>>
         requires { length text.now < 2 ^ 32 }
         ensures { ReadsTable text.now result }
