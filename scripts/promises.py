@@ -141,12 +141,13 @@ class House:
         for line in lines:
             if line.strip().startswith("ghost use "):
                 names.add_import(line)
-        owner, is_public, is_trait, is_member = None, False, False, False
+        owner, is_public, is_trait, is_member, is_struct = None, False, False, False, False
         at = 0
         while at < len(lines):
             line = lines[at]
             if line and not line[0].isspace():
                 owner, is_public, is_trait = self.block(line, exported)
+                is_struct = line.startswith("pub struct")
                 is_member = re.match(r"^impl(<.*?>)? (?!Model\b).* for ", line) is not None
             found = FUNCTION.match(line)
             if found:
@@ -159,7 +160,7 @@ class House:
                 at = max(end, at + 1)
                 continue
             member = re.match(r"^\s+(?:pub )?ghost (?!use\b|invariant\b)(\w+)\b", line)
-            if member and is_public and owner:
+            if member and is_public and owner and not (is_struct and not line.strip().startswith("pub ")):
                 end = at + 1
                 while end < len(lines) and not lines[end - 1].rstrip().endswith((";", ",", "}")):
                     end += 1
