@@ -55,7 +55,7 @@ class Names:
         found = IMPORT.match(line.strip())
         if not found or not found.group(2):
             return
-        for item in found.group(2).split(","):
+        for item in found.group(2).strip().split(","):
             name, _, other = item.strip().partition(" as ")
             if name:
                 self.imported[other.strip() or name] = (found.group(1), name)
@@ -138,9 +138,8 @@ class House:
     def read_source(self, crate, file, exported):
         names = Names()
         lines = file.read_text().splitlines()
-        for line in lines:
-            if line.strip().startswith("ghost use "):
-                names.add_import(line)
+        for found in re.finditer(r"ghost use [^;]*;", file.read_text()):
+            names.add_import(" ".join(found.group(0).split()))
         owner, is_public, is_trait, is_member, is_struct = None, False, False, False, False
         at = 0
         while at < len(lines):
