@@ -1,0 +1,4 @@
+pub mod ByteRuns
+pub mod Seams
+pub mod LetterRuns
+pub mod OneReading

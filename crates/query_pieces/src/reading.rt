@@ -1,0 +1,117 @@
+//! The pieces of a text, read from left to right.
+ghost use Rattle.std.specs.Prelude.{◌≡◌, ◌<◌, ◌≤◌, ◌^◌, ℕ, false, None, IfOk, length};
+ghost use Rattle.std.specs.Str.{IsCharBoundary};
+ghost use Rattle.charset_map.specs.Spans.{folded};
+ghost use Rattle.query_pieces.specs.Letters.{letter_at};
+ghost use Rattle.query_pieces.specs.Operators.{operator_at};
+ghost use Rattle.query_pieces.specs.Pieces.{after_start, separator_at, IsWord, IsPlain, Stands, ArePieces};
+ghost use Rattle.query_pieces.specs.steps.Ends.{Follows};
+
+use crate::letters::{after_character, after_letters, letter, operator, text_byte};
+use crate::piece::{Form, Piece, Slice, Spelling};
+use charset_map::Charset;
+use srch_base::NoMemory;
+use std::alloc::Global;
+
+/// Reads what separates.
+fn read_separator(text: &str, at: usize) -> Piece
+    requires seam { IsCharBoundary text.now at }
+    requires within { at < length text.now }
+    requires size { length text.now < 2 ^ 32 }
+    ensures is { result ≡ separator_at text.now at }
+    ensures follows { Follows text.now at result.to }
+{
+    let to = if text_byte(text, at) == b'\\' {
+        after_character(text, at + 1)
+    } else {
+        after_character(text, at)
+    };
+    Piece {
+        form: Form::Separator,
+        to,
+    }
+}
+
+/// Reads a word, whose first letter stands at the place `from`.
+fn read_word(charset: &Charset, text: &str, at: usize, from: usize) -> Piece
+    requires from { from ≡ after_start text.now at }
+    requires ahead { at ≤ from }
+    requires seam { IsCharBoundary text.now from }
+    requires size { length text.now < 2 ^ 32 }
+    requires some { letter_at (folded charset.now) text.now false from ≡ None → ⊥ }
+    ensures is { IsWord (folded charset.now) text.now at result }
+    ensures follows { Follows text.now at result.to }
+{
+    let to = after_letters(charset, text, from);
+    let end = text_byte(text, to) == b'$';
+    Piece {
+        form: Form::Word(Spelling {
+            letters: Slice { from, to },
+            start: text_byte(text, at) == b'^',
+            end,
+        }),
+        to: if end { to + 1 } else { to },
+    }
+}
+
+/// The place after a `^`, where one stands.
+fn after_caret(text: &str, at: usize) -> usize
+    requires seam { IsCharBoundary text.now at }
+    requires size { length text.now < 2 ^ 32 }
+    ensures is { result ≡ after_start text.now at }
+    ensures ahead { at ≤ result }
+    ensures seam { IsCharBoundary text.now result }
+{
+    if text_byte(text, at) == b'^' {
+        at + 1
+    } else {
+        at
+    }
+}
+
+/// Reads a word or what separates, where no operator begins.
+fn read_plain(charset: &Charset, text: &str, at: usize) -> Piece
+    requires seam { IsCharBoundary text.now at }
+    requires within { at < length text.now }
+    requires size { length text.now < 2 ^ 32 }
+    ensures is { IsPlain (folded charset.now) text.now at result }
+    ensures follows { Follows text.now at result.to }
+{
+    let from = after_caret(text, at);
+    match letter(charset, text, false, from) {
+        Some(_) => read_word(charset, text, at, from),
+        None => read_separator(text, at),
+    }
+}
+
+/// The piece at a place of a text.
+///
+/// The time is linear in what the piece takes, and it takes no memory.
+pub fn piece_at(charset: &Charset, text: &str, at: usize) -> Piece
+    requires seam { IsCharBoundary text.now at }
+    requires within { at < length text.now }
+    requires size { length text.now < 2 ^ 32 }
+    ensures is { Stands (folded charset.now) text.now at result }
+    ensures after { at < result.to }
+    ensures seam { IsCharBoundary text.now result.to }
+{
+    match operator(text, false, at) {
+        Some(piece) => piece,
+        None => read_plain(charset, text, at),
+    }
+}
+
+/// The pieces of a text, one after the other.
+pub fn pieces(alloc: Global, charset: &Charset, text: &str) -> Result<Vec<Piece>, NoMemory>
+    requires { length text.now < 2 ^ 32 }
+    ensures { IfOk result (λ list. ArePieces (folded charset.now) text.now list.items) }
+{
+    let mut list = Vec::new(alloc);
+    let mut at = 0;
+    'pieces: while at < text.len() {
+        let piece = piece_at(charset, text, at);
+        list.push(piece)?;
+        at = piece.to;
+    }
+    Ok(list)
+}
