@@ -1,6 +1,6 @@
 -- Signs by their numbers.
 use Rattle.std.proofs.Common.{◌≡◌, List, [], ◌∷◌, true, Option, Some, None, slice_get, refl, sym, ◌∙◌, ap}
-use Rattle.std.proofs.lemmas.Bool.{eqb-true, eq-eqb}
+use Rattle.std.proofs.lemmas.Bool.{eqb-true}
 use Rattle.ql_lex.specs.declared.token.Sign.{Sign}
 use Rattle.ql_lex.specs.declared.token.Sign.TheVariants as signs
 use Rattle.ql_grammar.specs.Classes.{sign_number, same_sign}
@@ -34,6 +34,3 @@ some_same v w e = ap (kept v) e
 pub sign_same : (v w : Sign) → same_sign v w ≡ true → v ≡ w
 sign_same v w e =
     some_same v w (sym (sign_numbered v) ∙ ap (λ n. slice_get sign_values n) (eqb-true (sign_number v) (sign_number w) e) ∙ sign_numbered w)
-
-pub sign_to_itself : (s : Sign) → same_sign s s ≡ true
-sign_to_itself s = eq-eqb (sign_number s) (sign_number s) refl
