@@ -4,7 +4,7 @@ use Rattle.std.specs.Prelude.{Option, Some, None}
 use Rattle.std.specs.Str.{IsCharBoundary}
 use Rattle.query_pieces.specs.declared.piece.Piece.{Piece}
 use Rattle.query_pieces.specs.Letters.{Letter, letter_at}
-use Rattle.query_pieces.specs.Pieces.{AreLetters, IsRun, Stands, Splits}
+use Rattle.query_pieces.specs.Pieces.{AreLetters, IsRun, Stands, ends_in_letter, Splits}
 use Rattle.query_pieces.specs.steps.Ends.{HasRead, Follows, Ahead, are_some}
 
 -- the flag after letters
@@ -54,7 +54,16 @@ pub run_ahead : (fold : ℕ → Option ℕ) (text : List ℕ) (from : ℕ) (insi
 run_ahead fold text from true at h none some = record { after = h.ahead; seam = h.seam }
 run_ahead fold text from false at h none some = absurd (some (ap (letter_at fold text false) h.ahead ∙ none))
 
+-- whether a letter stands directly after some pieces
+abbrev pub after_pieces : Bool → List Piece → Bool
+after_pieces inside [] = inside
+after_pieces inside (p ∷ pieces) = after_pieces (ends_in_letter p.form) pieces
+
+pub after_push : (inside : Bool) (list : List Piece) (p : Piece) → after_pieces inside (list ++ p ∷ []) ≡ ends_in_letter p.form
+after_push inside [] p = refl
+after_push inside (first ∷ list) p = after_push (ends_in_letter first.form) list p
+
 -- one piece more
-pub splits_push : (fold : ℕ → Option ℕ) (text : List ℕ) (from at : ℕ) (list : List Piece) (p : Piece) → Splits fold text from list at → at < length text → Stands fold text at p → Splits fold text from (list ++ p ∷ []) p.to
-splits_push fold text from at [] p splits within stands = (subst (λ n. n < length text) (sym splits) within, subst (λ n. Stands fold text n p) (sym splits) stands, refl)
-splits_push fold text from at (first ∷ list) p splits within stands = (splits.0, splits.1, splits_push fold text first.to at list p splits.2 within stands)
+pub splits_push : (fold : ℕ → Option ℕ) (text : List ℕ) (inside : Bool) (from at : ℕ) (list : List Piece) (p : Piece) → Splits fold text inside from list at → at < length text → Stands fold text (after_pieces inside list) at p → Splits fold text inside from (list ++ p ∷ []) p.to
+splits_push fold text inside from at [] p splits within stands = (subst (λ n. n < length text) (sym splits) within, subst (λ n. Stands fold text inside n p) (sym splits) stands, refl)
+splits_push fold text inside from at (first ∷ list) p splits within stands = (splits.0, splits.1, splits_push fold text (ends_in_letter first.form) first.to at list p splits.2 within stands)

@@ -4,7 +4,7 @@ use Rattle.std.specs.Prelude.{Option, Some, None, MatchOption}
 use Rattle.query_pieces.specs.declared.piece.Piece.{Piece}
 use Rattle.query_pieces.specs.Operators.{operator_at}
 use Rattle.query_pieces.specs.Letters.{Letter, letter_at}
-use Rattle.query_pieces.specs.Pieces.{AreLetters, IsRun, IsWord, IsPlain, Stands, Splits, ArePieces, after_start, word_piece, separator_at}
+use Rattle.query_pieces.specs.Pieces.{AreLetters, IsRun, IsWord, IsPlain, Stands, ends_in_letter, Splits, ArePieces, after_start, word_piece, separator_at}
 use Rattle.query_pieces.proofs.LetterRuns.{after_flag}
 
 same_letter : {a b : Letter} {o : Option Letter} → o ≡ Some a → o ≡ Some b → a ≡ b
@@ -43,21 +43,21 @@ plain_same fold text place p q = by (letter_at fold text false (after_start text
     by None a b = a ∙ sym b
     by (Some letter) a b = word_same fold text place p q a b
 
-pub stands_same : (fold : ℕ → Option ℕ) (text : List ℕ) (place : ℕ) (p q : Piece) → Stands fold text place p → Stands fold text place q → p ≡ q
-stands_same fold text place p q = by (operator_at text false place)
+pub stands_same : (fold : ℕ → Option ℕ) (text : List ℕ) (inside : Bool) (place : ℕ) (p q : Piece) → Stands fold text inside place p → Stands fold text inside place q → p ≡ q
+stands_same fold text inside place p q = by (operator_at text inside place)
   where
     by : (o : Option Piece) → MatchOption o (IsPlain fold text place p) (λ operator. p ≡ operator) → MatchOption o (IsPlain fold text place q) (λ operator. q ≡ operator) → p ≡ q
     by None a b = plain_same fold text place p q a b
     by (Some operator) a b = a ∙ sym b
 
-pub splits_same : (fold : ℕ → Option ℕ) (text : List ℕ) (from : ℕ) (a b : List Piece) → Splits fold text from a (length text) → Splits fold text from b (length text) → a ≡ b
-splits_same fold text from [] [] x y = refl
-splits_same fold text from [] (q ∷ b) x y = absurd (omega (arith, x, y.0))
-splits_same fold text from (p ∷ a) [] x y = absurd (omega (arith, y, x.0))
-splits_same fold text from (p ∷ a) (q ∷ b) x y =
-    let first : p ≡ q = stands_same fold text from p q x.1 y.1 in
-    let rest : Splits fold text p.to b (length text) = subst (λ (r : Piece). Splits fold text r.to b (length text)) (sym first) y.2 in
-    ap (λ (r : Piece). r ∷ a) first ∙ ap (λ l. q ∷ l) (splits_same fold text p.to a b x.2 rest)
+pub splits_same : (fold : ℕ → Option ℕ) (text : List ℕ) (inside : Bool) (from : ℕ) (a b : List Piece) → Splits fold text inside from a (length text) → Splits fold text inside from b (length text) → a ≡ b
+splits_same fold text inside from [] [] x y = refl
+splits_same fold text inside from [] (q ∷ b) x y = absurd (omega (arith, x, y.0))
+splits_same fold text inside from (p ∷ a) [] x y = absurd (omega (arith, y, x.0))
+splits_same fold text inside from (p ∷ a) (q ∷ b) x y =
+    let first : p ≡ q = stands_same fold text inside from p q x.1 y.1 in
+    let rest : Splits fold text (ends_in_letter p.form) p.to b (length text) = subst (λ (r : Piece). Splits fold text (ends_in_letter r.form) r.to b (length text)) (sym first) y.2 in
+    ap (λ (r : Piece). r ∷ a) first ∙ ap (λ l. q ∷ l) (splits_same fold text (ends_in_letter p.form) p.to a b x.2 rest)
 
 pub pieces_same : (fold : ℕ → Option ℕ) (text : List ℕ) (a b : List Piece) → ArePieces fold text a → ArePieces fold text b → a ≡ b
-pieces_same fold text a b = splits_same fold text 0 a b
+pieces_same fold text a b = splits_same fold text false 0 a b

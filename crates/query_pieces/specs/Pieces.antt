@@ -1,6 +1,7 @@
 -- The pieces of a text: operators, words, and what separates.
-use Rattle.std.specs.Prelude.{◌≡◌, ◌≢◌, ◌<◌, ℕ, ◌+◌, List, [], ◌∷◌, Bool, true, false, ◌==◌, Option, Some, None, if◌then◌else◌, length, MatchOption}
+use Rattle.std.specs.Prelude.{◌≡◌, ◌≢◌, ◌<◌, ℕ, ◌+◌, List, [], ◌∷◌, Bool, true, false, not, ◌==◌, Option, Some, None, if◌then◌else◌, length, MatchOption}
 use Rattle.std.specs.Char.{len_utf8}
+use Rattle.query_pieces.specs.declared.piece.Form.{Form}
 use Rattle.query_pieces.specs.declared.piece.Form.TheVariants as forms
 use Rattle.query_pieces.specs.declared.piece.Piece.{Piece}
 use Rattle.query_pieces.specs.QueryBytes.{byte}
@@ -53,15 +54,20 @@ abbrev pub IsPlain : (ℕ → Option ℕ) → List ℕ → ℕ → Piece → Typ
 IsPlain fold text place p =
     MatchOption (letter_at fold text false (after_start text place)) (p ≡ separator_at text place) (λ letter. IsWord fold text place p)
 
--- The piece stands at the place.
-abbrev pub Stands : (ℕ → Option ℕ) → List ℕ → ℕ → Piece → Type 0
-Stands fold text place p = MatchOption (operator_at text false place) (IsPlain fold text place p) (λ operator. p ≡ operator)
+-- The piece stands at the place. The flag says that a letter of a word stands directly before it.
+abbrev pub Stands : (ℕ → Option ℕ) → List ℕ → Bool → ℕ → Piece → Type 0
+Stands fold text inside place p = MatchOption (operator_at text inside place) (IsPlain fold text place p) (λ operator. p ≡ operator)
+
+-- A letter stands directly before what follows the piece: it is a word without a `$`.
+abbrev pub ends_in_letter : Form → Bool
+ends_in_letter (forms.Word spelling) = not spelling.end
+ends_in_letter _ = false
 
 -- From a place up to another the text is these pieces, one after the other.
-abbrev pub Splits : (ℕ → Option ℕ) → List ℕ → ℕ → List Piece → ℕ → Type 0
-Splits fold text from [] to = from ≡ to
-Splits fold text from (p ∷ pieces) to = (from < length text) × Stands fold text from p × Splits fold text p.to pieces to
+abbrev pub Splits : (ℕ → Option ℕ) → List ℕ → Bool → ℕ → List Piece → ℕ → Type 0
+Splits fold text inside from [] to = from ≡ to
+Splits fold text inside from (p ∷ pieces) to = (from < length text) × Stands fold text inside from p × Splits fold text (ends_in_letter p.form) p.to pieces to
 
 -- These are the pieces of the text.
 abbrev pub ArePieces : (ℕ → Option ℕ) → List ℕ → List Piece → Type 0
-ArePieces fold text pieces = Splits fold text 0 pieces (length text)
+ArePieces fold text pieces = Splits fold text false 0 pieces (length text)

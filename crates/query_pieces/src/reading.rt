@@ -4,7 +4,7 @@ ghost use Rattle.std.specs.Str.{IsCharBoundary};
 ghost use Rattle.charset_map.specs.Spans.{folded};
 ghost use Rattle.query_pieces.specs.Letters.{letter_at};
 ghost use Rattle.query_pieces.specs.Operators.{operator_at};
-ghost use Rattle.query_pieces.specs.Pieces.{after_start, separator_at, IsWord, IsPlain, Stands, ArePieces};
+ghost use Rattle.query_pieces.specs.Pieces.{after_start, separator_at, IsWord, IsPlain, Stands, ends_in_letter, ArePieces};
 ghost use Rattle.query_pieces.specs.steps.Ends.{Follows};
 
 use crate::letters::{after_character, after_letters, letter, operator, text_byte};
@@ -84,18 +84,28 @@ fn read_plain(charset: &Charset, text: &str, at: usize) -> Piece
     }
 }
 
-/// The piece at a place of a text.
+/// Whether a letter stands directly before what follows a piece.
+fn leaves_letter(form: Form) -> bool
+    ensures { result ≡ ends_in_letter form }
+{
+    match form {
+        Form::Word(spelling) => !spelling.end,
+        _ => false,
+    }
+}
+
+/// The piece at a place of a text. The flag says that a letter of a word stands directly before it.
 ///
 /// The time is linear in what the piece takes, and it takes no memory.
-pub fn piece_at(charset: &Charset, text: &str, at: usize) -> Piece
+pub fn piece_at(charset: &Charset, text: &str, inside: bool, at: usize) -> Piece
     requires seam { IsCharBoundary text.now at }
     requires within { at < length text.now }
     requires size { length text.now < 2 ^ 32 }
-    ensures is { Stands (folded charset.now) text.now at result }
+    ensures is { Stands (folded charset.now) text.now inside at result }
     ensures after { at < result.to }
     ensures seam { IsCharBoundary text.now result.to }
 {
-    match operator(text, false, at) {
+    match operator(text, inside, at) {
         Some(piece) => piece,
         None => read_plain(charset, text, at),
     }
@@ -107,10 +117,12 @@ pub fn pieces(alloc: Global, charset: &Charset, text: &str) -> Result<Vec<Piece>
     ensures { IfOk result (λ list. ArePieces (folded charset.now) text.now list.items) }
 {
     let mut list = Vec::new(alloc);
+    let mut inside = false;
     let mut at = 0;
     'pieces: while at < text.len() {
-        let piece = piece_at(charset, text, at);
+        let piece = piece_at(charset, text, inside, at);
         list.push(piece)?;
+        inside = leaves_letter(piece.form);
         at = piece.to;
     }
     Ok(list)
