@@ -7,9 +7,9 @@ use Rattle.std.proofs.lemmas.Cmp.{nat_list_eq_equiv}
 use Rattle.std.proofs.lemmas.List.{take_at, drop_at, take-append-drop, length-append, length-take-le}
 use Rattle.std.proofs.lemmas.Option.{cond_some, some_pair_parts}
 use Rattle.srch_base.specs.Numbers.{number_of}
-use Rattle.mysql_wire.specs.Numbers.{fixed_front, lenenc_front}
+use Rattle.mysql_wire.specs.steps.NumberFronts.{fixed_front, lenenc_front}
 use Rattle.mysql_wire.specs.Fields.{IsPlain, IsMarked, IsNumber, Field, Exactly, Sized, Plain, Number, Lengthed, IsField}
-use Rattle.mysql_wire.specs.Reading.{exactly_at, sized_at, if_number, if_text, known_at, behind, text_at}
+use Rattle.mysql_wire.specs.steps.Scanning.{exactly_at, sized_at, if_number, if_text, known_at, behind, text_at}
 
 -- The bytes begin with the field, and go on with the rest.
 pub record Begins (field : Field) (bytes rest : List ℕ) : Type 0 where

@@ -5,14 +5,14 @@ use Rattle.std.proofs.lemmas.Bool.{eqb-true, eqb-false, leb-true, le-leb, ltb-tr
 use Rattle.std.proofs.lemmas.Bool.Decides.{nat_tests}
 use Rattle.std.proofs.lemmas.List.{take-append-drop, drop_at}
 use Rattle.std.proofs.lemmas.Option.{none-some}
-use Rattle.mysql_wire.specs.Numbers.{lenenc_front}
+use Rattle.mysql_wire.specs.steps.NumberFronts.{lenenc_front}
 use Rattle.mysql_wire.specs.Fields.{Lengthed, IsField}
 use Rattle.mysql_wire.proofs.FieldLaws.{number_takes, number_again}
 use Rattle.mysql_wire.specs.Handshake.{Response, has, connect_with_database, secure_connection, length_encoded_answer, flags_of, speaks_41, HasNoNul, EndsAtNul, HasAnswer, IsResponse, IsBadResponse, cut_place}
-use Rattle.mysql_wire.specs.Answered.{response_by, Reads}
+use Rattle.mysql_wire.specs.Answered.{response_by}
 use Rattle.mysql_wire.specs.declared.handshake.Response41.{Response41}
 use Rattle.mysql_wire.specs.declared.handshake.BadHandshake.{BadHandshake}
-use Rattle.mysql_wire.specs.HandshakeReading.{behind, behind_counted, behind_byte, text_front, text_or_all, behind_answer, database_of, response_with, response_behind, response_of}
+use Rattle.mysql_wire.specs.steps.ResponseFronts.{GivesResponse, behind, behind_counted, behind_byte, text_front, text_or_all, behind_answer, database_of, response_with, response_behind, response_of}
 
 -- texts
 
@@ -144,13 +144,13 @@ response_says payload =
     head_says payload (speaks_41 payload) (nat_lt (length payload) 32) refl (λ is. ltb-true (length payload) 32 is) (λ is. grind (arith, nat_tests, is))
 
 -- a result that is what was read from the user on
-result_says : (payload : List ℕ) (read : Result Response ℕ) (result : Result Response41 BadHandshake) → Says payload read → Reads result read
+result_says : (payload : List ℕ) (read : Result Response ℕ) (result : Result Response41 BadHandshake) → Says payload read → GivesResponse result read
     → MatchResult result (λ r. IsResponse payload (response_by r)) (λ e. IsBadResponse payload e.place)
 result_says payload read (Ok r) says reads = subst (Says payload) reads says
 result_says payload read (Err e) says reads = subst (Says payload) reads says
 
 pub user_says : (payload fields : List ℕ) (flags : ℕ) (result : Result Response41 BadHandshake) → (speaks_41 payload ≡ true) × (flags ≡ flags_of payload) → 32 ≤ length payload → fields ≡ drop 32 payload
-    → Reads result (response_behind flags (text_front fields)) → MatchResult result (λ r. IsResponse payload (response_by r)) (λ e. IsBadResponse payload e.place)
+    → GivesResponse result (response_behind flags (text_front fields)) → MatchResult result (λ r. IsResponse payload (response_by r)) (λ e. IsBadResponse payload e.place)
 user_says payload fields flags result head long rest reads =
     result_says payload (response_behind (flags_of payload) (text_front (drop 32 payload))) result
     (behind_says_user payload (text_front (drop 32 payload)) head.0 long (text_says (drop 32 payload)))

@@ -2,7 +2,7 @@
 use Rattle.std.proofs.Common.{◌≡◌, ◌≤◌, ℕ, suc, ◌+◌, ◌<◌, Bool, true, false, not, ◌==◌, nat_lt, cond, List, [], ◌∷◌, Option, Some, None, option_map, length, take, drop, refl, arith}
 use Rattle.std.proofs.lemmas.Bool.Decides.{nat_tests}
 use Rattle.std.specs.List.{position, position_or_len}
-use Rattle.mysql_wire.specs.HandshakeReading.{text_front}
+use Rattle.mysql_wire.specs.steps.ResponseFronts.{text_front}
 
 abbrev is_nul : ℕ → Bool
 is_nul byte = byte == 0

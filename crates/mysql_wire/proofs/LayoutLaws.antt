@@ -6,8 +6,8 @@ use Rattle.mysql_wire.specs.declared.rows.ColumnKind.TheVariants.{Uint, Whole, U
 use Rattle.mysql_wire.specs.Fields.{Field, Exactly}
 use Rattle.mysql_wire.specs.Payloads.{number_fields, greeting_fields, ok_fields, err_fields, eof_fields, type_fields, column_fields}
 use Rattle.mysql_wire.specs.Rows.{type_of}
-use Rattle.mysql_wire.specs.Reading.{known_at}
-use Rattle.mysql_wire.specs.Layouts.{number_layout, greeting_layout, capabilities_layout, plugin_layout, ok_layout, err_layout, eof_layout, long_layout, binary_layout, type_layout, column_layout}
+use Rattle.mysql_wire.specs.steps.Scanning.{known_at}
+use Rattle.mysql_wire.specs.steps.Layouts.{number_layout, greeting_layout, capabilities_layout, plugin_layout, ok_layout, err_layout, eof_layout, long_layout, binary_layout, type_layout, column_layout}
 use Rattle.mysql_wire.proofs.ScanLaws.{Path, IsClear, Fits}
 
 pub number_fits : Fits number_layout number_fields

@@ -5,7 +5,7 @@ use Rattle.std.proofs.lemmas.List.{length-append, append-nil, map_push, nil_from
 use Rattle.std.proofs.lemmas.Option.{some_pair_parts}
 use Rattle.mysql_wire.specs.Fields.{IsNumber, Field, IsField, Fills, Reaches, IsFirstFault}
 use Rattle.mysql_wire.specs.Payloads.{cell_field, row_fields}
-use Rattle.mysql_wire.specs.Reading.{text_at, as_value, cell_at}
+use Rattle.mysql_wire.specs.steps.Scanning.{text_at, as_value, cell_at}
 use Rattle.mysql_wire.proofs.FieldLaws.{Begins, chosen, text_takes, text_again}
 use Rattle.mysql_wire.proofs.ScanLaws.{Reached, to_reached}
 

@@ -6,9 +6,9 @@ use Rattle.srch_base.specs.declared.faults.Or.{Or}
 use Rattle.srch_base.specs.declared.faults.Or.TheVariants.{NoMemory, Fault}
 use Rattle.mysql_wire.specs.declared.fields.Stop.{Stop}
 use Rattle.mysql_wire.specs.declared.fields.WireFault.{WireFault}
-use Rattle.mysql_wire.specs.Numbers.{fixed_front, lenenc_front}
+use Rattle.mysql_wire.specs.steps.NumberFronts.{fixed_front, lenenc_front}
 use Rattle.mysql_wire.specs.Fields.{Field, Exactly, Sized, Plain, Number, Lengthed, IsField, Fills, Reaches, Reads}
-use Rattle.mysql_wire.specs.Reading.{known_at, sized_at, text_at, ◌>>=◌, at, Layout, Done, Known, Either, SizedBytes, PlainNumber, AnyNumber, AnyText, Rest, ended, or_other, scan, Gives, answer_to}
+use Rattle.mysql_wire.specs.steps.Scanning.{known_at, sized_at, text_at, ◌>>=◌, at, Layout, Done, Known, Either, SizedBytes, PlainNumber, AnyNumber, AnyText, Rest, ended, or_other, scan, Gives, answer_to}
 use Rattle.mysql_wire.proofs.FieldLaws.{Begins, known_takes, known_again, sized_takes, sized_again, plain_takes, plain_again, number_takes, number_again, text_takes, text_again}
 
 -- The layout allows these fields, and they hold this value.

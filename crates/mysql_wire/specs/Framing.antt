@@ -50,8 +50,3 @@ Leaves expect before NeedMore after = after ≡ before
 Leaves expect before (Packet seq payload) after = Takes expect before payload.now after
 Leaves expect before (TooLarge size seq) after = after ≡ record before { refused = Some (because.TooLarge size seq) }
 Leaves expect before (OutOfOrder seq) after = after ≡ record before { refused = Some (because.OutOfOrder seq) }
-
--- the answer that tells a refusal
-abbrev pub refusal_answer : Refusal → Next
-refusal_answer (because.TooLarge size seq) = TooLarge size seq
-refusal_answer (because.OutOfOrder seq) = OutOfOrder seq

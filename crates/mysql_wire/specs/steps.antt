@@ -1,1 +1,6 @@
 pub mod Numbering
+pub mod NumberFronts
+pub mod Heads
+pub mod Scanning
+pub mod Layouts
+pub mod ResponseFronts

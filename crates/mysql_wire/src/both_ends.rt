@@ -1,3 +1,5 @@
+//! Laws of the two ends together: what the server writes, the client reads as what it was. Each function does nothing: its
+//! contract is the law.
 ghost use Rattle.std.specs.Prelude.{◌≡◌, ◌^◌, ◌<◌, ℕ, List, length, map};
 ghost use Rattle.std.specs.List.{AllByRecursion};
 ghost use Rattle.mysql_wire.specs.declared.rows.Column.{Column as AnyColumn};

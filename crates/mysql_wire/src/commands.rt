@@ -1,3 +1,4 @@
+//! What a command packet asks for: its first byte is the command, the rest its argument. "Command Phase" of the protocol.
 ghost use Rattle.std.specs.Prelude.{◌≡◌, ◌∷◌};
 ghost use Rattle.mysql_wire.specs.Commands.{command_of};
 ghost use Rattle.mysql_wire.specs.Asked.{asked_by};

@@ -1,8 +1,10 @@
+//! Going over a payload field by field, as the client's readers do. A field is bytes that are known, a number, or a text; the
+//! first that isn't whole, or isn't what the layout says, is the place of the fault.
 ghost use Rattle.std.specs.Prelude.{◌≡◌, ◌^◌, ◌<◌, length};
 ghost use Rattle.std.specs.Option.{option_copied};
 ghost use Rattle.mysql_wire.specs.Fields.{Exactly, Plain, Number, Lengthed};
-ghost use Rattle.mysql_wire.specs.Numbers.{fixed_front, lenenc_front};
-ghost use Rattle.mysql_wire.specs.Reading.{Gives, answer_to, at, known_at, sized_at, text_at, cell_at, ended};
+ghost use Rattle.mysql_wire.specs.steps.NumberFronts.{fixed_front, lenenc_front};
+ghost use Rattle.mysql_wire.specs.steps.Scanning.{Gives, answer_to, at, known_at, sized_at, text_at, cell_at, ended};
 
 use crate::lengths::split_lenenc;
 use srch_base::Or;

@@ -1,6 +1,16 @@
+//! Packets out of a stream of bytes that comes in any pieces ("MySQL Packets" of the protocol).
+//!
+//! A packet is a length of three bytes, the low one first, a sequence byte, and the payload:
+//!
+//! ```text
+//! 05 00 00  00  03 73 65 74 20
+//! length    seq payload
+//! ```
+//!
+//! The bytes that were taken stay at the front of the buffer until they are at least half of it, and are then dropped at
+//! once: each byte moves once for that, so a stream costs time in proportion to its bytes, whatever its packets' sizes.
 ghost use Rattle.std.specs.Prelude.{◌≡◌, ◌+◌, ◌≤◌, ◌<◌, ◌++◌, ◌↔◌, [], None, length, drop, vec_len, IsTrue, IfOk, OnOk, OnErr};
-ghost use Rattle.mysql_wire.specs.Framing.{refusal_answer};
-ghost use Rattle.mysql_wire.specs.Heads.{IsHead};
+ghost use Rattle.mysql_wire.specs.steps.Heads.{IsHead, refusal_answer};
 
 use srch_base::NoMemory;
 use std::alloc::Global;

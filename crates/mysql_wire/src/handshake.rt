@@ -1,8 +1,12 @@
+//! The client's response to the greeting: flags, sizes and a character set in 32 bytes, the user up to a NUL, an
+//! authentication answer in one of three shapes that the flags pick, and, where they are flagged, a database and a plugin
+//! name. Only the flags, the user and the database are used; the first field that isn't whole is where a bad one is refused.
+//! "Protocol::HandshakeResponse41".
 ghost use Rattle.std.specs.Prelude.{◌≡◌, ◌==◌, ◌+◌, ◌<◌, ◌^◌, ◌≤◌, length, drop, true, false, option_map, IfSome, IfOk, IfErr, MatchResult};
 ghost use Rattle.std.specs.List.{position};
 ghost use Rattle.mysql_wire.specs.Handshake.{speaks_41, flags_of, cut_place, IsResponse, IsBadResponse};
-ghost use Rattle.mysql_wire.specs.HandshakeReading.{text_front, behind_answer, database_of, response_with, response_behind};
-ghost use Rattle.mysql_wire.specs.Answered.{response_by, Reads};
+ghost use Rattle.mysql_wire.specs.steps.ResponseFronts.{GivesResponse, text_front, behind_answer, database_of, response_with, response_behind};
+ghost use Rattle.mysql_wire.specs.Answered.{response_by};
 
 use crate::lengths::split_lenenc;
 use srch_base::u32_at;
@@ -55,7 +59,7 @@ pub fn read_response41(payload: &[u8]) -> Result<Response41<'_>, BadHandshake>
 /// The response, from the user on.
 fn read_user(flags: u32, fields: &[u8]) -> Result<Response41<'_>, BadHandshake>
     requires { 32 + length fields.now < 2 ^ 32 }
-    ensures { Reads result (response_behind flags (text_front fields.now)) }
+    ensures { GivesResponse result (response_behind flags (text_front fields.now)) }
 {
     match split_text(fields) {
         Some((user, behind)) => read_behind_user(flags, user, behind),
@@ -70,7 +74,7 @@ fn read_behind_user<'a>(
     fields: &'a [u8],
 ) -> Result<Response41<'a>, BadHandshake>
     requires { 33 + length user.now < 2 ^ 32 }
-    ensures { Reads result (response_with flags user.now (behind_answer flags fields.now)) }
+    ensures { GivesResponse result (response_with flags user.now (behind_answer flags fields.now)) }
 {
     match skip_answer(flags, fields) {
         Some(behind) => Ok(Response41 {
@@ -121,7 +125,7 @@ fn find_nul(bytes: &[u8]) -> Option<usize>
 }
 
 /// What is behind the authentication answer.
-#[tactic(auto, unfolding(crate::specs::HandshakeReading::behind_answer))]
+#[tactic(auto, unfolding(crate::specs::steps::ResponseFronts::behind_answer))]
 fn skip_answer(flags: u32, bytes: &[u8]) -> Option<&[u8]>
     ensures { option_map (λ rest. rest.now) result ≡ behind_answer flags bytes.now }
 {
@@ -140,7 +144,7 @@ fn skip_answer(flags: u32, bytes: &[u8]) -> Option<&[u8]>
 }
 
 /// The database, where the client names one: up to a NUL or to the end.
-#[tactic(auto, unfolding(crate::specs::HandshakeReading::database_of))]
+#[tactic(auto, unfolding(crate::specs::steps::ResponseFronts::database_of))]
 fn read_database(flags: u32, bytes: &[u8]) -> Option<&[u8]>
     ensures { option_map (λ name. name.now) result ≡ database_of flags bytes.now }
 {

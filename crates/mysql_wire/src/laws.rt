@@ -1,3 +1,5 @@
+//! Laws of the definitions: bytes begin in one way, and a payload is one response or a bad one. Each function does nothing:
+//! its contract is the law.
 ghost use Rattle.std.specs.Prelude.{◌≡◌, ◌⊎◌, ℕ, List};
 ghost use Rattle.mysql_wire.specs.Fronts.{Front, HasFront, AreBytes};
 ghost use Rattle.mysql_wire.specs.Handshake.{Response, IsResponse, IsBadResponse};

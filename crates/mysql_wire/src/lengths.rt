@@ -1,6 +1,8 @@
+//! Length-encoded numbers: one byte below 251, else `fc`, `fd` or `fe` and two, three or eight bytes, the low one first. A
+//! writer takes the shortest spelling, a reader takes any. "Protocol::LengthEncodedInteger".
 ghost use Rattle.std.specs.Prelude.{◌≡◌, ◌+◌, ◌<◌, ◌≤◌, ◌++◌, length, option_map, OnOk, OnErr, vec_len, vec_capacity};
 ghost use Rattle.mysql_wire.specs.LengthEncoded.{lenenc};
-ghost use Rattle.mysql_wire.specs.Numbers.{lenenc_front};
+ghost use Rattle.mysql_wire.specs.steps.NumberFronts.{lenenc_front};
 
 use arrayvec::ArrayVec;
 use srch_base::{NoMemory, u16_at, u64_at};

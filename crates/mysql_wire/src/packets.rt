@@ -1,6 +1,7 @@
-ghost use Rattle.std.specs.Prelude.{◌≡◌, ◌+◌, ◌%◌, ◌^◌, ◌<◌, ◌≤◌, [], ◌∷◌, ◌++◌, length, take, IfOk, OnOk, OnErr, vec_len, vec_capacity};
+//! Packets as they are written: the four bytes of a header, and the payload. What is appended is whole or not there.
+ghost use Rattle.std.specs.Prelude.{◌≡◌, ◌+◌, ◌^◌, ◌<◌, ◌≤◌, [], ◌∷◌, ◌++◌, length, take, IfOk, OnOk, OnErr, vec_len, vec_capacity};
 ghost use Rattle.std.specs.Int.{w32, to_le_bytes};
-ghost use Rattle.mysql_wire.specs.Packets.{packet};
+ghost use Rattle.mysql_wire.specs.Packets.{packet, sequence_after};
 
 use srch_base::NoMemory;
 
@@ -16,7 +17,7 @@ pub(crate) fn header(size: u32, seq: u8) -> [u8; 4]
 #[tactic(auto, unfolding(crate::specs::Packets::packet))]
 pub fn put_packet(seq: u8, payload: &[u8], out: &mut Vec<u8>) -> Result<u8, NoMemory>
     requires { length payload.now < 16777215 }
-    ensures next { IfOk result (λ next. next ≡ (seq + 1) % 256) }
+    ensures next { IfOk result (λ next. next ≡ sequence_after seq (payload.now ∷ [])) }
     ensures ok { OnOk result (out.new.items ≡ out.old.items ++ packet seq payload.now) }
     ensures err { OnErr result (out.new.items ≡ out.old.items) }
     ensures full { OnErr result (vec_capacity out.old < vec_len out.old + 4 + length payload.now) }

@@ -1,9 +1,11 @@
+//! The client's readers of the packets that open a line and that answer a command: the greeting, OK, ERR and EOF, and a
+//! payload that is one number. Each gives a value exactly where the payload has the fields that the server writes.
 ghost use Rattle.std.specs.Prelude.{◌≡◌, ◌≢◌, ◌^◌, ◌<◌, length, Err};
 ghost use Rattle.srch_base.specs.declared.faults.Or.TheVariants.{NoMemory};
 ghost use Rattle.mysql_wire.specs.Fields.{Reads};
 ghost use Rattle.mysql_wire.specs.Payloads.{number_fields, greeting_fields, ok_fields, err_fields, eof_fields};
-ghost use Rattle.mysql_wire.specs.Reading.{Gives, scan};
-ghost use Rattle.mysql_wire.specs.Layouts.{number_layout, greeting_layout, capabilities_layout, plugin_layout, ok_layout, err_layout, eof_layout};
+ghost use Rattle.mysql_wire.specs.steps.Scanning.{Gives, scan};
+ghost use Rattle.mysql_wire.specs.steps.Layouts.{number_layout, greeting_layout, capabilities_layout, plugin_layout, ok_layout, err_layout, eof_layout};
 
 use crate::fields::{
     Stop, WireFault, answer, end, exactly, five_bytes, number, number_of_2, number_of_4,
@@ -49,7 +51,7 @@ pub fn read_lenenc(payload: &[u8]) -> Result<u64, Or<WireFault>>
     answer(payload, number_in(payload))
 }
 
-#[tactic(auto, unfolding(crate::specs::Layouts::number_layout))]
+#[tactic(auto, unfolding(crate::specs::steps::Layouts::number_layout))]
 fn number_in(payload: &[u8]) -> Result<u64, Stop>
     ensures { Gives (λ n. n) result (scan number_layout payload.now) }
 {
@@ -67,7 +69,7 @@ pub fn read_greeting(payload: &[u8]) -> Result<WireGreeting, Or<WireFault>>
     answer(payload, greeting_in(payload))
 }
 
-#[tactic(auto, unfolding(crate::specs::Layouts::greeting_layout))]
+#[tactic(auto, unfolding(crate::specs::steps::Layouts::greeting_layout))]
 fn greeting_in(payload: &[u8]) -> Result<WireGreeting, Stop>
     ensures { Gives (λ greeting. greeting) result (scan greeting_layout payload.now) }
 {
@@ -77,7 +79,7 @@ fn greeting_in(payload: &[u8]) -> Result<WireGreeting, Stop>
     capabilities_in(connection, rest)
 }
 
-#[tactic(auto, unfolding(crate::specs::Layouts::capabilities_layout))]
+#[tactic(auto, unfolding(crate::specs::steps::Layouts::capabilities_layout))]
 fn capabilities_in(connection: u32, bytes: &[u8]) -> Result<WireGreeting, Stop>
     ensures { Gives (λ greeting. greeting) result (scan (capabilities_layout connection) bytes.now) }
 {
@@ -90,7 +92,7 @@ fn capabilities_in(connection: u32, bytes: &[u8]) -> Result<WireGreeting, Stop>
     plugin_in(connection, rest)
 }
 
-#[tactic(auto, unfolding(crate::specs::Layouts::plugin_layout))]
+#[tactic(auto, unfolding(crate::specs::steps::Layouts::plugin_layout))]
 fn plugin_in(connection: u32, bytes: &[u8]) -> Result<WireGreeting, Stop>
     ensures { Gives (λ greeting. greeting) result (scan (plugin_layout connection) bytes.now) }
 {
@@ -111,7 +113,7 @@ pub fn read_ok(payload: &[u8]) -> Result<WireOk, Or<WireFault>>
     answer(payload, ok_in(payload))
 }
 
-#[tactic(auto, unfolding(crate::specs::Layouts::ok_layout))]
+#[tactic(auto, unfolding(crate::specs::steps::Layouts::ok_layout))]
 fn ok_in(payload: &[u8]) -> Result<WireOk, Stop>
     ensures { Gives (λ ok. ok) result (scan ok_layout payload.now) }
 {
@@ -133,7 +135,7 @@ pub fn read_eof(payload: &[u8]) -> Result<WireEof, Or<WireFault>>
     answer(payload, eof_in(payload))
 }
 
-#[tactic(auto, unfolding(crate::specs::Layouts::eof_layout))]
+#[tactic(auto, unfolding(crate::specs::steps::Layouts::eof_layout))]
 fn eof_in(payload: &[u8]) -> Result<WireEof, Stop>
     ensures { Gives (λ eof. eof) result (scan eof_layout payload.now) }
 {
@@ -154,7 +156,7 @@ pub fn read_err(alloc: Global, payload: &[u8]) -> Result<WireErr, Or<WireFault>>
     Ok(WireErr { code, state, text })
 }
 
-#[tactic(auto, unfolding(crate::specs::Layouts::err_layout))]
+#[tactic(auto, unfolding(crate::specs::steps::Layouts::err_layout))]
 fn err_in(payload: &[u8]) -> Result<(u16, [u8; 5], &[u8]), Stop>
     ensures { Gives (λ err. record { code = err.0; state = err.1; text = err.2.now }) result
         (scan err_layout payload.now) }

@@ -1,9 +1,10 @@
+//! The client's readers of a result set: a column's definition and a row. NULL in a row is None; this server writes none.
 ghost use Rattle.std.specs.Prelude.{◌≡◌, ◌^◌, ◌<◌, length, IfOk};
 ghost use Rattle.std.specs.Option.{option_copied};
 ghost use Rattle.mysql_wire.specs.Fields.{Reads};
 ghost use Rattle.mysql_wire.specs.Payloads.{column_fields, row_fields};
-ghost use Rattle.mysql_wire.specs.Reading.{Gives, scan};
-ghost use Rattle.mysql_wire.specs.Layouts.{column_layout, type_layout, binary_layout, long_layout, after_type};
+ghost use Rattle.mysql_wire.specs.steps.Scanning.{Gives, scan};
+ghost use Rattle.mysql_wire.specs.steps.Layouts.{column_layout, type_layout, binary_layout, long_layout, after_type};
 
 use crate::fields::{Stop, WireFault, answer, cell, end, exactly, text, text_that_is};
 use crate::{Column, ColumnKind};
@@ -44,7 +45,7 @@ fn owned(alloc: Global, value: Option<&[u8]>) -> Result<Option<Text>, NoMemory>
     }
 }
 
-#[tactic(auto, unfolding(crate::specs::Layouts::column_layout))]
+#[tactic(auto, unfolding(crate::specs::steps::Layouts::column_layout))]
 fn column_in(payload: &[u8]) -> Result<(&[u8], ColumnKind), Stop>
     ensures { Gives (λ column. record { name = column.0.now; kind = column.1 }) result
         (scan column_layout payload.now) }
@@ -59,7 +60,7 @@ fn column_in(payload: &[u8]) -> Result<(&[u8], ColumnKind), Stop>
     type_in(name, rest)
 }
 
-#[tactic(auto, unfolding(crate::specs::Layouts::type_layout))]
+#[tactic(auto, unfolding(crate::specs::steps::Layouts::type_layout))]
 fn type_in<'a>(name: &'a [u8], bytes: &[u8]) -> Result<(&'a [u8], ColumnKind), Stop>
     ensures { Gives (λ column. record { name = column.0.now; kind = column.1 }) result
         (scan (type_layout name.now) bytes.now) }
@@ -76,7 +77,7 @@ fn type_in<'a>(name: &'a [u8], bytes: &[u8]) -> Result<(&'a [u8], ColumnKind), S
     }
 }
 
-#[tactic(auto, unfolding(crate::specs::Layouts::binary_layout))]
+#[tactic(auto, unfolding(crate::specs::steps::Layouts::binary_layout))]
 fn binary_in<'a>(name: &'a [u8], bytes: &[u8]) -> Result<(&'a [u8], ColumnKind), Stop>
     ensures { Gives (λ column. record { name = column.0.now; kind = column.1 }) result
         (scan (binary_layout name.now) bytes.now) }
@@ -94,7 +95,7 @@ fn binary_in<'a>(name: &'a [u8], bytes: &[u8]) -> Result<(&'a [u8], ColumnKind),
     }
 }
 
-#[tactic(auto, unfolding(crate::specs::Layouts::long_layout))]
+#[tactic(auto, unfolding(crate::specs::steps::Layouts::long_layout))]
 fn long_in<'a>(name: &'a [u8], bytes: &[u8]) -> Result<(&'a [u8], ColumnKind), Stop>
     ensures { Gives (λ column. record { name = column.0.now; kind = column.1 }) result
         (scan (long_layout name.now) bytes.now) }

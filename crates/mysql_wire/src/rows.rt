@@ -1,3 +1,5 @@
+//! The columns and rows of a result set, as a server writes them. A column is its name, twice, and what kind of values it
+//! holds; a row is the text of each value with its length before it. "Text Resultset" of the protocol.
 ghost use Rattle.std.specs.Prelude.{◌≡◌, ◌+◌, ◌<◌, ◌≤◌, ◌++◌, length, take, OnOk, OnErr, vec_len, vec_capacity};
 ghost use Rattle.mysql_wire.specs.LengthEncoded.{lenenc_text};
 ghost use Rattle.mysql_wire.specs.Rows.{type_of, type_bytes, column_payload, cell_text, row_payload};

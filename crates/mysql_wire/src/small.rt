@@ -1,3 +1,5 @@
+//! Packets of at most 256 bytes, which lie in the value itself: the greeting, OK, ERR and EOF. They take no memory, so that
+//! a server which has none left can still say so. "Protocol::HandshakeV10", "OK_Packet", "ERR_Packet", "EOF_Packet".
 ghost use Rattle.std.specs.Prelude.{◌≡◌, ◌+◌, ◌≤◌, [], ◌++◌, length};
 ghost use Rattle.mysql_wire.specs.Packets.{packet};
 ghost use Rattle.mysql_wire.specs.LengthEncoded.{lenenc};

@@ -4,7 +4,8 @@ use Rattle.std.specs.Char.{is_ascii_digit}
 use Rattle.std.specs.List.{AllPass, fold}
 use Rattle.std.proofs.lemmas.List.Elements.{All-head, All-tail}
 use Rattle.std.proofs.lemmas.List.Sums.{fold_more}
-use Rattle.ql_session.specs.Texts.{begins_with_digit, digits_value}
+use Rattle.ql_session.specs.Texts.{digits_value}
+use Rattle.ql_session.specs.steps.Stating.{begins_with_digit}
 
 abbrev one_more : ℕ → ℕ → ℕ
 one_more n d = 10 * n + (d - 48)

@@ -4,7 +4,8 @@ use Rattle.std.specs.Prelude.{Option, Some, None, MatchOption}
 use Rattle.std.specs.Char.{is_ascii_digit}
 use Rattle.std.specs.List.{AllPass}
 use Rattle.std.proofs.lemmas.List.{append_cancel_left, append_cancel_right}
-use Rattle.ql_session.specs.Texts.{IsId, IsInsert, IsSearch, IsQuoted, begins_with_digit}
+use Rattle.ql_session.specs.Texts.{IsId, IsInsert, IsSearch, IsQuoted}
+use Rattle.ql_session.specs.steps.Stating.{begins_with_digit}
 use Rattle.ql_session.proofs.Digits.{cut_once}
 
 -- between a prefix and a suffix stands one text only

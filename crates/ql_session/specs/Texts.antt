@@ -37,11 +37,6 @@ pub record IsQuoted (text : List ℕ) : Type 0 where
   pub plain : AllPass is_plain_byte text
   pub utf8 : IsUtf8 text
 
--- the text begins with a digit
-abbrev pub begins_with_digit : List ℕ → Bool
-begins_with_digit [] = false
-begins_with_digit (d ∷ text) = is_ascii_digit d
-
 abbrev pub IsInsert : List ℕ → ℕ → List ℕ → Type 0
 IsInsert text id title = (digits : List ℕ) × IsId digits id × IsQuoted title
     × (text ≡ codes "INSERT INTO rt (id,title) VALUES (" ++ digits ++ codes ",'" ++ title ++ codes "')")

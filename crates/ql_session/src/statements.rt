@@ -1,7 +1,8 @@
 ghost use Rattle.std.specs.Prelude.{◌≡◌, ◌≢◌, ℕ, ◌≤◌, ◌^◌, List, ◌++◌, IsTrue, ◌↔◌, MatchOption, false};
 ghost use Rattle.std.specs.List.{AllPass};
 ghost use Rattle.std.specs.Char.{is_ascii_digit};
-ghost use Rattle.ql_session.specs.Texts.{IsId, IsInsert, IsSearch, IsQuoted, States, begins_with_digit, digits_value, is_plain_byte};
+ghost use Rattle.ql_session.specs.Texts.{IsId, IsInsert, IsSearch, IsQuoted, States, digits_value, is_plain_byte};
+ghost use Rattle.ql_session.specs.steps.Stating.{begins_with_digit};
 ghost use Rattle.ql_session.specs.steps.Stating.{stated_by};
 
 /// A statement of one of the forms that are known, or any other.

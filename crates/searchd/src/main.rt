@@ -7,7 +7,6 @@ mod real_host;
 mod retrying;
 mod std_door;
 mod std_line;
-
 #[cfg(test)]
 mod tests;
 

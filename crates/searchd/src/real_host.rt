@@ -1,3 +1,5 @@
+//! The host of the program: files, the standard streams, and one door over them. What a file holds and where a print goes
+//! is trusted; what is proved is the count of faults, what is given and handed back, and how much of a file is read.
 ghost use Rattle.std.specs.Prelude.{◌≡◌, ◌≤◌, ◌+◌, ◌++◌, [], length, take, option_to_list, IfOk, IfSome};
 
 use crate::std_door::StdDoor;

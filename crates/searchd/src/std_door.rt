@@ -1,3 +1,4 @@
+//! The door of the standard streams: it gives one line, and has then ended.
 ghost use Rattle.std.specs.Prelude.{◌≡◌, [], option_to_list, IsTrue, IsSome};
 
 use crate::std_line::StdLine;

@@ -1,3 +1,4 @@
+//! The line over the standard streams, neither through a buffer: a reply is on its way when its write returns.
 ghost use Rattle.std.specs.Prelude.{◌≡◌, false};
 
 use crate::retrying;

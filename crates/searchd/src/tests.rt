@@ -1,3 +1,4 @@
+//! What no clause says: that both streams can be printed to, and that an interrupted call is made again and not given up.
 ghost use Rattle.std.specs.Prelude.{◌≤◌, IfOk};
 
 use crate::real_host::RealHost;

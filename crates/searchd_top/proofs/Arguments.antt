@@ -1,6 +1,6 @@
 -- The three words of a session.
 use Rattle.std.proofs.Common.{◌≡◌, ℕ, List, [], ◌∷◌, length, map, codes, slice_index_or, arith}
-use Rattle.searchd_top.specs.Words.{session}
+use Rattle.searchd_top.specs.CommandLine.{session}
 
 -- a list of three by its places
 pub three : {A : Type 0} (f : A → List ℕ) (xs : List A) (a b c : A) → length xs ≡ 3 → a ≡ slice_index_or xs 0 a → b ≡ slice_index_or xs 1 b → c ≡ slice_index_or xs 2 c

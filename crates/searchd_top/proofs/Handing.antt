@@ -1,5 +1,5 @@
 -- Runs that take no door, a run whose door is served, and a run whose status is reported.
-use Rattle.std.proofs.Common.{◌≡◌, ℕ, ◌≤◌, ◌<◌, List, [], ◌∷◌, ◌++◌, length, arith, refl, sym, ap, subst, ◌∙◌, inl, inr, append-nil}
+use Rattle.std.proofs.Common.{◌≡◌, ℕ, ◌<◌, List, [], ◌∷◌, ◌++◌, length, arith, refl, sym, ap, subst, ◌∙◌, inl, inr, append-nil}
 use Rattle.std.specs.Prelude.{Some, Err, slice_get}
 use Rattle.srch_base.specs.declared.link.Link.{Ghosts as LinkWords}
 use Rattle.srch_base.specs.declared.door.Door.{Ghosts as DoorWords}
@@ -9,7 +9,7 @@ use Rattle.conf_text.specs.Confs.{IsConfOf}
 use Rattle.conf_text.specs.declared.conf.Conf.{Conf}
 use Rattle.conf_text.specs.declared.conf.IndexConf.{IndexConf}
 use Rattle.conf_text.specs.declared.conf.TheConstants.{MAX_CONF_BYTES}
-use Rattle.searchd_top.specs.Words.{session}
+use Rattle.searchd_top.specs.CommandLine.{session}
 use Rattle.searchd_top.specs.Configuring.{Texts, AreReadOf}
 use Rattle.searchd_top.specs.Lending.{CountsOpening}
 use Rattle.searchd_top.specs.Sessions.{Says, ServesOne, WorkedOrFailed, Runs}

@@ -5,7 +5,7 @@ use Rattle.conf_text.specs.declared.conf.Conf.{Conf}
 use Rattle.conf_text.specs.declared.conf.IndexConf.{IndexConf}
 use Rattle.conf_text.specs.declared.conf.TheConstants.{MAX_CONF_BYTES}
 use Rattle.conf_text.specs.declared.fault.ConfFault.{ConfFault}
-use Rattle.searchd_top.specs.Words.{session}
+use Rattle.searchd_top.specs.CommandLine.{session}
 
 -- what a host tells of the texts of its files
 abbrev pub Texts : Type 0

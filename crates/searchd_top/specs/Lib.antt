@@ -1,5 +1,5 @@
--- the words after the program's name
-pub mod Words
+-- the words of the command line after the program's name
+pub mod CommandLine
 -- the configuration that they name
 pub mod Configuring
 -- statuses, and what they print

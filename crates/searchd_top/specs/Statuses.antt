@@ -6,25 +6,32 @@ use Rattle.srch_base.specs.declared.faults.OpenFault.TheVariants as opening
 use Rattle.searchd_top.specs.declared.status.Status.{Status}
 use Rattle.searchd_top.specs.declared.status.Status.TheVariants.{Done, Usage, Config, HostFault, NoMemory}
 
--- the exit status
-abbrev pub code_of : Status → ℕ
-code_of Done = 0
-code_of Usage = 2
-code_of (Config number kind) = 3
-code_of HostFault = 4
-code_of NoMemory = 6
-
 -- a line of text, with the LF at its end
 abbrev pub line : List ℕ → List ℕ
 line text = text ++ 10 ∷ []
 
+-- what a status shows
+pub record Shown : Type 0 where
+  -- the exit status
+  pub code : ℕ
+  -- what is printed to the errors
+  pub printed : List ℕ
+
+-- the table of statuses
+abbrev pub shown : Status → Shown
+shown Done = record { code = 0; printed = [] }
+shown Usage = record { code = 2; printed = line (codes "searchd: bad arguments") }
+shown (Config number kind) = record { code = 3; printed = line (codes "searchd: config line " ++ decimal number ++ codes ": " ++ kind_text kind) }
+shown HostFault = record { code = 4; printed = line (codes "searchd: host fault") }
+shown NoMemory = record { code = 6; printed = line (codes "searchd: out of memory") }
+
+-- the exit status
+abbrev pub code_of : Status → ℕ
+code_of status = (shown status).code
+
 -- what is printed to the errors
 abbrev pub line_of : Status → List ℕ
-line_of Done = []
-line_of Usage = line (codes "searchd: bad arguments")
-line_of (Config number kind) = line (codes "searchd: config line " ++ decimal number ++ codes ": " ++ kind_text kind)
-line_of HostFault = line (codes "searchd: host fault")
-line_of NoMemory = line (codes "searchd: out of memory")
+line_of status = (shown status).printed
 
 -- the status of a host that opens nothing
 abbrev pub status_of : OpenFault → Status

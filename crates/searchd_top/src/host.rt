@@ -1,3 +1,5 @@
+//! All that the program needs of the outside, as a trait: the texts of files, the two standard streams, and doors to clients.
+//! The real one is a thin adapter in the program; the one over memory tells everything, for tests.
 ghost use Rattle.std.specs.Prelude.{◌≡◌, ◌+◌, ◌≤◌, ◌++◌, ℕ, List, Option, length, IfOk, MatchResult};
 ghost use Rattle.std.specs.List.{All};
 ghost use Rattle.searchd_top.specs.declared.host.Stream.{Stream};

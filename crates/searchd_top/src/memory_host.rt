@@ -1,3 +1,4 @@
+//! A host over memory, which tells its texts and all that was printed, and fails the calls that it is told to.
 ghost use Rattle.std.specs.Prelude.{◌≡◌, ◌+◌, ◌≤◌, ◌++◌, ◌==◌, length, map, take, drop, is_err, option_copied, IfOk, OnOk, OnErr, IsTrue, IsErr, MatchResult};
 ghost use Rattle.std.specs.List.{All, list_any};
 ghost use Rattle.srch_base.specs.Counts.{Rose};

@@ -1,13 +1,15 @@
+//! The top call: the words of the command line are looked at first, then the configuration is read, then a door is asked
+//! for and its line served. The first refusal decides the status, and its line is printed to the errors.
 ghost use Rattle.std.specs.Prelude.{◌≡◌, ◌↔◌, ◌≤◌, length, map, string_bytes};
 ghost use Rattle.conf_text.specs.Confs.{IsSound};
-ghost use Rattle.searchd_top.specs.Words.{AsksSession, session};
+ghost use Rattle.searchd_top.specs.CommandLine.{AsksSession, session};
 ghost use Rattle.searchd_top.specs.Statuses.{line_of};
 ghost use Rattle.searchd_top.specs.Printing.{Reports};
 ghost use Rattle.searchd_top.specs.Sessions.{Runs};
 ghost use Rattle.searchd_top.specs.steps.Halves.{Configures, ServesFirst};
 
+use crate::command_line::session_file;
 use crate::serving::serve_one;
-use crate::words::session_file;
 use crate::{Host, Status, Stream};
 use conf_text::{Conf, ConfFault, MAX_CONF_BYTES, read_conf};
 use ql_session::PlainTables;

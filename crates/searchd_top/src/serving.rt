@@ -1,3 +1,4 @@
+//! Serving one line of a door. However the line ends, it is handed back.
 ghost use Rattle.std.specs.Prelude.{◌≡◌, []};
 ghost use Rattle.searchd_top.specs.Lending.{IsWithin};
 ghost use Rattle.searchd_top.specs.Sessions.{ServesOne};

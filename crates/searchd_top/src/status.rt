@@ -1,5 +1,7 @@
-ghost use Rattle.std.specs.Prelude.{◌≡◌, ◌+◌, ◌≤◌, ◌++◌, [], length};
+//! How a run ended, with its exit status and its line, in one table.
+ghost use Rattle.std.specs.Prelude.{◌≡◌, ◌+◌, ◌≤◌, ◌++◌, length};
 ghost use Rattle.searchd_top.specs.Statuses.{code_of, line_of};
+ghost use Rattle.searchd_top.specs.steps.Lines.{beginning_of};
 
 use arrayvec::ArrayVec;
 use conf_text::ConfKind;
@@ -24,17 +26,26 @@ pub enum Status {
 }
 
 impl Status {
+    /// The table of statuses: the program's exit status, and the text that is printed to the errors, of `Config` its
+    /// beginning.
+    fn row(self) -> (u8, &'static [u8])
+        ensures code { result.0 ≡ code_of self }
+        ensures text { result.1.now ≡ beginning_of self }
+    {
+        match self {
+            Status::Done => (0, b""),
+            Status::Usage => (2, b"searchd: bad arguments\n"),
+            Status::Config { .. } => (3, b"searchd: config line "),
+            Status::HostFault => (4, b"searchd: host fault\n"),
+            Status::NoMemory => (6, b"searchd: out of memory\n"),
+        }
+    }
+
     /// The exit status of the program.
     pub fn code(self) -> u8
         ensures { result ≡ code_of self }
     {
-        match self {
-            Status::Done => 0,
-            Status::Usage => 2,
-            Status::Config { .. } => 3,
-            Status::HostFault => 4,
-            Status::NoMemory => 6,
-        }
+        self.row().0
     }
 
     /// The line that is printed to the errors, with the LF at its end. It is empty where the work was done.
@@ -42,12 +53,9 @@ impl Status {
         ensures { result.items ≡ line_of self }
     {
         let mut line = ArrayVec::new();
-        match self {
-            Status::Done => {}
-            Status::Usage => put(&mut line, b"searchd: bad arguments\n"),
-            Status::Config { line: number, kind } => put_config(&mut line, number, kind),
-            Status::HostFault => put(&mut line, b"searchd: host fault\n"),
-            Status::NoMemory => put(&mut line, b"searchd: out of memory\n"),
+        put(&mut line, self.row().1);
+        if let Status::Config { line: number, kind } = self {
+            put_fault(&mut line, number, kind);
         }
         line
     }
@@ -61,13 +69,12 @@ fn put(line: &mut ArrayVec<u8, MAX_LINE_BYTES>, text: &[u8])
     let _ = line.try_extend_from_slice(text);
 }
 
-/// Appends the line of a configuration's fault.
-fn put_config(line: &mut ArrayVec<u8, MAX_LINE_BYTES>, number: u32, kind: ConfKind)
-    requires { line.old.items ≡ [] }
+/// Appends the place and the kind of a configuration's fault.
+fn put_fault(line: &mut ArrayVec<u8, MAX_LINE_BYTES>, number: u32, kind: ConfKind)
+    requires { line.old.items ≡ beginning_of (Status.Config number kind) }
     ensures { line.new.items ≡ line_of (Status.Config number kind) }
 {
     let mut digits = Buffer::new();
-    put(line, b"searchd: config line ");
     put(line, digits.format(number).as_bytes());
     put(line, b": ");
     put(line, kind.text().as_bytes());

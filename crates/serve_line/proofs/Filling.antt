@@ -3,7 +3,7 @@ use Rattle.std.proofs.Common.{◌≡◌, ℕ, List, [], ◌++◌, Err, refl, sym
 use Rattle.srch_base.specs.Moves.{Meters}
 use Rattle.serve_line.specs.Machines.{Machine}
 use Rattle.serve_line.specs.Line.{Phase, Listens, expected, Stops, Ends}
-use Rattle.serve_line.specs.steps.Pieces.{Fills, GoesOn}
+use Rattle.serve_line.specs.steps.Serving.{Fills, GoesOn}
 use Rattle.serve_line.specs.declared.line.LinkEnd.{LinkEnd}
 use Rattle.serve_line.specs.declared.line.LinkEnd.TheVariants.{Quit, End, Truncated, BadHandshake, TooLarge, OutOfOrder, ReadFault, WriteFault, Worn, NoMemory}
 

@@ -1,5 +1,5 @@
 -- How turns join into a line.
-use Rattle.std.proofs.Common.{◌≡◌, ◌≢◌, ◌⊎◌, ℕ, suc, ◌+◌, ◌<◌, ◌≤◌, List, [], ◌∷◌, ◌++◌, Result, Ok, Err, length, refl, sym, ◌∙◌, ap, subst, arith, append_assoc, inl, inr, ⊎_elim}
+use Rattle.std.proofs.Common.{◌≡◌, ◌≢◌, ℕ, suc, ◌<◌, ◌≤◌, List, [], ◌∷◌, ◌++◌, Result, Ok, Err, length, refl, sym, ◌∙◌, ap, subst, arith, append_assoc, inl, inr, ⊎_elim}
 use Rattle.std.proofs.lemmas.List.{append-nil}
 use Rattle.std.proofs.lemmas.List.Concat.{flat_map-append}
 use Rattle.std.specs.List.{flat_map}
@@ -12,8 +12,8 @@ use Rattle.mysql_wire.specs.Commands.{command_of, Quit as asks_quit}
 use Rattle.mysql_wire.specs.Handshake.{Response, IsResponse}
 use Rattle.mysql_wire.specs.Replies.{ok_packet, greeting}
 use Rattle.serve_line.specs.Machines.{Machine, FollowAll}
-use Rattle.serve_line.specs.Line.{Phase, Opened, Greeted, Talking, Listens, expected, most_commands, Turn, Step, Run, Refuses, Finish, Stops, Ends, no_room}
-use Rattle.serve_line.specs.steps.Pieces.{Goes, GoesOn, RefusesWith, SaysNoRoom}
+use Rattle.serve_line.specs.Line.{Phase, Opened, Greeted, Talking, most_commands, Turn, Step, Run, Refuses, Finish, Stops, Ends}
+use Rattle.serve_line.specs.steps.Serving.{Goes, GoesOn, RefusesWith}
 use Rattle.serve_line.specs.declared.line.LinkEnd.{LinkEnd}
 use Rattle.serve_line.specs.declared.line.LinkEnd.TheVariants.{Quit, End, Truncated, BadHandshake, TooLarge, OutOfOrder, ReadFault, WriteFault, Worn, NoMemory}
 

@@ -8,7 +8,7 @@ ghost use Rattle.srch_base.specs.Moves.{Moves};
 ghost use Rattle.mysql_wire.specs.Framing.{IsFresh};
 ghost use Rattle.serve_line.specs.Machines.{FollowAll};
 ghost use Rattle.serve_line.specs.Line.{Opened, Greeted, Talking, IsLine, Ends, most_commands};
-ghost use Rattle.serve_line.specs.steps.Pieces.{Goes};
+ghost use Rattle.serve_line.specs.steps.Serving.{Goes};
 
 use crate::Answerer;
 use crate::packets::{Shaken, Taken, take_command, take_response};
@@ -138,11 +138,7 @@ fn converse<A: Answerer, K: Link>(
 }
 
 /// Takes the response to the greeting.
-fn shake<A: Answerer, K: Link>(
-    answerer: &A,
-    link: &mut K,
-    room: &mut Room,
-) -> Result<(), LinkEnd>
+fn shake<A: Answerer, K: Link>(answerer: &A, link: &mut K, room: &mut Room) -> Result<(), LinkEnd>
     requires good { room.old.framer.refused ≡ None }
     ensures moves { Moves K.Link link.old link.new (λ before now read written.
         Goes A.machine before now result (Greeted answerer.now) room.old.framer.held read written [] (Talking answerer.now 0) room.new.framer.held) }
@@ -192,13 +188,7 @@ fn turn<A: Answerer, K: Link>(
     }
     room.out.clear();
     room.out.shrink_to(KEPT);
-    match take_command(
-        alloc,
-        answerer,
-        store,
-        &mut room.framer,
-        &mut room.out,
-    ) {
+    match take_command(alloc, answerer, store, &mut room.framer, &mut room.out) {
         Taken::Reply => match write_all(link, &room.out) {
             Ok(()) => Ok(()),
             Err(Failed) => Err(LinkEnd::WriteFault),

@@ -1,7 +1,7 @@
 //! Taking the next packet from the framer: the response to the greeting, or a command.
 ghost use Rattle.std.specs.Prelude.{◌≡◌, ◌≤◌, [], None, vec_capacity};
 ghost use Rattle.mysql_wire.specs.Framing.{Waits};
-ghost use Rattle.serve_line.specs.steps.Pieces.{TakesCommand, TakesResponse};
+ghost use Rattle.serve_line.specs.steps.Serving.{TakesCommand, TakesResponse};
 
 use crate::Answerer;
 use mysql_wire::{BadHandshake, Command, Framer, Next, read_command, read_response41};

@@ -3,7 +3,7 @@
 ghost use Rattle.std.specs.Prelude.{◌≡◌, ◌<◌, ◌≤◌, None, OnOk, length};
 ghost use Rattle.srch_base.specs.Moves.{Moves};
 ghost use Rattle.mysql_wire.specs.Framing.{Waits};
-ghost use Rattle.serve_line.specs.steps.Pieces.{Feeds, Fills};
+ghost use Rattle.serve_line.specs.steps.Serving.{Feeds, Fills};
 
 use crate::LinkEnd;
 use crate::writing::out_of_memory;
@@ -39,11 +39,7 @@ pub(crate) fn fill<K: Link>(
 }
 
 /// Reads once, and gives the bytes to the framer, which has room for them.
-fn read_more<K: Link>(
-    framer: &mut Framer,
-    buffer: &mut [u8],
-    link: &mut K,
-) -> Result<(), LinkEnd>
+fn read_more<K: Link>(framer: &mut Framer, buffer: &mut [u8], link: &mut K) -> Result<(), LinkEnd>
     requires few { length framer.old.held < 8388612 }
     requires some { 0 < length buffer.old }
     requires fits { length buffer.old ≤ 65536 }

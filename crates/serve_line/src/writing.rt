@@ -3,7 +3,7 @@ ghost use Rattle.std.specs.Prelude.{◌≡◌, ◌⊎◌, []};
 ghost use Rattle.srch_base.specs.Counts.{Rose};
 ghost use Rattle.srch_base.specs.Moves.{Moves, WritesAll, IsCut};
 ghost use Rattle.serve_line.specs.Line.{no_room};
-ghost use Rattle.serve_line.specs.steps.Pieces.{RefusesWith, SaysNoRoom};
+ghost use Rattle.serve_line.specs.steps.Serving.{RefusesWith, SaysNoRoom};
 
 use crate::LinkEnd;
 use mysql_wire::{Small, err_packet};

@@ -1,5 +1,5 @@
 -- How packets that are numbered on from one another join.
-use Rattle.std.proofs.Common.{◌≡◌, ℕ, ◌+◌, ◌%◌, ◌<◌, List, [], ◌∷◌, ◌++◌, length, refl, sym, ap, ◌∙◌, append_assoc, length-append, arith}
+use Rattle.std.proofs.Common.{◌≡◌, ℕ, ◌+◌, ◌%◌, ◌<◌, List, [], ◌∷◌, ◌++◌, sym, ap, ◌∙◌, append_assoc, length-append, arith}
 use Rattle.mysql_wire.specs.Packets.{packet, packets_from, sequence_after}
 
 -- packets, and then more

@@ -1,5 +1,5 @@
 use Rattle.mysql_wire.specs.Payloads.{eof_fields}
-use Rattle.mysql_wire.specs.Layouts.{eof_layout}
+use Rattle.mysql_wire.specs.steps.Layouts.{eof_layout}
 use Rattle.mysql_wire.proofs.ScanLaws.{reads}
 use Rattle.mysql_wire.proofs.LayoutLaws.{eof_fits}
 use Rattle.mysql_wire.proofs.readers.read_eof.Goals as goal

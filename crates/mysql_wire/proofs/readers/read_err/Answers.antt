@@ -6,7 +6,7 @@ use Rattle.mysql_wire.specs.declared.fields.WireFault.{WireFault}
 use Rattle.mysql_wire.specs.declared.readers.WireErr.{WireErr}
 use Rattle.mysql_wire.specs.Fields.{Reads}
 use Rattle.mysql_wire.specs.Payloads.{err_fields}
-use Rattle.mysql_wire.specs.Layouts.{err_layout}
+use Rattle.mysql_wire.specs.steps.Layouts.{err_layout}
 use Rattle.mysql_wire.proofs.ScanLaws.{reads, same_fault}
 use Rattle.mysql_wire.proofs.LayoutLaws.{err_fits}
 use Rattle.mysql_wire.proofs.readers.read_err.Goals as goal

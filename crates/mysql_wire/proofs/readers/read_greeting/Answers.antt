@@ -1,5 +1,5 @@
 use Rattle.mysql_wire.specs.Payloads.{greeting_fields}
-use Rattle.mysql_wire.specs.Layouts.{greeting_layout}
+use Rattle.mysql_wire.specs.steps.Layouts.{greeting_layout}
 use Rattle.mysql_wire.proofs.ScanLaws.{reads}
 use Rattle.mysql_wire.proofs.LayoutLaws.{greeting_fits}
 use Rattle.mysql_wire.proofs.readers.read_greeting.Goals as goal

@@ -1,5 +1,5 @@
 use Rattle.mysql_wire.specs.Payloads.{number_fields}
-use Rattle.mysql_wire.specs.Layouts.{number_layout}
+use Rattle.mysql_wire.specs.steps.Layouts.{number_layout}
 use Rattle.mysql_wire.proofs.ScanLaws.{reads}
 use Rattle.mysql_wire.proofs.LayoutLaws.{number_fits}
 use Rattle.mysql_wire.proofs.readers.read_lenenc.Goals as goal

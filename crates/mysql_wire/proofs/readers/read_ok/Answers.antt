@@ -1,5 +1,5 @@
 use Rattle.mysql_wire.specs.Payloads.{ok_fields}
-use Rattle.mysql_wire.specs.Layouts.{ok_layout}
+use Rattle.mysql_wire.specs.steps.Layouts.{ok_layout}
 use Rattle.mysql_wire.proofs.ScanLaws.{reads}
 use Rattle.mysql_wire.proofs.LayoutLaws.{ok_fits}
 use Rattle.mysql_wire.proofs.readers.read_ok.Goals as goal

@@ -7,7 +7,7 @@ use Rattle.mysql_wire.specs.declared.rows.Column.{Column}
 use Rattle.mysql_wire.specs.declared.rows.ColumnKind.{ColumnKind}
 use Rattle.mysql_wire.specs.Fields.{Reads}
 use Rattle.mysql_wire.specs.Payloads.{column_fields}
-use Rattle.mysql_wire.specs.Layouts.{column_layout}
+use Rattle.mysql_wire.specs.steps.Layouts.{column_layout}
 use Rattle.mysql_wire.proofs.ScanLaws.{reads, same_fault}
 use Rattle.mysql_wire.proofs.LayoutLaws.{column_fits}
 use Rattle.mysql_wire.proofs.result_sets.read_column.Goals as goal

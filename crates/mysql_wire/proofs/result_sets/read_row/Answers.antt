@@ -3,7 +3,7 @@ use Rattle.std.proofs.Common.{◌≡◌, length, Some, sym, ◌∙◌, arith, ru
 use Rattle.std.specs.Option.{option_copied}
 use Rattle.std.proofs.lemmas.Result.{err_from_is_err_and}
 use Rattle.std.proofs.lemmas.Bool.{eqb-true, eqb-false}
-use Rattle.mysql_wire.specs.Reading.{cell_at}
+use Rattle.mysql_wire.specs.steps.Scanning.{cell_at}
 use Rattle.mysql_wire.proofs.ScanLaws.{answered, refused}
 use Rattle.mysql_wire.proofs.RowLaws.{none_read, one_more_read, cell_shorter, whole_row, no_row}
 use Rattle.mysql_wire.proofs.result_sets.read_row.Goals as goal

@@ -1,5 +1,5 @@
 use Rattle.searchd_top.proofs.Handing.{runs_none, says_unconfigured}
-use Rattle.searchd_top.specs.Words.{session}
+use Rattle.searchd_top.specs.CommandLine.{session}
 use Rattle.searchd_top.proofs.program.run_session.Goals as goal
 
 pub returns-in-Err-clause-runs : goal.returns-in-Err-clause-runs

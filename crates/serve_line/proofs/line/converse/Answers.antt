@@ -3,7 +3,7 @@ use Rattle.srch_base.specs.Moves.{meters_of}
 use Rattle.srch_base.specs.steps.Moving.{Moves-then, Moves-weaker}
 use Rattle.serve_line.specs.Machines.{FollowAll}
 use Rattle.serve_line.specs.Line.{Greeted, Talking, Ends, most_commands}
-use Rattle.serve_line.specs.steps.Pieces.{Goes, GoesOn}
+use Rattle.serve_line.specs.steps.Serving.{Goes, GoesOn}
 use Rattle.serve_line.specs.declared.line.LinkEnd.TheVariants.{Worn}
 use Rattle.serve_line.proofs.Turning.{goes_then, worn, FollowAll-append}
 use Rattle.serve_line.proofs.line.converse.Goals as goal

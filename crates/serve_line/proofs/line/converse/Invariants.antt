@@ -1,8 +1,8 @@
-use Rattle.std.proofs.Common.{◌≡◌, ℕ, List, None}
+use Rattle.std.proofs.Common.{◌≡◌, List, None}
 use Rattle.srch_base.specs.Moves.{Moves}
 use Rattle.serve_line.specs.Machines.{FollowAll}
 use Rattle.serve_line.specs.Line.{Greeted, Talking}
-use Rattle.serve_line.specs.steps.Pieces.{GoesOn}
+use Rattle.serve_line.specs.steps.Serving.{GoesOn}
 use Rattle.serve_line.proofs.line.converse.Given as goal
 
 -- the response and so many commands were answered

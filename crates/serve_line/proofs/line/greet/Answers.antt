@@ -3,7 +3,7 @@ use Rattle.srch_base.specs.declared.faults.Failed.{Failed}
 use Rattle.srch_base.specs.Moves.{WritesAll, meters_of}
 use Rattle.srch_base.specs.steps.Moving.{Moves-weaker}
 use Rattle.serve_line.specs.Line.{Opened, Greeted}
-use Rattle.serve_line.specs.steps.Pieces.{Goes}
+use Rattle.serve_line.specs.steps.Serving.{Goes}
 use Rattle.serve_line.specs.declared.line.LinkEnd.TheVariants.{WriteFault}
 use Rattle.serve_line.proofs.Turning.{greeted}
 use Rattle.serve_line.proofs.line.greet.Goals as goal

@@ -1,9 +1,9 @@
-use Rattle.std.proofs.Common.{◌≡◌, ℕ, List, [], Ok, Err, refl, inl}
+use Rattle.std.proofs.Common.{List, [], Ok, Err, refl, inl}
 use Rattle.srch_base.specs.Moves.{meters_of}
 use Rattle.srch_base.specs.steps.Moving.{Moves-then, Moves-weaker}
 use Rattle.serve_line.specs.Machines.{FollowAll}
 use Rattle.serve_line.specs.Line.{Opened, Greeted, Ends}
-use Rattle.serve_line.specs.steps.Pieces.{Goes, SaysNoRoom}
+use Rattle.serve_line.specs.steps.Serving.{Goes, SaysNoRoom}
 use Rattle.serve_line.specs.declared.line.LinkEnd.TheVariants.{NoMemory}
 use Rattle.serve_line.proofs.Turning.{goes_then}
 use Rattle.serve_line.proofs.Filling.{filled}

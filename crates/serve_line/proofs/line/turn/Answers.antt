@@ -1,11 +1,11 @@
-use Rattle.std.proofs.Common.{◌≡◌, ◌<◌, ℕ, suc, List, [], ◌++◌, Ok, Err, refl, ◌∙◌}
+use Rattle.std.proofs.Common.{◌<◌, ℕ, suc, List, [], Ok, Err, refl}
 use Rattle.srch_base.specs.declared.faults.Failed.{Failed}
 use Rattle.srch_base.specs.Moves.{WritesAll, meters_of}
 use Rattle.srch_base.specs.steps.Moving.{Moves-then, Moves-weaker}
 use Rattle.serve_line.specs.Machines.{FollowAll}
-use Rattle.serve_line.specs.Line.{Greeted, Talking, Ends, most_commands, bad_handshake_packet, too_large_packet, out_of_order_packet}
-use Rattle.serve_line.specs.steps.Pieces.{Goes, Fills, RefusesWith}
-use Rattle.serve_line.specs.declared.line.LinkEnd.TheVariants.{Quit, WriteFault, BadHandshake, TooLarge, OutOfOrder}
+use Rattle.serve_line.specs.Line.{Talking, Ends, most_commands}
+use Rattle.serve_line.specs.steps.Serving.{Goes, Fills, RefusesWith}
+use Rattle.serve_line.specs.declared.line.LinkEnd.TheVariants.{Quit, WriteFault, TooLarge, OutOfOrder}
 use Rattle.serve_line.proofs.Filling.{filled, only_read}
 use Rattle.serve_line.proofs.Turning.{turned, refused_then, quit_then, command_turn, commands}
 use Rattle.serve_line.proofs.line.turn.Goals as goal

@@ -1,5 +1,6 @@
+//! The words of the command line that the program knows.
 ghost use Rattle.std.specs.Prelude.{◌≡◌, MatchOption, map, string_bytes};
-ghost use Rattle.searchd_top.specs.Words.{AsksSession, session};
+ghost use Rattle.searchd_top.specs.CommandLine.{AsksSession, session};
 
 /// The file that the words `session --config F` name. Any text is taken for its name.
 pub(crate) fn session_file(words: &[String]) -> Option<&str>

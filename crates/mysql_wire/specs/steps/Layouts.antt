@@ -7,7 +7,7 @@ use Rattle.mysql_wire.specs.declared.readers.WireOk.{WireOk}
 use Rattle.mysql_wire.specs.declared.readers.WireErr.{WireErr}
 use Rattle.mysql_wire.specs.declared.readers.WireEof.{WireEof}
 use Rattle.mysql_wire.specs.Fields.{Exactly, Number, Lengthed}
-use Rattle.mysql_wire.specs.Reading.{Layout, Done, Known, Either, SizedBytes, PlainNumber, AnyNumber, AnyText, Rest}
+use Rattle.mysql_wire.specs.steps.Scanning.{Layout, Done, Known, Either, SizedBytes, PlainNumber, AnyNumber, AnyText, Rest}
 
 unfoldable pub number_layout : Layout ℕ
 number_layout = AnyNumber (λ n. Done n)

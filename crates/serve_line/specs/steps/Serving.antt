@@ -1,4 +1,4 @@
--- Pieces of a line, as the functions that serve it make them.
+-- What the functions that serve a line make of it.
 use Rattle.std.specs.Prelude.{◌≡◌, ◌≢◌, ◌⊎◌, ℕ, ◌+◌, List, [], ◌++◌, true, None, Result, Ok, Err}
 use Rattle.std.specs.List.{flat_map}
 use Rattle.srch_base.specs.Counts.{Rose}

@@ -5,7 +5,7 @@ use Rattle.srch_base.specs.declared.faults.Or.{Or}
 use Rattle.srch_base.specs.declared.faults.Or.TheVariants.{Fault}
 use Rattle.mysql_wire.specs.declared.fields.Stop.{Stop}
 use Rattle.mysql_wire.specs.declared.fields.WireFault.{WireFault}
-use Rattle.mysql_wire.specs.Numbers.{fixed_front, lenenc_front}
+use Rattle.mysql_wire.specs.steps.NumberFronts.{fixed_front, lenenc_front}
 use Rattle.mysql_wire.specs.Fields.{Field, Exactly, Sized, Plain, Number, Lengthed}
 
 -- ---- one field, and the bytes after it

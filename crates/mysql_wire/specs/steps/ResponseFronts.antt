@@ -1,6 +1,9 @@
 -- A response, read from left to right.
-use Rattle.std.specs.Prelude.{ℕ, ◌+◌, ◌==◌, nat_lt, nat_le, List, [], ◌∷◌, Option, Some, None, Result, Ok, Err, length, drop, option_map, option_and_then, if◌then◌else◌}
-use Rattle.mysql_wire.specs.Numbers.{lenenc_front}
+use Rattle.std.specs.Prelude.{◌≡◌, ℕ, ◌+◌, ◌==◌, nat_lt, nat_le, List, [], ◌∷◌, Option, Some, None, Result, Ok, Err, length, drop, option_map, option_and_then, if◌then◌else◌}
+use Rattle.mysql_wire.specs.steps.NumberFronts.{lenenc_front}
+use Rattle.mysql_wire.specs.Answered.{response_by}
+use Rattle.mysql_wire.specs.declared.handshake.Response41.{Response41}
+use Rattle.mysql_wire.specs.declared.handshake.BadHandshake.{BadHandshake}
 use Rattle.mysql_wire.specs.Handshake.{Response, has, connect_with_database, speaks_41, secure_connection, length_encoded_answer, flags_of, cut_place}
 
 -- what is behind so many bytes
@@ -51,3 +54,8 @@ response_of payload =
     if speaks_41 payload
     then (if nat_lt (length payload) 32 then Err (cut_place (length payload)) else response_behind (flags_of payload) (text_front (drop 32 payload)))
     else Err 0
+
+-- What was answered is what reading gives.
+abbrev pub GivesResponse : Result Response41 BadHandshake → Result Response ℕ → Type 0
+GivesResponse (Ok r) read = read ≡ Ok (response_by r)
+GivesResponse (Err e) read = read ≡ Err e.place

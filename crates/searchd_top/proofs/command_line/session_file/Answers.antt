@@ -1,7 +1,7 @@
 use Rattle.std.proofs.Common.{codes, string_bytes, arith, sym, ◌∙◌}
 use Rattle.std.specs.Cmp.Lexicographic.{same_text}
 use Rattle.searchd_top.proofs.Arguments.{three_words}
-use Rattle.searchd_top.proofs.words.session_file.Goals as goal
+use Rattle.searchd_top.proofs.command_line.session_file.Goals as goal
 
 pub returns-in-len3 : goal.returns-in-len3
 returns-in-len3 c =

@@ -1,0 +1,10 @@
+-- How the line of a status is put together.
+use Rattle.std.specs.Prelude.{ℕ, List, codes}
+use Rattle.searchd_top.specs.Statuses.{line_of}
+use Rattle.searchd_top.specs.declared.status.Status.{Status}
+use Rattle.searchd_top.specs.declared.status.Status.TheVariants.{Config}
+
+-- the line, or what stands before the place of a configuration's fault
+abbrev pub beginning_of : Status → List ℕ
+beginning_of (Config number kind) = codes "searchd: config line "
+beginning_of status = line_of status
