@@ -3,9 +3,11 @@ use Rattle.std.proofs.Common.{◌≡◌, ◌≢◌, ℕ, suc, ◌<◌, ◌≤◌
 use Rattle.std.proofs.lemmas.List.{append-nil}
 use Rattle.std.proofs.lemmas.List.Concat.{flat_map-append}
 use Rattle.std.specs.List.{flat_map}
-use Rattle.srch_base.specs.Counts.{Rose, Rose-earlier}
+use Rattle.srch_base.specs.Counts.{Rose}
+use Rattle.srch_base.specs.steps.Counting.{Rose-earlier}
 use Rattle.srch_base.specs.declared.faults.Failed.{Failed}
-use Rattle.srch_base.specs.Moves.{Meters, IsCut, WritesAll}
+use Rattle.srch_base.specs.Moves.{Meters, IsCut}
+use Rattle.srch_base.specs.steps.Writing.{WritesAll}
 use Rattle.srch_base.specs.steps.Moving.{Later}
 use Rattle.mysql_wire.specs.Packets.{packet, max_payload, BeginsWith}
 use Rattle.mysql_wire.specs.Commands.{command_of, Quit as asks_quit}

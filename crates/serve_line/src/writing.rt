@@ -1,7 +1,8 @@
 //! Writing whole packets over a link, and the packets with which a line ends.
 ghost use Rattle.std.specs.Prelude.{◌≡◌, ◌⊎◌, []};
 ghost use Rattle.srch_base.specs.Counts.{Rose};
-ghost use Rattle.srch_base.specs.Moves.{Moves, WritesAll, IsCut};
+ghost use Rattle.srch_base.specs.Moves.{Moves, IsCut};
+ghost use Rattle.srch_base.specs.steps.Writing.{WritesAll};
 ghost use Rattle.serve_line.specs.Line.{no_room};
 ghost use Rattle.serve_line.specs.steps.Serving.{RefusesWith, SaysNoRoom};
 

@@ -1,6 +1,5 @@
 -- What moved over a link in some calls, and what its meters said before and after them.
-use Rattle.std.specs.Prelude.{◌≡◌, ◌≢◌, ℕ, ◌≤◌, List, [], ◌++◌, Bool, Result, Ok, Err}
-use Rattle.srch_base.specs.Counts.{Rose}
+use Rattle.std.specs.Prelude.{◌≡◌, ◌≢◌, ℕ, ◌≤◌, List, [], ◌++◌, Bool}
 use Rattle.srch_base.specs.Told.{then_bytes}
 use Rattle.srch_base.specs.declared.link.Link.{Ghosts as LinkWords}
 
@@ -27,8 +26,3 @@ pub record Moves {L : Type 0} (words : LinkWords L) (old new : L) (P : Meters �
 -- a front of the bytes that isn't all of them
 abbrev pub IsCut : List ℕ → List ℕ → Type 0
 IsCut front bytes = (missing : List ℕ) × (missing ≢ []) × (bytes ≡ front ++ missing)
-
--- All the bytes were written, or a front of them and the count of writes rose.
-abbrev pub WritesAll : {T E : Type 0} → Result T E → List ℕ → Meters → Meters → List ℕ → List ℕ → Type 0
-WritesAll (Ok x) bytes before now read written = (read ≡ []) × (written ≡ bytes)
-WritesAll (Err e) bytes before now read written = (read ≡ []) × IsCut written bytes × Rose before.write_faults now.write_faults

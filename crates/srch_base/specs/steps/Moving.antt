@@ -7,7 +7,8 @@ use Rattle.std.proofs.Math.Dec.{ltb}
 use Rattle.std.proofs.Math.Seq.{take-add}
 use Rattle.std.proofs.lemmas.List.{take_all}
 use Rattle.srch_base.specs.declared.link.Link.{Ghosts as LinkWords}
-use Rattle.srch_base.specs.Told.{then_bytes, then_bytes-none, then_bytes-twice}
+use Rattle.srch_base.specs.Told.{then_bytes}
+use Rattle.srch_base.specs.steps.Telling.{then_bytes-none, then_bytes-twice}
 use Rattle.srch_base.specs.Moves.{Meters, meters_of, Moves, IsCut}
 
 -- a link's counts are later

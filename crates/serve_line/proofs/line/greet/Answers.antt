@@ -1,6 +1,7 @@
 use Rattle.std.proofs.Common.{[], Ok, Err, ◌∙◌}
 use Rattle.srch_base.specs.declared.faults.Failed.{Failed}
-use Rattle.srch_base.specs.Moves.{WritesAll, meters_of}
+use Rattle.srch_base.specs.Moves.{meters_of}
+use Rattle.srch_base.specs.steps.Writing.{WritesAll}
 use Rattle.srch_base.specs.steps.Moving.{Moves-weaker}
 use Rattle.serve_line.specs.Line.{Opened, Greeted}
 use Rattle.serve_line.specs.steps.Serving.{Goes}

@@ -1,6 +1,7 @@
 use Rattle.std.proofs.Common.{[], Ok, Err, refl, ap, ◌∙◌}
 use Rattle.srch_base.specs.declared.faults.Failed.{Failed}
-use Rattle.srch_base.specs.Moves.{WritesAll, meters_of}
+use Rattle.srch_base.specs.Moves.{meters_of}
+use Rattle.srch_base.specs.steps.Writing.{WritesAll}
 use Rattle.srch_base.specs.steps.Moving.{Moves-then, Moves-weaker}
 use Rattle.mysql_wire.specs.Replies.{ok_packet}
 use Rattle.serve_line.specs.Line.{Greeted, Talking, Ends}

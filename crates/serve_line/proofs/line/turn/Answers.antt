@@ -1,6 +1,7 @@
 use Rattle.std.proofs.Common.{◌<◌, ℕ, suc, List, [], Ok, Err, refl}
 use Rattle.srch_base.specs.declared.faults.Failed.{Failed}
-use Rattle.srch_base.specs.Moves.{WritesAll, meters_of}
+use Rattle.srch_base.specs.Moves.{meters_of}
+use Rattle.srch_base.specs.steps.Writing.{WritesAll}
 use Rattle.srch_base.specs.steps.Moving.{Moves-then, Moves-weaker}
 use Rattle.serve_line.specs.Machines.{FollowAll}
 use Rattle.serve_line.specs.Line.{Talking, Ends, most_commands}

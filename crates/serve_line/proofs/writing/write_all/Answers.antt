@@ -1,8 +1,9 @@
 use Rattle.srch_base.specs.declared.faults.Failed.{Failed}
 use Rattle.std.proofs.Common.{◌≡◌, ℕ, ◌+◌, ◌-◌, ◌<◌, ◌≤◌, List, [], length, take, drop, refl, sym, subst, arith, length-drop, length-take, Err}
 use Rattle.std.proofs.lemmas.List.{append-nil}
-use Rattle.srch_base.specs.Counts.{Rose-earlier}
-use Rattle.srch_base.specs.Moves.{IsCut, WritesAll}
+use Rattle.srch_base.specs.steps.Counting.{Rose-earlier}
+use Rattle.srch_base.specs.Moves.{IsCut}
+use Rattle.srch_base.specs.steps.Writing.{WritesAll}
 use Rattle.srch_base.specs.steps.Moving.{cut_at, take_next, stuck, Moves-more}
 use Rattle.serve_line.proofs.writing.write_all.Goals as goal
 
