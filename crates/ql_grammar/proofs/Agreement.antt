@@ -21,7 +21,7 @@ agree_keyword w = record {
 }
 
 -- a sign is the same as itself
-sign_to_itself : (s : Sign) → same_sign s s ≡ true
+pub sign_to_itself : (s : Sign) → same_sign s s ≡ true
 sign_to_itself s = eq-eqb (sign_number s) (sign_number s) refl
 
 pub agree_sign : (s : Sign) → Agrees sphinxql (sign s) (IsSign s)

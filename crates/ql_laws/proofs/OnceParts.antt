@@ -24,7 +24,7 @@ use Rattle.ql_grammar.specs.KeywordLaws.{same_to_itself}
 use Rattle.token_grammar.proofs.Once.{Once, IsOnce, goes, once_as, once_before, once_after, once_one}
 use Rattle.token_grammar.proofs.OnceChoices.{once_either, once_listed}
 use Rattle.ql_grammar.proofs.SelectAgreement.{sign_compares}
-use Rattle.ql_grammar.specs.SignLaws.{sign_to_itself}
+use Rattle.ql_grammar.proofs.Agreement.{sign_to_itself}
 use Rattle.token_grammar.proofs.Beginnings.{apart_none}
 use Rattle.ql_grammar.specs.Alphabet.{sphinxql}
 
