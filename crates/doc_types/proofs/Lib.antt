@@ -4,3 +4,4 @@ pub mod PlainPlaces
 pub mod Collected
 pub mod Indexed
 pub mod Contents
+pub mod Living

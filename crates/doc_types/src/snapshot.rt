@@ -1,6 +1,5 @@
-ghost use Rattle.std.specs.Prelude.{◌≡◌, count_by};
-ghost use Rattle.std.specs.FinMap as finite;
-ghost use Rattle.doc_types.specs.Snapshots.{live};
+ghost use Rattle.std.specs.Prelude.{◌≡◌};
+ghost use Rattle.std.specs.List.{count_by};
 
 use crate::chunk::Chunk;
 use srch_base::Items;
@@ -47,4 +46,19 @@ impl<C: Chunk> Model for Snapshot<C> {
     ghost view = { λ a. record { number = a.number; shape = a.shape; layers = a.layers } };
 
     ghost invariant = { λ a. AreLayers a.layers };
+}
+
+impl<C: Chunk> Snapshot<C> {
+    /// How many chunks are images of files.
+    pub fn disk_chunks(&self) -> u32
+        ensures { result ≡ count_by (λ layer. layer.disk) self.now.layers }
+    {
+        let mut count = 0;
+        for layer in self.layers.as_slice() {
+            if layer.disk {
+                count += 1;
+            }
+        }
+        count
+    }
 }

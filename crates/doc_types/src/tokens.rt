@@ -2,6 +2,7 @@ ghost use Rattle.std.specs.Prelude.{◌≡◌};
 ghost use Rattle.doc_types.specs.Documents.{precedes, step};
 
 use srch_base::{Items, Word};
+use std::alloc::AllocError;
 
 /// The greatest position of a word in a field.
 pub const MAX_POSITION: u32 = 65_535;
@@ -10,10 +11,10 @@ pub const MAX_POSITION: u32 = 65_535;
 pub const MAX_WORD_CHARS: usize = 42;
 
 /// The most bytes of a word: four for each of its characters.
-pub const MAX_WORD_BYTES: usize = 168;
+pub const MAX_WORD_BYTES: usize = MAX_WORD_CHARS * 4;
 
 /// The tokens of a field: its words by ascending position, and where its zones lie.
-#[derive(Clone, Debug, Drop, PartialEq, Eq)]
+#[derive(Debug, Drop, PartialEq, Eq)]
 pub struct FieldTokens {
     pub words: Items<TokenWord>,
     /// The spans that hold a word, by first position, last position and zone.
@@ -21,7 +22,7 @@ pub struct FieldTokens {
 }
 
 /// A word of a field, at its place.
-#[derive(Clone, Debug, Drop, PartialEq, Eq)]
+#[derive(Debug, Drop, PartialEq, Eq)]
 pub struct TokenWord {
     pub word: Word,
     /// From 1. A boundary takes a position of its own.
@@ -70,5 +71,30 @@ impl ZoneSpan {
         ensures { result ≡ precedes self.now other.now }
     {
         (self.first, self.last, self.zone) < (other.first, other.last, other.zone)
+    }
+}
+
+/// A copy equals what it copies.
+impl Clone for TokenWord {
+    ghost is_clone = { λ a b. b ≡ a };
+
+    fn clone(&self) -> Result<Self, AllocError> {
+        Ok(TokenWord {
+            word: self.word.clone()?,
+            position: self.position,
+            gap: self.gap,
+        })
+    }
+}
+
+/// A copy equals what it copies.
+impl Clone for FieldTokens {
+    ghost is_clone = { λ a b. b ≡ a };
+
+    fn clone(&self) -> Result<Self, AllocError> {
+        Ok(FieldTokens {
+            words: self.words.clone()?,
+            spans: self.spans.clone()?,
+        })
     }
 }

@@ -1,8 +1,11 @@
+ghost use Rattle.std.specs.Prelude.{◌≡◌};
+
 use crate::documents::Doc;
 use srch_base::Items;
+use std::alloc::AllocError;
 
 /// One operation of a transaction.
-#[derive(Clone, Debug, Drop, PartialEq, Eq)]
+#[derive(Debug, Drop, PartialEq, Eq)]
 pub enum TxnOp {
     /// A document whose id must be new.
     Insert(Doc),
@@ -15,7 +18,32 @@ pub enum TxnOp {
 }
 
 /// What a commit does to an index: its operations, in order, all or none.
-#[derive(Clone, Debug, Drop, PartialEq, Eq)]
+#[derive(Debug, Drop, PartialEq, Eq)]
 pub struct Txn {
     pub ops: Items<TxnOp>,
+}
+
+/// A copy equals what it copies.
+impl Clone for TxnOp {
+    ghost is_clone = { λ a b. b ≡ a };
+
+    fn clone(&self) -> Result<Self, AllocError> {
+        Ok(match self {
+            TxnOp::Insert(doc) => TxnOp::Insert(doc.clone()?),
+            TxnOp::Put(doc) => TxnOp::Put(doc.clone()?),
+            TxnOp::Kill(id) => TxnOp::Kill(*id),
+            TxnOp::Clear => TxnOp::Clear,
+        })
+    }
+}
+
+/// A copy equals what it copies.
+impl Clone for Txn {
+    ghost is_clone = { λ a b. b ≡ a };
+
+    fn clone(&self) -> Result<Self, AllocError> {
+        Ok(Txn {
+            ops: self.ops.clone()?,
+        })
+    }
 }
