@@ -1,0 +1,4 @@
+pub mod Documents
+pub mod Serving
+pub mod Planning
+pub mod Writing

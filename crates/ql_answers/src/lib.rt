@@ -1,0 +1,21 @@
+//! Statements: what each wants, and what is replied to it.
+#![tactic(auto)]
+
+mod columns;
+mod documents;
+mod event;
+mod indexes;
+mod plan;
+mod planning;
+mod reading;
+mod refusal;
+mod replies;
+mod result_set;
+mod showing;
+mod writing;
+
+pub use event::{Event, Need};
+pub use indexes::Catalog;
+pub use plan::Plan;
+pub use refusal::Refusal;
+pub use result_set::ResultSet;
