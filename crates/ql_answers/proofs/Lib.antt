@@ -3,3 +3,5 @@ pub mod Texts
 pub mod Filling
 pub mod Placing
 pub mod Numbering
+pub mod Finding
+pub mod SaidBy

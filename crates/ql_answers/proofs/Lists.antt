@@ -1,4 +1,4 @@
-use Rattle.std.proofs.Common.{◌≡◌, ℕ, ◌+◌, List, [], ◌∷◌, ◌++◌, add-one, refl}
+use Rattle.std.proofs.Common.{◌≡◌, ℕ, ◌+◌, [], ◌∷◌, ◌++◌, add-one, refl}
 use Rattle.ql_answers.specs.declared.columns.Target.{Target}
 use Rattle.ql_answers.specs.Columns.{numbered}
 

@@ -14,4 +14,6 @@ pub mod Reading
 pub mod Showing
 -- what a statement wants, or why it is refused
 pub mod Plans
+-- sessions, and what is replied
+pub mod Sessions
 pub mod steps

@@ -1,6 +1,6 @@
 -- What a statement wants, or why it is refused, by its text and the configuration alone; and what is replied to it, by what
 -- the outside then did.
-use Rattle.std.specs.Prelude.{◌≡◌, ◌⊎◌, ℕ, List, [], true, false, Option, Some, None, length}
+use Rattle.std.specs.Prelude.{◌≡◌, ◌⊎◌, ℕ, List, false, Some, None}
 use Rattle.doc_types.specs.declared.transactions.Txn.{Txn}
 use Rattle.conf_text.specs.declared.conf.IndexConf.{IndexConf}
 use Rattle.ql_grammar.specs.declared.statement.Statement.{Statement}

@@ -1,14 +1,12 @@
 -- SELECT from an index: the one form that is run, and the rows that it finds. "Free text search" of the manual.
-use Rattle.std.specs.Prelude.{◌≡◌, ℕ, ◌<◌, ◌⊎◌, List, [], ◌∷◌, ◌==◌, ◌&&◌, ◌||◌, nat_le, is_none, is_some, Bool, true, false, length, map, take, drop, Option, Some, None, if◌then◌else◌, AllPairs, count_by, filter, min}
-use Rattle.std.specs.List.{list_all, list_any, filter_map, prefix_len}
-use Rattle.std.specs.List.Sorted.{IsPermutation}
+use Rattle.std.specs.Prelude.{◌≡◌, ℕ, ◌⊎◌, List, [], ◌∷◌, ◌==◌, ◌&&◌, ◌||◌, nat_le, is_none, is_some, Bool, false, length, take, drop, Option, Some, None, if◌then◌else◌}
+use Rattle.std.specs.List.{list_all, filter_map, prefix_len}
 use Rattle.std.specs.Str.{bytes_eq, chars, encode_utf8_all, is_utf8}
-use Rattle.doc_types.specs.declared.documents.DocRow.{DocRow}
 use Rattle.doc_types.specs.declared.tokens.TheConstants.{MAX_WORD_CHARS}
 use Rattle.conf_text.specs.declared.conf.IndexConf.{IndexConf}
 use Rattle.ql_grammar.specs.declared.select.Select.{Select}
 use Rattle.ql_grammar.specs.declared.select.SelectItem.{SelectItem}
-use Rattle.ql_grammar.specs.declared.select.SelectItem.TheVariants.{One, All}
+use Rattle.ql_grammar.specs.declared.select.SelectItem.TheVariants.{One}
 use Rattle.ql_grammar.specs.declared.select.SelectExpr.TheVariants.{Column}
 use Rattle.ql_grammar.specs.declared.select.Cond.{Cond}
 use Rattle.ql_grammar.specs.declared.select.Cond.TheVariants.{Match}

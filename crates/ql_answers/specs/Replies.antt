@@ -1,6 +1,5 @@
 -- Replies and their packets: OK, ERR, or a result set. "COM_QUERY Response" of the protocol.
-use Rattle.std.specs.Prelude.{ℕ, ◌+◌, ◌%◌, List, [], ◌∷◌, ◌++◌, map, length, Bool, if◌then◌else◌}
-use Rattle.mysql_wire.specs.Packets.{packet}
+use Rattle.std.specs.Prelude.{ℕ, List, [], ◌∷◌, ◌++◌, map, length}
 use Rattle.mysql_wire.specs.LengthEncoded.{lenenc}
 use Rattle.mysql_wire.specs.Replies.{ok_payload, err_payload, eof_payload}
 use Rattle.mysql_wire.specs.Rows.{column_payload, row_payload}
@@ -27,16 +26,6 @@ abbrev pub payloads : ℕ → Reply → List (List ℕ)
 payloads status (Done affected) = ok_payload affected status ∷ []
 payloads status (Shows set) = set_payloads status set
 payloads status (Fails refusal) = err_payload refusal.code (state_of refusal.code) refusal.text ∷ []
-
--- payloads as packets, numbered on from a sequence number, modulo 256
-abbrev pub packets_from : ℕ → List (List ℕ) → List ℕ
-packets_from seq [] = []
-packets_from seq (payload ∷ payloads) = packet seq payload ++ packets_from ((seq + 1) % 256) payloads
-
--- the number of the packet behind so many payloads
-abbrev pub sequence_after : ℕ → List (List ℕ) → ℕ
-sequence_after seq [] = seq
-sequence_after seq (payload ∷ payloads) = sequence_after ((seq + 1) % 256) payloads
 
 -- a column of texts
 abbrev pub text_column : List ℕ → Column

@@ -1,5 +1,5 @@
 -- INSERT: what its rows become, and why it is refused. "INSERT and REPLACE syntax" of the manual.
-use Rattle.std.specs.Prelude.{◌≡◌, ℕ, ℤ, pos, ◌-◌, ◌^◌, ◌+◌, ◌<◌, ◌⊎◌, ◌==◌, ◌&&◌, negsuc, int_le, not, is_some, List, [], ◌∷◌, ◌++◌, Bool, true, false, length, map, take, replicate, codes, Option, Some, None, if◌then◌else◌, slice_get, slice_set, slice_index_or}
+use Rattle.std.specs.Prelude.{◌≡◌, ℕ, ℤ, pos, ◌⊎◌, ◌==◌, ◌&&◌, negsuc, int_le, not, is_some, List, [], ◌∷◌, ◌++◌, Bool, length, take, replicate, Option, Some, None, if◌then◌else◌, slice_get, slice_set, slice_index_or}
 use Rattle.std.specs.List.{AllZip, list_any, filter_map}
 use Rattle.std.specs.Str.{bytes_eq, is_utf8}
 use Rattle.charset_map.specs.Spans.{folded}

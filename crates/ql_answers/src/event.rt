@@ -2,6 +2,7 @@
 use doc_types::{Chunk, Snapshot};
 
 /// What became of what a statement wants.
+#[derive(Drop)]
 pub enum Event<'a, C: Chunk> {
     /// Nothing was asked for.
     Nothing,

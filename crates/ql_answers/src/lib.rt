@@ -11,6 +11,9 @@ mod reading;
 mod refusal;
 mod replies;
 mod result_set;
+mod saying;
+mod searching;
+mod session;
 mod showing;
 mod writing;
 
@@ -19,3 +22,4 @@ pub use indexes::Catalog;
 pub use plan::Plan;
 pub use refusal::Refusal;
 pub use result_set::ResultSet;
+pub use session::Session;

@@ -1,9 +1,9 @@
 //! The packets of replies. Each call appends; after an `Err` the bytes are as they were.
 ghost use Rattle.std.specs.Prelude.{◌≡◌, ◌+◌, ◌≤◌, ◌++◌, [], ◌∷◌, length, map, take, OnOk, OnErr, IfOk, vec_len, vec_capacity};
 ghost use Rattle.mysql_wire.specs.Replies.{eof_payload};
-ghost use Rattle.mysql_wire.specs.Packets.{packet};
+ghost use Rattle.mysql_wire.specs.Packets.{packets_from, sequence_after};
 ghost use Rattle.mysql_wire.specs.Rows.{column_payload, row_payload};
-ghost use Rattle.ql_answers.specs.Replies.{packets_from, sequence_after, set_payloads};
+ghost use Rattle.ql_answers.specs.Replies.{set_payloads};
 ghost use Rattle.ql_answers.specs.steps.Writing.{Appends};
 
 use crate::result_set::ResultSet;

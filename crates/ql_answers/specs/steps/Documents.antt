@@ -1,5 +1,5 @@
 -- How the documents of an INSERT are built.
-use Rattle.std.specs.Prelude.{◌≡◌, ◌<◌, ◌^◌, ℕ, List, length, sum_by, All, Result, Ok, Err}
+use Rattle.std.specs.Prelude.{◌≡◌, List, length, All, Result, Ok, Err}
 use Rattle.std.specs.List.{AllZip}
 use Rattle.srch_base.specs.declared.faults.Or.{Or}
 use Rattle.srch_base.specs.declared.faults.Or.TheVariants as causes

@@ -1,6 +1,6 @@
 -- How replies are written.
 use Rattle.std.specs.Prelude.{◌≡◌, ℕ, List, ◌++◌, length, take, Result, Ok, Err}
-use Rattle.ql_answers.specs.Replies.{packets_from, sequence_after}
+use Rattle.mysql_wire.specs.Packets.{packets_from, sequence_after}
 
 -- these payloads were appended as packets, or only a front of their bytes
 abbrev pub Appends : {E : Type 0} → Result ℕ E → ℕ → List (List ℕ) → List ℕ → List ℕ → Type 0

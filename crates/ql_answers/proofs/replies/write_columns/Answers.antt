@@ -2,7 +2,7 @@ use Rattle.std.proofs.Common.{◌≡◌, ℕ, ◌<◌, List, [], ◌∷◌, ◌+
 use Rattle.mysql_wire.specs.Rows.{column_payload}
 use Rattle.ql_answers.specs.steps.Writing.{Appends}
 use Rattle.ql_answers.proofs.Numbering.{Appends-then, front, payloads_more}
-use Rattle.ql_answers.specs.Replies.{packets_from}
+use Rattle.mysql_wire.specs.Packets.{packets_from}
 use Rattle.ql_answers.proofs.replies.write_columns.Goals as goal
 
 pub columns-preserved : goal.columns-preserved
@@ -14,7 +14,7 @@ columns-preserved c =
     let one : One (column_payload c.column-item.result) = subst One e c.in-Ok.ensures.appends in
     let joined : All (map column_payload (take c.columns.column-index c.args.columns.now) ++ column_payload c.column-item.result ∷ []) =
         Appends-then {E = Unit {0}} (Ok c.in-Ok.after) c.args.seq c.columns.next (map column_payload (take c.columns.column-index c.args.columns.now)) (column_payload c.column-item.result ∷ [])
-            c.args.out.now.items c.columns.out.items c.write_payload.new.out.items c.columns.invariant.next c.columns.invariant.written one in
+            c.args.out.now.items c.columns.out.items c.write_payload.new.out.items (omega (arith, c.ranges.seq.fits)) c.columns.invariant.next c.columns.invariant.written one in
     let all : All (map column_payload (take (c.columns.column-index + 1) c.args.columns.now)) = subst All (payloads_more column_payload c.args.columns.now c.columns.column-index c.column-item.result below (sym c.column-item.is)) joined in
     record { next = all.0; written = all.1; capacity = omega arith }
 

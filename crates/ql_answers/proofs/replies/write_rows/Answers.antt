@@ -2,7 +2,7 @@ use Rattle.std.proofs.Common.{◌≡◌, ℕ, ◌<◌, List, [], ◌∷◌, ◌+
 use Rattle.mysql_wire.specs.Rows.{row_payload}
 use Rattle.ql_answers.specs.steps.Writing.{Appends}
 use Rattle.ql_answers.proofs.Numbering.{Appends-then, front, payloads_more}
-use Rattle.ql_answers.specs.Replies.{packets_from}
+use Rattle.mysql_wire.specs.Packets.{packets_from}
 use Rattle.ql_answers.proofs.replies.write_rows.Goals as goal
 
 pub rows-preserved : goal.rows-preserved
@@ -14,7 +14,7 @@ rows-preserved c =
     let one : One (row_payload c.row-item.result) = subst One e c.in-Ok.ensures.appends in
     let joined : All (map row_payload (take c.rows.row-index c.args.rows.now) ++ row_payload c.row-item.result ∷ []) =
         Appends-then {E = Unit {0}} (Ok c.in-Ok.after) c.args.seq c.rows.next (map row_payload (take c.rows.row-index c.args.rows.now)) (row_payload c.row-item.result ∷ [])
-            c.args.out.now.items c.rows.out.items c.write_payload.new.out.items c.rows.invariant.next c.rows.invariant.written one in
+            c.args.out.now.items c.rows.out.items c.write_payload.new.out.items (omega (arith, c.ranges.seq.fits)) c.rows.invariant.next c.rows.invariant.written one in
     let all : All (map row_payload (take (c.rows.row-index + 1) c.args.rows.now)) = subst All (payloads_more row_payload c.args.rows.now c.rows.row-index c.row-item.result below (sym c.row-item.is)) joined in
     record { next = all.0; written = all.1; capacity = omega arith }
 

@@ -1,6 +1,6 @@
 use Rattle.std.proofs.Common.{◌≡◌, ◌++◌, ◌≤◌, map, take, vec_capacity}
 use Rattle.mysql_wire.specs.Rows.{row_payload}
-use Rattle.ql_answers.specs.Replies.{packets_from, sequence_after}
+use Rattle.mysql_wire.specs.Packets.{packets_from, sequence_after}
 use Rattle.ql_answers.proofs.replies.write_rows.Given as goal
 
 abbrev pub invariant-rows : goal.invariant-rows
