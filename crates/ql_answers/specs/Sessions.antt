@@ -139,12 +139,12 @@ is_refusal (Done affected) = false
 is_refusal (Shows set) = false
 is_refusal (Fails refusal) = true
 
--- a reply has no rows, so that it takes no memory where there is room for it
-abbrev pub is_small : Plan → Happened → Bool
-is_small plan NoMemory = true
-is_small (Show set) happened = false
-is_small (Search place word) happened = false
-is_small plan happened = true
+-- the reply is one packet, OK or ERR: it takes no memory where there is room for it
+abbrev pub is_small : Happened → Plan → Bool
+is_small NoMemory plan = true
+is_small happened (Show set) = false
+is_small happened (Search place word) = false
+is_small happened plan = true
 
 -- What `need` answers, and what the session is then.
 abbrev pub Needs : List IndexConf → Standing → Statement → Result Need (Or Refused) → Standing → Type 0

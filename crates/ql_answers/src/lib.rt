@@ -20,6 +20,6 @@ mod writing;
 pub use event::{Event, Need};
 pub use indexes::Catalog;
 pub use plan::Plan;
-pub use refusal::Refusal;
+pub use refusal::{MAX_REFUSAL_BYTES, Refusal, bad_syntax, bad_token, no_memory, not_offered};
 pub use result_set::ResultSet;
 pub use session::Session;

@@ -25,6 +25,7 @@ pub(crate) fn put_set(
     ensures ok { IfOk result (λ next. (next ≡ sequence_after seq (set_payloads status set.now)) × (out.new.items ≡ out.old.items ++ packets_from seq (set_payloads status set.now))) }
     ensures err { OnErr result (out.new.items ≡ out.old.items) }
     ensures room { vec_capacity out.old + vec_len out.new ≤ vec_capacity out.new + vec_len out.old }
+    ensures capacity { vec_capacity out.old ≤ vec_capacity out.new }
 {
     let before = out.len();
     let spare = out.capacity() - before;

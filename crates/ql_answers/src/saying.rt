@@ -1,8 +1,8 @@
 //! What is replied to a plan by what happened, a function for each kind of event.
-ghost use Rattle.std.specs.Prelude.{◌≡◌, ◌+◌, ◌≤◌, ◌++◌, [], ◌∷◌, map, pos, IfOk, IsOk, OnOk, OnErr, true, vec_len, vec_capacity};
+ghost use Rattle.std.specs.Prelude.{◌≡◌, ◌+◌, ◌≤◌, ◌++◌, [], ◌∷◌, map, pos, IfOk, IsOk, OnOk, OnErr, true, false, vec_len, vec_capacity};
 ghost use Rattle.mysql_wire.specs.declared.rows.Cell.TheVariants as cells;
 ghost use Rattle.ql_answers.specs.Replies.{Done, Fails, Shows};
-ghost use Rattle.ql_answers.specs.Sessions.{CanHave, Committed, Duplicate, Nothing, Read, happened_by, id_columns, id_set};
+ghost use Rattle.ql_answers.specs.Sessions.{CanHave, Committed, Duplicate, Nothing, Read, happened_by, id_columns, id_set, is_small};
 ghost use Rattle.ql_answers.specs.steps.Answering.{Says, SaysReply};
 
 use crate::event::Event;
@@ -27,6 +27,9 @@ pub(crate) fn say<C: Chunk>(
 ) -> Result<(u8, bool), NoMemory>
     requires { CanHave plan.now (happened_by event.now) }
     ensures says { Says plan.now (happened_by event.now) status seq result out.old.items out.new.items }
+    ensures small { is_small (happened_by event.now) plan.now ≡ true → vec_len out.old + 256 ≤ vec_capacity out.old → IsOk result }
+    ensures room { is_small (happened_by event.now) plan.now ≡ false → vec_capacity out.old + vec_len out.new ≤ vec_capacity out.new + vec_len out.old }
+    ensures capacity { vec_capacity out.old ≤ vec_capacity out.new }
 {
     match event {
         Event::Nothing => say_nothing(alloc, plan, status, seq, out),
@@ -45,7 +48,10 @@ fn say_nothing(
     out: &mut Vec<u8>,
 ) -> Result<(u8, bool), NoMemory>
     requires { CanHave plan.now Nothing }
-    ensures { Says plan.now Nothing status seq result out.old.items out.new.items }
+    ensures says { Says plan.now Nothing status seq result out.old.items out.new.items }
+    ensures small { is_small Nothing plan.now ≡ true → vec_len out.old + 256 ≤ vec_capacity out.old → IsOk result }
+    ensures room { is_small Nothing plan.now ≡ false → vec_capacity out.old + vec_len out.new ≤ vec_capacity out.new + vec_len out.old }
+    ensures capacity { vec_capacity out.old ≤ vec_capacity out.new }
 {
     match plan {
         Plan::Agree => agree(0, status, seq, out),
@@ -63,7 +69,9 @@ fn say_read<C: Chunk>(
     out: &mut Vec<u8>,
 ) -> Result<(u8, bool), NoMemory>
     requires { CanHave plan.now (Read snapshot.now) }
-    ensures { Says plan.now (Read snapshot.now) status seq result out.old.items out.new.items }
+    ensures says { Says plan.now (Read snapshot.now) status seq result out.old.items out.new.items }
+    ensures room { vec_capacity out.old + vec_len out.new ≤ vec_capacity out.new + vec_len out.old }
+    ensures capacity { vec_capacity out.old ≤ vec_capacity out.new }
 {
     match plan {
         Plan::Search { word, .. } => {
@@ -83,7 +91,9 @@ fn say_committed(
     out: &mut Vec<u8>,
 ) -> Result<(u8, bool), NoMemory>
     requires { CanHave plan.now (Committed removed) }
-    ensures { Says plan.now (Committed removed) status seq result out.old.items out.new.items }
+    ensures says { Says plan.now (Committed removed) status seq result out.old.items out.new.items }
+    ensures small { vec_len out.old + 256 ≤ vec_capacity out.old → IsOk result }
+    ensures capacity { vec_capacity out.old ≤ vec_capacity out.new }
 {
     match plan {
         Plan::Insert { txn, .. } => agree(txn.ops.len() as u64, status, seq, out),
@@ -99,7 +109,9 @@ fn say_duplicate(
     out: &mut Vec<u8>,
 ) -> Result<(u8, bool), NoMemory>
     requires { CanHave plan.now (Duplicate id) }
-    ensures { Says plan.now (Duplicate id) status seq result out.old.items out.new.items }
+    ensures says { Says plan.now (Duplicate id) status seq result out.old.items out.new.items }
+    ensures small { vec_len out.old + 256 ≤ vec_capacity out.old → IsOk result }
+    ensures capacity { vec_capacity out.old ≤ vec_capacity out.new }
 {
     match plan {
         Plan::Insert { .. } => refuse(&duplicate_id(id), status, seq, out),
@@ -109,7 +121,9 @@ fn say_duplicate(
 
 /// OK, with so many rows affected.
 fn agree(affected: u64, status: u16, seq: u8, out: &mut Vec<u8>) -> Result<(u8, bool), NoMemory>
-    ensures { SaysReply (Done affected) status seq result out.old.items out.new.items }
+    ensures says { SaysReply (Done affected) status seq result out.old.items out.new.items }
+    ensures small { vec_len out.old + 256 ≤ vec_capacity out.old → IsOk result }
+    ensures capacity { vec_capacity out.old ≤ vec_capacity out.new }
 {
     put_small(&ok_packet(seq, affected, status), out)?;
     Ok((seq.wrapping_add(1), false))
@@ -117,7 +131,9 @@ fn agree(affected: u64, status: u16, seq: u8, out: &mut Vec<u8>) -> Result<(u8, 
 
 /// ERR.
 fn refuse(refusal: &Refusal, status: u16, seq: u8, out: &mut Vec<u8>) -> Result<(u8, bool), NoMemory>
-    ensures { SaysReply (Fails refusal.now) status seq result out.old.items out.new.items }
+    ensures says { SaysReply (Fails refusal.now) status seq result out.old.items out.new.items }
+    ensures small { vec_len out.old + 256 ≤ vec_capacity out.old → IsOk result }
+    ensures capacity { vec_capacity out.old ≤ vec_capacity out.new }
 {
     let packet = err_packet(seq, refusal.code(), refusal.state(), refusal.text());
     put_small(&packet, out)?;
@@ -132,7 +148,9 @@ fn show(
     seq: u8,
     out: &mut Vec<u8>,
 ) -> Result<(u8, bool), NoMemory>
-    ensures { SaysReply (Shows set.now) status seq result out.old.items out.new.items }
+    ensures says { SaysReply (Shows set.now) status seq result out.old.items out.new.items }
+    ensures room { vec_capacity out.old + vec_len out.new ≤ vec_capacity out.new + vec_len out.old }
+    ensures capacity { vec_capacity out.old ≤ vec_capacity out.new }
 {
     let next = put_set(alloc, status, set, seq, out)?;
     Ok((next, false))
@@ -143,6 +161,7 @@ fn put_small(packet: &Small, out: &mut Vec<u8>) -> Result<(), NoMemory>
     ensures ok { OnOk result (out.new.items ≡ out.old.items ++ packet.now) }
     ensures err { OnErr result (out.new.items ≡ out.old.items) }
     ensures fits { vec_len out.old + 256 ≤ vec_capacity out.old → IsOk result }
+    ensures capacity { vec_capacity out.old ≤ vec_capacity out.new }
 {
     out.extend_from_slice(packet.bytes())?;
     Ok(())

@@ -2,9 +2,9 @@
 //!
 //! `need` says what a statement wants, or why it is refused; then the caller does it, and `reply` says what came of it. The
 //! session knows no store: what the reply uses of the configuration it keeps between the two calls.
-ghost use Rattle.std.specs.Prelude.{◌≡◌, IsSome, Some};
+ghost use Rattle.std.specs.Prelude.{◌≡◌, ◌+◌, ◌≤◌, true, false, IsSome, IsOk, Some, vec_len, vec_capacity};
 ghost use Rattle.std.specs.Option.{IsSomeAnd};
-ghost use Rattle.ql_answers.specs.Sessions.{CanHave, at_rest, happened_by, new_state, pending_of, status_of};
+ghost use Rattle.ql_answers.specs.Sessions.{CanHave, at_rest, happened_by, is_small, new_state, pending_of, status_of};
 ghost use Rattle.ql_answers.specs.Sessions.{Needs, Replied};
 
 use crate::event::{Event, Need};
@@ -90,7 +90,8 @@ impl Session {
     /// Appends the reply to the statement of the last `need`, and gives the sequence number of the packet behind it and
     /// whether the statement was refused. Its packets begin at `seq`; `more` says that another statement of the packet follows.
     ///
-    /// After NoMemory the session and `out` are as before.
+    /// OK and ERR take no memory where 256 bytes are spare; rows leave as much spare room as they found. After NoMemory the
+    /// session and `out` are as before.
     pub fn reply<C: Chunk>(
         &mut self,
         alloc: Global,
@@ -101,7 +102,10 @@ impl Session {
         out: &mut Vec<u8>,
     ) -> Result<(u8, bool), NoMemory>
         requires { IsSomeAnd self.old.plan (λ plan. CanHave plan (happened_by event.now)) }
-        ensures { Replied self.old (happened_by event.now) seq more result out.old.items out.new.items self.new }
+        ensures replied { Replied self.old (happened_by event.now) seq more result out.old.items out.new.items self.new }
+        ensures small { IsSomeAnd self.old.plan (λ plan. is_small (happened_by event.now) plan ≡ true) → vec_len out.old + 256 ≤ vec_capacity out.old → IsOk result }
+        ensures room { IsSomeAnd self.old.plan (λ plan. is_small (happened_by event.now) plan ≡ false) → vec_capacity out.old + vec_len out.new ≤ vec_capacity out.new + vec_len out.old }
+        ensures capacity { vec_capacity out.old ≤ vec_capacity out.new }
     {
         let status = self.status(more);
         let answer = match &self.plan {
