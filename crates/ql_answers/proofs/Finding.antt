@@ -107,7 +107,7 @@ fields_counted word [] k last h = refl
 fields_counted word (field ∷ fields) k last h =
     one_field last k (positions_of word field) (flat_map (λ e. map (λ x. (e.0, x)) (positions_of word e.1)) (enumerate_from (k + 1) fields)) h
     ∙ joined (nonempty (positions_of word field)) _ _ (count_by (λ field. list_any (is_word word) field.words) fields)
-        (fields_counted word fields (k + 1) (Some k) (below_next k)) (fields_counted word fields (k + 1) last (before_more last k h))
+    (fields_counted word fields (k + 1) (Some k) (below_next k)) (fields_counted word fields (k + 1) last (before_more last k h))
     ∙ ap (λ (b : Bool). (if b then 1 else 0) + count_by (λ field. list_any (is_word word) field.words) fields) (sym (any_filled word field.words))
     ∙ sym (sum_by-cons (λ field. cond (list_any (is_word word) field.words) 1 0) field fields)
 
@@ -155,4 +155,4 @@ pub hit_ahead : (rows : List DocRow) (place : Place) (row count id : ℕ) → ne
     → (count, id) ∷ [] ≡ hit_of place.word false (slice_get rows row)
 hit_ahead rows place row count id next counted is =
     hit_by place.word (slice_get rows row) count id
-        (counted ∙ ap (λ (o : Option ℕ). fields_behind None (option_map_or (hits_of place.word) (option_and_then (slice_get rows) o) [])) next ∙ fields_by place.word (slice_get rows row)) is
+    (counted ∙ ap (λ (o : Option ℕ). fields_behind None (option_map_or (hits_of place.word) (option_and_then (slice_get rows) o) [])) next ∙ fields_by place.word (slice_get rows row)) is

@@ -14,10 +14,11 @@ front old mid new extra is begins =
 -- payloads that are appended behind others are appended behind what was there before these
 pub Appends-then : {E : Type 0} (result : Result ℕ E) (seq next : ℕ) (ps qs : List (List ℕ)) (old mid new : List ℕ) → seq < 256
     → next ≡ sequence_after seq ps → mid ≡ old ++ packets_from seq ps → Appends result next qs mid new → Appends result seq (ps ++ qs) old new
-Appends-then (Ok n) seq next ps qs old mid new small after is appends =
-    (appends.0 ∙ ap (λ s. sequence_after s qs) after ∙ sym (sequence_after-append seq ps qs),
-    appends.1 ∙ ap (λ l. l ++ packets_from next qs) is ∙ append_assoc old (packets_from seq ps) (packets_from next qs)
-    ∙ ap (λ s. old ++ (packets_from seq ps ++ packets_from s qs)) after ∙ sym (ap (λ l. old ++ l) (packets_from-append seq ps qs small)))
+Appends-then (Ok n) seq next ps qs old mid new small after is appends = (
+  appends.0 ∙ ap (λ s. sequence_after s qs) after ∙ sym (sequence_after-append seq ps qs),
+  appends.1 ∙ ap (λ l. l ++ packets_from next qs) is ∙ append_assoc old (packets_from seq ps) (packets_from next qs)
+      ∙ ap (λ s. old ++ (packets_from seq ps ++ packets_from s qs)) after ∙ sym (ap (λ l. old ++ l) (packets_from-append seq ps qs small)),
+)
 Appends-then (Err e) seq next ps qs old mid new small after is appends = front old mid new (packets_from seq ps) is appends
 
 -- one more of a list's payloads

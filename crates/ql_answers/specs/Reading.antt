@@ -79,4 +79,4 @@ RefusesSelect confs select refusal =
     ((searched select ≡ None) × (refusal ≡ not_offered))
     ⊎ ((text : List ℕ) × (searched select ≡ Some text) × (index_fault confs select.index ≡ Some refusal))
     ⊎ ((text : List ℕ) × (place : ℕ) × (conf : IndexConf) × (searched select ≡ Some text) × Serves confs select.index place conf
-        × (one_word conf text ≡ None) × (refusal ≡ not_offered))
+    × (one_word conf text ≡ None) × (refusal ≡ not_offered))

@@ -169,11 +169,7 @@ fn whole_of(kind: AttrKind, number: i128) -> i64
 }
 
 /// The tokens of a field's text.
-fn field_tokens(
-    alloc: Global,
-    conf: &IndexConf,
-    text: &[u8],
-) -> Result<FieldTokens, Or<TooLong>>
+fn field_tokens(alloc: Global, conf: &IndexConf, text: &[u8]) -> Result<FieldTokens, Or<TooLong>>
     requires zones { AreZones conf.now.rules.zones }
     requires utf8 { is_utf8 text.now ≡ true }
     ensures tokens { Gives (fold_of conf.now) conf.now.rules text.now result }

@@ -82,11 +82,7 @@ fn show(set: Result<ResultSet, NoMemory>) -> Result<Plan, Or<Refusal>>
     }
 }
 
-fn plan_select<T: Catalog>(
-    alloc: Global,
-    catalog: &T,
-    select: &Select,
-) -> Result<Plan, Or<Refusal>>
+fn plan_select<T: Catalog>(alloc: Global, catalog: &T, select: &Select) -> Result<Plan, Or<Refusal>>
     ensures { PlansSelect (T.confs catalog.now) select.now result }
 {
     let text = match searched(select) {
@@ -134,11 +130,7 @@ fn plan_insert<T: Catalog>(
     }
 }
 
-fn plan_describe<T: Catalog>(
-    alloc: Global,
-    catalog: &T,
-    name: &[u8],
-) -> Result<Plan, Or<Refusal>>
+fn plan_describe<T: Catalog>(alloc: Global, catalog: &T, name: &[u8]) -> Result<Plan, Or<Refusal>>
     ensures { PlansDescribe (T.confs catalog.now) name.now result }
 {
     match served(catalog, name) {

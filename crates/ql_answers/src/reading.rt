@@ -1,6 +1,5 @@
 //! SELECT from an index: the one form that is run, `SELECT id FROM i WHERE MATCH(text)`, and the word that its text is.
 ghost use Rattle.std.specs.Prelude.{◌≡◌, ◌≤◌, [], ◌∷◌, length, IfOk, option_copied, string_bytes};
-
 ghost use Rattle.std.specs.List.{list_all, prefix_len};
 ghost use Rattle.std.specs.Str.{chars};
 ghost use Rattle.ql_answers.specs.Reading.{ends_there, folded_word, is_blank, is_id_alone, is_letter, lone_run, matched, one_word, searched, unblanked, word_by};
@@ -77,7 +76,11 @@ fn ends_there(select: &Select) -> bool
 }
 
 /// The word of a text that is one word between blanks.
-pub(crate) fn one_word(alloc: Global, conf: &IndexConf, text: &[u8]) -> Result<Option<Word>, NoMemory>
+pub(crate) fn one_word(
+    alloc: Global,
+    conf: &IndexConf,
+    text: &[u8],
+) -> Result<Option<Word>, NoMemory>
     ensures { IfOk result (λ word. word ≡ one_word conf.now text.now) }
 {
     if !is_utf8(text) {

@@ -130,7 +130,12 @@ fn agree(affected: u64, status: u16, seq: u8, out: &mut Vec<u8>) -> Result<(u8, 
 }
 
 /// ERR.
-fn refuse(refusal: &Refusal, status: u16, seq: u8, out: &mut Vec<u8>) -> Result<(u8, bool), NoMemory>
+fn refuse(
+    refusal: &Refusal,
+    status: u16,
+    seq: u8,
+    out: &mut Vec<u8>,
+) -> Result<(u8, bool), NoMemory>
     ensures says { SaysReply (Fails refusal.now) status seq result out.old.items out.new.items }
     ensures small { vec_len out.old + 256 ≤ vec_capacity out.old → IsOk result }
     ensures capacity { vec_capacity out.old ≤ vec_capacity out.new }

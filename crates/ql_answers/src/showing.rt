@@ -12,7 +12,11 @@ use srch_base::{Items, NoMemory};
 use std::alloc::Global;
 
 /// SELECT of a system variable.
-pub(crate) fn variable(alloc: Global, name: &[u8], limit: Option<u64>) -> Result<ResultSet, NoMemory>
+pub(crate) fn variable(
+    alloc: Global,
+    name: &[u8],
+    limit: Option<u64>,
+) -> Result<ResultSet, NoMemory>
     ensures { IfOk result (λ set. set ≡ variable name.now limit) }
 {
     let column = variable_column(alloc, name)?;

@@ -26,6 +26,7 @@ returns c =
     let all_targets : take c.values.place c.args.targets.now ≡ c.args.targets.now = take_all c.values.place c.args.targets.now (omega arith) in
     let all_row : take c.values.place c.args.row.now ≡ c.args.row.now = take_all c.values.place c.args.row.now (omega arith) in
     let fills : F c.values.draft = rw (all_targets, all_row) at c.values.invariant.fills in
-    let shaped : S c.into_doc-doc.result = subst S (sym c.into_doc-doc.ensures) c.values.invariant.shaped in
-    (subst F (sym c.into_doc-doc.ensures) fills,
-    record { fields = shaped.fields; values = shaped.values; tokens = shaped.tokens; few_spans = grind (arith, common_steps) })
+    let shaped : S c.into_doc-doc.result = subst S (sym c.into_doc-doc.ensures) c.values.invariant.shaped in (
+      subst F (sym c.into_doc-doc.ensures) fills,
+      record { fields = shaped.fields; values = shaped.values; tokens = shaped.tokens; few_spans = grind (arith, common_steps) },
+    )

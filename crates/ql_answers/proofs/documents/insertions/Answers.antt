@@ -19,13 +19,13 @@ rows-preserved c =
     let D : List Val → Type 0 = λ r. R r (Insert c.in-Ok.doc) in
     let here : D c.row-item.result = subst D c.as_slice.ensures c.in-Ok.ensures.0 in
     let zipped : AllZip R (take c.rows.row-index c.args.rows.now ++ c.row-item.result ∷ []) (c.rows.ops.items ++ Insert c.in-Ok.doc ∷ []) =
-        all_zipped_more R (take c.rows.row-index c.args.rows.now) c.rows.ops.items c.row-item.result (Insert c.in-Ok.doc) c.rows.invariant.inserts here in
+    all_zipped_more R (take c.rows.row-index c.args.rows.now) c.rows.ops.items c.row-item.result (Insert c.in-Ok.doc) c.rows.invariant.inserts here in
     let more : take (c.rows.row-index + 1) c.args.rows.now ≡ take c.rows.row-index c.args.rows.now ++ c.row-item.result ∷ [] =
-        take_more c.args.rows.now c.rows.row-index c.row-item.result below ∙ ap (λ (r : List Val). take c.rows.row-index c.args.rows.now ++ r ∷ []) (sym c.row-item.is) in
+    take_more c.args.rows.now c.rows.row-index c.row-item.result below ∙ ap (λ (r : List Val). take c.rows.row-index c.args.rows.now ++ r ∷ []) (sym c.row-item.is) in
     let O : List TxnOp → Type 0 = λ os. All (IsOpOf c.args.conf.now.schema) os in
     let Z : List TxnOp → Type 0 = λ os. AllZip R (take (c.rows.row-index + 1) c.args.rows.now) os in
     let ops : O (c.rows.ops.items ++ Insert c.in-Ok.doc ∷ []) =
-        All-push (IsOpOf c.args.conf.now.schema) c.rows.ops.items (Insert c.in-Ok.doc) c.rows.invariant.of c.in-Ok.ensures.1 in
+    All-push (IsOpOf c.args.conf.now.schema) c.rows.ops.items (Insert c.in-Ok.doc) c.rows.invariant.of c.in-Ok.ensures.1 in
     record {
       inserts = subst Z (sym c.in_ok-push-in-Ok.ensures.items) (rw more zipped);
       of = subst O (sym c.in_ok-push-in-Ok.ensures.items) ops;

@@ -13,8 +13,8 @@ columns-preserved c =
     let All : List (List ℕ) → Type 0 = λ ps. Appends {E = Unit {0}} (Ok c.in-Ok.after) c.args.seq ps c.args.out.now.items c.write_payload.new.out.items in
     let one : One (column_payload c.column-item.result) = subst One e c.in-Ok.ensures.appends in
     let joined : All (map column_payload (take c.columns.column-index c.args.columns.now) ++ column_payload c.column-item.result ∷ []) =
-        Appends-then {E = Unit {0}} (Ok c.in-Ok.after) c.args.seq c.columns.next (map column_payload (take c.columns.column-index c.args.columns.now)) (column_payload c.column-item.result ∷ [])
-            c.args.out.now.items c.columns.out.items c.write_payload.new.out.items (omega (arith, c.ranges.seq.fits)) c.columns.invariant.next c.columns.invariant.written one in
+    Appends-then {E = Unit {0}} (Ok c.in-Ok.after) c.args.seq c.columns.next (map column_payload (take c.columns.column-index c.args.columns.now)) (column_payload c.column-item.result ∷ [])
+    c.args.out.now.items c.columns.out.items c.write_payload.new.out.items (omega (arith, c.ranges.seq.fits)) c.columns.invariant.next c.columns.invariant.written one in
     let all : All (map column_payload (take (c.columns.column-index + 1) c.args.columns.now)) = subst All (payloads_more column_payload c.args.columns.now c.columns.column-index c.column-item.result below (sym c.column-item.is)) joined in
     record { next = all.0; written = all.1; capacity = omega arith }
 

@@ -13,8 +13,8 @@ rows-preserved c =
     let All : List (List ℕ) → Type 0 = λ ps. Appends {E = Unit {0}} (Ok c.in-Ok.after) c.args.seq ps c.args.out.now.items c.write_payload.new.out.items in
     let one : One (row_payload c.row-item.result) = subst One e c.in-Ok.ensures.appends in
     let joined : All (map row_payload (take c.rows.row-index c.args.rows.now) ++ row_payload c.row-item.result ∷ []) =
-        Appends-then {E = Unit {0}} (Ok c.in-Ok.after) c.args.seq c.rows.next (map row_payload (take c.rows.row-index c.args.rows.now)) (row_payload c.row-item.result ∷ [])
-            c.args.out.now.items c.rows.out.items c.write_payload.new.out.items (omega (arith, c.ranges.seq.fits)) c.rows.invariant.next c.rows.invariant.written one in
+    Appends-then {E = Unit {0}} (Ok c.in-Ok.after) c.args.seq c.rows.next (map row_payload (take c.rows.row-index c.args.rows.now)) (row_payload c.row-item.result ∷ [])
+    c.args.out.now.items c.rows.out.items c.write_payload.new.out.items (omega (arith, c.ranges.seq.fits)) c.rows.invariant.next c.rows.invariant.written one in
     let all : All (map row_payload (take (c.rows.row-index + 1) c.args.rows.now)) = subst All (payloads_more row_payload c.args.rows.now c.rows.row-index c.row-item.result below (sym c.row-item.is)) joined in
     record { next = all.0; written = all.1; capacity = omega arith }
 

@@ -10,4 +10,4 @@ pub returns-clause-says : goal.returns-clause-says
 returns-clause-says c =
     let P : ℕ → Type 0 = λ n. SaysReply (Done n) c.args.status c.args.seq c.agree.result c.args.out.now.items c.agree.new.out.items in
     says_from c.args.plan.now (Insert c.in-Insert.index c.in-Insert.txn) (Committed c.args.removed) (Done (length c.in-Insert.txn.ops)) c.args.status c.args.seq c.agree.result c.args.out.now.items c.agree.new.out.items
-        c.in-Insert.is refl (subst P c.len.ensures c.agree.ensures.says)
+    c.in-Insert.is refl (subst P c.len.ensures c.agree.ensures.says)

@@ -11,4 +11,4 @@ pub returns-clause-says : goal.returns-clause-says
 returns-clause-says c =
     let P : Refused → Type 0 = λ r. SaysReply (Fails r) c.args.status c.args.seq c.refuse.result c.args.out.now.items c.refuse.new.out.items in
     says_from c.args.plan.now (Insert c.in-Insert.index c.in-Insert.txn) (Duplicate c.args.id) (Fails (duplicate_id c.args.id)) c.args.status c.args.seq c.refuse.result c.args.out.now.items c.refuse.new.out.items
-        c.in-Insert.is refl (subst P c.duplicate_id.ensures c.refuse.ensures.says)
+    c.in-Insert.is refl (subst P c.duplicate_id.ensures c.refuse.ensures.says)

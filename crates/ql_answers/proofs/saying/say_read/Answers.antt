@@ -15,4 +15,4 @@ returns-clause-says g c =
     let same : c.in_ok-set-in-Search.set ≡ id_set c.in_ok-ids-in-Search.ids.items = c.in_ok-set-in-Search.ensures ∙ ap id_set c.as_slice.ensures.value in
     let P : ResultSet → Type 0 = λ s. SaysReply (Shows s) c.args.status c.args.seq c.show.result c.args.out.now.items c.show.new.out.items in
     says_from c.args.plan.now (Search c.in-Search.index c.in-Search.word) (Read c.args.snapshot.now) (Shows (id_set c.in_ok-ids-in-Search.ids.items)) c.args.status c.args.seq c.show.result c.args.out.now.items c.show.new.out.items
-        c.in-Search.is (c.in_ok-ids-in-Search.ids.items, shown, refl) (subst P same c.show.ensures.says)
+    c.in-Search.is (c.in_ok-ids-in-Search.ids.items, shown, refl) (subst P same c.show.ensures.says)
