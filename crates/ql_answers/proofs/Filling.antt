@@ -1,0 +1,82 @@
+use Rattle.std.proofs.Common.{◌≡◌, ℕ, ◌+◌, ◌<◌, List, [], ◌∷◌, ◌++◌, Option, None, Some, length, take, drop, get_or, sym, ◌∙◌, ap, subst, refl, suc, add-one, nat_eq, Bool, true, false, drop-cons, length-set, arith}
+use Rattle.std.proofs.lemmas.Bool.{eqb-true}
+use Rattle.std.proofs.lemmas.List.{take_more, length-take-le}
+use Rattle.std.proofs.lemmas.List.Elements.{All-set}
+use Rattle.std.proofs.Math.ListN.{set}
+use Rattle.doc_types.specs.declared.documents.Doc.{Doc}
+use Rattle.doc_types.specs.declared.schema.Schema.{Schema}
+use Rattle.doc_types.specs.declared.tokens.FieldTokens.{FieldTokens}
+use Rattle.doc_types.specs.Documents.{IsField}
+use Rattle.conf_text.specs.declared.conf.IndexConf.{IndexConf}
+use Rattle.ql_grammar.specs.declared.statement.Val.{Val}
+use Rattle.ql_answers.specs.declared.columns.Target.{Target}
+use Rattle.ql_answers.specs.Refusals.{Refused, first, wrong_number}
+use Rattle.ql_answers.specs.Writing.{Puts, Fills, value_fault, values_fault, row_fault, rows_fault}
+use Rattle.ql_answers.specs.steps.Documents.{IsShaped}
+
+-- one more value is put behind the others
+Fills-snoc : (conf : IndexConf) (targets : List Target) (values : List Val) (old now new : Doc) (target : Target) (value : Val)
+    → length targets ≡ length values → Fills conf targets values old now → Puts conf target value now new
+    → Fills conf (targets ++ target ∷ []) (values ++ value ∷ []) old new
+Fills-snoc conf [] [] old now new target value e fills puts =
+    let P : Doc → Type 0 = λ d. Puts conf target value d new in (new, subst P fills puts, refl)
+Fills-snoc conf [] (v ∷ vs) old now new target value e fills puts = absurd (omega arith)
+Fills-snoc conf (t ∷ ts) [] old now new target value e fills puts = absurd (omega arith)
+Fills-snoc conf (t ∷ ts) (v ∷ vs) old now new target value e fills puts =
+    (fills.0, fills.1, Fills-snoc conf ts vs fills.0 now new target value (omega arith) fills.2 puts)
+
+length_front : {X : Type 0} (xs : List X) (i : ℕ) → i < length xs → length (take i xs) ≡ i
+length_front xs i h = length-take-le i xs (omega arith)
+
+pub Fills-more : (conf : IndexConf) (targets : List Target) (values : List Val) (old now new : Doc) (d : Target) (value : Val) (i : ℕ)
+    → i < length targets → i < length values → get_or values i value ≡ value
+    → Fills conf (take i targets) (take i values) old now → Puts conf (get_or targets i d) value now new
+    → Fills conf (take (i + 1) targets) (take (i + 1) values) old new
+Fills-more conf targets values old now new d value i below within is_value fills puts =
+    let fronts : length (take i targets) ≡ length (take i values) = length_front targets i below ∙ sym (length_front values i within) in
+    let ts : take (i + 1) targets ≡ take i targets ++ get_or targets i d ∷ [] = take_more targets i d below in
+    let vs : take (i + 1) values ≡ take i values ++ value ∷ [] = take_more values i value within ∙ ap (λ (x : Val). take i values ++ x ∷ []) is_value in
+    rw (ts, vs) (Fills-snoc conf (take i targets) (take i values) old now new (get_or targets i d) value fronts fills puts)
+
+-- where the first of two faults is none, so is the second
+first_none : (a b : Option Refused) → first a b ≡ None → b ≡ None
+first_none None b h = h
+first_none (Some r) b h = cc
+
+pub good_rest : (schema : Schema) (targets : List Target) (values : List Val) (target : Target) (value : Val) (i : ℕ)
+    → i < length targets → i < length values
+    → values_fault schema (drop i targets) (drop i values) ≡ None → values_fault schema (drop (i + 1) targets) (drop (i + 1) values) ≡ None
+good_rest schema targets values target value i below within h =
+    rw (add-one) (first_none (value_fault schema (get_or targets i target) (get_or values i value)) _ (rw (drop-cons targets i target below, drop-cons values i value within) at h))
+
+pub IsShaped-set : (schema : Schema) (doc : Doc) (i : ℕ) (tokens : FieldTokens) → IsShaped schema doc → IsField tokens
+    → IsShaped schema (record doc { fields = set doc.fields i tokens })
+IsShaped-set schema doc i tokens shaped good = record {
+  fields = length-set doc.fields i tokens ∙ shaped.fields;
+  values = shaped.values;
+  tokens = All-set IsField doc.fields i tokens good shaped.tokens;
+}
+
+first_of_none : (a b : Option Refused) → first a b ≡ None → a ≡ None
+first_of_none None b h = refl
+first_of_none (Some r) b h = cc
+
+row_by : (schema : Schema) (targets : List Target) (row : List Val) (same : Bool) → nat_eq (length row) (length targets) ≡ same
+    → row_fault schema targets row ≡ None → (length row ≡ length targets) × (values_fault schema targets row ≡ None)
+row_by schema targets row true e h = (eqb-true _ _ e, rw e at h)
+row_by schema targets row false e h =
+    let bad : Some wrong_number ≡ None = rw e at h in cc
+
+-- the first row of good ones is good, and so are the others
+pub rows_good : (schema : Schema) (targets : List Target) (rows : List (List Val)) (row : List Val) (i : ℕ)
+    → i < length rows → get_or rows i row ≡ row → rows_fault schema targets (drop i rows) ≡ None
+    → (row_fault schema targets row ≡ None) × (rows_fault schema targets (drop (i + 1) rows) ≡ None)
+rows_good schema targets rows row i below is h =
+    let e : drop i rows ≡ row ∷ drop (suc i) rows = drop-cons rows i row below ∙ ap (λ (x : List Val). x ∷ drop (suc i) rows) is in
+    let both : first (row_fault schema targets row) (rows_fault schema targets (drop (suc i) rows)) ≡ None = rw e at h in
+    (first_of_none (row_fault schema targets row) _ both, rw (add-one) (first_none (row_fault schema targets row) _ both))
+
+-- a good row has as many values as there are columns, and each is good
+pub row_good : (schema : Schema) (targets : List Target) (row : List Val)
+    → row_fault schema targets row ≡ None → (length row ≡ length targets) × (values_fault schema targets row ≡ None)
+row_good schema targets row h = row_by schema targets row (nat_eq (length row) (length targets)) refl h

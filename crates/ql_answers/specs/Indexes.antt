@@ -1,0 +1,29 @@
+-- Indexes, as statements name them.
+use Rattle.std.specs.Prelude.{◌≡◌, ℕ, zero, suc, ◌+◌, List, [], ◌∷◌, Option, Some, None, slice_get, if◌then◌else◌}
+use Rattle.std.specs.Str.{bytes_eq}
+use Rattle.conf_text.specs.declared.conf.IndexConf.{IndexConf}
+use Rattle.ql_answers.specs.Refusals.{Refused, unknown_index, not_offered}
+
+-- the place of the index with a name, the first of these indexes standing at this place
+abbrev pub place_from : ℕ → List IndexConf → List ℕ → Option ℕ
+place_from place [] name = None
+place_from place (conf ∷ confs) name = if bytes_eq conf.schema.name name then Some place else place_from (place + 1) confs name
+
+abbrev pub place_of : List IndexConf → List ℕ → Option ℕ
+place_of confs name = place_from 0 confs name
+
+-- the index at a place isn't served
+abbrev pub place_fault : Option ℕ → List ℕ → Option Refused
+place_fault None name = Some (unknown_index name)
+place_fault (Some zero) name = None
+place_fault (Some (suc place)) name = Some not_offered
+
+-- why no statement of this index is run: it isn't there, or it isn't the first one
+abbrev pub index_fault : List IndexConf → List ℕ → Option Refused
+index_fault confs name = place_fault (place_of confs name) name
+
+-- Statements of this name are run over this index, which stands at this place.
+pub record Serves (confs : List IndexConf) (name : List ℕ) (place : ℕ) (conf : IndexConf) : Type 0 where
+  pub good : index_fault confs name ≡ None
+  pub place_is : place_of confs name ≡ Some place
+  pub is : slice_get confs place ≡ Some conf

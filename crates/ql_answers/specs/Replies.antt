@@ -1,0 +1,43 @@
+-- Replies and their packets: OK, ERR, or a result set. "COM_QUERY Response" of the protocol.
+use Rattle.std.specs.Prelude.{ℕ, List, [], ◌∷◌, ◌++◌, map, length}
+use Rattle.mysql_wire.specs.LengthEncoded.{lenenc}
+use Rattle.mysql_wire.specs.Replies.{ok_payload, err_payload, eof_payload}
+use Rattle.mysql_wire.specs.Rows.{column_payload, row_payload}
+use Rattle.mysql_wire.specs.declared.rows.Column.{Column}
+use Rattle.mysql_wire.specs.declared.rows.ColumnKind.TheVariants as kinds
+use Rattle.mysql_wire.specs.declared.rows.Cell.{Cell}
+use Rattle.mysql_wire.specs.declared.rows.Cell.TheVariants as cells
+use Rattle.ql_answers.specs.declared.result_set.ResultSet.{ResultSet}
+use Rattle.ql_answers.specs.Refusals.{Refused, state_of}
+
+-- a reply: rows affected, rows shown, or a refusal
+pub data Reply : Type 0 where
+  Done : (affected : ℕ) → Reply
+  Shows : (set : ResultSet) → Reply
+  Fails : (refusal : Refused) → Reply
+
+-- the payloads of a result set: the number of columns, the columns, EOF, the rows, EOF
+abbrev pub set_payloads : ℕ → ResultSet → List (List ℕ)
+set_payloads status set =
+    lenenc (length set.columns) ∷ map column_payload set.columns ++ eof_payload status ∷ map row_payload set.rows ++ eof_payload status ∷ []
+
+-- the payloads of a reply, with this status
+abbrev pub payloads : ℕ → Reply → List (List ℕ)
+payloads status (Done affected) = ok_payload affected status ∷ []
+payloads status (Shows set) = set_payloads status set
+payloads status (Fails refusal) = err_payload refusal.code (state_of refusal.code) refusal.text ∷ []
+
+-- a column of texts
+abbrev pub text_column : List ℕ → Column
+text_column name = record { name = name; kind = kinds.Text }
+
+-- rows of one text, and of two
+abbrev pub single : List ℕ → List Cell
+single text = cells.Text text ∷ []
+
+abbrev pub pair : List ℕ → List ℕ → List Cell
+pair first second = cells.Text first ∷ cells.Text second ∷ []
+
+-- a result set whose columns are texts
+abbrev pub texts : List (List ℕ) → List (List Cell) → ResultSet
+texts columns rows = record { columns = map text_column columns; rows = rows }

@@ -1,0 +1,153 @@
+//! What a statement wants, or why it is refused: each statement by its text, the configuration and the session alone.
+ghost use Rattle.std.specs.Prelude.{◌≡◌, ◌<◌, ℕ, None, length, slice_get, option_copied, MatchResult};
+ghost use Rattle.conf_text.specs.declared.conf.IndexConf.{IndexConf};
+ghost use Rattle.ql_answers.specs.Indexes.{Serves, index_fault};
+ghost use Rattle.ql_answers.specs.steps.Planning.{PlansInsert, PlansSelect, PlansDescribe, PlansJob, ShowsOr, Planned};
+
+use crate::documents::insertions;
+use crate::indexes::{Catalog, served};
+use crate::plan::Plan;
+use crate::reading::{one_word, searched};
+use crate::refusal::{Refusal, not_offered};
+use crate::result_set::ResultSet;
+use crate::showing::{current_database, databases, description, tables, variable, warnings};
+use crate::writing::{columns_fault, rows_fault, targets};
+use ql_parse::{Select, Statement, Val};
+use srch_base::{Items, Name, NoMemory, Or};
+use std::alloc::Global;
+
+/// What a statement wants.
+pub(crate) fn plan<T: Catalog>(
+    alloc: Global,
+    catalog: &T,
+    statement: &Statement,
+) -> Result<Plan, Or<Refusal>>
+    ensures { Planned (T.confs catalog.now) statement.now result }
+{
+    match statement {
+        Statement::Select(select) => plan_select(alloc, catalog, select),
+        Statement::SelectVar { name, limit } => show(variable(alloc, name.as_bytes(), *limit)),
+        Statement::SelectDatabase => show(current_database(alloc)),
+        Statement::Insert {
+            replace: false,
+            index,
+            columns,
+            rows,
+        } => plan_insert(
+            alloc,
+            catalog,
+            index.as_bytes(),
+            named(columns),
+            rows.as_slice(),
+        ),
+        Statement::SetNames(_) | Statement::SetOther { .. } => Ok(Plan::Agree),
+        Statement::Describe(index) => plan_describe(alloc, catalog, index.as_bytes()),
+        Statement::ShowTables => show(tables(alloc, catalog)),
+        Statement::ShowWarnings => show(warnings(alloc)),
+        Statement::ShowDatabases => show(databases(alloc)),
+        Statement::FlushRamchunk(index)
+        | Statement::FlushRtindex(index)
+        | Statement::OptimizeIndex(index) => plan_job(catalog, index.as_bytes()),
+        Statement::Insert { .. }
+        | Statement::Delete { .. }
+        | Statement::Begin
+        | Statement::StartTransaction
+        | Statement::Commit
+        | Statement::Rollback
+        | Statement::SetAutocommit(_)
+        | Statement::TruncateRtindex(_)
+        | Statement::ShowIndexStatus(_)
+        | Statement::ShowMeta
+        | Statement::ShowVariables => Err(Or::Fault(not_offered())),
+    }
+}
+
+/// The names of the columns, as a slice.
+fn named(columns: &Option<Items<Name>>) -> Option<&[Name]>
+    ensures { option_copied result ≡ columns.now }
+{
+    match columns {
+        Some(names) => Some(names.as_slice()),
+        None => None,
+    }
+}
+
+/// A statement that shows this.
+fn show(set: Result<ResultSet, NoMemory>) -> Result<Plan, Or<Refusal>>
+    ensures { ShowsOr set result }
+{
+    match set {
+        Ok(set) => Ok(Plan::Show(set)),
+        Err(NoMemory) => Err(Or::NoMemory),
+    }
+}
+
+fn plan_select<T: Catalog>(alloc: Global, catalog: &T, select: &Select) -> Result<Plan, Or<Refusal>>
+    ensures { PlansSelect (T.confs catalog.now) select.now result }
+{
+    let text = match searched(select) {
+        Some(text) => text,
+        None => return Err(Or::Fault(not_offered())),
+    };
+    let index = match served(catalog, select.index.as_bytes()) {
+        Ok(index) => index,
+        Err(refusal) => return Err(Or::Fault(refusal)),
+    };
+    match one_word(alloc, catalog.conf(index), text) {
+        Ok(Some(word)) => Ok(Plan::Search { index, word }),
+        Ok(None) => Err(Or::Fault(not_offered())),
+        Err(NoMemory) => Err(Or::NoMemory),
+    }
+}
+
+fn plan_insert<T: Catalog>(
+    alloc: Global,
+    catalog: &T,
+    name: &[u8],
+    columns: Option<&[Name]>,
+    rows: &[Items<Val>],
+) -> Result<Plan, Or<Refusal>>
+    ensures { PlansInsert (T.confs catalog.now) name.now (option_copied columns.entry) rows.now result }
+{
+    let index = match served(catalog, name) {
+        Ok(index) => index,
+        Err(refusal) => return Err(Or::Fault(refusal)),
+    };
+    let conf = catalog.conf(index);
+    match columns_fault(&conf.schema, columns) {
+        Some(refusal) => return Err(Or::Fault(refusal)),
+        None => {}
+    }
+    let targets = targets(alloc, &conf.schema, columns)?;
+    match rows_fault(&conf.schema, targets.as_slice(), rows) {
+        Some(refusal) => return Err(Or::Fault(refusal)),
+        None => {}
+    }
+    match insertions(alloc, conf, targets.as_slice(), rows) {
+        Ok(txn) => Ok(Plan::Insert { index, txn }),
+        Err(Or::NoMemory) => Err(Or::NoMemory),
+        Err(Or::Fault(refusal)) => Err(Or::Fault(refusal)),
+    }
+}
+
+fn plan_describe<T: Catalog>(alloc: Global, catalog: &T, name: &[u8]) -> Result<Plan, Or<Refusal>>
+    ensures { PlansDescribe (T.confs catalog.now) name.now result }
+{
+    match served(catalog, name) {
+        Ok(index) => match description(alloc, &catalog.conf(index).schema) {
+            Ok(set) => Ok(Plan::Show(set)),
+            Err(NoMemory) => Err(Or::NoMemory),
+        },
+        Err(refusal) => Err(Or::Fault(refusal)),
+    }
+}
+
+/// FLUSH and OPTIMIZE: what they would do comes last of all that can be wrong with them.
+fn plan_job<T: Catalog>(catalog: &T, name: &[u8]) -> Result<Plan, Or<Refusal>>
+    ensures { PlansJob (T.confs catalog.now) name.now result }
+{
+    match served(catalog, name) {
+        Ok(_) => Err(Or::Fault(not_offered())),
+        Err(refusal) => Err(Or::Fault(refusal)),
+    }
+}

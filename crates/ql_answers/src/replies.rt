@@ -1,0 +1,137 @@
+//! The packets of replies. Each call appends; after an `Err` the bytes are as they were.
+ghost use Rattle.std.specs.Prelude.{◌≡◌, ◌+◌, ◌≤◌, ◌++◌, [], ◌∷◌, length, map, take, OnOk, OnErr, IfOk, vec_len, vec_capacity};
+ghost use Rattle.mysql_wire.specs.Replies.{eof_payload};
+ghost use Rattle.mysql_wire.specs.Packets.{packets_from, sequence_after};
+ghost use Rattle.mysql_wire.specs.Rows.{column_payload, row_payload};
+ghost use Rattle.ql_answers.specs.Replies.{set_payloads};
+ghost use Rattle.ql_answers.specs.steps.Writing.{Appends};
+
+use crate::result_set::ResultSet;
+use mysql_wire::{Cell, Column, Small, eof_packet, put_column, put_lenenc, put_packet, put_row};
+use srch_base::{Items, NoMemory};
+use std::alloc::Global;
+
+/// The length that no packet's payload reaches.
+const MAX_PAYLOAD: usize = 16_777_215;
+
+/// Appends a result set. The spare room afterwards is at least what it was before.
+pub(crate) fn put_set(
+    alloc: Global,
+    status: u16,
+    set: &ResultSet,
+    seq: u8,
+    out: &mut Vec<u8>,
+) -> Result<u8, NoMemory>
+    ensures ok { IfOk result (λ next. (next ≡ sequence_after seq (set_payloads status set.now)) × (out.new.items ≡ out.old.items ++ packets_from seq (set_payloads status set.now))) }
+    ensures err { OnErr result (out.new.items ≡ out.old.items) }
+    ensures room { vec_capacity out.old + vec_len out.new ≤ vec_capacity out.new + vec_len out.old }
+    ensures capacity { vec_capacity out.old ≤ vec_capacity out.new }
+{
+    let before = out.len();
+    let spare = out.capacity() - before;
+    match write_and_reserve(alloc, status, set, seq, spare, out) {
+        Ok(next) => Ok(next),
+        Err(NoMemory) => {
+            out.truncate(before);
+            Err(NoMemory)
+        }
+    }
+}
+
+fn write_and_reserve(
+    alloc: Global,
+    status: u16,
+    set: &ResultSet,
+    seq: u8,
+    spare: usize,
+    out: &mut Vec<u8>,
+) -> Result<u8, NoMemory>
+    ensures appends { Appends result seq (set_payloads status set.now) out.old.items out.new.items }
+    ensures room { OnOk result (vec_len out.new + spare ≤ vec_capacity out.new) }
+    ensures capacity { vec_capacity out.old ≤ vec_capacity out.new }
+{
+    let next = write_set(alloc, status, set, seq, out)?;
+    out.reserve(spare)?;
+    Ok(next)
+}
+
+/// Appends a result set, or a front of its packets.
+fn write_set(
+    alloc: Global,
+    status: u16,
+    set: &ResultSet,
+    seq: u8,
+    out: &mut Vec<u8>,
+) -> Result<u8, NoMemory>
+    ensures appends { Appends result seq (set_payloads status set.now) out.old.items out.new.items }
+    ensures capacity { vec_capacity out.old ≤ vec_capacity out.new }
+{
+    let mut payload = Vec::new(alloc);
+    put_lenenc(set.columns.len() as u64, &mut payload)?;
+    let first = write_payload(seq, payload.as_slice(), out)?;
+    let second = write_columns(set.columns.as_slice(), &mut payload, first, out)?;
+    let third = write_eof(second, status, out)?;
+    let fourth = write_rows(set.rows.as_slice(), &mut payload, third, out)?;
+    write_eof(fourth, status, out)
+}
+
+fn write_columns(
+    columns: &[Column],
+    payload: &mut Vec<u8>,
+    seq: u8,
+    out: &mut Vec<u8>,
+) -> Result<u8, NoMemory>
+    ensures appends { Appends result seq (map column_payload columns.now) out.old.items out.new.items }
+    ensures capacity { vec_capacity out.old ≤ vec_capacity out.new }
+{
+    let mut next = seq;
+    'columns: for column in columns {
+        payload.clear();
+        put_column(column, payload)?;
+        match write_payload(next, payload.as_slice(), out) {
+            Ok(after) => next = after,
+            Err(NoMemory) => return Err(NoMemory),
+        }
+    }
+    Ok(next)
+}
+
+fn write_rows(
+    rows: &[Items<Cell>],
+    payload: &mut Vec<u8>,
+    seq: u8,
+    out: &mut Vec<u8>,
+) -> Result<u8, NoMemory>
+    ensures appends { Appends result seq (map row_payload rows.now) out.old.items out.new.items }
+    ensures capacity { vec_capacity out.old ≤ vec_capacity out.new }
+{
+    let mut next = seq;
+    'rows: for row in rows {
+        payload.clear();
+        put_row(row.as_slice(), payload)?;
+        match write_payload(next, payload.as_slice(), out) {
+            Ok(after) => next = after,
+            Err(NoMemory) => return Err(NoMemory),
+        }
+    }
+    Ok(next)
+}
+
+fn write_eof(seq: u8, status: u16, out: &mut Vec<u8>) -> Result<u8, NoMemory>
+    ensures appends { Appends result seq (eof_payload status ∷ []) out.old.items out.new.items }
+    ensures capacity { vec_capacity out.old ≤ vec_capacity out.new }
+{
+    out.extend_from_slice(eof_packet(seq, status).bytes())?;
+    Ok(seq.wrapping_add(1))
+}
+
+/// Appends a packet. A payload that no packet can have is want of memory; nothing that is shown is as long.
+fn write_payload(seq: u8, payload: &[u8], out: &mut Vec<u8>) -> Result<u8, NoMemory>
+    ensures appends { Appends result seq (payload.now ∷ []) out.old.items out.new.items }
+    ensures capacity { vec_capacity out.old ≤ vec_capacity out.new }
+{
+    if payload.len() >= MAX_PAYLOAD {
+        return Err(NoMemory);
+    }
+    put_packet(seq, payload, out)
+}

@@ -1,0 +1,210 @@
+//! What is replied to a plan by what happened, a function for each kind of event.
+ghost use Rattle.std.specs.Prelude.{◌≡◌, ◌+◌, ◌≤◌, ◌++◌, [], ◌∷◌, map, pos, IfOk, IsOk, OnOk, OnErr, true, false, vec_len, vec_capacity};
+ghost use Rattle.mysql_wire.specs.declared.rows.Cell.TheVariants as cells;
+ghost use Rattle.ql_answers.specs.Replies.{Done, Fails, Shows};
+ghost use Rattle.ql_answers.specs.Sessions.{CanHave, Committed, Duplicate, Nothing, Read, happened_by, id_columns, id_set, is_small};
+ghost use Rattle.ql_answers.specs.steps.Answering.{Says, SaysReply};
+
+use crate::event::Event;
+use crate::plan::Plan;
+use crate::refusal::{Refusal, duplicate_id, no_memory};
+use crate::replies::put_set;
+use crate::result_set::ResultSet;
+use crate::searching::best_ids;
+use doc_types::{Chunk, Snapshot};
+use mysql_wire::{Cell, Column, ColumnKind, Small, err_packet, ok_packet};
+use srch_base::{Items, Name, NoMemory};
+use std::alloc::Global;
+
+/// Appends the reply to a plan.
+pub(crate) fn say<C: Chunk>(
+    alloc: Global,
+    plan: &Plan,
+    event: &Event<'_, C>,
+    status: u16,
+    seq: u8,
+    out: &mut Vec<u8>,
+) -> Result<(u8, bool), NoMemory>
+    requires { CanHave plan.now (happened_by event.now) }
+    ensures says { Says plan.now (happened_by event.now) status seq result out.old.items out.new.items }
+    ensures small { is_small (happened_by event.now) plan.now ≡ true → vec_len out.old + 256 ≤ vec_capacity out.old → IsOk result }
+    ensures room { is_small (happened_by event.now) plan.now ≡ false → vec_capacity out.old + vec_len out.new ≤ vec_capacity out.new + vec_len out.old }
+    ensures capacity { vec_capacity out.old ≤ vec_capacity out.new }
+{
+    match event {
+        Event::Nothing => say_nothing(alloc, plan, status, seq, out),
+        Event::NoMemory => refuse(&no_memory(), status, seq, out),
+        Event::Read(snapshot) => say_read(alloc, plan, snapshot, status, seq, out),
+        Event::Committed { removed } => say_committed(plan, *removed, status, seq, out),
+        Event::Duplicate { id } => say_duplicate(plan, *id, status, seq, out),
+    }
+}
+
+fn say_nothing(
+    alloc: Global,
+    plan: &Plan,
+    status: u16,
+    seq: u8,
+    out: &mut Vec<u8>,
+) -> Result<(u8, bool), NoMemory>
+    requires { CanHave plan.now Nothing }
+    ensures says { Says plan.now Nothing status seq result out.old.items out.new.items }
+    ensures small { is_small Nothing plan.now ≡ true → vec_len out.old + 256 ≤ vec_capacity out.old → IsOk result }
+    ensures room { is_small Nothing plan.now ≡ false → vec_capacity out.old + vec_len out.new ≤ vec_capacity out.new + vec_len out.old }
+    ensures capacity { vec_capacity out.old ≤ vec_capacity out.new }
+{
+    match plan {
+        Plan::Agree => agree(0, status, seq, out),
+        Plan::Show(set) => show(alloc, set, status, seq, out),
+        Plan::Search { .. } | Plan::Insert { .. } => unreachable!(),
+    }
+}
+
+fn say_read<C: Chunk>(
+    alloc: Global,
+    plan: &Plan,
+    snapshot: &Snapshot<C>,
+    status: u16,
+    seq: u8,
+    out: &mut Vec<u8>,
+) -> Result<(u8, bool), NoMemory>
+    requires { CanHave plan.now (Read snapshot.now) }
+    ensures says { Says plan.now (Read snapshot.now) status seq result out.old.items out.new.items }
+    ensures room { vec_capacity out.old + vec_len out.new ≤ vec_capacity out.new + vec_len out.old }
+    ensures capacity { vec_capacity out.old ≤ vec_capacity out.new }
+{
+    match plan {
+        Plan::Search { word, .. } => {
+            let ids = best_ids(alloc, snapshot, word.as_bytes())?;
+            let set = ids_shown(alloc, ids.as_slice())?;
+            show(alloc, &set, status, seq, out)
+        }
+        Plan::Agree | Plan::Show(_) | Plan::Insert { .. } => unreachable!(),
+    }
+}
+
+fn say_committed(
+    plan: &Plan,
+    removed: u32,
+    status: u16,
+    seq: u8,
+    out: &mut Vec<u8>,
+) -> Result<(u8, bool), NoMemory>
+    requires { CanHave plan.now (Committed removed) }
+    ensures says { Says plan.now (Committed removed) status seq result out.old.items out.new.items }
+    ensures small { vec_len out.old + 256 ≤ vec_capacity out.old → IsOk result }
+    ensures capacity { vec_capacity out.old ≤ vec_capacity out.new }
+{
+    match plan {
+        Plan::Insert { txn, .. } => agree(txn.ops.len() as u64, status, seq, out),
+        Plan::Agree | Plan::Show(_) | Plan::Search { .. } => unreachable!(),
+    }
+}
+
+fn say_duplicate(
+    plan: &Plan,
+    id: u64,
+    status: u16,
+    seq: u8,
+    out: &mut Vec<u8>,
+) -> Result<(u8, bool), NoMemory>
+    requires { CanHave plan.now (Duplicate id) }
+    ensures says { Says plan.now (Duplicate id) status seq result out.old.items out.new.items }
+    ensures small { vec_len out.old + 256 ≤ vec_capacity out.old → IsOk result }
+    ensures capacity { vec_capacity out.old ≤ vec_capacity out.new }
+{
+    match plan {
+        Plan::Insert { .. } => refuse(&duplicate_id(id), status, seq, out),
+        Plan::Agree | Plan::Show(_) | Plan::Search { .. } => unreachable!(),
+    }
+}
+
+/// OK, with so many rows affected.
+fn agree(affected: u64, status: u16, seq: u8, out: &mut Vec<u8>) -> Result<(u8, bool), NoMemory>
+    ensures says { SaysReply (Done affected) status seq result out.old.items out.new.items }
+    ensures small { vec_len out.old + 256 ≤ vec_capacity out.old → IsOk result }
+    ensures capacity { vec_capacity out.old ≤ vec_capacity out.new }
+{
+    put_small(&ok_packet(seq, affected, status), out)?;
+    Ok((seq.wrapping_add(1), false))
+}
+
+/// ERR.
+fn refuse(
+    refusal: &Refusal,
+    status: u16,
+    seq: u8,
+    out: &mut Vec<u8>,
+) -> Result<(u8, bool), NoMemory>
+    ensures says { SaysReply (Fails refusal.now) status seq result out.old.items out.new.items }
+    ensures small { vec_len out.old + 256 ≤ vec_capacity out.old → IsOk result }
+    ensures capacity { vec_capacity out.old ≤ vec_capacity out.new }
+{
+    let packet = err_packet(seq, refusal.code(), refusal.state(), refusal.text());
+    put_small(&packet, out)?;
+    Ok((seq.wrapping_add(1), true))
+}
+
+/// A result set.
+fn show(
+    alloc: Global,
+    set: &ResultSet,
+    status: u16,
+    seq: u8,
+    out: &mut Vec<u8>,
+) -> Result<(u8, bool), NoMemory>
+    ensures says { SaysReply (Shows set.now) status seq result out.old.items out.new.items }
+    ensures room { vec_capacity out.old + vec_len out.new ≤ vec_capacity out.new + vec_len out.old }
+    ensures capacity { vec_capacity out.old ≤ vec_capacity out.new }
+{
+    let next = put_set(alloc, status, set, seq, out)?;
+    Ok((next, false))
+}
+
+/// Appends a packet. It takes no memory where there is room for it.
+fn put_small(packet: &Small, out: &mut Vec<u8>) -> Result<(), NoMemory>
+    ensures ok { OnOk result (out.new.items ≡ out.old.items ++ packet.now) }
+    ensures err { OnErr result (out.new.items ≡ out.old.items) }
+    ensures fits { vec_len out.old + 256 ≤ vec_capacity out.old → IsOk result }
+    ensures capacity { vec_capacity out.old ≤ vec_capacity out.new }
+{
+    out.extend_from_slice(packet.bytes())?;
+    Ok(())
+}
+
+/// Ids, a row each.
+fn ids_shown(alloc: Global, ids: &[u64]) -> Result<ResultSet, NoMemory>
+    ensures { IfOk result (λ set. set ≡ id_set ids.now) }
+{
+    let columns = id_columns(alloc)?;
+    let rows = id_rows(alloc, ids)?;
+    Ok(ResultSet { columns, rows })
+}
+
+fn id_columns(alloc: Global) -> Result<Items<Column>, NoMemory>
+    ensures { IfOk result (λ columns. columns ≡ id_columns) }
+{
+    let kind = ColumnKind::Unsigned;
+    let name = Name::from_slice(alloc, b"id")?;
+    let mut columns = Vec::with_capacity(alloc, 1)?;
+    columns.push(Column { name, kind })?;
+    Ok(Items::new(columns))
+}
+
+fn id_rows(alloc: Global, ids: &[u64]) -> Result<Items<Items<Cell>>, NoMemory>
+    ensures { IfOk result (λ rows. rows ≡ map (λ id. cells.Whole (pos id) ∷ []) ids.now) }
+{
+    let mut rows = Vec::with_capacity(alloc, ids.len())?;
+    'ids: for id in ids {
+        rows.push(id_row(alloc, *id)?)?;
+    }
+    Ok(Items::new(rows))
+}
+
+fn id_row(alloc: Global, id: u64) -> Result<Items<Cell>, NoMemory>
+    ensures { IfOk result (λ row. row ≡ cells.Whole (pos id) ∷ []) }
+{
+    let mut row = Vec::with_capacity(alloc, 1)?;
+    row.push(Cell::Whole(i128::from(id)))?;
+    Ok(Items::new(row))
+}

@@ -1,0 +1,118 @@
+//! A session: what is kept between a client's statements, and the two calls that answer one.
+//!
+//! `need` says what a statement wants, or why it is refused; then the caller does it, and `reply` says what came of it. The
+//! session knows no store: what the reply uses of the configuration it keeps between the two calls.
+ghost use Rattle.std.specs.Prelude.{◌≡◌, ◌+◌, ◌≤◌, true, false, IsSome, IsOk, Some, vec_len, vec_capacity};
+ghost use Rattle.std.specs.Option.{IsSomeAnd};
+ghost use Rattle.ql_answers.specs.Sessions.{CanHave, at_rest, happened_by, is_small, new_state, pending_of, status_of};
+ghost use Rattle.ql_answers.specs.Sessions.{Needs, Replied};
+
+use crate::event::{Event, Need};
+use crate::indexes::Catalog;
+use crate::plan::Plan;
+use crate::planning::plan;
+use crate::refusal::Refusal;
+use crate::saying::say;
+use doc_types::{Chunk, Txn};
+use ql_parse::Statement;
+use srch_base::{NoMemory, Or};
+use std::alloc::Global;
+use std::marker::Model;
+
+/// One client's session. Contracts see it as a `Standing`.
+#[derive(Debug, Drop)]
+pub struct Session {
+    autocommit: bool,
+    plan: Option<Plan>,
+}
+
+impl Model for Session {
+    ghost use Rattle.ql_answers.specs.Sessions.{Standing};
+
+    ghost Value = { Standing };
+
+    ghost view = { λ session. record { state = record { autocommit = session.autocommit }; plan = session.plan } };
+}
+
+impl Session {
+    /// A session that begins: autocommit is 1.
+    pub fn new() -> Session
+        ensures { result ≡ at_rest new_state }
+    {
+        Session {
+            autocommit: true,
+            plan: None,
+        }
+    }
+
+    /// The status of a packet, behind which another statement of the packet follows or not.
+    pub fn status(&self, more: bool) -> u16
+        ensures { result ≡ status_of self.now.state more }
+    {
+        let autocommit = if self.autocommit { 2 } else { 0 };
+        let follows = if more { 8 } else { 0 };
+        autocommit + follows
+    }
+
+    /// What a statement wants. After `Ok` the session waits for what came of it, and keeps what the reply uses of the
+    /// configuration; after an `Err` nothing is wanted.
+    pub fn need<T: Catalog>(
+        &mut self,
+        alloc: Global,
+        statement: &Statement,
+        catalog: &T,
+    ) -> Result<Need, Or<Refusal>>
+        ensures { Needs (T.confs catalog.now) self.old statement.now result self.new }
+    {
+        self.plan = None;
+        match plan(alloc, catalog, statement) {
+            Ok(plan) => {
+                let need = plan.need();
+                self.plan = Some(plan);
+                Ok(need)
+            }
+            Err(Or::NoMemory) => Err(Or::NoMemory),
+            Err(Or::Fault(refusal)) => Err(Or::Fault(refusal)),
+        }
+    }
+
+    /// The transaction that the last `need` wants to be committed.
+    pub fn pending(&self) -> &Txn
+        requires { IsSome (pending_of self.now.plan) }
+        ensures { pending_of self.now.plan ≡ Some result.now }
+    {
+        match &self.plan {
+            Some(Plan::Insert { txn, .. }) => txn,
+            _ => unreachable!(),
+        }
+    }
+
+    /// Appends the reply to the statement of the last `need`, and gives the sequence number of the packet behind it and
+    /// whether the statement was refused. Its packets begin at `seq`; `more` says that another statement of the packet follows.
+    ///
+    /// OK and ERR take no memory where 256 bytes are spare; rows leave as much spare room as they found. After NoMemory the
+    /// session and `out` are as before.
+    pub fn reply<C: Chunk>(
+        &mut self,
+        alloc: Global,
+        _statement: &Statement,
+        event: &Event<'_, C>,
+        seq: u8,
+        more: bool,
+        out: &mut Vec<u8>,
+    ) -> Result<(u8, bool), NoMemory>
+        requires { IsSomeAnd self.old.plan (λ plan. CanHave plan (happened_by event.now)) }
+        ensures replied { Replied self.old (happened_by event.now) seq more result out.old.items out.new.items self.new }
+        ensures small { IsSomeAnd self.old.plan (λ plan. is_small (happened_by event.now) plan ≡ true) → vec_len out.old + 256 ≤ vec_capacity out.old → IsOk result }
+        ensures room { IsSomeAnd self.old.plan (λ plan. is_small (happened_by event.now) plan ≡ false) → vec_capacity out.old + vec_len out.new ≤ vec_capacity out.new + vec_len out.old }
+        ensures capacity { vec_capacity out.old ≤ vec_capacity out.new }
+    {
+        let status = self.status(more);
+        let answer = match &self.plan {
+            Some(plan) => say(alloc, plan, event, status, seq, out)?,
+            None => unreachable!(),
+        };
+        self.plan = None;
+        Ok(answer)
+    }
+}

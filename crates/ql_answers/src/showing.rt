@@ -1,0 +1,138 @@
+//! What SHOW, DESCRIBE and SELECT of a variable show.
+ghost use Rattle.std.specs.Prelude.{◌≡◌, ◌++◌, IfOk, codes, map};
+ghost use Rattle.ql_answers.specs.Replies.{pair};
+ghost use Rattle.ql_answers.specs.Showing.{current_database, databases, description, description_rows, kind_text, tables, variable, variable_value, warnings};
+
+use crate::columns::ID;
+use crate::indexes::Catalog;
+use crate::result_set::{ResultSet, pair, single, text_columns};
+use doc_types::{AttrKind, Schema};
+use mysql_wire::Cell;
+use srch_base::{Items, NoMemory};
+use std::alloc::Global;
+
+/// SELECT of a system variable.
+pub(crate) fn variable(
+    alloc: Global,
+    name: &[u8],
+    limit: Option<u64>,
+) -> Result<ResultSet, NoMemory>
+    ensures { IfOk result (λ set. set ≡ variable name.now limit) }
+{
+    let column = variable_column(alloc, name)?;
+    let columns = text_columns(alloc, &[column.as_slice()])?;
+    let mut rows = Vec::new(alloc);
+    match limit {
+        Some(0) => {}
+        _ => rows.push(single(alloc, variable_value(name))?)?,
+    }
+    let rows = Items::new(rows);
+    Ok(ResultSet { columns, rows })
+}
+
+fn variable_column(alloc: Global, name: &[u8]) -> Result<Vec<u8>, NoMemory>
+    ensures { IfOk result (λ column. column.items ≡ codes "@@" ++ name.now) }
+{
+    let mut column = Vec::new(alloc);
+    column.extend_from_slice(b"@@")?;
+    column.extend_from_slice(name)?;
+    Ok(column)
+}
+
+/// The one variable that has a value.
+const VERSION_COMMENT: &[u8] = b"version_comment";
+
+/// Clients ask for the version's comment when they connect.
+fn variable_value(name: &[u8]) -> &'static [u8]
+    ensures { result.now ≡ variable_value name.now }
+{
+    if name == VERSION_COMMENT {
+        b"searchd"
+    } else {
+        b""
+    }
+}
+
+/// SELECT DATABASE().
+pub(crate) fn current_database(alloc: Global) -> Result<ResultSet, NoMemory>
+    ensures { IfOk result (λ set. set ≡ current_database) }
+{
+    let columns = text_columns(alloc, &[b"database()"])?;
+    let mut rows = Vec::new(alloc);
+    rows.push(single(alloc, b"")?)?;
+    let rows = Items::new(rows);
+    Ok(ResultSet { columns, rows })
+}
+
+/// SHOW DATABASES.
+pub(crate) fn databases(alloc: Global) -> Result<ResultSet, NoMemory>
+    ensures { IfOk result (λ set. set ≡ databases) }
+{
+    let columns = text_columns(alloc, &[b"Database"])?;
+    let rows = Items::new(Vec::new(alloc));
+    Ok(ResultSet { columns, rows })
+}
+
+/// SHOW WARNINGS.
+pub(crate) fn warnings(alloc: Global) -> Result<ResultSet, NoMemory>
+    ensures { IfOk result (λ set. set ≡ warnings) }
+{
+    let columns = text_columns(alloc, &[b"Level", b"Code", b"Message"])?;
+    let rows = Items::new(Vec::new(alloc));
+    Ok(ResultSet { columns, rows })
+}
+
+/// SHOW TABLES.
+pub(crate) fn tables<T: Catalog>(alloc: Global, catalog: &T) -> Result<ResultSet, NoMemory>
+    ensures { IfOk result (λ set. set ≡ tables (T.confs catalog.now)) }
+{
+    let columns = text_columns(alloc, &[b"Index", b"Type"])?;
+    let rows = index_rows(alloc, catalog)?;
+    Ok(ResultSet { columns, rows })
+}
+
+fn index_rows<T: Catalog>(alloc: Global, catalog: &T) -> Result<Items<Items<Cell>>, NoMemory>
+    ensures { IfOk result (λ rows. rows ≡ map (λ conf. pair conf.schema.name (codes "rt")) (T.confs catalog.now)) }
+{
+    let mut rows = Vec::new(alloc);
+    'indexes: for index in 0..catalog.count() {
+        let conf = catalog.conf(index);
+        rows.push(pair(alloc, conf.schema.name.as_bytes(), b"rt")?)?;
+    }
+    Ok(Items::new(rows))
+}
+
+/// DESCRIBE.
+pub(crate) fn description(alloc: Global, schema: &Schema) -> Result<ResultSet, NoMemory>
+    ensures { IfOk result (λ set. set ≡ description schema.now) }
+{
+    let columns = text_columns(alloc, &[b"Field", b"Type"])?;
+    let rows = description_rows(alloc, schema)?;
+    Ok(ResultSet { columns, rows })
+}
+
+fn description_rows(alloc: Global, schema: &Schema) -> Result<Items<Items<Cell>>, NoMemory>
+    ensures { IfOk result (λ rows. rows ≡ description_rows schema.now) }
+{
+    let mut rows = Vec::new(alloc);
+    rows.push(pair(alloc, ID, b"bigint")?)?;
+    'fields: for field in schema.fields.as_slice() {
+        rows.push(pair(alloc, field.as_bytes(), b"field")?)?;
+    }
+    'attrs: for attr in schema.attrs.as_slice() {
+        rows.push(pair(alloc, attr.0.as_bytes(), kind_text(attr.1))?)?;
+    }
+    Ok(Items::new(rows))
+}
+
+/// The kind of an attribute, as the configuration names it.
+fn kind_text(kind: AttrKind) -> &'static [u8]
+    ensures { result.now ≡ kind_text kind }
+{
+    match kind {
+        AttrKind::Uint => b"uint",
+        AttrKind::Bool => b"bool",
+        AttrKind::Bigint => b"bigint",
+        AttrKind::Timestamp => b"timestamp",
+    }
+}

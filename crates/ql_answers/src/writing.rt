@@ -1,0 +1,206 @@
+//! INSERT: which columns its values are for, what is wrong with it, and the documents that its rows become.
+ghost use Rattle.std.specs.List.{list_any};
+ghost use Rattle.std.specs.Str.{bytes_eq, is_utf8};
+ghost use Rattle.ql_answers.specs.Columns.{target_of};
+ghost use Rattle.std.specs.Prelude.{◌≡◌, [], filter_map, length, option_copied, IfOk};
+ghost use Rattle.ql_answers.specs.Writing.{columns_fault, holds, id_fault, name_fault, names_fault, is_between, kind_of, row_fault, rows_fault, targets, value_fault, values_fault};
+
+use crate::columns::{ID, Target, all_targets, name_of, target_of};
+use crate::refusal::{
+    Refusal, column_twice, id_missing, id_out_of_range, unknown_column, value_out_of_range,
+    wrong_kind, wrong_number,
+};
+use doc_types::{AttrKind, Schema};
+use ql_parse::Val;
+use srch_base::{Items, Name, NoMemory};
+use std::alloc::Global;
+
+/// The columns that a row's values are for.
+pub(crate) fn targets(
+    alloc: Global,
+    schema: &Schema,
+    columns: Option<&[Name]>,
+) -> Result<Vec<Target>, NoMemory>
+    ensures { IfOk result (λ list. list.items ≡ targets schema.now (option_copied columns.entry)) }
+{
+    match columns {
+        None => all_targets(alloc, schema),
+        Some(names) => named_targets(alloc, schema, names),
+    }
+}
+
+fn named_targets(alloc: Global, schema: &Schema, names: &[Name]) -> Result<Vec<Target>, NoMemory>
+    ensures { IfOk result (λ list. list.items ≡ filter_map (target_of schema.now) names.now) }
+{
+    let list = names
+        .iter()
+        .filter_map(|name| target_of(schema, name.as_bytes()))
+        .collect(alloc)?;
+    Ok(list)
+}
+
+/// What is wrong with the columns that a statement names.
+pub(crate) fn columns_fault(schema: &Schema, columns: Option<&[Name]>) -> Option<Refusal>
+    ensures { result ≡ columns_fault schema.now (option_copied columns.entry) }
+{
+    match columns {
+        None => None,
+        Some(names) => match names_fault(schema, names) {
+            Some(refusal) => Some(refusal),
+            None => id_fault(names),
+        },
+    }
+}
+
+/// The first name, from the left, that no column has, or that stands twice.
+fn names_fault(schema: &Schema, names: &[Name]) -> Option<Refusal>
+    ensures { result ≡ names_fault schema.now [] names.now }
+{
+    'names: for (place, name) in names.iter().enumerate() {
+        match name_fault(schema, &names[..place], name.as_bytes()) {
+            Some(refusal) => return Some(refusal),
+            None => {}
+        }
+    }
+    None
+}
+
+fn name_fault(schema: &Schema, before: &[Name], name: &[u8]) -> Option<Refusal>
+    ensures { result ≡ name_fault schema.now before.now name.now }
+{
+    if target_of(schema, name).is_none() {
+        Some(unknown_column(name))
+    } else if is_among(name, before) {
+        Some(column_twice(name))
+    } else {
+        None
+    }
+}
+
+fn is_among(name: &[u8], names: &[Name]) -> bool
+    ensures { result ≡ list_any (λ other. bytes_eq other name.now) names.now }
+{
+    names.iter().any(|other| other.as_bytes() == name)
+}
+
+fn id_fault(names: &[Name]) -> Option<Refusal>
+    ensures { result ≡ id_fault names.now }
+{
+    if is_among(ID, names) {
+        None
+    } else {
+        Some(id_missing())
+    }
+}
+
+/// The first fault of the rows, from the left: their numbers of values, kinds and ranges.
+pub(crate) fn rows_fault(
+    schema: &Schema,
+    targets: &[Target],
+    rows: &[Items<Val>],
+) -> Option<Refusal>
+    ensures { result ≡ rows_fault schema.now targets.now rows.now }
+{
+    'rows: for row in rows {
+        match row_fault(schema, targets, row.as_slice()) {
+            Some(refusal) => return Some(refusal),
+            None => {}
+        }
+    }
+    None
+}
+
+fn row_fault(schema: &Schema, targets: &[Target], row: &[Val]) -> Option<Refusal>
+    ensures { result ≡ row_fault schema.now targets.now row.now }
+{
+    if row.len() != targets.len() {
+        return Some(wrong_number());
+    }
+    values_fault(schema, targets, row)
+}
+
+fn values_fault(schema: &Schema, targets: &[Target], row: &[Val]) -> Option<Refusal>
+    requires { length row.now ≡ length targets.now }
+    ensures { result ≡ values_fault schema.now targets.now row.now }
+{
+    'values: for (place, value) in row.iter().enumerate() {
+        match value_fault(schema, targets[place], value) {
+            Some(refusal) => return Some(refusal),
+            None => {}
+        }
+    }
+    None
+}
+
+/// What is wrong with a value for a column.
+fn value_fault(schema: &Schema, target: Target, value: &Val) -> Option<Refusal>
+    ensures { result ≡ value_fault schema.now target value.now }
+{
+    match value {
+        Val::Number(number) => number_fault(schema, target, *number),
+        Val::Text(text) => text_fault(schema, target, text.as_bytes()),
+    }
+}
+
+fn number_fault(schema: &Schema, target: Target, number: i128) -> Option<Refusal>
+    ensures { result ≡ value_fault schema.now target (Val.Number number) }
+{
+    match target {
+        Target::Id if 1 <= number && number <= i128::from(u64::MAX) => None,
+        Target::Id => Some(id_out_of_range()),
+        Target::Field(_) => Some(wrong_kind(name_of(schema, target))),
+        Target::Attr(attr) if holds(kind_of(schema, attr), number) => None,
+        Target::Attr(_) => Some(value_out_of_range(name_of(schema, target))),
+    }
+}
+
+fn text_fault(schema: &Schema, target: Target, text: &[u8]) -> Option<Refusal>
+    ensures { result ≡ value_fault schema.now target (Val.Text text.now) }
+{
+    match target {
+        Target::Id => Some(wrong_kind(ID)),
+        Target::Field(_) => {
+            if is_utf8(text) {
+                return None;
+            }
+            Some(wrong_kind(name_of(schema, target)))
+        }
+        Target::Attr(_) => Some(wrong_kind(name_of(schema, target))),
+    }
+}
+
+pub(crate) fn is_utf8(bytes: &[u8]) -> bool
+    ensures { result ≡ is_utf8 bytes.now }
+{
+    match str::from_utf8(bytes) {
+        Ok(_) => true,
+        Err(_) => false,
+    }
+}
+
+/// The kind of an attribute; an attribute that the schema doesn't have counts as `Uint`.
+pub(crate) fn kind_of(schema: &Schema, attr: usize) -> AttrKind
+    ensures { result ≡ kind_of schema.now attr }
+{
+    match schema.attrs.as_slice().get(attr) {
+        Some(attr) => attr.1,
+        None => AttrKind::Uint,
+    }
+}
+
+/// Whether an attribute of the kind holds the number.
+fn holds(kind: AttrKind, number: i128) -> bool
+    ensures { result ≡ holds kind number }
+{
+    match kind {
+        AttrKind::Uint | AttrKind::Timestamp => is_between(0, i128::from(u32::MAX), number),
+        AttrKind::Bool => is_between(0, 1, number),
+        AttrKind::Bigint => is_between(i128::from(i64::MIN), i128::from(i64::MAX), number),
+    }
+}
+
+fn is_between(low: i128, high: i128, number: i128) -> bool
+    ensures { result ≡ is_between low high number }
+{
+    low <= number && number <= high
+}
