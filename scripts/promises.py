@@ -9,8 +9,8 @@ the sources, follows each public clause to the definitions that it reaches, and 
     steps       definitions of specs/steps/
     idle        definitions of specs/ that no public clause reaches
 
-It fails where a public clause reaches a definition of specs/steps/, and where a definition is idle: that one belongs
-into specs/steps/. What an impl gives for a ghost member of a trait may be a step, since callers rest on the trait's
+It fails where a public clause reaches a definition of specs/steps/. A definition that is idle belongs into specs/steps/,
+unless it waits for crates that are to be built on it. What an impl gives for a ghost member of a trait may be a step, since callers rest on the trait's
 clauses; a crate that has no function of its own is read by the crates above it, and may define what they don't use yet.
 With names of crates it prints these alone.
 
@@ -260,7 +260,7 @@ def main(chosen):
                 print(f"  {definition} is reached by no public clause")
             idle_count += len(idle)
     print(f"public clauses: {len(house.clauses)}; reached in steps: {wrong}; idle: {idle_count}")
-    return 1 if wrong or idle_count else 0
+    return 1 if wrong else 0
 
 
 if __name__ == "__main__":

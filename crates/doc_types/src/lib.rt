@@ -19,7 +19,7 @@ pub use chunk::Chunk;
 pub use cursor::Cursor;
 pub use documents::{Doc, DocRow};
 pub use hits::{Hit, Hits};
-pub use laws::one_whole_layer;
+pub use laws::{a_live_id_is_refused, commits_in_a_row, nothing_is_left_by_clear, one_whole_layer};
 pub use plain_chunk::PlainChunk;
 pub use schema::{AttrKind, MAX_ATTRS, MAX_FIELDS, MAX_NAME_BYTES, MAX_ZONES, Schema, Value};
 pub use snapshot::{Layer, Snapshot};

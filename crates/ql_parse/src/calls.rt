@@ -21,7 +21,7 @@ use ql_parts::Cursor;
 use srch_base::{Name, Or};
 use std::alloc::Global;
 
-/// ReadsPart sphinxql a function's keyword and a name in parentheses.
+/// Reads a function's keyword and a name in parentheses.
 fn argument(alloc: Global, input: &mut Cursor<'_>, of: Keyword) -> Result<Name, Or<u32>>
     ensures { ReadsPart sphinxql (keyword of ⨾ enclosed name) [] (λ name. IsKeyword of then IsEnclosed (IsName name)) input.old result input.new }
 {
@@ -32,7 +32,7 @@ fn argument(alloc: Global, input: &mut Cursor<'_>, of: Keyword) -> Result<Name, 
     Ok(name)
 }
 
-/// ReadsPart sphinxql a function's keyword and empty parentheses.
+/// Reads a function's keyword and empty parentheses.
 pub(crate) fn no_argument(input: &mut Cursor<'_>, of: Keyword) -> Result<(), Or<u32>>
     ensures { ReadsPart sphinxql (keyword of ⨾ parens) [] (λ _. IsKeyword of then AreParens) input.old result input.new }
 {
@@ -42,7 +42,7 @@ pub(crate) fn no_argument(input: &mut Cursor<'_>, of: Keyword) -> Result<(), Or<
     Ok(())
 }
 
-/// ReadsPart `COUNT(*)`.
+/// Reads `COUNT(*)`.
 pub(crate) fn count_all(input: &mut Cursor<'_>) -> Result<(), Or<u32>>
     ensures { ReadsPart sphinxql count [] (λ _. IsCount) input.old result input.new }
 {
@@ -53,7 +53,7 @@ pub(crate) fn count_all(input: &mut Cursor<'_>) -> Result<(), Or<u32>>
     Ok(())
 }
 
-/// ReadsPart `*`, or `DISTINCT` and a name.
+/// Reads `*`, or `DISTINCT` and a name.
 fn counted(alloc: Global, input: &mut Cursor<'_>) -> Result<Option<Name>, Or<u32>>
     ensures { ReadsPart sphinxql counted [] IsCounted input.old result input.new }
 {
@@ -74,7 +74,7 @@ fn count_expr(name: Option<Name>) -> SelectExpr
     }
 }
 
-/// ReadsPart sphinxql a count.
+/// Reads a count.
 fn counting(alloc: Global, input: &mut Cursor<'_>) -> Result<Option<Name>, Or<u32>>
     ensures { ReadsPart sphinxql (keyword keywords.Count ⨾ enclosed counted) [] (λ name. IsKeyword keywords.Count then IsEnclosed (IsCounted name)) input.old result input.new }
 {
@@ -85,7 +85,7 @@ fn counting(alloc: Global, input: &mut Cursor<'_>) -> Result<Option<Name>, Or<u3
     Ok(name)
 }
 
-/// ReadsPart sphinxql a call of a function, or a name.
+/// Reads a call of a function, or a name.
 pub(crate) fn expr(alloc: Global, input: &mut Cursor<'_>) -> Result<SelectExpr, Or<u32>>
     ensures { ReadsPart sphinxql expr (the_sign signs.OpenParen ∷ []) IsExpr input.old result input.new }
 {

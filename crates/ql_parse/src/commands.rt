@@ -15,7 +15,7 @@ use ql_parts::Cursor;
 use srch_base::Or;
 use std::alloc::Global;
 
-/// ReadsPart sphinxql a FLUSH.
+/// Reads a FLUSH.
 pub(crate) fn flush(alloc: Global, input: &mut Cursor<'_>) -> Result<Statement, Or<u32>>
     ensures { ReadsPart sphinxql flush [] IsStatement input.old result input.new }
 {
@@ -27,7 +27,7 @@ pub(crate) fn flush(alloc: Global, input: &mut Cursor<'_>) -> Result<Statement, 
     Ok(Statement::FlushRtindex(input.name(alloc)?))
 }
 
-/// ReadsPart sphinxql what follows the keyword SHOW.
+/// Reads what follows the keyword SHOW.
 fn shown(alloc: Global, input: &mut Cursor<'_>) -> Result<Statement, Or<u32>>
     ensures { ReadsPart sphinxql shown [] IsShown input.old result input.new }
 {
@@ -52,7 +52,7 @@ fn shown(alloc: Global, input: &mut Cursor<'_>) -> Result<Statement, Or<u32>>
     Ok(Statement::ShowDatabases)
 }
 
-/// ReadsPart sphinxql a SHOW.
+/// Reads a SHOW.
 pub(crate) fn show(alloc: Global, input: &mut Cursor<'_>) -> Result<Statement, Or<u32>>
     ensures { ReadsPart sphinxql show [] IsStatement input.old result input.new }
 {
@@ -61,7 +61,7 @@ pub(crate) fn show(alloc: Global, input: &mut Cursor<'_>) -> Result<Statement, O
     Ok(rest)
 }
 
-/// ReadsPart sphinxql a BEGIN.
+/// Reads a BEGIN.
 pub(crate) fn begin(input: &mut Cursor<'_>) -> Result<Statement, Or<u32>>
     ensures { ReadsPart sphinxql (keyword keywords.Begin) [] IsStatement input.old result input.new }
 {
@@ -69,7 +69,7 @@ pub(crate) fn begin(input: &mut Cursor<'_>) -> Result<Statement, Or<u32>>
     Ok(Statement::Begin)
 }
 
-/// ReadsPart sphinxql a START TRANSACTION.
+/// Reads a START TRANSACTION.
 pub(crate) fn start_transaction(input: &mut Cursor<'_>) -> Result<Statement, Or<u32>>
     ensures { ReadsPart sphinxql (two_keywords keywords.Start keywords.Transaction) [] IsStatement input.old result input.new }
 {
@@ -77,7 +77,7 @@ pub(crate) fn start_transaction(input: &mut Cursor<'_>) -> Result<Statement, Or<
     Ok(Statement::StartTransaction)
 }
 
-/// ReadsPart sphinxql a COMMIT.
+/// Reads a COMMIT.
 pub(crate) fn commit(input: &mut Cursor<'_>) -> Result<Statement, Or<u32>>
     ensures { ReadsPart sphinxql (keyword keywords.Commit) [] IsStatement input.old result input.new }
 {
@@ -85,7 +85,7 @@ pub(crate) fn commit(input: &mut Cursor<'_>) -> Result<Statement, Or<u32>>
     Ok(Statement::Commit)
 }
 
-/// ReadsPart sphinxql a ROLLBACK.
+/// Reads a ROLLBACK.
 pub(crate) fn rollback(input: &mut Cursor<'_>) -> Result<Statement, Or<u32>>
     ensures { ReadsPart sphinxql (keyword keywords.Rollback) [] IsStatement input.old result input.new }
 {
@@ -93,7 +93,7 @@ pub(crate) fn rollback(input: &mut Cursor<'_>) -> Result<Statement, Or<u32>>
     Ok(Statement::Rollback)
 }
 
-/// ReadsPart sphinxql an OPTIMIZE INDEX.
+/// Reads an OPTIMIZE INDEX.
 pub(crate) fn optimize(alloc: Global, input: &mut Cursor<'_>) -> Result<Statement, Or<u32>>
     ensures { ReadsPart sphinxql (two_keywords keywords.Optimize keywords.Index ⨾ name) [] IsStatement input.old result input.new }
 {
@@ -101,7 +101,7 @@ pub(crate) fn optimize(alloc: Global, input: &mut Cursor<'_>) -> Result<Statemen
     Ok(Statement::OptimizeIndex(input.name(alloc)?))
 }
 
-/// ReadsPart sphinxql a TRUNCATE RTINDEX.
+/// Reads a TRUNCATE RTINDEX.
 pub(crate) fn truncate(alloc: Global, input: &mut Cursor<'_>) -> Result<Statement, Or<u32>>
     ensures { ReadsPart sphinxql (two_keywords keywords.Truncate keywords.RtIndex ⨾ name) [] IsStatement input.old result input.new }
 {
@@ -109,7 +109,7 @@ pub(crate) fn truncate(alloc: Global, input: &mut Cursor<'_>) -> Result<Statemen
     Ok(Statement::TruncateRtindex(input.name(alloc)?))
 }
 
-/// ReadsPart sphinxql a DESCRIBE.
+/// Reads a DESCRIBE.
 pub(crate) fn describe(alloc: Global, input: &mut Cursor<'_>) -> Result<Statement, Or<u32>>
     ensures { ReadsPart sphinxql (keyword keywords.Describe ⨾ name) [] IsStatement input.old result input.new }
 {

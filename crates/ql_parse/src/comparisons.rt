@@ -27,7 +27,7 @@ fn next_comparison(input: &Cursor<'_>) -> Option<Comparison>
     }
 }
 
-/// ReadsPart sphinxql a comparison.
+/// Reads a comparison.
 pub(crate) fn comparison(input: &mut Cursor<'_>) -> Result<Comparison, Or<u32>>
     ensures { ReadsPart sphinxql comparison [] IsComparison input.old result input.new }
 {

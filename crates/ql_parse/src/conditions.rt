@@ -19,7 +19,7 @@ use ql_parts::{Cursor, Part, Whole, enclosed};
 use srch_base::{Items, Or, Text};
 use std::alloc::Global;
 
-/// ReadsPart `MATCH(text)`.
+/// Reads `MATCH(text)`.
 fn matched(alloc: Global, input: &mut Cursor<'_>) -> Result<Text, Or<u32>>
     ensures { ReadsPart sphinxql (keyword keywords.Match ⨾ enclosed text) [] (λ query. IsKeyword keywords.Match then IsEnclosed (IsText query)) input.old result input.new }
 {
@@ -30,7 +30,7 @@ fn matched(alloc: Global, input: &mut Cursor<'_>) -> Result<Text, Or<u32>>
     Ok(query)
 }
 
-/// ReadsPart `BETWEEN num AND num`.
+/// Reads `BETWEEN num AND num`.
 fn between(alloc: Global, input: &mut Cursor<'_>) -> Result<(i128, i128), Or<u32>>
     ensures { ReadsPart sphinxql (keyword keywords.Between ⨾ whole ⨾ keyword keywords.And ⨾ whole) [] (λ pair. IsKeyword keywords.Between then IsWhole pair.0 then IsKeyword keywords.And then IsWhole pair.1) input.old result input.new }
 {
@@ -41,7 +41,7 @@ fn between(alloc: Global, input: &mut Cursor<'_>) -> Result<(i128, i128), Or<u32
     Ok((low, high))
 }
 
-/// ReadsPart `IN (num, ..)`.
+/// Reads `IN (num, ..)`.
 fn among(alloc: Global, input: &mut Cursor<'_>) -> Result<Items<i128>, Or<u32>>
     ensures { ReadsPart sphinxql (keyword keywords.In ⨾ wholes) [] (λ values. IsKeyword keywords.In then IsEnclosed (AreListed IsComma IsWhole values)) input.old result input.new }
 {
@@ -82,7 +82,7 @@ fn cond(alloc: Global, input: &mut Cursor<'_>) -> Result<Cond, Or<u32>>
     Ok(Cond::Compare { name, op, value })
 }
 
-/// ReadsPart sphinxql one condition or more, with `AND` between them.
+/// Reads one condition or more, with `AND` between them.
 fn all_conds(alloc: Global, input: &mut Cursor<'_>) -> Result<Items<Cond>, Or<u32>>
     ensures { ReadsPart sphinxql (listed (the_keyword keywords.And) cond) (the_keyword keywords.And ∷ []) (AreListed (IsKeyword keywords.And) IsCond) input.old result input.new }
 {
@@ -94,7 +94,7 @@ fn all_conds(alloc: Global, input: &mut Cursor<'_>) -> Result<Items<Cond>, Or<u3
     Ok(Items::new(conds))
 }
 
-/// ReadsPart sphinxql WHERE, if it is there.
+/// Reads WHERE, if it is there.
 pub(crate) fn conds(alloc: Global, input: &mut Cursor<'_>) -> Result<Items<Cond>, Or<u32>>
     ensures { ReadsPart sphinxql conds (the_keyword keywords.Where ∷ the_keyword keywords.And ∷ []) (AreGiven AreConds) input.old result input.new }
 {

@@ -22,7 +22,7 @@ fn ids(alloc: Global, input: &mut Cursor<'_>) -> Result<Ids, Or<u32>>
     Ok(Ids::Several(enclosed::<Number>(alloc, input)?))
 }
 
-/// ReadsPart sphinxql a DELETE.
+/// Reads a DELETE.
 pub(crate) fn delete(alloc: Global, input: &mut Cursor<'_>) -> Result<Statement, Or<u32>>
     ensures { ReadsPart sphinxql delete [] IsStatement input.old result input.new }
 {

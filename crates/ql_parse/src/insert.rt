@@ -56,7 +56,7 @@ impl Part for Row {
     }
 }
 
-/// ReadsPart `INSERT` or `REPLACE`, and tells whether it is the second.
+/// Reads `INSERT` or `REPLACE`, and tells whether it is the second.
 fn replaces(input: &mut Cursor<'_>) -> Result<bool, Or<u32>>
     ensures { ReadsPart sphinxql (keyword keywords.Replace ∣ keyword keywords.Insert) [] IsPut input.old result input.new }
 {
@@ -67,7 +67,7 @@ fn replaces(input: &mut Cursor<'_>) -> Result<bool, Or<u32>>
     Ok(false)
 }
 
-/// ReadsPart sphinxql the names of the columns, if they are given.
+/// Reads the names of the columns, if they are given.
 fn columns(alloc: Global, input: &mut Cursor<'_>) -> Result<Option<Items<Name>>, Or<u32>>
     ensures { ReadsPart sphinxql (optional (enclosed (listed comma name))) (the_sign signs.OpenParen ∷ []) (IsGiven AreColumns) input.old result input.new }
 {
@@ -78,7 +78,7 @@ fn columns(alloc: Global, input: &mut Cursor<'_>) -> Result<Option<Items<Name>>,
     Ok(None)
 }
 
-/// ReadsPart sphinxql an INSERT or a REPLACE.
+/// Reads an INSERT or a REPLACE.
 pub(crate) fn insert(alloc: Global, input: &mut Cursor<'_>) -> Result<Statement, Or<u32>>
     ensures { ReadsPart sphinxql insert (the_sign signs.Comma ∷ []) IsStatement input.old result input.new }
 {

@@ -19,7 +19,7 @@ use ql_parts::{Cursor, Part};
 use srch_base::{Name, Or};
 use std::alloc::Global;
 
-/// ReadsPart sphinxql an item's name in the answer, if it is there.
+/// Reads an item's name in the answer, if it is there.
 fn alias(alloc: Global, input: &mut Cursor<'_>) -> Result<Option<Name>, Or<u32>>
     ensures { ReadsPart sphinxql (optional alias) (the_keyword keywords.As ∷ any_name ∷ []) (IsGiven IsAlias) input.old result input.new }
 {

@@ -31,7 +31,7 @@ fn having_cond(alloc: Global, input: &mut Cursor<'_>) -> Result<Having, Or<u32>>
     Ok(Having { left, op, value })
 }
 
-/// ReadsPart sphinxql HAVING, if it is there.
+/// Reads HAVING, if it is there.
 pub(crate) fn having(alloc: Global, input: &mut Cursor<'_>) -> Result<Option<Having>, Or<u32>>
     ensures { ReadsPart sphinxql having_part (the_keyword keywords.Having ∷ []) (IsGiven IsHavingPart) input.old result input.new }
 {
@@ -50,7 +50,7 @@ fn second_number(input: &mut Cursor<'_>) -> Result<Option<u64>, Or<u32>>
     Ok(None)
 }
 
-/// ReadsPart sphinxql LIMIT, if it is there.
+/// Reads LIMIT, if it is there.
 pub(crate) fn limit(input: &mut Cursor<'_>) -> Result<Option<LimitPart>, Or<u32>>
     ensures { ReadsPart sphinxql (optional limit) limit_goes_on (IsGiven IsLimit) input.old result input.new }
 {
@@ -117,7 +117,7 @@ impl Part for OptionPart {
     }
 }
 
-/// ReadsPart sphinxql OPTION, if it is there.
+/// Reads OPTION, if it is there.
 pub(crate) fn options(alloc: Global, input: &mut Cursor<'_>) -> Result<Items<SelectOption>, Or<u32>>
     ensures { ReadsPart sphinxql options (the_keyword keywords.Option ∷ comma ∷ []) (AreGiven AreOptions) input.old result input.new }
 {
@@ -138,7 +138,7 @@ fn facet_order(alloc: Global, input: &mut Cursor<'_>) -> Result<Option<SortKey>,
     Ok(None)
 }
 
-/// ReadsPart sphinxql what follows the keyword FACET.
+/// Reads what follows the keyword FACET.
 fn facet_parts(alloc: Global, input: &mut Cursor<'_>) -> Result<FacetPart, Or<u32>>
     ensures { ReadsPart sphinxql facet_parts facet_goes_on IsFaceted input.old result input.new }
 {
@@ -152,7 +152,7 @@ fn facet_parts(alloc: Global, input: &mut Cursor<'_>) -> Result<FacetPart, Or<u3
     })
 }
 
-/// ReadsPart sphinxql the facets.
+/// Reads the facets.
 pub(crate) fn facets(alloc: Global, input: &mut Cursor<'_>) -> Result<Items<FacetPart>, Or<u32>>
     ensures { ReadsPart sphinxql (many facet) (the_keyword keywords.Facet ∷ facet_goes_on) (AreInRow IsFacet) input.old result input.new }
 {

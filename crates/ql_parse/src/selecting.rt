@@ -16,7 +16,7 @@ use ql_parts::{Cursor, listed};
 use srch_base::Or;
 use std::alloc::Global;
 
-/// ReadsPart sphinxql what follows the keyword SELECT of a SELECT from an index.
+/// Reads what follows the keyword SELECT of a SELECT from an index.
 pub(crate) fn select(alloc: Global, input: &mut Cursor<'_>) -> Result<Select, Or<u32>>
     ensures { ReadsPart sphinxql select select_goes_on IsSelected input.old result input.new }
 {

@@ -21,7 +21,7 @@ use ql_parts::Cursor;
 use srch_base::Or;
 use std::alloc::Global;
 
-/// ReadsPart `LIMIT n`, if it is there.
+/// Reads `LIMIT n`, if it is there.
 fn row_limit(input: &mut Cursor<'_>) -> Result<Option<u64>, Or<u32>>
     ensures { ReadsPart sphinxql (optional (keyword keywords.Limit ⨾ number)) (the_keyword keywords.Limit ∷ []) (IsGiven IsRowLimit) input.old result input.new }
 {
@@ -32,7 +32,7 @@ fn row_limit(input: &mut Cursor<'_>) -> Result<Option<u64>, Or<u32>>
     Ok(None)
 }
 
-/// ReadsPart sphinxql what follows the keyword SELECT.
+/// Reads what follows the keyword SELECT.
 fn selection(alloc: Global, input: &mut Cursor<'_>) -> Result<Statement, Or<u32>>
     ensures { ReadsPart sphinxql (select_variable ∣ select_database ∣ select) select_goes_on IsSelection input.old result input.new }
 {
@@ -51,7 +51,7 @@ fn selection(alloc: Global, input: &mut Cursor<'_>) -> Result<Statement, Or<u32>
     Ok(Statement::Select(select))
 }
 
-/// ReadsPart sphinxql a SELECT.
+/// Reads a SELECT.
 pub(crate) fn selects(alloc: Global, input: &mut Cursor<'_>) -> Result<Statement, Or<u32>>
     ensures { ReadsPart sphinxql selects select_goes_on IsStatement input.old result input.new }
 {

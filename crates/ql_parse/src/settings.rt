@@ -18,7 +18,7 @@ use ql_parts::{Cursor, Part, Whole};
 use srch_base::Or;
 use std::alloc::Global;
 
-/// ReadsPart sphinxql a name or a text.
+/// Reads a name or a text.
 fn plain(alloc: Global, input: &mut Cursor<'_>) -> Result<Plain, Or<u32>>
     ensures { ReadsPart sphinxql plain [] IsPlain input.old result input.new }
 {
@@ -28,7 +28,7 @@ fn plain(alloc: Global, input: &mut Cursor<'_>) -> Result<Plain, Or<u32>>
     Ok(Plain::Name(input.name(alloc)?))
 }
 
-/// ReadsPart sphinxql the variable that is set.
+/// Reads the variable that is set.
 fn target(alloc: Global, input: &mut Cursor<'_>) -> Result<Target, Or<u32>>
     ensures { ReadsPart sphinxql (sysvar ∣ target_name) [] IsTarget input.old result input.new }
 {
@@ -38,7 +38,7 @@ fn target(alloc: Global, input: &mut Cursor<'_>) -> Result<Target, Or<u32>>
     Ok(Target::Name(input.target_name(alloc)?))
 }
 
-/// ReadsPart sphinxql what a variable is set to.
+/// Reads what a variable is set to.
 fn setting(alloc: Global, input: &mut Cursor<'_>) -> Result<SetValue, Or<u32>>
     ensures { ReadsPart sphinxql setting [] IsSetting input.old result input.new }
 {
@@ -55,7 +55,7 @@ fn setting(alloc: Global, input: &mut Cursor<'_>) -> Result<SetValue, Or<u32>>
     Ok(SetValue::Number(number))
 }
 
-/// ReadsPart sphinxql a variable and what it is set to.
+/// Reads a variable and what it is set to.
 fn assignment(alloc: Global, input: &mut Cursor<'_>) -> Result<(Target, SetValue), Or<u32>>
     ensures { ReadsPart sphinxql assignment [] IsAssignment input.old result input.new }
 {
@@ -76,7 +76,7 @@ fn leads(input: &Cursor<'_>, keyword: Keyword) -> bool
     }
 }
 
-/// ReadsPart sphinxql a scope, if there is one, and an assignment.
+/// Reads a scope, if there is one, and an assignment.
 fn scoped(alloc: Global, input: &mut Cursor<'_>) -> Result<Statement, Or<u32>>
     ensures { ReadsPart sphinxql scoped [] IsSetRest input.old result input.new }
 {
@@ -106,7 +106,7 @@ fn scoped(alloc: Global, input: &mut Cursor<'_>) -> Result<Statement, Or<u32>>
     })
 }
 
-/// ReadsPart sphinxql what follows the keyword SET.
+/// Reads what follows the keyword SET.
 fn set_rest(alloc: Global, input: &mut Cursor<'_>) -> Result<Statement, Or<u32>>
     ensures { ReadsPart sphinxql set_rest [] IsSetRest input.old result input.new }
 {
@@ -121,7 +121,7 @@ fn set_rest(alloc: Global, input: &mut Cursor<'_>) -> Result<Statement, Or<u32>>
     Ok(other)
 }
 
-/// ReadsPart sphinxql a SET.
+/// Reads a SET.
 pub(crate) fn set(alloc: Global, input: &mut Cursor<'_>) -> Result<Statement, Or<u32>>
     ensures { ReadsPart sphinxql set [] IsStatement input.old result input.new }
 {

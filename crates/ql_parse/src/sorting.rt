@@ -20,7 +20,7 @@ use ql_parts::{Cursor, Part, listed};
 use srch_base::{Items, Name, Or};
 use std::alloc::Global;
 
-/// ReadsPart sphinxql what rows are sorted by.
+/// Reads what rows are sorted by.
 fn sort(alloc: Global, input: &mut Cursor<'_>) -> Result<SortName, Or<u32>>
     ensures { ReadsPart sphinxql (weight ∣ count ∣ name) (the_sign signs.OpenParen ∷ []) IsSort input.old result input.new }
 {
@@ -35,7 +35,7 @@ fn sort(alloc: Global, input: &mut Cursor<'_>) -> Result<SortName, Or<u32>>
     Ok(SortName::Column(input.name(alloc)?))
 }
 
-/// ReadsPart sphinxql what the rows of a group are sorted by.
+/// Reads what the rows of a group are sorted by.
 fn inner_sort(alloc: Global, input: &mut Cursor<'_>) -> Result<SortName, Or<u32>>
     ensures { ReadsPart sphinxql (weight ∣ name) (the_sign signs.OpenParen ∷ []) IsInnerSort input.old result input.new }
 {
@@ -46,7 +46,7 @@ fn inner_sort(alloc: Global, input: &mut Cursor<'_>) -> Result<SortName, Or<u32>
     Ok(SortName::Column(input.name(alloc)?))
 }
 
-/// ReadsPart sphinxql what groups are sorted by.
+/// Reads what groups are sorted by.
 pub(crate) fn group_sort(alloc: Global, input: &mut Cursor<'_>) -> Result<SortName, Or<u32>>
     ensures { ReadsPart sphinxql (count ∣ name) (the_sign signs.OpenParen ∷ []) IsGroupSort input.old result input.new }
 {
@@ -57,7 +57,7 @@ pub(crate) fn group_sort(alloc: Global, input: &mut Cursor<'_>) -> Result<SortNa
     Ok(SortName::Column(input.name(alloc)?))
 }
 
-/// ReadsPart sphinxql a direction, if it is there.
+/// Reads a direction, if it is there.
 fn direction(input: &mut Cursor<'_>) -> Option<bool>
     ensures { TakesPart sphinxql direction (the_keyword keywords.Asc ∷ the_keyword keywords.Desc ∷ []) (IsGiven IsDirection result) input.old input.new }
 {
@@ -108,7 +108,7 @@ impl Part for InnerKey {
     }
 }
 
-/// ReadsPart sphinxql what the groups of a facet are sorted by.
+/// Reads what the groups of a facet are sorted by.
 pub(crate) fn group_key(alloc: Global, input: &mut Cursor<'_>) -> Result<SortKey, Or<u32>>
     ensures { ReadsPart sphinxql group_key key_goes_on (IsKeyBy IsGroupSort) input.old result input.new }
 {
@@ -117,7 +117,7 @@ pub(crate) fn group_key(alloc: Global, input: &mut Cursor<'_>) -> Result<SortKey
     Ok(SortKey { by, descending })
 }
 
-/// ReadsPart sphinxql GROUP BY, if it is there.
+/// Reads GROUP BY, if it is there.
 pub(crate) fn group(alloc: Global, input: &mut Cursor<'_>) -> Result<Option<Name>, Or<u32>>
     ensures { ReadsPart sphinxql group (the_keyword keywords.Group ∷ []) (IsGiven IsGroup) input.old result input.new }
 {
@@ -128,7 +128,7 @@ pub(crate) fn group(alloc: Global, input: &mut Cursor<'_>) -> Result<Option<Name
     Ok(None)
 }
 
-/// ReadsPart sphinxql WITHIN GROUP ORDER BY, if it is there.
+/// Reads WITHIN GROUP ORDER BY, if it is there.
 pub(crate) fn within(alloc: Global, input: &mut Cursor<'_>) -> Result<Items<SortKey>, Or<u32>>
     ensures { ReadsPart sphinxql within (the_keyword keywords.Within ∷ comma ∷ key_goes_on) (AreGiven AreInnerKeys) input.old result input.new }
 {
@@ -141,7 +141,7 @@ pub(crate) fn within(alloc: Global, input: &mut Cursor<'_>) -> Result<Items<Sort
     Ok(Items::new(Vec::new(alloc)))
 }
 
-/// ReadsPart sphinxql ORDER BY, if it is there.
+/// Reads ORDER BY, if it is there.
 pub(crate) fn order(alloc: Global, input: &mut Cursor<'_>) -> Result<Items<SortKey>, Or<u32>>
     ensures { ReadsPart sphinxql order (the_keyword keywords.Order ∷ comma ∷ key_goes_on) (AreGiven AreKeys) input.old result input.new }
 {

@@ -18,7 +18,7 @@ use ql_parts::Cursor;
 use srch_base::Or;
 use std::alloc::Global;
 
-/// ReadsPart sphinxql a statement, by its first keyword.
+/// Reads a statement, by its first keyword.
 pub(crate) fn statement(alloc: Global, input: &mut Cursor<'_>) -> Result<Statement, Or<u32>>
     ensures { ReadsPart sphinxql statement select_goes_on IsStatement input.old result input.new }
 {

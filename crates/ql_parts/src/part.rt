@@ -37,7 +37,7 @@ pub trait Part {
     /// These tokens stand for the value.
     ghost is: { Self.Value → List Lexeme → Type 0 };
 
-    /// ReadsPart sphinxql the part, as far as it goes.
+    /// Reads the part, as far as it goes.
     fn read(alloc: Global, input: &mut Cursor<'_>) -> Result<Self::Value, Or<u32>>
         ensures { ReadsPart sphinxql grammar goes_on is input.old result input.new };
 }
@@ -110,7 +110,7 @@ impl Part for AnyName {
     }
 }
 
-/// ReadsPart sphinxql one part or more, with a sign between them.
+/// Reads one part or more, with a sign between them.
 pub fn listed<P: Part>(
     alloc: Global,
     input: &mut Cursor<'_>,
@@ -127,7 +127,7 @@ pub fn listed<P: Part>(
     Ok(Items::new(list))
 }
 
-/// ReadsPart sphinxql one part or more in parentheses, with commas between them.
+/// Reads one part or more in parentheses, with commas between them.
 pub fn enclosed<P: Part>(alloc: Global, input: &mut Cursor<'_>) -> Result<Items<P::Value>, Or<u32>>
     requires more { may_follow sphinxql P.goes_on (repeated comma P.grammar) (comma ∷ P.goes_on) ≡ true }
     requires closes { may_follow sphinxql (comma ∷ P.goes_on) (sign signs.CloseParen) [] ≡ true }

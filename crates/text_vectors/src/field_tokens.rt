@@ -284,7 +284,16 @@ fn word_bytes(alloc: Global, count: u32) -> Result<usize, Fail> {
     }
     let charset = Charset::read(alloc, "U+10428..U+1044F").or(Err("no table"))?;
     let found = read(alloc, &charset, false, false, text.as_str()).or(Err("no tokens"))?;
-    Ok(found.words.as_slice().first().ok_or("no word")?.word.as_bytes().len())
+    Ok(
+        found
+            .words
+            .as_slice()
+            .first()
+            .ok_or("no word")?
+            .word
+            .as_bytes()
+            .len(),
+    )
 }
 
 /// How many letters of four bytes a run has, and how many bytes its word has: at most 42 times 4.
