@@ -2,6 +2,4 @@
 #![tactic(auto)]
 
 #[cfg(test)]
-mod pieces_by_tables;
-#[cfg(test)]
 mod pieces_of_texts;
