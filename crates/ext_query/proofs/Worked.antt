@@ -1,15 +1,13 @@
-use Rattle.std.proofs.Common.{◌≡◌, ℕ, List, [], ◌∷◌, Bool, true, false, refl, ◌&&◌}
+use Rattle.std.proofs.Common.{◌≡◌, ℕ, List, [], ◌∷◌, false, refl, ◌&&◌}
 use Rattle.std.specs.Prelude.{Option, Some, None, codes, if◌then◌else◌, nat_le, map, filter}
 use Rattle.std.specs.Str.{chars}
-use Rattle.query_pieces.specs.declared.piece.Slice.{Slice}
-use Rattle.query_pieces.specs.declared.piece.Piece.{Piece}
 use Rattle.query_pieces.specs.declared.piece.Form.TheVariants as forms
 use Rattle.query_pieces.specs.declared.piece.Names.TheVariants as names
 use Rattle.query_pieces.specs.Operators.{piece, slice, operator_at}
 use Rattle.query_pieces.specs.QueryBytes.{byte, byte_before, run_end}
 use Rattle.ext_query.specs.declared.fault.QueryKind.TheVariants as kinds
 use Rattle.ext_query.specs.QueryWords.{letters_in, runs_in, has_letters}
-use Rattle.ext_query.specs.Marks.{Setting, Mark, Sign, Wrong, marks_of, bare, negates, limits, the_end, opens}
+use Rattle.ext_query.specs.Marks.{Setting, Mark, Sign, Wrong, marks_of, bare}
 
 fold : ℕ → Option ℕ
 fold c = if nat_le 97 c && nat_le c 122 then Some c else None

@@ -1,7 +1,5 @@
 -- What limits stand for. A group begins with the limits around it.
-use Rattle.std.specs.Prelude.{ℕ, ◌+◌, ◌*◌, List, [], ◌∷◌, Bool, true, false, ◌==◌, not, if◌then◌else◌, slice_range}
-use Rattle.std.specs.List.{list_any}
-use Rattle.std.specs.Str.{str_to_ascii_lowercase}
+use Rattle.std.specs.Prelude.{ℕ, ◌+◌, ◌*◌, List, [], ◌∷◌, Bool, ◌==◌, if◌then◌else◌, slice_range}
 use Rattle.query_pieces.specs.declared.piece.Slice.{Slice}
 
 -- the limits in force before a piece, and whether ZONESPAN is in force in its group

@@ -1,11 +1,10 @@
 -- Marks: what each piece of a text means by the pieces before it, and what is wrong with it by itself.
-use Rattle.std.specs.Prelude.{ℕ, ◌+◌, List, [], ◌∷◌, ◌++◌, Bool, true, false, ◌==◌, ◌&&◌, ◌||◌, not, nat_lt, nat_le, Option, Some, None, if◌then◌else◌, find, filter, length, map, bytes_eq}
+use Rattle.std.specs.Prelude.{ℕ, ◌+◌, List, [], ◌∷◌, ◌++◌, Bool, true, false, ◌==◌, ◌&&◌, ◌||◌, not, nat_lt, nat_le, Option, Some, None, if◌then◌else◌, find, length, map, bytes_eq}
 use Rattle.std.specs.List.{list_any}
 use Rattle.std.specs.Str.{str_to_ascii_lowercase}
 use Rattle.std.specs.Str.Parse.{digits_value}
 use Rattle.doc_types.specs.declared.schema.TheConstants.{MAX_NAME_BYTES}
 use Rattle.query_pieces.specs.declared.piece.Slice.{Slice}
-use Rattle.query_pieces.specs.declared.piece.Spelling.{Spelling}
 use Rattle.query_pieces.specs.declared.piece.Number.{Number}
 use Rattle.query_pieces.specs.declared.piece.Number.TheVariants as numbers
 use Rattle.query_pieces.specs.declared.piece.Names.{Names}

@@ -1,6 +1,6 @@
 -- The first fault of a text, by place, and at one place by the order of the kinds.
-use Rattle.std.specs.Prelude.{◌≡◌, ◌≢◌, ◌⊎◌, ◌<◌, ◌≤◌, ℕ, List, [], ◌∷◌, ◌++◌, Bool, true, false, Option, Some, None, Contains, IsSome}
-use Rattle.token_grammar.specs.Values.{Begins, IsStop}
+use Rattle.std.specs.Prelude.{◌≡◌, ◌≢◌, ◌⊎◌, ◌<◌, ◌≤◌, ℕ, List, [], ◌∷◌, ◌++◌, true, false, Some, None, Contains}
+use Rattle.token_grammar.specs.Values.{Begins}
 use Rattle.ext_query.specs.declared.query.Node.{Node}
 use Rattle.ext_query.specs.declared.query.Item.{Item}
 use Rattle.ext_query.specs.declared.fault.QueryKind.{QueryKind}
