@@ -1,8 +1,6 @@
--- documents, and the words in them
-pub mod Documents
--- texts, and what they state
-pub mod Texts
--- what is replied to a statement
+-- the indexes and their documents, and what happens to them
+pub mod Tables
+-- what is replied to a text of statements
 pub mod Statements
 -- a session over a line
 pub mod Session

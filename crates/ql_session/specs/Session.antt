@@ -1,5 +1,5 @@
 -- A session: the machine that answers a line's commands, and a whole session over a line.
-use Rattle.std.specs.Prelude.{◌≡◌, ◌≢◌, ℕ, List, [], ◌∷◌, codes}
+use Rattle.std.specs.Prelude.{◌≡◌, ◌≢◌, ℕ, List, [], ◌∷◌, false, codes}
 use Rattle.srch_base.specs.Moves.{Meters}
 use Rattle.mysql_wire.specs.Packets.{packets_from}
 use Rattle.mysql_wire.specs.Replies.{ok_payload, eof_payload, err_payload}
@@ -7,27 +7,25 @@ use Rattle.mysql_wire.specs.Commands.{Asked, Quit as asks_quit, InitDb, Query, P
 use Rattle.serve_line.specs.Machines.{Machine, Answered}
 use Rattle.serve_line.specs.Line.{IsLine}
 use Rattle.serve_line.specs.declared.line.LinkEnd.{LinkEnd}
-use Rattle.ql_session.specs.Documents.{Tables}
-use Rattle.ql_session.specs.Texts.{Stated, States}
-use Rattle.ql_session.specs.Statements.{State, new_state, status_of, Event, CanHave, Follows, reply, after}
+use Rattle.ql_answers.specs.Sessions.{State, new_state, status_of}
+use Rattle.ql_session.specs.Tables.{Tables, Event, Follows}
+use Rattle.ql_session.specs.Statements.{AnswersText}
 use Rattle.ql_session.specs.declared.session.StepEnd.{StepEnd}
 use Rattle.ql_session.specs.declared.session.StepEnd.TheVariants.{Reply, Quit}
 
 -- A command other than COM_QUIT is answered by these bytes, whose first packet has the number 1, and leaves the session in this state.
 abbrev pub Answers : State → Asked → List Event → List ℕ → State → Type 0
 Answers old asks_quit events bytes new = ⊥
-Answers old (Query text) events bytes new =
-    (statement : Stated) × (event : Event) × States text statement × CanHave statement event
-    × (events ≡ event ∷ []) × (bytes ≡ packets_from 1 (reply old statement event)) × (new ≡ after old statement event)
-Answers old Ping events bytes new = (events ≡ []) × (bytes ≡ packets_from 1 (ok_payload 0 (status_of old) ∷ [])) × (new ≡ old)
-Answers old (InitDb name) events bytes new = (events ≡ []) × (bytes ≡ packets_from 1 (ok_payload 0 (status_of old) ∷ [])) × (new ≡ old)
-Answers old (SetOption option) events bytes new = (events ≡ []) × (bytes ≡ packets_from 1 (eof_payload (status_of old) ∷ [])) × (new ≡ old)
+Answers old (Query text) events bytes new = AnswersText old text events bytes × (new ≡ old)
+Answers old Ping events bytes new = (events ≡ []) × (bytes ≡ packets_from 1 (ok_payload 0 (status_of old false) ∷ [])) × (new ≡ old)
+Answers old (InitDb name) events bytes new = (events ≡ []) × (bytes ≡ packets_from 1 (ok_payload 0 (status_of old false) ∷ [])) × (new ≡ old)
+Answers old (SetOption option) events bytes new = (events ≡ []) × (bytes ≡ packets_from 1 (eof_payload (status_of old false) ∷ [])) × (new ≡ old)
 Answers old (Unknown code) events bytes new =
     (events ≡ []) × (bytes ≡ packets_from 1 (err_payload 1047 (codes "08S01") (codes "unknown command") ∷ [])) × (new ≡ old)
 
 -- the machine that answers a session's commands
 abbrev pub statement_machine : Machine State Event
-statement_machine = record { status = status_of; answers = Answers }
+statement_machine = record { status = λ state. status_of state false; answers = Answers }
 
 -- A command was answered, or it was COM_QUIT and nothing changed.
 abbrev pub TakesStep : StepEnd → State → Asked → Tables → Tables → List ℕ → State → Type 0

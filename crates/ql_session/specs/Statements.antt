@@ -1,131 +1,99 @@
--- The statement machine: what is replied to a statement, by what the store decided, and what becomes of the session.
-use Rattle.std.specs.Prelude.{◌≡◌, ⊤, ℕ, List, [], ◌∷◌, ◌++◌, Bool, true, false, length, take, map, codes, decimal, pos, if◌then◌else◌, Option, Some, None, option_to_list}
-use Rattle.mysql_wire.specs.LengthEncoded.{lenenc}
-use Rattle.mysql_wire.specs.Replies.{ok_payload, err_payload, eof_payload}
-use Rattle.mysql_wire.specs.Rows.{column_payload, row_payload}
-use Rattle.mysql_wire.specs.declared.rows.Column.{Column}
-use Rattle.mysql_wire.specs.declared.rows.ColumnKind.TheVariants as kinds
-use Rattle.mysql_wire.specs.declared.rows.Cell.{Cell}
-use Rattle.mysql_wire.specs.declared.rows.Cell.TheVariants as cells
-use Rattle.doc_types.specs.declared.documents.Doc.{Doc}
+-- The statement machine: what is replied to a text of statements, by what the outside did about each of them.
+use Rattle.std.specs.Prelude.{◌≡◌, ◌≤◌, ◌⊎◌, ⊤, ℕ, List, [], ◌∷◌, ◌++◌, Bool, true, false, length}
+use Rattle.mysql_wire.specs.Packets.{packets_from, sequence_after}
 use Rattle.conf_text.specs.declared.conf.IndexConf.{IndexConf}
-use Rattle.ql_session.specs.Documents.{Tables, HasTitle, IsDocument, PassesLimit, is_one_word, word_of, ids_with, has_id, with_document}
-use Rattle.ql_session.specs.Texts.{Stated, Insert, Search, VersionComment, SetNames, CurrentDatabase, ShowDatabases, Other}
+use Rattle.ql_lex.specs.declared.fault.LexFault.{LexFault}
+use Rattle.ql_lex.specs.Tokens.{AreTokens, FaultAt, Lexeme}
+use Rattle.ql_grammar.specs.declared.fault.ParseFault.{ParseFault}
+use Rattle.ql_grammar.specs.declared.statement.Statement.{Statement}
+use Rattle.ql_grammar.specs.declared.statement.TheConstants.{MAX_STATEMENTS}
+use Rattle.ql_grammar.specs.Packets.{IsFault, IsPacket}
+use Rattle.ql_answers.specs.declared.plan.Plan.{Plan}
+use Rattle.ql_answers.specs.declared.plan.Plan.TheVariants.{Agree, Show, Search, Insert}
+use Rattle.ql_answers.specs.Refusals.{Refused, bad_token, bad_syntax, no_memory}
+use Rattle.ql_answers.specs.Replies.{Reply, Fails, payloads}
+use Rattle.ql_answers.specs.Plans.{Wants, Refuses, TakesMemory}
+use Rattle.ql_answers.specs.Sessions.{State, status_of, Decides, Happened, is_refusal}
+use Rattle.ql_answers.specs.Sessions as happenings
+use Rattle.ql_session.specs.Tables.{Event, Configured, Nothing, NoMemory, Read, Committed, Duplicate}
 
--- what a session keeps between its statements
-pub record State : Type 0 where
-  pub autocommit : Bool
+-- The text is this packet of statements.
+abbrev pub States : List ℕ → List Statement → Type 0
+States text statements = (tokens : List Lexeme) × AreTokens text tokens × IsPacket statements tokens × (length statements ≤ MAX_STATEMENTS)
 
-abbrev pub new_state : State
-new_state = record { autocommit = true }
+-- The text is no packet of statements: no token can be read at a place, or the tokens are no packet.
+abbrev pub RefusesText : List ℕ → Refused → Type 0
+RefusesText text refusal =
+    ((fault : LexFault) × FaultAt text fault.place fault.kind × (refusal ≡ bad_token fault))
+    ⊎ ((tokens : List Lexeme) × (fault : ParseFault) × AreTokens text tokens × IsFault tokens fault × (refusal ≡ bad_syntax fault))
 
--- the status of a packet: 2 while autocommit is 1
-abbrev pub status_of : State → ℕ
-status_of state = if state.autocommit then 2 else 0
+-- The event is what came of the plan.
+abbrev pub Meets : Plan → Event → Type 0
+Meets Agree Nothing = ⊤
+Meets (Show set) Nothing = ⊤
+Meets (Search place word) (Read at front) = at ≡ place
+Meets (Insert place txn) (Committed at ops removed) = (at ≡ place) × (ops ≡ txn.ops)
+Meets (Insert place txn) (Duplicate at ops id) = (at ≡ place) × (ops ≡ txn.ops)
+Meets plan event = ⊥
 
--- What the outside decided about a statement. A front is the index and its documents as the statement met or left them.
-pub data Event : Type 0 where
-  Nothing : Event
-  NoMemory : Event
-  Read : (front : Tables) → Event
-  Committed : (before front : Tables) → Event
-  Duplicate : (id : ℕ) (front : Tables) → Event
-  TooLong : (front : Tables) → Event
-  NotOffered : (front : Tables) → Event
+-- what a session is told of an event
+abbrev pub told : Event → Happened
+told (Configured confs) = happenings.Nothing
+told Nothing = happenings.Nothing
+told NoMemory = happenings.NoMemory
+told (Read place front) = happenings.Read front
+told (Committed place ops removed) = happenings.Committed removed
+told (Duplicate place ops id) = happenings.Duplicate id
 
--- The index takes the document with this id and title.
-pub record Takes (conf : IndexConf) (id : ℕ) (title : List ℕ) (doc : Doc) : Type 0 where
-  pub known : HasTitle conf
-  pub is : IsDocument conf id title doc
+-- The statement is refused, and nothing is asked for.
+abbrev pub IsRefused : List IndexConf → Statement → Event → Reply → Type 0
+IsRefused confs statement event reply = (refusal : Refused) × Refuses confs statement refusal × (event ≡ Nothing) × (reply ≡ Fails refusal)
 
--- The index answers a search for this text.
-pub record Searches (conf : IndexConf) (text : List ℕ) : Type 0 where
-  pub known : HasTitle conf
-  pub word : is_one_word conf text ≡ true
+-- The statement wants something, the event came of it, and the reply says so.
+abbrev pub IsMet : List IndexConf → Statement → Event → Reply → Type 0
+IsMet confs statement event reply = (plan : Plan) × Wants confs statement plan × Meets plan event × Decides plan (told event) reply
 
--- The statement can have the event. Replies of one OK or ERR packet take no memory.
-abbrev pub CanHave : Stated → Event → Type 0
-CanHave (Insert id title) NoMemory = ⊤
-CanHave (Insert id title) (Committed before front) =
-    (doc : Doc) × Takes before.conf id title doc × (has_id id before.documents ≡ false)
-    × (front ≡ record before { documents = with_document before.documents id doc })
-CanHave (Insert id title) (Duplicate live front) =
-    (doc : Doc) × Takes front.conf id title doc × (live ≡ id) × (has_id id front.documents ≡ true)
-CanHave (Insert id title) (TooLong front) = HasTitle front.conf × PassesLimit front.conf title
-CanHave (Insert id title) (NotOffered front) = HasTitle front.conf → ⊥
-CanHave (Search text) NoMemory = ⊤
-CanHave (Search text) (Read front) = Searches front.conf text
-CanHave (Search text) (NotOffered front) = Searches front.conf text → ⊥
-CanHave VersionComment Nothing = ⊤
-CanHave VersionComment NoMemory = ⊤
-CanHave SetNames Nothing = ⊤
-CanHave CurrentDatabase Nothing = ⊤
-CanHave CurrentDatabase NoMemory = ⊤
-CanHave ShowDatabases Nothing = ⊤
-CanHave ShowDatabases NoMemory = ⊤
-CanHave Other Nothing = ⊤
-CanHave statement event = ⊥
+-- The statement takes memory, and that was refused.
+abbrev pub IsWithoutMemory : Statement → Event → Reply → Type 0
+IsWithoutMemory statement event reply = TakesMemory statement × (event ≡ NoMemory) × (reply ≡ Fails no_memory)
 
--- The tables before and after an event.
-abbrev pub Follows : Tables → Event → Tables → Type 0
-Follows old Nothing new = new ≡ old
-Follows old NoMemory new = new ≡ old
-Follows old (Read front) new = (front ≡ old) × (new ≡ old)
-Follows old (Committed before front) new = (before ≡ old) × (new ≡ front)
-Follows old (Duplicate id front) new = (front ≡ old) × (new ≡ old)
-Follows old (TooLong front) new = (front ≡ old) × (new ≡ old)
-Follows old (NotOffered front) new = (front ≡ old) × (new ≡ old)
+-- What is replied to a statement.
+abbrev pub Replies : List IndexConf → Statement → Event → Reply → Type 0
+Replies confs statement event reply = IsRefused confs statement event reply ⊎ IsMet confs statement event reply ⊎ IsWithoutMemory statement event reply
 
--- the payloads of a result set: the number of columns, the columns, EOF, the rows, EOF
-abbrev pub result_set : ℕ → List (List ℕ) → List (List ℕ) → List (List ℕ)
-result_set status columns rows = lenenc (length columns) ∷ columns ++ eof_payload status ∷ rows ++ eof_payload status ∷ []
+-- there is a statement
+abbrev pub is_more : List Statement → Bool
+is_more [] = false
+is_more (statement ∷ statements) = true
 
--- a row of one value
-abbrev pub row : Cell → List ℕ
-row cell = row_payload (cell ∷ [])
+-- Statements are answered one after another, each numbered on from the one before, until they have ended: one that is
+-- refused ends them.
+abbrev pub AreAnswered : List IndexConf → State → ℕ → Bool → List Statement → List Event → List ℕ → Type 0
+AreAnswered confs state seq true statements events bytes = (events ≡ []) × (bytes ≡ [])
+AreAnswered confs state seq false [] events bytes = (events ≡ []) × (bytes ≡ [])
+AreAnswered confs state seq false (statement ∷ rest) events bytes =
+    (event : Event) × (reply : Reply) × (later : List Event) × (tail : List ℕ) × Replies confs statement event reply
+    × (events ≡ event ∷ later) × (bytes ≡ packets_from seq (payloads (status_of state (is_more rest)) reply) ++ tail)
+    × AreAnswered confs state (sequence_after seq (payloads (status_of state (is_more rest)) reply)) (is_refusal reply) rest later tail
 
--- a result set of one column
-abbrev pub column_set : ℕ → Column → List Cell → List (List ℕ)
-column_set status column cells = result_set status (column_payload column ∷ []) (map row cells)
+-- The bytes are one refusal.
+abbrev pub IsRefusal : Refused → List ℕ → Type 0
+IsRefusal refusal bytes = bytes ≡ packets_from 1 (payloads 0 (Fails refusal))
 
-abbrev pub id_cell : ℕ → Cell
-id_cell id = cells.Whole (pos id)
+-- The text was refused as it is, with nothing asked for.
+abbrev pub IsTextRefused : List ℕ → List Event → List ℕ → Type 0
+IsTextRefused text events bytes = (refusal : Refused) × RefusesText text refusal × (events ≡ []) × IsRefusal refusal bytes
 
-abbrev pub text_cell : List ℕ → Cell
-text_cell text = cells.Text text
+-- The statements of the text were answered, by these indexes.
+abbrev pub IsTextRun : State → List ℕ → List Event → List ℕ → Type 0
+IsTextRun state text events bytes =
+    (confs : List IndexConf) × (statements : List Statement) × (later : List Event) × States text statements
+    × (events ≡ Configured confs ∷ later) × AreAnswered confs state 1 false statements later bytes
 
--- ids, a row each
-abbrev pub id_set : ℕ → List ℕ → List (List ℕ)
-id_set status ids = column_set status (record { name = codes "id"; kind = kinds.Unsigned }) (map id_cell ids)
+-- Memory to read the text was refused.
+abbrev pub IsTextUnread : List Event → List ℕ → Type 0
+IsTextUnread events bytes = (events ≡ NoMemory ∷ []) × IsRefusal no_memory bytes
 
--- a text in one row, or no row
-abbrev pub text_set : ℕ → List ℕ → Option (List ℕ) → List (List ℕ)
-text_set status name text = column_set status (record { name = name; kind = kinds.Text }) (map text_cell (option_to_list text))
-
--- ERR 1064 with a text
-abbrev pub refused : List ℕ → List (List ℕ)
-refused text = err_payload 1064 (codes "42000") text ∷ []
-
-abbrev pub out_of_memory : List (List ℕ)
-out_of_memory = err_payload 1037 (codes "HY001") (codes "out of memory") ∷ []
-
--- how many rows a SELECT shows
-abbrev pub page : ℕ
-page = 20
-
--- the payloads of the reply
-abbrev pub reply : State → Stated → Event → List (List ℕ)
-reply state statement NoMemory = out_of_memory
-reply state statement (Committed before front) = ok_payload 1 (status_of state) ∷ []
-reply state statement (Duplicate id front) = refused (codes "duplicate id " ++ decimal id)
-reply state statement (TooLong front) = refused (codes "field 'title' above 65535 positions")
-reply state (Search text) (Read front) = id_set (status_of state) (take page (ids_with (word_of front.conf text) front.documents))
-reply state VersionComment Nothing = text_set (status_of state) (codes "@@version_comment") (Some (codes "searchd"))
-reply state SetNames Nothing = ok_payload 0 (status_of state) ∷ []
-reply state CurrentDatabase Nothing = text_set (status_of state) (codes "database()") (Some [])
-reply state ShowDatabases Nothing = text_set (status_of state) (codes "Database") None
-reply state statement event = refused (codes "not offered yet")
-
--- what becomes of the session
-abbrev pub after : State → Stated → Event → State
-after state statement event = state
+-- What is replied to a text.
+abbrev pub AnswersText : State → List ℕ → List Event → List ℕ → Type 0
+AnswersText state text events bytes = IsTextRefused text events bytes ⊎ IsTextRun state text events bytes ⊎ IsTextUnread events bytes

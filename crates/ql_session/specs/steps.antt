@@ -1,3 +1,1 @@
-pub mod Stating
-pub mod Building
 pub mod Running

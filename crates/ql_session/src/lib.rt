@@ -1,21 +1,17 @@
-//! Statements and sessions: what is replied to the bytes of a line, over the documents of the one index.
+//! Statements and sessions: what is replied to the bytes of a line, over indexes and their documents.
+//!
+//! One road leads from a text to its reply: tokens, statements, what each statement wants of the outside, what the outside
+//! did, and the packets that say so. `ql_lex`, `ql_parse` and `ql_answers` know no store; here they meet the tables.
 #![tactic(auto)]
 
-mod documents;
-mod laws;
 mod line;
-mod replies;
+mod refusing;
+mod running;
 mod session;
-mod statements;
 mod tables;
+mod texts;
 
-pub use laws::{a_document_takes_its_place, a_text_states_one_thing};
 pub use line::serve_link;
 pub use serve_line::LinkEnd;
 pub use session::{Session, StepEnd};
 pub use tables::PlainTables;
-
-#[cfg(test)]
-mod step_tests;
-#[cfg(test)]
-mod tests;

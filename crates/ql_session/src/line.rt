@@ -2,7 +2,7 @@
 ghost use Rattle.std.specs.Prelude.{List};
 ghost use Rattle.srch_base.specs.Moves.{Moves};
 ghost use Rattle.serve_line.specs.Machines.{FollowAll};
-ghost use Rattle.ql_session.specs.Statements.{Event, Follows};
+ghost use Rattle.ql_session.specs.Tables.{Event, Follows};
 ghost use Rattle.ql_session.specs.Session.{Session as IsSession};
 
 use crate::{PlainTables, Session};

@@ -1,90 +1,106 @@
-ghost use Rattle.std.specs.Prelude.{◌≡◌, ◌<◌, [], false, All, IfOk, OnOk, OnErr, length, slice_get, take};
+//! The indexes of a configuration with their documents, which are held in memory from the start of a run to its end.
+//!
+//! A statement finds an index by its place among the others, by `Catalog`; what it wants of the documents is asked here.
+ghost use Rattle.std.specs.Prelude.{◌≡◌, ◌<◌, ◌^◌, ◌≤◌, All, IfOk, Some, length, map, slice_get};
 ghost use Rattle.doc_types.specs.Schemas.{AreZones, IsSchema};
-ghost use Rattle.ql_session.specs.Documents.{has_id, ids_with, with_document};
+ghost use Rattle.doc_types.specs.Transactions.{IsTxnOf};
+ghost use Rattle.plain_store.specs.Commits.{AreInsertions, empty_snapshot};
+ghost use Rattle.ql_session.specs.Tables.{empty_tables};
+ghost use Rattle.ql_session.specs.steps.Running.{Commits};
 
-use crate::documents::has_word;
 use conf_text::IndexConf;
-use doc_types::Doc;
-use srch_base::NoMemory;
+use doc_types::{PlainChunk, Snapshot, Txn};
+use plain_store::{Duplicate, PlainStore};
+use ql_answers::Catalog;
+use srch_base::{NoMemory, Or};
 use std::alloc::Global;
-use std::collections::BTreeMap;
 use std::marker::Model;
 
-/// The one index and its documents, which are held in memory from the start of a run to its end.
-///
-/// Contracts see them as `Tables`.
+/// An index and its documents.
+#[derive(Drop)]
+struct Table {
+    conf: IndexConf,
+    store: PlainStore,
+    ghost of: { store.schema ≡ conf.schema },
+    ghost schema: { IsSchema conf.schema },
+    ghost zones: { AreZones conf.rules.zones },
+}
+
+impl Table {
+    /// An index without documents.
+    fn new(alloc: Global, conf: IndexConf) -> Result<Table, NoMemory>
+        requires schema { IsSchema conf.schema }
+        requires zones { conf.rules.zones ≡ conf.schema.zones }
+        ensures { IfOk result (λ table. (table.conf ≡ conf) × (table.store.snapshot ≡ empty_snapshot)) }
+    {
+        let store = PlainStore::new(alloc, &conf.schema)?;
+        Ok(Table { conf, store })
+    }
+}
+
+/// The indexes and their documents. Contracts see them as `Tables`.
 #[derive(Drop)]
 pub struct PlainTables {
-    conf: IndexConf,
-    documents: BTreeMap<u64, Doc>,
+    tables: Vec<Table>,
+    ghost few: { length tables.items < 2 ^ 16 },
 }
 
 impl Model for PlainTables {
-    ghost use Rattle.doc_types.specs.Schemas.{AreZones};
-    ghost use Rattle.ql_session.specs.Documents.{Tables};
+    ghost use Rattle.std.specs.Prelude.{map};
+    ghost use Rattle.ql_session.specs.Tables.{Tables};
 
     ghost Value = { Tables };
 
-    ghost view = { λ tables. record { conf = tables.conf; documents = tables.documents.entries } };
-
-    ghost invariant = { λ tables. AreZones tables.conf.rules.zones };
+    ghost view = { λ all. record { confs = map (λ table. table.conf) all.tables.items; fronts = map (λ table. table.store.snapshot) all.tables.items } };
 }
 
 impl PlainTables {
-    /// The first of the indexes, without documents.
-    pub fn new(alloc: Global, mut confs: Vec<IndexConf>) -> Result<PlainTables, NoMemory>
-        requires some { 0 < length confs.items }
+    /// These indexes, without documents.
+    pub fn new(alloc: Global, confs: Vec<IndexConf>) -> Result<PlainTables, NoMemory>
+        requires few { length confs.items < 2 ^ 16 }
         requires schemas { All (λ conf. IsSchema conf.schema) confs.items }
         requires zones { All (λ conf. conf.rules.zones ≡ conf.schema.zones) confs.items }
-        ensures { IfOk result (λ tables. (tables.documents ≡ []) × (slice_get confs.items 0 ≡ Some tables.conf)) }
+        ensures { IfOk result (λ tables. tables ≡ empty_tables confs.items) }
     {
-        Ok(PlainTables {
-            conf: confs.swap_remove(0),
-            documents: BTreeMap::new(alloc),
-        })
+        let mut tables = Vec::with_capacity(alloc, confs.len())?;
+        'confs: for conf in confs {
+            let table = Table::new(alloc, conf)?;
+            tables.push(table)?;
+        }
+        Ok(PlainTables { tables })
     }
 
-    /// The index as it is configured.
-    pub fn conf(&self) -> &IndexConf
-        ensures conf { result.now ≡ self.now.conf }
-        ensures zones { AreZones result.now.rules.zones }
+    /// The documents of the index at a place.
+    pub(crate) fn front(&self, place: u16) -> &Snapshot<PlainChunk>
+        requires { place < length self.now.confs }
+        ensures { slice_get self.now.fronts place ≡ Some result.now }
     {
-        &self.conf
+        self.tables[place as usize].store.snapshot()
     }
 
-    /// Whether a document with the id is there.
-    pub(crate) fn contains(&self, id: u64) -> bool
-        ensures { result ≡ has_id id self.now.documents }
-    {
-        self.documents.contains_key(&id)
-    }
-
-    /// Adds a document. It is a condition that none with its id is there.
-    pub(crate) fn insert(&mut self, doc: Doc) -> Result<(), NoMemory>
-        requires { has_id doc.id self.old.documents ≡ false }
-        ensures ok { OnOk result (self.new ≡ record self.old { documents = with_document self.old.documents doc.id doc }) }
-        ensures err { OnErr result (self.new ≡ self.old) }
-    {
-        self.documents.insert(doc.id, doc)?;
-        Ok(())
-    }
-
-    /// The ids of the first `most` documents that have the word, ascending.
-    pub(crate) fn ids_with(
-        &self,
+    /// Commits insertions to the index at a place. After an `Err` nothing was done.
+    pub(crate) fn commit(
+        &mut self,
         alloc: Global,
-        word: &[u8],
-        most: usize,
-    ) -> Result<Vec<u64>, NoMemory>
-        ensures { IfOk result (λ ids. ids.items ≡ take most (ids_with word.now self.now.documents)) }
+        place: u16,
+        txn: &Txn,
+    ) -> Result<u32, Or<Duplicate>>
+        requires of { (conf : IndexConf) × (slice_get self.old.confs place ≡ Some conf) × IsTxnOf conf.schema txn.now }
+        requires insertions { AreInsertions txn.now.ops }
+        ensures { Commits place txn.now.ops self.old result self.new }
     {
-        let ids = self
-            .documents
-            .iter()
-            .filter(|(_, doc)| has_word(doc, word))
-            .map(|(id, _)| *id)
-            .take(most)
-            .collect(alloc)?;
-        Ok(ids)
+        self.tables[place as usize].store.commit(alloc, txn)
+    }
+}
+
+impl Catalog for PlainTables {
+    ghost confs = { λ tables. tables.confs };
+
+    fn count(&self) -> u16 {
+        self.tables.len() as u16
+    }
+
+    fn conf(&self, index: u16) -> &IndexConf {
+        &self.tables[index as usize].conf
     }
 }

@@ -13,7 +13,7 @@ use Rattle.searchd_top.specs.CommandLine.{session}
 use Rattle.searchd_top.specs.Configuring.{Texts, AreReadOf}
 use Rattle.searchd_top.specs.Lending.{CountsOpening}
 use Rattle.searchd_top.specs.Sessions.{Says, ServesOne, WorkedOrFailed, Runs}
-use Rattle.searchd_top.specs.steps.Halves.{Configures, SaysOfDoor, SaysServing, ServesFirst}
+use Rattle.searchd_top.specs.steps.Halves.{Configures, SaysOfDoor, SaysServing, ServesBy}
 use Rattle.searchd_top.specs.Statuses.{status_of}
 use Rattle.searchd_top.specs.declared.host.Host.{Ghosts as HostWords}
 use Rattle.searchd_top.specs.declared.status.Status.{Status}
@@ -32,20 +32,15 @@ module _ {H D K : Type 0} (host : HostWords H D K) (door : DoorWords D K) (link 
   }
 
   -- no door was served
-  pub serves_none : (indexes : List IndexConf) (status : Status) (old new : H) → 0 < length indexes → host.doors_given new ≡ host.doors_given old → host.doors_back new ≡ host.doors_back old
-      → SaysServing status door (host.faults old) (host.faults new) [] [] → ServesFirst host door link indexes status old new
-  serves_none [] status old new some given back says = absurd (omega (arith, some))
-  serves_none (index ∷ indexes) status old new some given back says = (
-    index,
-    refl,
-    record {
-      taken = [];
-      returned = [];
-      gives = given ∙ sym (append-nil (host.doors_given old));
-      takes = back ∙ sym (append-nil (host.doors_back old));
-      holds = (tt, omega arith, tt, says);
-    },
-  )
+  pub serves_none : (indexes : List IndexConf) (status : Status) (old new : H) → host.doors_given new ≡ host.doors_given old → host.doors_back new ≡ host.doors_back old
+      → SaysServing status door (host.faults old) (host.faults new) [] [] → ServesBy host door link indexes status old new
+  serves_none indexes status old new given back says = record {
+    taken = [];
+    returned = [];
+    gives = given ∙ sym (append-nil (host.doors_given old));
+    takes = back ∙ sym (append-nil (host.doors_back old));
+    holds = (tt, omega arith, tt, says);
+  }
 
   -- what is said of the one door
   served_one : (status : Status) (before now : ℕ) (d d' : D) → now ≡ before → SaysOfDoor status door d d' → SaysServing status door before now (d ∷ []) (d' ∷ [])
@@ -64,22 +59,18 @@ module _ {H D K : Type 0} (host : HostWords H D K) (door : DoorWords D K) (link 
   worked (Config line kind) d d' says = absurd says
 
   -- the one door was served and handed back
-  pub serves_door : (indexes : List IndexConf) (index : IndexConf) (status : Status) (old mid new : H) (doors after : List D) (d d' : D)
-      → slice_get indexes 0 ≡ Some index → doors ≡ d ∷ [] → after ≡ d' ∷ []
+  pub serves_door : (indexes : List IndexConf) (status : Status) (old mid new : H) (doors after : List D) (d d' : D)
+      → doors ≡ d ∷ [] → after ≡ d' ∷ []
       → host.doors_given new ≡ host.doors_given mid → host.doors_given mid ≡ host.doors_given old ++ doors
       → host.doors_back new ≡ host.doors_back mid ++ after → host.doors_back mid ≡ host.doors_back old → host.faults new ≡ host.faults old
-      → ServesOne door link index d d' → SaysOfDoor status door d d' → ServesFirst host door link indexes status old new
-  serves_door indexes index status old mid new doors after d d' first one one' given gives back backs still serves says = (
-    index,
-    first,
-    record {
-      taken = d ∷ [];
-      returned = d' ∷ [];
-      gives = given ∙ gives ∙ ap (λ (xs : List D). host.doors_given old ++ xs) one;
-      takes = back ∙ ap (λ (xs : List D). xs ++ after) backs ∙ ap (λ (xs : List D). host.doors_back old ++ xs) one';
-      holds = ((serves, tt), omega arith, (worked status d d' says, tt), served_one status (host.faults old) (host.faults new) d d' still says);
-    },
-  )
+      → ServesOne door link indexes d d' → SaysOfDoor status door d d' → ServesBy host door link indexes status old new
+  serves_door indexes status old mid new doors after d d' one one' given gives back backs still serves says = record {
+    taken = d ∷ [];
+    returned = d' ∷ [];
+    gives = given ∙ gives ∙ ap (λ (xs : List D). host.doors_given old ++ xs) one;
+    takes = back ∙ ap (λ (xs : List D). xs ++ after) backs ∙ ap (λ (xs : List D). host.doors_back old ++ xs) one';
+    holds = ((serves, tt), omega arith, (worked status d d' says, tt), served_one status (host.faults old) (host.faults new) d d' still says);
+  }
 
   -- a host that opened none
   pub says_refused : (fault : OpenFault) (before now : ℕ) → CountsOpening {T = ℕ} (Err fault) before now → SaysServing (status_of fault) door before now [] []
@@ -105,20 +96,20 @@ module _ {H D K : Type 0} (host : HostWords H D K) (door : DoorWords D K) (link 
   says_served texts words Usage before now doors after says = absurd says
   says_served texts words (Config line kind) before now doors after says = absurd says
 
-  -- a file's configuration was read, and then its first index served
+  -- a file's configuration was read, and then a door served by its indexes
   pub runs_configured : (file bytes : List ℕ) (conf : Conf) (status : Status) (old between new : H)
       → AreReadOf (host.text old file) MAX_CONF_BYTES bytes → IsConfOf bytes conf
       → host.doors_given between ≡ host.doors_given old → host.doors_back between ≡ host.doors_back old → host.faults between ≡ host.faults old
-      → ServesFirst host door link conf.indexes status between new → Runs host door link (session file) status old new
-  runs_configured file bytes conf status old between new read is given back still (index, first, hands) = record {
+      → ServesBy host door link conf.indexes status between new → Runs host door link (session file) status old new
+  runs_configured file bytes conf status old between new read is given back still hands = record {
     taken = hands.taken;
     returned = hands.returned;
     gives = hands.gives ∙ ap (λ (xs : List D). xs ++ hands.taken) given;
     takes = hands.takes ∙ ap (λ (xs : List D). xs ++ hands.returned) back;
     holds = (
       inr (
-        index,
-        record { bytes = bytes; read = record { file = file; named = refl; read = read }; conf = conf; is = is; first = first },
+        conf.indexes,
+        record { bytes = bytes; read = record { file = file; named = refl; read = read }; conf = conf; is = is; has = refl },
         hands.holds.0,
       ),
       hands.holds.1,

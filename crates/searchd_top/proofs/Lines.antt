@@ -5,27 +5,22 @@ use Rattle.srch_base.specs.declared.faults.Or.{Or}
 use Rattle.srch_base.specs.declared.faults.Or.TheVariants as causes
 use Rattle.conf_text.specs.Confs.{IsFaultOf, ReadsConf}
 use Rattle.conf_text.specs.declared.fault.ConfFault.{ConfFault}
-use Rattle.ql_session.specs.Documents.{Documents, Tables}
-use Rattle.ql_session.specs.Statements.{Event, Follows}
+use Rattle.ql_session.specs.Tables.{Event, Follows, Tables, empty_tables}
 use Rattle.serve_line.specs.Machines.{FollowAll}
 use Rattle.ql_session.specs.Session.{Session}
 use Rattle.srch_base.specs.Moves.{Moves}
 use Rattle.serve_line.specs.declared.line.LinkEnd.{LinkEnd}
-use Rattle.searchd_top.specs.Sessions.{Serves, empty_index}
-
--- tables without documents are those of an index that has none
-empty_same : (tables : Tables) → tables.documents ≡ [] → tables ≡ empty_index tables.conf
-empty_same tables none = ap (λ (documents : Documents). let t : Tables = record tables { documents = documents } in t) none
+use Rattle.searchd_top.specs.Sessions.{Serves}
 
 -- a line was served over tables without documents
-pub serves_line : {K : Type 0} (link : LinkWords K) (tables left : Tables) (end : LinkEnd) (line served : K) → tables.documents ≡ []
+pub serves_line : {K : Type 0} (link : LinkWords K) (tables left : Tables) (end : LinkEnd) (line served : K) → tables ≡ empty_tables tables.confs
     → Moves link line served (λ before now read written. (events : List Event) × Session 1 before now read written end events × FollowAll Follows tables events left)
-    → Serves link 1 tables.conf line served
+    → Serves link 1 tables.confs line served
 serves_line {K} link tables left end line served none moves = (
   end,
   left,
   let P : Tables → Type 0 = λ t. Moves link line served (λ before now read written. (events : List Event) × Session 1 before now read written end events × FollowAll Follows t events left) in
-      subst P (empty_same tables none) moves,
+      subst P none moves,
 )
 
 -- a fault of a configuration is that of its text

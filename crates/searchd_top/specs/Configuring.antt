@@ -23,13 +23,13 @@ pub record IsFileRead (texts : Texts) (words : List (List ℕ)) (bytes : List �
   pub named : words ≡ session file
   pub read : AreReadOf (texts file) MAX_CONF_BYTES bytes
 
--- The file is a configuration, of which this is the first index.
-pub record IsConfigured (texts : Texts) (words : List (List ℕ)) (index : IndexConf) : Type 0 where
+-- The file is a configuration of these indexes.
+pub record IsConfigured (texts : Texts) (words : List (List ℕ)) (indexes : List IndexConf) : Type 0 where
   pub bytes : List ℕ
   pub read : IsFileRead texts words bytes
   pub conf : Conf
   pub is : IsConfOf bytes conf
-  pub first : slice_get conf.indexes 0 ≡ Some index
+  pub has : conf.indexes ≡ indexes
 
 -- The file is no configuration: this fault comes first.
 pub record IsMisconfigured (texts : Texts) (words : List (List ℕ)) (fault : ConfFault) : Type 0 where

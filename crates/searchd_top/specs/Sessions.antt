@@ -5,8 +5,7 @@ use Rattle.srch_base.specs.Counts.{Rose}
 use Rattle.srch_base.specs.declared.link.Link.{Ghosts as LinkWords}
 use Rattle.srch_base.specs.declared.door.Door.{Ghosts as DoorWords}
 use Rattle.conf_text.specs.declared.conf.IndexConf.{IndexConf}
-use Rattle.ql_session.specs.Documents.{Tables}
-use Rattle.ql_session.specs.Statements.{Event, Follows}
+use Rattle.ql_session.specs.Tables.{Tables, Event, Follows, empty_tables}
 use Rattle.serve_line.specs.Machines.{FollowAll}
 use Rattle.ql_session.specs.Session.{Session}
 use Rattle.srch_base.specs.Moves.{Moves}
@@ -17,20 +16,16 @@ use Rattle.searchd_top.specs.declared.host.Host.{Ghosts as HostWords}
 use Rattle.searchd_top.specs.declared.status.Status.{Status}
 use Rattle.searchd_top.specs.declared.status.Status.TheVariants.{Done, Usage, Config, HostFault, NoMemory}
 
--- an index without documents
-abbrev pub empty_index : IndexConf → Tables
-empty_index index = record { conf = index; documents = [] }
-
--- One whole session of this connection went over the line, by this index, which had no documents at its beginning.
-abbrev pub Serves : {K : Type 0} → LinkWords K → ℕ → IndexConf → K → K → Type 0
-Serves link connection index line served =
+-- One whole session of this connection went over the line, by these indexes, which had no documents at its beginning.
+abbrev pub Serves : {K : Type 0} → LinkWords K → ℕ → List IndexConf → K → K → Type 0
+Serves link connection indexes line served =
     (end : LinkEnd) × (tables : Tables) × Moves link line served (λ before now read written.
-    (events : List Event) × Session connection before now read written end events × FollowAll Follows (empty_index index) events tables)
+    (events : List Event) × Session connection before now read written end events × FollowAll Follows (empty_tables indexes) events tables)
 
 -- The door gave at most one line, and it was handed back, served as connection 1.
-abbrev pub ServesOne : {D K : Type 0} → DoorWords D K → LinkWords K → IndexConf → D → D → Type 0
-ServesOne door link index old new =
-    HandsBack (door.given old) (door.given new) (door.returned old) (door.returned new) (λ lines served. (length lines ≤ 1) × AllZip (Serves link 1 index) lines served)
+abbrev pub ServesOne : {D K : Type 0} → DoorWords D K → LinkWords K → List IndexConf → D → D → Type 0
+ServesOne door link indexes old new =
+    HandsBack (door.given old) (door.given new) (door.returned old) (door.returned new) (λ lines served. (length lines ≤ 1) × AllZip (Serves link 1 indexes) lines served)
 
 -- The door did its work: its count stands still, and it gave a line or has ended.
 abbrev pub DidWork : {D K : Type 0} → DoorWords D K → D → D → Type 0
@@ -53,10 +48,10 @@ Says (Config line kind) texts words door before now doors after = (doors ≡ [])
 Says HostFault texts words door before now doors after = Rose before now ⊎ SomeZip (DoorFailed door) doors after
 Says NoMemory texts words door before now doors after = ⊤
 
--- No door was taken, or the words' file is a configuration, by whose first index each door was served.
+-- No door was taken, or the words' file is a configuration, by whose indexes each door was served.
 abbrev pub ServesAll : {D K : Type 0} → Texts → List (List ℕ) → DoorWords D K → LinkWords K → List D → List D → Type 0
 ServesAll texts words door link doors after =
-    ((doors ≡ []) × (after ≡ [])) ⊎ ((index : IndexConf) × IsConfigured texts words index × AllZip (ServesOne door link index) doors after)
+    ((doors ≡ []) × (after ≡ [])) ⊎ ((indexes : List IndexConf) × IsConfigured texts words indexes × AllZip (ServesOne door link indexes) doors after)
 
 -- A run: the host gave one door at most, which was served and handed back with its work done or its count risen, and the status says how it went.
 abbrev pub Runs : {H D K : Type 0} → HostWords H D K → DoorWords D K → LinkWords K → List (List ℕ) → Status → H → H → Type 0

@@ -6,7 +6,7 @@ ghost use Rattle.searchd_top.specs.CommandLine.{AsksSession, session};
 ghost use Rattle.searchd_top.specs.Statuses.{line_of};
 ghost use Rattle.searchd_top.specs.Printing.{Reports};
 ghost use Rattle.searchd_top.specs.Sessions.{Runs};
-ghost use Rattle.searchd_top.specs.steps.Halves.{Configures, ServesFirst};
+ghost use Rattle.searchd_top.specs.steps.Halves.{Configures, ServesBy};
 
 use crate::command_line::session_file;
 use crate::serving::serve_one;
@@ -18,7 +18,7 @@ use std::alloc::Global;
 
 /// Does what the words ask. `words` are those after the program's name.
 ///
-/// `session --config F` reads the configuration in the file F and serves one line by its first index, from no documents; the
+/// `session --config F` reads the configuration in the file F and serves one line by its indexes, from no documents; the
 /// documents that it commits are gone with the call. A line may end in any way: the status tells of the configuration, the
 /// host and its door alone.
 pub fn searchd<H: Host>(alloc: Global, words: &[String], host: &mut H) -> Status
@@ -68,11 +68,11 @@ fn configure<H: Host>(alloc: Global, file: &str, host: &mut H) -> Result<Conf, S
     }
 }
 
-/// Serves one line of one door by the first index.
+/// Serves one line of one door by these indexes.
 fn serve<H: Host>(alloc: Global, conf: Conf, host: &mut H) -> Status
     requires sound { IsSound conf }
     requires back { length (H.doors_back host.old) ≤ length (H.doors_given host.old) }
-    ensures serves { ServesFirst H.Host H.Entry.Door H.Entry.Line.Link conf.indexes result host.old host.new }
+    ensures serves { ServesBy H.Host H.Entry.Door H.Entry.Line.Link conf.indexes result host.old host.new }
     ensures prints { H.printed host.new ≡ H.printed host.old }
     ensures print_count { H.print_faults host.new ≡ H.print_faults host.old }
 {

@@ -1,5 +1,6 @@
 //! Serving one line of a door. However the line ends, it is handed back.
-ghost use Rattle.std.specs.Prelude.{◌≡◌, []};
+ghost use Rattle.std.specs.Prelude.{◌≡◌};
+ghost use Rattle.ql_session.specs.Tables.{empty_tables};
 ghost use Rattle.searchd_top.specs.Lending.{IsWithin};
 ghost use Rattle.searchd_top.specs.Sessions.{ServesOne};
 ghost use Rattle.searchd_top.specs.steps.Halves.{SaysOfDoor};
@@ -14,9 +15,9 @@ const CONNECTION: u32 = 1;
 
 /// Takes one line from the door, serves it to its end and hands it back.
 pub(crate) fn serve_one<D: Door>(alloc: Global, tables: &mut PlainTables, door: &mut D) -> Status
-    requires empty { tables.old.documents ≡ [] }
+    requires empty { tables.old ≡ empty_tables tables.old.confs }
     requires within { IsWithin D.returned D.given door.old }
-    ensures serves { ServesOne D.Door D.Line.Link tables.old.conf door.old door.new }
+    ensures serves { ServesOne D.Door D.Line.Link tables.old.confs door.old door.new }
     ensures says { SaysOfDoor result D.Door door.old door.new }
 {
     match door.next() {

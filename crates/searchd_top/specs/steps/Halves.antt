@@ -40,10 +40,9 @@ SaysServing NoMemory door before now doors after = ⊤
 SaysServing Usage door before now doors after = ⊥
 SaysServing (Config line kind) door before now doors after = ⊥
 
--- The doors that the host gave were served by the first of these indexes and handed back.
-abbrev pub ServesFirst : {H D K : Type 0} → HostWords H D K → DoorWords D K → LinkWords K → List IndexConf → Status → H → H → Type 0
-ServesFirst host door link indexes status old new =
-    (index : IndexConf) × (slice_get indexes 0 ≡ Some index)
-    × HandsBack (host.doors_given old) (host.doors_given new) (host.doors_back old) (host.doors_back new) (λ doors after.
-    AllZip (ServesOne door link index) doors after × (length doors ≤ 1) × AllZip (WorkedOrFailed door) doors after
+-- The doors that the host gave were served by these indexes and handed back.
+abbrev pub ServesBy : {H D K : Type 0} → HostWords H D K → DoorWords D K → LinkWords K → List IndexConf → Status → H → H → Type 0
+ServesBy host door link indexes status old new =
+    HandsBack (host.doors_given old) (host.doors_given new) (host.doors_back old) (host.doors_back new) (λ doors after.
+    AllZip (ServesOne door link indexes) doors after × (length doors ≤ 1) × AllZip (WorkedOrFailed door) doors after
     × SaysServing status door (host.faults old) (host.faults new) doors after)
