@@ -12,4 +12,6 @@ pub mod Doors
 pub mod Memory
 -- number fields
 pub mod Numbers
+-- the bytes of a word, a name or a text
+pub mod Places
 pub mod steps

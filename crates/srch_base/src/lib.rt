@@ -9,6 +9,7 @@ mod list_door;
 mod memory_link;
 mod numbers;
 mod pieces;
+mod places;
 mod steps;
 mod texts;
 
@@ -20,4 +21,4 @@ pub use list_door::ListDoor;
 pub use memory_link::MemoryLink;
 pub use numbers::{put_u16, put_u32, put_u64, u16_at, u32_at, u64_at};
 pub use steps::Steps;
-pub use texts::{Name, Text, Word};
+pub use texts::{Held, Name, NameMark, Text, TextMark, Word, WordMark};

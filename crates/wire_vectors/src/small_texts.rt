@@ -30,20 +30,38 @@ fn small_texts_copy_and_compare(rt: HostRuntime) -> Result<(), Fail> {
     let word = Word::new(Vec::from_slice(alloc, b"fox")?);
     assert!(rt; word.clone()? == Word::from_slice(alloc, b"fox")?);
     assert!(rt; word < Word::from_slice(alloc, b"foxes")?);
-    assert!(rt; word.into_vec().as_slice() == b"fox".as_slice());
+    assert!(rt; word.into_vec()?.as_slice() == b"fox".as_slice());
     let name = Name::new(Vec::from_slice(alloc, b"title")?);
     assert!(rt; name.clone()? == Name::from_slice(alloc, b"title")?);
     assert!(rt; name > Name::from_slice(alloc, b"Title")?);
-    assert!(rt; name.into_vec().as_slice() == b"title".as_slice());
+    assert!(rt; name.into_vec()?.as_slice() == b"title".as_slice());
     let text = Text::new(Vec::from_slice(alloc, b"select 1")?);
     assert!(rt; text.clone()? == Text::from_slice(alloc, b"select 1")?);
     assert!(rt; text > Text::from_slice(alloc, b"")?);
-    assert!(rt; text.into_vec().as_slice() == b"select 1".as_slice());
+    assert!(rt; text.into_vec()?.as_slice() == b"select 1".as_slice());
     let items = Items::new(Vec::from_slice(alloc, &[3, 1, 2])?);
     assert!(rt; items.clone()? == items);
     assert!(rt; !items.is_empty() && items.len() == 3);
     assert!(rt; items.as_slice() == [3, 1, 2].as_slice());
     assert!(rt; items.into_vec().as_slice() == [3, 1, 2].as_slice());
+    Ok(())
+}
+
+/// As many bytes as lie in a value itself, and one more.
+const EDGE: [&[u8]; 2] = [
+    b"abcdefghijklmnopqrstuvwxyz0123",
+    b"abcdefghijklmnopqrstuvwxyz01234",
+];
+
+#[test]
+fn texts_at_the_edge_are_kept(rt: HostRuntime) -> Result<(), Fail> {
+    let alloc = rt.alloc();
+    for bytes in EDGE {
+        let text = Text::new(Vec::from_slice(alloc, bytes)?);
+        assert!(rt; text.clone()? == Text::from_slice(alloc, bytes)?);
+        assert!(rt; text.as_bytes() == bytes);
+        assert!(rt; text.into_vec()?.as_slice() == bytes);
+    }
     Ok(())
 }
 
