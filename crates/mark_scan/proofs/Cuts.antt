@@ -1,16 +1,11 @@
 -- Texts that are cut after the part that they begin with.
-use Rattle.std.proofs.Common.{◌≡◌, ℕ, ◌+◌, ◌<◌, ◌≤◌, List, [], ◌∷◌, ◌++◌, length, map, drop, take, sym, ◌∙◌, ap, subst, arith, length-drop, length-take-le}
+use Rattle.std.proofs.Common.{◌≡◌, ℕ, ◌+◌, ◌<◌, ◌≤◌, List, length, drop, take, sym, ◌∙◌, ap, subst, arith, length-drop, length-take-le}
 use Rattle.std.proofs.lemmas.List.{length-take}
 use Rattle.std.proofs.lemmas.List.{take_all}
-use Rattle.mark_scan.specs.Markup.{BeginsMarkup, BeginsWith, BeginsPlain, TextPart, plain, comment, tag, part_bytes, Splits}
-use Rattle.mark_scan.specs.steps.Scanning.{IsCut, part_of, bytes_in}
+use Rattle.mark_scan.specs.Markup.{BeginsMarkup, BeginsWith, BeginsPlain, TextPart, plain, comment, tag, part_bytes}
+use Rattle.mark_scan.specs.steps.Scanning.{IsCut, part_of}
 use Rattle.mark_scan.specs.declared.piece.Piece.{Piece}
 use Rattle.mark_scan.proofs.Fronts.{byte_within}
-
--- the piece that a text begins with joins those before it
-pub pieces_push : (text : List ℕ) (list : List Piece) (piece : Piece) (rest next : List ℕ) → Splits text (map part_of list) rest → IsCut rest piece next → Splits text (map part_of (list ++ piece ∷ [])) next
-pieces_push text [] piece rest next splits cut = (subst (λ (s : List ℕ). BeginsWith s (part_of piece)) splits cut.begins, cut.rest ∙ ap (λ (s : List ℕ). drop (length (part_bytes (part_of piece))) s) splits)
-pieces_push text (first ∷ list) piece rest next splits cut = (splits.0, pieces_push _ list piece rest next splits.1 cut)
 
 -- a front of a text that isn't empty isn't empty
 take_some : (n : ℕ) (text : List ℕ) → 0 < n → n ≤ length text → 0 < length (take n text)
@@ -59,8 +54,6 @@ part_within text (plain bytes) begins = omega (arith, ap length begins.front, le
 part_within text (comment bytes) begins = omega (arith, ap length begins.is, length-take (begins.end + 3) text)
 part_within text (tag t) begins = omega (arith, ap length begins.is, length-take (begins.last + 1) text)
 
--- the pieces of a text have its bytes
-pub pieces_bytes : (text : List ℕ) (list : List Piece) (rest : List ℕ) → Splits text (map part_of list) rest → bytes_in list + length rest ≡ length text
-pieces_bytes text [] rest splits = omega (arith, ap length splits)
-pieces_bytes text (piece ∷ list) rest splits =
-    omega (arith, part_within text (part_of piece) splits.0, pieces_bytes _ list rest splits.1, length-drop (length (part_bytes (part_of piece))) text)
+-- what is cut off a text and what lies after it have its bytes
+pub cut_size : (text : List ℕ) (piece : Piece) (beyond : List ℕ) → IsCut text piece beyond → length (part_bytes (part_of piece)) + length beyond ≡ length text
+cut_size text piece beyond cut = omega (arith, part_within text (part_of piece) cut.begins, ap length cut.rest, length-drop (length (part_bytes (part_of piece))) text)

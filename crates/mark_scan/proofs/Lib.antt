@@ -6,3 +6,4 @@ pub mod Runs
 pub mod SentenceSteps
 pub mod MarkSteps
 pub mod Unique
+pub mod FirstPieces

@@ -1,26 +1,29 @@
 -- Marks, part by part.
-use Rattle.std.proofs.Common.{◌≡◌, ℕ, ◌+◌, ◌<◌, Bool, false, cond, map, drop, get_or, drop-cons, add-one, List, [], ◌∷◌, ◌++◌, length, sym, ◌∙◌, ap, subst, append_assoc, append-nil}
+use Rattle.std.proofs.Common.{◌≡◌, ℕ, ◌+◌, Bool, false, cond, map, List, [], ◌∷◌, ◌++◌, length, sym, ◌∙◌, ap, subst, append_assoc, append-nil}
 use Rattle.std.specs.Prelude.{Option}
 use Rattle.mark_scan.specs.declared.mark.Mark.{Mark}
 use Rattle.mark_scan.specs.declared.mark.MarkRules.{MarkRules}
 use Rattle.mark_scan.specs.declared.marking.Reader.{Reader}
 use Rattle.mark_scan.specs.Markup.{TextPart, TagText, comment, tag}
-use Rattle.mark_scan.specs.Marks.{run_before, part_marks, marks_after}
+use Rattle.mark_scan.specs.Marks.{run_before, part_marks, marks_after, PartsBy, AreMarks}
 use Rattle.mark_scan.specs.steps.Scanning.{IsBefore, Keeps, AddsTextPart}
 use Rattle.mark_scan.specs.Tags.{is_removed, tag_kinds, span}
-use Rattle.mark_scan.specs.declared.piece.Piece.{Piece}
 
--- The marks of some parts were made, and these are left: with theirs the list is as wanted.
-pub record Marked (fold : ℕ → Option ℕ) (rules : MarkRules) (parts : List TextPart) (reader : Reader) (left : List TextPart) (list : List Mark) : Type 0 where
+-- The marks up to a place were made, and these parts are left: with their marks the list is that of parts of the whole text.
+pub record Marked (fold : ℕ → Option ℕ) (rules : MarkRules) (text : List ℕ) (reader : Reader) (list : List Mark) (left : List TextPart) : Type 0 where
   pub before : List TextPart
   pub keeps : Keeps rules.sp fold reader.before (run_before rules.zones before)
+  pub parts : List TextPart
+  pub are : PartsBy rules.strip text parts
   pub marks : list ++ marks_after fold rules reader.place before left ≡ marks_after fold rules 0 [] parts
 
 -- one part more
-pub marked_next : (fold : ℕ → Option ℕ) (rules : MarkRules) (parts : List TextPart) (reader next : Reader) (part : TextPart) (left : List TextPart) (list new : List Mark) → Marked fold rules parts reader (part ∷ left) list → AddsTextPart fold rules reader list part left next new → Marked fold rules parts next left new
-marked_next fold rules parts reader next part left list new marked adds = record {
+pub marked_next : (fold : ℕ → Option ℕ) (rules : MarkRules) (text : List ℕ) (reader next : Reader) (part : TextPart) (left : List TextPart) (list new : List Mark) → Marked fold rules text reader list (part ∷ left) → AddsTextPart fold rules reader list part left next new → Marked fold rules text next new left
+marked_next fold rules text reader next part left list new marked adds = record {
   before = part ∷ marked.before;
   keeps = adds.keeps marked.before marked.keeps;
+  parts = marked.parts;
+  are = marked.are;
   marks =
       ap (λ (l : List Mark). l ++ marks_after fold rules next.place (part ∷ marked.before) left) (adds.marks marked.before marked.keeps)
       ∙ append_assoc list _ _
@@ -29,8 +32,8 @@ marked_next fold rules parts reader next part left list new marked adds = record
 }
 
 -- at the end
-pub marked_end : (fold : ℕ → Option ℕ) (rules : MarkRules) (parts : List TextPart) (reader : Reader) (list : List Mark) → Marked fold rules parts reader [] list → list ≡ marks_after fold rules 0 [] parts
-marked_end fold rules parts reader list marked = sym (append-nil list) ∙ marked.marks
+pub marked_end : (fold : ℕ → Option ℕ) (rules : MarkRules) (text : List ℕ) (reader : Reader) (list : List Mark) → Marked fold rules text reader list [] → AreMarks fold rules text list
+marked_end fold rules text reader list marked = record { parts = marked.parts; are = marked.are; marks_are = sym (append-nil list) ∙ marked.marks }
 
 -- a comment has no marks, and a run begins after it
 pub adds_comment : (fold : ℕ → Option ℕ) (rules : MarkRules) (reader : Reader) (old : List Mark) (bytes : List ℕ) (rest : List TextPart) (next : Reader) → next.place ≡ reader.place + length bytes → IsBefore fold next.before [] → AddsTextPart fold rules reader old (comment bytes) rest next old
@@ -47,7 +50,3 @@ adds_kept fold rules reader old t rest next new place starts kept is = record {
   marks = λ before keeps. is;
   keeps = λ before keeps sp. subst (λ (l : List ℕ). IsBefore fold next.before l) (sym (ap (λ (b : Bool). cond b (run_before rules.zones before) []) kept)) starts;
 }
-
--- the pieces from a place on
-pub pieces_from : (list : List Piece) (place : ℕ) (d : Piece) → place < length list → drop place list ≡ get_or list place d ∷ drop (place + 1) list
-pieces_from list place d below = drop-cons list place d below ∙ ap (λ (n : ℕ). get_or list place d ∷ drop n list) (sym (add-one place))

@@ -67,7 +67,7 @@ tag_unique text s t first second =
     λ i. record { text = text_is i; name = name_is i; closing = closing_is i; empty = empty_is i }
 
 -- a text begins with one part
-part_unique : (text : List ℕ) (p q : TextPart) → BeginsWith text p → BeginsWith text q → p ≡ q
+pub part_unique : (text : List ℕ) (p q : TextPart) → BeginsWith text p → BeginsWith text q → p ≡ q
 part_unique text (plain a) (plain b) first second = ap plain (plain_unique text a b first second)
 part_unique text (plain a) (comment b) first second = absurd (first.none 0 first.some (by_comment second.end second.begins))
 part_unique text (plain a) (tag t) first second = absurd (first.none 0 first.some (by_tag second.from second.to second.last second.begins))
@@ -80,7 +80,7 @@ part_unique text (tag s) (comment b) first second = absurd (comment_no_tag text 
 part_unique text (tag s) (tag t) first second = ap tag (tag_unique text s t first second)
 
 -- an empty text has no part
-no_part : (part : TextPart) → BeginsWith [] part → ⊥
+pub no_part : (part : TextPart) → BeginsWith [] part → ⊥
 no_part part begins = omega (arith, part_some [] part begins, part_within [] part begins)
 
 -- a text has one list of parts

@@ -5,18 +5,16 @@
 //! plain  tag plain tag comment
 //! ```
 //!
-//! Each piece is a part of the text, which isn't copied. The pieces, one after the other, are the text. A text is read
-//! once from left to right; a tag is looked at twice, once after the plain text before it and once as the first piece
-//! of what is left.
-ghost use Rattle.std.specs.Prelude.{◌≡◌, ◌<◌, ◌+◌, ℕ, length, slice_index, take, drop, IfOk};
+//! Each piece is a part of the text, which isn't copied. The pieces, one after the other, are the text. A `Rest` gives the
+//! first piece of what is left and the rest after it. It is a plain value: who looks ahead reads on from a copy. A tag is
+//! looked at twice, once after the plain text before it and once as the first piece of the rest.
+ghost use Rattle.std.specs.Prelude.{◌≡◌, ◌<◌, ◌+◌, ℕ, [], length, slice_index, take, drop, MatchOption};
 ghost use Rattle.std.specs.Str.{IsUtf8};
 ghost use Rattle.mark_scan.specs.Markup.{BeginsComment, BeginsTag, BeginsMarkup};
-ghost use Rattle.mark_scan.specs.steps.Scanning.{Rules, Begins, IsCut, ArePieces, AreUtf8};
+ghost use Rattle.mark_scan.specs.steps.Scanning.{Rules, Begins, IsCut, IsReadable, IsFirst};
 
 use crate::markup::{Ends, Found, TagPlaces, next_markup};
 use crate::piece::{Piece, Tag};
-use srch_base::NoMemory;
-use std::alloc::Global;
 
 /// Cuts a text before an ASCII byte.
 fn cut_before(text: &str, place: usize) -> (&str, &str)
@@ -113,23 +111,48 @@ fn first_piece<'a>(text: &'a str, ends: &mut Ends) -> (Piece<'a>, &'a str)
     }
 }
 
-/// The pieces of a text: comments, tags, and what lies between.
-///
-/// It takes a time linear in the text's length, whatever the markup, and memory for the list alone.
-pub fn pieces<'a>(alloc: Global, text: &'a str) -> Result<Vec<Piece<'a>>, NoMemory>
-    ensures pieces { IfOk result (λ list. ArePieces text.now list.items) }
-    ensures utf8 { IfOk result (λ list. AreUtf8 list.items) }
-{
-    let mut list = Vec::new(alloc);
-    let mut ends = Ends {
-        tag: true,
-        comment: true,
-    };
-    let mut rest = text;
-    while !rest.is_empty() {
-        let (piece, beyond) = first_piece(rest, &mut ends);
-        list.push(piece)?;
-        rest = beyond;
+/// The rest of a text, from where a piece begins.
+#[derive(Clone, Copy, Debug)]
+pub(crate) struct Rest<'a> {
+    text: &'a str,
+    /// Whether markup is looked for. Without it the rest is one piece.
+    strip: bool,
+    /// What may still follow in the rest.
+    ends: Ends,
+}
+
+impl<'a> Rest<'a> {
+    /// A whole text.
+    pub fn whole(strip: bool, text: &'a str) -> Rest<'a>
+        ensures text { result.text.now ≡ text.now }
+        ensures strip { result.strip ≡ strip }
+        ensures readable { IsReadable result }
+    {
+        let ends = Ends {
+            tag: true,
+            comment: true,
+        };
+        Rest { text, strip, ends }
     }
-    Ok(list)
+
+    /// The first piece and the rest after it, unless the text ends here.
+    ///
+    /// It takes no memory, and a time linear in the length of the piece and of the markup after it; but once for `>` and
+    /// once for `-->`, where none follows any more, in that of the whole rest.
+    pub fn cut(self) -> Option<(Piece<'a>, Rest<'a>)>
+        requires { IsReadable self }
+        ensures { MatchOption result (self.entry.text.now ≡ []) (λ cut. IsFirst self.entry cut.0 cut.1) }
+    {
+        if self.text.is_empty() {
+            return None;
+        }
+        if !self.strip {
+            let beyond = Rest { text: "", ..self };
+            return Some((Piece::Plain(self.text), beyond));
+        }
+        let mut ends = self.ends;
+        let (piece, text) = first_piece(self.text, &mut ends);
+        let beyond = Rest { text, ends, ..self };
+        Some((piece, beyond))
+    }
 }

@@ -1,4 +1,8 @@
-//! A piece of a text, as it lies in the text.
+//! A piece of a text, as it lies in the text: nothing of it is copied.
+//!
+//! A tag keeps what decides on its marks: its name in either case, and whether a `/` stands before the name or the `>`.
+//! What else stands in it, such as attributes, isn't looked at.
+
 /// A part of a text. The parts of a text, one after the other, are the text.
 #[derive(Clone, Copy, Debug)]
 pub enum Piece<'a> {

@@ -2,17 +2,19 @@
 //!
 //! `?` and `!` end a sentence. A dot doesn't where the sentence goes on: before a letter or a comma (`S.T.A.L.K.E.R.`),
 //! before a blank and a small letter (`e.g. that`), and between an initial and a blank (`John D. Doe`). So a dot asks
-//! what stands before it, which is kept in `Before`, and the next two characters of its run, which may be in later
-//! pieces. Characters are folded beside dots alone.
-ghost use Rattle.std.specs.Prelude.{Option, ◌≡◌, ◌<◌, ◌≤◌, ◌+◌, ◌-◌, ◌^◌, ◌++◌, ℕ, List, [], ◌∷◌, length, map, reverse, MatchOption, IfOk, OnOk, true, false};
+//! what stands before it, which is kept in `Before`, and the next two characters of its run. These may be in later pieces,
+//! which are cut for the dot, and once more when their turn comes. At most two dots look across the tags between two
+//! characters, so that a text takes a time linear in its length. Characters are folded beside dots alone.
+ghost use Rattle.std.specs.Prelude.{Option, ◌≡◌, ◌<◌, ◌≤◌, ◌+◌, ◌-◌, ◌^◌, ◌++◌, ℕ, List, [], ◌∷◌, length, reverse, MatchOption, IfSome, IfOk, OnOk, true, false};
 ghost use Rattle.std.specs.Char.{encode_utf8, IsScalar};
 ghost use Rattle.std.specs.Str.{IsUtf8, chars};
 ghost use Rattle.charset_map.specs.Spans.{folded};
 ghost use Rattle.mark_scan.specs.Marks.{run_of};
-ghost use Rattle.mark_scan.specs.steps.Scanning.{AreUtf8, IsBefore, part_of, next_of, then_of, run_from, IsNext, GoesOn, is_initial};
-ghost use Rattle.mark_scan.specs.Markup.{part_bytes};
+ghost use Rattle.mark_scan.specs.steps.Scanning.{IsBefore, part_of, next_of, then_of, run_from, PartsOf, IsReadable, IsNext, GoesOn, is_initial};
+ghost use Rattle.mark_scan.specs.Markup.{TextPart, part_bytes};
 ghost use Rattle.mark_scan.specs.Sentences.{is_blank, is_capital, is_small, begins_small, dot_goes_on, ends_sentence, sentence_mark, sentence_marks};
 
+use crate::cutting::Rest;
 use crate::mark::{Mark, MarkKind, MarkRules};
 use crate::piece::Piece;
 use crate::tags::removed;
@@ -158,41 +160,44 @@ fn start_of<'a>(rules: &MarkRules, piece: Piece<'a>) -> Onward<'a>
     }
 }
 
-/// The next character of a run, and the rest of the run after it.
-fn next_char<'a, 'b>(
+/// The next character of a run, and the rest of the run after it: the text of the character's piece, and the rest of the
+/// whole text after that piece.
+fn next_char<'a>(
     rules: &MarkRules,
     text: &'a str,
-    pieces: &'b [Piece<'a>],
-) -> Option<(char, &'a str, &'b [Piece<'a>])>
-    requires { AreUtf8 pieces.now }
-    ensures { let run = run_from rules.now.zones text.now pieces.now in
-        MatchOption result (run ≡ []) (λ next. IsNext rules.now.zones run next.0 next.1.now next.2.now) }
+    after: Rest<'a>,
+) -> Option<(char, &'a str, Rest<'a>)>
+    requires { IsReadable after }
+    ensures next { (parts : List TextPart) → PartsOf after.entry parts
+        → let run = run_from rules.now.zones text.now parts in
+        MatchOption result (run ≡ []) (λ next. IsNext rules.now.zones run next.0 next.1.now next.2) }
+    ensures utf8 { IfSome result (λ next. IsUtf8 next.1.now) }
+    ensures readable { IfSome result (λ next. IsReadable next.2) }
 {
     match first_char(text) {
-        Some((c, beyond)) => return Some((c, beyond, pieces)),
+        Some((c, beyond)) => return Some((c, beyond, after)),
         None => {}
     }
-    for place in 0..pieces.len() {
-        let piece = pieces[place];
-        match start_of(rules, piece) {
-            Onward::Char(c, beyond) => {
-                let (_, rest) = pieces.split_at(place + 1);
-                return Some((c, beyond, rest));
-            }
-            Onward::Nothing => {}
-            Onward::End => return None,
+    let mut rest = after;
+    'pieces: loop {
+        match rest.cut() {
+            None => return None,
+            Some((piece, beyond)) => match start_of(rules, piece) {
+                Onward::Char(c, text) => return Some((c, text, beyond)),
+                Onward::Nothing => rest = beyond,
+                Onward::End => return None,
+            },
         }
     }
-    None
 }
 
 /// The next two characters of a run.
-fn two_next(rules: &MarkRules, text: &str, pieces: &[Piece<'_>]) -> (Option<char>, Option<char>)
-    requires { AreUtf8 pieces.now }
-    ensures next { result.0 ≡ next_of (chars (run_from rules.now.zones text.now pieces.now)) }
-    ensures then { result.1 ≡ then_of (chars (run_from rules.now.zones text.now pieces.now)) }
+fn two_next(rules: &MarkRules, text: &str, after: Rest<'_>) -> (Option<char>, Option<char>)
+    requires { IsReadable after }
+    ensures next { (parts : List TextPart) → PartsOf after.entry parts → result.0 ≡ next_of (chars (run_from rules.now.zones text.now parts)) }
+    ensures then { (parts : List TextPart) → PartsOf after.entry parts → result.1 ≡ then_of (chars (run_from rules.now.zones text.now parts)) }
 {
-    match next_char(rules, text, pieces) {
+    match next_char(rules, text, after) {
         None => (None, None),
         Some((next, beyond, rest)) => match next_char(rules, beyond, rest) {
             None => (Some(next), None),
@@ -209,11 +214,12 @@ fn ends(
     before: Before,
     c: char,
     text: &str,
-    pieces: &[Piece<'_>],
+    after: Rest<'_>,
 ) -> bool
-    requires { AreUtf8 pieces.now }
-    ensures { (seen : List ℕ) → IsBefore (folded charset.now) before seen
-        → result ≡ ends_sentence (folded charset.now) seen c (chars (run_from rules.now.zones text.now pieces.now)) }
+    requires { IsReadable after }
+    ensures { (parts : List TextPart) → PartsOf after.entry parts
+        → (seen : List ℕ) → IsBefore (folded charset.now) before seen
+        → result ≡ ends_sentence (folded charset.now) seen c (chars (run_from rules.now.zones text.now parts)) }
 {
     if c == '?' || c == '!' {
         return true;
@@ -221,11 +227,12 @@ fn ends(
     if c != '.' {
         return false;
     }
-    let (next, then) = two_next(rules, text, pieces);
+    let (next, then) = two_next(rules, text, after);
     !goes_on(charset, before.after_initial(charset), next, then)
 }
 
-/// Appends the marks of the ends of sentences in a piece of a run, the place of which is given with the pieces after it.
+/// Appends the marks of the ends of sentences in a piece of a run, the place of which is given with the rest of the text
+/// after it.
 /// The answer is what stands before the end of the piece.
 pub(crate) fn push_sentences(
     list: &mut Vec<Mark>,
@@ -234,12 +241,13 @@ pub(crate) fn push_sentences(
     start: Before,
     from: u32,
     text: &str,
-    pieces: &[Piece<'_>],
+    after: Rest<'_>,
 ) -> Result<Before, NoMemory>
     requires size { from + length text.now < 2 ^ 32 }
-    requires utf8 { AreUtf8 pieces.now }
-    ensures { IfOk result (λ state. (seen : List ℕ) → IsBefore (folded charset.now) start seen
-        → (list.new.items ≡ list.old.items ++ sentence_marks (folded charset.now) from seen (chars text.now) (chars (run_of rules.now.zones (map part_of pieces.now))))
+    requires after { IsReadable after }
+    ensures { IfOk result (λ state. (parts : List TextPart) → PartsOf after.entry parts
+        → (seen : List ℕ) → IsBefore (folded charset.now) start seen
+        → (list.new.items ≡ list.old.items ++ sentence_marks (folded charset.now) from seen (chars text.now) (chars (run_of rules.now.zones parts)))
         × IsBefore (folded charset.now) state (reverse (chars text.now) ++ seen)) }
 {
     let mut before = start;
@@ -250,7 +258,7 @@ pub(crate) fn push_sentences(
             None => return Ok(before),
             Some((c, beyond)) => {
                 let width = c.len_utf8() as u32;
-                push_end(list, ends(charset, rules, before, c, beyond, pieces), place)?;
+                push_end(list, ends(charset, rules, before, c, beyond, after), place)?;
                 before = before.then(c);
                 place += width;
                 rest = beyond;

@@ -1,7 +1,8 @@
 -- What the readers of markup answer.
-use Rattle.std.specs.Prelude.{◌≡◌, ◌≢◌, ℕ, ◌≤◌, List, Bool, true, false, ◌+◌, Option, Some, None, length, slice_index, map, drop, All, [], ◌∷◌, ◌++◌}
+use Rattle.std.specs.Prelude.{◌≡◌, ◌≢◌, ℕ, ◌<◌, ◌≤◌, List, Bool, true, false, ◌+◌, Option, Some, None, length, slice_index, drop, [], ◌∷◌, ◌++◌}
 use Rattle.std.specs.Char.{encode_utf8}
 use Rattle.std.specs.Str.{IsUtf8}
+use Rattle.mark_scan.specs.declared.cutting.Rest.{Rest}
 use Rattle.mark_scan.specs.declared.piece.Piece.{Piece}
 use Rattle.mark_scan.specs.declared.piece.Piece.TheVariants as pieces
 use Rattle.mark_scan.specs.declared.piece.Tag.{Tag}
@@ -14,9 +15,9 @@ use Rattle.mark_scan.specs.declared.markup.Found.TheVariants as founds
 use Rattle.mark_scan.specs.declared.sentences.Before.{Before}
 use Rattle.mark_scan.specs.declared.sentences.Onward.{Onward}
 use Rattle.mark_scan.specs.declared.sentences.Onward.TheVariants as onwards
-use Rattle.mark_scan.specs.Marks.{run_of, run_before, part_marks}
+use Rattle.mark_scan.specs.Marks.{PartsBy, run_of, run_before, part_marks}
 use Rattle.mark_scan.specs.Sentences.{ends_with_gap, ends_with_initial, is_capital}
-use Rattle.mark_scan.specs.Markup.{EndsComment, BeginsComment, BeginsTag, TagText, TextPart, plain, comment, tag, BeginsWith, part_bytes, AreParts}
+use Rattle.mark_scan.specs.Markup.{EndsComment, BeginsComment, BeginsTag, TagText, TextPart, plain, comment, tag, BeginsWith, part_bytes}
 
 -- a tag without where it lies in memory
 abbrev pub tag_text : Tag → TagText
@@ -45,13 +46,30 @@ pub record IsCut (text : List ℕ) (piece : Piece) (beyond : List ℕ) : Type 0 
   pub piece_utf8 : IsUtf8 (part_bytes (part_of piece))
   pub rest_utf8 : IsUtf8 beyond
 
--- These pieces are the parts of a text.
-abbrev pub ArePieces : List ℕ → List Piece → Type 0
-ArePieces text list = AreParts text (map part_of list)
+-- These are the parts of the rest of a text.
+abbrev pub PartsOf : Rest → List TextPart → Type 0
+PartsOf rest parts = PartsBy rest.strip rest.text.now parts
 
--- Each piece is UTF-8.
-abbrev pub AreUtf8 : List Piece → Type 0
-AreUtf8 list = All (λ piece. IsUtf8 (part_bytes (part_of piece))) list
+-- The rest of a text can be read on: it is UTF-8, and what is said not to follow in it doesn't.
+pub record IsReadable (rest : Rest) : Type 0 where
+  pub utf8 : IsUtf8 rest.text.now
+  pub rules : Rules rest.ends rest.text.now
+
+-- Parts are this part, and then the parts of the rest after it.
+pub record IsThen (part : TextPart) (beyond : Rest) (parts : List TextPart) : Type 0 where
+  pub others : List TextPart
+  pub are : PartsOf beyond others
+  pub same : parts ≡ part ∷ others
+
+-- The rest of a text is this piece, and then the rest after it: the parts of the one are the piece and then the parts of the
+-- other, and no others.
+pub record IsFirst (rest : Rest) (piece : Piece) (beyond : Rest) : Type 0 where
+  pub joins : (parts : List TextPart) → PartsOf beyond parts → PartsOf rest (part_of piece ∷ parts)
+  pub splits : (parts : List TextPart) → PartsOf rest parts → IsThen (part_of piece) beyond parts
+  pub size : length (part_bytes (part_of piece)) + length beyond.text.now ≡ length rest.text.now
+  pub shorter : length beyond.text.now < length rest.text.now
+  pub utf8 : IsUtf8 (part_bytes (part_of piece))
+  pub readable : IsReadable beyond
 
 -- the first character, and the second
 abbrev pub next_of : List ℕ → Option ℕ
@@ -72,15 +90,21 @@ pub record IsBefore (fold : ℕ → Option ℕ) (state : Before) (before : List 
   pub gap : state.gap ≡ ends_with_gap before
   pub initial : is_initial fold state.single ≡ ends_with_initial fold before
 
--- the rest of a text run: this text, and what follows of the run in the pieces after it
-abbrev pub run_from : List (List ℕ) → List ℕ → List Piece → List ℕ
-run_from zones text pieces = text ++ run_of zones (map part_of pieces)
+-- the rest of a text run: this text, and what follows of the run in the parts after it
+abbrev pub run_from : List (List ℕ) → List ℕ → List TextPart → List ℕ
+run_from zones text parts = text ++ run_of zones parts
 
--- The rest of a run is this character, and then the rest that is given.
-pub record IsNext (zones : List (List ℕ)) (run : List ℕ) (c : ℕ) (text : List ℕ) (pieces : List Piece) : Type 0 where
-  pub run_is : run ≡ encode_utf8 c ++ run_from zones text pieces
-  pub text_utf8 : IsUtf8 text
-  pub pieces_utf8 : AreUtf8 pieces
+-- The rest of a run is what the rest of a text begins with.
+pub record IsAhead (zones : List (List ℕ)) (run : List ℕ) (rest : Rest) : Type 0 where
+  pub parts : List TextPart
+  pub are : PartsOf rest parts
+  pub run_is : run ≡ run_of zones parts
+
+-- The rest of a run is this character, then this text, and then what follows of the run in the rest of the whole text.
+pub record IsNext (zones : List (List ℕ)) (run : List ℕ) (c : ℕ) (text : List ℕ) (rest : Rest) : Type 0 where
+  pub parts : List TextPart
+  pub are : PartsOf rest parts
+  pub run_is : run ≡ encode_utf8 c ++ run_from zones text parts
 
 -- What a part gives to the run that goes on before it.
 abbrev pub GoesOn : List (List ℕ) → TextPart → Onward → Type 0
@@ -91,11 +115,6 @@ GoesOn zones part onwards.End = (parts : List TextPart) → run_of zones (part �
 -- What is kept of the characters before a place, where the ends of sentences are looked for.
 abbrev pub Keeps : Bool → (ℕ → Option ℕ) → Before → List ℕ → Type 0
 Keeps sp fold state before = sp ≡ true → IsBefore fold state before
-
--- the number of bytes of pieces
-abbrev pub bytes_in : List Piece → ℕ
-bytes_in [] = 0
-bytes_in (piece ∷ pieces) = length (part_bytes (part_of piece)) + bytes_in pieces
 
 -- The marks of a part were added, at the reader's place, and the reader stands after it, whatever stood before.
 pub record AddsTextPart (fold : ℕ → Option ℕ) (rules : MarkRules) (reader : Reader) (old : List Mark) (part : TextPart) (rest : List TextPart) (next : Reader) (list : List Mark) : Type 0 where

@@ -1,11 +1,16 @@
-use Rattle.std.proofs.Common.{◌≡◌, ◌+◌, drop, length, map}
+use Rattle.std.proofs.Common.{◌≡◌, ◌+◌, List, length}
 use Rattle.charset_map.specs.Spans.{folded}
-use Rattle.mark_scan.specs.steps.Scanning.{part_of, bytes_in}
+use Rattle.mark_scan.specs.Markup.{TextPart}
+use Rattle.mark_scan.specs.steps.Scanning.{IsReadable, PartsOf}
 use Rattle.mark_scan.proofs.MarkSteps.{Marked}
 use Rattle.mark_scan.proofs.marking.marks.Given as goal
 
-abbrev pub invariant-loop-at : goal.invariant-loop-at
-invariant-loop-at l = record {
-  size : l.reader.place + bytes_in (drop l.at l.pieces) ≡ length l.text;
-  marked : Marked (folded l.charset) l.rules (map part_of l.pieces) l.reader (map part_of (drop l.at l.pieces)) l.list.items;
+abbrev pub invariant-pieces : goal.invariant-pieces
+invariant-pieces l = record {
+  readable : IsReadable l.rest;
+  size : l.reader.place + length l.rest.text.now ≡ length l.text;
+  marked : (left : List TextPart) → PartsOf l.rest left → Marked (folded l.charset) l.rules l.text l.reader l.list.items left;
 }
+
+abbrev pub decreases-pieces : goal.decreases-pieces
+decreases-pieces l = length l.rest.text.now

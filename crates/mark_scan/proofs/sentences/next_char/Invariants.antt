@@ -1,7 +1,13 @@
-use Rattle.std.proofs.Common.{◌≡◌, drop, map}
-use Rattle.mark_scan.specs.Marks.{run_of}
-use Rattle.mark_scan.specs.steps.Scanning.{run_from, part_of}
+use Rattle.std.proofs.Common.{List, length}
+use Rattle.mark_scan.specs.Markup.{TextPart}
+use Rattle.mark_scan.specs.steps.Scanning.{run_from, PartsOf, IsReadable, IsAhead}
 use Rattle.mark_scan.proofs.sentences.next_char.Given as goal
 
-abbrev pub invariant-loop-place : goal.invariant-loop-place
-invariant-loop-place l = run_from l.rules.zones l.text l.pieces ≡ run_of l.rules.zones (map part_of (drop l.place l.pieces))
+abbrev pub invariant-pieces : goal.invariant-pieces
+invariant-pieces l = record {
+  readable : IsReadable l.rest;
+  ahead : (parts : List TextPart) → PartsOf l.after parts → IsAhead l.rules.zones (run_from l.rules.zones l.text parts) l.rest;
+}
+
+abbrev pub decreases-pieces : goal.decreases-pieces
+decreases-pieces l = length l.rest.text.now

@@ -1,8 +1,9 @@
-use Rattle.std.proofs.Common.{◌≡◌, ℕ, ◌+◌, List, length, map, IsUtf8}
+use Rattle.std.proofs.Common.{◌≡◌, ℕ, ◌+◌, List, length, IsUtf8}
 use Rattle.std.specs.Str.{chars}
 use Rattle.charset_map.specs.Spans.{folded}
+use Rattle.mark_scan.specs.Markup.{TextPart}
 use Rattle.mark_scan.specs.Marks.{run_of}
-use Rattle.mark_scan.specs.steps.Scanning.{IsBefore, part_of}
+use Rattle.mark_scan.specs.steps.Scanning.{IsBefore, PartsOf}
 use Rattle.mark_scan.proofs.SentenceSteps.{Reached}
 use Rattle.mark_scan.proofs.sentences.push_sentences.Given as goal
 
@@ -10,7 +11,7 @@ abbrev pub invariant-chars : goal.invariant-chars
 invariant-chars l = record {
   utf8 : IsUtf8 l.rest;
   size : l.place + length l.rest ≡ l.from + length l.text;
-  reached : (seen : List ℕ) → IsBefore (folded l.charset) l.fn.start seen → Reached (folded l.charset) (chars (run_of l.rules.zones (map part_of l.pieces))) l.from (chars l.text) seen l.fn.list.items l.before l.place (chars l.rest) l.list.items;
+  reached : (parts : List TextPart) → PartsOf l.after parts → (seen : List ℕ) → IsBefore (folded l.charset) l.fn.start seen → Reached (folded l.charset) (chars (run_of l.rules.zones parts)) l.from (chars l.text) seen l.fn.list.items l.before l.place (chars l.rest) l.list.items;
 }
 
 abbrev pub decreases-chars : goal.decreases-chars
