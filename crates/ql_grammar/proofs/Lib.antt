@@ -3,5 +3,6 @@ pub mod ClassKinds
 pub mod Agreement
 pub mod Agreements
 pub mod SelectAgreement
+pub mod StatementRows
 pub mod StatementAgreement
 pub mod PacketAgreement
