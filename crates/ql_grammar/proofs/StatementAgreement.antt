@@ -33,7 +33,7 @@ use Rattle.token_grammar.proofs.Agreement.{Agree, agree_as, agree_listed, agree_
 use Rattle.ql_grammar.proofs.Agreements.{agree_enclosed, agree_parens, agree_text, agree_whole, agree_keywords}
 use Rattle.token_grammar.proofs.Agreement.{IsEither, agree_after, agree_before, agree_optional, agree_or}
 use Rattle.ql_grammar.proofs.SelectAgreement.{agree_select}
-use Rattle.ql_grammar.proofs.StatementRows.{SelectRow, Selected, IsSelection, after_variable, selected, all_selected, IsScoped, after_global, in_scope, all_scoped, in_no_scope, SetRow, Set, IsSet, after_autocommit, set_part, all_set, ShowRow, Shown, IsShown, after_index_status, show_part, all_shown, FlushRow, IsFlushed, after_ramchunk, flush_part, all_flushed, IsInserted, Row, Stated, IsStated, after_select, stated, all_stated}
+use Rattle.ql_grammar.proofs.StatementRows.{SettingRow, SettingValue, IsSettingPart, after_null, setting_part, all_settings, SelectRow, Selected, IsSelection, after_variable, selected, all_selected, IsScoped, after_global, in_scope, all_scoped, in_no_scope, SetRow, Set, IsSet, after_autocommit, set_part, all_set, ShowRow, Shown, IsShown, after_index_status, show_part, all_shown, FlushRow, IsFlushed, after_ramchunk, flush_part, all_flushed, IsInserted, Row, Stated, IsStated, after_select, stated, all_stated}
 use Rattle.token_grammar.proofs.NamedChoices.{agree_named}
 use Rattle.ql_grammar.proofs.ClassKinds.{variable_is}
 use Rattle.ql_grammar.specs.Alphabet.{sphinxql}
@@ -104,26 +104,26 @@ agree_plain = agree_as (agree_or agree_text agree_name) there back
     back (plains.Text text) u h = (inl text, h)
     back (plains.Name name) u h = (inr name, h)
 
-abbrev pub SettingValue : Type 0
-SettingValue = Unit {0} ⊎ (List ℕ ⊎ (List ℕ ⊎ ℤ))
-
 agree_setting : Agree sphinxql setting IsSetting
-agree_setting = agree_as (agree_or (agree_keyword keywords.Null) (agree_or agree_text (agree_or agree_name agree_whole))) there back
+agree_setting = agree_as (agree_named SettingRow.null after_null all_settings by_row) there back
   where
-    Is : SettingValue → List Lexeme → Type 0
-    Is = IsEither (λ _. IsKeyword keywords.Null) (IsEither IsText (IsEither IsName IsWhole))
+    by_row : (row : SettingRow) → Agree sphinxql (setting_part row) (IsSettingPart row)
+    by_row SettingRow.null = agree_keyword keywords.Null
+    by_row SettingRow.a_text = agree_text
+    by_row SettingRow.a_name = agree_name
+    by_row SettingRow.a_number = agree_whole
 
-    there : (x : SettingValue) (u : List Lexeme) → Is x u → (y : SetValue) × IsSetting y u
-    there (inl _) u h = (settings.Null, h)
-    there (inr (inl text)) u h = (settings.Text text, h)
-    there (inr (inr (inl name))) u h = (settings.Name name, h)
-    there (inr (inr (inr z))) u h = (settings.Number z, h)
+    there : (x : (row : SettingRow) × SettingValue row) (u : List Lexeme) → IsSettingPart x.0 x.1 u → (y : SetValue) × IsSetting y u
+    there (SettingRow.null, _) u h = (settings.Null, h)
+    there (SettingRow.a_text, text) u h = (settings.Text text, h)
+    there (SettingRow.a_name, name) u h = (settings.Name name, h)
+    there (SettingRow.a_number, z) u h = (settings.Number z, h)
 
-    back : (y : SetValue) (u : List Lexeme) → IsSetting y u → (x : SettingValue) × Is x u
-    back settings.Null u h = (inl tt, h)
-    back (settings.Text text) u h = (inr (inl text), h)
-    back (settings.Name name) u h = (inr (inr (inl name)), h)
-    back (settings.Number z) u h = (inr (inr (inr z)), h)
+    back : (y : SetValue) (u : List Lexeme) → IsSetting y u → (x : (row : SettingRow) × SettingValue row) × IsSettingPart x.0 x.1 u
+    back settings.Null u h = ((SettingRow.null, tt), h)
+    back (settings.Text text) u h = ((SettingRow.a_text, text), h)
+    back (settings.Name name) u h = ((SettingRow.a_name, name), h)
+    back (settings.Number z) u h = ((SettingRow.a_number, z), h)
 
 agree_target : Agree sphinxql (sysvar ∣ target_name) IsTarget
 agree_target = agree_as (agree_or agree_variable agree_target_name) there back

@@ -12,15 +12,16 @@ use Rattle.ql_grammar.specs.declared.statement.SetValue.{SetValue}
 use Rattle.ql_grammar.specs.declared.statement.Target.{Target}
 use Rattle.ql_grammar.specs.declared.statement.Val.{Val}
 use Rattle.ql_grammar.specs.Classes.{Class}
-use Rattle.ql_grammar.specs.Terminals.{keyword, sign, number, name, two_keywords}
+use Rattle.ql_grammar.specs.Terminals.{text, whole, keyword, sign, number, name, two_keywords}
 use Rattle.ql_grammar.specs.steps.Grammar as grammar
 use Rattle.token_grammar.specs.Language.{Re, ◌⨾◌}
-use Rattle.ql_grammar.specs.Parts.{IsKeyword, AreKeywords, IsSign, IsComma, IsName, IsNumber, IsVariable, AreParens}
+use Rattle.ql_grammar.specs.Parts.{IsText, IsWhole, IsKeyword, AreKeywords, IsSign, IsComma, IsName, IsNumber, IsVariable, AreParens}
 use Rattle.token_grammar.specs.Values.{◌then◌, IsAbsent, IsGiven, AreListed}
 use Rattle.ql_grammar.specs.Selects.{IsSelected}
 use Rattle.ql_grammar.specs.Statements.{IsPut, AreIds, IsPlain, IsScope, AreColumns, IsRow, IsRowLimit}
 use Rattle.ql_grammar.specs.steps.Stating.{IsAssignment}
 use Rattle.token_grammar.proofs.NamedChoices.{IsListed}
+use Rattle.std.specs.Prelude.{ℤ}
 use native.Mathlib.Omega.{arith}
 
 -- After SELECT.
@@ -45,7 +46,7 @@ IsSelection SelectRow.variable x = IsVariable x.0 then IsGiven IsRowLimit x.1
 IsSelection SelectRow.database _ = IsKeyword keywords.Database then AreParens
 IsSelection SelectRow.from_index x = IsSelected x
 
--- After SET. A scope names what follows it.
+-- After SET: a scope names what follows it, ..
 abbrev pub after_global : List Scope
 after_global = scopes.Session ∷ scopes.Absent ∷ []
 
@@ -63,6 +64,32 @@ IsScoped scopes.Absent x = IsAssignment x
 pub in_no_scope : (x : Target × SetValue) (u : List Lexeme) → (IsAbsent then IsAssignment x) u → IsAssignment x u
 in_no_scope x u (a, b, e, f, h) = subst (IsAssignment x) (sym (e ∙ ap (λ v. v ++ b) f)) h
 
+-- .. a value is set, ..
+pub data SettingRow : Type 0 where
+  null a_text a_name a_number : SettingRow
+
+abbrev pub after_null : List SettingRow
+after_null = SettingRow.a_text ∷ SettingRow.a_name ∷ SettingRow.a_number ∷ []
+
+abbrev pub setting_part : SettingRow → Re Class
+setting_part SettingRow.null = keyword keywords.Null
+setting_part SettingRow.a_text = text
+setting_part SettingRow.a_name = name
+setting_part SettingRow.a_number = whole
+
+abbrev pub SettingValue : SettingRow → Type 0
+SettingValue SettingRow.null = Unit {0}
+SettingValue SettingRow.a_text = List ℕ
+SettingValue SettingRow.a_name = List ℕ
+SettingValue SettingRow.a_number = ℤ
+
+abbrev pub IsSettingPart : (row : SettingRow) → SettingValue row → List Lexeme → Type 0
+IsSettingPart SettingRow.null _ = IsKeyword keywords.Null
+IsSettingPart SettingRow.a_text words = IsText words
+IsSettingPart SettingRow.a_name name = IsName name
+IsSettingPart SettingRow.a_number z = IsWhole z
+
+-- .. and the whole of it
 pub data SetRow : Type 0 where
   autocommit names other : SetRow
 
@@ -192,6 +219,9 @@ all_selected row = grind arith
 
 pub all_scoped : (scope : Scope) → IsListed scopes.Global after_global scope
 all_scoped scope = grind arith
+
+pub all_settings : (row : SettingRow) → IsListed SettingRow.null after_null row
+all_settings row = grind arith
 
 pub all_set : (row : SetRow) → IsListed SetRow.autocommit after_autocommit row
 all_set row = grind arith

@@ -33,8 +33,7 @@ use Rattle.token_grammar.proofs.Once.{Once, once_as, once_after, once_before, on
 use Rattle.token_grammar.proofs.OnceChoices.{Parted, once_either, once_listed, once_optional, parted_after, parted_choice, parted_first, parted_right, parted_two}
 use Rattle.ql_laws.proofs.OnceParts.{once_enclosed, once_name, once_number, once_parens, once_sign, once_target_name, once_text, once_variable, once_whole, once_keyword, once_keywords}
 use Rattle.ql_laws.proofs.OnceSelects.{once_select}
-use Rattle.ql_grammar.proofs.StatementAgreement.{SettingValue}
-use Rattle.ql_grammar.proofs.StatementRows.{SelectRow, Selected, IsSelection, after_variable, selected, all_selected, IsScoped, after_global, in_scope, all_scoped, in_no_scope, SetRow, Set, IsSet, after_autocommit, set_part, all_set, ShowRow, Shown, IsShown, after_index_status, show_part, all_shown, FlushRow, IsFlushed, after_ramchunk, flush_part, all_flushed, IsInserted, Row, Stated, IsStated, after_select, stated, all_stated}
+use Rattle.ql_grammar.proofs.StatementRows.{SettingRow, SettingValue, IsSettingPart, after_null, setting_part, all_settings, SelectRow, Selected, IsSelection, after_variable, selected, all_selected, IsScoped, after_global, in_scope, all_scoped, in_no_scope, SetRow, Set, IsSet, after_autocommit, set_part, all_set, ShowRow, Shown, IsShown, after_index_status, show_part, all_shown, FlushRow, IsFlushed, after_ramchunk, flush_part, all_flushed, IsInserted, Row, Stated, IsStated, after_select, stated, all_stated}
 use Rattle.token_grammar.proofs.NamedChoices.{once_named, parted_firsts}
 use Rattle.ql_grammar.specs.Alphabet.{sphinxql}
 
@@ -92,23 +91,26 @@ once_plain = once_as (once_either once_text once_name refl refl refl) value back
 
 once_setting : Once sphinxql setting [] IsSetting
 once_setting = once_as
-    (once_either (once_keyword keywords.Null) (once_either once_text (once_either once_name once_whole refl refl refl) refl refl refl) refl refl refl)
+    (once_named SettingRow.null after_null all_settings (parted_firsts sphinxql [] setting_part SettingRow.null after_null refl) by_row)
     value back
   where
-    Is : SettingValue → List Lexeme → Type 0
-    Is = IsEither (λ _. IsKeyword keywords.Null) (IsEither IsText (IsEither IsName IsWhole))
+    by_row : (row : SettingRow) → Once sphinxql (setting_part row) [] (IsSettingPart row)
+    by_row SettingRow.null = once_keyword keywords.Null
+    by_row SettingRow.a_text = once_text
+    by_row SettingRow.a_name = once_name
+    by_row SettingRow.a_number = once_whole
 
-    value : SettingValue → SetValue
-    value (inl _) = settings.Null
-    value (inr (inl text)) = settings.Text text
-    value (inr (inr (inl name))) = settings.Name name
-    value (inr (inr (inr z))) = settings.Number z
+    value : (row : SettingRow) × SettingValue row → SetValue
+    value (SettingRow.null, _) = settings.Null
+    value (SettingRow.a_text, text) = settings.Text text
+    value (SettingRow.a_name, name) = settings.Name name
+    value (SettingRow.a_number, z) = settings.Number z
 
-    back : (y : SetValue) (u : List Lexeme) → IsSetting y u → (x : SettingValue) × Is x u × (value x ≡ y)
-    back settings.Null u h = (inl tt, h, refl)
-    back (settings.Text text) u h = (inr (inl text), h, refl)
-    back (settings.Name name) u h = (inr (inr (inl name)), h, refl)
-    back (settings.Number z) u h = (inr (inr (inr z)), h, refl)
+    back : (y : SetValue) (u : List Lexeme) → IsSetting y u → (x : (row : SettingRow) × SettingValue row) × IsSettingPart x.0 x.1 u × (value x ≡ y)
+    back settings.Null u h = ((SettingRow.null, tt), h, refl)
+    back (settings.Text text) u h = ((SettingRow.a_text, text), h, refl)
+    back (settings.Name name) u h = ((SettingRow.a_name, name), h, refl)
+    back (settings.Number z) u h = ((SettingRow.a_number, z), h, refl)
 
 once_target : Once sphinxql (sysvar ∣ target_name) [] IsTarget
 once_target = once_as (once_either once_variable once_target_name refl refl refl) value back

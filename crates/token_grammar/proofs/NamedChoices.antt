@@ -87,8 +87,8 @@ module _ {C T N : Type 0} {Σ : Alphabet C T} {part : N → Re C} {A : N → Typ
   once_named {cs} first others all parted once = record {
     text = λ x u i. of_part Σ part first others x.0 u (all x.0) ((once x.0).text x.1 u i);
     once = λ x y u v p q i j e h k.
-      let same = one_name Σ part cs first others parted x.0 y.0 (all x.0) (all y.0) u v p q ((once x.0).text x.1 u i) ((once y.0).text y.1 v j) e h k in
-      subst (AreOne x u v p q) same (at_name x u v p q i e h k) y.1 j;
+        let same = one_name Σ part cs first others parted x.0 y.0 (all x.0) (all y.0) u v p q ((once x.0).text x.1 u i) ((once y.0).text y.1 v j) e h k in
+        subst (AreOne x u v p q) same (at_name x u v p q i e h k) y.1 j;
   }
     where
       Named : Type 0
