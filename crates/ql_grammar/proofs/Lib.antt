@@ -2,6 +2,8 @@ pub mod KeywordEquality
 pub mod ClassKinds
 pub mod Agreement
 pub mod Agreements
+pub mod SelectRows
 pub mod SelectAgreement
+pub mod StatementRows
 pub mod StatementAgreement
 pub mod PacketAgreement

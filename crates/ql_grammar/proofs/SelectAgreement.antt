@@ -1,6 +1,5 @@
 -- The grammar of SELECT and the values of its texts, line by line.
 use Rattle.std.proofs.Common.{◌≡◌, ℕ, List, [], ◌++◌, Bool, true, false, Option, Some, None, ◌⊎◌, inl, inr, refl, sym, ◌∙◌, ap, subst}
-use Rattle.std.specs.Prelude.{ℤ}
 use Rattle.ql_lex.specs.declared.token.Sign.TheVariants as signs
 use Rattle.ql_lex.specs.Tokens.{Lexeme}
 use Rattle.ql_grammar.specs.declared.keyword.Keyword.{Keyword}
@@ -25,14 +24,16 @@ use Rattle.token_grammar.specs.Language.{Re, In}
 use Rattle.ql_grammar.specs.Terminals.{keyword, name, enclosed}
 use Rattle.ql_grammar.specs.steps.Grammar.{weight, count, counted, expr, alias, item, comparison, cond, test, direction, having, limit, field_weight, option_value, option, facet, conds, group, within, having_part, order, options, select}
 use Rattle.token_grammar.specs.Language.{◌⨾◌, ◌∣◌}
-use Rattle.ql_grammar.specs.Parts.{IsKeyword, IsSign, IsComma, IsName, IsNumber, IsText, IsWhole, IsEnclosed, AreParens}
-use Rattle.token_grammar.specs.Values.{◌then◌, IsGiven, AreGiven, AreListed}
+use Rattle.ql_grammar.specs.Parts.{IsKeyword, IsSign, IsName, IsText, IsEnclosed}
+use Rattle.token_grammar.specs.Values.{◌then◌, IsGiven, AreGiven}
 use Rattle.ql_grammar.specs.Selects.{comparison_sign, IsExpr, IsAlias, IsItem, IsComparison, IsCond, IsWeight, IsCount, IsSort, IsInnerSort, IsGroupSort, IsDirection, IsKeyBy, IsHaving, IsLimit, IsFieldWeight, IsOptionValue, IsOption, IsFacet, AreConds, IsGroup, AreInnerKeys, IsHavingPart, AreKeys, AreOptions, IsSelected}
 use Rattle.ql_grammar.specs.steps.Selecting.{IsCounted}
 use Rattle.ql_grammar.proofs.Agreement.{agree_name, agree_number, agree_sign, agree_keyword}
 use Rattle.token_grammar.proofs.Agreement.{Agree, Agrees, agree_as, agree_listed, agree_seq}
 use Rattle.ql_grammar.proofs.Agreements.{agree_enclosed, agree_parens, agree_text, agree_whole, agree_wholes, agree_keywords}
 use Rattle.token_grammar.proofs.Agreement.{IsEither, agree_after, agree_lists, agree_optional, agree_or, agree_perhaps, agree_row}
+use Rattle.token_grammar.proofs.NamedChoices.{agree_named}
+use Rattle.ql_grammar.proofs.SelectRows.{ExprRow, ExprValue, IsExprPart, after_count, expr_part, all_exprs, TestRow, TestValue, IsTest, AreWholes, after_between, test_part, all_tests, SortRow, SortValue, IsSortPart, after_weight, sort_part, all_sorts, OptionRow, OptionParts, IsOptionPart, after_a_name, option_part, all_options}
 use Rattle.ql_grammar.specs.Alphabet.{sphinxql}
 use Rattle.ql_grammar.specs.Classes.{Class}
 
@@ -69,46 +70,37 @@ agree_weight = agree_after (agree_keyword keywords.Weight) agree_parens
 agree_count : Agrees sphinxql count IsCount
 agree_count = agree_after (agree_keyword keywords.Count) (agree_enclosed (agree_sign signs.Star))
 
-abbrev ExprValue : Type 0
-ExprValue = Option (List ℕ) ⊎ (List ℕ ⊎ (List ℕ ⊎ (List ℕ ⊎ (Unit {0} ⊎ (Unit {0} ⊎ List ℕ)))))
-
 agree_expr : Agree sphinxql expr IsExpr
-agree_expr = agree_as
-    (agree_or (agree_after (agree_keyword keywords.Count) (agree_enclosed agree_counted))
-    (agree_or (agree_argument keywords.Min)
-    (agree_or (agree_argument keywords.Max)
-    (agree_or (agree_argument keywords.Sum)
-    (agree_or agree_weight
-    (agree_or (agree_after (agree_keyword keywords.GroupBy) agree_parens) agree_name))))))
-    there back
+agree_expr = agree_as (agree_named ExprRow.count after_count all_exprs by_row) there back
   where
-    Is : ExprValue → List Lexeme → Type 0
-    Is =
-        IsEither (λ column. IsKeyword keywords.Count then IsEnclosed (IsCounted column))
-        (IsEither (λ column. IsKeyword keywords.Min then IsEnclosed (IsName column))
-        (IsEither (λ column. IsKeyword keywords.Max then IsEnclosed (IsName column))
-        (IsEither (λ column. IsKeyword keywords.Sum then IsEnclosed (IsName column))
-        (IsEither (λ _. IsWeight) (IsEither (λ _. IsKeyword keywords.GroupBy then AreParens) IsName)))))
+    by_row : (row : ExprRow) → Agree sphinxql (expr_part row) (IsExprPart row)
+    by_row ExprRow.count = agree_after (agree_keyword keywords.Count) (agree_enclosed agree_counted)
+    by_row ExprRow.least = agree_argument keywords.Min
+    by_row ExprRow.greatest = agree_argument keywords.Max
+    by_row ExprRow.sum = agree_argument keywords.Sum
+    by_row ExprRow.weight = agree_weight
+    by_row ExprRow.group_by = agree_after (agree_keyword keywords.GroupBy) agree_parens
+    by_row ExprRow.column = agree_name
 
-    there : (x : ExprValue) (u : List Lexeme) → Is x u → (y : SelectExpr) × IsExpr y u
-    there (inl None) u h = (exprs.CountAll, h)
-    there (inl (Some column)) u h = (exprs.CountDistinct column, h)
-    there (inr (inl column)) u h = (exprs.Least column, h)
-    there (inr (inr (inl column))) u h = (exprs.Greatest column, h)
-    there (inr (inr (inr (inl column)))) u h = (exprs.Sum column, h)
-    there (inr (inr (inr (inr (inl _))))) u h = (exprs.Weight, h)
-    there (inr (inr (inr (inr (inr (inl _)))))) u h = (exprs.GroupBy, h)
-    there (inr (inr (inr (inr (inr (inr column)))))) u h = (exprs.Column column, h)
+    there : (x : (row : ExprRow) × ExprValue row) (u : List Lexeme) → IsExprPart x.0 x.1 u → (y : SelectExpr) × IsExpr y u
+    there (ExprRow.count, None) u h = (exprs.CountAll, h)
+    there (ExprRow.count, Some column) u h = (exprs.CountDistinct column, h)
+    there (ExprRow.least, column) u h = (exprs.Least column, h)
+    there (ExprRow.greatest, column) u h = (exprs.Greatest column, h)
+    there (ExprRow.sum, column) u h = (exprs.Sum column, h)
+    there (ExprRow.weight, _) u h = (exprs.Weight, h)
+    there (ExprRow.group_by, _) u h = (exprs.GroupBy, h)
+    there (ExprRow.column, column) u h = (exprs.Column column, h)
 
-    back : (y : SelectExpr) (u : List Lexeme) → IsExpr y u → (x : ExprValue) × Is x u
-    back exprs.CountAll u h = (inl None, h)
-    back (exprs.CountDistinct column) u h = (inl (Some column), h)
-    back (exprs.Least column) u h = (inr (inl column), h)
-    back (exprs.Greatest column) u h = (inr (inr (inl column)), h)
-    back (exprs.Sum column) u h = (inr (inr (inr (inl column))), h)
-    back exprs.Weight u h = (inr (inr (inr (inr (inl tt)))), h)
-    back exprs.GroupBy u h = (inr (inr (inr (inr (inr (inl tt))))), h)
-    back (exprs.Column column) u h = (inr (inr (inr (inr (inr (inr column))))), h)
+    back : (y : SelectExpr) (u : List Lexeme) → IsExpr y u → (x : (row : ExprRow) × ExprValue row) × IsExprPart x.0 x.1 u
+    back exprs.CountAll u h = ((ExprRow.count, None), h)
+    back (exprs.CountDistinct column) u h = ((ExprRow.count, Some column), h)
+    back (exprs.Least column) u h = ((ExprRow.least, column), h)
+    back (exprs.Greatest column) u h = ((ExprRow.greatest, column), h)
+    back (exprs.Sum column) u h = ((ExprRow.sum, column), h)
+    back exprs.Weight u h = ((ExprRow.weight, tt), h)
+    back exprs.GroupBy u h = ((ExprRow.group_by, tt), h)
+    back (exprs.Column column) u h = ((ExprRow.column, column), h)
 
 agree_alias : Agree sphinxql alias IsAlias
 agree_alias = agree_after (agree_perhaps (agree_keyword keywords.As)) agree_name
@@ -155,63 +147,60 @@ agree_comparison = record {
   value = λ u (t, e, f). let (op, k) = comparison_kind (kind t) f in (op, (t, e, k));
 }
 
-abbrev TestValue : Type 0
-TestValue = ℤ × ℤ ⊎ (List ℤ ⊎ (List ℤ ⊎ Comparison × ℤ))
-
-abbrev IsTest : TestValue → List Lexeme → Type 0
-IsTest =
-    IsEither (λ pair. IsKeyword keywords.Between then IsWhole pair.0 then IsKeyword keywords.And then IsWhole pair.1)
-    (IsEither (λ numbers. IsKeyword keywords.Not then IsKeyword keywords.In then IsEnclosed (AreListed IsComma IsWhole numbers))
-    (IsEither (λ numbers. IsKeyword keywords.In then IsEnclosed (AreListed IsComma IsWhole numbers))
-    (λ pair. IsComparison pair.0 then IsWhole pair.1)))
-
-agree_test : Agree sphinxql test IsTest
-agree_test =
-    agree_or (agree_after (agree_keyword keywords.Between) (agree_seq agree_whole (agree_after (agree_keyword keywords.And) agree_whole)))
-    (agree_or (agree_after (agree_keyword keywords.Not) (agree_after (agree_keyword keywords.In) agree_wholes))
-    (agree_or (agree_after (agree_keyword keywords.In) agree_wholes)
-    (agree_seq agree_comparison agree_whole)))
+agree_test : Agree sphinxql test (λ (x : (row : TestRow) × TestValue row). IsTest x.0 x.1)
+agree_test = agree_named TestRow.between after_between all_tests by_row
+  where
+    by_row : (row : TestRow) → Agree sphinxql (test_part row) (IsTest row)
+    by_row TestRow.between = agree_after (agree_keyword keywords.Between) (agree_seq agree_whole (agree_after (agree_keyword keywords.And) agree_whole))
+    by_row TestRow.not_among = agree_after (agree_keyword keywords.Not) (agree_after (agree_keyword keywords.In) agree_wholes)
+    by_row TestRow.among = agree_after (agree_keyword keywords.In) agree_wholes
+    by_row TestRow.compare = agree_seq agree_comparison agree_whole
 
 agree_cond : Agree sphinxql cond IsCond
 agree_cond = agree_as (agree_or (agree_after (agree_keyword keywords.Match) (agree_enclosed agree_text)) (agree_seq agree_name agree_test)) there back
   where
-    Is : List ℕ ⊎ List ℕ × TestValue → List Lexeme → Type 0
-    Is = IsEither (λ query. IsKeyword keywords.Match then IsEnclosed (IsText query)) (λ x. IsName x.0 then IsTest x.1)
+    Value : Type 0
+    Value = List ℕ ⊎ List ℕ × ((row : TestRow) × TestValue row)
 
-    there : (x : List ℕ ⊎ List ℕ × TestValue) (u : List Lexeme) → Is x u → (y : Cond) × IsCond y u
+    Is : Value → List Lexeme → Type 0
+    Is = IsEither (λ query. IsKeyword keywords.Match then IsEnclosed (IsText query)) (λ x. IsName x.0 then IsTest x.1.0 x.1.1)
+
+    there : (x : Value) (u : List Lexeme) → Is x u → (y : Cond) × IsCond y u
     there (inl query) u h = (condition.Match query, h)
-    there (inr (column, inl (low, high))) u h = (condition.Between column low high, h)
-    there (inr (column, inr (inl numbers))) u h = (condition.Among column numbers true, h)
-    there (inr (column, inr (inr (inl numbers)))) u (a, b, e, p, q) = (condition.Among column numbers false, (a, b, e, p, ([], b, refl, refl, q)))
-    there (inr (column, inr (inr (inr (op, value))))) u h = (condition.Compare column op value, h)
+    there (inr (column, (TestRow.between, (low, high)))) u h = (condition.Between column low high, h)
+    there (inr (column, (TestRow.not_among, numbers))) u h = (condition.Among column numbers true, h)
+    there (inr (column, (TestRow.among, numbers))) u (a, b, e, p, q) = (condition.Among column numbers false, (a, b, e, p, ([], b, refl, refl, q)))
+    there (inr (column, (TestRow.compare, (op, value)))) u h = (condition.Compare column op value, h)
 
-    back : (y : Cond) (u : List Lexeme) → IsCond y u → (x : List ℕ ⊎ List ℕ × TestValue) × Is x u
+    back : (y : Cond) (u : List Lexeme) → IsCond y u → (x : Value) × Is x u
     back (condition.Match query) u h = (inl query, h)
-    back (condition.Between column low high) u h = (inr (column, inl (low, high)), h)
-    back (condition.Among column numbers true) u h = (inr (column, inr (inl numbers)), h)
+    back (condition.Between column low high) u h = (inr (column, (TestRow.between, (low, high))), h)
+    back (condition.Among column numbers true) u h = (inr (column, (TestRow.not_among, numbers)), h)
     back (condition.Among column numbers false) u (a, b, e, p, (c, d, f, g, q)) =
-        (inr (column, inr (inr (inl numbers))), (a, b, e, p, subst (λ v. (IsKeyword keywords.In then IsEnclosed (AreListed IsComma IsWhole numbers)) v) (sym (f ∙ ap (λ v. v ++ d) g)) q))
-    back (condition.Compare column op value) u h = (inr (column, inr (inr (inr (op, value)))), h)
+        (inr (column, (TestRow.among, numbers)), (a, b, e, p, subst (λ v. (IsKeyword keywords.In then AreWholes numbers) v) (sym (f ∙ ap (λ v. v ++ d) g)) q))
+    back (condition.Compare column op value) u h = (inr (column, (TestRow.compare, (op, value))), h)
 
 agree_conds : Agree sphinxql conds (AreGiven AreConds)
 agree_conds = agree_lists AreConds (λ u (a, b, e, p, q). q) (agree_after (agree_keyword keywords.Where) (agree_listed (agree_keyword keywords.And) agree_cond))
 
 -- Sorting.
 agree_sort : Agree sphinxql (weight ∣ count ∣ name) IsSort
-agree_sort = agree_as (agree_or agree_weight (agree_or agree_count agree_name)) there back
+agree_sort = agree_as (agree_named SortRow.weight after_weight all_sorts by_row) there back
   where
-    Is : Unit {0} ⊎ (Unit {0} ⊎ List ℕ) → List Lexeme → Type 0
-    Is = IsEither (λ _. IsWeight) (IsEither (λ _. IsCount) IsName)
+    by_row : (row : SortRow) → Agree sphinxql (sort_part row) (IsSortPart row)
+    by_row SortRow.weight = agree_weight
+    by_row SortRow.count = agree_count
+    by_row SortRow.column = agree_name
 
-    there : (x : Unit {0} ⊎ (Unit {0} ⊎ List ℕ)) (u : List Lexeme) → Is x u → (y : SortName) × IsSort y u
-    there (inl _) u h = (sorts.Weight, h)
-    there (inr (inl _)) u h = (sorts.CountAll, h)
-    there (inr (inr column)) u h = (sorts.Column column, h)
+    there : (x : (row : SortRow) × SortValue row) (u : List Lexeme) → IsSortPart x.0 x.1 u → (y : SortName) × IsSort y u
+    there (SortRow.weight, _) u h = (sorts.Weight, h)
+    there (SortRow.count, _) u h = (sorts.CountAll, h)
+    there (SortRow.column, column) u h = (sorts.Column column, h)
 
-    back : (y : SortName) (u : List Lexeme) → IsSort y u → (x : Unit {0} ⊎ (Unit {0} ⊎ List ℕ)) × Is x u
-    back sorts.Weight u h = (inl tt, h)
-    back sorts.CountAll u h = (inr (inl tt), h)
-    back (sorts.Column column) u h = (inr (inr column), h)
+    back : (y : SortName) (u : List Lexeme) → IsSort y u → (x : (row : SortRow) × SortValue row) × IsSortPart x.0 x.1 u
+    back sorts.Weight u h = ((SortRow.weight, tt), h)
+    back sorts.CountAll u h = ((SortRow.count, tt), h)
+    back (sorts.Column column) u h = ((SortRow.column, column), h)
 
 agree_inner_sort : Agree sphinxql (weight ∣ name) IsInnerSort
 agree_inner_sort = agree_as (agree_or agree_weight agree_name) there back
@@ -285,28 +274,26 @@ agree_limit = agree_as
 agree_field_weight : Agree sphinxql field_weight IsFieldWeight
 agree_field_weight = agree_seq agree_name (agree_after (agree_sign signs.Equal) agree_number)
 
-abbrev OptionParts : Type 0
-OptionParts = List ℕ ⊎ (ℕ ⊎ (List ℕ ⊎ List (List ℕ × ℕ)))
-
 agree_option_value : Agree sphinxql option_value IsOptionValue
-agree_option_value = agree_as
-    (agree_or agree_name (agree_or agree_number (agree_or agree_text (agree_enclosed (agree_listed (agree_sign signs.Comma) agree_field_weight)))))
-    there back
+agree_option_value = agree_as (agree_named OptionRow.a_name after_a_name all_options by_row) there back
   where
-    Is : OptionParts → List Lexeme → Type 0
-    Is = IsEither IsName (IsEither IsNumber (IsEither IsText (λ pairs. IsEnclosed (AreListed IsComma IsFieldWeight pairs))))
+    by_row : (row : OptionRow) → Agree sphinxql (option_part row) (IsOptionPart row)
+    by_row OptionRow.a_name = agree_name
+    by_row OptionRow.a_number = agree_number
+    by_row OptionRow.a_text = agree_text
+    by_row OptionRow.a_list = agree_enclosed (agree_listed (agree_sign signs.Comma) agree_field_weight)
 
-    there : (x : OptionParts) (u : List Lexeme) → Is x u → (y : OptionValue) × IsOptionValue y u
-    there (inl keyword) u h = (values.Name keyword, h)
-    there (inr (inl n)) u h = (values.Number n, h)
-    there (inr (inr (inl words))) u h = (values.Text words, h)
-    there (inr (inr (inr pairs))) u h = (values.List pairs, h)
+    there : (x : (row : OptionRow) × OptionParts row) (u : List Lexeme) → IsOptionPart x.0 x.1 u → (y : OptionValue) × IsOptionValue y u
+    there (OptionRow.a_name, keyword) u h = (values.Name keyword, h)
+    there (OptionRow.a_number, n) u h = (values.Number n, h)
+    there (OptionRow.a_text, words) u h = (values.Text words, h)
+    there (OptionRow.a_list, pairs) u h = (values.List pairs, h)
 
-    back : (y : OptionValue) (u : List Lexeme) → IsOptionValue y u → (x : OptionParts) × Is x u
-    back (values.Name keyword) u h = (inl keyword, h)
-    back (values.Number n) u h = (inr (inl n), h)
-    back (values.Text words) u h = (inr (inr (inl words)), h)
-    back (values.List pairs) u h = (inr (inr (inr pairs)), h)
+    back : (y : OptionValue) (u : List Lexeme) → IsOptionValue y u → (x : (row : OptionRow) × OptionParts row) × IsOptionPart x.0 x.1 u
+    back (values.Name keyword) u h = ((OptionRow.a_name, keyword), h)
+    back (values.Number n) u h = ((OptionRow.a_number, n), h)
+    back (values.Text words) u h = ((OptionRow.a_text, words), h)
+    back (values.List pairs) u h = ((OptionRow.a_list, pairs), h)
 
 agree_option : Agree sphinxql option IsOption
 agree_option = agree_as (agree_seq agree_name (agree_after (agree_sign signs.Equal) agree_option_value)) (λ x u h. (record { name = x.0; value = x.1 }, h)) (λ y u h. ((y.name, y.value), h))

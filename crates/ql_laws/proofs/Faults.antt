@@ -8,7 +8,7 @@ use Rattle.ql_grammar.specs.declared.fault.ParseKind.{ParseKind}
 use Rattle.ql_grammar.specs.declared.fault.ParseKind.TheVariants.{Syntax, TooMany}
 use Rattle.ql_grammar.specs.declared.statement.Statement.{Statement}
 use Rattle.ql_grammar.specs.declared.statement.TheConstants.{MAX_STATEMENTS}
-use Rattle.ql_grammar.specs.Packets.{IsPacket, BeginsLong, BeginsPacket, HasKind, IsFault}
+use Rattle.ql_grammar.specs.Packets.{IsPacket, BeginsPacket, HasKind, IsFault}
 
 pub packet_no_fault : (tokens : List Lexeme) (list : List Statement) (fault : ParseFault) → IsPacket list tokens → length list ≤ MAX_STATEMENTS → IsFault tokens fault → ⊥
 packet_no_fault tokens list fault h few f =

@@ -27,15 +27,17 @@ use Rattle.token_grammar.specs.Language.{Re}
 use Rattle.ql_grammar.specs.Terminals.{keyword, name, enclosed}
 use Rattle.ql_grammar.specs.steps.Grammar.{weight, count, counted, expr, alias, item, cond, test, direction, having, limit, field_weight, option_value, option, facet, conds, group, within, having_part, order, options, select}
 use Rattle.token_grammar.specs.Language.{◌⨾◌, ◌∣◌}
-use Rattle.ql_grammar.specs.Parts.{IsKeyword, IsSign, IsComma, IsName, IsNumber, IsText, IsWhole, IsEnclosed, AreParens}
-use Rattle.token_grammar.specs.Values.{◌then◌, IsGiven, AreGiven, AreListed}
+use Rattle.ql_grammar.specs.Parts.{IsKeyword, IsSign, IsName, IsText, IsEnclosed}
+use Rattle.token_grammar.specs.Values.{◌then◌, IsGiven, AreGiven}
 use Rattle.ql_grammar.specs.steps.GoingOn.{item_goes_on, key_goes_on, facet_goes_on, select_goes_on}
-use Rattle.ql_grammar.specs.Selects.{IsExpr, IsAlias, IsItem, IsComparison, IsCond, IsWeight, IsCount, IsSort, IsInnerSort, IsGroupSort, IsDirection, IsKeyBy, IsHaving, IsLimit, IsFieldWeight, IsOptionValue, IsOption, IsFacet, AreConds, IsGroup, AreInnerKeys, IsHavingPart, AreKeys, AreOptions, IsSelected}
+use Rattle.ql_grammar.specs.Selects.{IsExpr, IsAlias, IsItem, IsCond, IsWeight, IsCount, IsSort, IsInnerSort, IsGroupSort, IsDirection, IsKeyBy, IsHaving, IsLimit, IsFieldWeight, IsOptionValue, IsOption, IsFacet, AreConds, IsGroup, AreInnerKeys, IsHavingPart, AreKeys, AreOptions, IsSelected}
 use Rattle.ql_grammar.specs.steps.Selecting.{IsCounted}
 use Rattle.token_grammar.proofs.Agreement.{IsEither}
 use Rattle.token_grammar.proofs.Once.{Once, IsOnce, once_as, once_after, once_seq, once_wider}
 use Rattle.token_grammar.proofs.OnceChoices.{once_either, once_listed, once_lists, once_optional, once_or, once_perhaps, once_row, parted_two}
 use Rattle.ql_laws.proofs.OnceParts.{once_comparison, once_enclosed, once_name, once_number, once_parens, once_sign, once_text, once_whole, once_wholes, once_keyword, once_keywords}
+use Rattle.token_grammar.proofs.NamedChoices.{AreParted, once_named, parted_firsts}
+use Rattle.ql_grammar.proofs.SelectRows.{ExprRow, ExprValue, IsExprPart, after_count, expr_part, all_exprs, TestRow, TestValue, IsTest, AreWholes, after_between, test_part, all_tests, SortRow, SortValue, IsSortPart, after_weight, sort_part, all_sorts, OptionRow, OptionParts, IsOptionPart, after_a_name, option_part, all_options}
 use Rattle.ql_grammar.specs.Alphabet.{sphinxql}
 
 -- a name may go on as a call
@@ -63,47 +65,40 @@ once_weight = once_after (once_keyword keywords.Weight) once_parens refl
 once_count : IsOnce sphinxql count [] IsCount
 once_count = once_after (once_keyword keywords.Count) (once_enclosed (once_sign signs.Star) refl) refl
 
-abbrev ExprValue : Type 0
-ExprValue = Option (List ℕ) ⊎ (List ℕ ⊎ (List ℕ ⊎ (List ℕ ⊎ (Unit {0} ⊎ (Unit {0} ⊎ List ℕ)))))
-
 once_expr : Once sphinxql expr opens IsExpr
-once_expr = once_wider (once_as
-    (once_or opens (once_after (once_keyword keywords.Count) (once_enclosed once_counted refl) refl)
-    (once_or opens (once_argument keywords.Min)
-    (once_or opens (once_argument keywords.Max)
-    (once_or opens (once_argument keywords.Sum)
-    (once_or opens once_weight
-    (once_or opens (once_after (once_keyword keywords.GroupBy) once_parens refl) once_name (parted_two refl refl))
-    (parted_two refl refl)) (parted_two refl refl)) (parted_two refl refl)) (parted_two refl refl)) (parted_two refl refl))
-    value back) refl
+once_expr = once_as (once_named ExprRow.count after_count all_exprs all_apart by_row) value back
   where
-    Is : ExprValue → List Lexeme → Type 0
-    Is =
-        IsEither (λ column. IsKeyword keywords.Count then IsEnclosed (IsCounted column))
-        (IsEither (λ column. IsKeyword keywords.Min then IsEnclosed (IsName column))
-        (IsEither (λ column. IsKeyword keywords.Max then IsEnclosed (IsName column))
-        (IsEither (λ column. IsKeyword keywords.Sum then IsEnclosed (IsName column))
-        (IsEither (λ _. IsWeight) (IsEither (λ _. IsKeyword keywords.GroupBy then AreParens) IsName)))))
+    all_apart : AreParted sphinxql opens expr_part ExprRow.count after_count
+    all_apart = (parted_two refl refl, (parted_two refl refl, (parted_two refl refl, (parted_two refl refl, (parted_two refl refl, (parted_two refl refl, tt))))))
 
-    value : ExprValue → SelectExpr
-    value (inl None) = exprs.CountAll
-    value (inl (Some column)) = exprs.CountDistinct column
-    value (inr (inl column)) = exprs.Least column
-    value (inr (inr (inl column))) = exprs.Greatest column
-    value (inr (inr (inr (inl column)))) = exprs.Sum column
-    value (inr (inr (inr (inr (inl _))))) = exprs.Weight
-    value (inr (inr (inr (inr (inr (inl _)))))) = exprs.GroupBy
-    value (inr (inr (inr (inr (inr (inr column)))))) = exprs.Column column
+    by_row : (row : ExprRow) → Once sphinxql (expr_part row) opens (IsExprPart row)
+    by_row ExprRow.count = once_wider (once_after (once_keyword keywords.Count) (once_enclosed once_counted refl) refl) refl
+    by_row ExprRow.least = once_wider (once_argument keywords.Min) refl
+    by_row ExprRow.greatest = once_wider (once_argument keywords.Max) refl
+    by_row ExprRow.sum = once_wider (once_argument keywords.Sum) refl
+    by_row ExprRow.weight = once_wider once_weight refl
+    by_row ExprRow.group_by = once_wider (once_after (once_keyword keywords.GroupBy) once_parens refl) refl
+    by_row ExprRow.column = once_wider once_name refl
 
-    back : (y : SelectExpr) (u : List Lexeme) → IsExpr y u → (x : ExprValue) × Is x u × (value x ≡ y)
-    back exprs.CountAll u h = (inl None, h, refl)
-    back (exprs.CountDistinct column) u h = (inl (Some column), h, refl)
-    back (exprs.Least column) u h = (inr (inl column), h, refl)
-    back (exprs.Greatest column) u h = (inr (inr (inl column)), h, refl)
-    back (exprs.Sum column) u h = (inr (inr (inr (inl column))), h, refl)
-    back exprs.Weight u h = (inr (inr (inr (inr (inl tt)))), h, refl)
-    back exprs.GroupBy u h = (inr (inr (inr (inr (inr (inl tt))))), h, refl)
-    back (exprs.Column column) u h = (inr (inr (inr (inr (inr (inr column))))), h, refl)
+    value : (row : ExprRow) × ExprValue row → SelectExpr
+    value (ExprRow.count, None) = exprs.CountAll
+    value (ExprRow.count, Some column) = exprs.CountDistinct column
+    value (ExprRow.least, column) = exprs.Least column
+    value (ExprRow.greatest, column) = exprs.Greatest column
+    value (ExprRow.sum, column) = exprs.Sum column
+    value (ExprRow.weight, _) = exprs.Weight
+    value (ExprRow.group_by, _) = exprs.GroupBy
+    value (ExprRow.column, column) = exprs.Column column
+
+    back : (y : SelectExpr) (u : List Lexeme) → IsExpr y u → (x : (row : ExprRow) × ExprValue row) × IsExprPart x.0 x.1 u × (value x ≡ y)
+    back exprs.CountAll u h = ((ExprRow.count, None), h, refl)
+    back (exprs.CountDistinct column) u h = ((ExprRow.count, Some column), h, refl)
+    back (exprs.Least column) u h = ((ExprRow.least, column), h, refl)
+    back (exprs.Greatest column) u h = ((ExprRow.greatest, column), h, refl)
+    back (exprs.Sum column) u h = ((ExprRow.sum, column), h, refl)
+    back exprs.Weight u h = ((ExprRow.weight, tt), h, refl)
+    back exprs.GroupBy u h = ((ExprRow.group_by, tt), h, refl)
+    back (exprs.Column column) u h = ((ExprRow.column, column), h, refl)
 
 once_alias : Once sphinxql alias [] IsAlias
 once_alias = once_after (once_perhaps (once_keyword keywords.As) refl) once_name refl
@@ -123,65 +118,60 @@ once_item = once_wider (once_as (once_either (once_sign signs.Star) (once_seq on
     back (items.One e a) u h = (inr (e, a), h, refl)
 
 -- Conditions.
-abbrev TestValue : Type 0
-TestValue = ℤ × ℤ ⊎ (List ℤ ⊎ (List ℤ ⊎ Comparison × ℤ))
-
-abbrev AreWholes : List ℤ → List Lexeme → Type 0
-AreWholes numbers = IsEnclosed (AreListed IsComma IsWhole numbers)
-
-abbrev IsTest : TestValue → List Lexeme → Type 0
-IsTest =
-    IsEither (λ x. IsKeyword keywords.Between then IsWhole x.0 then IsKeyword keywords.And then IsWhole x.1)
-    (IsEither (λ numbers. IsKeyword keywords.Not then IsKeyword keywords.In then AreWholes numbers)
-    (IsEither (λ numbers. IsKeyword keywords.In then AreWholes numbers) (λ x. IsComparison x.0 then IsWhole x.1)))
-
-once_test : Once sphinxql test [] IsTest
-once_test =
-    once_either (once_after (once_keyword keywords.Between) (once_seq once_whole (once_after (once_keyword keywords.And) once_whole refl) refl) refl)
-    (once_either (once_after (once_keyword keywords.Not) (once_after (once_keyword keywords.In) once_wholes refl) refl)
-    (once_either (once_after (once_keyword keywords.In) once_wholes refl)
-    (once_seq once_comparison once_whole refl) refl refl refl) refl refl refl) refl refl refl
+once_test : Once sphinxql test [] (λ (x : (row : TestRow) × TestValue row). IsTest x.0 x.1)
+once_test = once_named TestRow.between after_between all_tests (parted_firsts sphinxql [] test_part TestRow.between after_between refl) by_row
+  where
+    by_row : (row : TestRow) → Once sphinxql (test_part row) [] (IsTest row)
+    by_row TestRow.between = once_after (once_keyword keywords.Between) (once_seq once_whole (once_after (once_keyword keywords.And) once_whole refl) refl) refl
+    by_row TestRow.not_among = once_after (once_keyword keywords.Not) (once_after (once_keyword keywords.In) once_wholes refl) refl
+    by_row TestRow.among = once_after (once_keyword keywords.In) once_wholes refl
+    by_row TestRow.compare = once_seq once_comparison once_whole refl
 
 once_cond : Once sphinxql cond [] IsCond
 once_cond = once_as (once_either (once_after (once_keyword keywords.Match) (once_enclosed once_text refl) refl) (once_seq once_name once_test refl) refl refl refl) value back
   where
-    Is : List ℕ ⊎ List ℕ × TestValue → List Lexeme → Type 0
-    Is = IsEither (λ query. IsKeyword keywords.Match then IsEnclosed (IsText query)) (λ x. IsName x.0 then IsTest x.1)
+    Value : Type 0
+    Value = List ℕ ⊎ List ℕ × ((row : TestRow) × TestValue row)
 
-    value : List ℕ ⊎ List ℕ × TestValue → Cond
+    Is : Value → List Lexeme → Type 0
+    Is = IsEither (λ query. IsKeyword keywords.Match then IsEnclosed (IsText query)) (λ x. IsName x.0 then IsTest x.1.0 x.1.1)
+
+    value : Value → Cond
     value (inl query) = condition.Match query
-    value (inr (column, inl (low, high))) = condition.Between column low high
-    value (inr (column, inr (inl numbers))) = condition.Among column numbers true
-    value (inr (column, inr (inr (inl numbers)))) = condition.Among column numbers false
-    value (inr (column, inr (inr (inr (op, z))))) = condition.Compare column op z
+    value (inr (column, (TestRow.between, (low, high)))) = condition.Between column low high
+    value (inr (column, (TestRow.not_among, numbers))) = condition.Among column numbers true
+    value (inr (column, (TestRow.among, numbers))) = condition.Among column numbers false
+    value (inr (column, (TestRow.compare, (op, z)))) = condition.Compare column op z
 
-    back : (y : Cond) (u : List Lexeme) → IsCond y u → (x : List ℕ ⊎ List ℕ × TestValue) × Is x u × (value x ≡ y)
+    back : (y : Cond) (u : List Lexeme) → IsCond y u → (x : Value) × Is x u × (value x ≡ y)
     back (condition.Match query) u h = (inl query, h, refl)
-    back (condition.Between column low high) u h = (inr (column, inl (low, high)), h, refl)
-    back (condition.Among column numbers true) u h = (inr (column, inr (inl numbers)), h, refl)
+    back (condition.Between column low high) u h = (inr (column, (TestRow.between, (low, high))), h, refl)
+    back (condition.Among column numbers true) u h = (inr (column, (TestRow.not_among, numbers)), h, refl)
     back (condition.Among column numbers false) u (a, b, e, p, (c, d, f, g, q)) =
-        (inr (column, inr (inr (inl numbers))), (a, b, e, p, subst (λ v. (IsKeyword keywords.In then AreWholes numbers) v) (sym (f ∙ ap (λ v. v ++ d) g)) q), refl)
-    back (condition.Compare column op z) u h = (inr (column, inr (inr (inr (op, z)))), h, refl)
+        (inr (column, (TestRow.among, numbers)), (a, b, e, p, subst (λ v. (IsKeyword keywords.In then AreWholes numbers) v) (sym (f ∙ ap (λ v. v ++ d) g)) q), refl)
+    back (condition.Compare column op z) u h = (inr (column, (TestRow.compare, (op, z))), h, refl)
 
 once_conds : Once sphinxql conds (the_keyword keywords.Where ∷ the_keyword keywords.And ∷ []) (AreGiven AreConds)
 once_conds = once_lists AreConds (once_after (once_keyword keywords.Where) (once_listed (once_keyword keywords.And) once_cond refl refl) refl) refl
 
 -- Sorting.
 once_sort : Once sphinxql (weight ∣ count ∣ name) opens IsSort
-once_sort = once_wider (once_as (once_or opens once_weight (once_or opens once_count once_name (parted_two refl refl)) (parted_two refl refl)) value back) refl
+once_sort = once_as (once_named SortRow.weight after_weight all_sorts (parted_two refl refl, (parted_two refl refl, tt)) by_row) value back
   where
-    Is : Unit {0} ⊎ (Unit {0} ⊎ List ℕ) → List Lexeme → Type 0
-    Is = IsEither (λ _. IsWeight) (IsEither (λ _. IsCount) IsName)
+    by_row : (row : SortRow) → Once sphinxql (sort_part row) opens (IsSortPart row)
+    by_row SortRow.weight = once_wider once_weight refl
+    by_row SortRow.count = once_wider once_count refl
+    by_row SortRow.column = once_wider once_name refl
 
-    value : Unit {0} ⊎ (Unit {0} ⊎ List ℕ) → SortName
-    value (inl _) = sorts.Weight
-    value (inr (inl _)) = sorts.CountAll
-    value (inr (inr column)) = sorts.Column column
+    value : (row : SortRow) × SortValue row → SortName
+    value (SortRow.weight, _) = sorts.Weight
+    value (SortRow.count, _) = sorts.CountAll
+    value (SortRow.column, column) = sorts.Column column
 
-    back : (y : SortName) (u : List Lexeme) → IsSort y u → (x : Unit {0} ⊎ (Unit {0} ⊎ List ℕ)) × Is x u × (value x ≡ y)
-    back sorts.Weight u h = (inl tt, h, refl)
-    back sorts.CountAll u h = (inr (inl tt), h, refl)
-    back (sorts.Column column) u h = (inr (inr column), h, refl)
+    back : (y : SortName) (u : List Lexeme) → IsSort y u → (x : (row : SortRow) × SortValue row) × IsSortPart x.0 x.1 u × (value x ≡ y)
+    back sorts.Weight u h = ((SortRow.weight, tt), h, refl)
+    back sorts.CountAll u h = ((SortRow.count, tt), h, refl)
+    back (sorts.Column column) u h = ((SortRow.column, column), h, refl)
 
 once_inner_sort : Once sphinxql (weight ∣ name) opens IsInnerSort
 once_inner_sort = once_as (once_or opens once_weight once_name (parted_two refl refl)) value back
@@ -256,28 +246,28 @@ once_limit = once_as
 once_field_weight : Once sphinxql field_weight [] IsFieldWeight
 once_field_weight = once_seq once_name (once_after (once_sign signs.Equal) once_number refl) refl
 
-abbrev OptionParts : Type 0
-OptionParts = List ℕ ⊎ (ℕ ⊎ (List ℕ ⊎ List (List ℕ × ℕ)))
-
 once_option_value : Once sphinxql option_value [] IsOptionValue
 once_option_value = once_as
-    (once_either once_name (once_either once_number (once_either once_text (once_enclosed (once_listed (once_sign signs.Comma) once_field_weight refl refl) refl) refl refl refl) refl refl refl) refl refl refl)
+    (once_named OptionRow.a_name after_a_name all_options (parted_firsts sphinxql [] option_part OptionRow.a_name after_a_name refl) by_row)
     value back
   where
-    Is : OptionParts → List Lexeme → Type 0
-    Is = IsEither IsName (IsEither IsNumber (IsEither IsText (λ pairs. IsEnclosed (AreListed IsComma IsFieldWeight pairs))))
+    by_row : (row : OptionRow) → Once sphinxql (option_part row) [] (IsOptionPart row)
+    by_row OptionRow.a_name = once_name
+    by_row OptionRow.a_number = once_number
+    by_row OptionRow.a_text = once_text
+    by_row OptionRow.a_list = once_enclosed (once_listed (once_sign signs.Comma) once_field_weight refl refl) refl
 
-    value : OptionParts → OptionValue
-    value (inl keyword) = values.Name keyword
-    value (inr (inl n)) = values.Number n
-    value (inr (inr (inl words))) = values.Text words
-    value (inr (inr (inr pairs))) = values.List pairs
+    value : (row : OptionRow) × OptionParts row → OptionValue
+    value (OptionRow.a_name, keyword) = values.Name keyword
+    value (OptionRow.a_number, n) = values.Number n
+    value (OptionRow.a_text, words) = values.Text words
+    value (OptionRow.a_list, pairs) = values.List pairs
 
-    back : (y : OptionValue) (u : List Lexeme) → IsOptionValue y u → (x : OptionParts) × Is x u × (value x ≡ y)
-    back (values.Name keyword) u h = (inl keyword, h, refl)
-    back (values.Number n) u h = (inr (inl n), h, refl)
-    back (values.Text words) u h = (inr (inr (inl words)), h, refl)
-    back (values.List pairs) u h = (inr (inr (inr pairs)), h, refl)
+    back : (y : OptionValue) (u : List Lexeme) → IsOptionValue y u → (x : (row : OptionRow) × OptionParts row) × IsOptionPart x.0 x.1 u × (value x ≡ y)
+    back (values.Name keyword) u h = ((OptionRow.a_name, keyword), h, refl)
+    back (values.Number n) u h = ((OptionRow.a_number, n), h, refl)
+    back (values.Text words) u h = ((OptionRow.a_text, words), h, refl)
+    back (values.List pairs) u h = ((OptionRow.a_list, pairs), h, refl)
 
 once_option : Once sphinxql option [] IsOption
 once_option = once_as (once_seq once_name (once_after (once_sign signs.Equal) once_option_value refl) refl) value (λ y u h. ((y.name, y.value), h, refl))

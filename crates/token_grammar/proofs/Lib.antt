@@ -9,4 +9,5 @@ pub mod Lookahead
 pub mod Agreement
 pub mod Once
 pub mod OnceChoices
+pub mod NamedChoices
 pub mod Stops
