@@ -10,7 +10,7 @@ use Rattle.charset_map.specs.declared.entries.CharRange.{CharRange}
 use Rattle.charset_map.specs.declared.entries.Entry.{Entry}
 use Rattle.charset_map.specs.Characters.{IsCharacter, is_plain}
 use Rattle.charset_map.specs.Entries.{IsRange, single, range, mapped, mapped_range}
-use Rattle.charset_map.specs.Table.{steps, IsEven, value_in, value_of, Agree}
+use Rattle.charset_map.specs.Table.{steps, IsEven, value_in, value_of, NeverDiffer}
 use Rattle.charset_map.specs.TableText.{entry_texts, AreEntries, IsTableOf, default_text}
 
 -- ---- the entries
@@ -122,7 +122,7 @@ in_entry entry c v is =
     let both = and_parts _ _ (chosen (leb entry.from.first c && leb c entry.from.last) _ v is) in
     (leb-true _ _ both.0, leb-true _ _ both.1)
 
-agree_apart : (entry later : Entry) → are_apart entry later ≡ true → Agree (value_in entry) (value_in later)
+agree_apart : (entry later : Entry) → are_apart entry later ≡ true → NeverDiffer (value_in entry) (value_in later)
 agree_apart entry later test c v w known gives gets =
     let here = in_entry entry c v gives in
     let there = in_entry later c w gets in
@@ -136,7 +136,7 @@ apart_at entry [] k d test below = absurd (omega arith)
 apart_at entry (later ∷ entries) zero d test below = (and_parts _ _ test).0
 apart_at entry (later ∷ entries) (suc k) d test below = apart_at entry entries k d (and_parts _ _ test).1 (omega arith)
 
-all_agree : (entries : List Entry) → all_apart entries ≡ true → AllPairs (λ entry later. Agree (value_in entry) (value_in later)) entries
+all_agree : (entries : List Entry) → all_apart entries ≡ true → AllPairs (λ entry later. NeverDiffer (value_in entry) (value_in later)) entries
 all_agree [] test i j d order below = absurd (omega arith)
 all_agree (entry ∷ entries) test i zero d order below = absurd (omega arith)
 all_agree (entry ∷ entries) test zero (suc j) d order below = agree_apart entry (get_or entries j d) (apart_at entry entries j d (and_parts _ _ test).0 (omega arith))

@@ -12,7 +12,7 @@ use Rattle.charset_map.specs.declared.entries.Entry.{Entry}
 use Rattle.charset_map.specs.declared.span.Span.{Span}
 use Rattle.charset_map.specs.Characters.{ordinal, character_at, IsCharacter}
 use Rattle.charset_map.specs.Entries.{IsSingle, IsRange, IsEntry, single, range, mapped, mapped_range}
-use Rattle.charset_map.specs.Table.{IsEven, value_in, value_of, Agree, IsTable}
+use Rattle.charset_map.specs.Table.{IsEven, value_in, value_of, NeverDiffer, IsTable}
 use Rattle.charset_map.specs.TableText.{GivesAnother}
 use Rattle.charset_map.specs.Spans.{number_in}
 use Rattle.charset_map.specs.steps.SpanLists.{SameWhereBoth, Differ}
@@ -160,7 +160,7 @@ stands_for_more old new entries entry span ends is same more stands =
     record {
       sound = record {
         even = All-push IsEven entries entry stands.sound.even is.even;
-        agree = all_pairs_push (λ (first later : Entry). Agree (value_in first) (value_in later)) entries entry stands.sound.agree (λ k d below c v w scalar gives gets.
+        agree = all_pairs_push (λ (first later : Entry). NeverDiffer (value_in first) (value_in later)) entries entry stands.sound.agree (λ k d below c v w scalar gives gets.
             let had = from_map (old (ordinal c)) v (stands.values c scalar ∙ table_value entries k c v d stands.sound scalar below gives) in
             let new_one = from_map (number_in span (ordinal c)) w (sym (by c scalar) ∙ gets) in
             let one : had.0 ≡ new_one.0 = same (ordinal c) had.0 new_one.0 had.1 new_one.1 in

@@ -29,11 +29,11 @@ abbrev pub value_of : List Entry → ℕ → Option ℕ
 value_of [] c = None
 value_of (entry ∷ entries) c = option_or (value_in entry c) (value_of entries c)
 
--- no character has two values
-abbrev pub Agree : (ℕ → Option ℕ) → (ℕ → Option ℕ) → Type 0
-Agree f g = (c v w : ℕ) → IsScalar c → f c ≡ Some v → g c ≡ Some w → v ≡ w
+-- no character has one value by the first and another by the second
+abbrev pub NeverDiffer : (ℕ → Option ℕ) → (ℕ → Option ℕ) → Type 0
+NeverDiffer f g = (c v w : ℕ) → IsScalar c → f c ≡ Some v → g c ≡ Some w → v ≡ w
 
 -- the entries are those of a table: each is even, and no two give a character different values
 pub record IsTable (entries : List Entry) : Type 0 where
   pub even : All IsEven entries
-  pub agree : AllPairs (λ entry later. Agree (value_in entry) (value_in later)) entries
+  pub agree : AllPairs (λ entry later. NeverDiffer (value_in entry) (value_in later)) entries

@@ -5,9 +5,7 @@ use Rattle.std.proofs.lemmas.List.Concat.{flat_map-append}
 use Rattle.std.specs.List.{flat_map}
 use Rattle.srch_base.specs.Counts.{Rose}
 use Rattle.srch_base.specs.steps.Counting.{Rose-earlier}
-use Rattle.srch_base.specs.declared.faults.Failed.{Failed}
 use Rattle.srch_base.specs.Moves.{Meters, IsCut}
-use Rattle.srch_base.specs.steps.Writing.{WritesAll}
 use Rattle.srch_base.specs.steps.Moving.{Later}
 use Rattle.mysql_wire.specs.Packets.{packet, max_payload, BeginsWith}
 use Rattle.mysql_wire.specs.Commands.{command_of, Quit as asks_quit}
@@ -15,7 +13,7 @@ use Rattle.mysql_wire.specs.Handshake.{Response, IsResponse}
 use Rattle.mysql_wire.specs.Replies.{ok_packet, greeting}
 use Rattle.serve_line.specs.Machines.{Machine, FollowAll}
 use Rattle.serve_line.specs.Line.{Phase, Opened, Greeted, Talking, most_commands, Turn, Step, Run, Refuses, Finish, Stops, Ends}
-use Rattle.serve_line.specs.steps.Serving.{Goes, GoesOn, RefusesWith}
+use Rattle.serve_line.specs.steps.Serving.{Goes, GoesOn, RefusesWith, Sends}
 use Rattle.serve_line.specs.declared.line.LinkEnd.{LinkEnd}
 use Rattle.serve_line.specs.declared.line.LinkEnd.TheVariants.{Quit, End, Truncated, BadHandshake, TooLarge, OutOfOrder, ReadFault, WriteFault, Worn, NoMemory}
 
@@ -138,15 +136,15 @@ module _ {S E : Type 0} (machine : Machine S E) where
       ends_at before now WriteFault (record { phase = old; rest = held; last = written; events = turn.events }) (rose, inl (turn, new, kept, step, whole, cut, refl))
 
   -- A turn was written, or a front of it.
-  pub turned : (first before now : Meters) (result : Result (Unit {0}) Failed) (old new : Phase S) (turn : Turn E) (held read written mid kept read' written' bytes : List ℕ) → Later first before
+  pub turned : (first before now : Meters) (result : Result (Unit {0}) LinkEnd) (old new : Phase S) (turn : Turn E) (held read written mid kept read' written' bytes : List ℕ) → Later first before
       → GoesOn machine old held read written [] old mid → Step machine old turn new → mid ≡ turn.read ++ kept → bytes ≡ turn.written
-      → WritesAll result bytes before now read' written'
-      → Goes {T = Unit {0}} machine first now (elim result [ Ok x ↦ Ok tt | Err e ↦ Err WriteFault ]) old held (read ++ read') (written ++ written') turn.events new kept
+      → Sends result bytes before now read' written'
+      → Goes machine first now result old held (read ++ read') (written ++ written') turn.events new kept
   turned first before now (Ok x) old new turn held read written mid kept read' written' bytes later goes step whole is wrote =
-      rw (wrote.0, wrote.1, is) (goes_then first before now (Ok tt) old old new held read written mid [] turn.written kept [] turn.events later goes (one_turn old new turn mid kept step whole))
+      rw (wrote.0, wrote.1, is) (goes_then first before now (Ok x) old old new held read written mid [] turn.written kept [] turn.events later goes (one_turn old new turn mid kept step whole))
   turned first before now (Err e) old new turn held read written mid kept read' written' bytes later goes step whole is wrote =
-      rw wrote.0 (goes_then first before now (Err WriteFault) old old new held read written mid [] written' kept [] turn.events later goes
-      (cut_short before now old new turn mid kept written' step whole (subst (λ (b : List ℕ). IsCut written' b) is wrote.1) wrote.2))
+      rw (wrote.0, wrote.1) (goes_then first before now (Err WriteFault) old old new held read written mid [] written' kept [] turn.events later goes
+      (cut_short before now old new turn mid kept written' step whole (subst (λ (b : List ℕ). IsCut written' b) is wrote.2) wrote.3))
 
   -- After reading, the bytes were refused.
   pub refused_then : (first before now : Meters) (result end : LinkEnd) (phase : Phase S) (held read written mid refusal read' written' : List ℕ) → Later first before
@@ -181,14 +179,14 @@ module _ {S E : Type 0} (machine : Machine S E) where
   }
 
   -- The greeting was written, or a front of it.
-  pub greeted : (connection : ℕ) (start : S) (before now : Meters) (result : Result (Unit {0}) Failed) (read written bytes : List ℕ) → bytes ≡ greeting connection
-      → WritesAll result bytes before now read written
-      → Goes {T = Unit {0}} machine before now (elim result [ Ok x ↦ Ok tt | Err e ↦ Err WriteFault ]) (Opened connection start) [] read written [] (Greeted start) []
+  pub greeted : (connection : ℕ) (start : S) (before now : Meters) (result : Result (Unit {0}) LinkEnd) (read written bytes : List ℕ) → bytes ≡ greeting connection
+      → Sends result bytes before now read written
+      → Goes machine before now result (Opened connection start) [] read written [] (Greeted start) []
   greeted connection start before now (Ok x) read written bytes is wrote = rw (wrote.0, wrote.1, is)
       (one_turn (Opened connection start) (Greeted start) (record { read = []; written = greeting connection; events = [] }) [] [] (refl, refl, refl, refl) refl)
   greeted connection start before now (Err e) read written bytes is wrote =
-      rw wrote.0 (cut_short before now (Opened connection start) (Greeted start) (record { read = []; written = greeting connection; events = [] }) [] [] written (refl, refl, refl, refl) refl
-      (subst (λ (b : List ℕ). IsCut written b) is wrote.1) wrote.2)
+      rw (wrote.0, wrote.1) (cut_short before now (Opened connection start) (Greeted start) (record { read = []; written = greeting connection; events = [] }) [] [] written (refl, refl, refl, refl) refl
+      (subst (λ (b : List ℕ). IsCut written b) is wrote.2) wrote.3)
 
 -- what an accepted response's turn is
 abbrev pub response_turn : (E : Type 0) → ℕ → List ℕ → Turn E

@@ -14,9 +14,9 @@ use crate::Answerer;
 use crate::packets::{Shaken, Taken, take_command, take_response};
 use crate::reading::fill;
 use crate::refusals::{bad_handshake, out_of_order, too_large};
-use crate::writing::{out_of_memory, refuse, write_all};
+use crate::writing::{out_of_memory, refuse, send};
 use mysql_wire::{Framer, greeting, ok_packet};
-use srch_base::{Failed, Link, NoMemory};
+use srch_base::{Link, NoMemory};
 use std::alloc::Global;
 
 /// How many commands one line may send.
@@ -106,10 +106,7 @@ fn greet<A: Answerer, K: Link>(answerer: &A, connection: u32, link: &mut K) -> R
     ensures { Moves K.Link link.old link.new (λ before now read written.
         Goes A.machine before now result (Opened connection answerer.now) [] read written [] (Greeted answerer.now) []) }
 {
-    match write_all(link, greeting(connection).bytes()) {
-        Ok(()) => Ok(()),
-        Err(Failed) => Err(LinkEnd::WriteFault),
-    }
+    send(link, greeting(connection).bytes())
 }
 
 /// Goes from the greeting to the end of the line.
@@ -149,10 +146,7 @@ fn shake<A: Answerer, K: Link>(answerer: &A, link: &mut K, room: &mut Room) -> R
         Err(end) => return Err(end),
     }
     match take_response(&mut room.framer) {
-        Shaken::Accepted => match write_all(link, ok_packet(2, 0, answerer.status()).bytes()) {
-            Ok(()) => Ok(()),
-            Err(Failed) => Err(LinkEnd::WriteFault),
-        },
+        Shaken::Accepted => send(link, ok_packet(2, 0, answerer.status()).bytes()),
         Shaken::Bad { place } => Err(refuse(
             link,
             &bad_handshake(place),
@@ -189,10 +183,7 @@ fn turn<A: Answerer, K: Link>(
     room.out.clear();
     room.out.shrink_to(KEPT);
     match take_command(alloc, answerer, store, &mut room.framer, &mut room.out) {
-        Taken::Reply => match write_all(link, &room.out) {
-            Ok(()) => Ok(()),
-            Err(Failed) => Err(LinkEnd::WriteFault),
-        },
+        Taken::Reply => send(link, &room.out),
         Taken::Quit => Err(LinkEnd::Quit),
         Taken::TooLarge { length, seq } => {
             Err(refuse(link, &too_large(seq), LinkEnd::TooLarge { length }))

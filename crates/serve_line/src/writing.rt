@@ -4,7 +4,7 @@ ghost use Rattle.srch_base.specs.Counts.{Rose};
 ghost use Rattle.srch_base.specs.Moves.{Moves, IsCut};
 ghost use Rattle.srch_base.specs.steps.Writing.{WritesAll};
 ghost use Rattle.serve_line.specs.Line.{no_room};
-ghost use Rattle.serve_line.specs.steps.Serving.{RefusesWith, SaysNoRoom};
+ghost use Rattle.serve_line.specs.steps.Serving.{RefusesWith, SaysNoRoom, Sends};
 
 use crate::LinkEnd;
 use mysql_wire::{Small, err_packet};
@@ -23,6 +23,16 @@ pub(crate) fn write_all<K: Link>(link: &mut K, bytes: &[u8]) -> Result<(), Faile
         }
     }
     Ok(())
+}
+
+/// Writes all the bytes. The line ends where that fails.
+pub(crate) fn send<K: Link>(link: &mut K, bytes: &[u8]) -> Result<(), LinkEnd>
+    ensures { Moves K.Link link.old link.new (Sends result bytes.now) }
+{
+    match write_all(link, bytes) {
+        Ok(()) => Ok(()),
+        Err(Failed) => Err(LinkEnd::WriteFault),
+    }
 }
 
 /// Writes the packet of a refusal, with which the line ends.

@@ -29,6 +29,11 @@ abbrev pub Goes : {T S E : Type 0} → Machine S E → Meters → Meters → Res
 Goes machine before now (Ok x) old held read written events new kept = GoesOn machine old held read written events new kept
 Goes machine before now (Err end) old held read written events new kept = Ends machine before now end old held read written events
 
+-- All the bytes were written, or a front of them was and writing failed.
+abbrev pub Sends : {T : Type 0} → Result T LinkEnd → List ℕ → Meters → Meters → List ℕ → List ℕ → Type 0
+Sends (Ok x) bytes before now read written = (read ≡ []) × (written ≡ bytes)
+Sends (Err end) bytes before now read written = (end ≡ ends.WriteFault) × (read ≡ []) × IsCut written bytes × Rose before.write_faults now.write_faults
+
 -- The refusal was written and the line ends so, or a front of it was and writing failed.
 abbrev pub RefusesWith : LinkEnd → List ℕ → LinkEnd → Meters → Meters → List ℕ → List ℕ → Type 0
 RefusesWith result refusal end before now read written =

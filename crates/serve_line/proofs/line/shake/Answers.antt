@@ -1,12 +1,10 @@
 use Rattle.std.proofs.Common.{[], Ok, Err, refl, ap, ◌∙◌}
-use Rattle.srch_base.specs.declared.faults.Failed.{Failed}
 use Rattle.srch_base.specs.Moves.{meters_of}
-use Rattle.srch_base.specs.steps.Writing.{WritesAll}
 use Rattle.srch_base.specs.steps.Moving.{Moves-then, Moves-weaker}
 use Rattle.mysql_wire.specs.Replies.{ok_packet}
 use Rattle.serve_line.specs.Line.{Greeted, Talking, Ends}
-use Rattle.serve_line.specs.steps.Serving.{Goes, Fills, RefusesWith}
-use Rattle.serve_line.specs.declared.line.LinkEnd.TheVariants.{WriteFault, BadHandshake, TooLarge, OutOfOrder}
+use Rattle.serve_line.specs.steps.Serving.{Goes, Fills, RefusesWith, Sends}
+use Rattle.serve_line.specs.declared.line.LinkEnd.TheVariants.{BadHandshake, TooLarge, OutOfOrder}
 use Rattle.serve_line.proofs.Filling.{filled, only_read}
 use Rattle.serve_line.proofs.Turning.{turned, refused_then, response_turn, responds}
 use Rattle.serve_line.proofs.line.shake.Goals as goal
@@ -22,39 +20,20 @@ returns-in-Err-clause-moves g c =
     c.in-Err.ensures.moves
     (λ r w p. filled g.A.Answerer.machine (m c.args.link.now) (m c.fill.new.link) (Greeted c.args.answerer.now) tt held r c.fill.new.framer.held c.in-Err.end w p)
 
-pub returns-in-Ok-write_all-clause-moves : goal.returns-in-Ok-write_all-clause-moves
-returns-in-Ok-write_all-clause-moves g c =
+pub returns-in-Accepted-clause-moves : goal.returns-in-Accepted-clause-moves
+returns-in-Accepted-clause-moves g c =
     let K = g.K.Link in
     let m = meters_of K in
     let held = c.args.room.now.framer.held in
     let start = c.args.answerer.now in
     let t = c.in-Accepted.ensures in
-    Moves-then K c.args.link.now c.fill.new.link c.write_all.new.link
+    Moves-then K c.args.link.now c.fill.new.link c.send.new.link
     (Fills {T = Unit {0}} (Ok c.in-Ok.field-0) 1 held c.fill.new.framer.held)
-    (WritesAll {T = Unit {0}} {E = Failed} (Ok c.in-Ok-write_all.field-0) c.bytes.result.now)
-    (λ before now read written. Goes {T = Unit {0}} g.A.Answerer.machine before now (Ok tt) (Greeted start) held read written [] (Talking start 0) c.take_response.new.framer.held)
-    c.in-Ok.ensures.moves c.in-Ok-write_all.ensures
+    (Sends c.send.result c.bytes.result.now)
+    (λ before now read written. Goes g.A.Answerer.machine before now c.send.result (Greeted start) held read written [] (Talking start 0) c.take_response.new.framer.held)
+    c.in-Ok.ensures.moves c.send.ensures
     (λ r w r' w' a b d e p q.
-    turned g.A.Answerer.machine (m c.args.link.now) (m c.fill.new.link) (m c.write_all.new.link) (Ok c.in-Ok-write_all.field-0) (Greeted start) (Talking start 0)
-    (response_turn g.A.Answerer.Event (g.A.Answerer.machine.status start) t.0) held r w c.fill.new.framer.held c.take_response.new.framer.held r' w' c.bytes.result.now
-    (record { reads = a; writes = b })
-    (only_read g.A.Answerer.machine (m c.args.link.now) (m c.fill.new.link) (Greeted start) tt held r c.fill.new.framer.held w p.0 p.1)
-    (responds g.A.Answerer.machine start t.0 t.1 t.2.0 t.4) t.2.1 (c.bytes.ensures.value ∙ c.ok_packet.ensures ∙ ap (ok_packet 2 0) c.status.ensures) q)
-
-pub returns-in-Err-write_all-clause-moves : goal.returns-in-Err-write_all-clause-moves
-returns-in-Err-write_all-clause-moves g c =
-    let K = g.K.Link in
-    let m = meters_of K in
-    let held = c.args.room.now.framer.held in
-    let start = c.args.answerer.now in
-    let t = c.in-Accepted.ensures in
-    Moves-then K c.args.link.now c.fill.new.link c.write_all.new.link
-    (Fills {T = Unit {0}} (Ok c.in-Ok.field-0) 1 held c.fill.new.framer.held)
-    (WritesAll {T = Unit {0}} {E = Failed} (Err c.in-Err-write_all.field-0) c.bytes.result.now)
-    (λ before now read written. Goes {T = Unit {0}} g.A.Answerer.machine before now (Err WriteFault) (Greeted start) held read written [] (Talking start 0) c.take_response.new.framer.held)
-    c.in-Ok.ensures.moves c.in-Err-write_all.ensures
-    (λ r w r' w' a b d e p q.
-    turned g.A.Answerer.machine (m c.args.link.now) (m c.fill.new.link) (m c.write_all.new.link) (Err c.in-Err-write_all.field-0) (Greeted start) (Talking start 0)
+    turned g.A.Answerer.machine (m c.args.link.now) (m c.fill.new.link) (m c.send.new.link) c.send.result (Greeted start) (Talking start 0)
     (response_turn g.A.Answerer.Event (g.A.Answerer.machine.status start) t.0) held r w c.fill.new.framer.held c.take_response.new.framer.held r' w' c.bytes.result.now
     (record { reads = a; writes = b })
     (only_read g.A.Answerer.machine (m c.args.link.now) (m c.fill.new.link) (Greeted start) tt held r c.fill.new.framer.held w p.0 p.1)

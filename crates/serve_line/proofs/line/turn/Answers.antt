@@ -1,12 +1,10 @@
 use Rattle.std.proofs.Common.{◌<◌, ℕ, suc, List, [], Ok, Err, refl}
-use Rattle.srch_base.specs.declared.faults.Failed.{Failed}
 use Rattle.srch_base.specs.Moves.{meters_of}
-use Rattle.srch_base.specs.steps.Writing.{WritesAll}
 use Rattle.srch_base.specs.steps.Moving.{Moves-then, Moves-weaker}
 use Rattle.serve_line.specs.Machines.{FollowAll}
 use Rattle.serve_line.specs.Line.{Talking, Ends, most_commands}
-use Rattle.serve_line.specs.steps.Serving.{Goes, Fills, RefusesWith}
-use Rattle.serve_line.specs.declared.line.LinkEnd.TheVariants.{Quit, WriteFault, TooLarge, OutOfOrder}
+use Rattle.serve_line.specs.steps.Serving.{Goes, Fills, RefusesWith, Sends}
+use Rattle.serve_line.specs.declared.line.LinkEnd.TheVariants.{Quit, TooLarge, OutOfOrder}
 use Rattle.serve_line.proofs.Filling.{filled, only_read}
 use Rattle.serve_line.proofs.Turning.{turned, refused_then, quit_then, command_turn, commands}
 use Rattle.serve_line.proofs.line.turn.Goals as goal
@@ -25,8 +23,8 @@ returns-in-Err-clause-moves g c =
     c.in-Err.ensures.moves
     (λ r w p. ([], (λ answered few. filled g.A.Answerer.machine (m c.args.link.now) (m c.fill.new.link) (Talking old answered) few held r c.fill.new.framer.held c.in-Err.end w p), refl))
 
-pub returns-in-Ok-write_all-clause-moves : goal.returns-in-Ok-write_all-clause-moves
-returns-in-Ok-write_all-clause-moves g c =
+pub returns-in-Reply-clause-moves : goal.returns-in-Reply-clause-moves
+returns-in-Reply-clause-moves g c =
     let K = g.K.Link in
     let m = meters_of K in
     let held = c.args.room.now.framer.held in
@@ -34,42 +32,16 @@ returns-in-Ok-write_all-clause-moves g c =
     let new = c.take_command.new.answerer in
     let t = c.in-Reply.ensures.takes in
     let s = t.4 in
-    Moves-then K c.args.link.now c.fill.new.link c.write_all.new.link
+    Moves-then K c.args.link.now c.fill.new.link c.send.new.link
     (Fills {T = Unit {0}} (Ok c.in-Ok.field-0) 0 held c.fill.new.framer.held)
-    (WritesAll {T = Unit {0}} {E = Failed} (Ok c.in-Ok-write_all.field-0) c.deref.result.now)
+    (Sends c.send.result c.deref.result.now)
     (λ before now read written. (events : List g.A.Answerer.Event)
-    × ((answered : ℕ) → answered < most_commands → Goes {T = Unit {0}} g.A.Answerer.machine before now (Ok tt) (Talking old answered) held read written events (Talking new (suc answered)) c.take_command.new.framer.held)
+    × ((answered : ℕ) → answered < most_commands → Goes g.A.Answerer.machine before now c.send.result (Talking old answered) held read written events (Talking new (suc answered)) c.take_command.new.framer.held)
     × FollowAll g.A.Answerer.follows c.args.store.now events c.take_command.new.store)
-    c.in-Ok.ensures.moves c.in-Ok-write_all.ensures
+    c.in-Ok.ensures.moves c.send.ensures
     (λ r w r' w' a b d e p q. (
       s.0,
-      (λ answered few. turned g.A.Answerer.machine (m c.args.link.now) (m c.fill.new.link) (m c.write_all.new.link) (Ok c.in-Ok-write_all.field-0) (Talking old answered) (Talking new (suc answered))
-          (command_turn g.A.Answerer.Event t.0 c.take_command.new.out.items s.0) held r w c.fill.new.framer.held c.take_command.new.framer.held r' w' c.deref.result.now
-          (record { reads = a; writes = b })
-          (only_read g.A.Answerer.machine (m c.args.link.now) (m c.fill.new.link) (Talking old answered) few held r c.fill.new.framer.held w p.0 p.1)
-          (commands g.A.Answerer.machine old new answered few t.0 c.take_command.new.out.items s.0 t.1.0 t.3 s.1) t.1.1 c.deref.ensures.value q),
-      s.2,
-    ))
-
-pub returns-in-Err-write_all-clause-moves : goal.returns-in-Err-write_all-clause-moves
-returns-in-Err-write_all-clause-moves g c =
-    let K = g.K.Link in
-    let m = meters_of K in
-    let held = c.args.room.now.framer.held in
-    let old = c.args.answerer.now in
-    let new = c.take_command.new.answerer in
-    let t = c.in-Reply.ensures.takes in
-    let s = t.4 in
-    Moves-then K c.args.link.now c.fill.new.link c.write_all.new.link
-    (Fills {T = Unit {0}} (Ok c.in-Ok.field-0) 0 held c.fill.new.framer.held)
-    (WritesAll {T = Unit {0}} {E = Failed} (Err c.in-Err-write_all.field-0) c.deref.result.now)
-    (λ before now read written. (events : List g.A.Answerer.Event)
-    × ((answered : ℕ) → answered < most_commands → Goes {T = Unit {0}} g.A.Answerer.machine before now (Err WriteFault) (Talking old answered) held read written events (Talking new (suc answered)) c.take_command.new.framer.held)
-    × FollowAll g.A.Answerer.follows c.args.store.now events c.take_command.new.store)
-    c.in-Ok.ensures.moves c.in-Err-write_all.ensures
-    (λ r w r' w' a b d e p q. (
-      s.0,
-      (λ answered few. turned g.A.Answerer.machine (m c.args.link.now) (m c.fill.new.link) (m c.write_all.new.link) (Err c.in-Err-write_all.field-0) (Talking old answered) (Talking new (suc answered))
+      (λ answered few. turned g.A.Answerer.machine (m c.args.link.now) (m c.fill.new.link) (m c.send.new.link) c.send.result (Talking old answered) (Talking new (suc answered))
           (command_turn g.A.Answerer.Event t.0 c.take_command.new.out.items s.0) held r w c.fill.new.framer.held c.take_command.new.framer.held r' w' c.deref.result.now
           (record { reads = a; writes = b })
           (only_read g.A.Answerer.machine (m c.args.link.now) (m c.fill.new.link) (Talking old answered) few held r c.fill.new.framer.held w p.0 p.1)
