@@ -1,12 +1,13 @@
 //! Laws that tie the definitions of this crate to each other. Each is a function with an empty body: its clauses are the law.
-ghost use Rattle.std.specs.Prelude.{◌≡◌, ℕ, List, [], ◌∷◌, ◌++◌, true};
+ghost use Rattle.std.specs.Prelude.{◌≡◌, ◌≢◌, ℕ, List, [], ◌∷◌, ◌++◌, All, None, Some, true, if◌then◌else◌};
 ghost use Rattle.std.specs.FinMap as finite;
-ghost use Rattle.doc_types.specs.Commits.{Clear, Duplicate, Entry, after, after_change, verdict};
-ghost use Rattle.doc_types.specs.Rows.{Rows};
+ghost use Rattle.doc_types.specs.Commits.{Accepted, Clear, Duplicate, Entry, Kill, Put, after, after_change, verdict, with_change};
+ghost use Rattle.doc_types.specs.Examples.{Contents, document, exchanged, exchanges, insertions, put_by, seventh, three};
+ghost use Rattle.doc_types.specs.Numbers.{FitsNumbers};
+ghost use Rattle.doc_types.specs.Rows.{Rows, rows_of};
 ghost use Rattle.doc_types.specs.declared.documents.Doc.{Doc};
 ghost use Rattle.doc_types.specs.declared.transactions.TxnOp.{TxnOp};
-ghost use Rattle.doc_types.specs.declared.transactions.TxnOp.TheVariants.{Insert};
-ghost use Rattle.doc_types.specs.Rows.{rows_of};
+ghost use Rattle.doc_types.specs.declared.transactions.TxnOp.TheVariants as operations;
 ghost use Rattle.doc_types.specs.Snapshots.{LayerValue, live};
 
 use crate::chunk::Chunk;
@@ -22,7 +23,7 @@ pub fn one_whole_layer<C: Chunk>(snapshot: &Snapshot<C>)
 
 /// The rows after some commits and then others are those after all of them, in their order.
 pub fn commits_in_a_row()
-    ensures { (rows : Rows) (first then : List Entry) → after rows (first ++ then) ≡ after (after rows first) then }
+    ensures { (rows : Rows) (first later : List Entry) → after rows (first ++ later) ≡ after (after rows first) later }
 {}
 
 /// A clearing leaves no row.
@@ -32,5 +33,39 @@ pub fn nothing_is_left_by_clear()
 
 /// An insertion of an id that is there refuses the whole transaction.
 pub fn a_live_id_is_refused()
-    ensures { (rows : Rows) (doc : Doc) (ops : List TxnOp) → finite.contains_key rows doc.id ≡ true → verdict (Insert doc ∷ ops) rows ≡ Duplicate doc.id }
+    ensures { (rows : Rows) (doc : Doc) (ops : List TxnOp) → finite.contains_key rows doc.id ≡ true → verdict (operations.Insert doc ∷ ops) rows ≡ Duplicate doc.id }
+{}
+
+/// A put sets the row of its id, a kill removes it, and both leave the rows of all other ids.
+pub fn a_change_is_of_one_id()
+    ensures put { (number : ℕ) (rows : Rows) (doc : Doc) → finite.get (after_change number rows (Put doc)) doc.id ≡ Some (put_by number doc) }
+    ensures killed { (number : ℕ) (rows : Rows) (id : ℕ) → finite.get (after_change number rows (Kill id)) id ≡ None }
+    ensures put_others { (number : ℕ) (rows : Rows) (doc : Doc) (id : ℕ) → id ≢ doc.id → finite.get (after_change number rows (Put doc)) id ≡ finite.get rows id }
+    ensures killed_others { (number : ℕ) (rows : Rows) (killed id : ℕ) → id ≢ killed → finite.get (after_change number rows (Kill killed)) id ≡ finite.get rows id }
+{}
+
+/// Each operation is tried over the rows after those before it. So a kill counts as removed where its id is there at its place,
+/// and an id that is killed twice counts once.
+pub fn operations_are_tried_in_order()
+    ensures insert { (number : ℕ) (rows : Rows) (doc : Doc) (ops : List TxnOp) → verdict (operations.Insert doc ∷ ops) rows ≡ (if finite.contains_key rows doc.id then Duplicate doc.id else with_change (Put doc) 0 (verdict ops (after_change number rows (Put doc)))) }
+    ensures put { (number : ℕ) (rows : Rows) (doc : Doc) (ops : List TxnOp) → verdict (operations.Put doc ∷ ops) rows ≡ with_change (Put doc) 0 (verdict ops (after_change number rows (Put doc))) }
+    ensures kill { (number : ℕ) (rows : Rows) (id : ℕ) (ops : List TxnOp) → verdict (operations.Kill id ∷ ops) rows ≡ with_change (Kill id) (if finite.contains_key rows id then 1 else 0) (verdict ops (after_change number rows (Kill id))) }
+    ensures clear { (number : ℕ) (rows : Rows) (ops : List TxnOp) → verdict (operations.Clear ∷ ops) rows ≡ with_change Clear 0 (verdict ops (after_change number rows Clear)) }
+    ensures killed_twice { (rows : Rows) (id : ℕ) → verdict (operations.Kill id ∷ operations.Kill id ∷ []) rows ≡ Accepted (Kill id ∷ Kill id ∷ []) (if finite.contains_key rows id then 1 else 0) }
+{}
+
+/// An example: where the documents 1, 2 and 3 are there, insertions of 8, 1 and 9 are refused as a duplicate of 1. Where 2 is
+/// killed before it is inserted, and 4 and 2 are killed then, two kills found their ids. After a kill of 2 and a put of 8 there
+/// is 1 as it was, 8 as it was put, and no 2.
+pub fn an_example_of_commits()
+    ensures refused { (has : Contents) → verdict (insertions has) (three has) ≡ Duplicate 1 }
+    ensures accepted { (has : Contents) → verdict (exchanges has) (three has) ≡ Accepted (exchanged has) 2 }
+    ensures first { (has : Contents) → finite.get (after (three has) (seventh has ∷ [])) 1 ≡ Some (put_by 1 (document has 1)) }
+    ensures second { (has : Contents) → finite.get (after (three has) (seventh has ∷ [])) 2 ≡ None }
+    ensures eighth { (has : Contents) → finite.get (after (three has) (seventh has ∷ [])) 8 ≡ Some (put_by 7 (document has 8)) }
+{}
+
+/// The numbers of a chunk's rows fit: columns, the words of a field and their positions in 16 bits, the spans of a row in 32.
+pub fn numbers_of_rows_fit<C: Chunk>(chunk: &C)
+    ensures { All FitsNumbers (C.content chunk.now) }
 {}

@@ -51,16 +51,7 @@ pub(crate) const DOCUMENTS: [Written; 10] = [
         0,
         0,
     ),
-    (
-        7,
-        5,
-        false,
-        "<th>hello</th> x <th>world</th>",
-        "",
-        "",
-        1,
-        1,
-    ),
+    (7, 5, false, "<th>hello</th> x <th>world</th>", "", "", 1, 1),
     (8, 5, false, "<th>hello world", "", "", 1, 2),
     (
         9,
@@ -110,12 +101,7 @@ fn rules(alloc: Global, sp: bool) -> Result<MarkRules, NoMemory>
 }
 
 /// The tokens of a short text.
-fn field(
-    alloc: Global,
-    charset: &Charset,
-    sp: bool,
-    text: &str,
-) -> Result<FieldTokens, NoMemory>
+fn field(alloc: Global, charset: &Charset, sp: bool, text: &str) -> Result<FieldTokens, NoMemory>
     ensures field { IfOk result IsField }
     ensures few { IfOk result (λ tokens. length tokens.spans < 1000) }
 {

@@ -39,12 +39,7 @@ fn letter(gap: Gap) -> &'static str {
 }
 
 /// Appends the boundaries of the fields of the row. They are asked for all fields into one list.
-fn put_gaps<C: Chunk>(
-    alloc: Global,
-    chunk: &C,
-    row: u32,
-    into: &mut String,
-) -> Result<(), Fail>
+fn put_gaps<C: Chunk>(alloc: Global, chunk: &C, row: u32, into: &mut String) -> Result<(), Fail>
     requires row { row < length (C.content chunk.now) }
     requires columns { All HasColumns (C.content chunk.now) }
 {
@@ -61,12 +56,7 @@ fn put_gaps<C: Chunk>(
 }
 
 /// Appends the spans of the row.
-fn put_spans<C: Chunk>(
-    alloc: Global,
-    chunk: &C,
-    row: u32,
-    into: &mut String,
-) -> Result<(), Fail>
+fn put_spans<C: Chunk>(alloc: Global, chunk: &C, row: u32, into: &mut String) -> Result<(), Fail>
     requires { row < length (C.content chunk.now) }
 {
     let mut spans = Vec::new(alloc);
