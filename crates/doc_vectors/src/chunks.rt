@@ -1,10 +1,12 @@
-ghost use Rattle.std.specs.Prelude.{IfOk, All};
+ghost use Rattle.std.specs.Prelude.{◌≡◌, [], IfOk, All};
+ghost use Rattle.doc_types.specs.Chunks.{IsContent};
 ghost use Rattle.doc_vectors.specs.steps.Columns.{HasColumns};
 
 use crate::documents::{DOCUMENTS, rows};
 use crate::row_answers::told_row;
 use crate::word_answers::told_word;
 use doc_types::{Chunk, PlainChunk};
+use srch_base::NoMemory;
 use std::alloc::Global;
 use std::test::Fail;
 
@@ -65,10 +67,20 @@ const ABSENT: [&str; 7] = ["", "aa", "hell", "hello ", "World", "п", "я"];
 const NO_IDS: [u64; 6] = [0, 4, 10, 999, 1001, 18_446_744_073_709_551_614];
 
 /// The chunk of the documents.
-fn the_chunk(alloc: Global) -> Result<PlainChunk, Fail>
-    ensures { IfOk result (λ chunk. All HasColumns chunk.rows) }
+pub(crate) fn the_chunk(alloc: Global) -> Result<PlainChunk, NoMemory>
+    ensures content { IfOk result (λ chunk. IsContent chunk.rows) }
+    ensures columns { IfOk result (λ chunk. All HasColumns chunk.rows) }
 {
     let rows = rows(alloc)?;
+    let chunk = PlainChunk::build(alloc, rows)?;
+    Ok(chunk)
+}
+
+/// A chunk without rows.
+pub(crate) fn no_chunk(alloc: Global) -> Result<PlainChunk, NoMemory>
+    ensures { IfOk result (λ chunk. chunk.rows ≡ []) }
+{
+    let rows = Vec::new(alloc);
     let chunk = PlainChunk::build(alloc, rows)?;
     Ok(chunk)
 }
@@ -141,8 +153,7 @@ fn a_chunk_answers_by_its_words(rt: HostRuntime) -> Result<(), Fail> {
 
 #[test]
 fn a_chunk_may_have_no_row(rt: HostRuntime) -> Result<(), Fail> {
-    let alloc = rt.alloc();
-    let chunk = PlainChunk::build(alloc, Vec::new(alloc))?;
+    let chunk = no_chunk(rt.alloc())?;
     assert_eq!(rt; chunk.rows(), 0);
     assert_eq!(rt; chunk.words(), 0);
     assert!(rt; !has_absent(&chunk));

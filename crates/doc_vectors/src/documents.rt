@@ -1,5 +1,6 @@
 //! Ten documents, by the texts of their fields.
-ghost use Rattle.std.specs.Prelude.{◌≡◌, ◌<◌, IfOk, OnOk, All, length};
+ghost use Rattle.std.specs.Prelude.{◌≡◌, ◌<◌, IfOk, OnOk, All, length, nat_lt};
+ghost use Rattle.std.specs.List.{list_all};
 ghost use Rattle.doc_types.specs.Schemas.{AreZones};
 ghost use Rattle.doc_types.specs.Documents.{AreRowsOf, IsDocOf, IsField};
 ghost use Rattle.doc_types.specs.Chunks.{IsContent};
@@ -137,17 +138,36 @@ fn row(alloc: Global, charset: &Charset, written: &Written) -> Result<DocRow, No
     })
 }
 
+/// Whether all ids of the rows are below this one.
+fn are_below(rows: &[DocRow], id: u64) -> bool
+    ensures { result ≡ list_all (λ row. nat_lt row.doc.id id) rows.now }
+{
+    rows.iter().all(|row| row.doc.id < id)
+}
+
 /// Appends a row, unless its id doesn't ascend.
 fn push(rows: &mut Vec<DocRow>, row: DocRow) -> Result<(), NoMemory>
     requires row { IsDocOf the_schema row.doc }
     requires rows { AreRowsOf the_schema rows.old.items }
     ensures { OnOk result (AreRowsOf the_schema rows.new.items) }
 {
-    if !rows.iter().all(|earlier| earlier.doc.id < row.doc.id) {
+    if !are_below(rows.as_slice(), row.doc.id) {
         return Err(NoMemory);
     }
     rows.push(row)?;
     Ok(())
+}
+
+/// The same rows, unless they are many.
+fn checked(rows: Vec<DocRow>) -> Result<Vec<DocRow>, NoMemory>
+    requires { AreRowsOf the_schema rows.items }
+    ensures content { IfOk result (λ rows. IsContent rows.items) }
+    ensures columns { IfOk result (λ rows. All HasColumns rows.items) }
+{
+    if rows.as_slice().len() > 1000 {
+        return Err(NoMemory);
+    }
+    Ok(rows)
 }
 
 /// The rows of the documents.
@@ -160,8 +180,20 @@ pub(crate) fn rows(alloc: Global) -> Result<Vec<DocRow>, NoMemory>
     for written in &DOCUMENTS {
         push(&mut rows, row(alloc, &charset, written)?)?;
     }
-    if rows.len() > 1000 {
-        return Err(NoMemory);
-    }
-    Ok(rows)
+    checked(rows)
+}
+
+/// A row with one field, `hello world`, and no value.
+pub(crate) fn hello_world(alloc: Global) -> Result<DocRow, NoMemory> {
+    let charset = Charset::default_table(alloc)?;
+    let mut fields = Vec::new(alloc);
+    fields.push(field(alloc, &charset, false, "hello world")?)?;
+    Ok(DocRow {
+        doc: Doc {
+            id: 7,
+            fields: Items::new(fields),
+            values: Items::new(Vec::new(alloc)),
+        },
+        born: 1,
+    })
 }

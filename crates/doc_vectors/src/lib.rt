@@ -5,8 +5,12 @@
 #[cfg(test)]
 mod chunks;
 #[cfg(test)]
+mod commits;
+#[cfg(test)]
 mod documents;
 #[cfg(test)]
 mod row_answers;
+#[cfg(test)]
+mod snapshots;
 #[cfg(test)]
 mod word_answers;

@@ -1,5 +1,5 @@
 -- The columns of the documents of the tables: three fields and two attributes.
-use Rattle.std.specs.Prelude.{◌≡◌, List, [], ◌∷◌, true, length, codes, All}
+use Rattle.std.specs.Prelude.{◌≡◌, [], ◌∷◌, true, length, codes}
 use Rattle.doc_types.specs.declared.documents.DocRow.{DocRow}
 use Rattle.doc_types.specs.declared.schema.Schema.{Schema}
 use Rattle.doc_types.specs.declared.schema.AttrKind.TheVariants as kinds
