@@ -8,9 +8,16 @@ use Rattle.doc_types.specs.declared.tokens.Gap.{Gap}
 use Rattle.doc_types.specs.declared.tokens.Gap.TheVariants as gaps
 use Rattle.doc_types.specs.declared.tokens.TokenWord.{TokenWord}
 use Rattle.doc_types.specs.declared.documents.DocRow.{DocRow}
-use Rattle.doc_types.specs.Documents.{Follow, IsField, step}
+use Rattle.doc_types.specs.Documents.{Follow, IsDocOf, IsField, step}
+use Rattle.doc_types.specs.declared.documents.Doc.{Doc}
+use Rattle.doc_types.specs.declared.schema.Schema.{Schema}
+use Rattle.doc_types.specs.declared.transactions.Txn.{Txn}
+use Rattle.doc_types.specs.declared.transactions.TxnOp.{TxnOp}
+use Rattle.doc_types.specs.declared.transactions.TxnOp.TheVariants as operations
+use Rattle.doc_types.specs.Schemas.{IsSchema}
+use Rattle.doc_types.specs.Transactions.{IsOpOf, IsTxnOf}
 use Rattle.doc_types.specs.Chunks.{IsContent}
-use Rattle.doc_types.specs.Numbers.{FitsNumbers}
+use Rattle.doc_types.specs.Numbers.{FitsNumbers, OpFits}
 
 step_some : (gap : Gap) → 1 ≤ step gap
 step_some gaps.None = omega arith
@@ -43,18 +50,27 @@ few_words tokens is = omega (arith, up_to 0 MAX_POSITION tokens.words (omega ari
 pub from_one : (tokens : FieldTokens) → IsField tokens → All (λ word. 0 < word.position) tokens.words
 from_one tokens is = after_zero 0 tokens.words is.placed.follow
 
--- a row of a chunk's
-row_fits : (rows : List DocRow) → IsContent rows → All FitsNumbers rows
-row_fits rows content k d h =
-    let doc = content.of.docs k d h in
-    record {
-      fields = omega (arith, doc.fields, content.limits.few_fields);
-      values = omega (arith, doc.values, content.limits.few_attrs);
-      words = λ j t l. omega (arith, few_words _ (doc.tokens j t l));
-      positions = λ j t l i w m. (from_one _ (doc.tokens j t l) i w m, omega (arith, (doc.tokens j t l).within i w m));
-      spans = doc.few_spans;
-    }
+-- the numbers of a schema's document
+pub doc_fits : (schema : Schema) → IsSchema schema → (doc : Doc) → IsDocOf schema doc → FitsNumbers doc
+doc_fits schema limits doc is = record {
+  fields = omega (arith, is.fields, limits.few_fields);
+  values = omega (arith, is.values, limits.few_attrs);
+  words = λ j t l. omega (arith, few_words _ (is.tokens j t l));
+  positions = λ j t l i w m. (from_one _ (is.tokens j t l) i w m, omega (arith, (is.tokens j t l).within i w m));
+  bytes = λ j t l i w m. let word = (is.tokens j t l).words i w m in (omega (arith, word.some), omega (arith, word.short));
+  spans = is.few_spans;
+}
 
--- the numbers of a chunk's rows fit
-pub rows_fit : (rows : List DocRow) → ∥ IsContent rows ∥₁ → All FitsNumbers rows
-rows_fit rows content = ∥∥₁_elim content (hlevel le_prop) (row_fits rows)
+-- those of a schema's operations
+op_fits : (schema : Schema) → IsSchema schema → (op : TxnOp) → IsOpOf schema op → OpFits op
+op_fits schema limits (operations.Insert doc) is = doc_fits schema limits doc is
+op_fits schema limits (operations.Put doc) is = doc_fits schema limits doc is
+op_fits schema limits (operations.Kill id) is = tt
+op_fits schema limits operations.Clear is = tt
+
+pub ops_fit : (schema : Schema) → IsSchema schema → (txn : Txn) → IsTxnOf schema txn → All OpFits txn.ops
+ops_fit schema limits txn is k d h = op_fits schema limits _ (is.operations k d h)
+
+-- those of a chunk's rows
+pub rows_fit : (rows : List DocRow) → ∥ IsContent rows ∥₁ → All (λ row. FitsNumbers row.doc) rows
+rows_fit rows content = ∥∥₁_elim content (hlevel le_prop) (λ is k d h. doc_fits is.schema is.limits _ (is.of.docs k d h))

@@ -3,15 +3,19 @@ ghost use Rattle.std.specs.Prelude.{◌≡◌, ◌≢◌, ℕ, List, [], ◌∷�
 ghost use Rattle.std.specs.FinMap as finite;
 ghost use Rattle.doc_types.specs.Commits.{Accepted, Clear, Duplicate, Entry, Kill, Put, after, after_change, verdict, with_change};
 ghost use Rattle.doc_types.specs.Examples.{Contents, document, exchanged, exchanges, insertions, put_by, seventh, three};
-ghost use Rattle.doc_types.specs.Numbers.{FitsNumbers};
+ghost use Rattle.doc_types.specs.Numbers.{FitsNumbers, OpFits};
 ghost use Rattle.doc_types.specs.Rows.{Rows, rows_of};
 ghost use Rattle.doc_types.specs.declared.documents.Doc.{Doc};
 ghost use Rattle.doc_types.specs.declared.transactions.TxnOp.{TxnOp};
 ghost use Rattle.doc_types.specs.declared.transactions.TxnOp.TheVariants as operations;
+ghost use Rattle.doc_types.specs.Schemas.{IsSchema};
 ghost use Rattle.doc_types.specs.Snapshots.{LayerValue, live};
+ghost use Rattle.doc_types.specs.Transactions.{IsTxnOf};
 
 use crate::chunk::Chunk;
+use crate::schema::Schema;
 use crate::snapshot::Snapshot;
+use crate::transactions::Txn;
 
 /// The rows of a snapshot of one layer in which none is dead are the rows of that layer.
 pub fn one_whole_layer<C: Chunk>(snapshot: &Snapshot<C>)
@@ -65,7 +69,15 @@ pub fn an_example_of_commits()
     ensures eighth { (has : Contents) → finite.get (after (three has) (seventh has ∷ [])) 8 ≡ Some (put_by 7 (document has 8)) }
 {}
 
-/// The numbers of a chunk's rows fit: columns, the words of a field and their positions in 16 bits, the spans of a row in 32.
+/// The numbers of a chunk's rows fit: columns, the words of a field and their positions in 16 bits, the bytes of a word in 8, the
+/// spans of a row in 32.
 pub fn numbers_of_rows_fit<C: Chunk>(chunk: &C)
-    ensures { All FitsNumbers (C.content chunk.now) }
+    ensures { All (λ row. FitsNumbers row.doc) (C.content chunk.now) }
+{}
+
+/// The numbers of a transaction's documents fit, where it is of a schema.
+pub fn numbers_of_operations_fit(schema: &Schema, txn: &Txn)
+    requires limits { IsSchema schema.now }
+    requires operations { IsTxnOf schema.now txn.now }
+    ensures { All OpFits txn.now.ops }
 {}
