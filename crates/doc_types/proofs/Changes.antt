@@ -9,7 +9,7 @@ use Rattle.doc_types.specs.declared.documents.DocRow.{DocRow}
 use Rattle.doc_types.specs.declared.transactions.TxnOp.{TxnOp}
 use Rattle.doc_types.specs.declared.transactions.TxnOp.TheVariants as operations
 use Rattle.doc_types.specs.Rows.{Rows, rows_of}
-use Rattle.doc_types.specs.Commits.{Accepted, Duplicate, Put, Kill, Clear, after_change, tried, verdict, with_change}
+use Rattle.doc_types.specs.Commits.{Change, Verdict, Accepted, Duplicate, Put, Kill, Clear, after_change, change_of, there_after, tried, verdict, with_change}
 use Rattle.doc_types.proofs.Ids.{same, tied_apart, tied_same}
 
 -- what a put and a kill leave of an id
@@ -79,3 +79,25 @@ killed_twice rows id =
 -- over a list of rows the ids that are there can be computed
 pub tried_over : (rows : List DocRow) (ops : List TxnOp) → verdict ops (rows_of rows) ≡ tried (λ id. is_some (finite.find nat_cmp id (map (λ row. (row.doc.id, row)) rows))) ops
 tried_over rows ops = tried_alike _ _ (λ id. ap is_some (finite.get-from_entries nat_cmp_total (map (λ (row : DocRow). (row.doc.id, row)) rows) id)) ops
+
+-- where a verdict with one more change at its front accepts, the one without it does
+without : (change : Change) (count : ℕ) (rest : Verdict) (changes : List Change) (removed : ℕ) → with_change change count rest ≡ Accepted changes removed → (more : List Change) × (n : ℕ) × (rest ≡ Accepted more n) × (changes ≡ change ∷ more)
+without change count (Duplicate id) changes removed e = cc
+without change count (Accepted more n) changes removed e = (more, n, refl, cc)
+
+one_more : (there : ℕ → Bool) (ops : List TxnOp) (change : Change) (count : ℕ) (changes : List Change) (removed : ℕ) → ((more : List Change) (n : ℕ) → tried there ops ≡ Accepted more n → more ≡ map change_of ops) → with_change change count (tried there ops) ≡ Accepted changes removed → changes ≡ change ∷ map change_of ops
+one_more there ops change count changes removed rest e =
+    let before = without change count (tried there ops) changes removed e in
+    before.3 ∙ ap (λ more. change ∷ more) (rest before.0 before.1 before.2)
+
+-- what is accepted are the changes that the operations are
+pub accepted : (there : ℕ → Bool) (ops : List TxnOp) (changes : List Change) (removed : ℕ) → tried there ops ≡ Accepted changes removed → changes ≡ map change_of ops
+accepted there [] changes removed e = cc
+accepted there (operations.Insert doc ∷ ops) changes removed e =
+    elim (there doc.id) as (λ b. cond b (Duplicate doc.id) (with_change (Put doc) 0 (tried (there_after there (operations.Insert doc)) ops)) ≡ Accepted changes removed → changes ≡ Put doc ∷ map change_of ops) [
+      | true ↦ λ h. cc
+      | false ↦ one_more (there_after there (operations.Insert doc)) ops (Put doc) 0 changes removed (accepted (there_after there (operations.Insert doc)) ops)
+    ] e
+accepted there (operations.Put doc ∷ ops) changes removed e = one_more (there_after there (operations.Put doc)) ops (Put doc) 0 changes removed (accepted (there_after there (operations.Put doc)) ops) e
+accepted there (operations.Kill id ∷ ops) changes removed e = one_more (there_after there (operations.Kill id)) ops (Kill id) (cond (there id) 1 0) changes removed (accepted (there_after there (operations.Kill id)) ops) e
+accepted there (operations.Clear ∷ ops) changes removed e = one_more (there_after there operations.Clear) ops Clear 0 changes removed (accepted (there_after there operations.Clear) ops) e

@@ -1,7 +1,7 @@
 //! Laws that tie the definitions of this crate to each other. Each is a function with an empty body: its clauses are the law.
-ghost use Rattle.std.specs.Prelude.{◌≡◌, ◌≢◌, ℕ, List, [], ◌∷◌, ◌++◌, All, None, Some, true, if◌then◌else◌};
+ghost use Rattle.std.specs.Prelude.{◌≡◌, ◌≢◌, ℕ, List, [], ◌∷◌, ◌++◌, All, None, Some, map, true, if◌then◌else◌};
 ghost use Rattle.std.specs.FinMap as finite;
-ghost use Rattle.doc_types.specs.Commits.{Accepted, Clear, Duplicate, Entry, Kill, Put, after, after_change, verdict, with_change};
+ghost use Rattle.doc_types.specs.Commits.{Accepted, Change, Clear, Duplicate, Entry, Kill, Put, after, after_change, change_of, verdict, with_change};
 ghost use Rattle.doc_types.specs.Examples.{Contents, document, exchanged, exchanges, insertions, put_by, seventh, three};
 ghost use Rattle.doc_types.specs.Numbers.{FitsNumbers, OpFits};
 ghost use Rattle.doc_types.specs.Rows.{Rows, rows_of};
@@ -56,6 +56,11 @@ pub fn operations_are_tried_in_order()
     ensures kill { (number : ℕ) (rows : Rows) (id : ℕ) (ops : List TxnOp) → verdict (operations.Kill id ∷ ops) rows ≡ with_change (Kill id) (if finite.contains_key rows id then 1 else 0) (verdict ops (after_change number rows (Kill id))) }
     ensures clear { (number : ℕ) (rows : Rows) (ops : List TxnOp) → verdict (operations.Clear ∷ ops) rows ≡ with_change Clear 0 (verdict ops (after_change number rows Clear)) }
     ensures killed_twice { (rows : Rows) (id : ℕ) → verdict (operations.Kill id ∷ operations.Kill id ∷ []) rows ≡ Accepted (Kill id ∷ Kill id ∷ []) (if finite.contains_key rows id then 1 else 0) }
+{}
+
+/// A transaction that is accepted does what its operations are, in their order: an insertion is a put.
+pub fn what_is_accepted_are_the_operations()
+    ensures { (rows : Rows) (ops : List TxnOp) (changes : List Change) (removed : ℕ) → verdict ops rows ≡ Accepted changes removed → changes ≡ map change_of ops }
 {}
 
 /// An example: where the documents 1, 2 and 3 are there, insertions of 8, 1 and 9 are refused as a duplicate of 1. Where 2 is

@@ -23,7 +23,7 @@ pub use hits::{Hit, Hits};
 pub use laws::{
     a_change_is_of_one_id, a_live_id_is_refused, an_example_of_commits, commits_in_a_row,
     nothing_is_left_by_clear, numbers_of_operations_fit, numbers_of_rows_fit, one_whole_layer,
-    operations_are_tried_in_order,
+    operations_are_tried_in_order, what_is_accepted_are_the_operations,
 };
 pub use payload::txn_bytes;
 pub use plain_chunk::PlainChunk;
