@@ -47,6 +47,7 @@ fn told_by<L: Ledger, C: Chunk>(
         Some(cursor) => cursor,
         None => return Ok(None),
     };
+    // More turns than there are rows, so that some come after the last row that has the word.
     'rows: for _ in 0..20 {
         if let Some(row) = chunk.row(&cursor) {
             put_places(alloc, chunk, &cursor, row, &mut steps, &mut text)?;

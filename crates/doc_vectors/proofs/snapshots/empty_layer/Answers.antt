@@ -1,4 +1,4 @@
-use Rattle.std.proofs.Common.{◌∙◌, ap, rules, arith}
+use Rattle.std.proofs.Common.{◌∙◌, ap}
 use Rattle.doc_types.specs.declared.plain_chunk.PlainChunk.{PlainChunk}
 use Rattle.doc_vectors.proofs.Layers.{empty_is}
 use Rattle.doc_vectors.proofs.snapshots.empty_layer.Goals as goal

@@ -1,4 +1,4 @@
-use Rattle.std.proofs.Common.{◌≡◌, ℕ, ◌∙◌, ap, sym, subst, rules, arith, length}
+use Rattle.std.proofs.Common.{◌≡◌, ◌∙◌, ap, sym, subst, arith, length}
 use Rattle.std.specs.Arc.{arc_value}
 use Rattle.doc_types.specs.Chunks.{IsContent}
 use Rattle.doc_types.specs.declared.plain_chunk.PlainChunk.{PlainChunk}
