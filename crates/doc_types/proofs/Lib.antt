@@ -4,4 +4,7 @@ pub mod PlainPlaces
 pub mod Collected
 pub mod Indexed
 pub mod Contents
+pub mod Ids
 pub mod Living
+pub mod Changes
+pub mod Numbers

@@ -8,8 +8,14 @@ pub mod Rows
 pub mod Transactions
 -- what a commit makes of the rows, and what becomes of a transaction
 pub mod Commits
+-- documents by which a law gives an example of commits
+pub mod Examples
+-- how many bytes a transaction takes in a log
+pub mod Payloads
 -- what a chunk answers
 pub mod Chunks
+-- what the numbers of a chunk's rows fit in
+pub mod Numbers
 -- layers of chunks, and the rows that live
 pub mod Snapshots
 -- what serves proofs alone

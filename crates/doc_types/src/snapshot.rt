@@ -1,5 +1,7 @@
-ghost use Rattle.std.specs.Prelude.{◌≡◌};
+ghost use Rattle.std.specs.Prelude.{◌≡◌, length};
 ghost use Rattle.std.specs.List.{count_by};
+ghost use Rattle.std.specs.FinMap as finite;
+ghost use Rattle.doc_types.specs.Snapshots.{live, living};
 
 use crate::chunk::Chunk;
 use srch_base::Items;
@@ -26,6 +28,16 @@ impl<C: Chunk> Model for Layer<C> {
     ghost view = { λ a. record { rows = C.content (arc_value a.chunk); disk = a.disk; dead = a.dead } };
 
     ghost invariant = { λ a. IsLayer (record { rows = C.content (arc_value a.chunk); disk = a.disk; dead = a.dead }) };
+}
+
+impl<C: Chunk> Layer<C> {
+    /// How many of its rows live.
+    pub fn live_count(&self) -> u32
+        ensures { result ≡ length (living self.now) }
+    {
+        let chunk: &C = &self.chunk;
+        chunk.rows() - self.dead.len() as u32
+    }
 }
 
 /// The state of an index after a commit: layers of rows. Contracts see it without the kind of its chunks.
@@ -58,6 +70,17 @@ impl<C: Chunk> Snapshot<C> {
             if layer.disk {
                 count += 1;
             }
+        }
+        count
+    }
+
+    /// How many rows live.
+    pub fn live_count(&self) -> u32
+        ensures { result ≡ finite.len (live self.now) }
+    {
+        let mut count = 0;
+        for layer in self.layers.as_slice() {
+            count += layer.live_count();
         }
         count
     }

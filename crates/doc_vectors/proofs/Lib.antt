@@ -1,0 +1,3 @@
+pub mod TheSchema
+pub mod Rows
+pub mod Layers

@@ -1,0 +1,163 @@
+ghost use Rattle.std.specs.Prelude.{◌≡◌, [], IfOk, All};
+ghost use Rattle.doc_types.specs.Chunks.{IsContent};
+ghost use Rattle.doc_vectors.specs.steps.Columns.{HasColumns};
+
+use crate::documents::{DOCUMENTS, rows};
+use crate::row_answers::told_row;
+use crate::word_answers::told_word;
+use doc_types::{Chunk, PlainChunk};
+use srch_base::NoMemory;
+use std::alloc::Global;
+use std::test::Fail;
+
+/// What is answered of the rows of the documents, worked out by hand: id and commit, values, last positions by field, boundaries
+/// by field with the positions that they take, and spans by field with their zones.
+const ROWS: [&str; 10] = [
+    "1 by 3: 10 5, last 2 1 0, gaps, spans",
+    "2 by 3: 20 5, last 1 2 0, gaps, spans",
+    "3 by 4: 10 -1, last 2 1 1, gaps, spans",
+    "5 by 4: 0 0, last 14 0 0, gaps 0.12s, spans",
+    "6 by 5: 0 0, last 13 0 0, gaps, spans",
+    "7 by 5: 1 1, last 3 0 0, gaps, spans 0.1-1:0 0.3-3:0",
+    "8 by 5: 1 2, last 2 0 0, gaps, spans 0.1-2:0",
+    "9 by 9: 7 -7, last 3 3 9, gaps 0.2p 1.2p 2.2s 2.4p, spans 1.3-3:0",
+    "1000 by 9223372036854775807: 4294967295 -9223372036854775808, last 0 0 0, gaps, spans",
+    "18446744073709551615 by 9223372036854775807: 0 9223372036854775807, last 1 3 4, gaps 1.2s 2.3p, spans 2.1-2:0 2.2-4:1",
+];
+
+/// The words of the documents by their bytes, each with the rows that have it and its places in them by field and position,
+/// worked out by hand.
+const WORDS: [(&str, &str); 30] = [
+    ("a", " 3: 0.7 4: 0.7 9: 0.1 1.1 1.3 2.2 2.4"),
+    ("b", " 9: 2.1"),
+    ("because", " 7: 2.3"),
+    ("d", " 3: 0.2 4: 0.2"),
+    ("doe", " 3: 0.3 4: 0.3"),
+    ("e", " 3: 0.10 4: 0.10"),
+    ("he", " 3: 0.13 4: 0.12"),
+    ("hello", " 0: 0.1 1: 0.1 2: 0.2 5: 0.1 6: 0.1 7: 1.3"),
+    ("is", " 7: 2.7"),
+    ("it", " 7: 2.6 2.8"),
+    ("john", " 3: 0.1 4: 0.1"),
+    ("k", " 3: 0.9 4: 0.9"),
+    ("l", " 3: 0.8 4: 0.8"),
+    ("left", " 3: 0.14 4: 0.13"),
+    ("met", " 3: 0.4 4: 0.4"),
+    ("nothing", " 2: 1.1"),
+    ("one", " 0: 1.1"),
+    ("r", " 3: 0.11 4: 0.11"),
+    ("s", " 3: 0.5 4: 0.5"),
+    ("so", " 7: 2.5"),
+    ("st", " 7: 0.3"),
+    ("t", " 3: 0.6 4: 0.6"),
+    ("te", " 7: 0.1"),
+    ("test", " 7: 1.1"),
+    ("was", " 7: 2.9"),
+    ("why", " 7: 2.1"),
+    ("wide", " 1: 1.2"),
+    ("world", " 0: 0.2 1: 1.1 2: 0.1 5: 0.3 6: 0.2"),
+    ("x", " 5: 0.2"),
+    ("привет", " 2: 2.1"),
+];
+
+/// Words that no document has: beside a word that is there, in other letters, before all and behind all.
+const ABSENT: [&str; 7] = ["", "aa", "hell", "hello ", "World", "п", "я"];
+
+/// Ids that no document has.
+const NO_IDS: [u64; 6] = [0, 4, 10, 999, 1001, 18_446_744_073_709_551_614];
+
+/// The chunk of the documents.
+pub(crate) fn the_chunk(alloc: Global) -> Result<PlainChunk, NoMemory>
+    ensures content { IfOk result (λ chunk. IsContent chunk.rows) }
+    ensures columns { IfOk result (λ chunk. All HasColumns chunk.rows) }
+{
+    let rows = rows(alloc)?;
+    let chunk = PlainChunk::build(alloc, rows)?;
+    Ok(chunk)
+}
+
+/// A chunk without rows.
+pub(crate) fn no_chunk(alloc: Global) -> Result<PlainChunk, NoMemory>
+    ensures { IfOk result (λ chunk. chunk.rows ≡ []) }
+{
+    let rows = Vec::new(alloc);
+    let chunk = PlainChunk::build(alloc, rows)?;
+    Ok(chunk)
+}
+
+/// The number of the first row of which the chunk answers otherwise.
+fn first_other_row<C: Chunk>(alloc: Global, chunk: &C) -> Result<Option<usize>, Fail>
+    requires { All HasColumns (C.content chunk.now) }
+{
+    for (at, expected) in ROWS.iter().enumerate() {
+        if at >= chunk.rows() as usize {
+            return Ok(Some(at));
+        }
+        let found = told_row(alloc, chunk, at as u32)?;
+        if found.as_str() != *expected {
+            return Ok(Some(at));
+        }
+    }
+    Ok(None)
+}
+
+/// The number of the first document that isn't found by its id.
+fn first_other_id<C: Chunk>(chunk: &C) -> Option<usize> {
+    for (at, written) in DOCUMENTS.iter().enumerate() {
+        if chunk.find(written.0) != Some(at as u32) {
+            return Some(at);
+        }
+    }
+    None
+}
+
+/// The number of the first word of which the chunk answers otherwise.
+fn first_other_word<C: Chunk>(alloc: Global, chunk: &C) -> Result<Option<usize>, Fail> {
+    for (at, (word, expected)) in WORDS.iter().enumerate() {
+        if at >= chunk.words() as usize || chunk.word_at(at as u32) != word.as_bytes() {
+            return Ok(Some(at));
+        }
+        let found = told_word(alloc, chunk, word.as_bytes())?.ok_or("no row")?;
+        if found.as_str() != *expected {
+            return Ok(Some(at));
+        }
+    }
+    Ok(None)
+}
+
+/// Whether some row has one of the words that are absent, or one of the ids.
+fn has_absent<C: Chunk>(chunk: &C) -> bool {
+    ABSENT
+        .iter()
+        .any(|word| chunk.start(word.as_bytes()).is_some())
+        || NO_IDS.iter().any(|id| chunk.find(*id).is_some())
+}
+
+#[test]
+fn a_chunk_answers_by_its_rows(rt: HostRuntime) -> Result<(), Fail> {
+    let chunk = the_chunk(rt.alloc())?;
+    assert_eq!(rt; chunk.rows(), 10);
+    assert_eq!(rt; first_other_row(rt.alloc(), &chunk)?, None);
+    assert_eq!(rt; first_other_id(&chunk), None);
+    Ok(())
+}
+
+#[test]
+fn a_chunk_answers_by_its_words(rt: HostRuntime) -> Result<(), Fail> {
+    let chunk = the_chunk(rt.alloc())?;
+    assert_eq!(rt; chunk.words(), 30);
+    assert_eq!(rt; first_other_word(rt.alloc(), &chunk)?, None);
+    assert!(rt; !has_absent(&chunk));
+    Ok(())
+}
+
+#[test]
+fn a_chunk_may_have_no_row(rt: HostRuntime) -> Result<(), Fail> {
+    let chunk = no_chunk(rt.alloc())?;
+    assert_eq!(rt; chunk.rows(), 0);
+    assert_eq!(rt; chunk.words(), 0);
+    assert!(rt; !has_absent(&chunk));
+    assert_eq!(rt; chunk.find(1), None);
+    assert_eq!(rt; chunk.start(b"hello"), None);
+    Ok(())
+}

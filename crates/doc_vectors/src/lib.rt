@@ -1,0 +1,16 @@
+//! Tests by tables of values from outside over documents: what a chunk over them answers, row by row and word by word, how many
+//! rows of a snapshot live, and how long a transaction's payload is.
+#![tactic(auto)]
+
+#[cfg(test)]
+mod chunks;
+#[cfg(test)]
+mod commits;
+#[cfg(test)]
+mod documents;
+#[cfg(test)]
+mod row_answers;
+#[cfg(test)]
+mod snapshots;
+#[cfg(test)]
+mod word_answers;

@@ -1,0 +1,88 @@
+//! What a chunk answers of its rows, as a line of text for each.
+ghost use Rattle.std.specs.Prelude.{◌<◌, All, length};
+ghost use Rattle.doc_vectors.specs.steps.Columns.{HasColumns};
+
+use doc_types::{Chunk, Gap, Value};
+use std::alloc::Global;
+use std::test::Fail;
+
+/// Appends the values of the row.
+fn put_values<C: Chunk>(chunk: &C, row: u32, into: &mut String) -> Result<(), Fail>
+    requires row { row < length (C.content chunk.now) }
+    requires columns { All HasColumns (C.content chunk.now) }
+{
+    for attr in 0..2 {
+        let Value::Whole(value) = chunk.value(row, attr);
+        write!(into, " {value}")?;
+    }
+    Ok(())
+}
+
+/// Appends the last positions of the fields of the row.
+fn put_lasts<C: Chunk>(chunk: &C, row: u32, into: &mut String) -> Result<(), Fail>
+    requires row { row < length (C.content chunk.now) }
+    requires columns { All HasColumns (C.content chunk.now) }
+{
+    for field in 0..3 {
+        let last = chunk.last(row, field);
+        write!(into, " {last}")?;
+    }
+    Ok(())
+}
+
+fn letter(gap: Gap) -> &'static str {
+    match gap {
+        Gap::None => "",
+        Gap::Sentence => "s",
+        Gap::Paragraph => "p",
+    }
+}
+
+/// Appends the boundaries of the fields of the row. They are asked for all fields into one list.
+fn put_gaps<C: Chunk>(alloc: Global, chunk: &C, row: u32, into: &mut String) -> Result<(), Fail>
+    requires row { row < length (C.content chunk.now) }
+    requires columns { All HasColumns (C.content chunk.now) }
+{
+    let mut gaps = Vec::new(alloc);
+    for field in 0..3 {
+        let before = gaps.len();
+        chunk.gaps(row, field, &mut gaps)?;
+        for (position, gap) in gaps.iter().skip(before) {
+            let gap = letter(*gap);
+            write!(into, " {field}.{position}{gap}")?;
+        }
+    }
+    Ok(())
+}
+
+/// Appends the spans of the row.
+fn put_spans<C: Chunk>(alloc: Global, chunk: &C, row: u32, into: &mut String) -> Result<(), Fail>
+    requires { row < length (C.content chunk.now) }
+{
+    let mut spans = Vec::new(alloc);
+    chunk.spans(row, &mut spans)?;
+    for (field, span) in spans.iter() {
+        let (zone, first, last) = (span.zone, span.first, span.last);
+        write!(into, " {field}.{first}-{last}:{zone}")?;
+    }
+    Ok(())
+}
+
+/// What the chunk answers of the row: its id and commit, its values, and of its fields the last positions, the boundaries and the
+/// spans.
+pub(crate) fn told_row<C: Chunk>(alloc: Global, chunk: &C, row: u32) -> Result<String, Fail>
+    requires row { row < length (C.content chunk.now) }
+    requires columns { All HasColumns (C.content chunk.now) }
+{
+    let mut text = String::new(alloc);
+    let (id, born) = (chunk.id(row), chunk.born(row));
+    write!(text, "{id} by {born}:")?;
+    put_values(chunk, row, &mut text)?;
+    text.push_str(", last")?;
+    put_lasts(chunk, row, &mut text)?;
+    text.push_str(", gaps")?;
+    put_gaps(alloc, chunk, row, &mut text)?;
+    text.push_str(", spans")?;
+    put_spans(alloc, chunk, row, &mut text)?;
+    Ok(text)
+}
