@@ -1,3 +1,6 @@
+//! Why a text is no character table: its first faulty entry, and the first kind of the list below that this entry has.
+//! `Twice` alone looks at the entries before it, and `Empty` is said of a text of blanks.
+
 /// What is wrong with an entry of a character table, in the order in which faults are looked for.
 #[derive(Clone, Copy, Debug, PartialEq, Eq)]
 pub enum CharsetKind {

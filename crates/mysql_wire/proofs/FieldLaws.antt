@@ -127,7 +127,7 @@ behind_takes (Some (size, bytes)) text rest e =
     let t = sized_takes size bytes text rest e in
     ap (λ (b : List ℕ). Some (size, b)) t.0 ∙ ap (λ (n : ℕ). Some (n, text ++ rest)) (sym t.1)
 
--- a length and the text behind it
+-- a length and the text after it
 lengthed : (bytes text rest : List ℕ) → lenenc_front bytes ≡ Some (length text, text ++ rest) → Begins (Lengthed text) bytes rest
 lengthed bytes text rest e =
     let t = number_takes bytes (length text) (text ++ rest) e in

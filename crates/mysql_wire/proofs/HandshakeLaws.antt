@@ -45,7 +45,7 @@ text_without (byte ∷ bytes) none = rw (not_nul byte none.0, text_without bytes
 abbrev AnswerBy : Bool → Bool → List ℕ → List ℕ → Type 0
 AnswerBy encoded secure bytes rest = (answer : List ℕ) × MatchBool encoded ((part : List ℕ) × IsField (Lengthed answer) part × (bytes ≡ part ++ rest)) (MatchBool secure (bytes ≡ length answer ∷ answer ++ rest) (EndsAtNul bytes answer rest))
 
--- bytes behind a size are an answer
+-- bytes after a size are an answer
 behind_says : {X : Type 0} (f : ℕ → List ℕ → X) (fits : Bool) (size : ℕ) (bytes : List ℕ) → (fits ≡ true → size ≤ length bytes)
     → MatchOption (cond fits (Some (drop size bytes)) None) (Unit {0}) (λ rest. (answer : List ℕ) × (f size bytes ≡ f (length answer) (answer ++ rest)))
 behind_says f false size bytes is = tt

@@ -22,7 +22,7 @@ front_packet expect size (a ∷ b ∷ c ∷ seq ∷ rest) fits header whole =
     cc (d.0, d.1, d.2, of.1, split)
 front_packet expect size held fits header whole = cc
 
--- a good header and enough bytes behind it
+-- a good header and enough bytes after it
 pub begins : (expect size : ℕ) (held : List ℕ) → AreBytes held → header_of held ≡ Some (size, expect) → size ≤ max_payload → 4 + size ≤ length held
     → BeginsWith expect held (take size (drop 4 held)) (drop size (drop 4 held))
 begins expect size held fits header limit whole =

@@ -9,7 +9,7 @@ use Rattle.mysql_wire.specs.declared.fields.WireFault.{WireFault}
 abbrev pub IsPlain : ℕ → List ℕ → ℕ → Type 0
 IsPlain size bytes n = (length bytes ≡ size) × (n ≡ number_of bytes)
 
--- The number stands behind a mark that tells its size.
+-- The number stands after a mark that tells its size.
 abbrev pub IsMarked : ℕ → ℕ → List ℕ → ℕ → Type 0
 IsMarked mark size bytes n = (low : List ℕ) × (bytes ≡ mark ∷ low) × IsPlain size low n
 
@@ -49,7 +49,7 @@ pub record Reaches (fields : List Field) (payload : List ℕ) (place : ℕ) : Ty
   pub filled : Fills done front
   pub place_is : place ≡ length front
 
--- Where the first field begins that isn't whole or breaks the layout, or what stands behind the last field: no value's fields reach further.
+-- Where the first field begins that isn't whole or breaks the layout, or what stands after the last field: no value's fields reach further.
 pub record IsFirstFault {V : Type 0} (fields : V → List Field) (payload : List ℕ) (place : ℕ) : Type 0 where
   pub value : V
   pub reached : Reaches (fields value) payload place

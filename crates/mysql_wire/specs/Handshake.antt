@@ -43,7 +43,7 @@ HasNoNul = AllByRecursion (λ byte. byte ≢ 0)
 abbrev pub EndsAtNul : List ℕ → List ℕ → List ℕ → Type 0
 EndsAtNul bytes text rest = HasNoNul text × (bytes ≡ text ++ 0 ∷ rest)
 
--- The authentication answer, and what follows it: behind its length, which is length-encoded or one byte, or up to a NUL.
+-- The authentication answer, and what follows it: after its length, which is length-encoded or one byte, or up to a NUL.
 abbrev pub HasAnswer : ℕ → List ℕ → List ℕ → Type 0
 HasAnswer flags bytes rest = (answer : List ℕ) × MatchBool (has flags length_encoded_answer)
     ((part : List ℕ) × IsField (Lengthed answer) part × (bytes ≡ part ++ rest))

@@ -10,6 +10,6 @@ lenenc n =
     else (if nat_lt n (2 ^ 24) then 0xfd ∷ take 3 (to_le_bytes w32 n)
     else 0xfe ∷ to_le_bytes w64 n))
 
--- a text behind its length
+-- a text after its length
 abbrev pub lenenc_text : List ℕ → List ℕ
 lenenc_text text = lenenc (length text) ++ text

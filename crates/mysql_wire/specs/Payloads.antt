@@ -28,7 +28,7 @@ greeting_fields greeting =
 abbrev pub ok_fields : WireOk → List Field
 ok_fields ok = Exactly (0x00 ∷ []) ∷ Number ok.affected ∷ Number 0 ∷ Plain 2 ok.status ∷ Exactly (0 ∷ 0 ∷ []) ∷ []
 
--- the code, the SQL state behind its mark, the text to the end
+-- the code, the SQL state after its mark, the text to the end
 abbrev pub err_fields : WireErr → List Field
 err_fields err = Exactly (0xff ∷ []) ∷ Plain 2 err.code ∷ Exactly (0x23 ∷ []) ∷ Sized 5 err.state ∷ Exactly err.text ∷ []
 
@@ -48,7 +48,7 @@ column_fields column =
     ∷ Exactly (0x0c ∷ []) ∷ type_fields (type_of column.kind)
     ++ Exactly (0 ∷ []) ∷ Exactly (0 ∷ 0 ∷ []) ∷ []
 
--- a text behind its length, or the mark of NULL
+-- a text after its length, or the mark of NULL
 abbrev pub cell_field : Option (List ℕ) → Field
 cell_field None = Exactly (0xfb ∷ [])
 cell_field (Some text) = Lengthed text

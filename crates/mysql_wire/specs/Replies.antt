@@ -25,7 +25,7 @@ ok_payload affected status = 0x00 ∷ lenenc affected ++ lenenc 0 ++ to_le_bytes
 abbrev pub ok_packet : ℕ → ℕ → ℕ → List ℕ
 ok_packet seq affected status = packet seq (ok_payload affected status)
 
--- the code, the SQL state behind its mark, the text
+-- the code, the SQL state after its mark, the text
 unfoldable pub err_payload : ℕ → List ℕ → List ℕ → List ℕ
 err_payload code state text = 0xff ∷ to_le_bytes w16 code ++ 0x23 ∷ state ++ text
 

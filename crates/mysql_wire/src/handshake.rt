@@ -17,13 +17,13 @@ const CONNECT_WITH_DATABASE: u32 = 0x8;
 /// The client speaks protocol 4.1.
 const PROTOCOL_41: u32 = 0x200;
 
-/// The authentication answer stands behind a length of one byte.
+/// The authentication answer stands after a length of one byte.
 const SECURE_CONNECTION: u32 = 0x8000;
 
-/// The authentication answer stands behind a length-encoded length.
+/// The authentication answer stands after a length-encoded length.
 const LENGTH_ENCODED_ANSWER: u32 = 0x20_0000;
 
-/// The offset of the user, behind the fields of fixed size.
+/// The offset of the user, after the fields of fixed size.
 const USER: u32 = 32;
 
 /// A client's answer to the greeting, as far as it is looked at.
@@ -109,7 +109,7 @@ fn place_of_cut(length: usize) -> u32
     }
 }
 
-/// A text up to a NUL, and what is behind it.
+/// A text up to a NUL, and what is after it.
 fn split_text(bytes: &[u8]) -> Option<(&[u8], &[u8])>
     ensures split { option_map (λ split. (split.0.now, split.1.now)) result ≡ text_front bytes.now }
     ensures within { IfSome result (λ split. length split.0.now < length bytes.now) }
@@ -124,7 +124,7 @@ fn find_nul(bytes: &[u8]) -> Option<usize>
     bytes.iter().position(|byte| *byte == 0)
 }
 
-/// What is behind the authentication answer.
+/// What is after the authentication answer.
 #[tactic(auto, unfolding(crate::specs::steps::ResponseFronts::behind_answer))]
 fn skip_answer(flags: u32, bytes: &[u8]) -> Option<&[u8]>
     ensures { option_map (λ rest. rest.now) result ≡ behind_answer flags bytes.now }

@@ -46,7 +46,7 @@ pub fn put_lenenc(value: u64, out: &mut Vec<u8>) -> Result<(), NoMemory>
     Ok(())
 }
 
-/// A length-encoded number, and what is behind it.
+/// A length-encoded number, and what is after it.
 pub(crate) fn split_lenenc(bytes: &[u8]) -> Option<(u64, &[u8])>
     ensures { option_map (λ split. (split.0, split.1.now)) result ≡ lenenc_front bytes.now }
 {

@@ -49,7 +49,7 @@ pub fn put_column(column: &Column, out: &mut Vec<u8>) -> Result<(), NoMemory>
     written
 }
 
-/// Appends a row's payload ("Text Resultset Row"): each value's text behind its length.
+/// Appends a row's payload ("Text Resultset Row"): each value's text after its length.
 pub fn put_row(cells: &[Cell], out: &mut Vec<u8>) -> Result<(), NoMemory>
     ensures ok { OnOk result (out.new.items ≡ out.old.items ++ row_payload cells.now) }
     ensures err { OnErr result (out.new.items ≡ out.old.items) }
@@ -113,7 +113,7 @@ fn put_cell(cell: &Cell, digits: &mut Buffer, out: &mut Vec<u8>) -> Result<(), N
     }
 }
 
-/// Appends a text behind its length ("Protocol::LengthEncodedString").
+/// Appends a text after its length ("Protocol::LengthEncodedString").
 fn put_text(text: &[u8], out: &mut Vec<u8>) -> Result<(), NoMemory>
     ensures ok { OnOk result (out.new.items ≡ out.old.items ++ lenenc_text text.now) }
     ensures front { take (vec_len out.old) out.new.items ≡ out.old.items }

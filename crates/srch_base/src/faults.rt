@@ -1,3 +1,6 @@
+//! What can go wrong in any crate: a device failed, or memory was refused. A call answers the narrowest of these types,
+//! and `?` widens it: a refused growth of std becomes `NoMemory`, and both become an `OpenFault` or an `Or`, whose other
+//! half is a fault that the caller can do something about.
 ghost use Rattle.std.specs.Prelude.{◌≡◌};
 
 use std::alloc::{AllocError, AllocFailed};

@@ -1,3 +1,11 @@
+//! Number fields: 2, 4 or 8 bytes, the low byte first.
+//!
+//! ```text
+//! 0x0201      01 02
+//! 0x06050403  03 04 05 06
+//! ```
+//!
+//! A reader looks at one place of some bytes, and answers none where the field isn't whole there. A writer appends.
 ghost use Rattle.std.specs.Prelude.{◌≡◌, ◌++◌, OnOk, OnErr};
 ghost use Rattle.std.specs.Int.{w16, w32, w64, to_le_bytes};
 ghost use Rattle.srch_base.specs.Numbers.{field_at};

@@ -6,20 +6,20 @@ use Rattle.mysql_wire.specs.declared.handshake.Response41.{Response41}
 use Rattle.mysql_wire.specs.declared.handshake.BadHandshake.{BadHandshake}
 use Rattle.mysql_wire.specs.Handshake.{Response, has, connect_with_database, speaks_41, secure_connection, length_encoded_answer, flags_of, cut_place}
 
--- what is behind so many bytes
+-- what is after so many bytes
 abbrev pub behind : ℕ → List ℕ → Option (List ℕ)
 behind size bytes = if nat_le size (length bytes) then Some (drop size bytes) else None
 
--- what is behind as many bytes as a number says
+-- what is after as many bytes as a number says
 abbrev pub behind_counted : Option (ℕ × List ℕ) → Option (List ℕ)
 behind_counted = option_and_then (λ counted. behind counted.0 counted.1)
 
--- what is behind as many bytes as the first byte says
+-- what is after as many bytes as the first byte says
 abbrev pub behind_byte : List ℕ → Option (List ℕ)
 behind_byte [] = None
 behind_byte (size ∷ bytes) = behind size bytes
 
--- a text up to a NUL, and what is behind it
+-- a text up to a NUL, and what is after it
 abbrev pub text_front : List ℕ → Option (List ℕ × List ℕ)
 text_front [] = None
 text_front (byte ∷ bytes) = if byte == 0 then Some ([], bytes) else option_map (λ split. (byte ∷ split.0, split.1)) (text_front bytes)
@@ -29,7 +29,7 @@ abbrev pub text_or_all : Option (List ℕ × List ℕ) → List ℕ → List ℕ
 text_or_all None bytes = bytes
 text_or_all (Some split) bytes = split.0
 
--- what is behind the authentication answer
+-- what is after the authentication answer
 unfoldable pub behind_answer : ℕ → List ℕ → Option (List ℕ)
 behind_answer flags bytes =
     if has flags length_encoded_answer then behind_counted (lenenc_front bytes)
@@ -39,7 +39,7 @@ behind_answer flags bytes =
 unfoldable pub database_of : ℕ → List ℕ → Option (List ℕ)
 database_of flags bytes = if has flags connect_with_database then Some (text_or_all (text_front bytes) bytes) else None
 
--- with the user and what is behind it
+-- with the user and what is after it
 abbrev pub response_with : ℕ → List ℕ → Option (List ℕ) → Result Response ℕ
 response_with flags user None = Err (33 + length user)
 response_with flags user (Some rest) = Ok (record { flags = flags; user = user; database = database_of flags rest })

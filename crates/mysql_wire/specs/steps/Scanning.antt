@@ -21,7 +21,7 @@ abbrev pub if_number : ℕ → Option (ℕ × List ℕ) → Option (List ℕ)
 if_number want None = None
 if_number want (Some (n, rest)) = if n == want then Some rest else None
 
--- the bytes after a text, where it is this one and these bytes stand behind its length
+-- the bytes after a text, where it is this one and these bytes stand after its length
 abbrev pub if_text : List ℕ → Option (List ℕ) → Option (List ℕ)
 if_text want None = None
 if_text want (Some bytes) = exactly_at want bytes
@@ -33,7 +33,7 @@ known_at (Plain size want) bytes = if_number want (fixed_front size bytes)
 known_at (Number want) bytes = if_number want (lenenc_front bytes)
 known_at (Lengthed want) bytes = if_text want (if_number (length want) (lenenc_front bytes))
 
--- the text behind a length
+-- the text after a length
 abbrev pub behind : Option (ℕ × List ℕ) → Option (List ℕ × List ℕ)
 behind None = None
 behind (Some (size, bytes)) = sized_at size bytes

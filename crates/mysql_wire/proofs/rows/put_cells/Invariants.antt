@@ -1,4 +1,4 @@
--- The values before the index stand behind what was there.
+-- The values before the index stand after what was there.
 use Rattle.std.proofs.Common.{◌≡◌, ◌≤◌, ◌++◌, take, vec_capacity}
 use Rattle.mysql_wire.specs.Rows.{row_payload}
 use Rattle.mysql_wire.proofs.rows.put_cells.Given as goal
