@@ -51,7 +51,7 @@ fn write_and_reserve(
     ensures capacity { vec_capacity out.old ≤ vec_capacity out.new }
 {
     let next = write_set(alloc, status, set, seq, out)?;
-    out.reserve(spare)?;
+    out.reserve_exact(spare)?;
     Ok(next)
 }
 
