@@ -1,3 +1,4 @@
+//! Laws of the definitions. Each function does nothing: its contract is the law.
 ghost use Rattle.std.specs.Prelude.{Option, ◌≡◌, ℕ, List};
 ghost use Rattle.doc_tokens.specs.declared.sign.TextSign.{TextSign};
 ghost use Rattle.doc_tokens.specs.Words.{segments, signs_of, AreMaximal};

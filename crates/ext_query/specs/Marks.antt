@@ -127,7 +127,7 @@ how_of text (numbers.Within s) = hows.Within (number_of text s)
 how_of text (numbers.AtLeast s) = hows.AtLeast (number_of text s)
 how_of text (numbers.Share s) = hows.Share (number_of text s) (length (bytes_of text s))
 
--- the keywords that words are, the first behind so many, under the limits
+-- the keywords that words are, the first after so many, under the limits
 abbrev pub keys_after : ℕ → Limits → Bool → Bool → List (List ℕ) → List Key
 keys_after n here start end [] = []
 keys_after n here start end (word ∷ words) =
@@ -148,7 +148,7 @@ abbrev pub word_sign : List Key → List Sign
 word_sign [] = []
 word_sign (key ∷ keys) = bare key ∷ []
 
--- whether the 256th keyword is among so many behind so many
+-- whether the 256th keyword is among so many after so many
 abbrev pub passes_limit : ℕ → ℕ → Bool
 passes_limit n more = nat_le n 255 && nat_lt 255 (n + more)
 

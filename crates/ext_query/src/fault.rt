@@ -1,3 +1,5 @@
+//! Why a text is no extended query. A text may be wrong in many ways at once; only the first counts: the least place, and
+//! at one place the first kind of the list below. What a kind prints is its text in docs/EXTENDED_QUERIES.md.
 ghost use Rattle.ext_query.specs.FaultTexts.{fault_text, kind_text};
 
 use srch_base::Name;

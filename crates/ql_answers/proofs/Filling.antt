@@ -14,7 +14,7 @@ use Rattle.ql_answers.specs.Refusals.{Refused, first, wrong_number}
 use Rattle.ql_answers.specs.Writing.{Puts, Fills, value_fault, values_fault, row_fault, rows_fault}
 use Rattle.ql_answers.specs.steps.Documents.{IsShaped}
 
--- one more value is put behind the others
+-- one more value is put after the others
 Fills-snoc : (conf : IndexConf) (targets : List Target) (values : List Val) (old now new : Doc) (target : Target) (value : Val)
     → length targets ≡ length values → Fills conf targets values old now → Puts conf target value now new
     → Fills conf (targets ++ target ∷ []) (values ++ value ∷ []) old new

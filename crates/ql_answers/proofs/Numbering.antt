@@ -11,7 +11,7 @@ front old mid new extra is begins =
     let e : length old ≤ length mid = omega (arith, length-append old extra, ap length is) in
     sym (take-take (length old) (length mid) new e) ∙ ap (take (length old)) begins ∙ ap (take (length old)) is ∙ take-append_seam old extra
 
--- payloads that are appended behind others are appended behind what was there before these
+-- payloads that are appended after others are appended after what was there before these
 pub Appends-then : {E : Type 0} (result : Result ℕ E) (seq next : ℕ) (ps qs : List (List ℕ)) (old mid new : List ℕ) → seq < 256
     → next ≡ sequence_after seq ps → mid ≡ old ++ packets_from seq ps → Appends result next qs mid new → Appends result seq (ps ++ qs) old new
 Appends-then (Ok n) seq next ps qs old mid new small after is appends = (
@@ -27,7 +27,7 @@ pub payloads_more : {X : Type 0} (f : X → List ℕ) (xs : List X) (i : ℕ) (x
 payloads_more f xs i x below is =
     sym (ap (map f) (take_more xs i x below ∙ ap (λ y. take i xs ++ y ∷ []) is) ∙ map-append f (take i xs) (x ∷ []))
 
--- the payloads of a result set, one part behind the other
+-- the payloads of a result set, one part after the other
 pub set_parts : (count eof : List ℕ) (columns rows : List (List ℕ))
     → ((((count ∷ []) ++ columns) ++ eof ∷ []) ++ rows) ++ eof ∷ [] ≡ count ∷ columns ++ eof ∷ rows ++ eof ∷ []
 set_parts count eof columns rows = simp append_assoc

@@ -43,7 +43,7 @@ is_blank c = (c == 32) || (c == 9) || (c == 13) || (c == 10)
 abbrev pub is_letter : IndexConf → ℕ → Bool
 is_letter conf c = is_some (fold_of conf c)
 
--- characters behind the blanks that they begin with
+-- characters after the blanks that they begin with
 abbrev pub unblanked : List ℕ → List ℕ
 unblanked cs = drop (prefix_len is_blank cs) cs
 

@@ -28,7 +28,7 @@ abbrev pub targets : Schema → Option (List (List ℕ)) → List Target
 targets schema None = all_targets schema
 targets schema (Some names) = filter_map (target_of schema) names
 
--- what is wrong with a name of a column behind others
+-- what is wrong with a name of a column after others
 abbrev pub name_fault : Schema → List (List ℕ) → List ℕ → Option Refused
 name_fault schema before name =
     if not (is_some (target_of schema name)) then Some (unknown_column name)
@@ -132,7 +132,7 @@ IsTooLongFor conf (Field field) (Text text) refusal =
     (position : ℕ) × IsTooLong (fold_of conf) conf.rules text position × (refusal ≡ too_many_positions (name_of conf.schema (Field field)))
 IsTooLongFor conf target value refusal = ⊥
 
--- A row has a text that is too long, behind texts that aren't.
+-- A row has a text that is too long, after texts that aren't.
 pub record RefusesRow (conf : IndexConf) (targets : List Target) (row : List Val) (refusal : Refused) : Type 0 where
   pub place : ℕ
   pub doc : Doc

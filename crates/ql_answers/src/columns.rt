@@ -1,4 +1,6 @@
-//! The columns of an index, as statements name them.
+//! The columns of an index, as statements name them: the id, its fields and its attributes, in the order of the
+//! configuration. Names come in small letters, as the parser keeps them. An index has at most 65 columns, so that its
+//! lists are gone through.
 ghost use Rattle.std.specs.Prelude.{◌≡◌, IfOk};
 ghost use Rattle.ql_answers.specs.Columns.{all_targets, attr_place, field_place, name_of, target_of};
 

@@ -109,7 +109,7 @@ fn characters(alloc: Global, text: &str) -> Result<Vec<char>, NoMemory>
     Ok(list)
 }
 
-/// The characters behind the blanks that they begin with.
+/// The characters after the blanks that they begin with.
 fn unblanked(characters: &[char]) -> &[char]
     ensures { result.now ≡ unblanked characters.now }
 {

@@ -1,4 +1,6 @@
-//! What is replied to a plan by what happened, a function for each kind of event.
+//! What is replied to a plan by what happened, a function for each kind of event: OK with the number of rows, a refusal,
+//! or a result set. Only events that the plan can have come here, so that no reply is made up for others. OK and ERR take
+//! no memory where 256 bytes are spare.
 ghost use Rattle.std.specs.Prelude.{◌≡◌, ◌+◌, ◌≤◌, ◌++◌, [], ◌∷◌, map, pos, IfOk, IsOk, OnOk, OnErr, true, false, vec_len, vec_capacity};
 ghost use Rattle.mysql_wire.specs.declared.rows.Cell.TheVariants as cells;
 ghost use Rattle.ql_answers.specs.Replies.{Done, Fails, Shows};

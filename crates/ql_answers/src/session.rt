@@ -45,7 +45,7 @@ impl Session {
         }
     }
 
-    /// The status of a packet, behind which another statement of the packet follows or not.
+    /// The status of a packet, after which another statement of the packet follows or not.
     pub fn status(&self, more: bool) -> u16
         ensures { result ≡ status_of self.now.state more }
     {
@@ -87,7 +87,7 @@ impl Session {
         }
     }
 
-    /// Appends the reply to the statement of the last `need`, and gives the sequence number of the packet behind it and
+    /// Appends the reply to the statement of the last `need`, and gives the sequence number of the packet after it and
     /// whether the statement was refused. Its packets begin at `seq`; `more` says that another statement of the packet follows.
     ///
     /// OK and ERR take no memory where 256 bytes are spare; rows leave as much spare room as they found. After NoMemory the

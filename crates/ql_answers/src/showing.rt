@@ -1,4 +1,6 @@
-//! What SHOW, DESCRIBE and SELECT of a variable show.
+//! What SHOW, DESCRIBE and SELECT of a variable show; docs/cases/statements.md has each as a client sees it. Clients ask
+//! for variables, databases and warnings when they connect: what isn't there is shown as an empty text or as no row, and
+//! they go on.
 ghost use Rattle.std.specs.Prelude.{◌≡◌, ◌++◌, IfOk, codes, map};
 ghost use Rattle.ql_answers.specs.Replies.{pair};
 ghost use Rattle.ql_answers.specs.Showing.{current_database, databases, description, description_rows, kind_text, tables, variable, variable_value, warnings};

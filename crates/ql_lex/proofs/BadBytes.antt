@@ -99,7 +99,7 @@ no_quoted text at last quotes next no_word to within named =
     false≢true (subst (λ b. is_name_byte b ≡ true) quotes.closes passes)))
     (cases_order (to - 1) last)
 
--- a backquote, and the next one behind it, with no name between them
+-- a backquote, and the next one after it, with no name between them
 pub quoted_bad : (text : List ℕ) (at last : ℕ) → QuotesAt 96 text at last → ((k : ℕ) → at + 1 ≤ k → k < last → get_or text k 0 ≡ 96 → ⊥) → is_word is_name_byte (slice_range text (at + 1) last) ≡ false → IsBad text at
 quoted_bad text at last quotes next no_word =
     record {

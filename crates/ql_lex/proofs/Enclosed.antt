@@ -3,7 +3,7 @@ use Rattle.std.proofs.Common.{◌≡◌, ℕ, ◌+◌, ◌-◌, ◌<◌, ◌≤�
 use Rattle.ql_lex.specs.Shapes.{IsEnclosed, inside}
 use Rattle.ql_lex.proofs.Slices.{slice_length, slice_byte, slice_slice}
 
--- a quote stands at one place, and at another one behind it
+-- a quote stands at one place, and at another one after it
 pub record QuotesAt (quote : ℕ) (text : List ℕ) (at last : ℕ) : Type 0 where
   pub before : at < last
   pub within : last < length text

@@ -50,7 +50,7 @@ scan_start quote text from = record {
   none = λ k above below. absurd (omega arith);
 }
 
--- behind an escaped byte
+-- after an escaped byte
 pub scan_escaped : (quote : ℕ) (text : List ℕ) (from place : ℕ) → place < length text → Scanned quote text from place true → Scanned quote text from (place + 1) false
 scan_escaped quote text from place within scan =
     let at : Escapes quote text from place = scan.escapes refl in
@@ -69,7 +69,7 @@ scan_escaped quote text from place within scan =
           (cases_order k place);
     }
 
--- behind a byte that isn't escaped and isn't the quote
+-- after a byte that isn't escaped and isn't the quote
 pub scan_next : (quote : ℕ) (text : List ℕ) (from place : ℕ) → from ≤ place → place < length text → Scanned quote text from place false → get_or text place 0 ≢ quote → Scanned quote text from (place + 1) (eqb (get_or text place 0) 92)
 scan_next quote text from place above within scan no_quote = record {
   plain = λ e.

@@ -18,7 +18,7 @@ run_passes p text at within =
     let place : at + k < at + prefix_len p (drop at text) = omega arith in
     subst (λ b. p b ≡ true) (sym (slice_byte text at (at + prefix_len p (drop at text)) k place)) (subst (λ b. p b ≡ true) (get_or-drop at text k 0) (prefix_len_passes p (drop at text) k 0 size))))
 
--- the byte behind a run doesn't pass
+-- the byte after a run doesn't pass
 pub run_stops : (p : ℕ → Bool) (text : List ℕ) (at : ℕ) → p 0 ≡ false → p (get_or text (at + prefix_len p (drop at text)) 0) ≡ false
 run_stops p text at zero =
     subst (λ b. p b ≡ false) (get_or-drop at text (prefix_len p (drop at text)) 0)

@@ -70,7 +70,7 @@ slice_at text from to k some =
     let ordered : from + k < to = omega (arith, length-take (to - from) (drop from text)) in
     (ordered, slice_byte text from to k ordered)
 
--- a part is what stands before a place, the byte there, and what stands behind it
+-- a part is what stands before a place, the byte there, and what stands after it
 pub slice_split : (text : List ℕ) (from at to : ℕ) → from ≤ at → at < to → to ≤ length text → slice_range text from to ≡ slice_range text from at ++ get_or text at 0 ∷ slice_range text (at + 1) to
 slice_split text from at to ordered before within =
     let e : from + (at - from) ≡ at = omega arith in

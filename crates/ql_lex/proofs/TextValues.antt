@@ -23,7 +23,7 @@ escaped_itself b high =
     ∙ cond-false (eqb b 116) _ _ (ne_eqb b 116 (omega arith))
     ∙ cond-false (eqb b 48) _ _ (ne_eqb b 48 (omega arith))
 
--- so do they behind a `\`
+-- so do they after a `\`
 escaped_high : (xs rest : List ℕ) → 0 < length xs → ((k : ℕ) → k < length xs → 128 ≤ get_or xs k 0) → unescaped (92 ∷ (xs ++ rest)) ≡ xs ++ unescaped rest
 escaped_high [] rest some high = absurd (omega arith)
 escaped_high (x ∷ xs) rest some high =

@@ -29,7 +29,7 @@ pub record Resolves (quote : ℕ) (inner old : List ℕ) (place : ℕ) (after_ba
 pub resolve_start : (quote : ℕ) (inner old items : List ℕ) → is_inner quote inner ≡ true → items ≡ old → Resolves quote inner old 0 false items
 resolve_start quote inner old items is same = record { value = ap (λ (l : List ℕ). l ++ unescaped inner) same; inner_left = is }
 
--- the byte behind a `\`
+-- the byte after a `\`
 pub resolve_escaped : (quote : ℕ) (inner old : List ℕ) (place : ℕ) (items new : List ℕ) → place < length inner → Resolves quote inner old place true items → new ≡ items ++ escaped (get_or inner place 0) ∷ [] → Resolves quote inner old (place + 1) false new
 resolve_escaped quote inner old place items new within resolves is =
     let more : drop place inner ≡ get_or inner place 0 ∷ drop (place + 1) inner = drop_more inner place 0 within in

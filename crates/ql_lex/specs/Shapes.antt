@@ -51,7 +51,7 @@ pub record IsEnclosed (quote : ℕ) (bytes : List ℕ) : Type 0 where
 abbrev pub is_plain : ℕ → ℕ → Bool
 is_plain quote b = not (b == 92) && not (b == quote)
 
--- What may stand between quotes: plain bytes, and `\` with any byte behind it.
+-- What may stand between quotes: plain bytes, and `\` with any byte after it.
 abbrev pub is_inner : ℕ → List ℕ → Bool
 is_inner quote [] = true
 is_inner quote (b ∷ []) = is_plain quote b

@@ -25,7 +25,7 @@ pub record ClosesComment (text : List ℕ) (place : ℕ) : Type 0 where
   pub star : slice_index text place ≡ 42
   pub slash : slice_index text (place + 1) ≡ 47
 
--- A comment stands from one place up to another: `/*` up to the next `*/` behind it.
+-- A comment stands from one place up to another: `/*` up to the next `*/` after it.
 pub record IsComment (text : List ℕ) (from to : ℕ) : Type 0 where
   pub opens : OpensComment text from
   pub last : ℕ
@@ -51,7 +51,7 @@ pub record IsToken (kind : TokenKind) (text : List ℕ) (from to : ℕ) : Type 0
   pub lexeme : IsLexeme kind (slice_range text from to)
   pub whole : IsWhole kind text from to
 
--- the place behind a part that stands at a place
+-- the place after a part that stands at a place
 abbrev pub end_of : ℕ → Part → ℕ
 end_of place Blank = place + 1
 end_of place (Comment to) = to
@@ -70,7 +70,7 @@ pub record IsNotUtf8 (text : List ℕ) (place : ℕ) : Type 0 where
   pub quoted : IsQuotedText (slice_range text place to)
   pub other : IsUtf8 (inside (slice_range text place to)) → ⊥
 
--- A quote opens a text at the place, and no text ends behind it; or a backquote stands there, and no other behind it.
+-- A quote opens a text at the place, and no text ends after it; or a backquote stands there, and no other after it.
 pub data IsUnclosed (text : List ℕ) (place : ℕ) : Type 0 where
   open_text : IsTrue (is_quote (slice_index text place)) → ((to : ℕ) → to ≤ length text → IsQuotedText (slice_range text place to) → ⊥) → IsUnclosed text place
   open_name : slice_index text place ≡ 96 → ((k : ℕ) → place < k → slice_index text k ≢ 96) → IsUnclosed text place
@@ -88,7 +88,7 @@ pub record IsTooLarge (text : List ℕ) (place : ℕ) : Type 0 where
   pub all : is_ascii_digit (slice_index text to) ≡ false
   pub above : 2 ^ 64 ≤ digits_value 10 (slice_range text place to)
 
--- The digits of a number that isn't too large stand at the place, and a dot behind them.
+-- The digits of a number that isn't too large stand at the place, and a dot after them.
 pub record IsPointed (text : List ℕ) (place : ℕ) : Type 0 where
   pub to : ℕ
   pub digits : IsTrue (is_digits (slice_range text place to))

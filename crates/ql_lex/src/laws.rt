@@ -1,3 +1,4 @@
+//! A law of the definitions. The function does nothing: its contract is the law.
 ghost use Rattle.std.specs.Prelude.{◌≡◌, ℕ, List};
 ghost use Rattle.ql_lex.specs.declared.fault.LexKind.{LexKind};
 ghost use Rattle.ql_lex.specs.Tokens.{Lexeme, AreTokens, FaultAt};

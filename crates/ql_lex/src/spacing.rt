@@ -1,3 +1,5 @@
+//! A law of the definitions. The function does nothing: its contract is the law. Writers of texts rest on it: they spell
+//! token by token and never ask whether two of them would run together.
 ghost use Rattle.std.specs.Prelude.{List};
 ghost use Rattle.ql_lex.specs.Spacing.{Spelling, AreSpellings, spaced, HasTokens};
 

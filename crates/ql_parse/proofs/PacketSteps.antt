@@ -69,7 +69,7 @@ other_class c t e v (x, is, f) =
     let same : x ≡ t = cc in
     clash (fits c (kind t)) (subst (λ (y : Lexeme). fits c (kind y) ≡ true) same f) e
 
--- behind a `;`
+-- after a `;`
 semicolon_taken : (n : ℕ) (t : Lexeme) (u : List Lexeme) → kind t ≡ kinds.Sign signs.Semicolon → verdict sphinxql (more_statements (suc n)) (t ∷ u) ≡ verdict sphinxql (alt (seq statement (more_statements n)) (one the_end)) u
 unfolding verdict
 semicolon_taken n t u e = ap (λ k. next (t ∷ u) (derivative (λ c. fits c k) (more_statements (suc n))) (λ s. verdict sphinxql s u)) e

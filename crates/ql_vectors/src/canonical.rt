@@ -1,3 +1,6 @@
+//! Statements as clients write them, and their canonical texts: keywords in capitals, names between backquotes, texts
+//! between `'`, one space between two tokens. Each text is read and written, and what is written is read again as the
+//! same statement. All texts are worked out by hand from these rules.
 use crate::reading::read;
 use ql_parse::{Statement, put_statement};
 use std::alloc::Global;

@@ -1,3 +1,5 @@
+//! Where a text is refused. A table of texts with the first token with which no packet goes on, worked out by hand from
+//! the grammar; the most statements of a packet, from both sides; and an INSERT of about one megabyte, which is read.
 use crate::reading::read;
 use ql_parse::{MAX_STATEMENTS, ParseFault, ParseKind, Statement};
 use srch_base::NoMemory;
@@ -164,7 +166,7 @@ fn is_full(alloc: Global, text: &[u8]) -> bool {
     }
 }
 
-/// 31 statements, the `;` behind the last, and a text.
+/// 31 statements, the `;` after the last, and a text.
 fn after_31(alloc: Global, last: &str) -> Result<Vec<u8>, Fail> {
     let mut text = Vec::new(alloc);
     for _ in 0..31 {
@@ -183,7 +185,7 @@ fn reads_as_many_statements_as_are_allowed(rt: HostRuntime) -> Result<(), Fail> 
     Ok(())
 }
 
-/// What may stand behind 31 statements and a `;`, the place of its fault, and the kind.
+/// What may stand after 31 statements and a `;`, the place of its fault, and the kind.
 const TOO_MANY: [(&str, u32, ParseKind); 9] = [
     ("begin;begin", 192, ParseKind::TooMany),
     ("begin;begin;", 192, ParseKind::TooMany),

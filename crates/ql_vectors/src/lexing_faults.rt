@@ -1,3 +1,6 @@
+//! Texts with a place at which no token can be read, and what is wrong there, worked out by hand from the shapes of
+//! tokens; texts of 200,000 repetitions, which a reader that goes back again and again wouldn't get through; and what
+//! each kind of fault prints.
 ghost use Rattle.std.specs.Prelude.{◌≤◌, length};
 
 use ql_lex::LexKind::{

@@ -1,3 +1,5 @@
+//! Packets, and the canonical texts of the statements that they are read as, worked out by hand from the grammar. A
+//! canonical text shows each part of its statement, so that one row tells a whole value.
 use crate::reading::read;
 use ql_parse::{Statement, put_statement};
 use srch_base::NoMemory;

@@ -1,3 +1,4 @@
+//! From a text to its statements, for all tables of this crate.
 use ql_lex::lex;
 use ql_parse::{ParseFault, Statement, parse};
 use srch_base::Or;

@@ -1,3 +1,5 @@
+//! What tokens stand for: texts with their escapes resolved, names without what marks them, numbers and signs. All values
+//! are worked out by hand from the rules.
 ghost use Rattle.ql_lex.specs.Shapes.{IsQuotedText};
 
 use ql_lex::TokenKind::{Name, Quoted, SysVar};

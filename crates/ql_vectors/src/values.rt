@@ -1,3 +1,6 @@
+//! What stands in a statement, field by field, where its canonical text would say the same of a reader and a writer that
+//! are wrong in the same way: the order of two numbers, how a condition compares, directions, scopes, what is replaced
+//! and what is deleted. All values are worked out by hand.
 use crate::reading::read;
 use ql_parse::{Comparison, Cond, Ids, LimitPart, ParseFault, ParseKind, Scope, Select, Statement};
 use std::alloc::Global;

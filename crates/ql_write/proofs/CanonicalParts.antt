@@ -140,7 +140,7 @@ stays_text bytes = stays_one (text bytes)
     (λ t good (e, v). text_fits bytes (subst IsUtf8 (sym v) (unescaped_utf8 (inside t.text) (text_facts t.kind t.text good e).1)))
     (λ t good (e, v) s is. (text_kind bytes s is, text_is bytes s is))
 
--- A number, maybe behind a `-`; nothing is written without one.
+-- A number, maybe after a `-`; nothing is written without one.
 
 number_back : (n : ℕ) → n < 2 ^ 64 → (v : List Lexeme) → Spells (number n ∷ []) v → IsNumber n v
 number_back n below v s = one_back (number n) (λ r is. (number_kind n r is, number_is n r below is)) v s

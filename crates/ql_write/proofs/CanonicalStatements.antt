@@ -129,7 +129,7 @@ written_spaced (p ∷ q ∷ ps) = ap (λ v. spelling p ++ 32 ∷ v) (written_spa
 abbrev pub SpacedLaw : Type 0
 SpacedLaw = (list : List Spelling) → AreSpellings list → HasTokens (spaced list) list
 
--- a statement's tokens, and the end behind them, are a packet
+-- a statement's tokens, and the end after them, are a packet
 packet_of : (s : Statement) (body : List ℕ) (front : List Lexeme) → IsStatement s front → IsPacket (s ∷ []) (front ++ end_token body ∷ [])
 unfolding kind_by
 packet_of s body front is = (front, end_token body ∷ [], refl, is, ([], end_token body ∷ [], refl, inr refl, (end_token body, refl, refl)))

@@ -37,7 +37,7 @@ regrouped i c g w h o l p t = simp append_assoc
 pub select_parts : (s : Select) → select_pieces s ≡ head_pieces s ++ (groups_pieces s ++ tail_pieces s)
 select_parts s = regrouped (keyword keywords.Select ∷ with_commas item s.items) (keyword keywords.From ∷ name s.index ∷ given_all where_pieces s.conds) (given group_pieces s.group) (given_all within_pieces s.within) (given having_pieces s.having) (given_all ordered s.order) (given limit_pieces s.limit) (given_all option_pieces s.options) (in_row facet s.facets)
 
--- a space behind each piece is one between two of them, and one at the end
+-- a space after each piece is one between two of them, and one at the end
 pub spaced_written : (p : Piece) (ps : List Piece) → with_spaces (p ∷ ps) ≡ written (p ∷ ps) ++ 32 ∷ []
 spaced_written p [] = append-nil (spelling p ++ 32 ∷ [])
 spaced_written p (q ∷ ps) =

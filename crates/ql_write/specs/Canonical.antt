@@ -113,7 +113,7 @@ facet_order key = keyword keywords.Order ∷ keyword keywords.By ∷ sort_key ke
 abbrev pub facet : FacetPart → List Piece
 facet part = keyword keywords.Facet ∷ name part.column ∷ given facet_order part.order ++ given limit_pieces part.limit
 
--- The parts of a SELECT behind its index, each absent where it has no value.
+-- The parts of a SELECT after its index, each absent where it has no value.
 
 abbrev pub where_pieces : List Cond → List Piece
 where_pieces list = keyword keywords.Where ∷ listed (keyword keywords.And) cond list

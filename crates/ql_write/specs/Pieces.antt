@@ -99,7 +99,7 @@ escaped_byte b = if (b == 39) || (b == 92) then (92 ∷ b ∷ []) else (b ∷ []
 abbrev pub escaped_text : List ℕ → List ℕ
 escaped_text bytes = flat_map escaped_byte bytes
 
--- a name between backquotes, a number in decimal digits, a text between `'`, a system variable behind `@@`
+-- a name between backquotes, a number in decimal digits, a text between `'`, a system variable after `@@`
 abbrev pub spelling : Piece → List ℕ
 spelling (keyword w) = in_capitals w
 spelling (sign s) = sign_text s
@@ -116,7 +116,7 @@ written (p ∷ q ∷ ps) = spelling p ++ 32 ∷ written (q ∷ ps)
 
 -- The pieces of parts that several statements have.
 
--- a number, behind a `-` if it is negative
+-- a number, after a `-` if it is negative
 abbrev pub whole : ℤ → List Piece
 whole (pos n) = number n ∷ []
 whole (negsuc n) = sign signs.Minus ∷ number (suc n) ∷ []
@@ -141,7 +141,7 @@ abbrev pub given_all : {A : Type 0} → (List A → List Piece) → List A → L
 given_all f [] = []
 given_all f (x ∷ xs) = f (x ∷ xs)
 
--- values one behind the other
+-- values one after the other
 abbrev pub in_row : {A : Type 0} → (A → List Piece) → List A → List Piece
 in_row f xs = flat_map f xs
 

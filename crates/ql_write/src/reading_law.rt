@@ -1,3 +1,5 @@
+//! Laws of the definitions: what is written is read as the statement that it was written for. The functions do nothing
+//! but call the laws on tokens that they rest on; their contracts are the laws.
 ghost use Rattle.std.specs.Prelude.{ℕ, List, [], ◌∷◌, All};
 ghost use Rattle.ql_lex.specs.Tokens.{Lexeme, AreTokens, AreLexemes};
 ghost use Rattle.ql_grammar.specs.declared.statement.Statement.{Statement as StatementValue};

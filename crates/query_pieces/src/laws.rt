@@ -1,3 +1,4 @@
+//! A law of the definitions. The function does nothing: its contract is the law.
 ghost use Rattle.std.specs.Prelude.{◌≡◌, ℕ, List, Option};
 ghost use Rattle.query_pieces.specs.declared.piece.Piece.{Piece};
 ghost use Rattle.query_pieces.specs.Pieces.{ArePieces};

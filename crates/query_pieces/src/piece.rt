@@ -1,3 +1,7 @@
+//! What a piece is: plain data, in which words, names and numbers are places of the text, to be read by who needs them. A
+//! piece begins where the one before it ends, so it has only the place after it. The forms are those of "Extended query
+//! syntax" and "Field-start and field-end modifiers" in the Sphinx manual.
+
 /// A part of a text, from one place up to another.
 #[derive(Clone, Copy, Debug, PartialEq, Eq)]
 pub struct Slice {

@@ -1,4 +1,7 @@
-//! The pieces of a text, read from left to right.
+//! The pieces of a text, read from left to right: at each place an operator or a limit where one begins, else a word,
+//! else one character that separates. Each piece begins where the one before it ended. What a place begins is told by the
+//! byte before it, by whether a letter of a word stands there, and by the bytes from it on; the time is linear in the
+//! text.
 ghost use Rattle.std.specs.Prelude.{◌≡◌, ◌<◌, ◌≤◌, ◌^◌, ℕ, false, None, IfOk, length};
 ghost use Rattle.std.specs.Str.{IsCharBoundary};
 ghost use Rattle.charset_map.specs.Spans.{folded};

@@ -1,3 +1,4 @@
+//! Hosts in memory on which the tests run the program: one file, some doors, and the numbers of the calls that fail.
 use searchd_top::{MemoryHost, Status, searchd};
 use srch_base::{ListDoor, MemoryLink, Text};
 use std::alloc::Global;

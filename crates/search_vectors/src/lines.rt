@@ -1,3 +1,6 @@
+//! Sessions over one line: the bytes that a client sends, and those that are written to it, by the protocol's
+//! documentation. One session is cut at each of its bytes. Others end in a bad packet, where the input ends, or at a call
+//! that fails.
 use crate::hosts::{PLAIN, SESSION, one_door, run};
 use searchd_top::{Status, Stream};
 use srch_base::MemoryLink;

@@ -1,3 +1,5 @@
+//! Runs of the program on a host in memory: which status they end with, and what is printed, by the words, the doors, the
+//! calls that fail and the text of the file. The words and numbers of a status are those of the manual.
 use crate::hosts::{PLAIN, SESSION, one_door, run};
 use conf_text::ConfKind;
 use searchd_top::{MemoryHost, Status, Stream};

@@ -1,4 +1,5 @@
-//! How a run ended, with its exit status and its line, in one table.
+//! How a run ended, with its exit status and its line, in one table (docs/MANUAL.md). The line lies in place: want of
+//! memory can be told without memory.
 ghost use Rattle.std.specs.Prelude.{◌≡◌, ◌+◌, ◌≤◌, ◌++◌, length};
 ghost use Rattle.searchd_top.specs.Statuses.{code_of, line_of};
 ghost use Rattle.searchd_top.specs.steps.Lines.{beginning_of};

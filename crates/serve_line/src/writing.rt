@@ -1,4 +1,6 @@
-//! Writing whole packets over a link, and the packets with which a line ends.
+//! Writing whole packets over a link, and the packets with which a line ends. A link may take a part of what it is given:
+//! the rest is then written next, until all of it is, and a write that takes nothing counts as one that failed. No memory
+//! is taken.
 ghost use Rattle.std.specs.Prelude.{◌≡◌, ◌⊎◌, []};
 ghost use Rattle.srch_base.specs.Counts.{Rose};
 ghost use Rattle.srch_base.specs.Moves.{Moves, IsCut};

@@ -1,3 +1,5 @@
+//! Character tables: what is wrong with a text that is none, and which values the others give. All of it is worked out by
+//! hand from the forms of `charset_table` in Sphinx's manual.
 use charset_map::{Charset, CharsetFault, CharsetKind};
 use srch_base::Or;
 use std::alloc::Global;

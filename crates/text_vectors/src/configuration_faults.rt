@@ -1,3 +1,6 @@
+//! Where a text stops being a configuration, and why. One table has whole texts with the line and the kind of the first
+//! fault, the other lines in an index that is whole without them. Both are worked out by hand from the grammar and the
+//! order of the kinds.
 use conf_text::{ConfFault, ConfKind, read_conf};
 use srch_base::Or;
 use std::alloc::Global;

@@ -1,13 +1,16 @@
+//! The limits of a configuration, each from both sides: fields, attributes, zones, bytes of a name, indexes. A row is a
+//! template in which `%` and a letter stand for many lines, so that it can be read. All lines and kinds are worked out by
+//! hand.
 use crate::configuration_faults::fault_of;
 use conf_text::ConfKind;
 use std::alloc::Global;
 use std::fmt::Write;
 use std::test::Fail;
 
-/// Appends a text before each of the numbers from 0 on, and one behind it.
-fn push_numbered(text: &mut String, before: &str, behind: &str, count: u32) -> Result<(), Fail> {
+/// Appends a text before each of the numbers from 0 on, and one after it.
+fn push_numbered(text: &mut String, before: &str, after: &str, count: u32) -> Result<(), Fail> {
     for number in 0..count {
-        write!(text, "{before}{number}{behind}")?;
+        write!(text, "{before}{number}{after}")?;
     }
     Ok(())
 }

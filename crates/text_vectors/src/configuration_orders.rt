@@ -1,3 +1,5 @@
+//! Which fault is told where a line has two: the first in the order of the kinds. All rows are worked out by hand; they
+//! are templates, as in `configuration_limits`.
 use crate::configuration_faults::fault_of;
 use crate::configuration_limits::expanded;
 use conf_text::ConfKind;

@@ -1,3 +1,5 @@
+//! That a value of each plain type of `doc_types` can be made, copied and compared. Contracts leave open when memory is
+//! refused, so a copy that never succeeds would meet them.
 use doc_types::{
     AttrKind, Doc, DocRow, FieldTokens, Gap, Schema, TokenWord, Txn, TxnOp, Value, ZoneSpan,
 };

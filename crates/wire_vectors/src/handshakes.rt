@@ -1,3 +1,6 @@
+//! Responses to the greeting. Five were sent by clients and recorded; the others are layouts that none of these uses.
+//! Then fronts of one of them and payloads that are no response, with the place of the first field that isn't whole,
+//! worked out by the protocol's documentation.
 use mysql_wire::{BadHandshake, Response41, read_response41};
 
 /// What clients sent to this server's greeting, with the flags, the user and the database that they were told to send, and layouts that none of them uses.
@@ -44,14 +47,14 @@ const HANDSHAKES: [(&[u8], u32, &[u8], Option<&[u8]>); 9] = [
         b"u",
         Some(b"db"),
     ),
-    // An answer behind a length of three bytes
+    // An answer after a length of three bytes
     (
         b"\0\x02\x20\0\0\0\0\0\0\0\0\0\0\0\0\0\0\0\0\0\0\0\0\0\0\0\0\0\0\0\0\0\0\xfc\x02\0ab",
         0x20_0200,
         b"",
         None,
     ),
-    // An answer behind a length of nine bytes, and a database that begins at the end
+    // An answer after a length of nine bytes, and a database that begins at the end
     (
         b"\x08\x02\x20\0\0\0\0\0\0\0\0\0\0\0\0\0\0\0\0\0\0\0\0\0\0\0\0\0\0\0\0\0u\0\xfe\x01\0\0\0\0\0\0\0a",
         0x20_0208,

@@ -1,3 +1,5 @@
+//! The framer: a stream of three packets, cut in two at each byte, and fronts of streams with what is answered to them.
+//! All answers are worked out by the protocol's documentation and the limit of 8,388,608 bytes.
 use mysql_wire::{Framer, Next};
 use std::alloc::Global;
 use std::test::Fail;
@@ -61,7 +63,7 @@ const FRONTS: [(&[u8], Next<'static>); 5] = [
     (&[1, 0, 0, 1, 0x0e], Next::OutOfOrder { seq: 1 }),
 ];
 
-/// Whether a front is answered so, and a refusal again behind more bytes.
+/// Whether a front is answered so, and a refusal again after more bytes.
 fn is_answered(alloc: Global, front: &[u8], want: Next<'_>) -> Result<bool, Fail> {
     let mut framer = Framer::new(alloc).ok().ok_or("memory")?;
     take_packets(&mut framer, front, &[])?;

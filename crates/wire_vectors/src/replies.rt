@@ -1,3 +1,5 @@
+//! Replies byte by byte. The greeting, a refusal and a result set were recorded; small packets, values and the kinds of
+//! columns are worked out by the protocol's documentation.
 use mysql_wire::{
     Cell, Column, ColumnKind, eof_packet, err_packet, greeting, ok_packet, put_column, put_lenenc,
     put_packet, put_row,

@@ -24,7 +24,7 @@ abbrev pub is_same : Option ℕ → ℕ → Bool
 is_same None field = false
 is_same (Some last) field = last == field
 
--- how many fields places stand in, behind one that was in this field: those of one field stand together
+-- how many fields places stand in, after one that was in this field: those of one field stand together
 abbrev pub fields_behind : Option ℕ → List (ℕ × ℕ) → ℕ
 fields_behind last [] = 0
 fields_behind last (place ∷ places) = (if is_same last place.0 then 0 else 1) + fields_behind (Some place.0) places

@@ -24,7 +24,7 @@ pub record LeavesPackets (tokens : List Lexeme) (place : ℕ) : Type 0 where
   pub place_is : place ≡ first_place sphinxql rest
   pub leaves : (more : ℕ) → MAX_STATEMENTS ≤ more + 1 → verdict sphinxql (packet more) tokens ≡ Some rest
 
--- As many statements as are allowed have been read, a `;` behind each, and one more begins.
+-- As many statements as are allowed have been read, a `;` after each, and one more begins.
 pub record IsTooLong (tokens now : List Lexeme) : Type 0 where
   pub list : List Statement
   pub count : length list ≡ MAX_STATEMENTS

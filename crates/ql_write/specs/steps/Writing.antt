@@ -18,7 +18,7 @@ piece_of (tokens.Number n) = number n
 piece_of (tokens.Text bytes) = text bytes.now
 piece_of (tokens.Var bytes) = variable bytes.now
 
--- a piece, with a space behind it
+-- a piece, with a space after it
 abbrev pub with_space : Piece → List ℕ
 with_space p = spelling p ++ 32 ∷ []
 
@@ -30,12 +30,12 @@ pub record Keeps (before after : List ℕ) : Type 0 where
   pub more : List ℕ
   pub is : after ≡ before ++ more
 
--- These bytes stand behind what was there before; without memory, maybe a part of them.
+-- These bytes stand after what was there before; without memory, maybe a part of them.
 abbrev pub Appended : List ℕ → List ℕ → Result (Unit {0}) NoMemory → List ℕ → Type 0
 Appended bytes before (Ok done) after = after ≡ before ++ bytes
 Appended bytes before (Err e) after = Keeps before after
 
--- The pieces stand behind what was there before; without memory, maybe a part of them.
+-- The pieces stand after what was there before; without memory, maybe a part of them.
 abbrev pub Appends : List Piece → List ℕ → Result (Unit {0}) NoMemory → List ℕ → Type 0
 Appends ps before result after = Appended (with_spaces ps) before result after
 
@@ -53,7 +53,7 @@ groups_pieces select =
     ++ given_all within_pieces select.within
     ++ given having_pieces select.having
 
--- and what stands behind them.
+-- and what stands after them.
 abbrev pub tail_pieces : Select → List Piece
 tail_pieces select =
     given_all ordered select.order
