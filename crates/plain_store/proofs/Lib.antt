@@ -1,3 +1,4 @@
+pub mod Places
 pub mod Wholes
 pub mod Ids
 pub mod RowMaps

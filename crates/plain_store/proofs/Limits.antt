@@ -1,9 +1,7 @@
 -- What layers and their rows keep.
-use Rattle.std.proofs.Common.{◌≡◌, ℕ, ◌+◌, ◌<◌, ◌^◌, List, [], ◌∷◌, ◌++◌, Bool, true, false, cond, ◌||◌, Some, length, take, drop, refl, sym, ap, subst, ◌∙◌, arith, All, AllPairs, length-append, length-take}
-use Rattle.std.specs.List.{sum_by, list_any, position, position_from}
+use Rattle.std.proofs.Common.{◌≡◌, ℕ, ◌+◌, ◌<◌, ◌^◌, List, [], ◌∷◌, ◌++◌, Bool, length, take, drop, sym, ap, subst, arith, All, AllPairs, length-append, length-take}
+use Rattle.std.specs.List.{sum_by}
 use Rattle.std.specs.List.Sorted.{IsPermutation, IsNonDecreasingBy}
-use Rattle.std.specs.Option.{is_some}
-use Rattle.std.proofs.lemmas.Iterator.Adapters.{position_from-zero}
 use Rattle.std.proofs.lemmas.List.{length_push, get_or-append-add}
 use Rattle.std.proofs.lemmas.List.Elements.{All-push, All-take}
 use Rattle.std.proofs.lemmas.List.Sorted.{All-permutation, length_permutation}
@@ -15,14 +13,6 @@ use Rattle.plain_store.specs.steps.Layering.{AreApart, AreOfOne, AreSorted, AreW
 use Rattle.plain_store.proofs.Ids.{ascending, apart_permutation}
 use Rattle.plain_store.proofs.Upkeep.{merged_rows}
 use Rattle.plain_store.proofs.Wholes.{all_living_push, all_living_split, length_all_living}
-
-some_from : {X : Type 0} (p : X → Bool) (i : ℕ) (xs : List X) → is_some (position_from p i xs) ≡ list_any p xs
-some_from p i [] = refl
-some_from p i (x ∷ xs) = elim (p x) as (λ b. is_some (cond b (Some i) (position_from p (i + 1) xs)) ≡ (b || list_any p xs)) [ true ↦ refl | false ↦ some_from p (i + 1) xs ]
-
--- an element that passes has a place
-pub some_position : {X : Type 0} (p : X → Bool) (xs : List X) → is_some (position p xs) ≡ list_any p xs
-some_position p xs = ap is_some (position_from-zero p xs) ∙ some_from p 0 xs
 
 -- sorted rows of one schema are a chunk's, where they are few
 pub sorted_rows : (rows sorted : List DocRow) → AreOfOne rows → AreApart rows → IsPermutation rows sorted → IsNonDecreasingBy (λ row. row.doc.id) sorted → length rows < 2 ^ 32 → sum_by word_count sorted < 2 ^ 32 → AreSorted rows sorted

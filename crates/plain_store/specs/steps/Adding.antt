@@ -11,8 +11,7 @@ use Rattle.doc_types.specs.declared.documents.DocRow.{DocRow}
 use Rattle.doc_types.specs.declared.transactions.TxnOp.{TxnOp}
 use Rattle.doc_types.specs.declared.transactions.TxnOp.TheVariants as operations
 use Rattle.doc_types.specs.Commits as commits
-use Rattle.doc_types.specs.Rows.{rows_of}
-use Rattle.doc_types.specs.Snapshots.{LayerValue, SnapshotValue, all_living}
+use Rattle.doc_types.specs.Snapshots.{LayerValue, SnapshotValue, all_living, live}
 use Rattle.plain_store.specs.declared.duplicate.Duplicate.{Duplicate}
 use Rattle.plain_store.specs.steps.Layering.{AreApart}
 
@@ -63,5 +62,5 @@ pub record AreAdded (ops : List TxnOp) (old : SnapshotValue) (rows : List DocRow
 -- what the insertions add to a snapshot, or what refuses them
 abbrev pub AddsRows : List TxnOp → SnapshotValue → Result (Vec DocRow Global) (Or Duplicate) → Type 0
 AddsRows ops old (Ok rows) = AreAdded ops old rows.items
-AddsRows ops old (Err (causes.Fault duplicate)) = commits.verdict ops (rows_of (all_living old.layers)) ≡ commits.Duplicate duplicate.id
+AddsRows ops old (Err (causes.Fault duplicate)) = commits.verdict ops (live old) ≡ commits.Duplicate duplicate.id
 AddsRows ops old (Err causes.NoMemory) = Unit {0}

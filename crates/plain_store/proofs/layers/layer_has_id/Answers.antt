@@ -4,7 +4,7 @@ use Rattle.doc_types.specs.declared.documents.DocRow.{DocRow}
 use Rattle.doc_types.specs.declared.plain_chunk.PlainChunk.{PlainChunk}
 use Rattle.doc_types.specs.Snapshots.{LayerValue}
 use Rattle.plain_store.specs.steps.Adding.{has_row}
-use Rattle.plain_store.proofs.Limits.{some_position}
+use Rattle.plain_store.proofs.Places.{some_position}
 use Rattle.plain_store.proofs.layers.layer_has_id.Goals as goal
 
 pub returns : goal.returns
