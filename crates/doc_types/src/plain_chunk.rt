@@ -36,6 +36,13 @@ impl PlainChunk {
         let index = index_of(alloc, &rows)?;
         Ok(PlainChunk { rows, index })
     }
+
+    /// Its rows, by ascending id.
+    pub fn as_rows(&self) -> &[DocRow]
+        ensures { result.now ≡ self.now.rows }
+    {
+        self.rows.as_slice()
+    }
 }
 
 impl Chunk for PlainChunk {

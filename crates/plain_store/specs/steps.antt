@@ -1,1 +1,2 @@
-pub mod Invariant
+pub mod Layering
+pub mod Adding

@@ -6,6 +6,9 @@ ghost use Rattle.doc_types.specs.Transactions.{IsTxnOf};
 ghost use Rattle.plain_store.specs.Commits.{AreInsertions, Commits, empty_snapshot};
 
 use crate::duplicate::Duplicate;
+use crate::insertions::rows_added;
+use crate::layers::layer_of;
+use crate::merging::{add_layer, merge_last};
 use doc_types::{PlainChunk, Schema, Snapshot, Txn};
 use srch_base::{Items, NoMemory, Or};
 use std::alloc::Global;
@@ -20,7 +23,7 @@ pub struct PlainStore {
 
 impl Model for PlainStore {
     ghost use Rattle.plain_store.specs.Stores.{StoreValue};
-    ghost use Rattle.plain_store.specs.steps.Invariant.{IsStore};
+    ghost use Rattle.plain_store.specs.steps.Layering.{IsStore};
 
     ghost Value = { StoreValue };
 
@@ -35,7 +38,14 @@ impl PlainStore {
         requires { IsSchema schema.now }
         ensures { IfOk result (λ store. store ≡ record { schema = schema.now; snapshot = empty_snapshot }) }
     {
-        Err(NoMemory)
+        Ok(PlainStore {
+            schema: copy_of(schema)?,
+            snapshot: Snapshot {
+                number: 0,
+                shape: 0,
+                layers: Items::new(Vec::new(alloc)),
+            },
+        })
     }
 
     /// The documents as they are after the last commit, layer by layer.
@@ -59,6 +69,24 @@ impl PlainStore {
         ensures schema { self.new.schema ≡ self.old.schema }
         ensures cases { Commits txn.now.ops self.old.snapshot result self.new.snapshot }
     {
-        Err(Or::NoMemory)
+        let rows = rows_added(alloc, &self.snapshot, txn)?;
+        let layer = layer_of(alloc, rows)?;
+        add_layer(alloc, &mut self.snapshot, layer)?;
+        // The commit stands, whether or not there is memory for upkeep.
+        let _ = merge_last(alloc, &mut self.snapshot);
+        Ok(0)
     }
+}
+
+/// A copy that equals the schema.
+fn copy_of(schema: &Schema) -> Result<Schema, NoMemory>
+    ensures { IfOk result (λ copy. copy ≡ schema.now) }
+{
+    Ok(Schema {
+        name: schema.name.clone()?,
+        fields: schema.fields.clone()?,
+        attrs: schema.attrs.clone()?,
+        zones: schema.zones.clone()?,
+        sp: schema.sp,
+    })
 }
