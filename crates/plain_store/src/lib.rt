@@ -13,6 +13,8 @@ mod insertions;
 mod layers;
 mod merging;
 mod store;
+#[cfg(test)]
+mod tests;
 
 pub use duplicate::Duplicate;
 pub use store::PlainStore;

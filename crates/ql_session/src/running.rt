@@ -2,11 +2,11 @@
 //!
 //! OK and ERR take no memory: 1,024 bytes have room for an ERR of 256 bytes after 32 OK of 24 bytes at most, and rows leave
 //! as much spare room as they found.
-ghost use Rattle.std.specs.Prelude.{◌≡◌, ◌+◌, ◌*◌, ◌≤◌, ◌++◌, List, Some, false, length, vec_len, vec_capacity};
+ghost use Rattle.std.specs.Prelude.{◌≡◌, ◌+◌, ◌*◌, ◌≤◌, ◌++◌, ℕ, Bool, List, Some, false, true, length, vec_len, vec_capacity};
 ghost use Rattle.std.specs.Option.{IsSomeAnd};
 ghost use Rattle.ql_answers.specs.Replies.{Fails, Reply};
 ghost use Rattle.ql_answers.specs.declared.plan.Plan.{Plan};
-ghost use Rattle.ql_answers.specs.Sessions.{CanHave, happened_by};
+ghost use Rattle.ql_answers.specs.Sessions.{CanHave, State, happened_by};
 ghost use Rattle.serve_line.specs.Machines.{FollowAll};
 ghost use Rattle.ql_session.specs.Tables.{Event as Events, Follows};
 ghost use Rattle.ql_session.specs.Statements.{AreAnswered};
@@ -148,6 +148,7 @@ fn reply(
 fn refuse(refusal: &Refusal, seq: u8, out: &mut Vec<u8>) -> (u8, bool)
     requires room { vec_len out.old + 256 ≤ vec_capacity out.old }
     ensures says { (state : State) (more : Bool) → SaysReply state (Fails refusal.now) seq more result out.old.items out.new.items }
+    ensures refused { result.1 ≡ true }
     ensures capacity { vec_capacity out.old ≤ vec_capacity out.new }
 {
     put_refusal(refusal, seq, out);

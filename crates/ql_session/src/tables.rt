@@ -4,7 +4,7 @@
 ghost use Rattle.std.specs.Prelude.{◌≡◌, ◌<◌, ◌^◌, ◌≤◌, All, IfOk, Some, length, map, slice_get};
 ghost use Rattle.doc_types.specs.Schemas.{AreZones, IsSchema};
 ghost use Rattle.doc_types.specs.Transactions.{IsTxnOf};
-ghost use Rattle.plain_store.specs.Commits.{AreInsertions, empty_snapshot};
+ghost use Rattle.plain_store.specs.Commits.{AreInsertions, Commits as CommitsTo, empty_snapshot};
 ghost use Rattle.ql_session.specs.Tables.{empty_tables};
 ghost use Rattle.ql_session.specs.steps.Running.{Commits};
 
@@ -35,6 +35,16 @@ impl Table {
     {
         let store = PlainStore::new(alloc, &conf.schema)?;
         Ok(Table { conf, store })
+    }
+
+    /// Commits insertions. After an `Err` nothing was done.
+    fn commit(&mut self, alloc: Global, txn: &Txn) -> Result<u32, Or<Duplicate>>
+        requires of { IsTxnOf self.old.conf.schema txn.now }
+        requires insertions { AreInsertions txn.now.ops }
+        ensures conf { self.new.conf ≡ self.old.conf }
+        ensures commits { CommitsTo txn.now.ops self.old.store.snapshot result self.new.store.snapshot }
+    {
+        self.store.commit(alloc, txn)
     }
 }
 
@@ -89,7 +99,7 @@ impl PlainTables {
         requires insertions { AreInsertions txn.now.ops }
         ensures { Commits place txn.now.ops self.old result self.new }
     {
-        self.tables[place as usize].store.commit(alloc, txn)
+        self.tables[place as usize].commit(alloc, txn)
     }
 }
 

@@ -1,0 +1,16 @@
+use Rattle.std.proofs.Common.{◌≡◌, ◌<◌, length, refl, sym, ap, ◌∙◌, arith}
+use Rattle.std.proofs.lemmas.List.{length-map}
+use Rattle.std.proofs.lemmas.Option.{slice_get_within}
+use Rattle.ql_session.specs.Tables.{Tables}
+use Rattle.ql_session.specs.declared.tables.Table.{Table}
+use Rattle.ql_session.proofs.Committing.{commits_by, tables_of}
+use Rattle.ql_session.proofs.tables.PlainTables.commit.Goals as goal
+
+pub returns : goal.returns
+returns c =
+    let seen : tables_of c.self.inside.tables.items ≡ c.args.self.now = c.self.view_is in
+    let within = slice_get_within c.args.self.now.confs c.args.place c.requires.of.0 c.requires.of.1 in
+    let count : length (tables_of c.self.inside.tables.items).confs ≡ length c.args.self.now.confs = ap (λ (tables : Tables). length tables.confs) seen in
+    let same = length-map c.self.inside.tables.items (λ (table : Table). table.conf) in
+    let below : c.args.place < length c.self.inside.tables.items = omega (arith, within, count, same) in
+    commits_by c.self.inside.tables.items c.args.place c.index_mut.result.now c.commit.new.self c.args.txn.now.ops c.commit.result c.args.self.now seen below c.index_mut.ensures.value c.commit.ensures.conf c.commit.ensures.commits

@@ -1,0 +1,21 @@
+-- What holds of a plan that some statement wants.
+use Rattle.std.specs.Prelude.{◌≡◌, ℕ, List, Some, slice_get}
+use Rattle.doc_types.specs.declared.transactions.Txn.{Txn}
+use Rattle.doc_types.specs.Transactions.{IsTxnOf}
+use Rattle.plain_store.specs.Commits.{AreInsertions}
+use Rattle.conf_text.specs.declared.conf.IndexConf.{IndexConf}
+use Rattle.ql_answers.specs.declared.plan.Plan.{Plan}
+use Rattle.ql_answers.specs.declared.plan.Plan.TheVariants.{Search, Insert}
+
+-- The index at the place is there, and the transaction inserts documents of it.
+pub record CanCommit (confs : List IndexConf) (place : ℕ) (txn : Txn) : Type 0 where
+  pub conf : IndexConf
+  pub is : slice_get confs place ≡ Some conf
+  pub of : IsTxnOf conf.schema txn
+  pub insertions : AreInsertions txn.ops
+
+-- What the plan wants of an index can be had: the index is there.
+abbrev pub IsSoundPlan : List IndexConf → Plan → Type 0
+IsSoundPlan confs (Search place word) = (conf : IndexConf) × (slice_get confs place ≡ Some conf)
+IsSoundPlan confs (Insert place txn) = CanCommit confs place txn
+IsSoundPlan confs plan = Unit {0}
