@@ -1,0 +1,27 @@
+//! Tests by tables of values from outside over `ql_session`, which is proved once without them: texts and what is replied.
+#![tactic(auto)]
+
+#[cfg(test)]
+mod commands;
+#[cfg(test)]
+mod finding;
+#[cfg(test)]
+mod inserting;
+#[cfg(test)]
+mod lines;
+#[cfg(test)]
+mod long_texts;
+#[cfg(test)]
+mod offering;
+#[cfg(test)]
+mod parsing;
+#[cfg(test)]
+mod reading;
+#[cfg(test)]
+mod running;
+#[cfg(test)]
+mod several;
+#[cfg(test)]
+mod sharing;
+#[cfg(test)]
+mod showing;

@@ -1,0 +1,187 @@
+use crate::running::first_wrong;
+use std::test::Fail;
+
+/// Statements of the grammar that aren't offered yet, and the refusals that come before that.
+const NOT_OFFERED: [(&str, &str); 61] = [
+    (
+        "REPLACE INTO rt VALUES (1,'a','b',0,0,0,0)",
+        "ERR 1064 42000 not offered yet",
+    ),
+    (
+        "REPLACE INTO nosuch VALUES (1)",
+        "ERR 1064 42000 not offered yet",
+    ),
+    (
+        "DELETE FROM rt WHERE ID = 1",
+        "ERR 1064 42000 not offered yet",
+    ),
+    ("BEGIN", "ERR 1064 42000 not offered yet"),
+    ("START TRANSACTION", "ERR 1064 42000 not offered yet"),
+    ("COMMIT", "ERR 1064 42000 not offered yet"),
+    ("ROLLBACK", "ERR 1064 42000 not offered yet"),
+    ("SET AUTOCOMMIT = 0", "ERR 1064 42000 not offered yet"),
+    ("SET AUTOCOMMIT = 5", "ERR 1064 42000 not offered yet"),
+    ("TRUNCATE RTINDEX nosuch", "ERR 1064 42000 not offered yet"),
+    ("SHOW INDEX nosuch STATUS", "ERR 1064 42000 not offered yet"),
+    ("SHOW VARIABLES", "ERR 1064 42000 not offered yet"),
+    ("SHOW META", "ERR 1064 42000 not offered yet"),
+    ("FLUSH RAMCHUNK rt", "ERR 1064 42000 not offered yet"),
+    ("FLUSH RTINDEX rt", "ERR 1064 42000 not offered yet"),
+    ("OPTIMIZE INDEX rt", "ERR 1064 42000 not offered yet"),
+    (
+        "FLUSH RAMCHUNK nosuch",
+        "ERR 1064 42000 unknown index 'nosuch'",
+    ),
+    (
+        "FLUSH RTINDEX nosuch",
+        "ERR 1064 42000 unknown index 'nosuch'",
+    ),
+    (
+        "OPTIMIZE INDEX nosuch",
+        "ERR 1064 42000 unknown index 'nosuch'",
+    ),
+    ("FLUSH RAMCHUNK other", "ERR 1064 42000 not offered yet"),
+    ("SELECT id FROM rt", "ERR 1064 42000 not offered yet"),
+    ("SELECT id FROM nosuch", "ERR 1064 42000 not offered yet"),
+    (
+        "SELECT * FROM nosuch WHERE MATCH('a')",
+        "ERR 1064 42000 not offered yet",
+    ),
+    (
+        "SELECT gid FROM rt WHERE MATCH('a')",
+        "ERR 1064 42000 not offered yet",
+    ),
+    (
+        "SELECT id AS x FROM rt WHERE MATCH('a')",
+        "ERR 1064 42000 not offered yet",
+    ),
+    (
+        "SELECT id, id FROM rt WHERE MATCH('a')",
+        "ERR 1064 42000 not offered yet",
+    ),
+    (
+        "SELECT id FROM rt WHERE MATCH('a') AND gid = 1",
+        "ERR 1064 42000 not offered yet",
+    ),
+    (
+        "SELECT id FROM rt WHERE MATCH('a') LIMIT 5",
+        "ERR 1064 42000 not offered yet",
+    ),
+    (
+        "SELECT id FROM rt WHERE MATCH('a') ORDER BY id",
+        "ERR 1064 42000 not offered yet",
+    ),
+    (
+        "SELECT id FROM rt WHERE MATCH('a') OPTION nosuch = 1",
+        "ERR 1064 42000 not offered yet",
+    ),
+    (
+        "SELECT id FROM rt WHERE MATCH('a') GROUP BY gid",
+        "ERR 1064 42000 not offered yet",
+    ),
+    (
+        "SELECT id FROM rt WHERE MATCH('a') FACET gid",
+        "ERR 1064 42000 not offered yet",
+    ),
+    ("SELECT COUNT(*) FROM rt", "ERR 1064 42000 not offered yet"),
+    (
+        "SELECT id FROM nosuch WHERE MATCH('a b')",
+        "ERR 1064 42000 unknown index 'nosuch'",
+    ),
+    (
+        "SELECT id FROM other WHERE MATCH('a')",
+        "ERR 1064 42000 not offered yet",
+    ),
+    (
+        "SELECT id FROM rt WHERE MATCH('a b')",
+        "ERR 1064 42000 not offered yet",
+    ),
+    (
+        "SELECT id FROM rt WHERE MATCH('')",
+        "ERR 1064 42000 not offered yet",
+    ),
+    (
+        "SELECT id FROM rt WHERE MATCH('  ')",
+        "ERR 1064 42000 not offered yet",
+    ),
+    (
+        "SELECT id FROM rt WHERE MATCH('-a')",
+        "ERR 1064 42000 not offered yet",
+    ),
+    (
+        "SELECT id FROM rt WHERE MATCH('a,')",
+        "ERR 1064 42000 not offered yet",
+    ),
+    (
+        "INSERT INTO other (nosuch) VALUES (0)",
+        "ERR 1064 42000 not offered yet",
+    ),
+    ("DESCRIBE other", "ERR 1064 42000 not offered yet"),
+    ("DESCRIBE nosuch", "ERR 1064 42000 unknown index 'nosuch'"),
+    (
+        "REPLACE INTO rt VALUES (0)",
+        "ERR 1064 42000 not offered yet",
+    ),
+    (
+        "DELETE FROM nosuch WHERE ID IN (1, 2)",
+        "ERR 1064 42000 not offered yet",
+    ),
+    ("TRUNCATE RTINDEX rt", "ERR 1064 42000 not offered yet"),
+    ("SHOW INDEX rt STATUS", "ERR 1064 42000 not offered yet"),
+    ("FLUSH RTINDEX other", "ERR 1064 42000 not offered yet"),
+    ("OPTIMIZE INDEX other", "ERR 1064 42000 not offered yet"),
+    (
+        "SELECT * FROM rt WHERE MATCH('a')",
+        "ERR 1064 42000 not offered yet",
+    ),
+    (
+        "SELECT WEIGHT() FROM rt WHERE MATCH('a')",
+        "ERR 1064 42000 not offered yet",
+    ),
+    (
+        "SELECT id, WEIGHT() FROM rt WHERE MATCH('a')",
+        "ERR 1064 42000 not offered yet",
+    ),
+    (
+        "SELECT id FROM rt WHERE gid = 1",
+        "ERR 1064 42000 not offered yet",
+    ),
+    (
+        "SELECT id FROM rt WHERE MATCH('a') AND MATCH('b')",
+        "ERR 1064 42000 not offered yet",
+    ),
+    (
+        "SELECT id FROM rt WHERE MATCH('a') WITHIN GROUP ORDER BY id",
+        "ERR 1064 42000 not offered yet",
+    ),
+    (
+        "SELECT id FROM rt WHERE MATCH('a') HAVING id > 1",
+        "ERR 1064 42000 not offered yet",
+    ),
+    (
+        "SELECT id FROM rt WHERE MATCH('a') OPTION ranker = bm25",
+        "ERR 1064 42000 not offered yet",
+    ),
+    (
+        "SELECT id FROM rt WHERE MATCH('a|b')",
+        "ERR 1064 42000 not offered yet",
+    ),
+    (
+        "SELECT id FROM rt WHERE MATCH('\"a\"')",
+        "ERR 1064 42000 not offered yet",
+    ),
+    (
+        "SELECT id FROM other WHERE MATCH('a b')",
+        "ERR 1064 42000 not offered yet",
+    ),
+    (
+        "INSERT INTO other (id, body) VALUES (1, 'a')",
+        "ERR 1064 42000 not offered yet",
+    ),
+];
+
+#[test]
+fn other_statements_are_not_offered_yet(rt: HostRuntime) -> Result<(), Fail> {
+    assert_eq!(rt; first_wrong(rt.alloc(), &NOT_OFFERED)?, None);
+    Ok(())
+}

@@ -1,0 +1,177 @@
+//! A reply as one text, by which tables say what is wanted: `OK 1`, `ERR 1064 42000 syntax error at 0`, `EOF`, and a result
+//! set as `id | 2 | 1`, with `''` for an empty cell. `; ` follows a reply whose status says that another one follows.
+use itoa::Buffer;
+use mysql_wire::{
+    Column, ColumnKind, read_column, read_eof, read_err, read_lenenc, read_ok, read_row,
+};
+use srch_base::Text;
+use std::alloc::Global;
+use std::test::Fail;
+
+/// No payload that is read here is longer.
+const LONGEST: usize = 65_535;
+
+/// What the next packet is.
+#[derive(Clone, Copy, PartialEq, Eq)]
+enum Next {
+    Reply,
+    /// A column's definition, after which so many come.
+    Column(u64),
+    /// The EOF behind the columns.
+    Columned,
+    /// A row, or the EOF with this status.
+    Row(u16),
+}
+
+/// The replies that packets are. Their numbers go on from 1, modulo 256.
+pub(crate) fn told(alloc: Global, packets: &[u8]) -> Result<Vec<u8>, Fail> {
+    let mut text = Vec::new(alloc);
+    let mut rest = packets;
+    let mut number = 1_u8;
+    let mut next = Next::Reply;
+    for _ in 0..10_000 {
+        if rest.is_empty() {
+            break;
+        }
+        let (payload, after) = packet(rest, number)?;
+        next = tell(alloc, payload, next, &mut text)?;
+        number = number.wrapping_add(1);
+        rest = after;
+    }
+    if !rest.is_empty() || next != Next::Reply {
+        return Err("a reply is cut off".into());
+    }
+    Ok(text)
+}
+
+/// The payload of the packet at the front, which has this number, and what follows it.
+fn packet(bytes: &[u8], number: u8) -> Result<(&[u8], &[u8]), Fail> {
+    let [low, middle, high, seq, rest @ ..] = bytes else {
+        return Err("a header is cut off".into());
+    };
+    let length = usize::from(*low) + 256 * usize::from(*middle);
+    if *seq != number || *high != 0 || rest.len() < length {
+        return Err("a packet has another number, or is cut off".into());
+    }
+    Ok(rest.split_at(length))
+}
+
+/// Appends what a packet says, and gives what the packet after it is.
+fn tell(alloc: Global, payload: &[u8], next: Next, text: &mut Vec<u8>) -> Result<Next, Fail> {
+    if payload.len() > LONGEST {
+        return Err("a payload is long".into());
+    }
+    match next {
+        Next::Reply => tell_reply(alloc, payload, text),
+        Next::Column(left) => tell_column(alloc, payload, left, text),
+        Next::Columned => Ok(Next::Row(read_eof(payload).ok().ok_or("no EOF")?.status)),
+        Next::Row(status) => match read_eof(payload) {
+            Ok(end) if end.status == status => tell_end(status, text),
+            Ok(_) => Err("the EOFs of a set differ".into()),
+            Err(_) => tell_row(alloc, payload, status, text),
+        },
+    }
+}
+
+/// Appends the first packet of a reply.
+fn tell_reply(alloc: Global, payload: &[u8], text: &mut Vec<u8>) -> Result<Next, Fail> {
+    if payload.len() > LONGEST {
+        return Err("a payload is long".into());
+    }
+    match payload.first() {
+        Some(0) => {
+            let ok = read_ok(payload).ok().ok_or("no OK")?;
+            text.extend_from_slice(b"OK ")?;
+            tell_number(ok.affected, text)?;
+            tell_end(ok.status, text)
+        }
+        Some(0xfe) => {
+            text.extend_from_slice(b"EOF")?;
+            tell_end(read_eof(payload).ok().ok_or("no EOF")?.status, text)
+        }
+        Some(0xff) => tell_refusal(alloc, payload, text),
+        _ => {
+            let count = read_lenenc(payload).ok().ok_or("no count")?;
+            Ok(Next::Column(count))
+        }
+    }
+}
+
+fn tell_number(number: u64, text: &mut Vec<u8>) -> Result<(), Fail> {
+    let mut digits = Buffer::new();
+    text.extend_from_slice(digits.format(number).as_bytes())?;
+    Ok(())
+}
+
+fn tell_refusal(alloc: Global, payload: &[u8], text: &mut Vec<u8>) -> Result<Next, Fail> {
+    if payload.len() > LONGEST {
+        return Err("a payload is long".into());
+    }
+    let refusal = read_err(alloc, payload).ok().ok_or("no ERR")?;
+    text.extend_from_slice(b"ERR ")?;
+    tell_number(u64::from(refusal.code), text)?;
+    text.push(b' ')?;
+    text.extend_from_slice(&refusal.state)?;
+    text.push(b' ')?;
+    text.extend_from_slice(refusal.text.as_bytes())?;
+    Ok(Next::Reply)
+}
+
+/// Appends the end of a reply.
+fn tell_end(status: u16, text: &mut Vec<u8>) -> Result<Next, Fail> {
+    match status {
+        2 => {}
+        10 => text.extend_from_slice(b"; ")?,
+        _ => return Err("another status".into()),
+    }
+    Ok(Next::Reply)
+}
+
+/// Appends a column's name, after which so many columns come, itself counted.
+fn tell_column(alloc: Global, payload: &[u8], left: u64, text: &mut Vec<u8>) -> Result<Next, Fail> {
+    if payload.len() > LONGEST {
+        return Err("a payload is long".into());
+    }
+    let column = read_column(alloc, payload).ok().ok_or("no column")?;
+    if column.kind != kind_of(&column) {
+        return Err("a column of another kind".into());
+    }
+    text.extend_from_slice(column.name.as_bytes())?;
+    if left <= 1 {
+        return Ok(Next::Columned);
+    }
+    text.extend_from_slice(b", ")?;
+    Ok(Next::Column(left - 1))
+}
+
+/// The kind of a column of these replies: ids are numbers, all else is text.
+fn kind_of(column: &Column) -> ColumnKind {
+    if column.name.as_bytes() == b"id".as_slice() {
+        ColumnKind::Unsigned
+    } else {
+        ColumnKind::Text
+    }
+}
+
+fn tell_row(alloc: Global, payload: &[u8], status: u16, text: &mut Vec<u8>) -> Result<Next, Fail> {
+    if payload.len() > LONGEST {
+        return Err("a payload is long".into());
+    }
+    let cells = read_row(alloc, payload).ok().ok_or("no row")?;
+    let mut before: &[u8] = b" | ";
+    for cell in &cells {
+        text.extend_from_slice(before)?;
+        text.extend_from_slice(shown(cell).ok_or("a NULL")?)?;
+        before = b", ";
+    }
+    Ok(Next::Row(status))
+}
+
+/// A cell as it is told.
+fn shown(cell: &Option<Text>) -> Option<&[u8]> {
+    match cell {
+        None => None,
+        Some(value) if value.as_bytes().is_empty() => Some(b"''"),
+        Some(value) => Some(value.as_bytes()),
+    }
+}
