@@ -6,10 +6,7 @@ use std::test::Fail;
 
 /// Several statements in one text are not offered yet, whatever they are; a `;` at the end begins none.
 const SEVERAL: [(&str, &str); 12] = [
-    (
-        "SHOW TABLES; SHOW TABLES",
-        "ERR 1064 42000 not offered yet",
-    ),
+    ("SHOW TABLES; SHOW TABLES", "ERR 1064 42000 not offered yet"),
     (
         "SET NAMES utf8; SELECT id FROM nosuch WHERE MATCH('a')",
         "ERR 1064 42000 not offered yet",

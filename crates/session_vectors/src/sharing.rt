@@ -23,12 +23,12 @@ const SHARED: [(bool, &str, &str); 9] = [
     (
         true,
         "INSERT INTO rt (id) VALUES (6); SELECT id FROM rt WHERE MATCH('b')",
-        "OK 1; id",
+        "ERR 1064 42000 not offered yet",
     ),
     (
         false,
-        "INSERT INTO rt (id) VALUES (7), (6)",
-        "ERR 1064 42000 duplicate id 6",
+        "INSERT INTO rt (id) VALUES (6), (5)",
+        "ERR 1064 42000 duplicate id 5",
     ),
 ];
 
