@@ -11,4 +11,4 @@ use Rattle.ql_session.specs.steps.Running.{ReadsText, ReadsTokens}
 pub reads_by : {M : Type 0} (text : List ℕ) (tokens : List Lexeme) (result : Result (Vec Statement M) (Or Refused)) → AreTokens text tokens → ReadsTokens tokens result → ReadsText text result
 reads_by text tokens (Ok statements) are reads = (tokens, are, reads.0, reads.1)
 reads_by text tokens (Err causes.NoMemory) are reads = tt
-reads_by text tokens (Err (causes.Fault refusal)) are reads = inr (tokens, reads.0, are, reads.1, reads.2)
+reads_by text tokens (Err (causes.Fault refusal)) are reads = inr (tokens, are, reads)

@@ -1,5 +1,5 @@
 -- The statement machine: what is replied to a text of statements, by what the outside did about each of them.
-use Rattle.std.specs.Prelude.{◌≡◌, ◌≤◌, ◌⊎◌, ⊤, ℕ, List, [], ◌∷◌, ◌++◌, Bool, true, false, length}
+use Rattle.std.specs.Prelude.{◌≡◌, ◌≤◌, ◌<◌, ◌⊎◌, ⊤, ℕ, List, [], ◌∷◌, ◌++◌, Bool, true, false, length}
 use Rattle.mysql_wire.specs.Packets.{packets_from, sequence_after}
 use Rattle.conf_text.specs.declared.conf.IndexConf.{IndexConf}
 use Rattle.ql_lex.specs.declared.fault.LexFault.{LexFault}
@@ -10,22 +10,35 @@ use Rattle.ql_grammar.specs.declared.statement.TheConstants.{MAX_STATEMENTS}
 use Rattle.ql_grammar.specs.Packets.{IsFault, IsPacket}
 use Rattle.ql_answers.specs.declared.plan.Plan.{Plan}
 use Rattle.ql_answers.specs.declared.plan.Plan.TheVariants.{Agree, Show, Search, Insert}
-use Rattle.ql_answers.specs.Refusals.{Refused, bad_token, bad_syntax, no_memory}
+use Rattle.ql_answers.specs.Refusals.{Refused, bad_token, bad_syntax, no_memory, not_offered}
 use Rattle.ql_answers.specs.Replies.{Reply, Fails, payloads}
 use Rattle.ql_answers.specs.Plans.{Wants, Refuses, TakesMemory}
 use Rattle.ql_answers.specs.Sessions.{State, status_of, Decides, Happened, is_refusal}
 use Rattle.ql_answers.specs.Sessions as happenings
 use Rattle.ql_session.specs.Tables.{Event, Configured, Nothing, NoMemory, Read, Committed, Duplicate}
 
--- The text is this packet of statements.
-abbrev pub States : List ℕ → List Statement → Type 0
-States text statements = (tokens : List Lexeme) × AreTokens text tokens × IsPacket statements tokens × (length statements ≤ MAX_STATEMENTS)
+-- how many statements of a packet are run
+abbrev pub most_run : ℕ
+most_run = 1
 
--- The text is no packet of statements: no token can be read at a place, or the tokens are no packet.
+-- The text is a packet of these statements, and not of more than are run.
+abbrev pub States : List ℕ → List Statement → Type 0
+States text statements = (tokens : List Lexeme) × AreTokens text tokens × IsPacket statements tokens × (length statements ≤ most_run)
+
+-- The tokens are a packet of more statements than are run.
+abbrev pub AreTooMany : List Lexeme → Refused → Type 0
+AreTooMany tokens refusal =
+    (statements : List Statement) × IsPacket statements tokens × (most_run < length statements) × (length statements ≤ MAX_STATEMENTS) × (refusal ≡ not_offered)
+
+-- The tokens are no packet of statements, or one of more than are run.
+abbrev pub RefusesTokens : List Lexeme → Refused → Type 0
+RefusesTokens tokens refusal = ((fault : ParseFault) × IsFault tokens fault × (refusal ≡ bad_syntax fault)) ⊎ AreTooMany tokens refusal
+
+-- No token can be read at a place of the text, or its tokens are refused.
 abbrev pub RefusesText : List ℕ → Refused → Type 0
 RefusesText text refusal =
     ((fault : LexFault) × FaultAt text fault.place fault.kind × (refusal ≡ bad_token fault))
-    ⊎ ((tokens : List Lexeme) × (fault : ParseFault) × AreTokens text tokens × IsFault tokens fault × (refusal ≡ bad_syntax fault))
+    ⊎ ((tokens : List Lexeme) × AreTokens text tokens × RefusesTokens tokens refusal)
 
 -- The event is what came of the plan.
 abbrev pub Meets : Plan → Event → Type 0

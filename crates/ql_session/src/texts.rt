@@ -1,15 +1,18 @@
-//! A text as statements, or why it is none.
+//! A text as statements, or why none of it is run.
 ghost use Rattle.ql_lex.specs.Tokens.{AreLexemes};
 ghost use Rattle.ql_grammar.specs.Tokens.{lexemes};
 ghost use Rattle.ql_session.specs.steps.Running.{ReadsText, ReadsTokens};
 
-use ql_answers::{Refusal, bad_syntax, bad_token};
+use ql_answers::{Refusal, bad_syntax, bad_token, not_offered};
 use ql_lex::{Token, lex};
 use ql_parse::{Statement, parse};
 use srch_base::Or;
 use std::alloc::Global;
 
-/// The statements of a text. No packet holds 2^32 bytes; a text of so many is taken for one that no memory is left for.
+/// How many statements of a packet are run.
+const MOST_RUN: usize = 1;
+
+/// The statements of a text, where they are not more than are run. No packet holds 2^32 bytes; a text of so many is taken for one that no memory is left for.
 pub(crate) fn statements(alloc: Global, text: &[u8]) -> Result<Vec<Statement>, Or<Refusal>>
     ensures { ReadsText text.now result }
 {
@@ -23,12 +26,13 @@ pub(crate) fn statements(alloc: Global, text: &[u8]) -> Result<Vec<Statement>, O
     }
 }
 
-/// The statements of tokens.
+/// The statements of tokens, where they are not more than are run.
 fn parsed(alloc: Global, tokens: &[Token<'_>]) -> Result<Vec<Statement>, Or<Refusal>>
     requires { AreLexemes (lexemes tokens.now) }
     ensures { ReadsTokens (lexemes tokens.now) result }
 {
     match parse(alloc, tokens) {
+        Ok(statements) if statements.len() > MOST_RUN => Err(Or::Fault(not_offered())),
         Ok(statements) => Ok(statements),
         Err(Or::NoMemory) => Err(Or::NoMemory),
         Err(Or::Fault(fault)) => Err(Or::Fault(bad_syntax(fault))),

@@ -7,26 +7,24 @@ use Rattle.conf_text.specs.declared.conf.IndexConf.{IndexConf}
 use Rattle.doc_types.specs.declared.transactions.TxnOp.{TxnOp}
 use Rattle.plain_store.specs.declared.duplicate.Duplicate.{Duplicate as TheDuplicate}
 use Rattle.ql_lex.specs.Tokens.{Lexeme}
-use Rattle.ql_grammar.specs.declared.fault.ParseFault.{ParseFault}
 use Rattle.ql_grammar.specs.declared.statement.Statement.{Statement}
-use Rattle.ql_grammar.specs.declared.statement.TheConstants.{MAX_STATEMENTS}
-use Rattle.ql_grammar.specs.Packets.{IsFault, IsPacket}
+use Rattle.ql_grammar.specs.Packets.{IsPacket}
 use Rattle.ql_answers.specs.declared.event.Need.{Need}
 use Rattle.ql_answers.specs.declared.plan.Plan.{Plan}
 use Rattle.ql_answers.specs.declared.plan.Plan.TheVariants.{Agree}
 use Rattle.ql_answers.specs.Plans.{Wants}
-use Rattle.ql_answers.specs.Refusals.{Refused, bad_syntax, no_memory}
+use Rattle.ql_answers.specs.Refusals.{Refused, no_memory}
 use Rattle.ql_answers.specs.Replies.{Reply, Fails, payloads}
 use Rattle.ql_answers.specs.Sessions.{State, Standing, Happened, Decides, is_refusal, is_small, need_of, status_of}
 use Rattle.ql_session.specs.Tables.{Tables, Event, NoMemory, Committed, Duplicate, Follows}
-use Rattle.ql_session.specs.Statements.{States, RefusesText, Meets, told, Replies, AnswersText}
+use Rattle.ql_session.specs.Statements.{States, RefusesText, RefusesTokens, most_run, Meets, told, Replies, AnswersText}
 use Rattle.serve_line.specs.Machines.{FollowAll}
 
 -- What tokens are read as: a packet of statements, or none.
 abbrev pub ReadsTokens : {M : Type 0} → List Lexeme → Result (Vec Statement M) (Or Refused) → Type 0
-ReadsTokens tokens (Ok statements) = IsPacket statements.items tokens × (length statements.items ≤ MAX_STATEMENTS)
+ReadsTokens tokens (Ok statements) = IsPacket statements.items tokens × (length statements.items ≤ most_run)
 ReadsTokens tokens (Err causes.NoMemory) = Unit {0}
-ReadsTokens tokens (Err (causes.Fault refusal)) = (fault : ParseFault) × IsFault tokens fault × (refusal ≡ bad_syntax fault)
+ReadsTokens tokens (Err (causes.Fault refusal)) = RefusesTokens tokens refusal
 
 -- What a text is read as.
 abbrev pub ReadsText : {M : Type 0} → List ℕ → Result (Vec Statement M) (Or Refused) → Type 0
