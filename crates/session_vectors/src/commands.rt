@@ -5,7 +5,7 @@ use std::alloc::Global;
 use std::test::Fail;
 
 /// Commands that one session is sent in turn, and the bytes of their replies, by the protocol's documentation.
-const COMMANDS: [(Command<'static>, &[u8]); 26] = [
+const COMMANDS: [(Command<'static>, &[u8]); 27] = [
     (Command::Ping, b"\x07\0\0\x01\0\0\0\x02\0\0\0"),
     (Command::InitDb(b"rt"), b"\x07\0\0\x01\0\0\0\x02\0\0\0"),
     (Command::InitDb(b""), b"\x07\0\0\x01\0\0\0\x02\0\0\0"),
@@ -76,19 +76,23 @@ const COMMANDS: [(Command<'static>, &[u8]); 26] = [
     ),
     (
         Command::Query(b"SET NAMES utf8; set autocommit = 1"),
-        b"\x07\0\0\x01\0\0\0\x0a\0\0\0\x18\0\0\x02\xff(\x04#42000not offered yet",
+        b"\x18\0\0\x01\xff(\x04#42000not offered yet",
     ),
     (
         Command::Query(b"SET NAMES utf8;SET NAMES utf8;"),
-        b"\x07\0\0\x01\0\0\0\x0a\0\0\0\x07\0\0\x02\0\0\0\x02\0\0\0",
+        b"\x18\0\0\x01\xff(\x04#42000not offered yet",
     ),
     (
-        Command::Query(b"SHOW DATABASES; INSERT INTO rt (id) VALUES (7)"),
-        b"\x01\0\0\x01\x01&\0\0\x02\x03def\0\0\0\x08Database\x08Database\x0c!\0\xff\0\0\0\xfd\0\0\0\0\0\x05\0\0\x03\xfe\0\0\x0a\0\x05\0\0\x04\xfe\0\0\x0a\0\x07\0\0\x05\0\x01\0\x02\0\0\0",
+        Command::Query(b"INSERT INTO rt (id) VALUES (7); SELECT id FROM rt WHERE MATCH('wide')"),
+        b"\x18\0\0\x01\xff(\x04#42000not offered yet",
     ),
     (
-        Command::Query(b"INSERT INTO rt (id) VALUES (8); SELECT id FROM rt WHERE MATCH('wide')"),
-        b"\x07\0\0\x01\0\x01\0\x0a\0\0\0\x01\0\0\x02\x01\x1a\0\0\x03\x03def\0\0\0\x02id\x02id\x0c?\0\x14\0\0\0\x08 \0\0\0\0\x05\0\0\x04\xfe\0\0\x02\0\x02\0\0\x05\x012\x05\0\0\x06\xfe\0\0\x02\0",
+        Command::Query(b"INSERT INTO rt (id, content) VALUES (7, 'wide');"),
+        b"\x07\0\0\x01\0\x01\0\x02\0\0\0",
+    ),
+    (
+        Command::Query(b"SELECT id FROM rt WHERE MATCH('wide')"),
+        b"\x01\0\0\x01\x01\x1a\0\0\x02\x03def\0\0\0\x02id\x02id\x0c?\0\x14\0\0\0\x08 \0\0\0\0\x05\0\0\x03\xfe\0\0\x02\0\x02\0\0\x04\x012\x02\0\0\x05\x017\x05\0\0\x06\xfe\0\0\x02\0",
     ),
     (Command::Ping, b"\x07\0\0\x01\0\0\0\x02\0\0\0"),
 ];

@@ -4,86 +4,60 @@ use ql_session::Session;
 use std::alloc::Global;
 use std::test::Fail;
 
-/// Several statements in one text: each is answered, up to the first that is refused.
-const SEVERAL: [(&str, &str); 14] = [
-    (
-        "SHOW TABLES; SHOW TABLES",
-        "Index, Type | rt, rt | other, rt; Index, Type | rt, rt | other, rt",
-    ),
+/// Texts of several statements, which aren't offered yet as a whole, and what comes before that: the tokens and the grammar of
+/// the whole text.
+const SEVERAL: [(&str, &str); 11] = [
+    ("SHOW TABLES; SHOW TABLES", "ERR 1064 42000 not offered yet"),
     (
         "SET NAMES utf8; SELECT id FROM nosuch WHERE MATCH('a')",
-        "OK 0; ERR 1064 42000 unknown index 'nosuch'",
-    ),
-    ("SET NAMES utf8;SET NAMES utf8;", "OK 0; OK 0"),
-    (
-        "INSERT INTO rt (id, title) VALUES (1, 'a'); SELECT id FROM rt WHERE MATCH('a')",
-        "OK 1; id | 1",
+        "ERR 1064 42000 not offered yet",
     ),
     (
-        "SELECT id FROM rt WHERE MATCH('a'); INSERT INTO rt (id, title) VALUES (1, 'a'), (2, 'b')",
-        "id; OK 2",
+        "SET NAMES utf8;SET NAMES utf8;",
+        "ERR 1064 42000 not offered yet",
     ),
     (
-        "SHOW WARNINGS; BEGIN; SHOW TABLES",
-        "Level, Code, Message; ERR 1064 42000 not offered yet",
+        "DESCRIBE nosuch; SHOW TABLES",
+        "ERR 1064 42000 not offered yet",
+    ),
+    (
+        "INSERT INTO rt (nosuch) VALUES (1); SHOW TABLES",
+        "ERR 1064 42000 not offered yet",
     ),
     ("BEGIN; SHOW TABLES", "ERR 1064 42000 not offered yet"),
+    ("SHOW TABLES; SHOW", "ERR 1064 42000 syntax error at 17"),
+    ("SHOW TABLES; SELEC", "ERR 1064 42000 syntax error at 13"),
     (
-        "SHOW DATABASES; SELECT DATABASE(); SELECT @@version_comment;",
-        "Database; database() | ''; @@version_comment | searchd",
+        "SHOW TABLES; SHOW TABLES 'a",
+        "ERR 1064 42000 unclosed quote at 25",
     ),
-    (
-        "SELECT DATABASE(); DESCRIBE nosuch; SELECT DATABASE()",
-        "database() | ''; ERR 1064 42000 unknown index 'nosuch'",
-    ),
-    (
-        "INSERT INTO rt (id) VALUES (1); INSERT INTO rt (id) VALUES (1); INSERT INTO rt (id) VALUES (2)",
-        "OK 1; ERR 1064 42000 duplicate id 1",
-    ),
-    (
-        "INSERT INTO rt (id) VALUES (1); INSERT INTO rt (nosuch) VALUES (1)",
-        "OK 1; ERR 1064 42000 unknown column 'nosuch'",
-    ),
-    (
-        "INSERT INTO rt (id) VALUES (1); INSERT INTO rt (id, flag) VALUES (2, 2)",
-        "OK 1; ERR 1064 42000 value out of range for 'flag'",
-    ),
-    (
-        "SELECT @@version_comment LIMIT 0; SET @@x = y",
-        "@@version_comment; OK 0",
-    ),
-    (
-        "SHOW TABLES; SHOW TABLES; SHOW",
-        "ERR 1064 42000 syntax error at 30",
-    ),
+    ("SHOW DATABASES;", "Database"),
+    ("SHOW DATABASES ; /* c */ ", "Database"),
 ];
 
 #[test]
-fn statements_are_answered_one_after_another(rt: HostRuntime) -> Result<(), Fail> {
+fn several_statements_are_not_offered_yet(rt: HostRuntime) -> Result<(), Fail> {
     assert_eq!(rt; first_wrong(rt.alloc(), &SEVERAL)?, None);
     Ok(())
 }
 
-/// What is done before a refusal stays, and nothing after it is done.
+/// None of several statements is run.
 const IN_TURN: [(&str, &str); 5] = [
     (
-        "INSERT INTO rt (id, title) VALUES (1, 'a'); INSERT INTO rt (id, title) VALUES (1, 'a'); INSERT INTO rt (id, title) VALUES (2, 'a')",
-        "OK 1; ERR 1064 42000 duplicate id 1",
+        "INSERT INTO rt (id, title) VALUES (1, 'a'); SELECT id FROM rt WHERE MATCH('a')",
+        "ERR 1064 42000 not offered yet",
     ),
-    ("SELECT id FROM rt WHERE MATCH('a')", "id | 1"),
+    ("SELECT id FROM rt WHERE MATCH('a')", "id"),
     (
         "INSERT INTO rt (id, title) VALUES (3, 'a'); SELEC",
         "ERR 1064 42000 syntax error at 44",
     ),
-    ("SELECT id FROM rt WHERE MATCH('a')", "id | 1"),
-    (
-        "INSERT INTO rt (id, title) VALUES (3, 'a'); SELECT id FROM rt WHERE MATCH('a'); INSERT INTO rt (id, title) VALUES (2, 'a'); SELECT id FROM rt WHERE MATCH('a')",
-        "OK 1; id | 1 | 3; OK 1; id | 1 | 2 | 3",
-    ),
+    ("INSERT INTO rt (id, title) VALUES (3, 'a');", "OK 1"),
+    ("SELECT id FROM rt WHERE MATCH('a');", "id | 3"),
 ];
 
 #[test]
-fn a_refusal_ends_the_text(rt: HostRuntime) -> Result<(), Fail> {
+fn none_of_several_statements_is_run(rt: HostRuntime) -> Result<(), Fail> {
     assert_eq!(rt; first_wrong_in_turn(rt.alloc(), TWO, &IN_TURN)?, None);
     Ok(())
 }
@@ -100,53 +74,13 @@ fn times(alloc: Global, count: usize, piece: &[u8]) -> Result<Vec<u8>, Fail> {
     Ok(text)
 }
 
-/// Whether the reply to a text is the reply to each of its 32 statements.
-fn is_replied_32_times(
-    alloc: Global,
-    session: &mut Session,
-    tables: &mut ql_session::PlainTables,
-    statement: &[u8],
-    reply: &[u8],
-) -> Result<bool, Fail> {
-    let text = times(alloc, 32, statement)?;
-    let told = answer(alloc, session, tables, &text)?;
-    let want = times(alloc, 32, reply)?;
-    Ok(told.as_slice() == want.as_slice())
-}
-
-/// The text of one INSERT of the ids 1 to 300 with a title.
-fn insert_300(alloc: Global) -> Result<Vec<u8>, Fail> {
-    let mut text = Vec::from_slice(alloc, b"INSERT INTO rt (title, id) VALUES ('a', 300)")?;
-    for id in 1..300_u32 {
-        let mut digits = Buffer::new();
-        text.extend_from_slice(b", ('a', ")?;
-        text.extend_from_slice(digits.format(id).as_bytes())?;
-        text.push(b')')?;
-    }
-    Ok(text)
-}
-
-/// What 300 documents with one word show: the first 20.
-const TWENTY: &[u8] =
-    b"id | 1 | 2 | 3 | 4 | 5 | 6 | 7 | 8 | 9 | 10 | 11 | 12 | 13 | 14 | 15 | 16 | 17 | 18 | 19 | 20";
-
-#[test]
-fn packets_are_numbered_on_past_255(rt: HostRuntime) -> Result<(), Fail> {
-    let alloc = rt.alloc();
-    let mut tables = tables_of(alloc, TWO)?;
-    let mut session = Session::new();
-    let inserted = answer(alloc, &mut session, &mut tables, &insert_300(alloc)?)?;
-    assert!(rt; inserted.as_slice() == b"OK 300".as_slice());
-    let select = b"SELECT id FROM rt WHERE MATCH('a')";
-    assert!(rt; is_replied_32_times(alloc, &mut session, &mut tables, select, TWENTY)?);
-    assert!(rt; is_replied_32_times(alloc, &mut session, &mut tables, b"SET NAMES utf8", b"OK 0")?);
-    Ok(())
-}
-
-/// How many times a statement stands in a text, and the reply to the whole text where that isn't one to each of them.
-const COUNTS: [(usize, &str, &str); 2] = [
-    (33, "COMMIT", "ERR 1064 42000 too many statements"),
+/// How many times a statement stands in a text, and the reply.
+const COUNTS: [(usize, &str, &str); 5] = [
+    (1, "SET NAMES utf8", "OK 0"),
+    (2, "SET NAMES utf8", "ERR 1064 42000 not offered yet"),
+    (32, "SET NAMES utf8", "ERR 1064 42000 not offered yet"),
     (33, "SET NAMES utf8", "ERR 1064 42000 too many statements"),
+    (33, "COMMIT", "ERR 1064 42000 too many statements"),
 ];
 
 /// The number of the first of them with another reply.
@@ -166,6 +100,35 @@ fn first_other_count(alloc: Global) -> Result<Option<usize>, Fail> {
 #[test]
 fn a_text_has_32_statements_at_most(rt: HostRuntime) -> Result<(), Fail> {
     assert_eq!(rt; first_other_count(rt.alloc())?, None);
+    Ok(())
+}
+
+/// The text of one INSERT of the ids 1 to 300 with a title.
+fn insert_300(alloc: Global) -> Result<Vec<u8>, Fail> {
+    let mut text = Vec::from_slice(alloc, b"INSERT INTO rt (title, id) VALUES ('a', 300)")?;
+    for id in 1..300_u32 {
+        let mut digits = Buffer::new();
+        text.extend_from_slice(b", ('a', ")?;
+        text.extend_from_slice(digits.format(id).as_bytes())?;
+        text.push(b')')?;
+    }
+    Ok(text)
+}
+
+/// What 300 documents with one word show: the first 20.
+const TWENTY: &[u8] =
+    b"id | 1 | 2 | 3 | 4 | 5 | 6 | 7 | 8 | 9 | 10 | 11 | 12 | 13 | 14 | 15 | 16 | 17 | 18 | 19 | 20";
+
+#[test]
+fn three_hundred_rows_are_inserted_at_once(rt: HostRuntime) -> Result<(), Fail> {
+    let alloc = rt.alloc();
+    let mut tables = tables_of(alloc, TWO)?;
+    let mut session = Session::new();
+    let inserted = answer(alloc, &mut session, &mut tables, &insert_300(alloc)?)?;
+    assert!(rt; inserted.as_slice() == b"OK 300".as_slice());
+    let select = b"SELECT id FROM rt WHERE MATCH('a')";
+    let told = answer(alloc, &mut session, &mut tables, select)?;
+    assert!(rt; told.as_slice() == TWENTY);
     Ok(())
 }
 
@@ -212,19 +175,10 @@ fn description(alloc: Global) -> Result<Vec<u8>, Fail> {
 }
 
 #[test]
-fn the_largest_replies_are_numbered_on(rt: HostRuntime) -> Result<(), Fail> {
+fn the_largest_reply_has_70_packets(rt: HostRuntime) -> Result<(), Fail> {
     let alloc = rt.alloc();
     let mut tables = tables_of(alloc, &widest(alloc)?)?;
-    let mut session = Session::new();
-    let description = description(alloc)?;
-    assert!(rt;
-        is_replied_32_times(
-            alloc,
-            &mut session,
-            &mut tables,
-            b"DESCRIBE wide",
-            &description
-        )?
-    );
+    let told = answer(alloc, &mut Session::new(), &mut tables, b"DESCRIBE wide")?;
+    assert!(rt; told.as_slice() == description(alloc)?.as_slice());
     Ok(())
 }

@@ -22,8 +22,8 @@ const SHARED: [(bool, &str, &str); 9] = [
     (true, "SHOW TABLES", "Index, Type | rt, rt | other, rt"),
     (
         true,
-        "INSERT INTO rt (id) VALUES (6); SELECT id FROM rt WHERE MATCH('b')",
-        "OK 1; id",
+        "INSERT INTO rt (id, content) VALUES (6, 'a A')",
+        "OK 1",
     ),
     (
         false,
