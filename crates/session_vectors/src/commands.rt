@@ -5,7 +5,7 @@ use std::alloc::Global;
 use std::test::Fail;
 
 /// Commands that one session is sent in turn, and the bytes of their replies, by the protocol's documentation.
-const COMMANDS: [(Command<'static>, &[u8]); 26] = [
+const COMMANDS: [(Command<'static>, &[u8]); 27] = [
     (Command::Ping, b"\x07\0\0\x01\0\0\0\x02\0\0\0"),
     (Command::InitDb(b"rt"), b"\x07\0\0\x01\0\0\0\x02\0\0\0"),
     (Command::InitDb(b""), b"\x07\0\0\x01\0\0\0\x02\0\0\0"),
@@ -83,12 +83,16 @@ const COMMANDS: [(Command<'static>, &[u8]); 26] = [
         b"\x18\0\0\x01\xff(\x04#42000not offered yet",
     ),
     (
-        Command::Query(b"SHOW DATABASES; INSERT INTO rt (id) VALUES (7)"),
+        Command::Query(b"INSERT INTO rt (id) VALUES (7); SELECT id FROM rt WHERE MATCH('wide')"),
         b"\x18\0\0\x01\xff(\x04#42000not offered yet",
     ),
     (
-        Command::Query(b"INSERT INTO rt (id) VALUES (8); SELECT id FROM rt WHERE MATCH('wide')"),
-        b"\x18\0\0\x01\xff(\x04#42000not offered yet",
+        Command::Query(b"INSERT INTO rt (id, content) VALUES (7, 'wide');"),
+        b"\x07\0\0\x01\0\x01\0\x02\0\0\0",
+    ),
+    (
+        Command::Query(b"SELECT id FROM rt WHERE MATCH('wide')"),
+        b"\x01\0\0\x01\x01\x1a\0\0\x02\x03def\0\0\0\x02id\x02id\x0c?\0\x14\0\0\0\x08 \0\0\0\0\x05\0\0\x03\xfe\0\0\x02\0\x02\0\0\x04\x012\x02\0\0\x05\x017\x05\0\0\x06\xfe\0\0\x02\0",
     ),
     (Command::Ping, b"\x07\0\0\x01\0\0\0\x02\0\0\0"),
 ];

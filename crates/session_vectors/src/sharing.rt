@@ -22,8 +22,8 @@ const SHARED: [(bool, &str, &str); 9] = [
     (true, "SHOW TABLES", "Index, Type | rt, rt | other, rt"),
     (
         true,
-        "INSERT INTO rt (id) VALUES (6); SELECT id FROM rt WHERE MATCH('b')",
-        "ERR 1064 42000 not offered yet",
+        "INSERT INTO rt (id, content) VALUES (6, 'a A')",
+        "OK 1",
     ),
     (
         false,
