@@ -3,13 +3,15 @@
 use Rattle.std.specs.Prelude.{◌≡◌, ◌≢◌, ◌⊎◌, ℕ, zero, suc, List, [], ◌∷◌, ◌++◌, Bool, true, false, Option, Some, None, IsTrue, not}
 use Rattle.std.specs.List.{flat_map, list_any}
 use Rattle.token_grammar.specs.Values.{◌then◌, IsOne, IsPerhaps, AreInRow}
-use Rattle.ext_query.specs.declared.query.Key.{Key}
-use Rattle.ext_query.specs.declared.query.How.{How}
-use Rattle.ext_query.specs.declared.query.How.TheVariants as hows
+use Rattle.query_marks.specs.declared.key.Key.{Key}
+use Rattle.query_marks.specs.declared.key.How.{How}
+use Rattle.query_marks.specs.declared.key.How.TheVariants as hows
 use Rattle.ext_query.specs.declared.query.Item.{Item}
 use Rattle.ext_query.specs.declared.query.Node.{Node}
 use Rattle.ext_query.specs.declared.query.Node.TheVariants as nodes
-use Rattle.ext_query.specs.Marks.{Mark, Sign, bare, phrase, loose, opens, closes, either, before, negates, maybe, sentence, paragraph, near, limits, spans, relaxes, the_end}
+use Rattle.query_marks.specs.declared.mark.Mark.{Mark}
+use Rattle.query_marks.specs.declared.mark.Sign.{Sign}
+use Rattle.query_marks.specs.declared.mark.Sign.TheVariants as signs
 
 -- one mark with this sign
 abbrev pub Is : Sign → List Mark → Type 0
@@ -18,12 +20,12 @@ Is sign = IsOne (λ m. m.sign ≡ sign)
 -- a word, or a phrase
 abbrev pub IsLeaf : Node → List Mark → Type 0
 IsLeaf node u =
-    ((key : Key) × (node ≡ nodes.Word key) × Is (bare key) u)
-    ⊎ ((keys : List Key) × (node ≡ nodes.Quoted keys hows.Phrase) × Is (phrase keys) u)
+    ((key : Key) × (node ≡ nodes.Word key) × Is (signs.Bare key) u)
+    ⊎ ((keys : List Key) × (node ≡ nodes.Quoted keys hows.Phrase) × Is (signs.Phrase keys) u)
 
 -- a quoted piece with a number
 abbrev pub IsLoose : Node → List Mark → Type 0
-IsLoose node u = (keys : List Key) × (how : How) × (node ≡ nodes.Quoted keys how) × Is (loose keys how) u
+IsLoose node u = (keys : List Key) × (how : How) × (node ≡ nodes.Quoted keys how) × Is (signs.Loose keys how) u
 
 -- nodes joined from the left
 abbrev pub joined : (Node → Node → Node) → Node → List Node → Node
@@ -40,14 +42,14 @@ abbrev pub IsJoin : (Node → List Mark → Type 0) → Node → List Mark → T
 IsJoin IsGroup node u =
     IsLeaf node u
     ⊎ IsLoose node u
-    ⊎ AreJoined sentence nodes.Sentence node u
-    ⊎ AreJoined paragraph nodes.Paragraph node u
+    ⊎ AreJoined signs.Sentence nodes.Sentence node u
+    ⊎ AreJoined signs.Paragraph nodes.Paragraph node u
     ⊎ IsGroup node u
 
 -- what stands after the first part of a choice: `|` where the flag is true, else MAYBE
 abbrev pub IsChoice : (Node → List Mark → Type 0) → Bool × Node → List Mark → Type 0
-IsChoice IsGroup (true, node) = Is either then IsJoin IsGroup node
-IsChoice IsGroup (false, node) = Is maybe then IsJoin IsGroup node
+IsChoice IsGroup (true, node) = Is signs.Or then IsJoin IsGroup node
+IsChoice IsGroup (false, node) = Is signs.Maybe then IsJoin IsGroup node
 
 abbrev pub chosen : Node → List (Bool × Node) → Node
 chosen first [] = first
@@ -61,7 +63,7 @@ IsAlt IsGroup node u =
 
 abbrev pub IsItem : (Node → List Mark → Type 0) → Item → List Mark → Type 0
 IsItem IsGroup item u =
-    ((item.negated ≡ true) × (Is negates then IsJoin IsGroup item.node) u)
+    ((item.negated ≡ true) × (Is signs.Not then IsJoin IsGroup item.node) u)
     ⊎ ((item.negated ≡ false) × IsAlt IsGroup item.node u)
 
 -- Items that stand under the same limits, with the zones of the ZONESPAN that they stand under.
@@ -71,8 +73,8 @@ pub record Section : Type 0 where
 
 -- a limit, with the zones of the node that it makes
 abbrev pub IsLimit : Option (List ℕ) → List Mark → Type 0
-IsLimit None = Is limits
-IsLimit (Some zones) = Is (spans zones)
+IsLimit None = Is signs.Limits
+IsLimit (Some zones) = Is (signs.Spans zones)
 
 -- limits in a row, of which the last one counts; the first zones are those where no limit stands
 abbrev pub last_of : Option (List ℕ) → List (Option (List ℕ)) → Option (List ℕ)
@@ -114,8 +116,8 @@ IsOpenAnd sections = IsTrue (has_item (all_items sections)) × ((section : Secti
 
 -- `<<`, or NEAR with its number
 abbrev pub IsOrder : Option ℕ → List Mark → Type 0
-IsOrder None = Is before
-IsOrder (Some n) = Is (near n)
+IsOrder None = Is signs.Before
+IsOrder (Some n) = Is (signs.Near n)
 
 abbrev pub ordered : Node → List (Option ℕ × Node) → Node
 ordered first [] = first
@@ -134,8 +136,8 @@ IsExpr Passes IsGroup node u =
 -- a group, with groups nested in it so deep at most: `( expr )` stands for the node of `expr`
 unfoldable pub IsGroup : (List Section → Type 0) → ℕ → Node → List Mark → Type 0
 IsGroup Passes zero node u = ⊥
-IsGroup Passes (suc depth) node u = (Is opens then IsExpr Passes (IsGroup Passes depth) node then Is closes) u
+IsGroup Passes (suc depth) node u = (Is signs.Open then IsExpr Passes (IsGroup Passes depth) node then Is signs.Close) u
 
 -- a query with a keyword, to the text's end
 abbrev pub IsQuery : (List Section → Type 0) → ℕ → Node → List Mark → Type 0
-IsQuery Passes depth node = IsPerhaps (Is relaxes) then IsExpr Passes (IsGroup Passes depth) node then Is the_end
+IsQuery Passes depth node = IsPerhaps (Is signs.Relaxed) then IsExpr Passes (IsGroup Passes depth) node then Is signs.End

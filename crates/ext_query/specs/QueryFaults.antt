@@ -3,9 +3,12 @@ use Rattle.std.specs.Prelude.{◌≡◌, ◌≢◌, ◌⊎◌, ◌<◌, ◌≤�
 use Rattle.token_grammar.specs.Values.{Begins}
 use Rattle.ext_query.specs.declared.query.Node.{Node}
 use Rattle.ext_query.specs.declared.query.Item.{Item}
-use Rattle.ext_query.specs.declared.fault.QueryKind.{QueryKind}
-use Rattle.ext_query.specs.declared.fault.QueryKind.TheVariants as kinds
-use Rattle.ext_query.specs.Marks.{Mark, Sign, Wrong, opens, closes, before, near, limits, spans, relaxes, unclosed, the_end}
+use Rattle.query_marks.specs.declared.fault.QueryKind.{QueryKind}
+use Rattle.query_marks.specs.declared.fault.QueryKind.TheVariants as kinds
+use Rattle.query_marks.specs.declared.mark.Mark.{Mark}
+use Rattle.query_marks.specs.declared.mark.Sign.{Sign}
+use Rattle.query_marks.specs.declared.mark.Sign.TheVariants as signs
+use Rattle.query_marks.specs.declared.fault.Wrong.{Wrong}
 use Rattle.ext_query.specs.Grammar.{Section, IsGroup, IsAnd, IsSection, IsQuery, all_items, has_item}
 
 -- the order of the kinds at one place
@@ -40,22 +43,22 @@ pub record Stops (marks front : List Mark) (stop : Mark) : Type 0 where
 
 -- what a stop is called: an unclosed quote, nesting where a deeper query goes on, else a syntax error
 abbrev pub IsNamed : List Mark → Mark → QueryKind → Type 0
-IsNamed front stop kinds.UnclosedQuote = stop.sign ≡ unclosed
+IsNamed front stop kinds.UnclosedQuote = stop.sign ≡ signs.Unclosed
 IsNamed front stop kinds.Nesting = (depth : ℕ) × Begins (IsQuery Any depth) (front ++ stop ∷ [])
-IsNamed front stop kinds.Syntax = (stop.sign ≢ unclosed) × ((depth : ℕ) → Begins (IsQuery Any depth) (front ++ stop ∷ []) → ⊥)
+IsNamed front stop kinds.Syntax = (stop.sign ≢ signs.Unclosed) × ((depth : ℕ) → Begins (IsQuery Any depth) (front ++ stop ∷ []) → ⊥)
 IsNamed front stop _ = ⊥
 
 -- an AND begins after it
 abbrev pub BeginsAnd : Sign → Type 0
-BeginsAnd sign = (sign ≡ relaxes) ⊎ (sign ≡ opens) ⊎ (sign ≡ before) ⊎ ((n : ℕ) × (sign ≡ near n))
+BeginsAnd sign = (sign ≡ signs.Relaxed) ⊎ (sign ≡ signs.Open) ⊎ (sign ≡ signs.Before) ⊎ ((n : ℕ) × (sign ≡ signs.Near n))
 
 -- an AND ends before it
 abbrev pub EndsAnd : Sign → Type 0
-EndsAnd sign = (sign ≡ closes) ⊎ (sign ≡ before) ⊎ (sign ≡ the_end) ⊎ ((n : ℕ) × (sign ≡ near n))
+EndsAnd sign = (sign ≡ signs.Close) ⊎ (sign ≡ signs.Before) ⊎ (sign ≡ signs.End) ⊎ ((n : ℕ) × (sign ≡ signs.Near n))
 
 -- a limit
 abbrev pub IsAnyLimit : Sign → Type 0
-IsAnyLimit sign = (sign ≡ limits) ⊎ ((zones : List ℕ) × (sign ≡ spans zones))
+IsAnyLimit sign = (sign ≡ signs.Limits) ⊎ ((zones : List ℕ) × (sign ≡ signs.Spans zones))
 
 -- nothing stands before, or the last mark has the property
 abbrev pub LastIs : (Sign → Type 0) → List Mark → Type 0
@@ -94,7 +97,7 @@ pub record EndedSpan (marks : List Mark) (place : ℕ) : Type 0 where
   pub next : Mark
   pub c : List Mark
   pub is : marks ≡ a ++ limit ∷ (b ++ next ∷ c)
-  pub spanning : limit.sign ≡ spans zones
+  pub spanning : limit.sign ≡ signs.Spans zones
   pub ends : EndsAnd next.sign ⊎ IsAnyLimit next.sign
   pub items : List Item
   pub section : IsSection (IsGroup Any 32) true (record { span = None; items = items }) b

@@ -1,35 +1,7 @@
 //! Why a text is no extended query. A text may be wrong in many ways at once; only the first counts: the least place, and
-//! at one place the first kind of the list below. What a kind prints is its text in docs/EXTENDED_QUERIES.md.
-ghost use Rattle.ext_query.specs.FaultTexts.{fault_text, kind_text};
-
+//! at one place the first kind in the order of `QueryKind`. What a kind prints is its text in docs/EXTENDED_QUERIES.md.
+use query_marks::QueryKind;
 use srch_base::Name;
-use std::error::Error;
-use std::fmt;
-
-/// Why a text is no extended query. At one place the order is that of the list.
-#[derive(Clone, Copy, Debug, PartialEq, Eq)]
-pub enum QueryKind {
-    /// A `"` after which no other stands.
-    UnclosedQuote,
-    /// The first piece with which no query goes on, or the text's end.
-    Syntax,
-    /// An AND, or what a ZONESPAN stands over, has negated items alone. The place is that of its first item.
-    OnlyNot,
-    /// A field limit names what is no field. The fault has the name.
-    UnknownField,
-    /// A zone limit names what is no zone. The fault has the name.
-    UnknownZone,
-    /// A name of more than 64 bytes stands in a limit.
-    NameTooLong,
-    /// A number isn't 1 to 65,535, or a share isn't above 0 with at most four decimals.
-    NumberOutOfRange,
-    /// The 33rd parenthesis that is open.
-    Nesting,
-    /// The 256th keyword.
-    TooManyKeywords,
-    /// ZONESPAN is in force in the group of a `<<` or NEAR.
-    ZoneSpanBeforeOperator,
-}
 
 /// The first fault of a text.
 #[derive(Debug, Drop)]
@@ -40,26 +12,3 @@ pub struct QueryFault {
     /// The name that isn't known, in small letters, and empty for the other kinds.
     pub name: Name,
 }
-
-impl fmt::Display for QueryKind {
-    ghost use Rattle.std.specs.Prelude.{Some};
-
-    ghost output = { λ kind. Some (kind_text kind) };
-
-    fn fmt<W: fmt::Write>(&self, f: &mut fmt::Formatter<W>) -> fmt::Result {
-        f.write_str(match self {
-            QueryKind::UnclosedQuote => "unclosed quote",
-            QueryKind::Syntax => "syntax error",
-            QueryKind::OnlyNot => "only NOT",
-            QueryKind::UnknownField => "unknown field",
-            QueryKind::UnknownZone => "unknown zone",
-            QueryKind::NameTooLong => "name too long",
-            QueryKind::NumberOutOfRange => "number out of range",
-            QueryKind::Nesting => "nesting above 32",
-            QueryKind::TooManyKeywords => "too many keywords",
-            QueryKind::ZoneSpanBeforeOperator => "ZONESPAN before operator",
-        })
-    }
-}
-
-impl Error for QueryKind {}

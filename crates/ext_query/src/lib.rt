@@ -4,5 +4,6 @@
 mod fault;
 mod query;
 
-pub use fault::{QueryFault, QueryKind};
-pub use query::{How, Item, Key, Limit, Node, Query};
+pub use fault::QueryFault;
+pub use query::{Item, Node, Query};
+pub use query_marks::{How, Key, Limit, QueryKind};

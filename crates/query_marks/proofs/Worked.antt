@@ -1,13 +1,18 @@
 use Rattle.std.proofs.Common.{◌≡◌, ℕ, List, [], ◌∷◌, false, refl, ◌&&◌}
-use Rattle.std.specs.Prelude.{Option, Some, None, codes, if◌then◌else◌, nat_le, map, filter}
+use Rattle.std.specs.Prelude.{Option, Some, None, codes, if◌then◌else◌, nat_le, map}
+use Rattle.std.specs.List.{filter_map}
 use Rattle.std.specs.Str.{chars}
 use Rattle.query_pieces.specs.declared.piece.Form.TheVariants as forms
 use Rattle.query_pieces.specs.declared.piece.Names.TheVariants as names
 use Rattle.query_pieces.specs.Operators.{piece, slice, operator_at}
 use Rattle.query_pieces.specs.QueryBytes.{byte, byte_before, run_end}
-use Rattle.ext_query.specs.declared.fault.QueryKind.TheVariants as kinds
-use Rattle.ext_query.specs.QueryWords.{letters_in, runs_in, has_letters}
-use Rattle.ext_query.specs.Marks.{Setting, Mark, Sign, Wrong, marks_of, bare}
+use Rattle.query_marks.specs.declared.fault.QueryKind.TheVariants as kinds
+use Rattle.query_marks.specs.QueryWords.{letters_in, runs_in}
+use Rattle.query_marks.specs.declared.fault.Wrong.{Wrong}
+use Rattle.query_marks.specs.declared.mark.Mark.{Mark}
+use Rattle.query_marks.specs.declared.mark.Sign.{Sign}
+use Rattle.query_marks.specs.declared.mark.Sign.TheVariants as signs
+use Rattle.query_marks.specs.Marks.{Setting, marks_of}
 
 fold : ℕ → Option ℕ
 fold c = if nat_le 97 c && nat_le c 122 then Some c else None
@@ -15,7 +20,7 @@ fold c = if nat_le 97 c && nat_le c 122 then Some c else None
 setting : Setting
 setting = record { fold = fold; fields = codes "title" ∷ codes "content" ∷ []; zones = codes "th" ∷ [] }
 
-words : filter has_letters (runs_in (letters_in fold (codes "a\\-b ^c\\de"))) ≡ codes "a" ∷ codes "b" ∷ codes "cde" ∷ []
+words : map (filter_map (λ letter. letter)) (runs_in (letters_in fold (codes "a\\-b ^c\\de"))) ≡ codes "a" ∷ codes "b" ∷ codes "cde" ∷ []
 unfolding fold
 words = refl
 
@@ -32,7 +37,7 @@ op = refl
 
 -- the fields of the keyword in the group, and after it: a limit doesn't leave its group
 fields_of : Sign → List ℕ
-fields_of (bare key) = key.limit.fields ∷ key.query ∷ []
+fields_of (signs.Bare key) = key.limit.fields ∷ key.query ∷ []
 fields_of _ = []
 
 fields : List Mark → List (List ℕ)

@@ -1,0 +1,8 @@
+pub mod LetterSteps
+pub mod RunSteps
+pub mod NumberSteps
+pub mod Masks
+pub mod GroupLimits
+pub mod WholeSlices
+pub mod MarkSteps
+mod Worked

@@ -1,0 +1,3 @@
+-- what serves proofs and private functions alone
+pub mod Runs
+pub mod Cuts

@@ -1,0 +1,24 @@
+//! What each piece of an extended query means by the pieces before it, and what is wrong with it by itself.
+#![tactic(auto)]
+
+mod fault;
+mod faulty;
+mod key;
+mod keys;
+mod limits;
+mod mark;
+mod marking;
+mod names;
+mod numbers;
+mod reading;
+mod signs;
+mod slices;
+mod state;
+mod steps;
+mod words;
+
+pub use fault::{QueryKind, Wrong};
+pub use key::{How, Key, Limit};
+pub use limits::Limits;
+pub use mark::{Mark, Sign};
+pub use reading::marks;
