@@ -1,3 +1,5 @@
+//! What a chunk promises, whatever keeps it: each call is a fact about one list of rows. All that evaluates queries is written
+//! against this trait, and so are the chunks in memory and on disk. The crate's README tells the promises in plain words.
 ghost use Rattle.std.specs.Prelude.{◌≡◌, ℕ, ◌+◌, ◌<◌, ◌==◌, ◌++◌, List, [], length, ◌↔◌, IsSome, IfSome, IfNone, OnOk, OnErr, slice_get};
 ghost use Rattle.std.specs.Option.{option_map, option_map_or};
 ghost use Rattle.std.specs.List.{position};

@@ -1,3 +1,4 @@
+//! A document, and the same as an index holds it: with the number of the commit that put it.
 ghost use Rattle.std.specs.Prelude.{◌≡◌};
 
 use crate::schema::Value;

@@ -1,3 +1,6 @@
+//! A chunk over a plain list of rows. It costs what its rows and their words take: making it is n log n in the words, a
+//! word or an id is found by bisection, and what a row has is read off its document. It stands for chunks that pack their
+//! rows, and its contract, that of `Chunk`, is theirs as well.
 ghost use Rattle.std.specs.Prelude.{◌≡◌, ◌+◌, ◌<◌, ◌==◌, ◌++◌, ◌↔◌, List, [], length, map, IsSome, IfSome, IfNone, IfOk, OnOk, OnErr, slice_get};
 ghost use Rattle.std.specs.Option.{option_map, option_map_or};
 ghost use Rattle.std.specs.List.{position};

@@ -1,3 +1,4 @@
+//! The columns of an index: fields, which are searched, and attributes, which are numbers; and the limits on both.
 use srch_base::{Items, Name};
 
 /// The most fields that an index has.

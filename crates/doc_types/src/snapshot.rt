@@ -1,3 +1,5 @@
+//! Layers of chunks, as a reader holds them. A commit adds a layer and marks rows of earlier ones as dead; a snapshot never
+//! changes, so a reader that has one sees one state. Contracts see layers as lists of rows, without the kind of their chunks.
 ghost use Rattle.std.specs.Prelude.{◌≡◌, length};
 ghost use Rattle.std.specs.List.{count_by};
 ghost use Rattle.std.specs.FinMap as finite;

@@ -1,3 +1,5 @@
+//! The words of a field. A word has the position after the word before it, or two further where the end of a sentence or a
+//! paragraph lies between; a span tells from which word to which one an element of a zone reaches.
 ghost use Rattle.std.specs.Prelude.{◌≡◌};
 ghost use Rattle.doc_types.specs.Documents.{precedes, step};
 
@@ -43,7 +45,7 @@ pub enum Gap {
 }
 
 impl Gap {
-    /// How many positions a word with this boundary before it stands behind the word before.
+    /// How many positions a word with this boundary before it stands after the word before.
     pub fn step(self) -> u32
         ensures { result ≡ step self }
     {

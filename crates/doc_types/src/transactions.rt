@@ -1,3 +1,5 @@
+//! What a commit does to an index: operations in order, all or none. What becomes of them over the rows that are there is
+//! `verdict` and `after` of the definitions.
 ghost use Rattle.std.specs.Prelude.{◌≡◌};
 
 use crate::documents::Doc;

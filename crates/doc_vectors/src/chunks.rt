@@ -1,3 +1,4 @@
+//! Every call of a chunk over ten documents and over none, with answers worked out by hand from the texts of their fields.
 ghost use Rattle.std.specs.Prelude.{◌≡◌, [], IfOk, All};
 ghost use Rattle.doc_types.specs.Chunks.{IsContent};
 ghost use Rattle.doc_vectors.specs.steps.Columns.{HasColumns};
@@ -60,7 +61,7 @@ const WORDS: [(&str, &str); 30] = [
     ("привет", " 2: 2.1"),
 ];
 
-/// Words that no document has: beside a word that is there, in other letters, before all and behind all.
+/// Words that no document has: beside a word that is there, in other letters, before all and after all.
 const ABSENT: [&str; 7] = ["", "aa", "hell", "hello ", "World", "п", "я"];
 
 /// Ids that no document has.

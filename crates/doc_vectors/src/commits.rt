@@ -1,3 +1,4 @@
+//! Lengths of transactions by the layout of a log's payload, and copies that equal what they copy.
 use crate::documents::{hello_world, rows};
 use doc_types::{DocRow, Txn, TxnOp, txn_bytes};
 use srch_base::Items;

@@ -1,3 +1,4 @@
+//! How many rows of a snapshot live and how many of its chunks are on the disk, over layers with dead rows.
 ghost use Rattle.std.specs.Prelude.{◌≡◌, [], IfOk};
 
 use crate::chunks::{no_chunk, the_chunk};

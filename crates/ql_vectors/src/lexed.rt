@@ -3,7 +3,7 @@ use ql_lex::{TokenKind, lex};
 use srch_base::NoMemory;
 use std::alloc::Global;
 
-/// A text, and its tokens before the end: their kinds, and the places of their first bytes and behind them,
+/// A text, and its tokens before the end: their kinds, and the places of their first bytes and after them,
 /// worked out by hand.
 const TOKENS: [(&str, &[(TokenKind, u32, u32)]); 50] = [
     ("", &[]),

@@ -54,7 +54,7 @@ zone_numbers zones text (Some s) = numbers_of zones (bytes_of text s)
 abbrev pub limit_of : List (List ℕ) → List ℕ → Limits → Limit
 limit_of zones text here = record { fields = here.fields; positions = here.positions; zones = zone_numbers zones text here.zones }
 
--- the keywords that words are, behind so many
+-- the keywords that words are, after so many
 abbrev pub keys_after : ℕ → Limit → Bool → Bool → List (List ℕ) → List Key
 keys_after n limit start end [] = []
 keys_after n limit start end (word ∷ words) =
@@ -71,7 +71,7 @@ nobodies n = if n == 0 then [] else if n == 1 then nobody ∷ [] else nobody ∷
 abbrev pub keys_of : ℕ → Limit → Bool → Bool → List (List ℕ) → List Key
 keys_of n limit start end words = if nat_le (n + length words) 255 then keys_after n limit start end words else nobodies (length words)
 
--- the 256th keyword is among so many behind so many
+-- the 256th keyword is among so many after so many
 abbrev pub passes_limit : ℕ → ℕ → Bool
 passes_limit n more = nat_le n 255 && nat_lt 255 (n + more)
 
@@ -156,7 +156,7 @@ wrong_zones [] names = None
 wrong_zones (zone ∷ zones) names =
     unknown_or kinds.UnknownZone (first_unknown (zone ∷ zones) names) (if has_long names then nameless kinds.NameTooLong else None)
 
--- the 256th keyword is among so many behind so many
+-- the 256th keyword is among so many after so many
 abbrev pub wrong_count : ℕ → ℕ → Option Wrong
 wrong_count n more = if passes_limit n more then nameless kinds.TooManyKeywords else None
 

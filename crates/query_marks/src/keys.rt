@@ -139,7 +139,7 @@ fn all_keys(
     Ok(keys)
 }
 
-/// The keywords that letters spell, behind those before.
+/// The keywords that letters spell, after those before.
 pub(crate) fn keys(
     alloc: Global,
     zones: &[Name],

@@ -1,3 +1,4 @@
+//! The bytes of replies to commands, by the protocol's documentation.
 use crate::running::{TWO, replied, tables_of};
 use mysql_wire::Command;
 use ql_session::{Session, StepEnd};

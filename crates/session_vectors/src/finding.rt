@@ -1,3 +1,4 @@
+//! What a word finds: the most fields first, then the smallest id. Worked out by hand from the texts of the documents.
 use crate::running::{TWO, answer, first_wrong_after, first_wrong_in_turn, tables_of};
 use itoa::Buffer;
 use ql_session::{PlainTables, Session};

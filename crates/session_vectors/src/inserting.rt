@@ -1,3 +1,4 @@
+//! Why an INSERT is refused, in the order of its faults. Worked out by hand from the manual's table of refusals.
 use crate::running::{first_wrong, first_wrong_after};
 use std::test::Fail;
 

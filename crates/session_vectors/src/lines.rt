@@ -1,3 +1,4 @@
+//! Lines from the greeting to each of their ends, with their bytes by the protocol's documentation.
 use crate::running::{TWO, tables_of};
 use ql_session::{LinkEnd, serve_link};
 use srch_base::MemoryLink;

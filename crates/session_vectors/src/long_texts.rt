@@ -1,3 +1,4 @@
+//! Texts of a field at the limit of positions and beyond it.
 use crate::running::is_replied;
 use std::alloc::Global;
 use std::test::Fail;

@@ -1,3 +1,4 @@
+//! What is well formed and not run yet, and the refusals that come before that.
 use crate::running::first_wrong;
 use std::test::Fail;
 

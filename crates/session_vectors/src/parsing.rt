@@ -1,3 +1,4 @@
+//! Texts that are no packet of statements, with the place of their first fault.
 use crate::running::{first_wrong, is_replied};
 use std::test::Fail;
 

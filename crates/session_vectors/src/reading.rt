@@ -17,7 +17,7 @@ enum Next {
     Reply,
     /// A column's definition, after which so many come.
     Column(u64),
-    /// The EOF behind the columns.
+    /// The EOF after the columns.
     Columned,
     /// A row, or the EOF with this status.
     Row(u16),

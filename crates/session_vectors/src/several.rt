@@ -1,3 +1,4 @@
+//! Several statements in one text, many rows in one INSERT, and the description of the widest index.
 use crate::running::{TWO, answer, first_wrong, first_wrong_in_turn, tables_of};
 use itoa::Buffer;
 use ql_session::Session;

@@ -1,3 +1,4 @@
+//! Two sessions over the same documents, and indexes of other names.
 use crate::running::{TWO, answer, first_wrong_in_turn, tables_of};
 use ql_session::Session;
 use std::alloc::Global;

@@ -1,3 +1,4 @@
+//! What SHOW, DESCRIBE and SELECT of a variable show, by the manual, and what SET is answered.
 use crate::running::first_wrong;
 use std::test::Fail;
 
