@@ -1,9 +1,11 @@
+//! Texts and their tokens, worked out by hand from the shapes of tokens, and how many tokens an INSERT of about one
+//! megabyte has.
 use ql_lex::TokenKind::{End, Name, Number, Quoted, Sign as SignToken, SysVar, Text};
 use ql_lex::{TokenKind, lex};
 use srch_base::NoMemory;
 use std::alloc::Global;
 
-/// A text, and its tokens before the end: their kinds, and the places of their first bytes and behind them,
+/// A text, and its tokens before the end: their kinds, and the places of their first bytes and after them,
 /// worked out by hand.
 const TOKENS: [(&str, &[(TokenKind, u32, u32)]); 50] = [
     ("", &[]),

@@ -1,3 +1,5 @@
+//! The marks of a text, by kind and place, worked out by hand from Sphinx's manual for `html_strip`, `index_sp` and
+//! `index_zones`.
 use charset_map::Charset;
 use mark_scan::MarkKind::{Close, Inline, Open, Paragraph, Sentence, Text};
 use mark_scan::{Mark, MarkKind, MarkRules, marks};
@@ -45,7 +47,7 @@ const MARKUP: [(&str, bool, &[(MarkKind, u32, u32)]); 20] = [
     // A tag of a zone that closes itself opens nothing, but ends a paragraph.
     ("<th/>", true, &[(Paragraph, 0, 5)]),
     ("</th x/>", false, &[]),
-    // The end of a comment is searched behind its beginning.
+    // The end of a comment is searched after its beginning.
     ("a<!-- b. -->c", true, &[(Text, 0, 1), (Text, 12, 13)]),
     ("<!-->a", false, &[(Text, 0, 6)]),
     ("<!-->-->a", false, &[(Text, 8, 9)]),
