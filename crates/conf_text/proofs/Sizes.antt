@@ -7,7 +7,7 @@ use Rattle.charset_map.specs.Characters.{is_blank}
 use Rattle.charset_map.specs.TableText.{without_back, without_front}
 use Rattle.conf_text.specs.Keys.{key_named}
 use Rattle.conf_text.specs.Lines.{begins_comment, content_of, trimmed, uncommented, uncommented_after}
-use Rattle.conf_text.specs.Shapes.{Shape, bare_head, before_brace, before_equals, after_equals, blank, closing, entry, entry_shape, has_equals, has_name, has_no_name, head, head_of, head_shape, index_head, after_word, first_word, is_name, misformed, named_head, opening, opens_section, other_head, shape_of, small, unknown_head, words_shape}
+use Rattle.conf_text.specs.Shapes.{Shape, bare_head, before_brace, before_equals, after_equals, blank, closing, entry, entry_shape, has_equals, head, head_of, head_shape, index_head, after_word, first_word, is_name, misformed, named_head, opening, opens_section, other_head, shape_of, small, unknown_head, wants_name, wants_no_name, words_shape}
 use Rattle.conf_text.specs.steps.SeenShapes.{value_length}
 
 front_size : (text : List ℕ) → length (without_front text) ≤ length text
@@ -41,14 +41,14 @@ IsWithin size line = value_length line ≤ size
 
 bare_within : (size : ℕ) (word : List ℕ) (opens : Bool) → IsWithin size (bare_head word opens)
 bare_within size word opens =
-    either_way (IsWithin size) (has_no_name word) (other_head opens) (cond (has_name word) misformed unknown_head) (omega arith)
-    (either_way (IsWithin size) (has_name word) misformed unknown_head (omega arith) (omega arith))
+    either_way (IsWithin size) (wants_no_name word) (other_head opens) (cond (wants_name word) misformed unknown_head) (omega arith)
+    (either_way (IsWithin size) (wants_name word) misformed unknown_head (omega arith) (omega arith))
 
 named_within : (size : ℕ) (word name : List ℕ) (opens : Bool) → IsWithin size (named_head word name opens)
 named_within size word name opens =
-    either_way (IsWithin size) (bytes_eq word (codes "index")) (index_head name opens) (cond (bytes_eq word (codes "source")) (other_head opens) (cond (has_no_name word) misformed unknown_head)) (omega arith)
-    (either_way (IsWithin size) (bytes_eq word (codes "source")) (other_head opens) (cond (has_no_name word) misformed unknown_head) (omega arith)
-    (either_way (IsWithin size) (has_no_name word) misformed unknown_head (omega arith) (omega arith)))
+    either_way (IsWithin size) (bytes_eq word (codes "index")) (index_head name opens) (cond (bytes_eq word (codes "source")) (other_head opens) (cond (wants_no_name word) misformed unknown_head)) (omega arith)
+    (either_way (IsWithin size) (bytes_eq word (codes "source")) (other_head opens) (cond (wants_no_name word) misformed unknown_head) (omega arith)
+    (either_way (IsWithin size) (wants_no_name word) misformed unknown_head (omega arith) (omega arith)))
 
 head_within : (size : ℕ) (word rest : List ℕ) (opens : Bool) → IsWithin size (head word rest opens)
 unfolding head

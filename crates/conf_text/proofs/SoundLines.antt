@@ -17,8 +17,7 @@ use Rattle.conf_text.specs.steps.Drafts.{AreIndexes, entry_with}
 use Rattle.conf_text.specs.Faults.{AreGood, IsGoodAt, has_name, has_path, is_among, is_long, is_text}
 use Rattle.conf_text.specs.Lines.{Line, content}
 use Rattle.conf_text.specs.Sections.{Entry, IndexText, Place, Spot, attrs_in, after_head, entry_of, fields_in, entries_after, entries_in, given, headed, index, indexes_after, indexes_in, inside, other, outside, place_after, place_in, spot_at, spot_in}
-use Rattle.conf_text.specs.Shapes.{Shape, bare_head, before_brace, before_equals, after_equals, after_word, blank, closing, entry, entry_shape, first_word, has_equals, has_no_name, head, head_of, head_shape, index_head, is_name, misformed, named_head, opening, opens_section, other_head, shape_of, small, unknown_head, words_shape}
-use Rattle.conf_text.specs.Shapes.{has_name as wants_name}
+use Rattle.conf_text.specs.Shapes.{Shape, bare_head, before_brace, before_equals, after_equals, after_word, blank, closing, entry, entry_shape, first_word, has_equals, head, head_of, head_shape, index_head, is_name, misformed, named_head, opening, opens_section, other_head, shape_of, small, unknown_head, wants_name, wants_no_name, words_shape}
 use Rattle.conf_text.specs.Keys.{key_named}
 use Rattle.conf_text.proofs.Pairs.{all_cons, all_head, all_tail, distinct_both}
 use Rattle.conf_text.proofs.Among.{distinct_more}
@@ -34,14 +33,14 @@ HasSmall _ = Unit {0}
 
 bare_small : (word : List ℕ) (opens : Bool) → HasSmall (bare_head word opens)
 bare_small word opens =
-    either_way HasSmall (has_no_name word) (other_head opens) (cond (wants_name word) misformed unknown_head) tt
+    either_way HasSmall (wants_no_name word) (other_head opens) (cond (wants_name word) misformed unknown_head) tt
     (either_way HasSmall (wants_name word) misformed unknown_head tt tt)
 
 named_small : (word name : List ℕ) (opens : Bool) → HasSmall (named_head word (small name) opens)
 named_small word name opens =
-    either_way HasSmall (bytes_eq word (codes "index")) (index_head (small name) opens) (cond (bytes_eq word (codes "source")) (other_head opens) (cond (has_no_name word) misformed unknown_head)) (small_name name)
-    (either_way HasSmall (bytes_eq word (codes "source")) (other_head opens) (cond (has_no_name word) misformed unknown_head) tt
-    (either_way HasSmall (has_no_name word) misformed unknown_head tt tt))
+    either_way HasSmall (bytes_eq word (codes "index")) (index_head (small name) opens) (cond (bytes_eq word (codes "source")) (other_head opens) (cond (wants_no_name word) misformed unknown_head)) (small_name name)
+    (either_way HasSmall (bytes_eq word (codes "source")) (other_head opens) (cond (wants_no_name word) misformed unknown_head) tt
+    (either_way HasSmall (wants_no_name word) misformed unknown_head tt tt))
 
 head_small : (word rest : List ℕ) (opens : Bool) → HasSmall (head word rest opens)
 unfolding head

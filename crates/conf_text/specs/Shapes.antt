@@ -36,22 +36,22 @@ abbrev pub is_name : List ℕ → Bool
 is_name word = is_column_name (small word)
 
 -- the kinds of sections that have a name, and those that have none; a section's word is given in small letters
-abbrev pub has_name : List ℕ → Bool
-has_name word = bytes_eq word (codes "index") || bytes_eq word (codes "source")
+abbrev pub wants_name : List ℕ → Bool
+wants_name word = bytes_eq word (codes "index") || bytes_eq word (codes "source")
 
-abbrev pub has_no_name : List ℕ → Bool
-has_no_name word = bytes_eq word (codes "searchd") || bytes_eq word (codes "indexer") || bytes_eq word (codes "common")
+abbrev pub wants_no_name : List ℕ → Bool
+wants_no_name word = bytes_eq word (codes "searchd") || bytes_eq word (codes "indexer") || bytes_eq word (codes "common")
 
 -- the head of one word
 abbrev pub bare_head : List ℕ → Bool → Shape
-bare_head word opens = if has_no_name word then other_head opens else (if has_name word then misformed else unknown_head)
+bare_head word opens = if wants_no_name word then other_head opens else (if wants_name word then misformed else unknown_head)
 
 -- the head of a word and a name
 abbrev pub named_head : List ℕ → List ℕ → Bool → Shape
 named_head word name opens =
     if bytes_eq word (codes "index") then index_head name opens
     else (if bytes_eq word (codes "source") then other_head opens
-    else (if has_no_name word then misformed else unknown_head))
+    else (if wants_no_name word then misformed else unknown_head))
 
 -- a text's first word, and what stands after it
 abbrev pub first_word : List ℕ → List ℕ

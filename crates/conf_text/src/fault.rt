@@ -1,4 +1,5 @@
-//! The kinds of faults of a configuration, in the order in which they are looked for at one line, and in words.
+//! What is wrong with a configuration: its first faulty line, and the first kind of the list below that this line has.
+//! The program prints both: `searchd: config line 6: unknown key` (docs/MANUAL.md).
 ghost use Rattle.std.specs.Prelude.{◌≡◌};
 ghost use Rattle.conf_text.specs.FaultTexts.{kind_text};
 

@@ -6,7 +6,7 @@ ghost use Rattle.std.specs.Prelude.{◌≡◌, ◌&&◌};
 ghost use Rattle.std.specs.Str.{bytes_eq};
 ghost use Rattle.charset_map.specs.Characters.{is_blank};
 ghost use Rattle.std.specs.List.{position_or_len};
-ghost use Rattle.conf_text.specs.Shapes.{bare_head, entry_shape, has_name, has_no_name, head, head_of, head_shape, named_head, shape_of, small, words_shape};
+ghost use Rattle.conf_text.specs.Shapes.{bare_head, entry_shape, head, head_of, head_shape, named_head, shape_of, small, wants_name, wants_no_name, words_shape};
 ghost use Rattle.conf_text.specs.steps.SeenShapes.{seen};
 
 use crate::keys::Key;
@@ -35,14 +35,14 @@ pub enum Shape<'a> {
 
 /// Whether a section of this kind has a name.
 fn wants_name(word: &[u8]) -> bool
-    ensures { result ≡ has_name (small word.now) }
+    ensures { result ≡ wants_name (small word.now) }
 {
     word.eq_ignore_ascii_case(b"index") || word.eq_ignore_ascii_case(b"source")
 }
 
 /// Whether a section of this kind has no name.
 fn wants_no_name(word: &[u8]) -> bool
-    ensures { result ≡ has_no_name (small word.now) }
+    ensures { result ≡ wants_no_name (small word.now) }
 {
     word.eq_ignore_ascii_case(b"searchd")
         || word.eq_ignore_ascii_case(b"indexer")

@@ -1,4 +1,6 @@
-//! Texts without the blanks around them, names, and small letters.
+//! Texts without the blanks around them, names, and small letters. Blanks are the space, the tab, CR and LF; a name is a
+//! letter or `_`, then letters, digits and `_`, all of ASCII. A part of a text is a slice of it: nothing is copied but by
+//! `small_name`.
 ghost use Rattle.std.specs.Prelude.{◌≡◌, ◌==◌, IfOk};
 ghost use Rattle.std.specs.Char.{to_ascii_lowercase};
 ghost use Rattle.std.specs.List.{list_all, position_or_len, prefix_len, suffix_len};

@@ -1,3 +1,6 @@
+//! A table of 60 keywords, made as a crate above makes its own: the words and their values stand in one macro, of which
+//! the table is one form and the value at a place another. That the words are in order is proved by one contract. Places
+//! are counted by hand, from 0.
 ghost use Rattle.std.specs.Prelude.{◌≡◌};
 ghost use Rattle.name_table.specs.Order.{IsInOrder};
 

@@ -1,3 +1,5 @@
+//! Texts and their tokens, worked out by hand from the shapes of tokens, and how many tokens an INSERT of about one
+//! megabyte has.
 use ql_lex::TokenKind::{End, Name, Number, Quoted, Sign as SignToken, SysVar, Text};
 use ql_lex::{TokenKind, lex};
 use srch_base::NoMemory;

@@ -1,3 +1,6 @@
+//! The words of a text with their positions and boundaries, and the spans of its zones. A row writes them as one line, so
+//! that it can be read. The limits are tried from both sides: 42 characters of a word, 65,535 positions of a field. All
+//! values are worked out by hand, from Sphinx's manual for `html_strip`, `index_sp` and `index_zones`.
 ghost use Rattle.std.specs.Prelude.{◌≡◌, [], ◌∷◌, codes, IfOk};
 ghost use Rattle.doc_types.specs.Schemas.{AreZones};
 

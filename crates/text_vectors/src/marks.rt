@@ -1,3 +1,5 @@
+//! The marks of a text, by kind and place, worked out by hand from Sphinx's manual for `html_strip`, `index_sp` and
+//! `index_zones`.
 use charset_map::Charset;
 use mark_scan::MarkKind::{Close, Inline, Open, Paragraph, Sentence, Text};
 use mark_scan::{Mark, MarkKind, MarkRules, marks};

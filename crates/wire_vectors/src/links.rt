@@ -1,3 +1,5 @@
+//! Links and doors over memory: the pieces in which a link gives its input, the calls that fail, and the lines that come
+//! back to a door. All values are worked out by hand.
 use srch_base::{Door, Failed, Link, ListDoor, MemoryLink};
 use std::alloc::Global;
 use std::test::Fail;

@@ -1,3 +1,6 @@
+//! What a client reads of replies: numbers in each spelling, OK, EOF, ERR, columns and rows; and the first field that is
+//! faulty in payloads that are none of these. The replies are those recorded in `replies`, or worked out by the
+//! protocol's documentation.
 use crate::replies::{GREETING, OUT_OF_MEMORY, ROW_SET};
 use mysql_wire::{
     ColumnKind, WireEof, WireFault, WireGreeting, WireOk, read_column, read_eof, read_err,

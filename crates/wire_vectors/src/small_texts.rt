@@ -1,3 +1,4 @@
+//! The small types of `srch_base`: number fields, words, names, texts and lists, and what faults print and become by `?`.
 use srch_base::{
     Failed, Items, Name, NoMemory, OpenFault, Or, Text, Word, put_u16, put_u32, put_u64, u16_at,
     u32_at, u64_at,
