@@ -98,8 +98,7 @@ pub says_want : {E : Type 0} (e : E) (standing : Option Plan) (happened : Happen
     → (plan : Plan) × (reply : Reply) × (standing ≡ Some plan) × Says plan happened reply × SaysReply state reply seq more answer old new
 says_want e None happened state seq more answer refusal old mid new can small same is said = absurd can
 says_want e (Some plan) happened state seq more answer refusal old mid new can small same is said =
-    let big : is_small happened plan ≡ false = not_true (is_small happened plan) (λ h. absurd (let clash : false ≡ true = small h in cc)) in
-    (
+    let big : is_small happened plan ≡ false = not_true (is_small happened plan) (λ h. absurd (let clash : false ≡ true = small h in cc)) in (
       plan,
       Fails no_memory,
       refl,

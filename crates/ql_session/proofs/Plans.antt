@@ -1,6 +1,6 @@
 -- What holds of a plan that a statement wants: it takes memory unless it is agreed to, and its index is there.
-use Rattle.std.proofs.Common.{◌≡◌, ◌≢◌, ◌⊎◌, inl, inr, ℕ, List, [], ◌∷◌, true, false, refl, subst, sym}
-use Rattle.std.specs.Prelude.{IsTrue, Some}
+use Rattle.std.proofs.Common.{◌≡◌, ◌⊎◌, inl, inr, ℕ, List, [], ◌∷◌, true, false, refl, subst, sym}
+use Rattle.std.specs.Prelude.{IsTrue}
 use Rattle.std.specs.List.{AllZip}
 use Rattle.std.proofs.lemmas.List.Elements.{All-nil, All-cons}
 use Rattle.conf_text.specs.declared.conf.IndexConf.{IndexConf}
@@ -14,7 +14,7 @@ use Rattle.ql_answers.specs.declared.plan.Plan.{Plan}
 use Rattle.ql_answers.specs.declared.plan.Plan.TheVariants.{Agree, Show, Search, Insert}
 use Rattle.ql_answers.specs.Plans.{Wants, TakesMemory}
 use Rattle.ql_answers.specs.Writing.{Inserts, targets}
-use Rattle.ql_session.specs.steps.Wanting.{IsSoundPlan, CanCommit}
+use Rattle.ql_session.specs.steps.Wanting.{IsSoundPlan}
 
 is_insert : (F : TxnOp → Type 0) → ((doc : Doc) → F (operations.Put doc) → ⊥) → ((id : ℕ) → F (operations.Kill id) → ⊥) → (F operations.Clear → ⊥)
     → (op : TxnOp) → F op → IsTrue (is_insertion op)
@@ -44,13 +44,16 @@ good confs (statements.Select select) plan wants =
 good confs (statements.SelectVar name limit) plan wants = inr (tt, sound_as confs plan (Show _) wants tt)
 good confs statements.SelectDatabase plan wants = inr (tt, sound_as confs plan (Show _) wants tt)
 good confs (statements.Insert false index columns rows) plan wants =
-    inr (tt, sound_as confs plan (Insert wants.0 wants.1) wants.3 (record {
-      conf = wants.2.conf;
-      is = wants.2.serves.is;
-      of = wants.2.of;
-      insertions = are_insertions (Inserts wants.2.conf (targets wants.2.conf.schema columns)) rows wants.1.ops (λ row op h.
-          is_insert (Inserts wants.2.conf (targets wants.2.conf.schema columns) row) (λ doc h. h) (λ id h. h) (λ h. h) op h) wants.2.inserts;
-    }))
+    inr (
+      tt,
+      sound_as confs plan (Insert wants.0 wants.1) wants.3 (record {
+        conf = wants.2.conf;
+        is = wants.2.serves.is;
+        of = wants.2.of;
+        insertions = are_insertions (Inserts wants.2.conf (targets wants.2.conf.schema columns)) rows wants.1.ops (λ row op h.
+            is_insert (Inserts wants.2.conf (targets wants.2.conf.schema columns) row) (λ doc h. h) (λ id h. h) (λ h. h) op h) wants.2.inserts;
+      }),
+    )
 good confs (statements.Insert true index columns rows) plan wants = absurd wants
 good confs (statements.Delete index ids) plan wants = absurd wants
 good confs statements.Begin plan wants = absurd wants

@@ -1,5 +1,5 @@
 -- From what a statement wanted, what came of it and what was said: the statement was answered.
-use Rattle.std.proofs.Common.{◌≡◌, ◌≢◌, ◌⊎◌, inl, inr, ℕ, List, Bool, true, false, refl, subst, sym, ap, ◌∙◌}
+use Rattle.std.proofs.Common.{◌≡◌, ◌≢◌, inl, inr, ℕ, List, Bool, true, false, refl, subst, sym, ap, ◌∙◌}
 use Rattle.std.specs.Prelude.{Option, Some, Err, slice_get}
 use Rattle.srch_base.specs.declared.faults.Or.{Or}
 use Rattle.srch_base.specs.declared.faults.Or.TheVariants as causes

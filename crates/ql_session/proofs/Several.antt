@@ -39,10 +39,9 @@ runs_on before mid after state seq statement rest answer old between new runs go
     let put : List ℕ = packets_from seq (payloads (status_of state (is_more rest)) runs.reply) in
     let on : is_refusal runs.reply ≡ false = sym runs.says.refused ∙ goes in
     let by_confs : AreAnswered before.confs state answer.0 false rest events bytes =
-        subst (λ confs. AreAnswered confs state answer.0 false rest events bytes) (same_confs before runs.event mid runs.follows) answered in
+    subst (λ confs. AreAnswered confs state answer.0 false rest events bytes) (same_confs before runs.event mid runs.follows) answered in
     let by_next : AreAnswered before.confs state (sequence_after seq (payloads (status_of state (is_more rest)) runs.reply)) false rest events bytes =
-        subst (λ n. AreAnswered before.confs state n false rest events bytes) runs.says.next by_confs in
-    (
+    subst (λ n. AreAnswered before.confs state n false rest events bytes) runs.says.next by_confs in (
       runs.event ∷ events,
       put ++ bytes,
       (
@@ -65,8 +64,7 @@ runs_last before after state seq statement rest answer old new runs ends =
     let put : List ℕ = packets_from seq (payloads (status_of state (is_more rest)) runs.reply) in
     let ended : is_refusal runs.reply ≡ true = sym runs.says.refused ∙ ends in
     let last : List Event = [] in
-    let none : List ℕ = [] in
-    (
+    let none : List ℕ = [] in (
       runs.event ∷ [],
       put ++ [],
       (
@@ -94,8 +92,7 @@ pub text_runs : (tables left : Tables) (state seen : State) (text : List ℕ) (s
 text_runs tables left state seen text statements run old new same is empty states (events, bytes, answered, follow, put) =
     let by_state : AreAnswered tables.confs state 1 false run events bytes = subst (λ (s : State). AreAnswered tables.confs s 1 false run events bytes) same answered in
     let by_list : AreAnswered tables.confs state 1 false statements events bytes = subst (λ (l : List Statement). AreAnswered tables.confs state 1 false l events bytes) is by_state in
-    let whole : new ≡ bytes = put ∙ ap (λ (front : List ℕ). front ++ bytes) empty in
-    (
+    let whole : new ≡ bytes = put ∙ ap (λ (front : List ℕ). front ++ bytes) empty in (
       Configured tables.confs ∷ events,
       inr (inl (tables.confs, statements, events, states, refl, subst (λ (b : List ℕ). AreAnswered tables.confs state 1 false statements events b) (sym whole) by_list)),
       (tables, (refl, refl), follow),

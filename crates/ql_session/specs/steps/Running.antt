@@ -1,5 +1,5 @@
 -- How a text is read, its statements are run and their replies appended.
-use Rattle.std.specs.Prelude.{◌≡◌, ◌≢◌, ◌≤◌, ◌⊎◌, ℕ, List, [], ◌++◌, Bool, true, false, Option, Some, Result, Ok, Err, Vec, length, slice_get}
+use Rattle.std.specs.Prelude.{◌≡◌, ◌≢◌, ◌≤◌, ◌⊎◌, ℕ, List, ◌++◌, Bool, false, Some, Result, Ok, Err, Vec, length}
 use Rattle.srch_base.specs.declared.faults.Or.{Or}
 use Rattle.srch_base.specs.declared.faults.Or.TheVariants as causes
 use Rattle.mysql_wire.specs.Packets.{packets_from, sequence_after}

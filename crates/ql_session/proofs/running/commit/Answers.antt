@@ -16,8 +16,7 @@ commit-requires-clause-insertions c =
 
 pub returns-in-Ok : goal.returns-in-Ok
 returns-in-Ok c =
-    let is = commit_plan c.args.session.now.plan c.requires.at.plan c.args.place c.pending.result.now c.requires.at.at c.requires.at.is c.pending.ensures in
-    (
+    let is = commit_plan c.args.session.now.plan c.requires.at.plan c.args.place c.pending.result.now c.requires.at.at c.requires.at.is c.pending.ensures in (
       Insert c.args.place c.pending.result.now,
       c.requires.at.at ∙ ap (λ (plan : Plan). Some plan) is,
       record { event = Committed c.args.place c.pending.result.now.ops c.in-Ok.removed; is = refl; meets = inl (refl, refl); follows = c.in-Ok.ensures },
@@ -25,8 +24,7 @@ returns-in-Ok c =
 
 pub returns-in-Err-Fault : goal.returns-in-Err-Fault
 returns-in-Err-Fault c =
-    let is = commit_plan c.args.session.now.plan c.requires.at.plan c.args.place c.pending.result.now c.requires.at.at c.requires.at.is c.pending.ensures in
-    (
+    let is = commit_plan c.args.session.now.plan c.requires.at.plan c.args.place c.pending.result.now c.requires.at.at c.requires.at.is c.pending.ensures in (
       Insert c.args.place c.pending.result.now,
       c.requires.at.at ∙ ap (λ (plan : Plan). Some plan) is,
       record {

@@ -1,4 +1,4 @@
-use Rattle.std.proofs.Common.{ℕ, List, ◌+◌, ap, ◌∙◌, sym, arith, length-append, length}
+use Rattle.std.proofs.Common.{ℕ, List, ◌+◌, ap, ◌∙◌, sym, length-append, length}
 use Rattle.mysql_wire.specs.Packets.{packets_from}
 use Rattle.ql_answers.specs.Replies.{payloads}
 use Rattle.ql_answers.specs.Sessions.{happened_by, status_of}

@@ -1,4 +1,4 @@
-use Rattle.std.proofs.Common.{List, subst, sym}
+use Rattle.std.proofs.Common.{List, subst}
 use Rattle.ql_lex.specs.declared.token.Token.{Token}
 use Rattle.ql_grammar.specs.Tokens.{lexemes}
 use Rattle.ql_session.specs.steps.Running.{ReadsTokens}
