@@ -1,3 +1,5 @@
+//! Why a text is no extended query. A text may be wrong in many ways at once; only the first counts: the least place, and
+//! at one place the first kind in the order of `QueryKind`. What a kind prints is its text in docs/EXTENDED_QUERIES.md.
 use query_marks::QueryKind;
 use srch_base::Name;
 
