@@ -28,8 +28,8 @@ const SHARED: [(bool, &str, &str); 9] = [
     ),
     (
         false,
-        "INSERT INTO rt (id) VALUES (6), (5)",
-        "ERR 1064 42000 duplicate id 5",
+        "INSERT INTO rt (id) VALUES (7), (6)",
+        "ERR 1064 42000 duplicate id 6",
     ),
 ];
 
