@@ -84,33 +84,59 @@ fn keyword_at(place: u16) -> Option<&'static str> {
     Some(keywords!(value_at, place, return None))
 }
 
+/// Words in either case, and their places.
+const WORDS: [(&str, Option<u16>); 12] = [
+    ("and", Some(0)),
+    ("AND", Some(0)),
+    ("BeTween", Some(5)),
+    ("FACET", Some(19)),
+    ("match", Some(41)),
+    ("Quick", Some(59)),
+    ("", None),
+    ("an", None),
+    ("andy", None),
+    ("AND ", None),
+    ("Z", None),
+    ("Änd", None),
+];
+
+/// The number of the first word that has another place.
+fn first_misplaced() -> Option<usize> {
+    let table = keyword_table();
+    for (at, (word, place)) in WORDS.iter().enumerate() {
+        if table.find(word.as_bytes()) != *place {
+            return Some(at);
+        }
+    }
+    None
+}
+
 #[test]
 fn finds_words_in_either_case(rt: HostRuntime) {
-    let cases: [(&str, Option<u16>); 12] = [
-        ("and", Some(0)),
-        ("AND", Some(0)),
-        ("BeTween", Some(5)),
-        ("FACET", Some(19)),
-        ("match", Some(41)),
-        ("Quick", Some(59)),
-        ("", None),
-        ("an", None),
-        ("andy", None),
-        ("AND ", None),
-        ("Z", None),
-        ("Änd", None),
-    ];
-    for (word, place) in cases {
-        assert!(rt; keyword_table().find(word.as_bytes()) == place);
+    assert_eq!(rt; first_misplaced(), None);
+}
+
+/// Places, and the values there.
+const VALUES: [(u16, Option<&str>); 4] = [
+    (0, Some("AND")),
+    (19, Some("FACET")),
+    (59, Some("QUICK")),
+    (60, None),
+];
+
+/// The number of the first place with another value.
+fn first_other_value() -> Option<usize> {
+    for (at, (place, value)) in VALUES.iter().enumerate() {
+        if keyword_at(*place) != *value {
+            return Some(at);
+        }
     }
+    None
 }
 
 #[test]
 fn gives_the_value_at_a_place(rt: HostRuntime) {
-    assert!(rt; keyword_at(0) == Some("AND"));
-    assert!(rt; keyword_at(19) == Some("FACET"));
-    assert!(rt; keyword_at(59) == Some("QUICK"));
-    assert!(rt; keyword_at(60).is_none());
+    assert_eq!(rt; first_other_value(), None);
 }
 
 #[test]

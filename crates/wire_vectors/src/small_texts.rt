@@ -26,21 +26,38 @@ fn numbers_lie_low_byte_first(rt: HostRuntime) -> Result<(), Fail> {
 }
 
 #[test]
-fn small_texts_copy_and_compare(rt: HostRuntime) -> Result<(), Fail> {
+fn words_copy_and_compare(rt: HostRuntime) -> Result<(), Fail> {
     let alloc = rt.alloc();
     let word = Word::new(Vec::from_slice(alloc, b"fox")?);
     assert!(rt; word.clone()? == Word::from_slice(alloc, b"fox")?);
     assert!(rt; word < Word::from_slice(alloc, b"foxes")?);
     assert!(rt; word.into_vec().as_slice() == b"fox".as_slice());
+    Ok(())
+}
+
+#[test]
+fn names_copy_and_compare(rt: HostRuntime) -> Result<(), Fail> {
+    let alloc = rt.alloc();
     let name = Name::new(Vec::from_slice(alloc, b"title")?);
     assert!(rt; name.clone()? == Name::from_slice(alloc, b"title")?);
     assert!(rt; name > Name::from_slice(alloc, b"Title")?);
     assert!(rt; name.into_vec().as_slice() == b"title".as_slice());
+    Ok(())
+}
+
+#[test]
+fn texts_copy_and_compare(rt: HostRuntime) -> Result<(), Fail> {
+    let alloc = rt.alloc();
     let text = Text::new(Vec::from_slice(alloc, b"select 1")?);
     assert!(rt; text.clone()? == Text::from_slice(alloc, b"select 1")?);
     assert!(rt; text > Text::from_slice(alloc, b"")?);
     assert!(rt; text.into_vec().as_slice() == b"select 1".as_slice());
-    let items = Items::new(Vec::from_slice(alloc, &[3, 1, 2])?);
+    Ok(())
+}
+
+#[test]
+fn items_copy_and_compare(rt: HostRuntime) -> Result<(), Fail> {
+    let items = Items::new(Vec::from_slice(rt.alloc(), &[3, 1, 2])?);
     assert!(rt; items.clone()? == items);
     assert!(rt; !items.is_empty() && items.len() == 3);
     assert!(rt; items.as_slice() == [3, 1, 2].as_slice());
