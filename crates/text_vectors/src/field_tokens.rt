@@ -10,72 +10,68 @@ use doc_types::{FieldTokens, Gap, ZoneSpan};
 use mark_scan::MarkRules;
 use srch_base::{Items, Name, NoMemory, Or};
 use std::alloc::Global;
+use std::fmt::Write;
 use std::test::Fail;
 
 /// A text with markup in an index with the zones `th` and `i`; whether sentences and paragraphs are looked for; its words,
-/// each with its position and, after it, `s` or `p` for the boundary before it; its spans by zone, first and last position.
-const MARKUP: [(&str, bool, &str, &[(u16, u32, u32)]); 31] = [
-    ("", true, "", &[]),
-    (" <p>.<!-- a -->", true, "", &[]),
+/// each with its position and, after it, `s` or `p` for the boundary before it; its spans: zone, first and last position.
+const MARKUP: [(&str, bool, &str, &str); 31] = [
+    ("", true, "", ""),
+    (" <p>.<!-- a -->", true, "", ""),
     // An inline tag joins, all other tags and comments separate.
-    ("te<B>st</B>", false, "test 1", &[]),
-    ("te<P>st</P>", false, "te 1, st 2", &[]),
-    ("te<P>st</P>", true, "te 1, st 3p", &[]),
-    ("te<x:y z>st", true, "te 1, st 2", &[]),
-    ("te<!-- x. -->st", true, "te 1, st 2", &[]),
-    ("te<!--<b></b>-->st", true, "te 1, st 2", &[]),
+    ("te<B>st</B>", false, "test 1", ""),
+    ("te<P>st</P>", false, "te 1, st 2", ""),
+    ("te<P>st</P>", true, "te 1, st 3p", ""),
+    ("te<x:y z>st", true, "te 1, st 2", ""),
+    ("te<!-- x. -->st", true, "te 1, st 2", ""),
+    ("te<!--<b></b>-->st", true, "te 1, st 2", ""),
     // An inline tag that is a zone separates.
-    ("te<i>st</i>", true, "te 1, st 2", &[(1, 2, 2)]),
+    ("te<i>st</i>", true, "te 1, st 2", "i 2-2"),
     // What is no comment is plain text, with the end of a sentence.
-    ("a<!-->b", true, "a 1, b 3s", &[]),
-    ("a<!-->b", false, "a 1, b 2", &[]),
-    ("a<!-->-->b", true, "a 1, b 2", &[]),
+    ("a<!-->b", true, "a 1, b 3s", ""),
+    ("a<!-->b", false, "a 1, b 2", ""),
+    ("a<!-->-->b", true, "a 1, b 2", ""),
     // Letters are folded.
-    ("ПРИ<b>В</b>ЕТ Мир", true, "привет 1, мир 2", &[]),
+    ("ПРИ<b>В</b>ЕТ Мир", true, "привет 1, мир 2", ""),
     // Several ends in a row are one boundary, of a paragraph if one of them is.
-    ("a!? b", true, "a 1, b 3s", &[]),
-    ("a. <p>b", true, "a 1, b 3p", &[]),
-    ("a<p>! b", true, "a 1, b 3p", &[]),
-    ("a<p></p><p>b", true, "a 1, b 3p", &[]),
+    ("a!? b", true, "a 1, b 3s", ""),
+    ("a. <p>b", true, "a 1, b 3p", ""),
+    ("a<p>! b", true, "a 1, b 3p", ""),
+    ("a<p></p><p>b", true, "a 1, b 3p", ""),
     // Ends before the first word and after the last one are no boundaries.
-    ("!<p>a b!</p>", true, "a 1, b 2", &[]),
+    ("!<p>a b!</p>", true, "a 1, b 2", ""),
     // Each element of a zone is a span of its own.
     (
         "<th>hello</th> x <th>world</th>",
         false,
         "hello 1, x 2, world 3",
-        &[(0, 1, 1), (0, 3, 3)],
+        "th 1-1, th 3-3",
     ),
-    ("<th>hello world", false, "hello 1, world 2", &[(0, 1, 2)]),
-    ("<th>a<TH>b", false, "a 1, b 2", &[(0, 1, 1), (0, 2, 2)]),
-    ("a <th> b </th> c", true, "a 1, b 3p, c 5p", &[(0, 3, 3)]),
+    ("<th>hello world", false, "hello 1, world 2", "th 1-2"),
+    ("<th>a<TH>b", false, "a 1, b 2", "th 1-1, th 2-2"),
+    ("a <th> b </th> c", true, "a 1, b 3p, c 5p", "th 3-3"),
     // A tag that closes itself does nothing to zones, but ends a paragraph.
-    ("<th>a<th/>b", true, "a 1, b 3p", &[(0, 1, 3)]),
+    ("<th>a<th/>b", true, "a 1, b 3p", "th 1-3"),
     // Spans without a word are dropped, and a closing tag without an open span does nothing.
-    ("<th></th>a<th>", false, "a 1", &[]),
-    ("</th>a</i>", false, "a 1", &[]),
+    ("<th></th>a<th>", false, "a 1", ""),
+    ("</th>a</i>", false, "a 1", ""),
     // A closing tag ends the span of its own zone.
-    ("<th>a</i>b", false, "a 1, b 2", &[(0, 1, 2)]),
-    ("<th>a</th>b</th>c", false, "a 1, b 2, c 3", &[(0, 1, 1)]),
+    ("<th>a</i>b", false, "a 1, b 2", "th 1-2"),
+    ("<th>a</th>b</th>c", false, "a 1, b 2, c 3", "th 1-1"),
     // Spans of different zones may overlap. They stand by first position, last position and zone.
     (
         "<th>a<i>b</th>c</i>d",
         false,
         "a 1, b 2, c 3, d 4",
-        &[(0, 1, 2), (1, 2, 3)],
+        "th 1-2, i 2-3",
     ),
-    (
-        "<th><i>a</i>b</th>",
-        false,
-        "a 1, b 2",
-        &[(1, 1, 1), (0, 1, 2)],
-    ),
-    ("<i><th>a</th></i>", false, "a 1", &[(0, 1, 1), (1, 1, 1)]),
+    ("<th><i>a</i>b</th>", false, "a 1, b 2", "i 1-1, th 1-2"),
+    ("<i><th>a</th></i>", false, "a 1", "th 1-1, i 1-1"),
     (
         "<i>a<th>b<i>c</th>d",
         false,
         "a 1, b 2, c 3, d 4",
-        &[(1, 1, 2), (0, 2, 3), (1, 3, 4)],
+        "i 1-2, th 2-3, i 3-4",
     ),
 ];
 
@@ -150,17 +146,34 @@ fn read(
     tokens(alloc, charset, &rules, text)
 }
 
-/// Whether spans are these, by zone, first and last position.
-fn same_spans(found: &[ZoneSpan], expected: &[(u16, u32, u32)]) -> bool {
-    let same = found.iter().zip(expected).all(|(span, (zone, first, last))| {
-        *span
-            == ZoneSpan {
-                zone: *zone,
-                first: *first,
-                last: *last,
-            }
-    });
-    same && found.len() == expected.len()
+/// The name of a zone.
+fn zone_name(zone: u16) -> &'static str {
+    match zone {
+        0 => "th",
+        1 => "i",
+        _ => "another",
+    }
+}
+
+/// Spans, as the table above writes them.
+fn written_spans(alloc: Global, spans: &[ZoneSpan]) -> Result<String, Fail> {
+    let mut text = String::new(alloc);
+    for span in spans {
+        if !text.is_empty() {
+            text.push_str(", ")?;
+        }
+        put_span(span, &mut text)?;
+    }
+    Ok(text)
+}
+
+/// Appends a span, as the table above writes it.
+fn put_span(span: &ZoneSpan, text: &mut String) -> Result<(), Fail> {
+    let zone = zone_name(span.zone);
+    let first = span.first;
+    let last = span.last;
+    write!(text, "{zone} {first}-{last}")?;
+    Ok(())
 }
 
 /// Whether a text has these words and spans by the default table.
@@ -170,12 +183,16 @@ fn has(
     sp: bool,
     text: &str,
     words: &str,
-    spans: &[(u16, u32, u32)],
+    spans: &str,
 ) -> Result<bool, Fail> {
     let charset = Charset::default_table(alloc).or(Err("no table"))?;
     let found = read(alloc, &charset, strip, sp, text).or(Err("no tokens"))?;
     let list = written(alloc, &found)?;
-    Ok(list.as_str() == words && same_spans(found.spans.as_slice(), spans))
+    if list.as_str() != words {
+        return Ok(false);
+    }
+    let list = written_spans(alloc, found.spans.as_slice())?;
+    Ok(list.as_str() == spans)
 }
 
 /// The number of the first text with markup that has other words or spans.
@@ -191,8 +208,8 @@ fn first_other_markup(alloc: Global) -> Result<Option<usize>, Fail> {
 /// The number of the first other text that has other words.
 fn first_other_plain(alloc: Global) -> Result<Option<usize>, Fail> {
     for (at, (text, with, without)) in PLAIN.iter().enumerate() {
-        if !has(alloc, false, true, text, with, &[])?
-            || !has(alloc, false, false, text, without, &[])?
+        if !has(alloc, false, true, text, with, "")?
+            || !has(alloc, false, false, text, without, "")?
         {
             return Ok(Some(at));
         }

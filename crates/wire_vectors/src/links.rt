@@ -4,47 +4,49 @@ use srch_base::{Door, Failed, Link, ListDoor, MemoryLink};
 use std::alloc::Global;
 use std::test::Fail;
 
-/// The pieces of a link over `abcdef`, its calls that fail, the room of each read, and what each read gives.
-const READS: [(&[u32], &[u32], usize, &[&[u8]]); 6] = [
-    (&[], &[], 10, &[b"abcdef", b"", b""]),
-    (&[2, 0, 3], &[], 10, &[b"ab", b"cde", b"f", b""]),
-    (&[4], &[], 3, &[b"abc", b"d", b"ef", b""]),
-    (&[9], &[], 4, &[b"abcd", b"ef", b""]),
-    (
-        &[0, 3],
-        &[1, 3],
-        10,
-        &[b"failed", b"abc", b"failed", b"def", b""],
-    ),
-    (&[], &[2], 0, &[b"", b"failed", b""]),
+/// The pieces of a link over `abcdef`, its calls that fail, the room of each read, how many reads there are, and what they
+/// give: the bytes or `failed`, with `|` after each read.
+const READS: [(&[u32], &[u32], usize, usize, &str); 6] = [
+    (&[], &[], 10, 3, "abcdef|||"),
+    (&[2, 0, 3], &[], 10, 4, "ab|cde|f||"),
+    (&[4], &[], 3, 4, "abc|d|ef||"),
+    (&[9], &[], 4, 3, "abcd|ef||"),
+    (&[0, 3], &[1, 3], 10, 5, "failed|abc|failed|def||"),
+    (&[], &[2], 0, 3, "|failed||"),
 ];
 
-/// Whether the reads of a link give these one after another, `failed` where a read fails.
-fn reads(link: &mut MemoryLink, room: usize, wants: &[&[u8]]) -> Result<bool, Fail> {
-    for want in wants {
-        let mut buffer = [0; 16];
-        let into = buffer.get_mut(..room).ok_or("no such room")?;
-        let got = match link.read(into) {
-            Ok(count) => into.get(..count).ok_or("too many")?,
-            Err(Failed) => b"failed",
-        };
-        if got != *want {
-            return Ok(false);
-        }
+/// Appends what one read gives.
+fn put_read(link: &mut MemoryLink, room: usize, given: &mut Vec<u8>) -> Result<(), Fail> {
+    let mut buffer = [0; 16];
+    let into = buffer.get_mut(..room).ok_or("no such room")?;
+    let got = match link.read(into) {
+        Ok(count) => into.get(..count).ok_or("too many")?,
+        Err(Failed) => b"failed",
+    };
+    given.extend_from_slice(got)?;
+    given.push(b'|')?;
+    Ok(())
+}
+
+/// What so many reads give.
+fn reads(alloc: Global, link: &mut MemoryLink, room: usize, count: usize) -> Result<Vec<u8>, Fail> {
+    let mut given = Vec::new(alloc);
+    for _ in 0..count {
+        put_read(link, room, &mut given)?;
     }
-    Ok(true)
+    Ok(given)
 }
 
 /// The number of the first link whose reads give something else.
 fn first_other_read(alloc: Global) -> Result<Option<usize>, Fail> {
-    for (at, (cuts, failing, room, wants)) in READS.iter().enumerate() {
+    for (at, (cuts, failing, room, count, wants)) in READS.iter().enumerate() {
         let mut link = MemoryLink::new(
             alloc,
             Vec::from_slice(alloc, b"abcdef")?,
             Vec::from_slice(alloc, cuts)?,
             Vec::from_slice(alloc, failing)?,
         );
-        if !reads(&mut link, *room, wants)? {
+        if reads(alloc, &mut link, *room, *count)?.as_slice() != wants.as_bytes() {
             return Ok(Some(at));
         }
     }

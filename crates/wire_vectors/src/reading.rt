@@ -128,11 +128,19 @@ fn has_changed(payload: &[u8], affected: u64) -> bool {
     payload.len() < 1000 && read_ok(payload) == Ok(WireOk { affected, status })
 }
 
+/// The number of the first payload that is read as another OK.
+fn first_other_ok() -> Option<usize> {
+    for (at, (payload, affected)) in CHANGED.iter().enumerate() {
+        if !has_changed(payload, *affected) {
+            return Some(at);
+        }
+    }
+    None
+}
+
 #[test]
 fn ok_and_eof_packets_are_read(rt: HostRuntime) {
-    for (payload, affected) in CHANGED {
-        assert!(rt; has_changed(payload, affected));
-    }
+    assert_eq!(rt; first_other_ok(), None);
     assert!(rt; read_eof(&[0xfe, 0, 0, 2, 0]) == Ok(WireEof { status: 2 }));
 }
 
