@@ -1,3 +1,4 @@
+pub mod OneReading
 pub mod Plans
 pub mod Replying
 pub mod Answering

@@ -4,6 +4,7 @@
 //! did, and the packets that say so. `ql_lex`, `ql_parse` and `ql_answers` know no store; here they meet the tables.
 #![tactic(auto)]
 
+mod laws;
 mod line;
 mod refusing;
 mod running;
@@ -11,6 +12,7 @@ mod session;
 mod tables;
 mod texts;
 
+pub use laws::a_text_is_read_in_one_way;
 pub use line::serve_link;
 pub use serve_line::LinkEnd;
 pub use session::{Session, StepEnd};
