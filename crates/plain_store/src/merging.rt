@@ -1,6 +1,6 @@
 //! How layers are added to a snapshot, and put together.
 ghost use Rattle.std.specs.Prelude.{◌≡◌, ◌+◌, ◌<◌, ◌^◌, [], ◌∷◌, ◌++◌, IfOk, IfSome, OnErr, OnOk, length};
-ghost use Rattle.doc_types.specs.Snapshots.{all_living};
+ghost use Rattle.doc_types.specs.Snapshots.{AreLayers, all_living};
 ghost use Rattle.plain_store.specs.steps.Layering.{AreApart, AreOfOne, AreWhole, IsLayerOf, MayMerge, Merges};
 
 use crate::layers::{layer_of, row_count, rows_in};
@@ -27,6 +27,7 @@ pub fn add_layer(
     requires number { snapshot.old.number + 1 < 2 ^ 64 }
     ensures ok { OnOk result (snapshot.new ≡ record snapshot.old { number = snapshot.old.number + 1; layers = snapshot.old.layers ++ layer ∷ [] }) }
     ensures err { OnErr result (snapshot.new ≡ snapshot.old) }
+    ensures sound { OnOk result (AreLayers snapshot.new.layers) }
 {
     let rows = row_count(snapshot.layers.as_slice()) + u64::from(rows_in(&layer));
     if snapshot.layers.len() >= MAX_LAYERS || rows > u64::from(u32::MAX) {
@@ -107,6 +108,7 @@ fn merge_from(
     requires of { AreOfOne (all_living snapshot.old.layers) }
     ensures ok { OnOk result (Merges snapshot.old snapshot.new) }
     ensures err { OnErr result (snapshot.new ≡ snapshot.old) }
+    ensures sound { OnOk result (AreLayers snapshot.new.layers) }
 {
     let shape = snapshot.shape.checked_add(1).ok_or(NoMemory)?;
     let layer = merged(alloc, &snapshot.layers.as_slice()[start..])?;
@@ -122,7 +124,9 @@ fn merge_from(
 pub fn merge_last(alloc: Global, snapshot: &mut Snapshot<PlainChunk>) -> Result<(), NoMemory>
     requires whole { AreWhole snapshot.old.layers }
     requires of { AreOfOne (all_living snapshot.old.layers) }
-    ensures { MayMerge snapshot.old snapshot.new }
+    requires sound { AreLayers snapshot.old.layers }
+    ensures merges { MayMerge snapshot.old snapshot.new }
+    ensures sound { AreLayers snapshot.new.layers }
 {
     match merge_start(snapshot.layers.as_slice()) {
         Some(start) => merge_from(alloc, snapshot, start),

@@ -1,7 +1,8 @@
 //! The store of one index.
-ghost use Rattle.std.specs.Prelude.{◌≡◌, All, IfOk, false};
+ghost use Rattle.std.specs.Prelude.{◌≡◌, All, IfOk, OnOk, false};
 ghost use Rattle.doc_types.specs.Documents.{AreRowsOf};
 ghost use Rattle.doc_types.specs.Schemas.{IsSchema};
+ghost use Rattle.doc_types.specs.Snapshots.{AreLayers};
 ghost use Rattle.doc_types.specs.Transactions.{IsTxnOf};
 ghost use Rattle.plain_store.specs.Commits.{AreInsertions, Commits, empty_snapshot};
 
@@ -68,6 +69,7 @@ impl PlainStore {
         requires insertions { AreInsertions txn.now.ops }
         ensures schema { self.new.schema ≡ self.old.schema }
         ensures cases { Commits txn.now.ops self.old.snapshot result self.new.snapshot }
+        ensures sound { OnOk result (AreLayers self.new.snapshot.layers) }
     {
         let rows = rows_added(alloc, &self.snapshot, txn)?;
         let layer = layer_of(alloc, rows)?;

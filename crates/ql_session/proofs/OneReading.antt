@@ -10,13 +10,12 @@ use Rattle.ql_answers.specs.Refusals.{Refused, bad_syntax, bad_token}
 use Rattle.ql_session.specs.Statements.{RefusesText, RefusesTokens, States}
 
 module _
-  (one_tokens : (text : List ℕ) (a b : List Lexeme) → AreTokens text a → AreTokens text b → a ≡ b)
-  (no_place : (text : List ℕ) (tokens : List Lexeme) (place : ℕ) (kind : LexKind) → AreTokens text tokens → FaultAt text place kind → ⊥)
-  (one_place : (text : List ℕ) (p q : ℕ) (j k : LexKind) → FaultAt text p j → FaultAt text q k → (p ≡ q) × (j ≡ k))
-  (one_value : (tokens : List Lexeme) (a b : List Statement) → IsPacket a tokens → IsPacket b tokens → a ≡ b)
-  (no_fault : (tokens : List Lexeme) (list : List Statement) (fault : ParseFault) → IsPacket list tokens → length list ≤ MAX_STATEMENTS → IsFault tokens fault → ⊥)
-  (one_fault : (tokens : List Lexeme) (a b : ParseFault) → IsFault tokens a → IsFault tokens b → a ≡ b) where
-
+    (one_tokens : (text : List ℕ) (a b : List Lexeme) → AreTokens text a → AreTokens text b → a ≡ b)
+    (no_place : (text : List ℕ) (tokens : List Lexeme) (place : ℕ) (kind : LexKind) → AreTokens text tokens → FaultAt text place kind → ⊥)
+    (one_place : (text : List ℕ) (p q : ℕ) (j k : LexKind) → FaultAt text p j → FaultAt text q k → (p ≡ q) × (j ≡ k))
+    (one_value : (tokens : List Lexeme) (a b : List Statement) → IsPacket a tokens → IsPacket b tokens → a ≡ b)
+    (no_fault : (tokens : List Lexeme) (list : List Statement) (fault : ParseFault) → IsPacket list tokens → length list ≤ MAX_STATEMENTS → IsFault tokens fault → ⊥)
+    (one_fault : (tokens : List Lexeme) (a b : ParseFault) → IsFault tokens a → IsFault tokens b → a ≡ b) where
   pub one_list : (text : List ℕ) (a b : List Statement) → States text a → States text b → a ≡ b
   one_list text a b (tokens, are, packet, few) (others, are', packet', few') =
       one_value tokens a b packet (subst (λ (ts : List Lexeme). IsPacket b ts) (one_tokens text others tokens are' are) packet')

@@ -18,7 +18,7 @@ same_confs old (Configured confs) new follows = ap (λ (t : Tables). t.confs) fo
 same_confs old Nothing new follows = ap (λ (t : Tables). t.confs) follows
 same_confs old NoMemory new follows = ap (λ (t : Tables). t.confs) follows
 same_confs old (Read place front) new follows = ap (λ (t : Tables). t.confs) follows.1
-same_confs old (Committed place ops removed) new follows = ap (λ (t : Tables). t.confs) follows.4
+same_confs old (Committed place ops removed) new follows = ap (λ (t : Tables). t.confs) follows.5
 same_confs old (Duplicate place ops id) new follows = ap (λ (t : Tables). t.confs) follows.3
 
 -- what is appended for statements, and what becomes of the tables

@@ -2,7 +2,7 @@
 use Rattle.std.specs.Prelude.{◌≡◌, ℕ, List, map, Some, slice_get, slice_set}
 use Rattle.doc_types.specs.Commits.{verdict}
 use Rattle.doc_types.specs.Commits as verdicts
-use Rattle.doc_types.specs.Snapshots.{SnapshotValue, live}
+use Rattle.doc_types.specs.Snapshots.{AreLayers, SnapshotValue, live}
 use Rattle.doc_types.specs.declared.transactions.TxnOp.{TxnOp}
 use Rattle.conf_text.specs.declared.conf.IndexConf.{IndexConf}
 use Rattle.plain_store.specs.Commits.{Accepts, empty_snapshot}
@@ -31,7 +31,7 @@ pub data Event : Type 0 where
   -- the operations were refused: the first insertion of an id that is there is that of this one
   Duplicate : (place : ℕ) (ops : List TxnOp) (id : ℕ) → Event
 
--- The tables before and after an event.
+-- The tables before and after an event. After a commit the layers are such as a snapshot has: no id lives twice in them.
 abbrev pub Follows : Tables → Event → Tables → Type 0
 Follows old (Configured confs) new = (confs ≡ old.confs) × (new ≡ old)
 Follows old Nothing new = new ≡ old
@@ -39,6 +39,6 @@ Follows old NoMemory new = new ≡ old
 Follows old (Read place front) new = (slice_get old.fronts place ≡ Some front) × (new ≡ old)
 Follows old (Committed place ops removed) new =
     (before : SnapshotValue) × (after : SnapshotValue) × (slice_get old.fronts place ≡ Some before) × Accepts ops before removed after
-    × (new ≡ record old { fronts = slice_set old.fronts place after })
+    × AreLayers after.layers × (new ≡ record old { fronts = slice_set old.fronts place after })
 Follows old (Duplicate place ops id) new =
     (front : SnapshotValue) × (slice_get old.fronts place ≡ Some front) × (verdict ops (live front) ≡ verdicts.Duplicate id) × (new ≡ old)

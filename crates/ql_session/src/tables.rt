@@ -1,8 +1,9 @@
 //! The indexes of a configuration with their documents, which are held in memory from the start of a run to its end.
 //!
 //! A statement finds an index by its place among the others, by `Catalog`; what it wants of the documents is asked here.
-ghost use Rattle.std.specs.Prelude.{◌≡◌, ◌<◌, ◌^◌, ◌≤◌, All, IfOk, Some, length, map, slice_get};
+ghost use Rattle.std.specs.Prelude.{◌≡◌, ◌<◌, ◌^◌, ◌≤◌, All, IfOk, OnOk, Some, length, map, slice_get};
 ghost use Rattle.doc_types.specs.Schemas.{AreZones, IsSchema};
+ghost use Rattle.doc_types.specs.Snapshots.{AreLayers};
 ghost use Rattle.doc_types.specs.Transactions.{IsTxnOf};
 ghost use Rattle.plain_store.specs.Commits.{AreInsertions, Commits as CommitsTo, empty_snapshot};
 ghost use Rattle.ql_session.specs.Tables.{empty_tables};
@@ -43,6 +44,7 @@ impl Table {
         requires insertions { AreInsertions txn.now.ops }
         ensures conf { self.new.conf ≡ self.old.conf }
         ensures commits { CommitsTo txn.now.ops self.old.store.snapshot result self.new.store.snapshot }
+        ensures sound { OnOk result (AreLayers self.new.store.snapshot.layers) }
     {
         self.store.commit(alloc, txn)
     }

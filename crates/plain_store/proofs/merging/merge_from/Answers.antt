@@ -25,3 +25,12 @@ invariant_of-snapshot c =
     let last : c.as_slice.result.now ≡ c.snapshot.inside.layers = c.as_slice.ensures in
     let merged : IsLayerOf (all_living (drop c.args.start c.snapshot.inside.layers)) c.in_ok-layer.layer = rw (last, take_rest) at c.in_ok-layer.ensures in
     subst AreLayers (sym layers) (layers_merged c.snapshot.inside.layers c.args.start c.in_ok-layer.layer c.snapshot.invariant merged.is merged within)
+
+pub returns-clause-sound : goal.returns-clause-sound
+returns-clause-sound c =
+    let within : c.args.start < length c.snapshot.inside.layers = subst (λ (snapshot : SnapshotValue). c.args.start < length snapshot.layers) (sym c.snapshot.view_is) c.requires.start in
+    let are : c.new-3.result ≡ take (c.args.start + 1) (slice_set c.snapshot.inside.layers c.args.start c.in_ok-layer.layer) = search rules in
+    let layers : c.new-3.result ≡ take c.args.start c.snapshot.inside.layers ++ c.in_ok-layer.layer ∷ [] = are ∙ take_more_set c.snapshot.inside.layers c.args.start c.in_ok-layer.layer within in
+    let last : c.as_slice.result.now ≡ c.snapshot.inside.layers = c.as_slice.ensures in
+    let merged : IsLayerOf (all_living (drop c.args.start c.snapshot.inside.layers)) c.in_ok-layer.layer = rw (last, take_rest) at c.in_ok-layer.ensures in
+    subst AreLayers (sym layers) (layers_merged c.snapshot.inside.layers c.args.start c.in_ok-layer.layer c.snapshot.invariant merged.is merged within)

@@ -30,11 +30,11 @@ merge_last-requires-clause-of c =
 pub invariant_of-self-2 : goal.invariant_of-self-2
 invariant_of-self-2 c =
     let store = store_next _ _ _ _ _ c.self.invariant (ops_of _ _ _ c.self.view_is c.requires.of) c.in_ok-rows.ensures c.in_ok-layer.ensures in
-    store_merged c.self.inside.schema c.add_layer.new.snapshot c.merge_last.new.snapshot c.merge_last.ensures
+    store_merged c.self.inside.schema c.add_layer.new.snapshot c.merge_last.new.snapshot c.merge_last.ensures.merges
     (subst (λ (snapshot : SnapshotValue). IsStore c.self.inside.schema snapshot.layers) (sym c.in_ok-add_layer.ensures.ok) store)
 
 pub returns-clause-cases : goal.returns-clause-cases
 returns-clause-cases c =
     subst (λ (store : StoreValue). Accepts c.args.txn.now.ops store.snapshot 0 c.merge_last.new.snapshot) c.self.view_is
     (accepts c.args.txn.now.ops c.self.inside.snapshot c.in_ok-rows.rows.items c.in_ok-layer.layer c.merge_last.new.snapshot c.in_ok-rows.ensures c.in_ok-layer.ensures
-    (subst (λ (snapshot : SnapshotValue). MayMerge snapshot c.merge_last.new.snapshot) c.in_ok-add_layer.ensures.ok c.merge_last.ensures))
+    (subst (λ (snapshot : SnapshotValue). MayMerge snapshot c.merge_last.new.snapshot) c.in_ok-add_layer.ensures.ok c.merge_last.ensures.merges))

@@ -13,4 +13,4 @@ returns c =
     let count : length (tables_of c.self.inside.tables.items).confs ≡ length c.args.self.now.confs = ap (λ (tables : Tables). length tables.confs) seen in
     let same = length-map c.self.inside.tables.items (λ (table : Table). table.conf) in
     let below : c.args.place < length c.self.inside.tables.items = omega (arith, within, count, same) in
-    commits_by c.self.inside.tables.items c.args.place c.index_mut.result.now c.commit.new.self c.args.txn.now.ops c.commit.result c.args.self.now seen below c.index_mut.ensures.value c.commit.ensures.conf c.commit.ensures.commits
+    commits_by c.self.inside.tables.items c.args.place c.index_mut.result.now c.commit.new.self c.args.txn.now.ops c.commit.result c.args.self.now seen below c.index_mut.ensures.value c.commit.ensures.conf c.commit.ensures.commits c.commit.ensures.sound
