@@ -12,6 +12,7 @@ use Rattle.doc_types.specs.declared.tokens.FieldTokens.{FieldTokens}
 use Rattle.doc_types.specs.declared.transactions.Txn.{Txn}
 use Rattle.doc_types.specs.declared.transactions.TxnOp.{TxnOp}
 use Rattle.doc_types.specs.declared.transactions.TxnOp.TheVariants as operations
+use Rattle.doc_types.specs.Documents.{IsField}
 use Rattle.doc_types.specs.Transactions.{IsTxnOf}
 use Rattle.doc_tokens.specs.Tokens.{TokensOf, IsTooLong}
 use Rattle.conf_text.specs.declared.conf.IndexConf.{IndexConf}
@@ -91,11 +92,11 @@ rows_fault schema targets (row ∷ rows) = first (row_fault schema targets row) 
 abbrev pub fold_of : IndexConf → ℕ → Option ℕ
 fold_of conf = folded conf.charset
 
--- The value is put into its column of a document: a field gets the tokens of the text.
+-- The value is put into its column of a document: a field gets the tokens of the text, which isn't too long.
 abbrev pub Puts : IndexConf → Target → Val → Doc → Doc → Type 0
 Puts conf Id (Number number) old new = (id : ℕ) × (number ≡ pos id) × (new ≡ record old { id = id })
 Puts conf (Field field) (Text text) old new =
-    (tokens : FieldTokens) × TokensOf (fold_of conf) conf.rules text tokens × (new ≡ record old { fields = slice_set old.fields field tokens })
+    (tokens : FieldTokens) × TokensOf (fold_of conf) conf.rules text tokens × IsField tokens × (new ≡ record old { fields = slice_set old.fields field tokens })
 Puts conf (Attr attr) (Number number) old new = new ≡ record old { values = slice_set old.values attr (Whole number) }
 Puts conf target value old new = ⊥
 
