@@ -54,7 +54,7 @@ pub(crate) fn may_open_not(b: u8) -> bool
 }
 
 /// A kind of names.
-#[derive(Clone, Copy, Debug, PartialEq, Eq)]
+#[derive(Clone, Copy, PartialEq, Eq)]
 pub(crate) enum NameKind {
     /// The names of fields.
     Field,

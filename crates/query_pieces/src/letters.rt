@@ -19,7 +19,7 @@ use crate::piece::Piece;
 use charset_map::Charset;
 
 /// A letter as it is folded, and the place after it.
-#[derive(Clone, Copy, Debug)]
+#[derive(Clone, Copy)]
 pub(crate) struct Folded {
     pub letter: char,
     pub to: usize,

@@ -8,6 +8,6 @@ mod operators;
 mod piece;
 mod reading;
 
-pub use laws::one_list_of_pieces;
+pub use laws::{each_text_has_pieces, one_list_of_pieces};
 pub use piece::{FieldLimit, Form, Names, Number, Piece, Quotation, Slice, Spelling, ZoneLimit};
 pub use reading::{piece_at, pieces};

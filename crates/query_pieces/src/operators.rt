@@ -17,14 +17,14 @@ use crate::bytes::{
 use crate::piece::{FieldLimit, Form, Names, Number, Piece, Quotation, Slice, ZoneLimit};
 
 /// Names, with the place after them.
-#[derive(Clone, Copy, Debug)]
+#[derive(Clone, Copy)]
 pub(crate) struct Named {
     pub names: Slice,
     pub to: usize,
 }
 
 /// The number of a quoted piece, with the place after it.
-#[derive(Clone, Copy, Debug)]
+#[derive(Clone, Copy)]
 pub(crate) struct Numbered {
     pub number: Number,
     pub to: usize,

@@ -3,7 +3,7 @@
 //! syntax" and "Field-start and field-end modifiers" in the Sphinx manual.
 
 /// A part of a text, from one place up to another.
-#[derive(Clone, Copy, Debug, PartialEq, Eq)]
+#[derive(Clone, Copy, PartialEq, Eq)]
 pub struct Slice {
     /// The place of its first byte.
     pub from: usize,
@@ -12,7 +12,7 @@ pub struct Slice {
 }
 
 /// A word of a text.
-#[derive(Clone, Copy, Debug, PartialEq, Eq)]
+#[derive(Clone, Copy, PartialEq, Eq)]
 pub struct Spelling {
     /// Where it is spelled, with the `\` in it and without its marks.
     pub letters: Slice,
@@ -23,7 +23,7 @@ pub struct Spelling {
 }
 
 /// The number after a quoted piece, as its digits stand in the text.
-#[derive(Clone, Copy, Debug, PartialEq, Eq)]
+#[derive(Clone, Copy, PartialEq, Eq)]
 pub enum Number {
     /// There is none: a phrase.
     Phrase,
@@ -36,7 +36,7 @@ pub enum Number {
 }
 
 /// A quoted piece: `"`, up to the next `"`.
-#[derive(Clone, Copy, Debug, PartialEq, Eq)]
+#[derive(Clone, Copy, PartialEq, Eq)]
 pub struct Quotation {
     /// What stands between the quotes.
     pub inside: Slice,
@@ -44,7 +44,7 @@ pub struct Quotation {
 }
 
 /// The fields that a limit names.
-#[derive(Clone, Copy, Debug, PartialEq, Eq)]
+#[derive(Clone, Copy, PartialEq, Eq)]
 pub enum Names {
     /// `*`.
     All,
@@ -53,7 +53,7 @@ pub enum Names {
 }
 
 /// A field limit.
-#[derive(Clone, Copy, Debug, PartialEq, Eq)]
+#[derive(Clone, Copy, PartialEq, Eq)]
 pub struct FieldLimit {
     /// `!` stands before the names: all other fields are meant.
     pub negated: bool,
@@ -63,7 +63,7 @@ pub struct FieldLimit {
 }
 
 /// A zone limit.
-#[derive(Clone, Copy, Debug, PartialEq, Eq)]
+#[derive(Clone, Copy, PartialEq, Eq)]
 pub struct ZoneLimit {
     /// It is ZONESPAN.
     pub span: bool,
@@ -72,7 +72,7 @@ pub struct ZoneLimit {
 }
 
 /// What a piece of a text is.
-#[derive(Clone, Copy, Debug, PartialEq, Eq)]
+#[derive(Clone, Copy, PartialEq, Eq)]
 pub enum Form {
     Word(Spelling),
     Quoted(Quotation),
@@ -102,7 +102,7 @@ pub enum Form {
 }
 
 /// A piece of a text.
-#[derive(Clone, Copy, Debug, PartialEq, Eq)]
+#[derive(Clone, Copy, PartialEq, Eq)]
 pub struct Piece {
     pub form: Form,
     /// The place after it.
