@@ -1,5 +1,5 @@
 -- The marks of a text, one piece after the other.
-use Rattle.std.proofs.Common.{◌≡◌, ◌⊎◌, inl, inr, ℕ, ◌-◌, ◌<◌, ◌≤◌, Bool, true, false, List, [], ◌∷◌, ◌++◌, length, length-append, append_assoc, refl, sym, ap, ◌∙◌, subst, arith, Vec, Global}
+use Rattle.std.proofs.Common.{◌≡◌, ◌≢◌, ◌⊎◌, inl, inr, ℕ, ◌-◌, ◌<◌, ◌≤◌, Bool, true, false, List, [], ◌∷◌, ◌++◌, length, length-append, append_assoc, refl, sym, ap, ◌∙◌, subst, arith, Vec, Global}
 use Rattle.std.specs.Prelude.{Option, Some, None, ◌&&◌, ◌||◌, not, nat_lt, if◌then◌else◌, option_to_list, Result, Ok, Err, IfOk}
 use Rattle.std.specs.Option.{option_map}
 use Rattle.std.specs.Str.{IsCharBoundary}
@@ -81,6 +81,15 @@ before_is : (o : Option Mark) (marks : List Mark) → before_marks o marks ≡ o
 before_is None marks = refl
 before_is (Some mark) marks = refl
 
+-- there is the end at least
+some_marks : (setting : Setting) (text : List ℕ) (state : State) (at : ℕ) (pieces : List Piece) → marks_from setting text state at pieces ≢ []
+some_marks setting text state at [] = λ e. cc
+some_marks setting text state at (p ∷ pieces) = before (mark_of setting state text at p.form) _ (some_marks setting text (after setting state text p.form) p.to pieces)
+  where
+    before : (o : Option Mark) (marks : List Mark) → marks ≢ [] → before_marks o marks ≢ []
+    before None marks some = some
+    before (Some mark) marks some = λ e. cc
+
 -- The pieces that are left, with the marks that they give, after those that were read.
 pub record Left (fold : ℕ → Option ℕ) (setting : Setting) (text : List ℕ) (marks : List Mark) (state : State) (inside : Bool) (at : ℕ) (pieces : List Piece) : Type 0 where
   pub rest : List Piece
@@ -156,6 +165,7 @@ enough_cut fold setting text marks before given state inside at negated wrong fo
       read = marks;
       rest = marks_from setting text state at left.rest;
       is = left.is;
+      left = some_marks setting text state at left.rest;
       given_is = given_is;
       decided = decided (nat_lt 32 (length state.around)) refl ends;
     })

@@ -1,5 +1,5 @@
 -- How far the marks of a text are given: to its end, or as far as the first fault needs them.
-use Rattle.std.specs.Prelude.{◌≡◌, ◌<◌, ◌⊎◌, ℕ, ◌+◌, ◌-◌, List, [], ◌∷◌, ◌++◌, Bool, true, false, None}
+use Rattle.std.specs.Prelude.{◌≡◌, ◌≢◌, ◌<◌, ◌⊎◌, ℕ, ◌+◌, ◌-◌, List, [], ◌∷◌, ◌++◌, Bool, true, false, None}
 use Rattle.std.specs.List.{list_any}
 use Rattle.std.specs.Option.{is_some}
 use Rattle.query_marks.specs.declared.mark.Mark.{Mark}
@@ -30,12 +30,14 @@ abbrev pub depth_after : ℕ → List Mark → ℕ
 depth_after n [] = n
 depth_after n (m ∷ marks) = depth_after (depth_by n m.sign) marks
 
--- The first marks are given, and the end after them. Those that are left out change no first fault: more than 32 groups are
--- open, or something is wrong with a mark and no list before it can have negated items alone, since there is no NOT.
+-- The first marks are given, and the end after them. Those that are left out, at least the end itself, change no first fault:
+-- more than 32 groups are open, or something is wrong with a mark and no AND before it can have negated items alone, since
+-- there is no NOT.
 pub record IsCutShort (size : ℕ) (all given : List Mark) : Type 0 where
   pub read : List Mark
   pub rest : List Mark
   pub is : all ≡ read ++ rest
+  pub left : rest ≢ []
   pub given_is : given ≡ read ++ mark_at size None signs.End ∷ []
   pub decided : (32 < depth_after 0 read) ⊎ ((has_wrong read ≡ true) × (has_not read ≡ false))
 

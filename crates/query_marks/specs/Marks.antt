@@ -60,7 +60,7 @@ keys_after n limit start end [] = []
 keys_after n limit start end (word ∷ words) =
     record { query = n + 1; word = word; limit = limit; start = start; end = end } ∷ keys_after (n + 1) limit start end words
 
--- what stands for a keyword above the 255th
+-- what stands for each keyword of a piece with which the 256th is reached
 abbrev pub nobody : Key
 nobody = record { query = 0; word = []; limit = record { fields = 0; positions = 0; zones = [] }; start = false; end = false }
 
@@ -105,7 +105,7 @@ quoted_sign keys (hows.Within n) = loose_sign keys (hows.Within n)
 quoted_sign keys (hows.AtLeast n) = loose_sign keys (hows.AtLeast n)
 quoted_sign keys (hows.Share digits places) = loose_sign keys (hows.Share digits places)
 
--- A zone limit makes a node where it is ZONESPAN and the index has zones.
+-- A zone limit may make a node where it is ZONESPAN and the index has zones.
 abbrev pub zone_sign : List (List ℕ) → List ℕ → ZoneLimit → Sign
 zone_sign [] text limit = signs.Limits
 zone_sign (zone ∷ zones) text limit = if limit.span then signs.Spans (numbers_of (zone ∷ zones) (bytes_of text limit.names)) else signs.Limits
@@ -156,7 +156,7 @@ wrong_zones [] names = None
 wrong_zones (zone ∷ zones) names =
     unknown_or kinds.UnknownZone (first_unknown (zone ∷ zones) names) (if has_long names then nameless kinds.NameTooLong else None)
 
--- the 256th keyword is among so many after so many
+-- what is wrong with so many keywords after so many
 abbrev pub wrong_count : ℕ → ℕ → Option Wrong
 wrong_count n more = if passes_limit n more then nameless kinds.TooManyKeywords else None
 

@@ -30,7 +30,7 @@ pub enum QueryKind {
 }
 
 /// What is wrong with a piece by itself.
-#[derive(Debug, Drop)]
+#[derive(Drop)]
 pub struct Wrong {
     pub kind: QueryKind,
     /// The name that isn't known, in small letters, and empty for the other kinds.

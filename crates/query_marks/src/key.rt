@@ -4,7 +4,7 @@ use sqlite_items::Items;
 use srch_base::Word;
 
 /// Where a keyword may stand.
-#[derive(Debug, Drop)]
+#[derive(Drop)]
 pub struct Limit {
     /// The fields, the first of the schema by the lowest bit.
     pub fields: u32,
@@ -15,7 +15,7 @@ pub struct Limit {
 }
 
 /// A keyword.
-#[derive(Debug, Drop)]
+#[derive(Drop)]
 pub struct Key {
     /// Its query position.
     pub query: u16,
@@ -28,7 +28,7 @@ pub struct Key {
 }
 
 /// How the keywords of a quoted piece are asked for.
-#[derive(Clone, Copy, Debug, PartialEq, Eq)]
+#[derive(Clone, Copy, PartialEq, Eq)]
 pub enum How {
     /// One after the other.
     Phrase,

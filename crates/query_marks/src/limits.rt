@@ -9,7 +9,7 @@ use query_pieces::{FieldLimit, Names, Slice, ZoneLimit};
 use srch_base::Name;
 
 /// The limits in force before a piece.
-#[derive(Clone, Copy, Debug, PartialEq, Eq)]
+#[derive(Clone, Copy, PartialEq, Eq)]
 pub struct Limits {
     /// The fields, the first of the schema by the lowest bit.
     pub fields: u32,

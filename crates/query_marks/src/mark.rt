@@ -4,7 +4,7 @@ use crate::key::{How, Key};
 use sqlite_items::{Boxed, Items};
 
 /// What a piece is to the grammar.
-#[derive(Debug, Drop)]
+#[derive(Drop)]
 pub enum Sign {
     /// A word, or a quoted piece of one word without a number.
     Bare(Boxed<Key>),
@@ -35,7 +35,7 @@ pub enum Sign {
 }
 
 /// A piece as the grammar sees it.
-#[derive(Debug, Drop)]
+#[derive(Drop)]
 pub struct Mark {
     /// The place of its first byte.
     pub at: u32,
