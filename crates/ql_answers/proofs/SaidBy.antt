@@ -1,7 +1,9 @@
-use Rattle.std.proofs.Common.{◌≡◌, ℕ, List, Bool, Result, Ok, Err, sym, subst, refl}
+use Rattle.std.proofs.Common.{◌≡◌, ℕ, List, Bool, length, Result, Ok, Err, sym, subst, refl, ap, ◌∙◌}
+use Rattle.mysql_wire.specs.Packets.{packet}
+use Rattle.mysql_wire.specs.Replies.{err_packet, err_payload}
 use Rattle.ql_answers.specs.declared.plan.Plan.{Plan}
 use Rattle.ql_answers.specs.declared.plan.Plan.TheVariants.{Agree, Show, Search, Insert}
-use Rattle.ql_answers.specs.Refusals.{Refused, no_memory}
+use Rattle.ql_answers.specs.Refusals.{Refused, no_memory, state_of}
 use Rattle.ql_answers.specs.Replies.{Reply, Fails}
 use Rattle.ql_answers.specs.Sessions.{Decides, Happened, NoMemory}
 use Rattle.ql_answers.specs.steps.Answering.{Says, SaysReply}
@@ -31,3 +33,8 @@ says_no_memory plan happened refusal status seq result before after is same said
     let H : Happened → Type 0 = λ h. Says plan h status seq result before after in
     let R : Refused → Type 0 = λ r. SaysReply (Fails r) status seq result before after in
     subst H (sym is) (says plan NoMemory (Fails no_memory) status seq result before after (no_memory_decides plan) (subst R same said))
+
+-- what says that memory was refused has 26 bytes
+pub says_in_26 : (seq : ℕ) (refusal : Refused) → refusal ≡ no_memory → length (err_packet seq refusal.code (state_of refusal.code) refusal.text) ≡ 26
+unfolding packet err_payload
+says_in_26 seq refusal is = ap (λ (r : Refused). length (err_packet seq r.code (state_of r.code) r.text)) is ∙ refl

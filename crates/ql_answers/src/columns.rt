@@ -12,7 +12,7 @@ use std::alloc::Global;
 pub(crate) const ID: &[u8] = b"id";
 
 /// The column that a value is for: the id, or a field or an attribute by its place in the schema.
-#[derive(Clone, Copy, Debug, PartialEq, Eq)]
+#[derive(Clone, Copy, PartialEq, Eq)]
 pub(crate) enum Target {
     Id,
     Field(usize),

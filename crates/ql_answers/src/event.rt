@@ -17,7 +17,7 @@ pub enum Event<'a, C: Chunk> {
 }
 
 /// What a statement wants of the outside.
-#[derive(Clone, Copy, Debug, PartialEq, Eq)]
+#[derive(Clone, Copy, PartialEq, Eq)]
 pub enum Need {
     Nothing,
     /// The index at this place.

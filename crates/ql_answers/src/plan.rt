@@ -8,7 +8,7 @@ use doc_types::Txn;
 use srch_base::Word;
 
 /// What a statement wants of the outside, with what its reply needs beside that.
-#[derive(Debug, Drop)]
+#[derive(Drop)]
 pub enum Plan {
     /// Nothing: it is answered OK.
     Agree,

@@ -22,7 +22,7 @@ const WRONG: u16 = 1064;
 const MEMORY: u16 = 1037;
 
 /// Why a statement is refused. It lies in place: making one takes no memory.
-#[derive(Debug, Drop)]
+#[derive(Drop)]
 pub struct Refusal {
     code: u16,
     text: ArrayVec<u8, MAX_REFUSAL_BYTES>,

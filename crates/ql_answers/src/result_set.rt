@@ -8,7 +8,7 @@ use srch_base::{Items, Name, NoMemory, Text};
 use std::alloc::Global;
 
 /// The rows of a reply, each with a value for each column.
-#[derive(Debug, Drop)]
+#[derive(Drop)]
 pub struct ResultSet {
     pub columns: Items<Column>,
     pub rows: Items<Items<Cell>>,

@@ -1,10 +1,12 @@
 //! What is replied to a plan by what happened, a function for each kind of event: OK with the number of rows, a refusal,
 //! or a result set. Only events that the plan can have come here, so that no reply is made up for others. OK and ERR take
-//! no memory where 256 bytes are spare.
-ghost use Rattle.std.specs.Prelude.{◌≡◌, ◌+◌, ◌≤◌, ◌++◌, [], ◌∷◌, map, pos, IfOk, IsOk, OnOk, OnErr, true, false, vec_len, vec_capacity};
+//! no memory where 256 bytes are spare, and what says that memory was refused takes none where 26 are.
+ghost use Rattle.std.specs.Prelude.{◌≡◌, ◌+◌, ◌≤◌, ◌++◌, [], ◌∷◌, length, map, pos, IfOk, IsOk, OnOk, OnErr, true, false, vec_len, vec_capacity};
+ghost use Rattle.mysql_wire.specs.Replies.{err_packet as err_bytes};
 ghost use Rattle.mysql_wire.specs.declared.rows.Cell.TheVariants as cells;
 ghost use Rattle.ql_answers.specs.Replies.{Done, Fails, Shows};
-ghost use Rattle.ql_answers.specs.Sessions.{CanHave, Committed, Duplicate, Nothing, Read, happened_by, id_columns, id_set, is_small};
+ghost use Rattle.ql_answers.specs.Refusals.{state_of};
+ghost use Rattle.ql_answers.specs.Sessions.{CanHave, Committed, Duplicate, NoMemory as OutOfMemory, Nothing, Read, happened_by, id_columns, id_set, is_small};
 ghost use Rattle.ql_answers.specs.steps.Answering.{Says, SaysReply};
 
 use crate::event::Event;
@@ -30,6 +32,7 @@ pub(crate) fn say<C: Chunk>(
     requires { CanHave plan.now (happened_by event.now) }
     ensures says { Says plan.now (happened_by event.now) status seq result out.old.items out.new.items }
     ensures small { is_small (happened_by event.now) plan.now ≡ true → vec_len out.old + 256 ≤ vec_capacity out.old → IsOk result }
+    ensures memory { happened_by event.now ≡ OutOfMemory → vec_len out.old + 26 ≤ vec_capacity out.old → IsOk result }
     ensures room { is_small (happened_by event.now) plan.now ≡ false → vec_capacity out.old + vec_len out.new ≤ vec_capacity out.new + vec_len out.old }
     ensures capacity { vec_capacity out.old ≤ vec_capacity out.new }
 {
@@ -140,6 +143,7 @@ fn refuse(
 ) -> Result<(u8, bool), NoMemory>
     ensures says { SaysReply (Fails refusal.now) status seq result out.old.items out.new.items }
     ensures small { vec_len out.old + 256 ≤ vec_capacity out.old → IsOk result }
+    ensures fits { vec_len out.old + length (err_bytes seq refusal.now.code (state_of refusal.now.code) refusal.now.text) ≤ vec_capacity out.old → IsOk result }
     ensures capacity { vec_capacity out.old ≤ vec_capacity out.new }
 {
     let packet = err_packet(seq, refusal.code(), refusal.state(), refusal.text());
@@ -167,7 +171,8 @@ fn show(
 fn put_small(packet: &Small, out: &mut Vec<u8>) -> Result<(), NoMemory>
     ensures ok { OnOk result (out.new.items ≡ out.old.items ++ packet.now) }
     ensures err { OnErr result (out.new.items ≡ out.old.items) }
-    ensures fits { vec_len out.old + 256 ≤ vec_capacity out.old → IsOk result }
+    ensures small { vec_len out.old + 256 ≤ vec_capacity out.old → IsOk result }
+    ensures fits { vec_len out.old + length packet.now ≤ vec_capacity out.old → IsOk result }
     ensures capacity { vec_capacity out.old ≤ vec_capacity out.new }
 {
     out.extend_from_slice(packet.bytes())?;

@@ -4,7 +4,7 @@
 //! session knows no store: what the reply uses of the configuration it keeps between the two calls.
 ghost use Rattle.std.specs.Prelude.{◌≡◌, ◌+◌, ◌≤◌, true, false, IsSome, IsOk, Some, vec_len, vec_capacity};
 ghost use Rattle.std.specs.Option.{IsSomeAnd};
-ghost use Rattle.ql_answers.specs.Sessions.{CanHave, at_rest, happened_by, is_small, new_state, pending_of, status_of};
+ghost use Rattle.ql_answers.specs.Sessions.{CanHave, NoMemory as OutOfMemory, at_rest, happened_by, is_small, new_state, pending_of, status_of};
 ghost use Rattle.ql_answers.specs.Sessions.{Needs, Replied};
 
 use crate::event::{Event, Need};
@@ -20,7 +20,7 @@ use std::alloc::Global;
 use std::marker::Model;
 
 /// One client's session. Contracts see it as a `Standing`.
-#[derive(Debug, Drop)]
+#[derive(Drop)]
 pub struct Session {
     autocommit: bool,
     plan: Option<Plan>,
@@ -90,8 +90,8 @@ impl Session {
     /// Appends the reply to the statement of the last `need`, and gives the sequence number of the packet after it and
     /// whether the statement was refused. Its packets begin at `seq`; `more` says that another statement of the packet follows.
     ///
-    /// OK and ERR take no memory where 256 bytes are spare; rows leave as much spare room as they found. After NoMemory the
-    /// session and `out` are as before.
+    /// OK and ERR take no memory where 256 bytes are spare, and what says that memory was refused takes none where 26 are;
+    /// rows leave as much spare room as they found. After NoMemory the session and `out` are as before.
     pub fn reply<C: Chunk>(
         &mut self,
         alloc: Global,
@@ -104,6 +104,7 @@ impl Session {
         requires { IsSomeAnd self.old.plan (λ plan. CanHave plan (happened_by event.now)) }
         ensures replied { Replied self.old (happened_by event.now) seq more result out.old.items out.new.items self.new }
         ensures small { IsSomeAnd self.old.plan (λ plan. is_small (happened_by event.now) plan ≡ true) → vec_len out.old + 256 ≤ vec_capacity out.old → IsOk result }
+        ensures memory { happened_by event.now ≡ OutOfMemory → vec_len out.old + 26 ≤ vec_capacity out.old → IsOk result }
         ensures room { IsSomeAnd self.old.plan (λ plan. is_small (happened_by event.now) plan ≡ false) → vec_capacity out.old + vec_len out.new ≤ vec_capacity out.new + vec_len out.old }
         ensures capacity { vec_capacity out.old ≤ vec_capacity out.new }
     {
