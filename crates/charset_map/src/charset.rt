@@ -21,7 +21,7 @@ const DEFAULT_TEXT: &str =
     "0..9, A..Z->a..z, _, a..z, U+410..U+42F->U+430..U+44F, U+430..U+44F, U+401->U+451, U+451";
 
 /// A character table. Contracts see it as the list of its spans, and `folded` says what each character's value is.
-#[derive(Debug, Drop)]
+#[derive(Drop)]
 pub struct Charset {
     /// The values of the ASCII characters.
     ascii: [Option<char>; 128],

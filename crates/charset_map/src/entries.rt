@@ -12,21 +12,21 @@ use crate::characters::character;
 use crate::trimming::place_of;
 
 /// The characters from one to another, both included.
-#[derive(Clone, Copy, Debug)]
+#[derive(Clone, Copy)]
 pub struct CharRange {
     pub first: char,
     pub last: char,
 }
 
 /// Characters and their values. Where no values are written, each character is its own.
-#[derive(Clone, Copy, Debug)]
+#[derive(Clone, Copy)]
 pub struct Entry {
     pub from: CharRange,
     pub to: CharRange,
 }
 
 /// One side of an entry as it is written: a character, or a range by its ends.
-#[derive(Clone, Copy, Debug)]
+#[derive(Clone, Copy)]
 pub enum Side {
     Single(CharRange),
     Range(CharRange),

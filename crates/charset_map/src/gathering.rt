@@ -18,7 +18,7 @@ use srch_base::{NoMemory, Or};
 use std::alloc::Global;
 
 /// An entry of a text.
-#[derive(Clone, Copy, Debug)]
+#[derive(Clone, Copy)]
 pub struct Written {
     span: Span,
     /// The offset of its first byte in the text.
@@ -26,7 +26,7 @@ pub struct Written {
 }
 
 /// The entries of a text, up to the first one that is faulty by itself.
-#[derive(Debug, Drop)]
+#[derive(Drop)]
 struct Gathered {
     list: Vec<Written>,
     fault: Option<CharsetFault>,

@@ -1,5 +1,5 @@
 /// Characters that follow each other, by their numbers, whose values follow each other too.
-#[derive(Clone, Copy, Debug)]
+#[derive(Clone, Copy)]
 pub struct Span {
     pub first: u32,
     pub last: u32,

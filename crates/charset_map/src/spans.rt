@@ -15,7 +15,7 @@ use std::alloc::Global;
 use std::marker::Model;
 
 /// Spans in order, of which no two share a number. Contracts see their list.
-#[derive(Debug, Drop)]
+#[derive(Drop)]
 pub struct Spans {
     list: Vec<Span>,
 }
@@ -66,7 +66,7 @@ impl Spans {
 }
 
 /// Where a span goes among others.
-#[derive(Clone, Copy, Debug)]
+#[derive(Clone, Copy)]
 struct Place {
     /// From here on the spans share a number with it,
     from: usize,

@@ -11,14 +11,14 @@ pub const MAX_INDEXES: usize = 8;
 pub const MAX_CONF_BYTES: usize = 1_048_576;
 
 /// What a configuration says.
-#[derive(Debug, Drop)]
+#[derive(Drop)]
 pub struct Conf {
     /// The indexes, in the order of the text.
     pub indexes: Items<IndexConf>,
 }
 
 /// One index of a configuration.
-#[derive(Debug, Drop)]
+#[derive(Drop)]
 pub struct IndexConf {
     /// Its name and its columns.
     pub schema: Schema,

@@ -25,7 +25,7 @@ use srch_base::{Items, Name, NoMemory, Or, Text};
 use std::alloc::Global;
 
 /// An index whose section is being read.
-#[derive(Debug, Drop)]
+#[derive(Drop)]
 pub struct Draft {
     name: Name,
     /// The keys of its entries.

@@ -12,7 +12,7 @@ use doc_types::AttrKind;
 use name_table::{NameTable, value_at, words_of};
 
 /// A key of an index.
-#[derive(Clone, Copy, Debug)]
+#[derive(Clone, Copy)]
 pub enum Key {
     CharsetTable,
     CharsetType,

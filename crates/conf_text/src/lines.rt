@@ -12,7 +12,7 @@ use crate::text::{place_of, trim};
 use srch_base::NoMemory;
 
 /// The lines of a text, read one by one.
-#[derive(Clone, Copy, Debug)]
+#[derive(Clone, Copy)]
 pub struct Lines<'a> {
     /// The text that isn't read yet.
     rest: &'a [u8],
@@ -21,7 +21,7 @@ pub struct Lines<'a> {
 }
 
 /// A line that was read. Its parts, joined, are in the buffer.
-#[derive(Clone, Copy, Debug)]
+#[derive(Clone, Copy)]
 pub struct LineHead {
     pub number: u32,
     /// Whether each of its parts is UTF-8.
@@ -29,7 +29,7 @@ pub struct LineHead {
 }
 
 /// A part that was read.
-#[derive(Clone, Copy, Debug)]
+#[derive(Clone, Copy)]
 struct PartHead {
     /// Whether the next part belongs to the same line.
     goes_on: bool,

@@ -35,14 +35,14 @@ use srch_base::{Items, NoMemory, Or};
 use std::alloc::Global;
 
 /// A section: an index with what it has so far, or another one.
-#[derive(Debug, Drop)]
+#[derive(Drop)]
 enum Section {
     Index(Draft),
     Other,
 }
 
 /// Where a line stands.
-#[derive(Debug, Drop)]
+#[derive(Drop)]
 enum Place {
     Outside,
     /// Behind the head of a section, before its `{`.

@@ -19,7 +19,7 @@ use srch_base::{Name, NoMemory, Or, Text};
 use std::alloc::Global;
 
 /// What an entry of an index sets.
-#[derive(Debug, Drop)]
+#[derive(Drop)]
 pub enum Setting {
     /// Nothing that is kept.
     Plain,

@@ -13,7 +13,7 @@ use crate::keys::Key;
 use crate::text::{after_blanks, before_blanks, blank, name_like, place_of, trim};
 
 /// What a line is, by itself.
-#[derive(Clone, Copy, Debug)]
+#[derive(Clone, Copy)]
 pub enum Shape<'a> {
     /// Nothing, or a comment.
     Blank,

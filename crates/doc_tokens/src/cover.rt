@@ -13,7 +13,7 @@ use charset_map::Charset;
 use mark_scan::{Mark, MarkKind};
 
 /// How far the marks that were passed reach: for each kind the greatest place after one.
-#[derive(Clone, Copy, Debug)]
+#[derive(Clone, Copy)]
 pub(crate) struct Cover {
     pub text: u32,
     pub removed: u32,

@@ -16,7 +16,7 @@ use srch_base::{Items, Or};
 use std::alloc::Global;
 
 /// A text has a word whose position would be above the limit.
-#[derive(Clone, Copy, Debug, PartialEq, Eq)]
+#[derive(Clone, Copy, PartialEq, Eq)]
 pub struct TooLong {
     /// The position of the first such word.
     pub position: u32,

@@ -15,14 +15,14 @@ use srch_base::{NoMemory, Or, Word};
 use std::alloc::Global;
 
 /// What was found among the signs that were read.
-#[derive(Debug, Drop)]
+#[derive(Drop)]
 pub(crate) struct Found {
     pub words: Vec<TokenWord>,
     pub tags: Vec<ZoneTag>,
 }
 
 /// A reader of signs: what was found up to here, and the run of letters that may go on.
-#[derive(Debug, Drop)]
+#[derive(Drop)]
 pub(crate) struct Reader {
     found: Found,
     /// The letters of the run up to here, cut after the limit.

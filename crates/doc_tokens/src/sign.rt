@@ -1,6 +1,6 @@
 //! What a text is read as: signs of its characters and tags, and the tags of its zones among its words.
 /// What a character of a text, or a tag in it, is to the words of the text.
-#[derive(Clone, Copy, Debug, PartialEq, Eq)]
+#[derive(Clone, Copy, PartialEq, Eq)]
 pub enum TextSign {
     /// A character of the table in a text run, folded.
     Letter(char),
@@ -17,7 +17,7 @@ pub enum TextSign {
 }
 
 /// A tag of a zone among the words of a text.
-#[derive(Clone, Copy, Debug, PartialEq, Eq)]
+#[derive(Clone, Copy, PartialEq, Eq)]
 pub struct ZoneTag {
     pub zone: u16,
     /// Whether it opens the zone; else it closes it.

@@ -19,7 +19,7 @@ use srch_base::Or;
 use std::alloc::Global;
 
 /// Which marks of a text were passed.
-#[derive(Clone, Copy, Debug)]
+#[derive(Clone, Copy)]
 struct Passed {
     /// How many were.
     next: usize,

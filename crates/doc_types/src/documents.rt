@@ -7,7 +7,7 @@ use srch_base::Items;
 use std::alloc::AllocError;
 
 /// A document: its tokens by field, and its values by attribute, both in the order of the schema.
-#[derive(Debug, Drop, PartialEq, Eq)]
+#[derive(Drop, PartialEq, Eq)]
 pub struct Doc {
     pub id: u64,
     pub fields: Items<FieldTokens>,
@@ -15,7 +15,7 @@ pub struct Doc {
 }
 
 /// A document as an index holds it.
-#[derive(Debug, Drop, PartialEq, Eq)]
+#[derive(Drop, PartialEq, Eq)]
 pub struct DocRow {
     pub doc: Doc,
     /// The number of the commit that put it.

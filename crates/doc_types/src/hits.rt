@@ -1,7 +1,7 @@
 use srch_base::Items;
 
 /// A place of a document at which a keyword of a query matches.
-#[derive(Clone, Copy, Debug, PartialEq, Eq)]
+#[derive(Clone, Copy, PartialEq, Eq)]
 pub struct Hit {
     /// The keyword's position in the query, from 1.
     pub query: u16,
@@ -14,7 +14,7 @@ pub struct Hit {
 }
 
 /// The hits of a document.
-#[derive(Clone, Debug, Drop, PartialEq, Eq)]
+#[derive(Clone, Drop, PartialEq, Eq)]
 pub struct Hits {
     /// How many keywords the query has.
     pub keywords: u16,

@@ -21,7 +21,7 @@ use std::sync::ledger::Ledger;
 /// A chunk over a plain list: its rows, and its words with the rows of each.
 ///
 /// `start` and `find` bisect; what a row has is looked up in its document.
-#[derive(Debug, Drop)]
+#[derive(Drop)]
 pub struct PlainChunk {
     rows: Items<DocRow>,
     index: Items<WordRows>,

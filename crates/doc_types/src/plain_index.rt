@@ -16,7 +16,7 @@ use srch_base::{Items, NoMemory, Word};
 use std::alloc::Global;
 
 /// A word with the numbers of the rows that have it, ascending.
-#[derive(Debug, Drop)]
+#[derive(Drop)]
 pub(crate) struct WordRows {
     pub(crate) word: Word,
     pub(crate) rows: Items<u32>,

@@ -16,7 +16,7 @@ pub const MAX_NAME_BYTES: usize = 64;
 /// The columns of an index, in the order of its configuration, and what else its documents are read by.
 ///
 /// The calls that take a schema ask for one that keeps the limits (`IsSchema`). Names are kept in small letters.
-#[derive(Clone, Debug, Drop, PartialEq, Eq)]
+#[derive(Clone, Drop, PartialEq, Eq)]
 pub struct Schema {
     /// The index.
     pub name: Name,
@@ -31,7 +31,7 @@ pub struct Schema {
 }
 
 /// The kind of an attribute, as the configuration names it.
-#[derive(Clone, Copy, Debug, PartialEq, Eq)]
+#[derive(Clone, Copy, PartialEq, Eq)]
 pub enum AttrKind {
     /// 0 to 4,294,967,295.
     Uint,
@@ -44,7 +44,7 @@ pub enum AttrKind {
 }
 
 /// The value of an attribute.
-#[derive(Clone, Copy, Debug, PartialEq, Eq)]
+#[derive(Clone, Copy, PartialEq, Eq)]
 pub enum Value {
     /// A number of any of the kinds.
     Whole(i64),

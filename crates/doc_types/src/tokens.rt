@@ -16,7 +16,7 @@ pub const MAX_WORD_CHARS: usize = 42;
 pub const MAX_WORD_BYTES: usize = MAX_WORD_CHARS * 4;
 
 /// The tokens of a field: its words by ascending position, and where its zones lie.
-#[derive(Debug, Drop, PartialEq, Eq)]
+#[derive(Drop, PartialEq, Eq)]
 pub struct FieldTokens {
     pub words: Items<TokenWord>,
     /// The spans that hold a word, by first position, last position and zone.
@@ -24,7 +24,7 @@ pub struct FieldTokens {
 }
 
 /// A word of a field, at its place.
-#[derive(Debug, Drop, PartialEq, Eq)]
+#[derive(Drop, PartialEq, Eq)]
 pub struct TokenWord {
     pub word: Word,
     /// From 1. A boundary takes a position of its own.
@@ -34,7 +34,7 @@ pub struct TokenWord {
 }
 
 /// The boundary before a word.
-#[derive(Clone, Copy, Debug, PartialEq, Eq)]
+#[derive(Clone, Copy, PartialEq, Eq)]
 pub enum Gap {
     /// The words are of one sentence.
     None,
@@ -57,7 +57,7 @@ impl Gap {
 }
 
 /// The words of a field that stand in one element of a zone.
-#[derive(Clone, Copy, Debug, PartialEq, Eq)]
+#[derive(Clone, Copy, PartialEq, Eq)]
 pub struct ZoneSpan {
     /// The zone's place among the zones of the index.
     pub zone: u16,

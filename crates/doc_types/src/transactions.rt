@@ -7,7 +7,7 @@ use srch_base::Items;
 use std::alloc::AllocError;
 
 /// One operation of a transaction.
-#[derive(Debug, Drop, PartialEq, Eq)]
+#[derive(Drop, PartialEq, Eq)]
 pub enum TxnOp {
     /// A document whose id must be new.
     Insert(Doc),
@@ -20,7 +20,7 @@ pub enum TxnOp {
 }
 
 /// What a commit does to an index: its operations, in order, all or none.
-#[derive(Debug, Drop, PartialEq, Eq)]
+#[derive(Drop, PartialEq, Eq)]
 pub struct Txn {
     pub ops: Items<TxnOp>,
 }

@@ -112,7 +112,7 @@ fn first_piece<'a>(text: &'a str, ends: &mut Ends) -> (Piece<'a>, &'a str)
 }
 
 /// The rest of a text, from where a piece begins.
-#[derive(Clone, Copy, Debug)]
+#[derive(Clone, Copy)]
 pub(crate) struct Rest<'a> {
     text: &'a str,
     /// Whether markup is looked for. Without it the rest is one piece.

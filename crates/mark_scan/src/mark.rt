@@ -2,7 +2,7 @@
 use srch_base::{Items, Name};
 
 /// How marks are made of a text.
-#[derive(Debug, Drop)]
+#[derive(Drop)]
 pub struct MarkRules {
     /// Whether markup is taken out of the text. Without it the whole text is one run.
     pub strip: bool,
@@ -13,7 +13,7 @@ pub struct MarkRules {
 }
 
 /// A mark of a text: the bytes from the place `from` up to `to`, which is the place after the last of them.
-#[derive(Clone, Copy, Debug, PartialEq, Eq)]
+#[derive(Clone, Copy, PartialEq, Eq)]
 pub struct Mark {
     pub kind: MarkKind,
     pub from: u32,
@@ -21,7 +21,7 @@ pub struct Mark {
 }
 
 /// What a mark stands for. Marks at one place come in this order.
-#[derive(Clone, Copy, Debug, PartialEq, Eq)]
+#[derive(Clone, Copy, PartialEq, Eq)]
 pub enum MarkKind {
     /// A piece of a text run. Two that follow each other belong to one run where only `Inline` marks stand between them.
     Text,

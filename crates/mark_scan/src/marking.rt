@@ -55,7 +55,7 @@ fn push_plain(
 }
 
 /// How far a text was read: the place, and what stands before it.
-#[derive(Clone, Copy, Debug)]
+#[derive(Clone, Copy)]
 struct Reader {
     place: u32,
     before: Before,

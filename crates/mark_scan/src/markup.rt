@@ -9,14 +9,14 @@ ghost use Rattle.mark_scan.specs.steps.Scanning.{Rules, Begins};
 
 /// What may still follow in a text. A text in which no `>` or `-->` follows isn't searched for one again, so that reading
 /// it takes a time linear in its length.
-#[derive(Clone, Copy, Debug)]
+#[derive(Clone, Copy)]
 pub(crate) struct Ends {
     pub tag: bool,
     pub comment: bool,
 }
 
 /// The places of a tag: its name begins at `from` and ends before `to`; its `>` is at `last`.
-#[derive(Clone, Copy, Debug)]
+#[derive(Clone, Copy)]
 pub(crate) struct TagPlaces {
     pub from: usize,
     pub to: usize,
@@ -24,7 +24,7 @@ pub(crate) struct TagPlaces {
 }
 
 /// What begins a text.
-#[derive(Clone, Copy, Debug)]
+#[derive(Clone, Copy)]
 pub(crate) enum Found {
     /// A comment, whose `-->` stands at the place.
     Comment(usize),

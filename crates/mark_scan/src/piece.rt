@@ -4,7 +4,7 @@
 //! What else stands in it, such as attributes, isn't looked at.
 
 /// A part of a text. The parts of a text, one after the other, are the text.
-#[derive(Clone, Copy, Debug)]
+#[derive(Clone, Copy)]
 pub enum Piece<'a> {
     /// Text between markup.
     Plain(&'a str),
@@ -14,7 +14,7 @@ pub enum Piece<'a> {
 }
 
 /// A tag of a text.
-#[derive(Clone, Copy, Debug)]
+#[derive(Clone, Copy)]
 pub struct Tag<'a> {
     /// The whole tag, from `<` to `>`.
     pub text: &'a str,

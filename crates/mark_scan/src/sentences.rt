@@ -22,7 +22,7 @@ use charset_map::Charset;
 use srch_base::NoMemory;
 
 /// What the end of a sentence asks of the characters before a place of a text run.
-#[derive(Clone, Copy, Debug)]
+#[derive(Clone, Copy)]
 pub(crate) struct Before {
     /// Whether a blank stands before the place, or the run begins there.
     pub gap: bool,
@@ -129,7 +129,7 @@ fn first_char(text: &str) -> Option<(char, &str)>
 }
 
 /// What a piece gives to the run that goes on before it.
-#[derive(Clone, Copy, Debug)]
+#[derive(Clone, Copy)]
 enum Onward<'a> {
     /// A character, and the text of the piece after it.
     Char(char, &'a str),

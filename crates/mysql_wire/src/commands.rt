@@ -4,7 +4,7 @@ ghost use Rattle.mysql_wire.specs.Commands.{command_of};
 ghost use Rattle.mysql_wire.specs.Asked.{asked_by};
 
 /// What a command packet asks for. Of the commands with no stated length, bytes that follow are not looked at.
-#[derive(Clone, Copy, Debug, PartialEq, Eq)]
+#[derive(Clone, Copy, PartialEq, Eq)]
 pub enum Command<'a> {
     Quit,
     InitDb(&'a [u8]),

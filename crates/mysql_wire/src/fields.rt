@@ -10,7 +10,7 @@ use crate::lengths::split_lenenc;
 use srch_base::Or;
 
 /// A payload isn't one of its kind.
-#[derive(Clone, Copy, Debug, PartialEq, Eq)]
+#[derive(Clone, Copy, PartialEq, Eq)]
 pub struct WireFault {
     /// Where the first field begins that isn't whole or breaks the layout, or the first byte after the last field: in
     /// bytes from the payload's beginning.

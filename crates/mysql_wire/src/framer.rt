@@ -23,7 +23,7 @@ const MAX_PAYLOAD: u32 = 8_388_608;
 const KEPT: usize = 65_536;
 
 /// What a framer answers.
-#[derive(Clone, Copy, Debug, PartialEq, Eq)]
+#[derive(Clone, Copy, PartialEq, Eq)]
 pub enum Next<'a> {
     /// The bytes held are less than a whole packet.
     NeedMore,
@@ -36,7 +36,7 @@ pub enum Next<'a> {
 }
 
 /// Why a stream of packets is read no further.
-#[derive(Clone, Copy, Debug, PartialEq, Eq)]
+#[derive(Clone, Copy, PartialEq, Eq)]
 pub enum Refusal {
     TooLarge { length: u32, seq: u8 },
     OutOfOrder { seq: u8 },
@@ -46,7 +46,7 @@ pub enum Refusal {
 ///
 /// A contract sees the bytes held, and why nothing is read any more. Over its life a framer moves each byte a constant
 /// number of times, however many packets a piece holds, and a packet takes no memory.
-#[derive(Debug, Drop)]
+#[derive(Drop)]
 pub struct Framer {
     /// The packets that were taken, up to `start`, and then the bytes held.
     bytes: Vec<u8>,

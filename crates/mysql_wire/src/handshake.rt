@@ -27,7 +27,7 @@ const LENGTH_ENCODED_ANSWER: u32 = 0x20_0000;
 const USER: u32 = 32;
 
 /// A client's answer to the greeting, as far as it is looked at.
-#[derive(Clone, Copy, Debug, PartialEq, Eq)]
+#[derive(Clone, Copy, PartialEq, Eq)]
 pub struct Response41<'a> {
     /// The client's capabilities.
     pub flags: u32,
@@ -36,7 +36,7 @@ pub struct Response41<'a> {
 }
 
 /// A payload that is no response of protocol 4.1.
-#[derive(Clone, Copy, Debug, PartialEq, Eq)]
+#[derive(Clone, Copy, PartialEq, Eq)]
 pub struct BadHandshake {
     /// The offset of the first field that isn't whole, or 0 where the client doesn't speak protocol 4.1.
     pub place: u32,

@@ -15,13 +15,13 @@ use srch_base::{Or, Text};
 use std::alloc::Global;
 
 /// What a greeting says.
-#[derive(Clone, Copy, Debug, PartialEq, Eq)]
+#[derive(Clone, Copy, PartialEq, Eq)]
 pub struct WireGreeting {
     pub connection: u32,
 }
 
 /// What an OK packet says.
-#[derive(Clone, Copy, Debug, PartialEq, Eq)]
+#[derive(Clone, Copy, PartialEq, Eq)]
 pub struct WireOk {
     /// In rows.
     pub affected: u64,
@@ -29,7 +29,7 @@ pub struct WireOk {
 }
 
 /// What an ERR packet says.
-#[derive(Debug, Drop)]
+#[derive(Drop)]
 pub struct WireErr {
     pub code: u16,
     pub state: [u8; 5],
@@ -37,7 +37,7 @@ pub struct WireErr {
 }
 
 /// What an EOF packet says.
-#[derive(Clone, Copy, Debug, PartialEq, Eq)]
+#[derive(Clone, Copy, PartialEq, Eq)]
 pub struct WireEof {
     pub status: u16,
 }

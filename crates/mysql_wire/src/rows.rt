@@ -9,7 +9,7 @@ use itoa::Buffer;
 use srch_base::{Name, NoMemory, Text};
 
 /// What a column holds, as a client is told.
-#[derive(Clone, Copy, Debug, PartialEq, Eq)]
+#[derive(Clone, Copy, PartialEq, Eq)]
 pub enum ColumnKind {
     /// An unsigned number of 32 bits.
     Uint,
@@ -22,14 +22,14 @@ pub enum ColumnKind {
 }
 
 /// A column of a result set.
-#[derive(Debug, Drop)]
+#[derive(Drop)]
 pub struct Column {
     pub name: Name,
     pub kind: ColumnKind,
 }
 
 /// A value in a row. The text protocol sends a number as its decimal digits.
-#[derive(Debug, Drop)]
+#[derive(Drop)]
 pub enum Cell {
     Whole(i128),
     Text(Text),

@@ -3,7 +3,5 @@
 
 mod macros;
 mod table;
-#[cfg(test)]
-mod tests;
 
 pub use table::NameTable;

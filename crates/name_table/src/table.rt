@@ -16,7 +16,7 @@ use std::marker::Model;
 ///
 /// A table is made where it is used, by a function that returns it and says what it holds: that costs nothing, since
 /// the words lie in the program's constants.
-#[derive(Debug, Drop)]
+#[derive(Drop)]
 pub struct NameTable<const N: usize> {
     words: &'static [&'static str],
 }

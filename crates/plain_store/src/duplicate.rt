@@ -1,5 +1,5 @@
 /// The id of an insertion is there already: in the index, or by an earlier operation of the same transaction.
-#[derive(Clone, Copy, Debug, PartialEq, Eq, Drop)]
+#[derive(Clone, Copy, PartialEq, Eq, Drop)]
 pub struct Duplicate {
     pub id: u64,
 }

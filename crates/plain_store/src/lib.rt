@@ -14,8 +14,6 @@ mod insertions;
 mod layers;
 mod merging;
 mod store;
-#[cfg(test)]
-mod tests;
 
 pub use duplicate::Duplicate;
 pub use store::PlainStore;

@@ -10,7 +10,7 @@ ghost use Rattle.ql_grammar.specs.Keywords.{begins_statement, is_reserved, is_se
 use name_table::{NameTable, value_at, words_of};
 
 /// A keyword of SphinxQL. It is written in letters of either case, and never between backquotes.
-#[derive(Clone, Copy, Debug, PartialEq, Eq)]
+#[derive(Clone, Copy, PartialEq, Eq)]
 pub enum Keyword {
     And,
     As,

@@ -2,7 +2,7 @@ use crate::Keyword;
 use ql_lex::Sign;
 
 /// What the grammar sees of a token.
-#[derive(Clone, Copy, Debug, PartialEq, Eq)]
+#[derive(Clone, Copy, PartialEq, Eq)]
 pub enum Kind {
     Keyword(Keyword),
     /// A name that is no keyword, or one between backquotes.

@@ -7,7 +7,7 @@ use srch_base::{Items, Name, Text};
 /// A SELECT from an index.
 ///
 /// None and an empty list stand for a part that the text doesn't have; `items` has one item or more.
-#[derive(Clone, Debug, Drop, PartialEq, Eq)]
+#[derive(Drop, PartialEq, Eq)]
 pub struct Select {
     pub items: Items<SelectItem>,
     pub index: Name,
@@ -27,7 +27,7 @@ pub struct Select {
 }
 
 /// What is selected.
-#[derive(Clone, Debug, Drop, PartialEq, Eq)]
+#[derive(Drop, PartialEq, Eq)]
 pub enum SelectItem {
     /// `*`
     All,
@@ -38,7 +38,7 @@ pub enum SelectItem {
 }
 
 /// An item's expression.
-#[derive(Clone, Debug, Drop, PartialEq, Eq)]
+#[derive(Drop, PartialEq, Eq)]
 pub enum SelectExpr {
     Column(Name),
     /// `COUNT(*)`
@@ -56,7 +56,7 @@ pub enum SelectExpr {
 }
 
 /// A condition of WHERE.
-#[derive(Clone, Debug, Drop, PartialEq, Eq)]
+#[derive(Drop, PartialEq, Eq)]
 pub enum Cond {
     Match(Text),
     Compare {
@@ -78,7 +78,7 @@ pub enum Cond {
 }
 
 /// How two numbers compare.
-#[derive(Clone, Copy, Debug, PartialEq, Eq)]
+#[derive(Clone, Copy, PartialEq, Eq)]
 pub enum Comparison {
     Equal,
     NotEqual,
@@ -89,7 +89,7 @@ pub enum Comparison {
 }
 
 /// What a sort key looks at.
-#[derive(Clone, Debug, Drop, PartialEq, Eq)]
+#[derive(Drop, PartialEq, Eq)]
 pub enum SortName {
     Column(Name),
     Weight,
@@ -97,14 +97,14 @@ pub enum SortName {
 }
 
 /// A sort key; `descending` is none where the text says neither `ASC` nor `DESC`.
-#[derive(Clone, Debug, Drop, PartialEq, Eq)]
+#[derive(Drop, PartialEq, Eq)]
 pub struct SortKey {
     pub by: SortName,
     pub descending: Option<bool>,
 }
 
 /// A condition on groups. It compares no weight.
-#[derive(Clone, Debug, Drop, PartialEq, Eq)]
+#[derive(Drop, PartialEq, Eq)]
 pub struct Having {
     pub left: SortName,
     pub op: Comparison,
@@ -112,14 +112,14 @@ pub struct Having {
 }
 
 /// `LIMIT first [, second]`
-#[derive(Clone, Copy, Debug, PartialEq, Eq)]
+#[derive(Clone, Copy, PartialEq, Eq)]
 pub struct LimitPart {
     pub first: u64,
     pub second: Option<u64>,
 }
 
 /// A facet. Its order looks at no weight.
-#[derive(Clone, Debug, Drop, PartialEq, Eq)]
+#[derive(Drop, PartialEq, Eq)]
 pub struct FacetPart {
     pub column: Name,
     pub order: Option<SortKey>,
@@ -127,14 +127,14 @@ pub struct FacetPart {
 }
 
 /// `name = value` of OPTION
-#[derive(Clone, Debug, Drop, PartialEq, Eq)]
+#[derive(Drop, PartialEq, Eq)]
 pub struct SelectOption {
     pub name: Name,
     pub value: OptionValue,
 }
 
 /// The value of an option.
-#[derive(Clone, Debug, Drop, PartialEq, Eq)]
+#[derive(Drop, PartialEq, Eq)]
 pub enum OptionValue {
     Name(Name),
     Number(u64),

@@ -8,7 +8,7 @@ use srch_base::{Items, Name, Text};
 pub const MAX_STATEMENTS: usize = 32;
 
 /// A statement of SphinxQL. Names are in small letters, and a system variable's stands without its `@@`.
-#[derive(Clone, Debug, Drop, PartialEq, Eq)]
+#[derive(Drop, PartialEq, Eq)]
 pub enum Statement {
     Select(Select),
     /// `SELECT @@name [LIMIT n]`
@@ -57,14 +57,14 @@ pub enum Statement {
 }
 
 /// A value of a row.
-#[derive(Clone, Debug, Drop, PartialEq, Eq)]
+#[derive(Drop, PartialEq, Eq)]
 pub enum Val {
     Number(i128),
     Text(Text),
 }
 
 /// The documents that a DELETE names.
-#[derive(Clone, Debug, Drop, PartialEq, Eq)]
+#[derive(Drop, PartialEq, Eq)]
 pub enum Ids {
     /// `ID = n`
     One(u64),
@@ -73,14 +73,14 @@ pub enum Ids {
 }
 
 /// A name, or a text.
-#[derive(Clone, Debug, Drop, PartialEq, Eq)]
+#[derive(Drop, PartialEq, Eq)]
 pub enum Plain {
     Name(Name),
     Text(Text),
 }
 
 /// For whom a variable is set.
-#[derive(Clone, Copy, Debug, PartialEq, Eq)]
+#[derive(Clone, Copy, PartialEq, Eq)]
 pub enum Scope {
     Absent,
     Global,
@@ -88,14 +88,14 @@ pub enum Scope {
 }
 
 /// The variable that is set: `name` or `@@name`.
-#[derive(Clone, Debug, Drop, PartialEq, Eq)]
+#[derive(Drop, PartialEq, Eq)]
 pub enum Target {
     Name(Name),
     Var(Name),
 }
 
 /// What a variable is set to.
-#[derive(Clone, Debug, Drop, PartialEq, Eq)]
+#[derive(Drop, PartialEq, Eq)]
 pub enum SetValue {
     Name(Name),
     Number(i128),

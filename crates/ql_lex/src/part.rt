@@ -1,7 +1,7 @@
 use crate::token::TokenKind;
 
 /// A part of a text: a blank, a comment, or a token, with the place after it.
-#[derive(Clone, Copy, Debug)]
+#[derive(Clone, Copy)]
 pub(crate) enum Part {
     /// One blank byte.
     Blank,

@@ -1,7 +1,7 @@
 //! The tokens of a text: a kind, the bytes as they stand there, and their place. A token borrows the text and copies nothing.
 
 /// What a token is.
-#[derive(Clone, Copy, Debug, PartialEq, Eq)]
+#[derive(Clone, Copy, PartialEq, Eq)]
 pub enum TokenKind {
     /// A letter or `_`, then letters, digits and `_`: a keyword or a name.
     Name,
@@ -20,7 +20,7 @@ pub enum TokenKind {
 }
 
 /// A token of a text. Between two tokens that follow each other stand blanks and comments alone.
-#[derive(Clone, Copy, Debug)]
+#[derive(Clone, Copy)]
 pub struct Token<'a> {
     pub kind: TokenKind,
     /// The whole token as the text has it, with its quotes, its backquotes or its `@@`. At the end it is empty.
@@ -30,7 +30,7 @@ pub struct Token<'a> {
 }
 
 /// A sign, whichever of its spellings stands in the text.
-#[derive(Clone, Copy, Debug, PartialEq, Eq)]
+#[derive(Clone, Copy, PartialEq, Eq)]
 pub enum Sign {
     OpenParen,
     CloseParen,

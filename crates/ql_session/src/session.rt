@@ -15,7 +15,7 @@ use std::alloc::Global;
 use std::marker::Model;
 
 /// What came of a command.
-#[derive(Clone, Copy, Debug, PartialEq, Eq)]
+#[derive(Clone, Copy, PartialEq, Eq)]
 pub enum StepEnd {
     /// A reply was appended.
     Reply,
@@ -24,7 +24,7 @@ pub enum StepEnd {
 }
 
 /// One client's session: what is kept between its statements. Contracts see it as a `State`.
-#[derive(Debug, Drop)]
+#[derive(Drop)]
 pub struct Session {
     standing: Standing,
 }

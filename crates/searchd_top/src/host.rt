@@ -10,7 +10,7 @@ ghost use Rattle.searchd_top.specs.Lending.{IsWithin, CountsOpening};
 use srch_base::{Door, Failed, OpenFault};
 
 /// The standard streams that are printed to.
-#[derive(Clone, Copy, Debug, PartialEq, Eq)]
+#[derive(Clone, Copy, PartialEq, Eq)]
 pub enum Stream {
     Out,
     Err,

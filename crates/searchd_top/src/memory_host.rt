@@ -20,7 +20,7 @@ use std::marker::Model;
 /// fails as well, and so does a print that no memory is left for.
 ///
 /// Contracts see it as a `HostMemory`.
-#[derive(Debug, Drop)]
+#[derive(Drop)]
 pub struct MemoryHost {
     alloc: Global,
     texts: Vec<(Text, Text)>,

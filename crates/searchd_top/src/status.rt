@@ -13,7 +13,7 @@ use srch_base::OpenFault;
 const MAX_LINE_BYTES: usize = 64;
 
 /// How a run ended.
-#[derive(Clone, Copy, Debug, PartialEq, Eq)]
+#[derive(Clone, Copy, PartialEq, Eq)]
 pub enum Status {
     /// The work was done. Each line that was served may have ended in any way.
     Done,

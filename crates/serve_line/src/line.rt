@@ -32,7 +32,7 @@ const WRITING: usize = 1024;
 const KEPT: usize = 65_536;
 
 /// How a line ended.
-#[derive(Clone, Copy, Debug, PartialEq, Eq)]
+#[derive(Clone, Copy, PartialEq, Eq)]
 pub enum LinkEnd {
     /// COM_QUIT.
     Quit,

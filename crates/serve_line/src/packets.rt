@@ -8,7 +8,7 @@ use mysql_wire::{BadHandshake, Command, Framer, Next, read_command, read_respons
 use std::alloc::Global;
 
 /// What came of the next command's packet.
-#[derive(Clone, Copy, Debug)]
+#[derive(Clone, Copy)]
 pub(crate) enum Taken {
     Reply,
     Quit,
@@ -17,7 +17,7 @@ pub(crate) enum Taken {
 }
 
 /// What came of the packet that answers the greeting.
-#[derive(Clone, Copy, Debug)]
+#[derive(Clone, Copy)]
 pub(crate) enum Shaken {
     Accepted,
     Bad { place: u32 },
