@@ -1,5 +1,5 @@
-//! Tests by tables of values from outside over configurations, character tables, marks and tokens, whose crates are proved once without
-//! them.
+//! Tests by tables of values from outside over configurations, character tables, tables of words, marks and tokens, whose
+//! crates are proved once without them.
 #![tactic(auto)]
 
 #[cfg(test)]
@@ -16,3 +16,5 @@ mod configurations;
 mod field_tokens;
 #[cfg(test)]
 mod marks;
+#[cfg(test)]
+mod name_tables;
