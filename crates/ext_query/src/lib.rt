@@ -1,9 +1,24 @@
-//! Extended queries: their trees, and why a text is none.
+//! Extended queries, read: a text is the query that it is, or its first fault.
 #![tactic(auto)]
 
-mod fault;
-mod query;
+mod copies;
+mod cursor;
+mod faults;
+mod joins;
+mod levels;
+mod operators;
+mod reader;
+mod reading;
+mod recognizer;
+mod text_law;
+mod written_law;
 
-pub use fault::QueryFault;
-pub use query::{Item, Node, Query};
+pub use query_grammar::{
+    Item, Node, Query, QueryFault, a_query_has_no_fault, a_text_has_one_first_fault,
+    a_text_is_one_query,
+};
 pub use query_marks::{How, Key, Limit, QueryKind};
+pub use query_write::put_query;
+pub use reading::read_query;
+pub use text_law::a_query_is_a_text_of_the_grammar;
+pub use written_law::{a_value_is_one_without_the_limit, a_written_query_is_read_back};
