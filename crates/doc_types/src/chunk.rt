@@ -1,6 +1,6 @@
 //! What a chunk promises, whatever keeps it: each call is a fact about one list of rows. All that evaluates queries is written
 //! against this trait, and so are the chunks in memory and on disk. The crate's README tells the promises in plain words.
-ghost use Rattle.std.specs.Prelude.{◌≡◌, ℕ, ◌+◌, ◌<◌, ◌==◌, ◌++◌, List, [], length, ◌↔◌, IsSome, IfSome, IfNone, OnOk, OnErr, slice_get};
+ghost use Rattle.std.specs.Prelude.{◌≡◌, ℕ, ◌+◌, ◌<◌, ◌==◌, ◌++◌, List, [], length, ◌↔◌, IsSome, IfSome, IfNone, OnOk, OnErr, slice_get, All};
 ghost use Rattle.std.specs.Option.{option_map, option_map_or};
 ghost use Rattle.std.specs.List.{position};
 ghost use Rattle.doc_types.specs.Chunks.{
@@ -48,6 +48,10 @@ pub trait Chunk: Drop {
     /// How many rows there are.
     fn rows(&self) -> u32
         ensures { result ≡ length (content self.now) };
+
+    /// How many fields each row has: all have as many, since they are of one schema. Where there are no rows, it may be any number.
+    fn fields(&self) -> u16
+        ensures { All (λ row. length row.doc.fields ≡ result) (content self.now) };
 
     /// The row's id.
     fn id(&self, row: u32) -> u64

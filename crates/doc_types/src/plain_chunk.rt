@@ -61,6 +61,13 @@ impl Chunk for PlainChunk {
         self.rows.len() as u32
     }
 
+    fn fields(&self) -> u16 {
+        match self.rows.as_slice().first() {
+            Some(first) => first.doc.fields.len() as u16,
+            None => 0,
+        }
+    }
+
     fn id(&self, row: u32) -> u64 {
         self.rows.as_slice()[row as usize].doc.id
     }

@@ -138,6 +138,7 @@ fn has_absent<C: Chunk>(chunk: &C) -> bool {
 fn a_chunk_answers_by_its_rows(rt: HostRuntime) -> Result<(), Fail> {
     let chunk = the_chunk(rt.alloc())?;
     assert_eq!(rt; chunk.rows(), 10);
+    assert_eq!(rt; chunk.fields(), 3);
     assert_eq!(rt; first_other_row(rt.alloc(), &chunk)?, None);
     assert_eq!(rt; first_other_id(&chunk), None);
     Ok(())
@@ -156,6 +157,7 @@ fn a_chunk_answers_by_its_words(rt: HostRuntime) -> Result<(), Fail> {
 fn a_chunk_may_have_no_row(rt: HostRuntime) -> Result<(), Fail> {
     let chunk = no_chunk(rt.alloc())?;
     assert_eq!(rt; chunk.rows(), 0);
+    assert_eq!(rt; chunk.fields(), 0);
     assert_eq!(rt; chunk.words(), 0);
     assert!(rt; !has_absent(&chunk));
     assert_eq!(rt; chunk.find(1), None);
