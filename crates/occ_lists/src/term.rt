@@ -1,0 +1,14 @@
+/// A keyword of a query, with its places in the row at hand.
+#[derive(Drop)]
+pub struct Term {
+    /// Its position in the query.
+    pub query: u16,
+    /// The number of its word among the distinct words of the query.
+    pub word: u16,
+    /// Its limits and marks allow each place.
+    pub free: bool,
+    /// The row has its word, wherever that stands.
+    pub present: bool,
+    /// The places at which its limits allow it, by field and position.
+    pub places: Vec<(u16, u32)>,
+}
