@@ -1,0 +1,72 @@
+-- A search's keywords and terms, as those of its node.
+use Rattle.std.proofs.Common.{◌≡◌, ℕ, Bool, false, List, [], ◌∷◌, ◌++◌, Bor, Some, map, slice_get, refl, sym, ap, subst, ◌∙◌}
+use Rattle.std.specs.Prelude.{All}
+use Rattle.std.specs.List.{AllZip, filter, list_any}
+use Rattle.std.proofs.lemmas.List.Elements.{All-head, All-tail}
+use Rattle.doc_types.specs.declared.documents.DocRow.{DocRow}
+use Rattle.doc_types.specs.Chunks.{has_word, hits_of}
+use Rattle.query_marks.specs.declared.key.Key.{Key}
+use Rattle.query_grammar.specs.declared.query.Node.{Node}
+use Rattle.query_grammar.specs.DeepValues.{node_keys}
+use Rattle.occ_lists.specs.declared.term.Term.{Term}
+use Rattle.occ_lists.specs.OccLists.{SameMembers}
+use Rattle.op_eval.specs.declared.finding.Finding.{Finding}
+use Rattle.op_eval.specs.declared.marks.Marks.{Marks}
+use Rattle.op_eval.specs.Finding.{Spans, node_finds, nothing}
+use Rattle.op_eval.specs.Keywords.{allows}
+use Rattle.op_eval.specs.steps.Asking.{Knows}
+use Rattle.op_eval.specs.steps.Evaluating.{Appends, Finds}
+use Rattle.op_eval.specs.steps.Searching.{node_found}
+use Rattle.op_eval.specs.steps.Slots.{IsTermFor, number_among}
+use Rattle.op_eval.specs.steps.Terms.{AreSeenIn, AreTermsOf, IsSeenIn}
+use Rattle.op_eval.specs.steps.Verdicts.{AreApart}
+use Rattle.op_eval.proofs.PlacedRows.{at_one}
+use Rattle.op_eval.proofs.SoundFindings.{sound}
+use Rattle.op_eval.proofs.WordNumbers.{numbers_apart}
+
+-- the numbers of a node's words tell them apart
+pub node_apart : (node : Node) → AreApart (number_among (node_keys node)) (node_keys node)
+node_apart node = numbers_apart (record { root = Some node; keywords = 0 })
+
+pub words_are : (keys : List (Bor Key)) → map (λ (key : Bor Key). key.now.word) keys ≡ map (λ (key : Key). key.word) (map (λ (key : Bor Key). key.now) keys)
+words_are [] = refl
+words_are (key ∷ keys) = ap (λ words. key.now.word ∷ words) (words_are keys)
+
+pub seen_as : (row : DocRow) (keys others : List Key) (items terms : List Term) → keys ≡ others → terms ≡ items → AreSeenIn row keys items → AreSeenIn row others terms
+seen_as row keys others items terms same are seen = subst (λ ks. AreSeenIn row ks terms) same (subst (AreSeenIn row keys) (sym are) seen)
+
+-- terms before a row is looked at, in a row that has none of the words
+module _ (rows : List DocRow) (number : List ℕ → ℕ) (row : ℕ) (found : DocRow) (here : slice_get rows row ≡ Some found) where
+  one_absent : (key : Key) (term : Term) → IsTermFor rows number key term → term.present ≡ false → has_word key.word found ≡ false → IsSeenIn found key term
+  one_absent key term is absent none = record {
+    present = absent ∙ sym none;
+    free = λ free. at_one (λ r. filter (allows r key) (hits_of key.word r) ≡ hits_of key.word r) rows (is.free free) row found here;
+  }
+
+  pub all_absent : (keys : List Key) (terms : List Term) → AllZip (IsTermFor rows number) keys terms → All (λ term. term.present ≡ false) terms → All (λ word. has_word word found ≡ false) (map (λ key. key.word) keys) → AreSeenIn found keys terms
+  all_absent [] [] are absent none = tt
+  all_absent [] (term ∷ terms) are absent none = absurd are
+  all_absent (key ∷ keys) [] are absent none = absurd are
+  all_absent (key ∷ keys) (term ∷ terms) are absent none = (
+    one_absent key term are.0 (All-head (λ (t : Term). t.present ≡ false) term terms absent) (All-head (λ word. has_word word found ≡ false) key.word (map (λ (k : Key). k.word) keys) none),
+    all_absent keys terms are.1 (All-tail (λ (t : Term). t.present ≡ false) term terms absent) (All-tail (λ word. has_word word found ≡ false) key.word (map (λ (k : Key). k.word) keys) none),
+  )
+
+-- ---- what is found
+pub appended : {X : Type 0} (old new found : List X) → Appends old new found → old ≡ [] → SameMembers new found
+appended old new found appends none = λ passes. ap (list_any passes) (appends.is ∙ ap (λ xs. xs ++ appends.added) none) ∙ appends.same passes
+
+pub nothing_found : (node : Node) (row : DocRow) → (node_found node row).matches ≡ false → node_found node row ≡ nothing
+nothing_found node row fails = sound row (number_among (node_keys node)) node [] fails
+
+module _ (row : DocRow) (node other : Node) (same : other ≡ node) where
+  pub terms_as : (items terms : List Term) → terms ≡ items → AreTermsOf row (number_among (node_keys node)) (node_keys node) items → AreTermsOf row (number_among (node_keys node)) (node_keys other) terms
+  terms_as items terms are of = subst (λ n. AreTermsOf row (number_among (node_keys node)) (node_keys n) terms) (sym same) (subst (AreTermsOf row (number_among (node_keys node)) (node_keys node)) (sym are) of)
+
+  pub knows_as : (marks : Marks) → Knows row node marks → Knows row other marks
+  knows_as marks knows = subst (λ n. Knows row n marks) (sym same) knows
+
+  pub finds_as : (spans : Spans) (old new : Finding) (result : Bool) → spans ≡ [] → Finds (node_finds row (number_among (node_keys node)) other spans) old new result → Finds (node_found node row) old new result
+  finds_as spans old new result none finds =
+      subst (λ n. Finds (node_finds row (number_among (node_keys node)) n []) old new result) same
+      (subst (λ s. Finds (node_finds row (number_among (node_keys node)) other s) old new result) none finds)

@@ -1,0 +1,140 @@
+-- What a search answers, as what a query finds: the rows that it has visited, and that a tree over rows finds what its query does.
+use Rattle.std.proofs.Common.{◌≡◌, ℕ, ◌+◌, ◌<◌, ◌≤◌, ◌^◌, Bool, cond, List, [], ◌∷◌, ◌++◌, length, get_or, Option, Some, None, Bor, refl, sym, ap, ◌∙◌, subst, arith}
+use Rattle.std.specs.Prelude.{slice_get, if◌then◌else◌, not, ◌==◌, ◌&&◌, unwrap_or, AllPairs, IsTrue}
+use Rattle.std.specs.List.{list_any}
+use Rattle.std.specs.Coded.{le_prop}
+use Rattle.std.proofs.Math.Logic.{∥∥₁_elim}
+use Rattle.std.proofs.lemmas.Option.{slice_get-get_or}
+use Rattle.doc_types.specs.declared.cursor.Cursor.{Cursor}
+use Rattle.doc_types.specs.declared.documents.DocRow.{DocRow}
+use Rattle.doc_types.specs.Chunks.{IsContent, Place}
+use Rattle.query_grammar.specs.declared.query.Node.{Node}
+use Rattle.query_grammar.specs.declared.query.Query.{Query}
+use Rattle.op_eval.specs.declared.search.Search.{Search}
+use Rattle.doc_types.specs.declared.hits.Hit.{Hit}
+use Rattle.occ_lists.specs.declared.occ.Occ.{Occ}
+use Rattle.occ_lists.specs.OccLists.{Ascend, SameMembers}
+use Rattle.occ_lists.proofs.Members.{same_trans}
+use Rattle.op_eval.specs.Finding.{Found}
+use Rattle.op_eval.specs.Hits.{AreHits, comes_before}
+use Rattle.op_eval.specs.Matching.{matching, query_finds}
+use Rattle.op_eval.specs.Occurrences.{AreOccurrences}
+use Rattle.op_eval.specs.steps.Searching.{IsFirstOf, IsSearch, node_found}
+use Rattle.op_eval.specs.steps.Slots.{words_of}
+use Rattle.op_eval.specs.steps.Wanted.{HasVisited, is_wanted, lives, numbers_before, numbers_of}
+use Rattle.op_eval.proofs.Passing.{all_weaken}
+use Rattle.op_eval.proofs.RowNumbers.{all_before, next_passes, passed_to}
+
+-- ---- where a search stands
+-- the search that has gone over no row from one on has gone over none from a later one on
+pub search_from : (belongs : Cursor → Type 0) (place : Cursor → Place) (rows : List DocRow) (from row : ℕ) (root : Node) (search : Search) → from ≤ row → IsSearch belongs place rows from root search → IsSearch belongs place rows row root search
+search_from belongs place rows from row root search up at = record {
+  root = at.root;
+  keys = at.keys;
+  slots = record {
+    cursors = all_weaken belongs place rows from row up (words_of search.slots) search.slots.cursors.items at.slots.cursors;
+    terms = at.slots.terms;
+  };
+  marks = at.marks;
+  boundaries = at.boundaries;
+  spans = at.spans;
+  none = at.none;
+  every = at.every;
+}
+
+-- under another name of the tree
+pub search_of : (belongs : Cursor → Type 0) (place : Cursor → Place) (rows : List DocRow) (from row : ℕ) (before there : Search) → from ≤ row → there.root ≡ before.root → IsSearch belongs place rows from before.root.now there → IsSearch belongs place rows row there.root.now there
+search_of belongs place rows from row before there up same at =
+    subst (λ root. IsSearch belongs place rows row root there) (sym at.root) (search_from belongs place rows from row before.root.now there up at)
+
+-- as its own tree has it
+pub own_search : (belongs : Cursor → Type 0) (place : Cursor → Place) (rows : List DocRow) (from row : ℕ) (root : Node) (search : Search) → from ≤ row → IsSearch belongs place rows from root search → IsSearch belongs place rows row search.root.now search
+own_search belongs place rows from row root search up at =
+    subst (λ tree. IsSearch belongs place rows row tree search) (sym at.root) (search_from belongs place rows from row root search up at)
+
+-- a chunk's rows have numbers
+pub few : (rows : List DocRow) → ∥ IsContent rows ∥₁ → length rows < 2 ^ 32
+few rows content = ∥∥₁_elim content (hlevel le_prop) (λ is. is.small.few_rows)
+
+-- ---- the rows that are wanted
+some_row : (rows : List DocRow) (row : ℕ) → row < length rows → DocRow
+some_row [] row within = absurd (omega arith)
+some_row (r ∷ rows) row within = r
+
+-- one row more, dead or not
+pub next_living : (rows : List DocRow) (dead : List ℕ) (row : ℕ) (gone : Bool) → row < length rows → gone ≡ list_any (λ d. d == row) dead → numbers_before (λ (e : ℕ × DocRow). lives dead e.0) (row + 1) rows ≡ numbers_before (λ (e : ℕ × DocRow). lives dead e.0) row rows ++ cond (not gone) (row ∷ []) []
+next_living rows dead row gone within is = next_passes (λ (e : ℕ × DocRow). lives dead e.0) rows row (some_row rows row within) (not gone) within (ap not (sym is))
+
+-- none is wanted where none matches
+pub all_passed : (rows : List DocRow) (root : Node) (dead : List ℕ) (low : ℕ) (next : Option ℕ) → low ≤ unwrap_or next (length rows) → unwrap_or next (length rows) ≤ length rows → IsFirstOf rows root low next → numbers_before (is_wanted root dead) (unwrap_or next (length rows)) rows ≡ numbers_before (is_wanted root dead) low rows
+all_passed [] root dead low next up within first = ap (λ n. numbers_before (is_wanted root dead) n []) (omega (arith, up, within))
+all_passed (r ∷ rows) root dead low next up within first =
+    passed_to (is_wanted root dead) (r ∷ rows) low (unwrap_or next (length (r ∷ rows))) r up within
+    (λ row above below. ap (λ b. b && lives dead row) (first.between row (get_or (r ∷ rows) row r) above below (slice_get-get_or (r ∷ rows) row r (omega (arith, below, within)))))
+
+-- one row more is visited
+pub visited_next : (belongs : Cursor → Type 0) (place : Cursor → Place) (rows : List DocRow) (root : Node) (dead : List ℕ) (from row : ℕ) (before there after : Search) (old new : List ℕ) → HasVisited belongs place rows root dead from before old → IsFirstOf rows before.root.now from (Some row) → there.root ≡ before.root → after.root ≡ there.root → IsSearch belongs place rows row there.root.now after → ((r : DocRow) → slice_get rows row ≡ Some r → new ≡ old ++ (if is_wanted there.root.now dead (row, r) then row ∷ [] else [])) → HasVisited belongs place rows root dead (row + 1) after new
+visited_next belongs place rows root dead from row before there after old new visited first same_first same_second at is =
+    let within : row < length rows = first.within.1 in
+    let some : DocRow = some_row rows row within in
+    let r : DocRow = get_or rows row some in
+    let its : there.root.now ≡ root = ap (λ (tree : Bor Node). tree.now) same_first ∙ visited.tree in
+    let passed : numbers_before (is_wanted root dead) row rows ≡ numbers_before (is_wanted root dead) from rows =
+    all_passed rows root dead from (Some row) first.within.0 (omega arith) (subst (λ tree. IsFirstOf rows tree from (Some row)) visited.tree first) in
+    record {
+      within = omega arith;
+      tree = ap (λ (tree : Bor Node). tree.now) same_second ∙ its;
+      at = search_of belongs place rows row (row + 1) there after (omega arith) same_second at;
+      all =
+          is r (slice_get-get_or rows row some within)
+          ∙ ap (λ tree. old ++ (if is_wanted tree dead (row, r) then row ∷ [] else [])) its
+          ∙ ap (λ ns. ns ++ (if is_wanted root dead (row, r) then row ∷ [] else [])) (visited.all ∙ sym passed)
+          ∙ sym (next_passes (is_wanted root dead) rows row some (is_wanted root dead (row, r)) within refl);
+    }
+
+-- no row is left
+pub visited_all : (belongs : Cursor → Type 0) (place : Cursor → Place) (rows : List DocRow) (root : Node) (dead : List ℕ) (from : ℕ) (search : Search) (found : List ℕ) → HasVisited belongs place rows root dead from search found → IsFirstOf rows search.root.now from None → found ≡ numbers_of (is_wanted root dead) rows
+visited_all belongs place rows root dead from search found visited first =
+    visited.all
+    ∙ sym (all_passed rows root dead from None visited.within (omega arith) (subst (λ tree. IsFirstOf rows tree from None) visited.tree first))
+    ∙ all_before (is_wanted root dead) rows (length rows) (omega arith)
+
+-- ---- a query and its tree
+matching_root : (tree : Option Node) (keywords : ℕ) (root : Node) (rows : List DocRow) (dead : List ℕ) → tree ≡ Some root → matching (record { root = tree; keywords = keywords }) rows dead ≡ numbers_of (is_wanted root dead) rows
+matching_root None keywords root rows dead is = cc
+matching_root (Some node) keywords root rows dead is = let same : node ≡ root = cc in ap (λ node. numbers_of (is_wanted node dead) rows) same
+
+pub matching_is : (query : Query) (root : Node) (rows : List DocRow) (dead : List ℕ) → query.root ≡ Some root → matching query rows dead ≡ numbers_of (is_wanted root dead) rows
+matching_is query root rows dead is = matching_root query.root query.keywords root rows dead is
+
+matching_none : (tree : Option Node) (keywords : ℕ) (rows : List DocRow) (dead : List ℕ) → tree ≡ None → matching (record { root = tree; keywords = keywords }) rows dead ≡ numbers_of (λ e. lives dead e.0) rows
+matching_none None keywords rows dead is = refl
+matching_none (Some node) keywords rows dead is = cc
+
+pub matching_living : (query : Query) (rows : List DocRow) (dead : List ℕ) → query.root ≡ None → matching query rows dead ≡ numbers_of (λ e. lives dead e.0) rows
+matching_living query rows dead is = matching_none query.root query.keywords rows dead is
+
+tree_found : (tree : Option Node) (keywords : ℕ) (root : Node) (row : DocRow) → tree ≡ Some root → node_found root row ≡ query_finds (record { root = tree; keywords = keywords }) row
+tree_found None keywords root row is = cc
+tree_found (Some node) keywords root row is = let same : root ≡ node = cc in ap (λ node. node_found node row) same
+
+-- what the query finds in a row
+pub found_is : (query : Query) (root : Node) (row : DocRow) → query.root ≡ Some root → node_found root row ≡ query_finds query row
+found_is query root row is = tree_found query.root query.keywords root row is
+
+-- what stands in order, each once, is what the query finds
+pub are_occurrences : (query : Query) (root tree : Node) (row : DocRow) (occs found : List Occ) → query.root ≡ Some root → tree ≡ root → Ascend occs → SameMembers occs found → SameMembers found (node_found tree row).occurrences → AreOccurrences query row occs
+are_occurrences query root tree row occs found is same ascend members all = record {
+  ascend = ascend;
+  all =
+      same_trans occs found (query_finds query row).occurrences members
+      (subst (λ (f : Found). SameMembers found f.occurrences) (ap (λ node. node_found node row) same ∙ found_is query root row is) all);
+}
+
+pub are_hits : (query : Query) (root tree : Node) (row : DocRow) (hits found : List Hit) → query.root ≡ Some root → tree ≡ root → AllPairs (λ hit later. IsTrue (comes_before hit later)) hits → SameMembers hits found → SameMembers found (node_found tree row).hits → AreHits query row hits
+are_hits query root tree row hits found is same ascend members all = record {
+  ascend = ascend;
+  all =
+      same_trans hits found (query_finds query row).hits members
+      (subst (λ (f : Found). SameMembers found f.hits) (ap (λ node. node_found node row) same ∙ found_is query root row is) all);
+}

@@ -1,0 +1,11 @@
+use Rattle.std.proofs.Common.{◌≡◌, take}
+use Rattle.std.specs.List.{list_any}
+use Rattle.query_grammar.specs.declared.query.Item.{Item}
+use Rattle.op_eval.specs.steps.Asking.{asks_boundaries, asks_spans}
+use Rattle.op_eval.proofs.asking.+asking.Given as goal
+
+abbrev pub invariant-of_items-loop-item : goal.invariant-of_items-loop-item
+invariant-of_items-loop-item l = record {
+  boundaries : l.all.boundaries ≡ list_any (λ (item : Item). asks_boundaries item.node) (take l.item-index l.items);
+  spans : l.all.spans ≡ list_any (λ (item : Item). asks_spans item.node) (take l.item-index l.items);
+}

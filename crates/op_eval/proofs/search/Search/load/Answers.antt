@@ -1,0 +1,22 @@
+use Rattle.std.proofs.Common.{sym, ap, ◌∙◌}
+use Rattle.std.specs.List.{list_any}
+use Rattle.op_eval.specs.steps.Asking.{has_zones}
+use Rattle.op_eval.specs.steps.Slots.{keys_of, number_among}
+use Rattle.op_eval.proofs.Loaded.{all_placed}
+use Rattle.op_eval.proofs.Opening.{row_there}
+use Rattle.op_eval.proofs.PlacedRows.{IsPlacedRow, at_one, placed_rows}
+use Rattle.op_eval.proofs.ZonesAsked.{zones_asked}
+use Rattle.op_eval.proofs.search.Search.load.Goals as goal
+
+pub load-requires-2-clause-spans : goal.load-requires-2-clause-spans
+load-requires-2-clause-spans g c = λ found here has.
+    c.deref.ensures.value
+    ∙ c.in_ok-load.ensures.spans found here
+    (c.requires.search.spans ∙ zones_asked c.args.self.now.root.now (sym (ap (list_any has_zones) c.requires.search.keys) ∙ has))
+
+pub returns-clause-placed : goal.returns-clause-placed
+returns-clause-placed g c =
+    let rows = g.C.Chunk.content c.args.chunk.now in
+    let there = row_there rows c.args.row c.requires.row in
+    all_placed there.0 (at_one IsPlacedRow rows (placed_rows rows (g.met.C.Chunk.whole c.args.chunk.now)) c.args.row there.0 there.1)
+    (number_among (keys_of c.args.self.now.slots)) (keys_of c.args.self.now.slots) c.load-2.new.self.terms.items (c.in_ok-load-2.ensures.loaded there.0 there.1)

@@ -1,0 +1,24 @@
+use Rattle.std.proofs.Common.{[], Bor, map, refl, sym, ap, ◌∙◌}
+use Rattle.query_marks.specs.declared.key.Key.{Key}
+use Rattle.query_grammar.specs.DeepValues.{node_keys}
+use Rattle.op_eval.specs.steps.Slots.{keys_of, number_among}
+use Rattle.op_eval.proofs.Searched.{node_apart, seen_as}
+use Rattle.op_eval.proofs.search.Search.matches.Goals as goal
+
+pub returns-in-No-clause-told : goal.returns-in-No-clause-told
+returns-in-No-clause-told g c = λ found here.
+    let node = c.args.self.now.root.now in
+    sym
+    (c.in-No.ensures found (number_among (node_keys node)) (node_apart node)
+    (seen_as found (keys_of c.seek.new.self) (node_keys node) c.seek.new.self.terms.items c.deref.result.now
+    (ap (λ keys. map (λ (key : Bor Key). key.now) keys.items) c.seek.ensures.keys ∙ c.requires.search.keys) c.deref.ensures.value (c.seek.ensures.seen found here))
+    [] (λ unspanned. refl))
+
+pub returns-in-Yes-clause-told : goal.returns-in-Yes-clause-told
+returns-in-Yes-clause-told g c = λ found here.
+    let node = c.args.self.now.root.now in
+    sym
+    (c.in-Yes.ensures found (number_among (node_keys node)) (node_apart node)
+    (seen_as found (keys_of c.seek.new.self) (node_keys node) c.seek.new.self.terms.items c.deref.result.now
+    (ap (λ keys. map (λ (key : Bor Key). key.now) keys.items) c.seek.ensures.keys ∙ c.requires.search.keys) c.deref.ensures.value (c.seek.ensures.seen found here))
+    [] (λ unspanned. refl))

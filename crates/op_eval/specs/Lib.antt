@@ -1,0 +1,14 @@
+-- where a keyword stands
+pub mod Keywords
+-- what the nodes of a query find in a row
+pub mod Finding
+-- SENTENCE and PARAGRAPH where sentences are not read
+pub mod Sentences
+-- which rows match
+pub mod Matching
+-- the occurrences of a query in a row
+pub mod Occurrences
+-- the hits of a query in a row
+pub mod Hits
+-- what serves proofs and private functions alone
+pub mod steps

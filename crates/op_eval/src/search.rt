@@ -1,0 +1,169 @@
+//! A query on its way over the rows of a chunk. Only rows that have some word of it are visited, unless it can do without; the
+//! words that are there decide where they can, and only else are lists of places opened, each keyword's once.
+ghost use Rattle.std.specs.Prelude.{◌≡◌, ◌+◌, ◌<◌, ◌≤◌, ◌^◌, ℕ, List, [], false, Some, All, IfOk, OnOk, length, slice_get};
+ghost use Rattle.occ_lists.specs.Terms.{IsPlaced};
+ghost use Rattle.op_eval.specs.steps.Asking.{Knows};
+ghost use Rattle.op_eval.specs.steps.Slots.{AreAt, keys_of, number_among};
+ghost use Rattle.doc_types.specs.declared.documents.DocRow.{DocRow};
+ghost use Rattle.query_grammar.specs.DeepValues.{node_keys};
+ghost use Rattle.op_eval.specs.Finding.{node_finds};
+ghost use Rattle.occ_lists.specs.OccLists.{SameMembers};
+ghost use Rattle.op_eval.specs.steps.Searching.{IsFirstOf, IsSearch, node_found};
+ghost use Rattle.op_eval.specs.steps.Terms.{AreSeenIn, AreTermsOf};
+ghost use Rattle.op_eval.specs.steps.Verdicts.{AreApart};
+
+use crate::asking::{Asked, asks_for};
+use crate::finding::{Finding, find};
+use crate::marks::Marks;
+use crate::matching::{Work, matches};
+use crate::slots::Slots;
+use crate::verdict::{Verdict, judge};
+use doc_types::{Chunk, Gap};
+use occ_lists::{Buffers, Term};
+use query_grammar::Node;
+use srch_base::{NoMemory, Steps};
+use std::alloc::Global;
+use std::sync::ledger::Ledger;
+
+/// A query's tree over a chunk.
+#[derive(Drop)]
+pub(crate) struct Search<'q> {
+    pub root: &'q Node,
+    pub slots: Slots<'q>,
+    pub asked: Asked,
+    /// A row that has none of the words may match.
+    pub every: bool,
+    pub marks: Marks,
+    pub work: Work,
+    gaps: Vec<(u32, Gap)>,
+}
+
+impl<'q> Search<'q> {
+    pub(crate) fn over<C: Chunk>(
+        alloc: Global,
+        root: &'q Node,
+        chunk: &C,
+    ) -> Result<Search<'q>, NoMemory>
+        requires { length (node_keys root.now) < 2 ^ 16 }
+        ensures { IfOk result (λ search. IsSearch (C.belongs chunk.now) (C.place chunk.now) (C.content chunk.now) 0 root.now search) }
+    {
+        let slots = Slots::over(alloc, root, chunk)?;
+        let every = may_match(root, &slots.terms);
+        Ok(Search {
+            root,
+            slots,
+            asked: asks_for(root),
+            every,
+            marks: Marks::new(alloc),
+            work: Work {
+                spans: Vec::new(alloc),
+                buffers: Buffers::new(alloc),
+            },
+            gaps: Vec::new(alloc),
+        })
+    }
+
+    /// The first row from this one on that may match.
+    pub(crate) fn next_row<C: Chunk>(&mut self, chunk: &C, from: u32) -> Option<u32>
+        requires { IsSearch (C.belongs chunk.now) (C.place chunk.now) (C.content chunk.now) from self.old.root.now self.old }
+        ensures root { self.new.root ≡ self.old.root }
+        ensures search { IsSearch (C.belongs chunk.now) (C.place chunk.now) (C.content chunk.now) from self.old.root.now self.new }
+        ensures first { IsFirstOf (C.content chunk.now) self.old.root.now from result }
+    {
+        if !self.every {
+            return self.slots.next_row(chunk, from);
+        }
+        if from < chunk.rows() {
+            Some(from)
+        } else {
+            None
+        }
+    }
+
+    /// Whether the row matches.
+    pub(crate) fn matches<C: Chunk, L: Ledger>(
+        &mut self,
+        chunk: &C,
+        row: u32,
+        steps: &mut Steps<L>,
+    ) -> Result<bool, NoMemory>
+        requires row { row < length (C.content chunk.now) }
+        requires search { IsSearch (C.belongs chunk.now) (C.place chunk.now) (C.content chunk.now) row self.old.root.now self.old }
+        ensures count { steps.new ≤ steps.old + length (node_keys self.old.root.now) }
+        ensures root { self.new.root ≡ self.old.root }
+        ensures search { OnOk result (IsSearch (C.belongs chunk.now) (C.place chunk.now) (C.content chunk.now) row self.old.root.now self.new) }
+        ensures told { (found : DocRow) → slice_get (C.content chunk.now) row ≡ Some found → IfOk result (λ told. told ≡ (node_found self.old.root.now found).matches) }
+    {
+        self.slots.seek(chunk, row);
+        match judge(self.root, &self.slots.terms, false) {
+            Verdict::No => Ok(false),
+            Verdict::Yes => Ok(true),
+            Verdict::Open => {
+                self.load(chunk, row, steps)?;
+                matches(self.root, &self.slots.terms, &self.marks, &mut self.work)
+            }
+        }
+    }
+
+    /// What is found in the row.
+    pub(crate) fn find<C: Chunk, L: Ledger>(
+        &mut self,
+        chunk: &C,
+        row: u32,
+        steps: &mut Steps<L>,
+    ) -> Result<Finding, NoMemory>
+        requires row { row < length (C.content chunk.now) }
+        requires search { IsSearch (C.belongs chunk.now) (C.place chunk.now) (C.content chunk.now) row self.old.root.now self.old }
+        ensures count { steps.new ≤ steps.old + length (node_keys self.old.root.now) }
+        ensures occs { (found : DocRow) → slice_get (C.content chunk.now) row ≡ Some found → IfOk result (λ finding. SameMembers finding.occs.items (node_found self.old.root.now found).occurrences) }
+        ensures hits { (found : DocRow) → slice_get (C.content chunk.now) row ≡ Some found → IfOk result (λ finding. SameMembers finding.hits.items (node_found self.old.root.now found).hits) }
+    {
+        self.slots.seek(chunk, row);
+        let mut found = Finding::new(&mut self.work.buffers);
+        if !may_match(self.root, &self.slots.terms) {
+            return Ok(found);
+        }
+        self.load(chunk, row, steps)?;
+        find(
+            self.root,
+            &self.slots.terms,
+            &self.marks,
+            &mut self.work,
+            &mut found,
+        )?;
+        Ok(found)
+    }
+
+    /// Reads what the query asks of the row.
+    fn load<C: Chunk, L: Ledger>(
+        &mut self,
+        chunk: &C,
+        row: u32,
+        steps: &mut Steps<L>,
+    ) -> Result<(), NoMemory>
+        requires row { row < length (C.content chunk.now) }
+        requires search { IsSearch (C.belongs chunk.now) (C.place chunk.now) (C.content chunk.now) row self.old.root.now self.old }
+        requires at { AreAt (C.place chunk.now) (C.content chunk.now) row self.old.slots }
+        requires seen { (found : DocRow) → slice_get (C.content chunk.now) row ≡ Some found → AreSeenIn found (keys_of self.old.slots) self.old.slots.terms.items }
+        ensures count { steps.new ≤ steps.old + length (node_keys self.old.root.now) }
+        ensures root { self.new.root ≡ self.old.root }
+        ensures search { OnOk result (IsSearch (C.belongs chunk.now) (C.place chunk.now) (C.content chunk.now) row self.old.root.now self.new) }
+        ensures terms { (found : DocRow) → slice_get (C.content chunk.now) row ≡ Some found → OnOk result (AreTermsOf found (number_among (node_keys self.old.root.now)) (node_keys self.old.root.now) self.new.slots.terms.items) }
+        ensures marks { (found : DocRow) → slice_get (C.content chunk.now) row ≡ Some found → OnOk result (Knows found self.old.root.now self.new.marks) }
+        ensures placed { OnOk result (All IsPlaced self.new.slots.terms.items) }
+    {
+        self.marks.load(chunk, row, self.asked, &mut self.gaps)?;
+        self.slots.load(chunk, row, &self.marks.spans, &mut self.work.buffers, steps)?;
+        Ok(())
+    }
+}
+
+/// Whether a row may match, as far as its words tell.
+fn may_match(root: &Node, terms: &[Term]) -> bool
+    ensures { result ≡ false → (row : DocRow) (number : List ℕ → ℕ) → AreApart number (node_keys root.now) → AreSeenIn row (node_keys root.now) terms.now → (node_finds row number root.now []).matches ≡ false }
+{
+    match judge(root, terms, false) {
+        Verdict::No => false,
+        Verdict::Open | Verdict::Yes => true,
+    }
+}
