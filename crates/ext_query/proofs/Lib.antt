@@ -30,3 +30,5 @@ pub mod WrittenBack
 pub mod RecognizedRows
 -- what is recognized by each line of the grammar
 pub mod RecognizedParts
+-- the keywords of a query are those of its marks
+pub mod QueryKeys

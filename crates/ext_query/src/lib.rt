@@ -5,6 +5,7 @@ mod copies;
 mod cursor;
 mod faults;
 mod joins;
+mod keys_law;
 mod levels;
 mod operators;
 mod reader;
@@ -13,6 +14,7 @@ mod recognizer;
 mod text_law;
 mod written_law;
 
+pub use keys_law::a_query_has_at_most_255_keywords;
 pub use query_grammar::{
     Item, Node, Query, QueryFault, a_query_has_no_fault, a_text_has_one_first_fault,
     a_text_is_one_query,
