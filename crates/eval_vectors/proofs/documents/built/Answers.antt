@@ -1,0 +1,5 @@
+use Rattle.eval_vectors.proofs.Rows.{content}
+use Rattle.eval_vectors.proofs.documents.built.Goals as goal
+
+pub build-requires : goal.build-requires
+build-requires c = content c.args.index.now.schema c.args.rows.items c.requires.index.schema c.requires.rows

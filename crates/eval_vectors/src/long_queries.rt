@@ -1,0 +1,160 @@
+//! Queries of the most words, joined by one operator, over a document that has them all, one that has all but one, and one
+//! that has none.
+use crate::documents::chunk_of;
+use crate::queries::query_of;
+use crate::sets::index_of;
+use crate::telling::told;
+use std::alloc::Global;
+use std::test::Fail;
+
+/// The most words that a query has.
+const WORDS: u32 = 255;
+
+/// A word that no document has and no query asks for.
+const NO_WORD: u32 = 256;
+
+/// The word that the second document doesn't have.
+const MISSING: u32 = 128;
+
+/// How a query's words are joined.
+struct Join {
+    operator: &'static str,
+    /// One occurrence goes over all words, in place of one for each.
+    whole: bool,
+    /// The second document matches too.
+    without: bool,
+}
+
+const JOINS: [Join; 7] = [
+    Join {
+        operator: " ",
+        whole: false,
+        without: false,
+    },
+    Join {
+        operator: " | ",
+        whole: false,
+        without: true,
+    },
+    Join {
+        operator: " MAYBE ",
+        whole: false,
+        without: true,
+    },
+    Join {
+        operator: " << ",
+        whole: true,
+        without: false,
+    },
+    Join {
+        operator: " NEAR/3 ",
+        whole: true,
+        without: false,
+    },
+    Join {
+        operator: " SENTENCE ",
+        whole: true,
+        without: false,
+    },
+    Join {
+        operator: " PARAGRAPH ",
+        whole: true,
+        without: false,
+    },
+];
+
+/// The words but one, with this between them.
+fn words(alloc: Global, between: &str, without: u32) -> Result<String, Fail> {
+    let mut text = String::new(alloc);
+    for number in 1..WORDS + 1 {
+        if number != without {
+            if !text.is_empty() {
+                text.push_str(between)?;
+            }
+            write!(text, "w{number}")?;
+        }
+    }
+    Ok(text)
+}
+
+/// The documents.
+fn documents(alloc: Global) -> Result<String, Fail> {
+    let all = words(alloc, " ", NO_WORD)?;
+    let some = words(alloc, " ", MISSING)?;
+    Ok(format!(in alloc; "1 ⇒ {all}\n2 ⇒ {some}\n3 ⇒ none of them")?)
+}
+
+/// The position of a word where one doesn't stand among them.
+fn position_of(number: u32, without: u32) -> u32 {
+    if number < without {
+        number
+    } else {
+        number.saturating_sub(1)
+    }
+}
+
+/// The occurrences of the words but one, or the one of all.
+fn occurrences_of(alloc: Global, whole: bool, without: u32) -> Result<String, Fail> {
+    let mut text = String::new(alloc);
+    let last = position_of(WORDS, without);
+    if whole {
+        write!(text, " 0.1-{last}")?;
+    } else {
+        for position in 1..last.saturating_add(1) {
+            write!(text, " 0.{position}-{position}")?;
+        }
+    }
+    Ok(text)
+}
+
+/// The hits of the words but one.
+fn hits_of(alloc: Global, without: u32) -> Result<String, Fail> {
+    let mut text = String::new(alloc);
+    for word in 0..WORDS {
+        let number = word + 1;
+        if number != without {
+            let position = position_of(number, without);
+            write!(text, " {number}/{word}@0.{position}")?;
+        }
+    }
+    Ok(text)
+}
+
+/// What is found of the words but one in a document.
+fn found_of(alloc: Global, whole: bool, without: u32) -> Result<String, Fail> {
+    let occs = occurrences_of(alloc, whole, without)?;
+    let hits = hits_of(alloc, without)?;
+    Ok(format!(in alloc; "{occs},{hits}")?)
+}
+
+/// What the query finds.
+fn wanted(alloc: Global, join: &Join) -> Result<String, Fail> {
+    let first = found_of(alloc, join.whole, NO_WORD)?;
+    if !join.without {
+        return Ok(format!(in alloc; "1:{first}")?);
+    }
+    let second = found_of(alloc, join.whole, MISSING)?;
+    Ok(format!(in alloc; "1:{first}; 2:{second}")?)
+}
+
+/// Fails with the first operator of which a query finds something else, and with what it finds.
+fn try_joins(alloc: Global) -> Result<(), Fail> {
+    let index = index_of(alloc, "paragraphs")?;
+    let documents = documents(alloc)?;
+    let chunk = chunk_of(alloc, &index, documents.as_str())?;
+    for join in &JOINS {
+        let text = words(alloc, join.operator, NO_WORD)?;
+        let query = query_of(alloc, text.as_str(), &index)?;
+        let found = told(alloc, &query, &chunk)?;
+        if found.as_str() != wanted(alloc, join)?.as_str() {
+            let operator = join.operator;
+            return Err(Fail::new(format!(in alloc; "{operator}: {found}")?));
+        }
+    }
+    Ok(())
+}
+
+#[test]
+fn queries_have_255_words(rt: HostRuntime) -> Result<(), Fail> {
+    try_joins(rt.alloc())
+}

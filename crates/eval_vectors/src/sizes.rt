@@ -1,0 +1,86 @@
+//! Many documents: how many of them queries find, worked out by how they are made.
+ghost use Rattle.eval_vectors.specs.steps.Reading.{IsSoundIndex};
+
+use crate::documents::{built, push};
+use crate::queries::query_of;
+use crate::sets::index_of;
+use crate::telling::count;
+use conf_text::IndexConf;
+use doc_types::PlainChunk;
+use std::alloc::Global;
+use std::test::Fail;
+
+/// How many documents there are.
+const DOCUMENTS: u64 = 10_000;
+
+/// Queries with how many documents they find.
+const COUNTS: [(&str, usize); 10] = [
+    ("all", 10_000),
+    // 7, 14, .., 9,996.
+    ("all seven", 1_428),
+    ("all -seven", 8_572),
+    // The two that have the phrase, and 50, 150, .., 9,950 with its words the other way round.
+    ("rare phrase", 102),
+    ("\"rare phrase\"", 2),
+    ("phrase << rare", 100),
+    // `mark` stands at 5 to 11: remainders 0 to 6 by 36, of which 0 comes 277 times and each other one 278 times.
+    ("\"all mark\"~10", 1_945),
+    ("all NEAR/10 mark", 1_945),
+    // 2,000 by their last digits; 1,428 of `seven`, of which 21, 91, .. and 63, 133, .. are among these, 143 and 142; 102 of
+    // `rare`, of which 350, 1,050, .., 9,450 have `seven`, 14.
+    ("ten1 | ten3 | seven | rare | absent", 3_231),
+    ("absent", 0),
+];
+
+/// The text of a document, of 40 words: `all`; `seven` in each seventh one; `rare phrase` in two, and `phrase rare` in each
+/// hundredth one; then `mark` among 35 words of the number's last digit.
+fn text_of(alloc: Global, number: u64) -> Result<String, Fail> {
+    let mut text = String::new(alloc);
+    text.push_str("all ")?;
+    text.push_str(if number % 7 == 0 { "seven " } else { "no " })?;
+    text.push_str(match number {
+        1_234 | 8_765 => "rare phrase",
+        _ if number % 100 == 50 => "phrase rare",
+        _ => "no no",
+    })?;
+    let digit = number % 10;
+    for place in 0..36 {
+        if place == number % 36 {
+            text.push_str(" mark")?;
+        } else {
+            write!(text, " ten{digit}")?;
+        }
+    }
+    Ok(text)
+}
+
+/// The chunk of the documents.
+fn chunk_of_many(alloc: Global, index: &IndexConf) -> Result<PlainChunk, Fail>
+    requires { IsSoundIndex index.now }
+{
+    let mut rows = Vec::new(alloc);
+    'numbers: for number in 0..DOCUMENTS {
+        let text = text_of(alloc, number + 1)?;
+        push(alloc, index, &mut rows, number + 1, text.as_str())?;
+    }
+    built(alloc, index, rows)
+}
+
+/// Fails with the first query that finds another number of documents, and with that number.
+fn try_counts(alloc: Global) -> Result<(), Fail> {
+    let index = index_of(alloc, "letters")?;
+    let chunk = chunk_of_many(alloc, &index)?;
+    for (text, wanted) in &COUNTS {
+        let query = query_of(alloc, text, &index)?;
+        let found = count(alloc, &query, &chunk)?;
+        if found != *wanted {
+            return Err(Fail::new(format!(in alloc; "{text} ⇒ {found}")?));
+        }
+    }
+    Ok(())
+}
+
+#[test]
+fn many_documents_are_counted(rt: HostRuntime) -> Result<(), Fail> {
+    try_counts(rt.alloc())
+}

@@ -1,0 +1,169 @@
+//! What a query finds in a chunk, as the tables tell it.
+ghost use Rattle.std.specs.Prelude.{◌≡◌, ◌<◌, ◌^◌, length};
+ghost use Rattle.query_grammar.specs.DeepValues.{query_keys};
+
+use doc_types::{Chunk, Hit};
+use occ_lists::Occ;
+use op_eval::{candidates, hits, occurrences};
+use query_grammar::Query;
+use srch_base::Steps;
+use std::alloc::Global;
+use std::marker::Brand;
+use std::sync::ledger::{Blank, Ledger};
+use std::test::Fail;
+
+/// Appends occurrences.
+fn put_occurrences(occs: &[Occ], into: &mut String) -> Result<(), Fail> {
+    let mut before = "";
+    for occ in occs {
+        let (field, first, last) = (occ.field, occ.first, occ.last);
+        write!(into, "{before}{field}.{first}-{last}")?;
+        before = " ";
+    }
+    if occs.is_empty() {
+        into.push('-')?;
+    }
+    Ok(())
+}
+
+/// Appends hits.
+fn put_hits(hits: &[Hit], into: &mut String) -> Result<(), Fail> {
+    let mut before = "";
+    for hit in hits {
+        let (query, word, field, position) = (hit.query, hit.word, hit.field, hit.position);
+        write!(into, "{before}{query}/{word}@{field}.{position}")?;
+        before = " ";
+    }
+    if hits.is_empty() {
+        into.push('-')?;
+    }
+    Ok(())
+}
+
+/// What the query finds in a row: its occurrences, and its hits by query position, field and position.
+fn told_row<C: Chunk, L: Ledger>(
+    alloc: Global,
+    query: &Query,
+    chunk: &C,
+    row: u32,
+    steps: &mut Steps<L>,
+) -> Result<String, Fail>
+    requires row { row < length (C.content chunk.now) }
+    requires keys { length (query_keys query.now) < 2 ^ 16 }
+{
+    let mut text = String::new(alloc);
+    let occs = occurrences(alloc, query, chunk, row, steps)?;
+    put_occurrences(occs.as_slice(), &mut text)?;
+    text.push_str(", ")?;
+    let mut list = hits(alloc, query, chunk, row, steps)?.list.into_vec();
+    list.sort_unstable_by_key(|hit| (hit.query, hit.field, hit.position));
+    put_hits(list.as_slice(), &mut text)?;
+    Ok(text)
+}
+
+/// What the query finds in the rows, of which these match: each of them by its id, and each other one of which it finds something.
+fn told_rows<C: Chunk, L: Ledger>(
+    alloc: Global,
+    query: &Query,
+    chunk: &C,
+    matching: &[u32],
+    steps: &mut Steps<L>,
+) -> Result<String, Fail>
+    requires { length (query_keys query.now) < 2 ^ 16 }
+{
+    let mut text = String::new(alloc);
+    let mut rest = matching;
+    for row in 0..chunk.rows() {
+        let id = chunk.id(row);
+        let found = told_row(alloc, query, chunk, row, steps)?;
+        let found = found.as_str();
+        match rest.split_first() {
+            Some((first, later)) if *first == row => {
+                rest = later;
+                write!(text, "; {id}: {found}")?;
+            }
+            _ => {
+                if found != "-, -" {
+                    write!(text, "; {id} doesn't match: {found}")?;
+                }
+            }
+        }
+    }
+    if !rest.is_empty() {
+        text.push_str("; and rows that aren't there, or out of order")?;
+    }
+    Ok(text)
+}
+
+/// Whether the others match where the first row that matches is dead.
+fn kills_one<C: Chunk, L: Ledger>(
+    alloc: Global,
+    query: &Query,
+    chunk: &C,
+    matching: &[u32],
+    steps: &mut Steps<L>,
+) -> Result<bool, Fail>
+    requires { length (query_keys query.now) < 2 ^ 16 }
+{
+    match matching.split_first() {
+        None => Ok(true),
+        Some((first, others)) => {
+            let left = candidates(alloc, query, chunk, &[*first], steps)?;
+            Ok(left.as_slice() == others)
+        }
+    }
+}
+
+fn told_by<L: Ledger, C: Chunk>(
+    alloc: Global,
+    query: &Query,
+    chunk: &C,
+    blank: Blank,
+) -> Result<String, Fail>
+    requires keys { length (query_keys query.now) < 2 ^ 16 }
+    requires name { blank.name ≡ L.name }
+    requires parts { blank.parts ≡ L.parts }
+    requires some { 0 < blank.parts }
+{
+    let mut steps = Steps::<L>::new(blank);
+    let matching = candidates(alloc, query, chunk, &[], &mut steps)?;
+    let mut text = told_rows(alloc, query, chunk, matching.as_slice(), &mut steps)?;
+    if !kills_one(alloc, query, chunk, matching.as_slice(), &mut steps)? {
+        text.push_str("; others where the first of them is dead")?;
+    }
+    Ok(text)
+}
+
+/// What a query finds in a chunk.
+pub(crate) fn told<C: Chunk>(alloc: Global, query: &Query, chunk: &C) -> Result<String, Fail>
+    requires { length (query_keys query.now) < 2 ^ 16 }
+{
+    let text = told_by::<Brand, C>(alloc, query, chunk, Blank::new(1))?;
+    let found = text.as_str().strip_prefix("; ").unwrap_or("none");
+    let mut told = String::new(alloc);
+    told.push_str(found)?;
+    Ok(told)
+}
+
+/// The rows that match.
+fn matching_by<L: Ledger, C: Chunk>(
+    alloc: Global,
+    query: &Query,
+    chunk: &C,
+    blank: Blank,
+) -> Result<Vec<u32>, Fail>
+    requires keys { length (query_keys query.now) < 2 ^ 16 }
+    requires name { blank.name ≡ L.name }
+    requires parts { blank.parts ≡ L.parts }
+    requires some { 0 < blank.parts }
+{
+    let mut steps = Steps::<L>::new(blank);
+    Ok(candidates(alloc, query, chunk, &[], &mut steps)?)
+}
+
+/// How many rows match.
+pub(crate) fn count<C: Chunk>(alloc: Global, query: &Query, chunk: &C) -> Result<usize, Fail>
+    requires { length (query_keys query.now) < 2 ^ 16 }
+{
+    Ok(matching_by::<Brand, C>(alloc, query, chunk, Blank::new(1))?.len())
+}

@@ -1,0 +1,107 @@
+"""Prints the documents and queries of docs/cases/evaluation.md as the constants that the tests of evaluation run over.
+
+At the top of the repository: python3 scripts/evaluation_cases.py > crates/eval_vectors/src/cases.rt
+"""
+import re
+import sys
+
+DOCUMENT = "docs/cases/evaluation.md"
+
+HEAD = """//! The documents and queries of docs/cases/evaluation.md, as scripts/evaluation_cases.py prints them: edit them there. A
+//! line `# S` begins what is of the set S. Parts of a line are separated by ` ⇒ `; the empty text is an empty part.
+"""
+
+PLACES = r"-|\d+\.\d+-\d+(?: \d+\.\d+-\d+)*"
+HITS = r"-|\d+/\d+@\d+\.\d+(?: \d+/\d+@\d+\.\d+)*"
+FOUND = rf"none|\d+: (?:{PLACES}), (?:{HITS})(?:; \d+: (?:{PLACES}), (?:{HITS}))*"
+WORDS = r"-|(?:\(sentence\)|\(paragraph\)|[^@ ]+)@\d+(?: (?:\(sentence\)|\(paragraph\)|[^@ ]+)@\d+)*"
+SPANS = r"-|[^@ ]+@\d+-\d+(?: [^@ ]+@\d+-\d+)*"
+
+
+def cells(line):
+    """The cells of a table's row, None for any other line."""
+    if not (line.startswith("| ") and line.endswith(" |")):
+        return None
+    return [cell.replace("\\|", "|") for cell in re.split(r"(?<!\\) \| |(?<!\\) \|$", line[2:])][:-1]
+
+
+def text(cell):
+    """What a cell with a text says."""
+    if cell == "(empty)":
+        return ""
+    inside = re.fullmatch(r"`(.*)`", cell)
+    assert inside, cell
+    return inside.group(1)
+
+
+def read(document):
+    """The sets as (name, schema line, documents, tokens), and the queries as (set, query, found)."""
+    sets, queries = {}, []
+    name = columns = None
+    for line in document.split("\n"):
+        head = re.fullmatch(r"### `(\w+)`", line)
+        if head:
+            name = head.group(1)
+            assert name not in sets, name
+            sets[name] = None
+        about = re.match(r"Fields (.*?); zones (.*?); `index_sp = ([01])`, `html_strip = ([01])`\.", line)
+        if about:
+            fields, zones, sp, strip = about.groups()
+            sets[name] = (f"{fields}; {zones}; {sp}; {strip}", [], [])
+        of = re.fullmatch(r"Set `(\w+)`\.", line)
+        if of:
+            name = of.group(1)
+            assert sets[name], name
+        row = cells(line)
+        if row is None:
+            columns = columns if line.startswith("|---") else None
+        elif columns is None:
+            columns = row
+        elif columns[0] == "id":
+            assert len(row) == len(columns) and row[0].isdigit(), line
+            sets[name][1].append((row[0], [text(cell) for cell in row[1:]]))
+        elif columns[0] == "place":
+            place, words, spans = row
+            assert re.fullmatch(r"\d+\.\d+", place) and re.fullmatch(WORDS, words) and re.fullmatch(SPANS, spans), line
+            sets[name][2].append((place, words, spans))
+        elif columns == ["query", "found"]:
+            query, found = row
+            assert re.fullmatch(FOUND, found), line
+            queries.append((name, text(query), found))
+        else:
+            raise AssertionError(line)
+    return sets, queries
+
+
+def constant(about, name, lines):
+    lines = "\n".join(lines)
+    assert '"#' not in lines and "\t" not in lines
+    return f'/// {about}\npub(crate) const {name}: &str = r#"\n{lines}\n"#;\n'
+
+
+def headed(rows):
+    """Lines, with one of its own where the set changes."""
+    before = None
+    for name, line in rows:
+        if name != before:
+            yield f"# {name}"
+        before = name
+        yield line
+
+
+def main():
+    with open(sys.argv[1] if len(sys.argv) > 1 else DOCUMENT, encoding="utf8") as file:
+        sets, queries = read(file.read())
+    print(HEAD)
+    schemas = [f"{name} ⇒ {about}" for name, (about, _, _) in sets.items()]
+    print(constant("Sets with their fields, their zones, `index_sp` and `html_strip`.", "SETS", schemas))
+    documents = [(name, " ⇒ ".join([number] + texts)) for name, (_, docs, _) in sets.items() for number, texts in docs]
+    print(constant("Documents: the id and the text of each field.", "DOCUMENTS", headed(documents)))
+    tokens = [(name, " ⇒ ".join(row)) for name, (_, _, rows) in sets.items() for row in rows]
+    print(constant("Fields of documents as `id.field` with their words and boundaries, and their spans.", "TOKENS", headed(tokens)))
+    asked = [(name, f"{query} ⇒ {found}") for name, query, found in queries]
+    print(constant("Queries with what they find.", "QUERIES", headed(asked)), end="")
+
+
+if __name__ == "__main__":
+    main()
