@@ -1,0 +1,16 @@
+-- counts of the elements of a list that pass a test
+pub mod Counting
+-- the greatest of some numbers
+pub mod Greatest
+-- hits that differ by a number below a limit
+pub mod FewHits
+-- hits at one offset
+pub mod AtOffset
+-- the table of the counts of all offsets
+pub mod OffsetTable
+-- the table of the words that were met
+pub mod WordTable
+-- what a field gives
+pub mod FieldValues
+-- offsets as whole numbers
+pub mod WholeOffsets

@@ -1,0 +1,4 @@
+-- what serves proofs and private functions alone
+
+-- what a field gives, and what is asked of hits for it
+pub mod FieldValue

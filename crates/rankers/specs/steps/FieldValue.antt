@@ -1,0 +1,36 @@
+-- What a field gives, and what is asked of hits for it.
+use Rattle.std.specs.Prelude.{ℕ, ◌+◌, ◌-◌, ◌*◌, ◌^◌, ◌≤◌, List, All, AllPairs, if◌then◌else◌, ◌==◌, sum_by}
+use Rattle.std.specs.List.{list_any, enumerate_from}
+use Rattle.doc_types.specs.declared.hits.Hit.{Hit}
+use Rattle.doc_types.specs.declared.tokens.TheConstants.{MAX_POSITION}
+use Rattle.rankers.specs.declared.ranker.Ranker.{Ranker}
+use Rattle.rankers.specs.declared.ranker.Ranker.TheVariants as rankers
+use Rattle.rankers.specs.Weight.{Differ, in_field, hit_count, word_count, lcs}
+
+-- a hit whose numbers are within the limits, whatever the query and the fields
+pub record IsWithin (hit : Hit) : Type 0 where
+  pub from_one : 1 ≤ hit.query
+  pub query : hit.query ≤ 255
+  pub position : hit.position ≤ MAX_POSITION
+
+-- hits within the limits, of which no two are of one query position at one place
+pub record AreWithin (hits : List Hit) : Type 0 where
+  pub each : All IsWithin hits
+  pub apart : AllPairs Differ hits
+
+-- what a field with hits gives: its number, its weight and its hits, `most` being the number of keywords times the sum of all weights
+abbrev pub own_value : Ranker → ℕ → ℕ → ℕ → List Hit → ℕ
+own_value rankers.None most number weight own = 0
+own_value rankers.WordCount most number weight own = hit_count own * weight
+own_value rankers.Proximity most number weight own = lcs own * weight
+own_value rankers.MatchAny most number weight own = (word_count own + (lcs own - 1) * most) * weight
+own_value rankers.FieldMask most number weight own = 2 ^ number
+
+-- what a field gives, with hits or without
+abbrev pub field_value : Ranker → ℕ → ℕ → ℕ → List Hit → ℕ
+field_value ranker most number weight hits =
+    if list_any (λ hit. hit.field == number) hits then own_value ranker most number weight (in_field number hits) else 0
+
+-- what all fields give
+abbrev pub fields_value : Ranker → ℕ → List ℕ → List Hit → ℕ
+fields_value ranker most weights hits = sum_by (λ e. field_value ranker most e.0 e.1 hits) (enumerate_from 0 weights)

@@ -1,0 +1,13 @@
+//! The weight of a document by its hits, for each ranker.
+#![tactic(auto)]
+
+#[cfg(test)]
+mod cases;
+pub mod law;
+mod offsets;
+mod ranker;
+mod weighing;
+mod words;
+
+pub use ranker::{Ranker, Weights};
+pub use weighing::weight;

@@ -1,0 +1,24 @@
+use srch_base::Items;
+
+/// How documents that match are weighed. All but the first sum up what each field that has a hit gives.
+#[derive(Clone, Copy)]
+pub enum Ranker {
+    /// Each document weighs 1.
+    None,
+    /// A field gives its weight for each of its hits.
+    WordCount,
+    /// A field gives its weight for each of the most keywords that stand in it as they do in the query.
+    Proximity,
+    /// A field gives its weight for each distinct word with a hit, and as much as all fields could give by `Proximity` for each
+    /// keyword beyond the first that stands in it as in the query.
+    MatchAny,
+    /// A field gives 2 to the power of its number.
+    FieldMask,
+}
+
+/// The weights of fields: one for each field, from 1 to 65,535.
+#[derive(Drop)]
+pub struct Weights {
+    /// By the fields' numbers.
+    pub list: Items<u32>,
+}
