@@ -1,0 +1,12 @@
+-- the order of rows is a total one
+pub mod Ordered
+-- lists in order: each list has such an order, and only one where no two elements tie
+pub mod Sorting
+-- rows of distinct ids in order
+pub mod OneOrder
+-- the first rows, by a selection
+pub mod Selected
+-- the page, by the first rows
+pub mod Cutting
+-- rows that are moved out one by one
+pub mod Moved

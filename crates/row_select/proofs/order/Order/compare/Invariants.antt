@@ -1,0 +1,6 @@
+use Rattle.std.proofs.Common.{◌≡◌, drop}
+use Rattle.row_select.specs.Orders.{by_keys}
+use Rattle.row_select.proofs.order.Order.compare.Given as goal
+
+abbrev pub invariant-loop-column : goal.invariant-loop-column
+invariant-loop-column l = by_keys l.self.keys l.row l.other ≡ by_keys (drop l.column-index l.column-items) l.row l.other

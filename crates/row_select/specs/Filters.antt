@@ -1,0 +1,30 @@
+-- Which rows a condition of WHERE holds of (the manual of Sphinx, "SELECT syntax").
+use Rattle.std.specs.Prelude.{ℤ, List, Bool, ◌&&◌, not, int_lt, int_le, if◌then◌else◌}
+use Rattle.std.specs.List.{list_any}
+use Rattle.std.specs.Ordering.{int_eq}
+use Rattle.row_select.specs.Columns.{column_value}
+use Rattle.row_select.specs.declared.filter.CompareOp.{CompareOp}
+use Rattle.row_select.specs.declared.filter.CompareOp.TheVariants as operators
+use Rattle.row_select.specs.declared.filter.Filter.{Filter}
+use Rattle.row_select.specs.declared.filter.Filter.TheVariants as filters
+use Rattle.row_select.specs.declared.row.Row.{Row}
+
+-- a value compares so with a number
+abbrev pub compares : CompareOp → ℤ → ℤ → Bool
+compares operators.Equal x y = int_eq x y
+compares operators.NotEqual x y = not (int_eq x y)
+compares operators.Less x y = int_lt x y
+compares operators.Greater x y = int_lt y x
+compares operators.AtMost x y = int_le x y
+compares operators.AtLeast x y = int_le y x
+
+-- a number stands in a list
+abbrev pub is_among : List ℤ → ℤ → Bool
+is_among numbers x = list_any (λ number. int_eq number x) numbers
+
+-- a condition holds of a row
+abbrev pub holds : Filter → Row → Bool
+holds (filters.Compare column op number) row = compares op (column_value column row) number
+holds (filters.Among column numbers negated) row =
+    if negated then not (is_among numbers (column_value column row)) else is_among numbers (column_value column row)
+holds (filters.Between column low high) row = int_le low (column_value column row) && int_le (column_value column row) high

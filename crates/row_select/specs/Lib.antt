@@ -1,0 +1,10 @@
+-- what a row holds in a column
+pub mod Columns
+-- which rows a condition holds of
+pub mod Filters
+-- which of two rows comes first, and rows in order
+pub mod Orders
+-- the page
+pub mod Pages
+-- what serves proofs and private functions alone
+pub mod steps

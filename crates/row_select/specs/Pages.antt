@@ -1,0 +1,15 @@
+-- The page of the rows that a select found.
+use Rattle.std.specs.Prelude.{◌≡◌, List, take, drop}
+use Rattle.row_select.specs.Orders.{AreInOrder}
+use Rattle.row_select.specs.declared.order.Order.{Order}
+use Rattle.row_select.specs.declared.page.Page.{Page}
+use Rattle.row_select.specs.declared.row.Row.{Row}
+
+-- the page of rows that are in order: only the first `max_matches` exist for it, `offset` of them are passed over, and at most
+-- `count` follow
+abbrev pub cut : Page → List Row → List Row
+cut page rows = take page.count (drop page.offset (take page.max_matches rows))
+
+-- what is shown of the found rows: the page of them, once they are in order
+abbrev pub IsTop : List Row → Order → Page → List Row → Type 0
+IsTop rows order page shown = (sorted : List Row) × AreInOrder order rows sorted × (shown ≡ cut page sorted)
