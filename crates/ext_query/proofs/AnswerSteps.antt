@@ -1,5 +1,5 @@
 -- What the reader of a text answers, by what its parts found in the marks that are given.
-use Rattle.std.proofs.Common.{◌≡◌, ◌≢◌, ℕ, ◌≤◌, List, [], ◌∷◌, ◌++◌, true, false, Bool, length, min, Some, None, inl, inr, refl, sym, ◌∙◌, ap, subst, arith, IsUtf8}
+use Rattle.std.proofs.Common.{◌≡◌, ◌≢◌, ℕ, ◌≤◌, List, [], ◌++◌, true, false, Bool, length, min, Some, None, inl, refl, sym, ◌∙◌, ap, subst, arith, IsUtf8}
 use Rattle.std.specs.Prelude.{Option, Contains}
 use Rattle.std.specs.List.{flat_map}
 use Rattle.token_grammar.specs.Reading.{IsNextOf}
@@ -17,7 +17,7 @@ use Rattle.query_grammar.specs.declared.class.Class.TheVariants as classes
 use Rattle.query_grammar.specs.declared.fault.QueryFault.{QueryFault}
 use Rattle.query_grammar.specs.declared.query.Node.{Node}
 use Rattle.query_grammar.specs.Grammar.{Is, IsQuery}
-use Rattle.query_grammar.specs.QueryFaults.{Any, Told, Stops, IsNamed, IsRead, IsCandidate, by_stop, by_itself, IsFirstFault}
+use Rattle.query_grammar.specs.QueryFaults.{Any, Told, Stops, IsNamed, IsCandidate, by_stop, by_itself, IsFirstFault}
 use Rattle.query_grammar.specs.Queries.{keys_of, told_of, IsRefused, IsValue}
 use Rattle.query_grammar.specs.steps.Answers.{IsFound}
 use Rattle.query_grammar.specs.steps.Classes.{is_ended}

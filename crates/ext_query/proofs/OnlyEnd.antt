@@ -1,7 +1,7 @@
 -- A text of which nothing is left but its end is seen by its first mark.
 use Rattle.std.proofs.Common.{◌≡◌, ◌⊎◌, inl, inr, ℕ, ◌<◌, Bool, true, false, List, [], ◌∷◌, ◌++◌, refl, sym, ap, ◌∙◌, subst, arith}
-use Rattle.std.specs.Prelude.{None, ◌&&◌, not}
-use Rattle.std.proofs.lemmas.Bool.{and_parts, eqb-true}
+use Rattle.std.specs.Prelude.{None, not}
+use Rattle.std.proofs.lemmas.Bool.{and_parts}
 use Rattle.token_grammar.specs.Reading.{IsNextOf}
 use Rattle.query_marks.specs.declared.mark.Mark.{Mark}
 use Rattle.query_marks.specs.declared.mark.Sign.{Sign}

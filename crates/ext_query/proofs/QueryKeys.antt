@@ -1,7 +1,7 @@
--- A query has the keywords of its text's marks, in their order; so they are 255 at most.
-use Rattle.std.proofs.Common.{◌≡◌, ℕ, ◌≤◌, zero, suc, List, [], ◌∷◌, ◌++◌, Bool, true, false, Option, Some, None, length, inl, inr, refl, sym, ◌∙◌, ap, append_assoc, append-nil, arith}
+-- A query has the keywords of its text's marks, in their order; so they are 255 at most, and numbered from 1.
+use Rattle.std.proofs.Common.{◌≡◌, ℕ, ◌≤◌, zero, suc, List, [], ◌∷◌, ◌++◌, Bool, true, false, Option, Some, None, length, map, inl, inr, refl, subst, sym, ◌∙◌, ap, append_assoc, append-nil, arith}
 use Rattle.std.specs.Prelude.{Ok}
-use Rattle.std.specs.List.{flat_map}
+use Rattle.std.specs.List.{flat_map, range_with_len}
 use Rattle.std.specs.Str.{IsUtf8}
 use Rattle.std.proofs.lemmas.List.Concat.{flat_map-append}
 use Rattle.token_grammar.specs.Values.{◌then◌, IsPerhaps, AreInRow}
@@ -22,7 +22,7 @@ use Rattle.query_grammar.specs.DeepValues.{IsDeepRoot, node_keys, query_keys}
 use Rattle.query_grammar.specs.Grammar.{Section, Is, IsLeaf, IsLoose, joined, AreJoined, IsJoin, IsChoice, chosen, IsAlt, IsItem, IsLimit, IsSection, node_of, items_of, all_items, IsAnd, IsOpenAnd, IsOrder, ordered, IsAndNode, IsExpr, IsGroup, IsQuery}
 use Rattle.query_grammar.specs.Queries.{keys_of, IsValue, ReadsQuery}
 use Rattle.query_grammar.proofs.NodeKeys.{keys_and, keys_word, keys_quoted, keys_or, keys_maybe, keys_before, keys_near, keys_sentence, keys_paragraph, keys_span}
-use Rattle.query_grammar.proofs.KeyCount.{few_keywords}
+use Rattle.query_grammar.proofs.KeyCount.{few_keywords, numbered_keywords}
 use Rattle.ext_query.proofs.ValueDeep.{value_deep}
 
 -- the keywords of marks
@@ -204,3 +204,13 @@ pub few_when_read : (setting : Setting) (text : List ℕ) (query : Query) → Is
 few_when_read setting text query utf8 reads =
     let some = has_pieces setting.fold text utf8 in
     few_of_value setting text some.0 query utf8 some.1 (reads some.0 some.1)
+
+-- the query positions of keywords are 1, 2, 3 and so on
+abbrev pub AreNumbered : List Key → Type 0
+AreNumbered keys = map (λ key. key.query) keys ≡ range_with_len 1 (length keys)
+
+pub numbered_when_read : (setting : Setting) (text : List ℕ) (query : Query) → IsUtf8 text → ReadsQuery setting text (Ok query) → AreNumbered (query_keys query)
+numbered_when_read setting text query utf8 reads =
+    let some = has_pieces setting.fold text utf8 in
+    let value = reads some.0 some.1 in
+    subst AreNumbered (value_has setting text some.0 query value) (numbered_keywords setting text some.0 utf8 some.1 (value_deep setting text some.0 query value).right)

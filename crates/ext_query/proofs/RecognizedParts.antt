@@ -2,7 +2,6 @@
 use Rattle.std.proofs.Common.{◌≡◌, ℕ, zero, suc, List, [], ◌∷◌, true, false, inl, inr, refl, sym, subst}
 use Rattle.std.specs.Prelude.{None, Result, Ok, Err}
 use Rattle.srch_base.specs.declared.faults.Or.{Or}
-use Rattle.srch_base.specs.declared.faults.Or.TheVariants.{Fault}
 use Rattle.token_grammar.specs.Language.{one, many, optional, repeated, In, nullable, ◌⨾◌}
 use Rattle.token_grammar.specs.Firsts.{all_in}
 use Rattle.token_grammar.specs.Values.{IsPerhaps}

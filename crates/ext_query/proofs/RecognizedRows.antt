@@ -14,14 +14,14 @@ use Rattle.token_grammar.specs.steps.Deciding.{begun, excludes}
 use Rattle.token_grammar.specs.steps.Progress.{TakesRow}
 use Rattle.token_grammar.proofs.Bools.{clash}
 use Rattle.token_grammar.proofs.Laws.{has_nullable}
-use Rattle.token_grammar.proofs.Rows.{any_follows, takes_seq, plain_seq, plain_next, fails_first, takes_as, takes_shorter, from_there, now_there}
+use Rattle.token_grammar.proofs.Rows.{any_follows, takes_seq, plain_seq, plain_next, takes_as, takes_shorter, from_there, now_there}
 use Rattle.token_grammar.proofs.Choices.{takes_if, fails_if, takes_second, fails_second}
 use Rattle.token_grammar.proofs.Lists.{row_none, row_more, row_fails, row_done}
 use Rattle.query_marks.specs.declared.mark.Mark.{Mark}
 use Rattle.query_grammar.specs.declared.class.Class.{Class}
 use Rattle.query_grammar.specs.steps.Classes.{class_number, same_class, fits}
 use Rattle.query_grammar.specs.steps.MarkAlphabet.{query_marks}
-use Rattle.ext_query.specs.steps.Recognizing.{Recognized, Recognizes, Taken, TakesEither}
+use Rattle.ext_query.specs.steps.Recognizing.{Recognized, Recognizes, TakesEither}
 use Rattle.ext_query.proofs.RowSteps.{IsOver, TakesFrom, from_first, from_more, from_fails, from_done, over_else, over_either, takes_less}
 
 -- the exit of a `?`

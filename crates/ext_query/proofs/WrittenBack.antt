@@ -1,15 +1,14 @@
 -- A written query is read back: its text has it as its value.
-use Rattle.std.proofs.Common.{arith, ◌≡◌, ◌≤◌, ◌<◌, ◌+◌, ℕ, List, [], ◌∷◌, ◌++◌, Option, Some, None, length, map, refl, sym, ◌∙◌, ap, subst, chars, IsUtf8}
+use Rattle.std.proofs.Common.{arith, ◌≡◌, ◌≤◌, ℕ, List, [], ◌∷◌, ◌++◌, Option, Some, None, length, refl, sym, ◌∙◌, ap, subst, chars, IsUtf8}
 use Rattle.std.specs.Prelude.{◌≢◌, Contains}
 use Rattle.std.specs.Option.{option_map}
 use Rattle.std.proofs.lemmas.List.Elements.{All-nil}
 use Rattle.doc_types.specs.declared.schema.Schema.{Schema}
 use Rattle.doc_types.specs.Schemas.{IsSchema}
 use Rattle.query_pieces.specs.declared.piece.Piece.{Piece}
-use Rattle.query_pieces.specs.Pieces.{Splits, ArePieces}
+use Rattle.query_pieces.specs.Pieces.{ArePieces}
 use Rattle.query_pieces.proofs.OneReading.{pieces_same}
 use Rattle.query_marks.specs.declared.key.Key.{Key}
-use Rattle.query_marks.specs.declared.key.Limit.{Limit}
 use Rattle.query_marks.specs.declared.mark.Mark.{Mark}
 use Rattle.query_marks.specs.declared.mark.Sign.{Sign}
 use Rattle.query_marks.specs.declared.mark.Sign.TheVariants as signs
@@ -19,17 +18,17 @@ use Rattle.query_grammar.specs.declared.query.Query.{Query}
 use Rattle.query_grammar.specs.Grammar.{Is, IsOpenAnd, IsQuery}
 use Rattle.query_grammar.specs.Queries.{keys_of, IsRoot, IsValue}
 use Rattle.query_grammar.specs.DeepValues.{IsDeepRoot, IsDeepValue, IsShallow, node_keys, query_keys, GivesChars, ReadsBack}
-use Rattle.query_write.specs.Written.{WrittenToken, node_tokens, query_tokens, tokens_text, written}
+use Rattle.query_write.specs.Written.{node_tokens, query_tokens, tokens_text, written}
 use Rattle.query_write.specs.steps.Signs.{ArePiecesOf}
-use Rattle.query_write.specs.steps.TokenRun.{standing, start, signs_of, after_tokens}
+use Rattle.query_write.specs.steps.TokenRun.{start, signs_of}
 use Rattle.query_write.specs.steps.Writable.{IsRightLimit, IsWritable}
-use Rattle.query_write.specs.steps.Carried.{every, Carries}
+use Rattle.query_write.specs.steps.Carried.{every}
 use Rattle.query_write.proofs.SpellLetters.{HasNone}
 use Rattle.query_write.proofs.SpellRows.{text_pieces}
 use Rattle.query_write.proofs.TokenMarks.{marks_are}
 use Rattle.query_write.proofs.TreeSpaced.{TokensStand, tree_tokens}
 use Rattle.query_write.proofs.TreeQuery.{ReadsTree, tree_query}
-use Rattle.query_write.proofs.CarriedMarks.{Each, carried}
+use Rattle.query_write.proofs.CarriedMarks.{carried}
 use Rattle.query_write.proofs.CarriedQueries.{query_makes}
 use Rattle.query_write.proofs.TableChanges.{Kept, each_from, writable_kept}
 use Rattle.query_write.proofs.KeyCounts.{marks_count, signs_count, carries_count, carries_few, tokens_count, ended_count, marks_signs}

@@ -1,6 +1,6 @@
 -- Marks that are cut short have the first fault of all marks of the text: either reading stops in what both have, or all of that
 -- is read, and the first mark in it with which something is wrong is the first fault of both.
-use Rattle.std.proofs.Common.{◌≡◌, ◌≢◌, ◌⊎◌, inl, inr, ℕ, ◌<◌, true, false, List, [], ◌∷◌, ◌++◌, length, refl, sym, ◌∙◌, ap, subst, arith, append_assoc, append-nil, IsUtf8}
+use Rattle.std.proofs.Common.{◌≡◌, ◌⊎◌, inl, inr, ℕ, ◌<◌, true, false, List, [], ◌∷◌, ◌++◌, length, refl, sym, ◌∙◌, ap, subst, arith, append_assoc, append-nil, IsUtf8}
 use Rattle.std.specs.Prelude.{Option, Some, None, Contains, ◌||◌}
 use Rattle.std.specs.Option.{is_some}
 use Rattle.std.proofs.lemmas.List.Elements.{Contains-append_left, Contains-append_right, Contains-append_cases}
@@ -19,7 +19,7 @@ use Rattle.query_grammar.specs.QueryFaults.{order, Any, Told, Stops, IsRead, Fir
 use Rattle.query_grammar.specs.steps.Answers.{StopsAt}
 use Rattle.query_grammar.specs.steps.Classes.{is_ended}
 use Rattle.query_grammar.specs.steps.MarkFacts.{Ascend, AreOrderly}
-use Rattle.query_grammar.proofs.MarkClasses.{nothing_twice, split}
+use Rattle.query_grammar.proofs.MarkClasses.{split}
 use Rattle.query_grammar.proofs.MarkPlaces.{none_contained, first_contained, contained_cases, ascend_apart}
 use Rattle.query_grammar.proofs.NegatedItems.{section_first, and_first}
 use Rattle.query_grammar.proofs.OneFault.{as_stop, one_read, read_contained, one_fault}

@@ -1,11 +1,12 @@
--- A text with which nothing is wrong has at most 255 keywords.
-use Rattle.std.proofs.Common.{◌≡◌, ◌≢◌, ℕ, suc, ◌+◌, ◌<◌, ◌≤◌, Bool, true, false, List, [], ◌∷◌, length, length-append, refl, ap, arith, IsUtf8}
+-- A text with which nothing is wrong has at most 255 keywords, numbered from 1.
+use Rattle.std.proofs.Common.{◌≡◌, ◌≢◌, ℕ, zero, suc, ◌+◌, ◌<◌, ◌≤◌, Bool, true, false, List, [], ◌∷◌, ◌++◌, length, length-append, map, refl, sym, ap, ◌∙◌, subst, arith, IsUtf8}
 use Rattle.std.specs.Prelude.{Option, Some, None, MatchOption, Contains, if◌then◌else◌, nat_le, ◌==◌}
-use Rattle.std.specs.List.{flat_map}
+use Rattle.std.specs.List.{flat_map, range_with_len}
 use Rattle.std.specs.Option.{option_map}
 use Rattle.std.specs.Str.{IsCharBoundary}
 use Rattle.std.proofs.lemmas.Bool.{eqb-true}
 use Rattle.std.proofs.lemmas.Bool.Decides.{nat_tests}
+use Rattle.std.proofs.lemmas.List.{map-append}
 use Rattle.std.proofs.lemmas.Str.{IsCharBoundary-start}
 use Rattle.query_pieces.specs.declared.piece.Form.{Form}
 use Rattle.query_pieces.specs.declared.piece.Form.TheVariants as forms
@@ -26,19 +27,51 @@ use Rattle.query_marks.specs.declared.mark.Sign.TheVariants as signs
 use Rattle.query_marks.specs.Marks.{Setting, nameless, keys_after, nobody, nobodies, keys_of as keys_from, passes_limit, counted, word_sign, quoted_sign, zone_sign, sign_of, wrong_of, wrong_count, wrong_quoted, mark_at, after, before_marks, marks_from, marks_of, at_start, slice_words}
 use Rattle.query_grammar.specs.Queries.{keys_of}
 use Rattle.query_grammar.proofs.MarkPlaces.{first_contained, contained_later}
-use Rattle.query_grammar.proofs.WordLetters.{stands_word}
+use Rattle.query_grammar.proofs.OneWord.{one_word}
+
+-- ---- numbers
+-- the query positions of keywords
+abbrev positions : List Key → List ℕ
+positions keys = map (λ key. key.query) keys
+
+-- the keywords are numbered one after the other, after so many
+abbrev AreNumbered : ℕ → List Key → Type 0
+AreNumbered n keys = positions keys ≡ range_with_len (n + 1) (length keys)
+
+range_append : (a n m : ℕ) → range_with_len a (n + m) ≡ range_with_len a n ++ range_with_len (a + n) m
+range_append a zero m =
+    let e : zero + m ≡ m = omega arith in
+    let f : a ≡ a + zero = omega arith in
+    ap (range_with_len a) e ∙ ap (λ k. range_with_len k m) f
+range_append a (suc n) m =
+    let e : suc n + m ≡ suc (n + m) = omega arith in
+    let f : a + 1 + n ≡ a + suc n = omega arith in
+    ap (range_with_len a) e ∙ ap (λ l. a ∷ l) (range_append (a + 1) n m) ∙ ap (λ k. a ∷ (range_with_len (a + 1) n ++ range_with_len k m)) f
+
+numbered_append : (n k : ℕ) (keys more : List Key) → n + length keys ≡ k → AreNumbered n keys → AreNumbered k more → AreNumbered n (keys ++ more)
+numbered_append n k keys more e first rest =
+    let f : k + 1 ≡ n + 1 + length keys = omega (arith, e) in
+    map-append (λ key. key.query) keys more
+    ∙ ap (λ l. l ++ positions more) first
+    ∙ ap (λ l. range_with_len (n + 1) (length keys) ++ l) (rest ∙ ap (λ j. range_with_len j (length more)) f)
+    ∙ sym (range_append (n + 1) (length keys) (length more))
+    ∙ ap (range_with_len (n + 1)) (sym (length-append keys more))
 
 -- ---- keywords of one piece
 keys_length : (n : ℕ) (limit : Limit) (start end : Bool) (words : List (List ℕ)) → length (keys_after n limit start end words) ≡ length words
 keys_length n limit start end [] = refl
 keys_length n limit start end (word ∷ words) = ap suc (keys_length (n + 1) limit start end words)
 
+keys_numbered : (n : ℕ) (limit : Limit) (start end : Bool) (words : List (List ℕ)) → AreNumbered n (keys_after n limit start end words)
+keys_numbered n limit start end [] = refl
+keys_numbered n limit start end (word ∷ words) = ap (λ l. (n + 1) ∷ l) (keys_numbered (n + 1) limit start end words)
+
 -- words that aren't above the limit are keywords
-keys_few : (n : ℕ) (limit : Limit) (start end : Bool) (words : List (List ℕ)) → n + length words ≤ 255 → length (keys_from n limit start end words) ≡ length words
+keys_few : (n : ℕ) (limit : Limit) (start end : Bool) (words : List (List ℕ)) → n + length words ≤ 255 → keys_from n limit start end words ≡ keys_after n limit start end words
 keys_few n limit start end words few = by (nat_le (n + length words) 255) refl
   where
-    by : (b : Bool) → nat_le (n + length words) 255 ≡ b → length (if b then keys_after n limit start end words else nobodies (length words)) ≡ length words
-    by true e = keys_length n limit start end words
+    by : (b : Bool) → nat_le (n + length words) 255 ≡ b → (if b then keys_after n limit start end words else nobodies (length words)) ≡ keys_after n limit start end words
+    by true e = refl
     by false e = absurd (above (n + length words) few e)
       where
         above : (k : ℕ) → k ≤ 255 → nat_le k 255 ≡ false → ⊥
@@ -62,22 +95,27 @@ keys_some n limit start end (word ∷ words) some = by (nat_le (n + length (word
     by false = nobody_some (length (word ∷ words)) (omega arith)
 
 -- ---- what a piece adds
--- how many keywords a sign has
-abbrev keys_in : Option Sign → ℕ
-keys_in None = 0
-keys_in (Some sign) = length (keys_of sign)
+-- the keywords of a sign
+abbrev keys_in : Option Sign → List Key
+keys_in None = []
+keys_in (Some sign) = keys_of sign
 
 -- nothing is wrong with a mark, where there is one
 abbrev IsRight : Option Wrong → Option Sign → Type 0
 IsRight wrong o = MatchOption o (Unit {0}) (λ sign. wrong ≡ None)
 
--- From so many keywords a right mark goes on to so many, and has no more than are between.
-record Counts (n k : ℕ) (wrong : Option Wrong) (o : Option Sign) : Type 0 where
-  few : n ≤ 255 → IsRight wrong o → k ≤ 255
-  has : n ≤ 255 → IsRight wrong o → n + keys_in o ≤ k
+-- After so many keywords these follow up to so many, numbered one after the other.
+record Adds (n k : ℕ) (keys : List Key) : Type 0 where
+  few : k ≤ 255
+  count : n + length keys ≡ k
+  numbered : AreNumbered n keys
 
-no_keys : (n : ℕ) (wrong : Option Wrong) (o : Option Sign) → keys_in o ≡ 0 → Counts n n wrong o
-no_keys n wrong o none = record { few = λ below right. below; has = λ below right. omega (arith, none) }
+-- After so many keywords a right mark has those up to so many.
+record Counts (n k : ℕ) (wrong : Option Wrong) (o : Option Sign) : Type 0 where
+  adds : n ≤ 255 → IsRight wrong o → Adds n k (keys_in o)
+
+no_keys : (n : ℕ) (wrong : Option Wrong) (o : Option Sign) → keys_in o ≡ [] → Counts n n wrong o
+no_keys n wrong o none = record { adds = λ below right. record { few = below; count = omega (arith, ap length none); numbered = subst (AreNumbered n) (sym none) refl } }
 
 within_limit : (n more : ℕ) → n ≤ 255 → passes_limit n more ≡ false → n + more ≤ 255
 within_limit n more below e = grind (arith, nat_tests)
@@ -96,16 +134,38 @@ right_quoted : (n : ℕ) (out : Bool) (more : ℕ) → wrong_quoted n out more �
 right_quoted n true more e = cc
 right_quoted n false more e = e
 
+-- keywords within the limit
+adds_keys : (n : ℕ) (limit : Limit) (start end : Bool) (words : List (List ℕ)) → n + length words ≤ 255 → Adds n (counted n (length words)) (keys_from n limit start end words)
+adds_keys n limit start end words few =
+    subst (Adds n (counted n (length words))) (sym (keys_few n limit start end words few)) (record {
+      few = omega (arith, few, counted_is n (length words) few);
+      count = omega (arith, counted_is n (length words) few, keys_length n limit start end words);
+      numbered = keys_numbered n limit start end words;
+    })
+
 -- a word
-word_counts : (n : ℕ) (keys : List Key) → keys ≢ [] → Counts n (counted n 1) (wrong_count n 1) (word_sign keys)
-word_counts n [] some = absurd (some refl)
-word_counts n (key ∷ keys) some = record {
-  few = λ below right. let few : n + 1 ≤ 255 = within_limit n 1 below (right_count n 1 right) in omega (arith, few, counted_is n 1 few);
-  has = λ below right. let few : n + 1 ≤ 255 = within_limit n 1 below (right_count n 1 right) in omega (arith, counted_is n 1 few);
-}
+word_keys : (keys : List Key) → length keys ≡ 1 → keys_in (word_sign keys) ≡ keys
+word_keys [] one = absurd (omega (arith, one))
+word_keys (key ∷ []) one = refl
+word_keys (key ∷ other ∷ keys) one = absurd (omega (arith, one))
+
+word_counts : (n : ℕ) (limit : Limit) (start end : Bool) (words : List (List ℕ)) → length words ≡ 1 → Counts n (counted n 1) (wrong_count n 1) (word_sign (keys_from n limit start end words))
+word_counts n limit start end words one = record { adds = λ below. by below (keys_from n limit start end words) refl }
+  where
+    same : n ≤ 255 → wrong_count n 1 ≡ None → Adds n (counted n 1) (keys_from n limit start end words)
+    same below right =
+        let few : n + 1 ≤ 255 = within_limit n 1 below (right_count n 1 right) in
+        subst (λ k. Adds n (counted n k) (keys_from n limit start end words)) one (adds_keys n limit start end words (omega (arith, few, one)))
+
+    by : n ≤ 255 → (keys : List Key) → keys_from n limit start end words ≡ keys → IsRight (wrong_count n 1) (word_sign keys) → Adds n (counted n 1) (keys_in (word_sign keys))
+    by below [] e right = absurd (keys_some n limit start end words (λ f. absurd (omega (arith, one, ap length f))) e)
+    by below (key ∷ keys) e right =
+        let adds : Adds n (counted n 1) (key ∷ keys) = subst (Adds n (counted n 1)) e (same below right) in
+        let few : n + 1 ≤ 255 = within_limit n 1 below (right_count n 1 right) in
+        subst (Adds n (counted n 1)) (sym (word_keys (key ∷ keys) (omega (arith, adds.count, counted_is n 1 few)))) adds
 
 -- a quoted piece
-quoted_keys : (keys : List Key) (how : How) → keys_in (quoted_sign keys how) ≡ length keys
+quoted_keys : (keys : List Key) (how : How) → keys_in (quoted_sign keys how) ≡ keys
 quoted_keys [] hows.Phrase = refl
 quoted_keys (key ∷ []) hows.Phrase = refl
 quoted_keys (key ∷ other ∷ keys) hows.Phrase = refl
@@ -126,8 +186,7 @@ quoted_right wrong (key ∷ keys) (hows.Share digits places) some right = right
 
 quoted_counts : (n : ℕ) (limit : Limit) (out : Bool) (words : List (List ℕ)) (how : How) → Counts n (counted n (length words)) (wrong_quoted n out (length words)) (quoted_sign (keys_from n limit false false words) how)
 quoted_counts n limit out words how = record {
-  few = λ below right. let fits : n + length words ≤ 255 = fit words below right in omega (arith, fits, counted_is n (length words) fits);
-  has = λ below right. let fits : n + length words ≤ 255 = fit words below right in omega (arith, counted_is n (length words) fits, quoted_keys (keys_from n limit false false words) how, keys_few n limit false false words fits);
+  adds = λ below right. subst (Adds n (counted n (length words))) (sym (quoted_keys (keys_from n limit false false words) how)) (adds_keys n limit false false words (fit words below right));
 }
   where
     fit : (words : List (List ℕ)) → n ≤ 255 → IsRight (wrong_quoted n out (length words)) (quoted_sign (keys_from n limit false false words) how) → n + length words ≤ 255
@@ -135,36 +194,36 @@ quoted_counts n limit out words how = record {
     fit (word ∷ words) below right =
         within_limit n (length (word ∷ words)) below (right_count n (length (word ∷ words)) (right_quoted n out (length (word ∷ words)) (quoted_right (wrong_quoted n out (length (word ∷ words))) (keys_from n limit false false (word ∷ words)) how (keys_some n limit false false (word ∷ words) (λ e. cc)) right)))
 
-form_counts : (setting : Setting) (state : _) (text : List ℕ) (form : Form) → ((w : Spelling) → form ≡ forms.Word w → slice_words setting text w.letters ≢ []) → Counts state.keywords (after setting state text form).keywords (wrong_of setting state text form) (sign_of setting state text form)
-form_counts setting state text (forms.Word w) some = word_counts state.keywords _ (keys_some state.keywords _ w.start w.end (slice_words setting text w.letters) (some w refl))
-form_counts setting state text (forms.Quoted q) some = quoted_counts state.keywords _ _ (slice_words setting text q.inside) _
-form_counts setting state text forms.Unclosed some = no_keys state.keywords _ _ refl
-form_counts setting state text forms.Open some = no_keys state.keywords _ _ refl
-form_counts setting state text forms.Close some = no_keys state.keywords _ _ refl
-form_counts setting state text forms.Or some = no_keys state.keywords _ _ refl
-form_counts setting state text forms.Before some = no_keys state.keywords _ _ refl
-form_counts setting state text forms.Not some = no_keys state.keywords _ _ refl
-form_counts setting state text forms.Maybe some = no_keys state.keywords _ _ refl
-form_counts setting state text forms.Sentence some = no_keys state.keywords _ _ refl
-form_counts setting state text forms.Paragraph some = no_keys state.keywords _ _ refl
-form_counts setting state text (forms.Near s) some = no_keys state.keywords _ _ refl
-form_counts setting state text (forms.Fields limit) some = no_keys state.keywords _ _ refl
-form_counts setting state text (forms.Zones limit) some = no_keys state.keywords _ _ (zones setting.zones)
+form_counts : (setting : Setting) (state : _) (text : List ℕ) (form : Form) → ((w : Spelling) → form ≡ forms.Word w → length (slice_words setting text w.letters) ≡ 1) → Counts state.keywords (after setting state text form).keywords (wrong_of setting state text form) (sign_of setting state text form)
+form_counts setting state text (forms.Word w) one = word_counts state.keywords _ w.start w.end (slice_words setting text w.letters) (one w refl)
+form_counts setting state text (forms.Quoted q) one = quoted_counts state.keywords _ _ (slice_words setting text q.inside) _
+form_counts setting state text forms.Unclosed one = no_keys state.keywords _ _ refl
+form_counts setting state text forms.Open one = no_keys state.keywords _ _ refl
+form_counts setting state text forms.Close one = no_keys state.keywords _ _ refl
+form_counts setting state text forms.Or one = no_keys state.keywords _ _ refl
+form_counts setting state text forms.Before one = no_keys state.keywords _ _ refl
+form_counts setting state text forms.Not one = no_keys state.keywords _ _ refl
+form_counts setting state text forms.Maybe one = no_keys state.keywords _ _ refl
+form_counts setting state text forms.Sentence one = no_keys state.keywords _ _ refl
+form_counts setting state text forms.Paragraph one = no_keys state.keywords _ _ refl
+form_counts setting state text (forms.Near s) one = no_keys state.keywords _ _ refl
+form_counts setting state text (forms.Fields limit) one = no_keys state.keywords _ _ refl
+form_counts setting state text (forms.Zones limit) one = no_keys state.keywords _ _ (zones setting.zones)
   where
-    span : (b : Bool) (numbers : List ℕ) → length (keys_of (if b then signs.Spans numbers else signs.Limits)) ≡ 0
+    span : (b : Bool) (numbers : List ℕ) → keys_of (if b then signs.Spans numbers else signs.Limits) ≡ []
     span true numbers = refl
     span false numbers = refl
 
-    zones : (list : List (List ℕ)) → length (keys_of (zone_sign list text limit)) ≡ 0
+    zones : (list : List (List ℕ)) → keys_of (zone_sign list text limit) ≡ []
     zones [] = refl
     zones (zone ∷ list) = span limit.span _
-form_counts setting state text forms.Relaxed some = no_keys state.keywords _ _ refl
-form_counts setting state text forms.Separator some = no_keys state.keywords _ _ refl
+form_counts setting state text forms.Relaxed one = no_keys state.keywords _ _ refl
+form_counts setting state text forms.Separator one = no_keys state.keywords _ _ refl
 
 -- ---- keywords of all pieces
--- how many keywords marks have
-abbrev count : List Mark → ℕ
-count marks = length (flat_map (λ m. keys_of m.sign) marks)
+-- the keywords of marks
+abbrev keys_on : List Mark → List Key
+keys_on marks = flat_map (λ m. keys_of m.sign) marks
 
 abbrev AreRight : List Mark → Type 0
 AreRight marks = (m : Mark) → Contains marks m → m.wrong ≡ None
@@ -173,18 +232,38 @@ before_right : (at : ℕ) (wrong : Option Wrong) (o : Option Sign) (marks : List
 before_right at wrong None marks right = (tt, right)
 before_right at wrong (Some sign) marks right = (right (mark_at at wrong sign) (first_contained (mark_at at wrong sign) marks), λ m has. right m (contained_later (mark_at at wrong sign) marks m has))
 
-before_count : (at : ℕ) (wrong : Option Wrong) (o : Option Sign) (marks : List Mark) → count (before_marks (option_map (mark_at at wrong) o) marks) ≡ keys_in o + count marks
-before_count at wrong None marks = omega arith
-before_count at wrong (Some sign) marks = length-append (keys_of sign) (flat_map (λ m. keys_of m.sign) marks)
+before_keys : (at : ℕ) (wrong : Option Wrong) (o : Option Sign) (marks : List Mark) → keys_on (before_marks (option_map (mark_at at wrong) o) marks) ≡ keys_in o ++ keys_on marks
+before_keys at wrong None marks = refl
+before_keys at wrong (Some sign) marks = refl
 
-few_from : (setting : Setting) (text : List ℕ) (state : _) (inside : Bool) (place : ℕ) (pieces : List Piece) → IsUtf8 text → IsCharBoundary text place → Splits setting.fold text inside place pieces (length text) → AreRight (marks_from setting text state place pieces) → state.keywords ≤ 255 → state.keywords + count (marks_from setting text state place pieces) ≤ 255
-few_from setting text state inside place [] utf8 seam splits right below = omega (arith, below)
-few_from setting text state inside place (p ∷ pieces) utf8 seam splits right below =
+-- the keywords of right marks, after so many
+record Holds (n : ℕ) (keys : List Key) : Type 0 where
+  few : n + length keys ≤ 255
+  numbered : AreNumbered n keys
+
+adds_more : (n k : ℕ) (keys more : List Key) → Adds n k keys → Holds k more → Holds n (keys ++ more)
+adds_more n k keys more adds rest = record {
+  few = omega (arith, adds.count, rest.few, length-append keys more);
+  numbered = numbered_append n k keys more adds.count adds.numbered rest.numbered;
+}
+
+holds_from : (setting : Setting) (text : List ℕ) (state : _) (inside : Bool) (place : ℕ) (pieces : List Piece) → IsUtf8 text → IsCharBoundary text place → Splits setting.fold text inside place pieces (length text) → AreRight (marks_from setting text state place pieces) → state.keywords ≤ 255 → Holds state.keywords (keys_on (marks_from setting text state place pieces))
+holds_from setting text state inside place [] utf8 seam splits right below = record { few = omega (arith, below); numbered = refl }
+holds_from setting text state inside place (p ∷ pieces) utf8 seam splits right below =
     let follows : Follows text place p.to = piece_follows setting.fold text inside place p utf8 seam splits.0 splits.1 in
-    let counts = form_counts setting state text p.form (λ w is. stands_word setting.fold text inside place p w utf8 seam splits.0 splits.1 is) in
-    let both = before_right place (wrong_of setting state text p.form) (sign_of setting state text p.form) (marks_from setting text (after setting state text p.form) p.to pieces) right in
-    let rest = few_from setting text (after setting state text p.form) (ends_in_letter p.form) p.to pieces utf8 follows.seam splits.2 both.1 (counts.few below both.0) in
-    omega (arith, counts.has below both.0, rest, before_count place (wrong_of setting state text p.form) (sign_of setting state text p.form) (marks_from setting text (after setting state text p.form) p.to pieces))
+    let next = after setting state text p.form in
+    let marks = marks_from setting text next p.to pieces in
+    let both = before_right place (wrong_of setting state text p.form) (sign_of setting state text p.form) marks right in
+    let adds : Adds state.keywords next.keywords (keys_in (sign_of setting state text p.form)) =
+    (form_counts setting state text p.form (λ w is. ap length (one_word setting.fold text inside place p w utf8 seam splits.0 splits.1 is).1)).adds below both.0 in
+    let rest = holds_from setting text next (ends_in_letter p.form) p.to pieces utf8 follows.seam splits.2 both.1 adds.few in
+    subst (Holds state.keywords) (sym (before_keys place (wrong_of setting state text p.form) (sign_of setting state text p.form) marks)) (adds_more state.keywords next.keywords (keys_in (sign_of setting state text p.form)) (keys_on marks) adds rest)
+
+holds : (setting : Setting) (text : List ℕ) (pieces : List Piece) → IsUtf8 text → ArePieces setting.fold text pieces → AreRight (marks_of setting text pieces) → Holds 0 (keys_on (marks_of setting text pieces))
+holds setting text pieces utf8 are right = holds_from setting text (at_start setting) false 0 pieces utf8 (IsCharBoundary-start text utf8) are right (omega arith)
 
 pub few_keywords : (setting : Setting) (text : List ℕ) (pieces : List Piece) → IsUtf8 text → ArePieces setting.fold text pieces → ((m : Mark) → Contains (marks_of setting text pieces) m → m.wrong ≡ None) → length (flat_map (λ m. keys_of m.sign) (marks_of setting text pieces)) ≤ 255
-few_keywords setting text pieces utf8 are right = omega (arith, few_from setting text (at_start setting) false 0 pieces utf8 (IsCharBoundary-start text utf8) are right (omega arith))
+few_keywords setting text pieces utf8 are right = omega (arith, (holds setting text pieces utf8 are right).few)
+
+pub numbered_keywords : (setting : Setting) (text : List ℕ) (pieces : List Piece) → IsUtf8 text → ArePieces setting.fold text pieces → ((m : Mark) → Contains (marks_of setting text pieces) m → m.wrong ≡ None) → map (λ key. key.query) (flat_map (λ m. keys_of m.sign) (marks_of setting text pieces)) ≡ range_with_len 1 (length (flat_map (λ m. keys_of m.sign) (marks_of setting text pieces)))
+numbered_keywords setting text pieces utf8 are right = (holds setting text pieces utf8 are right).numbered

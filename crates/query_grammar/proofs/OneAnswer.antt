@@ -1,7 +1,6 @@
 -- A text is one query or has one first fault, and not both.
-use Rattle.std.proofs.Common.{◌≡◌, ℕ, List, [], ◌∷◌, ◌++◌, Bool, true, false, Option, Some, None, length, refl, sym, ◌∙◌, ap, subst, IsUtf8}
-use Rattle.std.specs.List.{flat_map}
-use Rattle.token_grammar.specs.Language.{In, nullable}
+use Rattle.std.proofs.Common.{◌≡◌, ℕ, List, [], ◌∷◌, ◌++◌, Bool, true, false, Option, Some, None, refl, sym, ◌∙◌, ap, IsUtf8}
+use Rattle.token_grammar.specs.Language.{nullable}
 use Rattle.token_grammar.proofs.Laws.{has_nullable}
 use Rattle.query_pieces.specs.declared.piece.Piece.{Piece}
 use Rattle.query_pieces.specs.Pieces.{ArePieces}
@@ -14,7 +13,7 @@ use Rattle.query_grammar.specs.declared.query.Node.{Node}
 use Rattle.query_grammar.specs.declared.query.Query.{Query}
 use Rattle.query_grammar.specs.Grammar.{Is, IsGroup, IsExpr, IsQuery}
 use Rattle.query_grammar.specs.QueryFaults.{Any, Told}
-use Rattle.query_grammar.specs.Queries.{keys_of, told_of, IsRoot, IsValue, IsRefused}
+use Rattle.query_grammar.specs.Queries.{told_of, IsRoot, IsValue, IsRefused}
 use Rattle.query_grammar.specs.steps.MarkAlphabet.{query_marks}
 use Rattle.query_grammar.specs.steps.QueryGrammar.{others, expr_of}
 use Rattle.query_grammar.proofs.MarkOrder.{orderly}

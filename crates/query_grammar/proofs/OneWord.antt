@@ -1,8 +1,7 @@
 -- A piece that is a word spells one word.
-use Rattle.std.proofs.Common.{◌≡◌, ◌≢◌, ℕ, suc, ◌+◌, ◌-◌, ◌<◌, ◌≤◌, Bool, true, false, List, [], ◌∷◌, ◌++◌, length, drop, map, refl, sym, ap, ◌∙◌, subst, arith, lit<, IsUtf8}
-use Rattle.std.specs.Prelude.{All, Option, Some, None, ◌==◌, ◌||◌, encode_utf8_all, filter, slice_range, take}
+use Rattle.std.proofs.Common.{◌≡◌, ◌≢◌, ℕ, suc, ◌+◌, ◌-◌, ◌<◌, ◌≤◌, Bool, true, false, List, [], ◌∷◌, ◌++◌, length, drop, map, refl, sym, ap, ◌∙◌, arith, lit<, IsUtf8}
+use Rattle.std.specs.Prelude.{All, Option, Some, ◌==◌, ◌||◌, encode_utf8_all, filter, slice_range, take}
 use Rattle.std.specs.Char.{len_utf8, encode_utf8}
-use Rattle.std.specs.List.{slice_split}
 use Rattle.std.specs.Str.{IsCharBoundary, chars}
 use Rattle.std.proofs.Math.Seq.{take-append-add, drop-append_seam}
 use Rattle.std.proofs.lemmas.Bool.{eqb-true}
@@ -20,9 +19,9 @@ use Rattle.query_pieces.specs.steps.Ends.{Follows}
 use Rattle.query_pieces.proofs.ByteRuns.{byte_within}
 use Rattle.query_pieces.proofs.Seams.{byte_inside, seam_next}
 use Rattle.query_pieces.proofs.EachPiece.{letter_follows}
-use Rattle.query_marks.specs.QueryWords.{letters_from, letters_in, separates, has_letters, runs_in, word_of, words_in}
+use Rattle.query_marks.specs.QueryWords.{letters_in, separates, has_letters, runs_in, word_of, words_in}
 use Rattle.query_marks.specs.LimitNames.{bytes_of}
-use Rattle.query_grammar.proofs.WordLetters.{IsCharAt, IsSpelled, escaped, plain, spelled, letters_ahead, char_byte, tests_apart, stands_run}
+use Rattle.query_grammar.proofs.WordLetters.{IsCharAt, escaped, plain, spelled, letters_ahead, char_byte, tests_apart, stands_run}
 
 -- ---- the first character of a slice
 

@@ -1,7 +1,6 @@
 -- What holds of the marks of each text.
 use Rattle.std.specs.Prelude.{◌≡◌, ◌<◌, List, [], ◌∷◌, true, None, Contains}
 use Rattle.query_marks.specs.declared.mark.Mark.{Mark}
-use Rattle.query_marks.specs.declared.mark.Sign.{Sign}
 use Rattle.query_marks.specs.declared.mark.Sign.TheVariants as signs
 use Rattle.query_grammar.specs.steps.Classes.{is_ended}
 

@@ -1,4 +1,4 @@
-use Rattle.std.proofs.Common.{◌≡◌, ℕ, List, length, min, Err, true, false, Option, Some, None, refl, sym, ◌∙◌, ap, subst}
+use Rattle.std.proofs.Common.{◌≡◌, ℕ, length, min, Err, true, false, Option, Some, None, sym, ◌∙◌, ap, subst}
 use Rattle.std.specs.List.{flat_map}
 use Rattle.srch_base.specs.declared.faults.Or.{Or}
 use Rattle.charset_map.specs.Spans.{folded}
@@ -8,8 +8,8 @@ use Rattle.token_grammar.specs.Reading.{IsNextOf}
 use Rattle.query_grammar.specs.declared.class.Class.TheVariants as classes
 use Rattle.query_grammar.specs.declared.fault.QueryFault.{QueryFault}
 use Rattle.query_grammar.specs.Grammar.{IsQuery}
-use Rattle.query_grammar.specs.QueryFaults.{Any, IsFirstFault}
-use Rattle.query_grammar.specs.Queries.{keys_of, told_of}
+use Rattle.query_grammar.specs.QueryFaults.{Any}
+use Rattle.query_grammar.specs.Queries.{keys_of}
 use Rattle.query_grammar.specs.steps.Answers.{StopsAt, ReadsWhole, IsFound}
 use Rattle.query_grammar.specs.steps.Classes.{is_ended}
 use Rattle.query_grammar.specs.steps.MarkAlphabet.{query_marks}
