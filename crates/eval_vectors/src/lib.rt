@@ -11,10 +11,14 @@ mod fields;
 #[cfg(test)]
 mod long_queries;
 #[cfg(test)]
+mod opening;
+#[cfg(test)]
 mod queries;
 #[cfg(test)]
 mod sets;
 #[cfg(test)]
 mod sizes;
+#[cfg(test)]
+mod streams;
 #[cfg(test)]
 mod telling;

@@ -1,9 +1,13 @@
 //! Queries of the most words, joined by one operator, over a document that has them all, one that has all but one, and one
 //! that has none.
+ghost use Rattle.eval_vectors.specs.steps.Reading.{IsSoundIndex};
+
 use crate::documents::chunk_of;
 use crate::queries::query_of;
 use crate::sets::index_of;
 use crate::telling::told;
+use conf_text::IndexConf;
+use doc_types::PlainChunk;
 use std::alloc::Global;
 use std::test::Fail;
 
@@ -137,24 +141,47 @@ fn wanted(alloc: Global, join: &Join) -> Result<String, Fail> {
     Ok(format!(in alloc; "1:{first}; 2:{second}")?)
 }
 
-/// Fails with the first operator of which a query finds something else, and with what it finds.
-fn try_joins(alloc: Global) -> Result<(), Fail> {
-    let index = index_of(alloc, "paragraphs")?;
-    let documents = documents(alloc)?;
-    let chunk = chunk_of(alloc, &index, documents.as_str())?;
+/// What the query of the operator finds.
+fn told_of(
+    alloc: Global,
+    index: &IndexConf,
+    chunk: &PlainChunk,
+    operator: &str,
+) -> Result<String, Fail>
+    requires { IsSoundIndex index.now }
+{
+    let text = words(alloc, operator, NO_WORD)?;
+    let query = query_of(alloc, text.as_str(), index)?;
+    told(alloc, &query, chunk)
+}
+
+/// Fails with the operator if its query finds something else, and with what it finds.
+fn try_join(alloc: Global, index: &IndexConf, chunk: &PlainChunk, join: &Join) -> Result<(), Fail>
+    requires { IsSoundIndex index.now }
+{
+    let found = told_of(alloc, index, chunk, join.operator)?;
+    let wanted = wanted(alloc, join)?;
+    if found.as_str() == wanted.as_str() {
+        return Ok(());
+    }
+    let operator = join.operator;
+    Err(Fail::new(format!(in alloc; "{operator}: {found}")?))
+}
+
+/// Fails with the first operator of which a query finds something else.
+fn try_joins(alloc: Global, index: &IndexConf, chunk: &PlainChunk) -> Result<(), Fail>
+    requires { IsSoundIndex index.now }
+{
     for join in &JOINS {
-        let text = words(alloc, join.operator, NO_WORD)?;
-        let query = query_of(alloc, text.as_str(), &index)?;
-        let found = told(alloc, &query, &chunk)?;
-        if found.as_str() != wanted(alloc, join)?.as_str() {
-            let operator = join.operator;
-            return Err(Fail::new(format!(in alloc; "{operator}: {found}")?));
-        }
+        try_join(alloc, index, chunk, join)?;
     }
     Ok(())
 }
 
 #[test]
 fn queries_have_255_words(rt: HostRuntime) -> Result<(), Fail> {
-    try_joins(rt.alloc())
+    let index = index_of(rt.alloc(), "paragraphs")?;
+    let documents = documents(rt.alloc())?;
+    let chunk = chunk_of(rt.alloc(), &index, documents.as_str())?;
+    try_joins(rt.alloc(), &index, &chunk)
 }

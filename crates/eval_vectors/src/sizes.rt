@@ -66,21 +66,44 @@ fn chunk_of_many(alloc: Global, index: &IndexConf) -> Result<PlainChunk, Fail>
     built(alloc, index, rows)
 }
 
-/// Fails with the first query that finds another number of documents, and with that number.
-fn try_counts(alloc: Global) -> Result<(), Fail> {
-    let index = index_of(alloc, "letters")?;
-    let chunk = chunk_of_many(alloc, &index)?;
+/// How many documents the query finds.
+fn count_of(alloc: Global, index: &IndexConf, chunk: &PlainChunk, text: &str) -> Result<usize, Fail>
+    requires { IsSoundIndex index.now }
+{
+    let query = query_of(alloc, text, index)?;
+    count(alloc, &query, chunk)
+}
+
+/// Fails with the query if it finds another number of documents, and with that number.
+fn try_count(
+    alloc: Global,
+    index: &IndexConf,
+    chunk: &PlainChunk,
+    text: &str,
+    wanted: usize,
+) -> Result<(), Fail>
+    requires { IsSoundIndex index.now }
+{
+    let found = count_of(alloc, index, chunk, text)?;
+    if found == wanted {
+        return Ok(());
+    }
+    Err(Fail::new(format!(in alloc; "{text} ⇒ {found}")?))
+}
+
+/// Fails with the first query that finds another number of documents.
+fn try_counts(alloc: Global, index: &IndexConf, chunk: &PlainChunk) -> Result<(), Fail>
+    requires { IsSoundIndex index.now }
+{
     for (text, wanted) in &COUNTS {
-        let query = query_of(alloc, text, &index)?;
-        let found = count(alloc, &query, &chunk)?;
-        if found != *wanted {
-            return Err(Fail::new(format!(in alloc; "{text} ⇒ {found}")?));
-        }
+        try_count(alloc, index, chunk, text, *wanted)?;
     }
     Ok(())
 }
 
 #[test]
 fn many_documents_are_counted(rt: HostRuntime) -> Result<(), Fail> {
-    try_counts(rt.alloc())
+    let index = index_of(rt.alloc(), "letters")?;
+    let chunk = chunk_of_many(rt.alloc(), &index)?;
+    try_counts(rt.alloc(), &index, &chunk)
 }

@@ -14,11 +14,12 @@ use std::test::Fail;
 
 /// Appends occurrences.
 fn put_occurrences(occs: &[Occ], into: &mut String) -> Result<(), Fail> {
-    let mut before = "";
-    for occ in occs {
+    for (number, occ) in occs.iter().enumerate() {
+        if number > 0 {
+            into.push(' ')?;
+        }
         let (field, first, last) = (occ.field, occ.first, occ.last);
-        write!(into, "{before}{field}.{first}-{last}")?;
-        before = " ";
+        write!(into, "{field}.{first}-{last}")?;
     }
     if occs.is_empty() {
         into.push('-')?;
@@ -28,11 +29,12 @@ fn put_occurrences(occs: &[Occ], into: &mut String) -> Result<(), Fail> {
 
 /// Appends hits.
 fn put_hits(hits: &[Hit], into: &mut String) -> Result<(), Fail> {
-    let mut before = "";
-    for hit in hits {
+    for (number, hit) in hits.iter().enumerate() {
+        if number > 0 {
+            into.push(' ')?;
+        }
         let (query, word, field, position) = (hit.query, hit.word, hit.field, hit.position);
-        write!(into, "{before}{query}/{word}@{field}.{position}")?;
-        before = " ";
+        write!(into, "{query}/{word}@{field}.{position}")?;
     }
     if hits.is_empty() {
         into.push('-')?;
@@ -102,9 +104,7 @@ fn kills_one<C: Chunk, L: Ledger>(
     chunk: &C,
     matching: &[u32],
     steps: &mut Steps<L>,
-) -> Result<bool, Fail>
-    requires { length (query_keys query.now) < 2 ^ 16 }
-{
+) -> Result<bool, Fail> {
     match matching.split_first() {
         None => Ok(true),
         Some((first, others)) => {
@@ -152,7 +152,6 @@ fn matching_by<L: Ledger, C: Chunk>(
     chunk: &C,
     blank: Blank,
 ) -> Result<Vec<u32>, Fail>
-    requires keys { length (query_keys query.now) < 2 ^ 16 }
     requires name { blank.name ≡ L.name }
     requires parts { blank.parts ≡ L.parts }
     requires some { 0 < blank.parts }
@@ -162,8 +161,6 @@ fn matching_by<L: Ledger, C: Chunk>(
 }
 
 /// How many rows match.
-pub(crate) fn count<C: Chunk>(alloc: Global, query: &Query, chunk: &C) -> Result<usize, Fail>
-    requires { length (query_keys query.now) < 2 ^ 16 }
-{
+pub(crate) fn count<C: Chunk>(alloc: Global, query: &Query, chunk: &C) -> Result<usize, Fail> {
     Ok(matching_by::<Brand, C>(alloc, query, chunk, Blank::new(1))?.len())
 }

@@ -3,8 +3,8 @@
 pub struct Term {
     /// Its position in the query.
     pub query: u16,
-    /// The number of its word among the distinct words of the query.
-    pub word: u16,
+    /// The number of its word among the distinct words of the query, which may be many.
+    pub word: usize,
     /// Its limits and marks allow each place.
     pub free: bool,
     /// The row has its word, wherever that stands.

@@ -17,7 +17,7 @@ use srch_base::NoMemory;
 /// A listed word: how often it is listed, and the places at which a listed keyword of it stands, ascending, each once.
 #[derive(Drop)]
 pub(crate) struct Wanted {
-    pub(crate) word: u16,
+    pub(crate) word: usize,
     pub(crate) times: usize,
     pub(crate) places: Vec<(u16, u32)>,
 }
@@ -71,7 +71,7 @@ pub(crate) fn listed_words(
     Ok(words)
 }
 
-fn has_word(words: &[Wanted], word: u16) -> bool
+fn has_word(words: &[Wanted], word: usize) -> bool
     ensures { result ≡ list_any (λ wanted. wanted.word == word) words.now }
 {
     words.iter().any(|wanted| wanted.word == word)
@@ -79,7 +79,7 @@ fn has_word(words: &[Wanted], word: u16) -> bool
 
 /// A word with the places of its keywords inside the spans.
 fn gather_word(
-    word: u16,
+    word: usize,
     terms: &[Term],
     spans: &[(u16, ZoneSpan)],
     buffers: &mut Buffers,

@@ -1,7 +1,7 @@
 -- A phrase or a proximity with a word that the row hasn't matches nowhere.
-use Rattle.std.proofs.Common.{arith, ◌≡◌, ◌≤◌, ◌<◌, ◌+◌, ◌-◌, refl, sym, ap, ◌∙◌, subst, ℕ, suc, Bool, true, false, cond, List, [], ◌∷◌, length, get_or, map, ◌⊎◌, inl, inr}
-use Rattle.std.specs.Prelude.{◌&&◌, ◌||◌, ◌==◌, not, Contains, All, count_by, sum_by, nat_le}
-use Rattle.std.specs.List.{filter, flat_map, list_any, list_all, AllZip, range_with_len}
+use Rattle.std.proofs.Common.{arith, ◌≡◌, ◌≤◌, ◌+◌, ◌-◌, refl, sym, ap, ◌∙◌, subst, ℕ, suc, Bool, true, false, cond, List, [], ◌∷◌, length, get_or, map, ◌⊎◌, inl, inr}
+use Rattle.std.specs.Prelude.{◌&&◌, ◌||◌, ◌==◌, Contains, count_by, nat_le}
+use Rattle.std.specs.List.{filter, list_any, list_all, range_with_len}
 use Rattle.std.proofs.lemmas.Bool.{cases_Bool, and_cases, and_left, and_right, or_cases, eqb-true, eq-eqb, lt-leb, true≢false}
 use Rattle.std.proofs.lemmas.List.Elements.{Contains-get_or}
 use Rattle.std.proofs.lemmas.List.Folds.{list_any_none, list_any_at}
@@ -13,10 +13,10 @@ use Rattle.occ_lists.specs.declared.occ.Occ.{Occ}
 use Rattle.occ_lists.specs.declared.term.Term.{Term}
 use Rattle.occ_lists.specs.Places.{occ, has_place}
 use Rattle.occ_lists.specs.Runs.{follow, runs}
-use Rattle.occ_lists.specs.Windows.{Listed, times, stands, held, holds_all, may_reach, all_places, windows}
+use Rattle.occ_lists.specs.Windows.{Listed, times, stands, held, holds_all, windows}
 use Rattle.op_eval.specs.Keywords.{places_within}
-use Rattle.op_eval.specs.Finding.{Spans, is_some}
-use Rattle.op_eval.specs.steps.Terms.{AreSeenIn, IsSeenIn}
+use Rattle.op_eval.specs.Finding.{Spans}
+use Rattle.op_eval.specs.steps.Terms.{AreSeenIn}
 use Rattle.op_eval.specs.steps.Verdicts.{AreApart}
 use Rattle.op_eval.proofs.Standing.{places_absent}
 

@@ -1,5 +1,5 @@
 -- The nodes of a query in which AND stands for SENTENCE and PARAGRAPH, by their kinds.
-use Rattle.std.proofs.Common.{◌≡◌, refl, sym, ap, ◌∙◌, ℕ, List, [], ◌∷◌, ◌++◌, reverse}
+use Rattle.std.proofs.Common.{◌≡◌, refl, sym, ap, ◌∙◌, ℕ, List, [], ◌∷◌}
 use Rattle.std.specs.Prelude.{map}
 use Rattle.query_marks.specs.declared.key.Key.{Key}
 use Rattle.query_marks.specs.declared.key.How.{How}

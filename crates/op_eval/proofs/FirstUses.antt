@@ -1,5 +1,5 @@
 -- The words of keywords, each once, in the order of first use; and the number of a word among them.
-use Rattle.std.proofs.Common.{◌≡◌, ℕ, ◌+◌, ◌<◌, Bool, true, false, cond, List, [], ◌∷◌, ◌++◌, length, map, take, get_or, Bor, Some, None, suc, ◌≤◌, refl, sym, ap, ◌∙◌, append-nil, arith}
+use Rattle.std.proofs.Common.{◌≡◌, ℕ, ◌+◌, ◌<◌, ◌^◌, Bool, true, false, cond, List, [], ◌∷◌, ◌++◌, length, map, take, get_or, Bor, Some, None, suc, ◌≤◌, refl, sym, ap, ◌∙◌, append-nil, arith}
 use Rattle.std.specs.Prelude.{◌&&◌, ◌||◌, not, nat_lt, unwrap_or}
 use Rattle.std.specs.List.{filter, list_any, position, position_or_len}
 use Rattle.std.specs.Str.{bytes_eq}
@@ -11,6 +11,7 @@ use Rattle.occ_lists.proofs.Members.{any_alike, any_filter, any_map}
 use Rattle.query_marks.specs.declared.key.Key.{Key}
 use Rattle.op_eval.specs.Matching.{first_uses}
 use Rattle.op_eval.specs.steps.Slots.{with_word, number_among}
+use Rattle.op_eval.specs.steps.Terms.{IsShort}
 
 eq_self : (w : List ℕ) → bytes_eq w w ≡ true
 eq_self w = (bytes_eq-Decides w w).1 refl
@@ -101,10 +102,6 @@ short (w ∷ ws) =
     let rest : length (first_uses ws) ≤ length ws = short ws in
     omega (arith, here, rest)
 
-pub few_words : {X : Type 0} (word : X → List ℕ) (keys : List X) (words : List (Bor (List ℕ))) → nows words ≡ first_uses (map word keys) → length words ≤ length keys
-few_words word keys words so =
-    omega (arith, length-map words (λ (w : Bor (List ℕ)). w.now), ap length so, short (map word keys), length-map keys word)
-
 place-map : {X Y : Type 0} (p : Y → Bool) (f : X → Y) (xs : List X) → position_or_len p (map f xs) ≡ position_or_len (λ x. p (f x)) xs
 place-map p f [] = refl
 place-map p f (x ∷ xs) = ap (λ n. cond (not (p (f x))) (1 + n) 0) (place-map p f xs)
@@ -120,5 +117,11 @@ number_is keys words word so =
 within_bound : (n m : ℕ) → unwrap_or (cond (nat_lt n m) (Some n) None) 0 ≤ m
 within_bound n m = cond_both (nat_lt n m) (Some n) None (λ o. unwrap_or o 0 ≤ m) (λ e. omega (arith, ltb-true n m e)) (λ e. omega arith)
 
-pub number_within : {X : Type 0} (p : X → Bool) (xs : List X) → unwrap_or (position p xs) 0 ≤ length xs
+number_within : {X : Type 0} (p : X → Bool) (xs : List X) → unwrap_or (position p xs) 0 ≤ length xs
 number_within p xs = within_bound (position_or_len p xs) (length xs)
+
+-- of few keywords the numbers are short
+pub number_short : (keys : List Key) → length keys < 2 ^ 16 → IsShort (number_among keys)
+number_short keys few word =
+    let words = map (λ (key : Key). key.word) keys in
+    omega (arith, few, number_within (bytes_eq word) (first_uses words), short words, length-map keys (λ (key : Key). key.word))

@@ -1,5 +1,5 @@
 -- Occurrences that don't end before they begin: those at places, runs, windows, and what operators make of such ones.
-use Rattle.std.proofs.Common.{◌≡◌, ℕ, ◌<◌, Bool, true, false, cond, List, [], ◌∷◌, length, get_or, map, refl, sym, ◌∙◌, subst, arith}
+use Rattle.std.proofs.Common.{◌≡◌, ℕ, ◌<◌, ◌≤◌, Bool, true, false, cond, List, [], ◌∷◌, length, get_or, map, refl, sym, ◌∙◌, subst, arith}
 use Rattle.std.specs.Prelude.{◌+◌, ◌&&◌, ◌||◌, not, nat_le, All}
 use Rattle.std.specs.List.{filter, flat_map, list_all}
 use Rattle.std.proofs.lemmas.Bool.{and_parts, and_from, ltb-true, leb-true, le-leb}
@@ -16,6 +16,7 @@ use Rattle.occ_lists.specs.Windows.{Listed, windows, holds_all, all_places, may_
 use Rattle.occ_lists.specs.Sound.{IsForward}
 use Rattle.occ_lists.specs.Terms.{listed_in}
 use Rattle.occ_lists.proofs.Members.{same_all}
+use Rattle.op_eval.proofs.Lists.{all_flat_map}
 use Rattle.op_eval.specs.declared.joining.Join.{Join}
 use Rattle.op_eval.specs.declared.joining.Join.TheVariants as joins
 use Rattle.op_eval.specs.declared.marks.Marks.{Marks}
@@ -42,10 +43,6 @@ pub forward_same : (xs ys : List Occ) → SameMembers xs ys → All IsForward ys
 forward_same xs ys same all = from_passed xs (same_all is_forward xs ys same ∙ passed ys all)
 
 -- ---- lists that are made of others
-all_flat_map : {X Y : Type 0} (P : Y → Type 0) (f : X → List Y) (xs : List X) → ((x : X) → All P (f x)) → All P (flat_map f xs)
-all_flat_map P f [] each = All-nil P
-all_flat_map P f (x ∷ xs) each = All-append P (f x) (flat_map f xs) (each x) (all_flat_map P f xs each)
-
 -- what is made of elements that pass
 all_made : {X Y : Type 0} (P : Y → Type 0) (q : X → Bool) (f : X → Y) (xs : List X) → ((x : X) → q x ≡ true → P (f x)) → All P (map f (filter q xs))
 all_made P q f xs each = All-map P f (filter q xs) (λ k d h. each (get_or (filter q xs) k d) (filter_passes q xs k d h))
@@ -66,13 +63,18 @@ pub forward_runs : (lists : List (List (ℕ × ℕ))) → All IsForward (runs li
 forward_runs [] = All-nil IsForward
 forward_runs (first ∷ rest) = all_made IsForward (λ p. follow p rest) (λ p. occ p.0 p.1 (p.1 + length rest)) first (λ p h. omega arith)
 
+reached : (n : ℕ) (listed : List Listed) (from to : ℕ × ℕ) → may_reach n listed from to ≡ true → from.1 ≤ to.1
+reached n listed from to reaches = leb-true from.1 to.1 (and_parts _ _ (and_parts _ _ reaches).1).0
+
 pub forward_windows : (n : ℕ) (listed : List Listed) → All IsForward (windows n listed)
 forward_windows n listed =
     All-filter (holds_all listed) IsForward
     (flat_map (λ from. map (λ to. occ from.0 from.1 to.1) (filter (may_reach n listed from) (all_places listed))) (all_places listed))
-    (all_flat_map IsForward (λ from. map (λ to. occ from.0 from.1 to.1) (filter (may_reach n listed from) (all_places listed))) (all_places listed) (λ from.
-    all_made IsForward (may_reach n listed from) (λ to. occ from.0 from.1 to.1) (all_places listed) (λ to h.
-    leb-true from.1 to.1 (and_parts _ _ (and_parts _ _ h).1).0)))
+    (all_flat_map IsForward (λ from. map (λ to. occ from.0 from.1 to.1) (filter (may_reach n listed from) (all_places listed))) (all_places listed) (λ k d h. reach (get_or (all_places listed) k d)))
+  where
+    reach : (from : ℕ × ℕ) → All IsForward (map (λ to. occ from.0 from.1 to.1) (filter (may_reach n listed from) (all_places listed)))
+    reach from =
+        all_made IsForward (may_reach n listed from) (λ to. occ from.0 from.1 to.1) (all_places listed) (λ to reaches. reached n listed from to reaches)
 
 -- ---- operators
 forward_hull : (x y : Occ) → IsForward x → IsForward y → IsForward (hull x y)
@@ -89,7 +91,7 @@ forward_joined marks joins.Paragraph xs ys left right =
     all_pairs (λ x y. same_field x y && not (crosses marks.paragraphs.items (hull x y))) hull (λ x y a b h. forward_hull x y a b) xs ys left right
 
 -- ---- what is appended
-pub finds_forward : (found : Found) (old new : Finding) (told : Bool) → All IsForward old.occs.items → All IsForward found.occurrences → Finds found old new told → All IsForward new.occs.items
+pub finds_forward : {short : Type 0} (found : Found) (old new : Finding) (told : Bool) → All IsForward old.occs.items → All IsForward found.occurrences → Finds short found old new told → All IsForward new.occs.items
 finds_forward found old new told before all f =
     subst (λ (list : List Occ). All IsForward list) (sym f.occurrences.is)
     (All-append IsForward old.occs.items f.occurrences.added before (forward_same f.occurrences.added found.occurrences f.occurrences.same all))

@@ -43,7 +43,7 @@ ascend_from_sorted (x ∷ xs) sorted =
 hit_equal : (x y : Hit) → x.query ≡ y.query → x.word ≡ y.word → x.field ≡ y.field → x.position ≡ y.position → x ≡ y
 hit_equal x y queries words fields positions = λ i. record { query = queries i; word = words i; field = fields i; position = positions i }
 
-is_same_equal : (x y : Hit) → is_same x y ≡ true → x ≡ y
+pub is_same_equal : (x y : Hit) → is_same x y ≡ true → x ≡ y
 is_same_equal x y same =
     let parts = and_parts (x.query == y.query) ((x.word == y.word) && ((x.field == y.field) && (x.position == y.position))) same in
     let later = and_parts (x.word == y.word) ((x.field == y.field) && (x.position == y.position)) parts.1 in
@@ -54,7 +54,7 @@ is_same_equal x y same =
 pub ascend_deduped : (xs : List Hit) → IsSorted by_place xs → AllPairs (λ hit later. IsTrue (comes_before hit later)) (dedup is_same xs)
 ascend_deduped xs sorted = ascend_from_sorted (dedup is_same xs) (IsStrictlySortedBy-dedup by_place_total same_ties xs sorted)
 
-is_same_equiv : IsEquivalence is_same
+pub is_same_equiv : IsEquivalence is_same
 is_same_equiv = and_equiv (on_equiv (λ (h : Hit). h.query) nat_eq_equiv) (and_equiv (on_equiv (λ (h : Hit). h.word) nat_eq_equiv) (and_equiv (on_equiv (λ (h : Hit). h.field) nat_eq_equiv) (on_equiv (λ (h : Hit). h.position) nat_eq_equiv)))
 
 pub members_deduped : (old xs : List Hit) → IsPermutation old xs → SameMembers (dedup is_same xs) old

@@ -53,3 +53,11 @@ pub mod RowNumbers
 pub mod Searches
 -- hits in order, each once
 pub mod HitOrder
+-- what a query finds is of its keywords
+pub mod KeywordHits
+-- the hits of a query whose keywords are numbered
+pub mod NumberedHits
+-- the numbers of rows from one on that pass
+pub mod RowsAhead
+-- the next row that matches a query
+pub mod NextMatches

@@ -1,8 +1,8 @@
 -- Lists in order, and tests that agree on a list.
 use Rattle.std.proofs.Common.{◌≡◌, ℕ, ◌<◌, suc, Bool, true, false, cond, List, [], ◌∷◌, ◌++◌, length, get_or, map, take, append_assoc, append-nil, ◌+◌, refl, sym, ap, ◌∙◌, arith}
 use Rattle.std.specs.Prelude.{All, AllPairs, ◌&&◌}
-use Rattle.std.specs.List.{filter}
-use Rattle.std.proofs.lemmas.List.Elements.{All-head, All-tail, All-append, All-map, filter_more}
+use Rattle.std.specs.List.{filter, flat_map}
+use Rattle.std.proofs.lemmas.List.Elements.{All-nil, All-head, All-tail, All-append, All-map, filter_more}
 use Rattle.std.proofs.lemmas.List.Kept.{AllPairs-cons}
 
 module _ {X : Type 0} (R : X → X → Type 0) where
@@ -68,3 +68,8 @@ filter_step p xs i d false start before after within told so more =
     let last : cond (p (get_or xs i d)) (get_or xs i d ∷ []) [] ≡ [] = ap (λ b. cond b (get_or xs i d ∷ []) []) (sym told) in
     more ∙ so
     ∙ ap (λ ys. start ++ ys) (sym (filter_more p xs i d within ∙ ap (λ ys. filter p (take i xs) ++ ys) last ∙ append-nil (filter p (take i xs))))
+
+-- what holds of all that each element gives
+pub all_flat_map : {X Y : Type 0} (P : Y → Type 0) (f : X → List Y) (xs : List X) → All (λ x. All P (f x)) xs → All P (flat_map f xs)
+all_flat_map P f [] each = All-nil P
+all_flat_map P f (x ∷ xs) each = All-append P (f x) (flat_map f xs) (All-head (λ x. All P (f x)) x xs each) (all_flat_map P f xs (All-tail (λ x. All P (f x)) x xs each))

@@ -1,5 +1,5 @@
 -- What is found of a node that is made of others, by what is found of these.
-use Rattle.std.proofs.Common.{◌≡◌, ℕ, Bool, true, false, cond, List, ◌++◌, length, get_or, map, Result, Ok, Err, refl, sym, ◌∙◌, ap, subst, inl, inr, arith, ◌+◌, length-append}
+use Rattle.std.proofs.Common.{◌≡◌, ℕ, Bool, true, cond, List, ◌++◌, length, get_or, map, Result, Ok, Err, refl, sym, ◌∙◌, ap, subst, inl, inr, arith, ◌+◌, length-append}
 use Rattle.std.specs.Prelude.{◌||◌, All, IfOk, OnOk}
 use Rattle.std.specs.List.{list_all, list_any}
 use Rattle.std.proofs.lemmas.Bool.{cases_Bool, or_left, or_right}
@@ -26,7 +26,7 @@ use Rattle.op_eval.specs.Finding.{Found, Part, Spans, either, made, nothing, pas
 use Rattle.op_eval.specs.steps.Asking.{Knows, asks_boundaries, asks_spans}
 use Rattle.op_eval.specs.steps.Evaluating.{Finds, Holds, founds_in, join_by, items_keys, part_in}
 use Rattle.op_eval.specs.steps.Terms.{AreTermsOf}
-use Rattle.op_eval.proofs.Appending.{chosen, finds_joined}
+use Rattle.op_eval.proofs.Appending.{chosen, finds_joined, finds_when}
 use Rattle.op_eval.proofs.Forward.{finds_forward}
 use Rattle.op_eval.proofs.JoinedNodes.{IsBounded, IsJoint, IsPlain, keys_joint, bounds_plain, bounds_bounded, zones_plain, zones_bounded}
 use Rattle.op_eval.proofs.Nodes.{finds_and, finds_or, finds_maybe, finds_before, finds_near, finds_sentence, finds_paragraph, finds_span, bounds_and, bounds_span, zones_and, zones_span}
@@ -170,13 +170,17 @@ module _ (row : DocRow) (number : List ℕ → ℕ) (marks : Marks) (spans : Spa
 
 -- ---- what a call told
 
-pub told_forward : (found : Found) (old new : Finding) (r : Result Bool NoMemory) → All IsForward old.occs.items → All IsForward found.occurrences → IfOk r (λ told. Finds found old new told) → OnOk r (All IsForward new.occs.items)
-told_forward found old new (Ok told) before all f = finds_forward found old new told before all f
-told_forward found old new (Err e) before all f = tt
+pub told_forward : (short : Type 0) (found : Found) (old new : Finding) (r : Result Bool NoMemory) → All IsForward old.occs.items → All IsForward found.occurrences → IfOk r (λ told. Finds short found old new told) → OnOk r (All IsForward new.occs.items)
+told_forward short found old new (Ok told) before all f = finds_forward found old new told before all f
+told_forward short found old new (Err e) before all f = tt
 
-pub told_joined : (marks : Marks) (join : Join) (first second : Finding) (a b : Found) (old new : Finding) (r : Result Bool NoMemory)
-    → IfOk r (λ told. Finds (made (join_by marks join first.occs.items second.occs.items) (first.hits.items ++ second.hits.items)) old new told) → Holds a first → Holds b second
-    → IfOk r (λ told. Finds (joined (join_by marks join) a b) old new told)
+pub told_when : {short other : Type 0} (found : Found) (old new : Finding) (r : Result Bool NoMemory) → (other → short) → IfOk r (λ told. Finds short found old new told) → IfOk r (λ told. Finds other found old new told)
+told_when found old new (Ok told) so f = finds_when found old new told so f
+told_when found old new (Err e) so f = tt
+
+pub told_joined : {short : Type 0} (marks : Marks) (join : Join) (first second : Finding) (a b : Found) (old new : Finding) (r : Result Bool NoMemory)
+    → IfOk r (λ told. Finds (Unit {0}) (made (join_by marks join first.occs.items second.occs.items) (first.hits.items ++ second.hits.items)) old new told) → Holds short a first → Holds short b second
+    → IfOk r (λ told. Finds short (joined (join_by marks join) a b) old new told)
 told_joined marks join first second a b old new (Ok told) f left right = finds_joined marks join first second a b old new told f left right
 told_joined marks join first second a b old new (Err e) f left right = tt
 

@@ -1,7 +1,7 @@
 -- What is told of a node, by what is told of its parts.
 use Rattle.std.proofs.Common.{arith, ◌≡◌, ◌≤◌, ◌<◌, ◌+◌, refl, sym, ap, ◌∙◌, subst, ℕ, zero, suc, Bool, true, false, cond, List, [], ◌∷◌, ◌++◌, length, get_or, take, drop, map, inl, inr}
-use Rattle.std.specs.Prelude.{◌&&◌, ◌||◌, not, if◌then◌else◌, Contains}
-use Rattle.std.specs.List.{filter, flat_map, list_any, list_all}
+use Rattle.std.specs.Prelude.{◌&&◌, ◌||◌, if◌then◌else◌}
+use Rattle.std.specs.List.{flat_map, list_all}
 use Rattle.std.proofs.lemmas.Bool.{and_cases, or_from, true≢false}
 use Rattle.std.proofs.lemmas.List.{take_all}
 use Rattle.std.proofs.lemmas.List.Elements.{Contains-append_left, Contains-append_right}
@@ -22,7 +22,7 @@ use Rattle.op_eval.specs.Finding.{Found, Spans, is_some, either, perhaps, joined
 use Rattle.op_eval.specs.declared.verdict.Verdict.{Verdict}
 use Rattle.op_eval.specs.declared.verdict.Verdict.TheVariants as verdicts
 use Rattle.op_eval.specs.steps.Terms.{AreSeenIn, IsSeenIn}
-use Rattle.op_eval.specs.steps.Verdicts.{AreApart, Concerns, Tells, negation, conjunction, doubt, stands_in, quoted_matches, item_passes}
+use Rattle.op_eval.specs.steps.Verdicts.{AreApart, Tells, negation, conjunction, doubt, stands_in, quoted_matches, item_passes}
 use Rattle.op_eval.proofs.JoinedNodes.{IsJoint, IsOrdered, keys_joint}
 use Rattle.op_eval.proofs.Nodes.{part_within, finds_word, finds_quoted, finds_and, finds_or, finds_maybe, finds_before, finds_near, finds_sentence, finds_paragraph, finds_span}
 use Rattle.op_eval.proofs.QuotedVerdicts.{guard_matches}

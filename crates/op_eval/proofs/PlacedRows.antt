@@ -50,7 +50,7 @@ begins_at_one : (words : List TokenWord) → ArePlaced words → 0 < length word
 begins_at_one [] placed some = absurd (omega arith)
 begins_at_one (word ∷ words) placed some = placed.follow.0 ∙ ap (λ gap. 0 + step gap) placed.begin
 
-placed_field : (tokens : FieldTokens) → IsField tokens → IsPlacedField tokens
+pub placed_field : (tokens : FieldTokens) → IsField tokens → IsPlacedField tokens
 placed_field tokens is = record {
   bounds = λ k d within. (follow_above 0 tokens.words is.placed.follow k d within, is.within k d within);
   ascend = follow_ascend 0 tokens.words is.placed.follow;

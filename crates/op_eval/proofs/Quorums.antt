@@ -1,9 +1,9 @@
 -- Whether enough of some keywords have a place in a row, by what their terms tell of their words.
-use Rattle.std.proofs.Common.{arith, ◌≡◌, ◌≤◌, ◌<◌, ◌+◌, ◌*◌, ◌^◌, refl, sym, ap, ◌∙◌, ℕ, Bool, true, false, cond, List, [], ◌∷◌, length, min}
+use Rattle.std.proofs.Common.{arith, ◌≡◌, ◌≤◌, ◌*◌, ◌^◌, refl, sym, ap, ◌∙◌, ℕ, Bool, true, false, cond, List, [], ◌∷◌, length, min}
 use Rattle.std.specs.Prelude.{◌&&◌, not, count_by}
 use Rattle.std.specs.List.{AllZip}
 use Rattle.std.proofs.Math.Nat.{mul-le-mul_right}
-use Rattle.std.proofs.lemmas.Bool.{cases_Bool, leb-true, le-leb, both_ways, true_from_ne_false, false_from_ne_true, true≢false}
+use Rattle.std.proofs.lemmas.Bool.{leb-true, le-leb, both_ways, true_from_ne_false, false_from_ne_true}
 use Rattle.std.proofs.lemmas.List.Sums.{sum_by-cons}
 use Rattle.std.proofs.lemmas.Slice.Zip.{AllZip-long}
 use Rattle.doc_types.specs.declared.documents.DocRow.{DocRow}

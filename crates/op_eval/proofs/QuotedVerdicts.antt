@@ -1,18 +1,17 @@
 -- What is told of keywords that are quoted together.
-use Rattle.std.proofs.Common.{◌≡◌, refl, sym, ap, ◌∙◌, subst, ℕ, Bool, true, false, cond, List, [], ◌∷◌, length, map, ◌⊎◌, inl, inr}
+use Rattle.std.proofs.Common.{◌≡◌, refl, sym, ap, ◌∙◌, subst, ℕ, Bool, true, false, cond, List, [], ◌∷◌, length, ◌⊎◌, inl, inr}
 use Rattle.std.specs.Prelude.{◌&&◌, if◌then◌else◌, count_by}
-use Rattle.std.specs.List.{list_all, AllZip}
+use Rattle.std.specs.List.{list_all}
 use Rattle.std.proofs.lemmas.Bool.{cases_Bool, and_cases}
 use Rattle.doc_types.specs.declared.documents.DocRow.{DocRow}
 use Rattle.query_marks.specs.declared.key.Key.{Key}
 use Rattle.query_marks.specs.declared.key.How.{How}
 use Rattle.query_marks.specs.declared.key.How.TheVariants as hows
 use Rattle.occ_lists.specs.declared.term.Term.{Term}
-use Rattle.op_eval.specs.Keywords.{places_within}
 use Rattle.op_eval.specs.Finding.{Found, Spans, is_some, is_enough, nothing}
 use Rattle.op_eval.specs.declared.verdict.Verdict.{Verdict}
 use Rattle.op_eval.specs.declared.verdict.Verdict.TheVariants as verdicts
-use Rattle.op_eval.specs.steps.Terms.{AreSeenIn, IsSeenIn}
+use Rattle.op_eval.specs.steps.Terms.{AreSeenIn}
 use Rattle.op_eval.specs.steps.Verdicts.{AreApart, Tells, stands_in, quoted_matches}
 use Rattle.op_eval.proofs.AbsentWords.{HasAbsent, absent_seen, no_runs, no_windows}
 use Rattle.op_eval.proofs.Standing.{none_there}

@@ -1,6 +1,6 @@
 -- A search's keywords and terms, as those of its node.
-use Rattle.std.proofs.Common.{◌≡◌, ℕ, Bool, false, List, [], ◌∷◌, ◌++◌, Bor, Some, map, slice_get, refl, sym, ap, subst, ◌∙◌}
-use Rattle.std.specs.Prelude.{All}
+use Rattle.std.proofs.Common.{◌≡◌, ℕ, Bool, false, List, [], ◌∷◌, ◌++◌, Bor, Some, map, slice_get, Result, Ok, Err, refl, sym, ap, subst, ◌∙◌}
+use Rattle.std.specs.Prelude.{All, IfOk, OnOk}
 use Rattle.std.specs.List.{AllZip, filter, list_any}
 use Rattle.std.proofs.lemmas.List.Elements.{All-head, All-tail}
 use Rattle.doc_types.specs.declared.documents.DocRow.{DocRow}
@@ -12,7 +12,7 @@ use Rattle.occ_lists.specs.declared.term.Term.{Term}
 use Rattle.occ_lists.specs.OccLists.{SameMembers}
 use Rattle.op_eval.specs.declared.finding.Finding.{Finding}
 use Rattle.op_eval.specs.declared.marks.Marks.{Marks}
-use Rattle.op_eval.specs.Finding.{Spans, node_finds, nothing}
+use Rattle.op_eval.specs.Finding.{Found, Spans, node_finds, nothing}
 use Rattle.op_eval.specs.Keywords.{allows}
 use Rattle.op_eval.specs.steps.Asking.{Knows}
 use Rattle.op_eval.specs.steps.Evaluating.{Appends, Finds}
@@ -66,7 +66,21 @@ module _ (row : DocRow) (node other : Node) (same : other ≡ node) where
   pub knows_as : (marks : Marks) → Knows row node marks → Knows row other marks
   knows_as marks knows = subst (λ n. Knows row n marks) (sym same) knows
 
-  pub finds_as : (spans : Spans) (old new : Finding) (result : Bool) → spans ≡ [] → Finds (node_finds row (number_among (node_keys node)) other spans) old new result → Finds (node_found node row) old new result
-  finds_as spans old new result none finds =
-      subst (λ n. Finds (node_finds row (number_among (node_keys node)) n []) old new result) same
-      (subst (λ s. Finds (node_finds row (number_among (node_keys node)) other s) old new result) none finds)
+  pub finds_as : {E : Type 0} (short : Type 0) (spans : Spans) (old new : Finding) (result : Result Bool E) → spans ≡ [] → IfOk result (Finds short (node_finds row (number_among (node_keys node)) other spans) old new) → IfOk result (Finds short (node_found node row) old new)
+  finds_as short spans old new result none finds =
+      subst (λ n. IfOk result (Finds short (node_finds row (number_among (node_keys node)) n []) old new)) same
+      (subst (λ s. IfOk result (Finds short (node_finds row (number_among (node_keys node)) other s) old new)) none finds)
+
+-- what was found, in lists that were empty
+module _ {E : Type 0} (short : Type 0) (found : Found) (old new : Finding) where
+  pub told_is : (result : Result Bool E) → IfOk result (Finds short found old new) → IfOk result (λ told. told ≡ found.matches)
+  told_is (Ok told) finds = finds.matches
+  told_is (Err end) finds = tt
+
+  pub occs_are : (result : Result Bool E) → IfOk result (Finds short found old new) → old.occs.items ≡ [] → OnOk result (SameMembers new.occs.items found.occurrences)
+  occs_are (Ok told) finds none = appended old.occs.items new.occs.items found.occurrences finds.occurrences none
+  occs_are (Err end) finds none = tt
+
+  pub hits_are : (result : Result Bool E) → short → IfOk result (Finds short found old new) → old.hits.items ≡ [] → OnOk result (SameMembers new.hits.items found.hits)
+  hits_are (Ok told) its finds none = appended old.hits.items new.hits.items found.hits (finds.hits its) none
+  hits_are (Err end) its finds none = tt

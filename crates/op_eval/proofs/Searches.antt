@@ -10,6 +10,7 @@ use Rattle.doc_types.specs.declared.documents.DocRow.{DocRow}
 use Rattle.doc_types.specs.Chunks.{IsContent, Place}
 use Rattle.query_grammar.specs.declared.query.Node.{Node}
 use Rattle.query_grammar.specs.declared.query.Query.{Query}
+use Rattle.query_grammar.specs.DeepValues.{node_keys, query_keys}
 use Rattle.op_eval.specs.declared.search.Search.{Search}
 use Rattle.doc_types.specs.declared.hits.Hit.{Hit}
 use Rattle.occ_lists.specs.declared.occ.Occ.{Occ}
@@ -121,6 +122,14 @@ tree_found (Some node) keywords root row is = let same : root ≡ node = cc in a
 -- what the query finds in a row
 pub found_is : (query : Query) (root : Node) (row : DocRow) → query.root ≡ Some root → node_found root row ≡ query_finds query row
 found_is query root row is = tree_found query.root query.keywords root row is
+
+few_of : (tree : Option Node) (keywords : ℕ) (root : Node) → tree ≡ Some root → length (query_keys (record { root = tree; keywords = keywords })) < 2 ^ 16 → length (node_keys root) < 2 ^ 16
+few_of None keywords root is few = cc
+few_of (Some node) keywords root is few = let same : node ≡ root = cc in subst (λ (n : Node). length (node_keys n) < 2 ^ 16) same few
+
+-- a query's tree has its keywords
+pub few_keys : (query : Query) (root tree : Node) → query.root ≡ Some root → tree ≡ root → length (query_keys query) < 2 ^ 16 → length (node_keys tree) < 2 ^ 16
+few_keys query root tree is same few = subst (λ (n : Node). length (node_keys n) < 2 ^ 16) (sym same) (few_of query.root query.keywords root is few)
 
 -- what stands in order, each once, is what the query finds
 pub are_occurrences : (query : Query) (root tree : Node) (row : DocRow) (occs found : List Occ) → query.root ≡ Some root → tree ≡ root → Ascend occs → SameMembers occs found → SameMembers found (node_found tree row).occurrences → AreOccurrences query row occs

@@ -1,8 +1,8 @@
 -- A node that doesn't match finds nothing.
-use Rattle.std.proofs.Common.{◌≡◌, refl, sym, ap, ◌∙◌, subst, inl, inr, ℕ, Bool, true, false, cond, List, [], ◌∷◌, ◌++◌, map}
-use Rattle.std.specs.Prelude.{◌||◌, ◌&&◌}
+use Rattle.std.proofs.Common.{◌≡◌, refl, sym, ap, ◌∙◌, subst, ℕ, Bool, true, false, cond, List, [], ◌∷◌, ◌++◌, map}
+use Rattle.std.specs.Prelude.{◌||◌}
 use Rattle.std.specs.List.{filter, list_all}
-use Rattle.std.proofs.lemmas.Bool.{cases_Bool, or_parts, true≢false}
+use Rattle.std.proofs.lemmas.Bool.{or_parts, true≢false}
 use Rattle.doc_types.specs.declared.documents.DocRow.{DocRow}
 use Rattle.doc_types.specs.declared.hits.Hit.{Hit}
 use Rattle.query_marks.specs.declared.key.Key.{Key}
@@ -11,14 +11,14 @@ use Rattle.query_marks.specs.declared.key.How.TheVariants as hows
 use Rattle.query_grammar.specs.declared.query.Item.{Item}
 use Rattle.query_grammar.specs.declared.query.Node.{Node}
 use Rattle.query_grammar.specs.declared.query.Node.TheVariants as nodes
-use Rattle.query_grammar.specs.declared.query.Node.TheOpen.{Node-F, Item-F}
+use Rattle.query_grammar.specs.declared.query.Node.TheOpen.{Node-F}
 use Rattle.query_grammar.specs.declared.query.Node.TheVariants.{rolls-Word, rolls-Quoted, rolls-And, rolls-Or, rolls-Maybe, rolls-Before, rolls-Near, rolls-Sentence, rolls-Paragraph, rolls-ZoneSpan}
 use Rattle.query_grammar.specs.declared.query.Node.TheViews.{roll-Node}
 use Rattle.query_grammar.specs.declared.query.Node.TheFolds.{map-Node, ind-Node}
 use Rattle.occ_lists.specs.declared.occ.Occ.{Occ}
 use Rattle.occ_lists.specs.Joined.{before, near, together}
 use Rattle.op_eval.specs.Keywords.{places_within, sentence_ends, paragraph_ends}
-use Rattle.op_eval.specs.Finding.{Found, Part, Spans, keyword, made, quorum, quoted, all_of, either, perhaps, joined, any_of, nothing, is_inside, passes, spans_in, node_finds}
+use Rattle.op_eval.specs.Finding.{Found, Part, Spans, keyword, made, quoted, all_of, either, perhaps, joined, any_of, nothing, is_inside, passes, spans_in, node_finds}
 use Rattle.op_eval.proofs.Nodes.{part_within, finds_word, finds_quoted, finds_and, finds_or, finds_maybe, finds_before, finds_near, finds_sentence, finds_paragraph, finds_span}
 
 -- ---- what is found

@@ -1,7 +1,8 @@
 -- What keywords find by their terms is what they find in the row whose terms these are.
-use Rattle.std.proofs.Common.{◌≡◌, ℕ, ◌+◌, suc, Bool, true, false, cond, List, [], ◌∷◌, ◌++◌, length, map, refl, sym, ◌∙◌, ap, subst, append-nil, ◌⊎◌, inl, inr}
+use Rattle.std.proofs.Common.{◌≡◌, ℕ, ◌+◌, ◌<◌, ◌^◌, suc, Bool, true, cond, List, [], ◌∷◌, ◌++◌, length, map, refl, sym, ◌∙◌, ap, subst, append-nil, ◌⊎◌, inl, inr}
 use Rattle.std.specs.Prelude.{nat_lt}
 use Rattle.std.specs.List.{AllZip, filter, flat_map, fold, count_by}
+use Rattle.std.proofs.lemmas.List.Elements.{All-cons, All-nil}
 use Rattle.doc_types.specs.declared.documents.DocRow.{DocRow}
 use Rattle.doc_types.specs.declared.hits.Hit.{Hit}
 use Rattle.query_marks.specs.declared.key.Key.{Key}
@@ -19,7 +20,7 @@ use Rattle.occ_lists.specs.Windows.{Listed, windows}
 use Rattle.occ_lists.specs.Terms.{listed_in}
 use Rattle.op_eval.specs.Keywords.{places_within}
 use Rattle.op_eval.specs.Finding.{Found, Spans, nothing, is_some, is_enough, keyword, hits_at, made, quoted, quorum, node_finds}
-use Rattle.op_eval.specs.steps.Terms.{IsTermOf, AreTermsOf}
+use Rattle.op_eval.specs.steps.Terms.{IsTermOf, AreTermsOf, AreShort, IsShort}
 use Rattle.op_eval.specs.steps.Worded.{term_places, term_hits, how_many, at_each, worded, quoted_by}
 use Rattle.op_eval.proofs.Appending.{chosen}
 use Rattle.op_eval.proofs.Nodes.{finds_word, finds_quoted}
@@ -51,6 +52,15 @@ module _ {A B : Type 0} (R : A → B → Type 0) where
   zip_long [] (y ∷ ys) z = absurd z
   zip_long (x ∷ xs) [] z = absurd z
   zip_long (x ∷ xs) (y ∷ ys) z = ap suc (zip_long xs ys z.1)
+
+-- ---- numbers of words
+
+pub terms_short : (row : DocRow) (number : List ℕ → ℕ) (keys : List Key) (terms : List Term) → AreTermsOf row number keys terms → IsShort number → AreShort terms
+terms_short row number [] [] z short = All-nil (λ (term : Term). term.word < 2 ^ 16)
+terms_short row number [] (term ∷ terms) z short = absurd z
+terms_short row number (key ∷ keys) [] z short = absurd z
+terms_short row number (key ∷ keys) (term ∷ terms) z short =
+    All-cons (λ (t : Term). t.word < 2 ^ 16) term terms (subst (λ (n : ℕ). n < 2 ^ 16) (sym z.0.word) (short key.word)) (terms_short row number keys terms z.1 short)
 
 -- ---- quorums
 

@@ -19,7 +19,7 @@ use Rattle.op_eval.specs.Finding.{Found, Part, Spans, all_of, any_of, node_finds
 use Rattle.op_eval.specs.Keywords.{is_among}
 use Rattle.op_eval.specs.steps.Asking.{Knows}
 use Rattle.op_eval.specs.steps.Evaluating.{Finds, founds_in, items_keys, part_finds, part_in}
-use Rattle.op_eval.specs.steps.Terms.{AreTermsOf, IsTermOf}
+use Rattle.op_eval.specs.steps.Terms.{AreTermsOf, IsShort, IsTermOf}
 use Rattle.op_eval.proofs.Appending.{Passed, finds_both, passed_fails, passed_more}
 use Rattle.op_eval.proofs.TermParts.{item_parts}
 
@@ -56,17 +56,17 @@ module _ (row : DocRow) (number : List ℕ → ℕ) (marks : Marks) (spans : Spa
     known : All (λ (i : Item). Knows row i.node marks) items → Knows row item.node marks
     known knows = subst (λ (i : Item). Knows row i.node marks) (sym is) (knows at item within)
 
-    pub turn_passes : (old mid new : Finding) (told : Bool) → All (λ (i : Item). Knows row i.node marks) items → AreTermsOf row number (items_keys (drop at items)) rest × Passed (parts (take at items)) old mid
-        → Told (λ found. Finds found mid new told) → told ≡ true → AreTermsOf row number (items_keys (drop (at + 1) items)) later × Passed (parts (take (at + 1) items)) old new
+    pub turn_passes : (old mid new : Finding) (told : Bool) → All (λ (i : Item). Knows row i.node marks) items → AreTermsOf row number (items_keys (drop at items)) rest × Passed (IsShort number) (parts (take at items)) old mid
+        → Told (λ found. Finds (IsShort number) found mid new told) → told ≡ true → AreTermsOf row number (items_keys (drop (at + 1) items)) later × Passed (IsShort number) (parts (take (at + 1) items)) old new
     turn_passes old mid new told knows before call is_true =
         let both = terms_split before.0 in
-        (both.1, subst (λ (list : List Part). Passed list old new) (sym parts_more) (passed_more (parts (take at items)) (part_in row number spans item) old mid new told before.1 (call both.0 (known knows)) is_true))
+        (both.1, subst (λ (list : List Part). Passed (IsShort number) list old new) (sym parts_more) (passed_more (parts (take at items)) (part_in row number spans item) old mid new told before.1 (call both.0 (known knows)) is_true))
 
-    pub turn_fails : (old mid new cut : Finding) (told : Bool) → All (λ (i : Item). Knows row i.node marks) items → AreTermsOf row number (items_keys (drop at items)) rest × Passed (parts (take at items)) old mid
-        → Told (λ found. Finds found mid new told) → told ≡ false → cut.occs.items ≡ take (length old.occs.items) new.occs.items → cut.hits.items ≡ take (length old.hits.items) new.hits.items
-        → Finds (all_of (parts items)) old cut false
+    pub turn_fails : (old mid new cut : Finding) (told : Bool) → All (λ (i : Item). Knows row i.node marks) items → AreTermsOf row number (items_keys (drop at items)) rest × Passed (IsShort number) (parts (take at items)) old mid
+        → Told (λ found. Finds (IsShort number) found mid new told) → told ≡ false → cut.occs.items ≡ take (length old.occs.items) new.occs.items → cut.hits.items ≡ take (length old.hits.items) new.hits.items
+        → Finds (IsShort number) (all_of (parts items)) old cut false
     turn_fails old mid new cut told knows before call is_false occs hits =
-        subst (λ (list : List Part). Finds (all_of list) old cut false) (sym parts_split)
+        subst (λ (list : List Part). Finds (IsShort number) (all_of list) old cut false) (sym parts_split)
         (passed_fails (parts (take at items)) (parts (drop (at + 1) items)) (part_in row number spans item) old mid new cut told before.1 (call (terms_split before.0).0 (known knows)) is_false occs hits)
 
     -- whether the item passes, by whether its node matches
@@ -109,10 +109,10 @@ module _ (row : DocRow) (number : List ℕ → ℕ) (node : Node) (spans : Spans
       ∙ founds_split (take at all) (span ∷ [])
 
   pub turn_found : (all : Spans) (at : ℕ) (span d : ℕ × ZoneSpan) → at < length all → span ≡ get_or all at d → (old mid new : Finding) (some told : Bool)
-      → Finds (any_of (founds_in row number node spans zones (take at all))) old mid some → Finds (any_of (founds_in row number node spans zones (span ∷ []))) mid new told
-      → Finds (any_of (founds_in row number node spans zones (take (at + 1) all))) old new (some || told)
+      → Finds (IsShort number) (any_of (founds_in row number node spans zones (take at all))) old mid some → Finds (IsShort number) (any_of (founds_in row number node spans zones (span ∷ []))) mid new told
+      → Finds (IsShort number) (any_of (founds_in row number node spans zones (take (at + 1) all))) old new (some || told)
   turn_found all at span d within is old mid new some told before next =
-      subst (λ (founds : List Found). Finds (any_of founds) old new (some || told)) (sym (founds_more all at span d within is))
+      subst (λ (founds : List Found). Finds (IsShort number) (any_of founds) old new (some || told)) (sym (founds_more all at span d within is))
       (finds_both (founds_in row number node spans zones (take at all)) (founds_in row number node spans zones (span ∷ [])) old mid new some told before next)
 
   -- one span within which the node matches

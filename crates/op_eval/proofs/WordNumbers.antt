@@ -1,6 +1,6 @@
 -- The numbers of a query's words tell its words apart.
-use Rattle.std.proofs.Common.{arith, ◌≡◌, ◌<◌, ◌≤◌, refl, sym, ap, ◌∙◌, subst, ℕ, zero, suc, Bool, true, false, cond, List, [], ◌∷◌, length, get_or, map, inl, inr}
-use Rattle.std.specs.Prelude.{◌||◌, ◌&&◌, not, Contains, Option, Some, None, unwrap_or, nat_lt}
+use Rattle.std.proofs.Common.{arith, ◌≡◌, ◌<◌, sym, ap, ◌∙◌, ℕ, zero, suc, Bool, true, false, cond, List, [], ◌∷◌, length, get_or, map, inl, inr}
+use Rattle.std.specs.Prelude.{not, Contains, Some, None, unwrap_or}
 use Rattle.std.specs.List.{filter, list_any, position, position_or_len}
 use Rattle.std.specs.Str.{bytes_eq}
 use Rattle.std.proofs.lemmas.Bool.{cases_Bool, cases_lt, or_cases, or_left, or_right, lt-ltb, both_ways, true≢false}

@@ -1,9 +1,8 @@
 -- What the nodes of a query find in a row (the manual of Sphinx, "Extended query syntax"): whether they match, their
 -- occurrences, and their hits. Lists of occurrences and of hits stand here for sets. Where spans are in force, a position counts
 -- only if each of them holds it.
-use Rattle.std.specs.Prelude.{ℕ, ◌+◌, ◌*◌, ◌^◌, List, [], ◌∷◌, ◌++◌, map, length, min, Bool, true, false, ◌&&◌, ◌||◌, ◌==◌, not, nat_le, nat_lt, unwrap_or, if◌then◌else◌}
-use Rattle.std.specs.List.{filter, flat_map, list_any, list_all, count_by, position}
-use Rattle.std.specs.Str.{bytes_eq}
+use Rattle.std.specs.Prelude.{ℕ, ◌*◌, ◌^◌, List, [], ◌∷◌, ◌++◌, map, length, min, Bool, true, false, ◌||◌, not, nat_le, if◌then◌else◌}
+use Rattle.std.specs.List.{filter, flat_map, list_any, list_all, count_by}
 use Rattle.doc_types.specs.declared.documents.DocRow.{DocRow}
 use Rattle.doc_types.specs.declared.hits.Hit.{Hit}
 use Rattle.doc_types.specs.declared.tokens.ZoneSpan.{ZoneSpan}
@@ -18,7 +17,7 @@ use Rattle.occ_lists.specs.declared.occ.Occ.{Occ}
 use Rattle.occ_lists.specs.Places.{at_place, holds}
 use Rattle.occ_lists.specs.Joined.{before, near, together}
 use Rattle.occ_lists.specs.Runs.{runs}
-use Rattle.occ_lists.specs.Windows.{Listed, windows}
+use Rattle.occ_lists.specs.Windows.{windows}
 use Rattle.op_eval.specs.Keywords.{places_within, sentence_ends, paragraph_ends, is_among}
 
 pub record Found : Type 0 where

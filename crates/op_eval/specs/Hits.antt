@@ -1,5 +1,5 @@
 -- The hits of a query in a row.
-use Rattle.std.specs.Prelude.{ℕ, List, Bool, ◌&&◌, ◌||◌, ◌==◌, nat_lt, IsTrue, AllPairs}
+use Rattle.std.specs.Prelude.{List, Bool, ◌&&◌, ◌||◌, ◌==◌, nat_lt, IsTrue, AllPairs}
 use Rattle.doc_types.specs.declared.documents.DocRow.{DocRow}
 use Rattle.doc_types.specs.declared.hits.Hit.{Hit}
 use Rattle.query_grammar.specs.declared.query.Query.{Query}

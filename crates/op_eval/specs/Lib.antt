@@ -10,5 +10,9 @@ pub mod Matching
 pub mod Occurrences
 -- the hits of a query in a row
 pub mod Hits
+-- the rows that match, one after another
+pub mod Streams
 -- what serves proofs and private functions alone
 pub mod steps
+-- queries whose keywords are numbered, and their hits
+pub mod Numbered

@@ -1,5 +1,5 @@
 -- SENTENCE and PARAGRAPH in an index whose sentences aren't read: there they are AND.
-use Rattle.std.specs.Prelude.{List, [], ◌∷◌, Bool, false, Option, Some, None, option_map, if◌then◌else◌}
+use Rattle.std.specs.Prelude.{[], ◌∷◌, false, option_map, if◌then◌else◌}
 use Rattle.doc_types.specs.declared.schema.Schema.{Schema}
 use Rattle.query_grammar.specs.declared.query.Item.{Item}
 use Rattle.query_grammar.specs.declared.query.Node.{Node}

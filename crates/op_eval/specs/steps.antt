@@ -18,3 +18,5 @@ pub mod Loading
 pub mod Searching
 -- the rows that are wanted
 pub mod Wanted
+-- a query's tree between two rows that match
+pub mod Streaming

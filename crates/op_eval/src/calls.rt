@@ -2,7 +2,7 @@
 ghost use Rattle.std.specs.Prelude.{◌≡◌, ◌+◌, ◌<◌, ◌≤◌, ◌^◌, ◌++◌, ◌∷◌, ◌==◌, [], Some, length, slice_get, if◌then◌else◌, AllPairs, IsTrue, IfOk, OnOk};
 ghost use Rattle.std.specs.List.{list_any};
 ghost use Rattle.doc_types.specs.declared.documents.DocRow.{DocRow};
-ghost use Rattle.query_grammar.specs.DeepValues.{node_keys, query_keys};
+ghost use Rattle.query_grammar.specs.DeepValues.{query_keys};
 ghost use Rattle.occ_lists.specs.OccLists.{SameMembers};
 ghost use Rattle.op_eval.specs.Hits.{AreHits, comes_before};
 ghost use Rattle.op_eval.specs.Matching.{matching};
@@ -10,6 +10,7 @@ ghost use Rattle.op_eval.specs.Occurrences.{AreOccurrences};
 ghost use Rattle.op_eval.specs.steps.Searching.{IsSearch};
 ghost use Rattle.op_eval.specs.steps.Wanted.{is_wanted, lives, numbers_of};
 
+use crate::finding::Finding;
 use crate::search::Search;
 use doc_types::{Chunk, Hit, Hits};
 use occ_lists::{Occ, sort_distinct};
@@ -27,7 +28,6 @@ pub fn candidates<C: Chunk, L: Ledger>(
     steps: &mut Steps<L>,
 ) -> Result<Vec<u32>, NoMemory>
     requires dead { AllPairs (λ row later. row < later) dead.now }
-    requires keys { length (query_keys query.now) < 2 ^ 16 }
     ensures { IfOk result (λ rows. rows.items ≡ matching query.now (C.content chunk.now) dead.now) }
 {
     match &query.root {
@@ -51,7 +51,7 @@ fn living<C: Chunk>(alloc: Global, chunk: &C, dead: &[u32]) -> Result<Vec<u32>, 
 }
 
 /// Whether the row is one of these.
-fn is_dead(dead: &[u32], row: u32) -> bool
+pub(crate) fn is_dead(dead: &[u32], row: u32) -> bool
     requires { AllPairs (λ row later. row < later) dead.now }
     ensures { result ≡ list_any (λ d. d == row) dead.now }
 {
@@ -67,7 +67,6 @@ fn wanted<C: Chunk, L: Ledger>(
     steps: &mut Steps<L>,
 ) -> Result<Vec<u32>, NoMemory>
     requires dead { AllPairs (λ row later. row < later) dead.now }
-    requires keys { length (node_keys root.now) < 2 ^ 16 }
     ensures { IfOk result (λ rows. rows.items ≡ numbers_of (is_wanted root.now dead.now) (C.content chunk.now)) }
 {
     let mut search = Search::over(alloc, root, chunk)?;
@@ -111,7 +110,6 @@ pub fn occurrences<C: Chunk, L: Ledger>(
     steps: &mut Steps<L>,
 ) -> Result<Vec<Occ>, NoMemory>
     requires row { row < length (C.content chunk.now) }
-    requires keys { length (query_keys query.now) < 2 ^ 16 }
     ensures count { steps.new ≤ steps.old + length (query_keys query.now) }
     ensures list { (found : DocRow) → slice_get (C.content chunk.now) row ≡ Some found → IfOk result (λ occs. AreOccurrences query.now found occs.items) }
 {
@@ -119,9 +117,10 @@ pub fn occurrences<C: Chunk, L: Ledger>(
         None => Ok(Vec::new(alloc)),
         Some(root) => {
             let mut search = Search::over(alloc, root, chunk)?;
-            let mut occs = search.find(chunk, row, steps)?.occs;
-            sort_distinct(&mut occs);
-            Ok(occs)
+            let mut found = Finding::empty(alloc);
+            search.find(chunk, row, &mut found, steps)?;
+            sort_distinct(&mut found.occs);
+            Ok(found.occs)
         }
     }
 }
@@ -164,15 +163,16 @@ fn hits_in<C: Chunk, L: Ledger>(
         None => Ok(Vec::new(alloc)),
         Some(root) => {
             let mut search = Search::over(alloc, root, chunk)?;
-            let mut list = search.find(chunk, row, steps)?.hits;
-            sort_hits(&mut list);
-            Ok(list)
+            let mut found = Finding::empty(alloc);
+            search.find(chunk, row, &mut found, steps)?;
+            sort_hits(&mut found.hits);
+            Ok(found.hits)
         }
     }
 }
 
 /// Puts the hits in order, by field, position, query position and word, and leaves each once.
-fn sort_hits(list: &mut Vec<Hit>)
+pub(crate) fn sort_hits(list: &mut Vec<Hit>)
     ensures ascend { AllPairs (λ hit later. IsTrue (comes_before hit later)) list.new.items }
     ensures same { SameMembers list.new.items list.old.items }
 {

@@ -9,6 +9,7 @@ ghost use Rattle.occ_lists.specs.Terms.{IsPlaced};
 ghost use Rattle.op_eval.specs.Finding.{all_of, any_of, either, joined, node_finds, perhaps};
 ghost use Rattle.op_eval.specs.steps.Asking.{AreMarks};
 ghost use Rattle.op_eval.specs.steps.Evaluating.{Finds, Holds, OfEachItem, OfEachPair, OfEachRow, founds_in, join_by, part_finds, part_in};
+ghost use Rattle.op_eval.specs.steps.Terms.{IsShort};
 
 use crate::joining::{Join, put_made};
 use crate::marks::Marks;
@@ -18,6 +19,7 @@ use doc_types::{Hit, ZoneSpan};
 use occ_lists::{Buffers, Occ, Term, sort_distinct};
 use query_grammar::{Item, Node};
 use srch_base::NoMemory;
+use std::alloc::Global;
 
 /// Occurrences and hits.
 #[derive(Drop)]
@@ -27,6 +29,18 @@ pub(crate) struct Finding {
 }
 
 impl Finding {
+    /// Lists of its own.
+    pub(crate) fn empty(alloc: Global) -> Finding
+        ensures occs { result.occs.items ≡ [] }
+        ensures hits { result.hits.items ≡ [] }
+    {
+        Finding {
+            occs: Vec::new(alloc),
+            hits: Vec::new(alloc),
+        }
+    }
+
+    /// Lists that were used before.
     pub(crate) fn new(buffers: &mut Buffers) -> Finding
         ensures occs { result.occs.items ≡ [] }
         ensures hits { result.hits.items ≡ [] }
@@ -35,6 +49,15 @@ impl Finding {
             occs: buffers.take_occs(),
             hits: buffers.take_hits(),
         }
+    }
+
+    /// Takes what is in the lists out of them.
+    pub(crate) fn clear(&mut self)
+        ensures occs { self.new.occs.items ≡ [] }
+        ensures hits { self.new.hits.items ≡ [] }
+    {
+        self.occs.clear();
+        self.hits.clear();
     }
 
     /// Gives the lists back.
@@ -59,7 +82,7 @@ pub(crate) fn find(
     requires forward { All IsForward out.old.occs.items }
     ensures spans { OnOk result (work.new.spans.items ≡ work.old.spans.items) }
     ensures forward { OnOk result (All IsForward out.new.occs.items) }
-    ensures found { OfEachRow node.now terms.now marks.now (λ row number. IfOk result (λ told. Finds (node_finds row number node.now work.old.spans.items) out.old out.new told)) }
+    ensures found { OfEachRow node.now terms.now marks.now (λ row number. IfOk result (λ told. Finds (IsShort number) (node_finds row number node.now work.old.spans.items) out.old out.new told)) }
 {
     match node {
         Node::Word(_) => find_words(terms, &work.spans, out),
@@ -96,7 +119,7 @@ fn find_either(
     requires forward { All IsForward out.old.occs.items }
     ensures spans { OnOk result (work.new.spans.items ≡ work.old.spans.items) }
     ensures forward { OnOk result (All IsForward out.new.occs.items) }
-    ensures found { OfEachPair a.now b.now terms.now marks.now (λ row number. IfOk result (λ told. Finds (either (node_finds row number a.now work.old.spans.items) (node_finds row number b.now work.old.spans.items)) out.old out.new told)) }
+    ensures found { OfEachPair a.now b.now terms.now marks.now (λ row number. IfOk result (λ told. Finds (IsShort number) (either (node_finds row number a.now work.old.spans.items) (node_finds row number b.now work.old.spans.items)) out.old out.new told)) }
 {
     let (left, right) = terms_last(b, terms);
     let first = find(a, left, marks, work, out)?;
@@ -119,7 +142,7 @@ fn find_perhaps(
     requires forward { All IsForward out.old.occs.items }
     ensures spans { OnOk result (work.new.spans.items ≡ work.old.spans.items) }
     ensures forward { OnOk result (All IsForward out.new.occs.items) }
-    ensures found { OfEachPair a.now b.now terms.now marks.now (λ row number. IfOk result (λ told. Finds (perhaps (node_finds row number a.now work.old.spans.items) (node_finds row number b.now work.old.spans.items)) out.old out.new told)) }
+    ensures found { OfEachPair a.now b.now terms.now marks.now (λ row number. IfOk result (λ told. Finds (IsShort number) (perhaps (node_finds row number a.now work.old.spans.items) (node_finds row number b.now work.old.spans.items)) out.old out.new told)) }
 {
     let (left, right) = terms_last(b, terms);
     let first = find(a, left, marks, work, out)?;
@@ -143,7 +166,7 @@ fn find_all(
     requires forward { All IsForward out.old.occs.items }
     ensures spans { OnOk result (work.new.spans.items ≡ work.old.spans.items) }
     ensures forward { OnOk result (All IsForward out.new.occs.items) }
-    ensures found { OfEachItem items.now terms.now marks.now (λ row number. IfOk result (λ told. Finds (all_of (map (part_in row number work.old.spans.items) items.now)) out.old out.new told)) }
+    ensures found { OfEachItem items.now terms.now marks.now (λ row number. IfOk result (λ told. Finds (IsShort number) (all_of (map (part_in row number work.old.spans.items) items.now)) out.old out.new told)) }
 {
     let occs = out.occs.len();
     let hits = out.hits.len();
@@ -175,7 +198,7 @@ fn find_item(
     requires forward { All IsForward out.old.occs.items }
     ensures spans { OnOk result (work.new.spans.items ≡ work.old.spans.items) }
     ensures forward { OnOk result (All IsForward out.new.occs.items) }
-    ensures found { OfEachRow item.now.node terms.now marks.now (λ row number. IfOk result (λ told. Finds (part_finds (part_in row number work.old.spans.items item.now)) out.old out.new told)) }
+    ensures found { OfEachRow item.now.node terms.now marks.now (λ row number. IfOk result (λ told. Finds (IsShort number) (part_finds (part_in row number work.old.spans.items item.now)) out.old out.new told)) }
 {
     if !item.negated {
         return find(&item.node, terms, marks, work, out);
@@ -202,7 +225,7 @@ fn find_joined(
     requires forward { All IsForward out.old.occs.items }
     ensures spans { OnOk result (work.new.spans.items ≡ work.old.spans.items) }
     ensures forward { OnOk result (All IsForward out.new.occs.items) }
-    ensures found { OfEachPair a.now b.now terms.now marks.now (λ row number. IfOk result (λ told. Finds (joined (join_by marks.now join) (node_finds row number a.now work.old.spans.items) (node_finds row number b.now work.old.spans.items)) out.old out.new told)) }
+    ensures found { OfEachPair a.now b.now terms.now marks.now (λ row number. IfOk result (λ told. Finds (IsShort number) (joined (join_by marks.now join) (node_finds row number a.now work.old.spans.items) (node_finds row number b.now work.old.spans.items)) out.old out.new told)) }
 {
     let (left, right) = terms_last(b, terms);
     let first = find_apart(a, left, marks, work)?;
@@ -223,7 +246,7 @@ fn find_apart(
     ensures spans { OnOk result (work.new.spans.items ≡ work.old.spans.items) }
     ensures ascend { IfOk result (λ found. Ascend found.occs.items) }
     ensures forward { IfOk result (λ found. All IsForward found.occs.items) }
-    ensures found { OfEachRow node.now terms.now marks.now (λ row number. IfOk result (λ found. Holds (node_finds row number node.now work.old.spans.items) found)) }
+    ensures found { OfEachRow node.now terms.now marks.now (λ row number. IfOk result (λ found. Holds (IsShort number) (node_finds row number node.now work.old.spans.items) found)) }
 {
     let mut finding = Finding::new(&mut work.buffers);
     find(node, terms, marks, work, &mut finding)?;
@@ -246,7 +269,7 @@ fn find_span(
     requires forward { All IsForward out.old.occs.items }
     ensures spans { OnOk result (work.new.spans.items ≡ work.old.spans.items) }
     ensures forward { OnOk result (All IsForward out.new.occs.items) }
-    ensures found { OfEachRow node.now terms.now marks.now (λ row number. IfOk result (λ told. Finds (any_of (founds_in row number node.now work.old.spans.items zones.now marks.now.spans.items)) out.old out.new told)) }
+    ensures found { OfEachRow node.now terms.now marks.now (λ row number. IfOk result (λ told. Finds (IsShort number) (any_of (founds_in row number node.now work.old.spans.items zones.now marks.now.spans.items)) out.old out.new told)) }
 {
     let mut some = false;
     for span in &marks.spans {
@@ -272,7 +295,7 @@ fn find_within(
     requires forward { All IsForward out.old.occs.items }
     ensures spans { OnOk result (work.new.spans.items ≡ work.old.spans.items) }
     ensures forward { OnOk result (All IsForward out.new.occs.items) }
-    ensures found { OfEachRow node.now terms.now marks.now (λ row number. IfOk result (λ told. Finds (any_of (founds_in row number node.now work.old.spans.items zones.now (span ∷ []))) out.old out.new told)) }
+    ensures found { OfEachRow node.now terms.now marks.now (λ row number. IfOk result (λ told. Finds (IsShort number) (any_of (founds_in row number node.now work.old.spans.items zones.now (span ∷ []))) out.old out.new told)) }
 {
     if !is_among(zones, span.1.zone) {
         return Ok(false);

@@ -91,7 +91,7 @@ pub(crate) fn put_made(
     requires ys { All IsForward second.occs.items }
     requires forward { All IsForward out.old.occs.items }
     ensures forward { OnOk result (All IsForward out.new.occs.items) }
-    ensures found { IfOk result (λ told. Finds (made (join_by marks.now join first.occs.items second.occs.items) (first.hits.items ++ second.hits.items)) out.old out.new told) }
+    ensures found { IfOk result (λ told. Finds (Unit {0}) (made (join_by marks.now join first.occs.items second.occs.items) (first.hits.items ++ second.hits.items)) out.old out.new told) }
 {
     let mut made = buffers.take_occs();
     put_joined(join, &first.occs, &second.occs, marks, &mut made)?;

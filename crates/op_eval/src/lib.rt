@@ -7,6 +7,7 @@ mod counting;
 mod finding;
 mod joining;
 mod keys;
+mod laws;
 mod loading;
 mod marks;
 mod matching;
@@ -15,8 +16,14 @@ mod quoting;
 mod search;
 mod sentences;
 mod slots;
+mod streams;
 mod verdict;
+mod wanted;
 
 pub use calls::{candidates, hits, occurrences};
+pub use laws::{
+    an_index_keeps_the_numbers_of_keywords, each_hit_is_of_a_keyword, hits_can_be_weighed,
+};
 pub use occ_lists::Occ;
 pub use sentences::for_schema;
+pub use streams::Matches;

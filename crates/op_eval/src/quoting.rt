@@ -1,6 +1,6 @@
 //! Keywords by their places inside the spans in force: how many of them stand there, and what is found of them, by themselves or
 //! quoted together.
-ghost use Rattle.std.specs.Prelude.{◌≡◌, ◌++◌, map, length, All, IfOk, OnOk, if◌then◌else◌, nat_lt, true};
+ghost use Rattle.std.specs.Prelude.{◌≡◌, ◌<◌, ◌^◌, ◌++◌, map, length, All, IfOk, OnOk, if◌then◌else◌, true};
 ghost use Rattle.std.specs.List.{flat_map};
 ghost use Rattle.occ_lists.specs.Places.{at_place};
 ghost use Rattle.occ_lists.specs.Runs.{runs};
@@ -9,6 +9,7 @@ ghost use Rattle.occ_lists.specs.Terms.{IsPlaced, listed_in};
 ghost use Rattle.op_eval.specs.Finding as form;
 ghost use Rattle.op_eval.specs.Finding.{is_some, made, nothing};
 ghost use Rattle.op_eval.specs.steps.Evaluating.{Finds};
+ghost use Rattle.op_eval.specs.steps.Terms.{AreShort};
 ghost use Rattle.op_eval.specs.steps.Worded.{at_each, how_many, quoted_by, term_hits, term_places, worded};
 
 use crate::finding::Finding;
@@ -64,15 +65,23 @@ fn put_places(term: &Term, spans: &[(u16, ZoneSpan)], occs: &mut Vec<Occ>) -> Re
     Ok(())
 }
 
+/// The number of a word as hits have it, where it is short enough.
+fn hit_word(number: usize) -> u16
+    ensures { number < 2 ^ 16 → result ≡ number }
+{
+    u16::try_from(number).unwrap_or(u16::MAX)
+}
+
 /// Appends a hit at each place of the keyword.
 fn put_hits_of(term: &Term, spans: &[(u16, ZoneSpan)], hits: &mut Vec<Hit>) -> Result<(), NoMemory>
     requires { IsPlaced term.now }
-    ensures { OnOk result (hits.new.items ≡ hits.old.items ++ term_hits spans.now term.now) }
+    ensures { term.now.word < 2 ^ 16 → OnOk result (hits.new.items ≡ hits.old.items ++ term_hits spans.now term.now) }
 {
+    let word = hit_word(term.word);
     for place in within(&term.places, spans) {
         hits.push(Hit {
             query: term.query,
-            word: term.word,
+            word,
             field: place.0,
             position: place.1,
         })?;
@@ -83,7 +92,7 @@ fn put_hits_of(term: &Term, spans: &[(u16, ZoneSpan)], hits: &mut Vec<Hit>) -> R
 /// Appends a hit at each place of each keyword.
 fn put_hits(terms: &[Term], spans: &[(u16, ZoneSpan)], hits: &mut Vec<Hit>) -> Result<(), NoMemory>
     requires { All IsPlaced terms.now }
-    ensures { OnOk result (hits.new.items ≡ hits.old.items ++ flat_map (term_hits spans.now) terms.now) }
+    ensures { AreShort terms.now → OnOk result (hits.new.items ≡ hits.old.items ++ flat_map (term_hits spans.now) terms.now) }
 {
     for term in terms {
         put_hits_of(term, spans, hits)?;
@@ -99,7 +108,7 @@ fn put_keywords(
 ) -> Result<(), NoMemory>
     requires { All IsPlaced terms.now }
     ensures occs { OnOk result (out.new.occs.items ≡ out.old.occs.items ++ map at_place (flat_map (term_places spans.now) terms.now)) }
-    ensures hits { OnOk result (out.new.hits.items ≡ out.old.hits.items ++ flat_map (term_hits spans.now) terms.now) }
+    ensures hits { AreShort terms.now → OnOk result (out.new.hits.items ≡ out.old.hits.items ++ flat_map (term_hits spans.now) terms.now) }
 {
     for term in terms {
         put_places(term, spans, &mut out.occs)?;
@@ -114,7 +123,7 @@ pub(crate) fn find_words(
     out: &mut Finding,
 ) -> Result<bool, NoMemory>
     requires { All IsPlaced terms.now }
-    ensures { IfOk result (λ told. Finds (worded spans.now terms.now) out.old out.new told) }
+    ensures { IfOk result (λ told. Finds (AreShort terms.now) (worded spans.now terms.now) out.old out.new told) }
 {
     put_keywords(terms, spans, out)?;
     Ok(standing(terms, spans) > 0)
@@ -129,7 +138,7 @@ pub(crate) fn find_quoted(
 ) -> Result<bool, NoMemory>
     requires { All IsPlaced terms.now }
     ensures spans { OnOk result (work.new.spans.items ≡ work.old.spans.items) }
-    ensures found { IfOk result (λ told. Finds (quoted_by work.old.spans.items terms.now how) out.old out.new told) }
+    ensures found { IfOk result (λ told. Finds (AreShort terms.now) (quoted_by work.old.spans.items terms.now how) out.old out.new told) }
 {
     match how {
         How::Phrase => find_phrase(terms, work, out),
@@ -147,7 +156,7 @@ fn find_quorum(
     out: &mut Finding,
 ) -> Result<bool, NoMemory>
     requires { All IsPlaced terms.now }
-    ensures { IfOk result (λ told. Finds (if form.is_enough how (length terms.now) (how_many spans.now terms.now) then at_each spans.now terms.now true else nothing) out.old out.new told) }
+    ensures { IfOk result (λ told. Finds (AreShort terms.now) (if form.is_enough how (length terms.now) (how_many spans.now terms.now) then at_each spans.now terms.now true else nothing) out.old out.new told) }
 {
     let enough = is_enough(how, terms.len(), standing(terms, spans));
     if !enough {
@@ -161,7 +170,7 @@ fn find_quorum(
 fn find_phrase(terms: &[Term], work: &mut Work, out: &mut Finding) -> Result<bool, NoMemory>
     requires { All IsPlaced terms.now }
     ensures spans { OnOk result (work.new.spans.items ≡ work.old.spans.items) }
-    ensures found { IfOk result (λ told. Finds (made (runs (map (term_places work.old.spans.items) terms.now)) (flat_map (term_hits work.old.spans.items) terms.now)) out.old out.new told) }
+    ensures found { IfOk result (λ told. Finds (AreShort terms.now) (made (runs (map (term_places work.old.spans.items) terms.now)) (flat_map (term_hits work.old.spans.items) terms.now)) out.old out.new told) }
 {
     let mut ends = work.buffers.take_places();
     let mut runs = work.buffers.take_occs();
@@ -170,7 +179,8 @@ fn find_phrase(terms: &[Term], work: &mut Work, out: &mut Finding) -> Result<boo
     out.occs.extend_from_slice(&runs)?;
     let mut hits = work.buffers.take_hits();
     put_hits(terms, &work.spans, &mut hits)?;
-    put_inside(runs, hits, &mut work.buffers, out)
+    let some = put_inside(runs, hits, &mut work.buffers, out)?;
+    Ok(some)
 }
 
 /// What a proximity finds: its windows, and the hits inside them.
@@ -182,7 +192,7 @@ fn find_proximity(
 ) -> Result<bool, NoMemory>
     requires { All IsPlaced terms.now }
     ensures spans { OnOk result (work.new.spans.items ≡ work.old.spans.items) }
-    ensures found { IfOk result (λ told. Finds (made (windows n (listed_in work.old.spans.items terms.now)) (flat_map (term_hits work.old.spans.items) terms.now)) out.old out.new told) }
+    ensures found { IfOk result (λ told. Finds (AreShort terms.now) (made (windows n (listed_in work.old.spans.items terms.now)) (flat_map (term_hits work.old.spans.items) terms.now)) out.old out.new told) }
 {
     let mut windows = work.buffers.take_occs();
     put_windows(n, terms, &work.spans, &mut work.buffers, &mut windows)?;

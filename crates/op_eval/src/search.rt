@@ -44,7 +44,6 @@ impl<'q> Search<'q> {
         root: &'q Node,
         chunk: &C,
     ) -> Result<Search<'q>, NoMemory>
-        requires { length (node_keys root.now) < 2 ^ 16 }
         ensures { IfOk result (λ search. IsSearch (C.belongs chunk.now) (C.place chunk.now) (C.content chunk.now) 0 root.now search) }
     {
         let slots = Slots::over(alloc, root, chunk)?;
@@ -105,23 +104,27 @@ impl<'q> Search<'q> {
         }
     }
 
-    /// What is found in the row.
+    /// Whether the row matches, and what is found in it, in the place of what was found before.
     pub(crate) fn find<C: Chunk, L: Ledger>(
         &mut self,
         chunk: &C,
         row: u32,
+        found: &mut Finding,
         steps: &mut Steps<L>,
-    ) -> Result<Finding, NoMemory>
+    ) -> Result<bool, NoMemory>
         requires row { row < length (C.content chunk.now) }
         requires search { IsSearch (C.belongs chunk.now) (C.place chunk.now) (C.content chunk.now) row self.old.root.now self.old }
         ensures count { steps.new ≤ steps.old + length (node_keys self.old.root.now) }
-        ensures occs { (found : DocRow) → slice_get (C.content chunk.now) row ≡ Some found → IfOk result (λ finding. SameMembers finding.occs.items (node_found self.old.root.now found).occurrences) }
-        ensures hits { (found : DocRow) → slice_get (C.content chunk.now) row ≡ Some found → IfOk result (λ finding. SameMembers finding.hits.items (node_found self.old.root.now found).hits) }
+        ensures root { self.new.root ≡ self.old.root }
+        ensures search { OnOk result (IsSearch (C.belongs chunk.now) (C.place chunk.now) (C.content chunk.now) row self.old.root.now self.new) }
+        ensures told { (its : DocRow) → slice_get (C.content chunk.now) row ≡ Some its → IfOk result (λ told. told ≡ (node_found self.old.root.now its).matches) }
+        ensures occs { (its : DocRow) → slice_get (C.content chunk.now) row ≡ Some its → OnOk result (SameMembers found.new.occs.items (node_found self.old.root.now its).occurrences) }
+        ensures hits { (its : DocRow) → slice_get (C.content chunk.now) row ≡ Some its → length (node_keys self.old.root.now) < 2 ^ 16 → OnOk result (SameMembers found.new.hits.items (node_found self.old.root.now its).hits) }
     {
+        found.clear();
         self.slots.seek(chunk, row);
-        let mut found = Finding::new(&mut self.work.buffers);
         if !may_match(self.root, &self.slots.terms) {
-            return Ok(found);
+            return Ok(false);
         }
         self.load(chunk, row, steps)?;
         find(
@@ -129,9 +132,8 @@ impl<'q> Search<'q> {
             &self.slots.terms,
             &self.marks,
             &mut self.work,
-            &mut found,
-        )?;
-        Ok(found)
+            found,
+        )
     }
 
     /// Reads what the query asks of the row.

@@ -1,6 +1,6 @@
 //! The keywords of a query over a chunk: each with a cursor over the rows that have its word, and with its places in the row at
 //! hand. Rows are visited ascending, so each cursor goes over its rows once.
-ghost use Rattle.std.specs.Prelude.{◌≡◌, ℕ, ◌+◌, ◌<◌, ◌≤◌, ◌^◌, ◌==◌, nat_le, true, false, List, map, length, All, IfOk, OnOk, IfSome, slice_get, slice_index_or, unwrap_or};
+ghost use Rattle.std.specs.Prelude.{◌≡◌, ℕ, ◌<◌, ◌==◌, true, false, map, length, All, IfOk, OnOk, IfSome, slice_get, slice_index_or, unwrap_or};
 ghost use Rattle.std.specs.List.{AllZip, list_any, position};
 ghost use Rattle.std.specs.Str.{bytes_eq};
 ghost use Rattle.doc_types.specs.declared.documents.DocRow.{DocRow};
@@ -33,7 +33,6 @@ impl<'q> Slots<'q> {
         node: &'q Node,
         chunk: &C,
     ) -> Result<Slots<'q>, NoMemory>
-        requires { length (node_keys node.now) < 2 ^ 16 }
         ensures keys { IfOk result (λ slots. keys_of slots ≡ node_keys node.now) }
         ensures slots { IfOk result (λ slots. AreSlots (C.belongs chunk.now) (C.place chunk.now) (C.content chunk.now) 0 slots) }
         ensures absent { IfOk result (λ slots. All (λ term. term.present ≡ false) slots.terms.items) }
@@ -188,7 +187,6 @@ fn is_next<C: Chunk>(chunk: &C, cursor: Option<Cursor>, row: u32) -> bool
 
 /// A term for each keyword, before it is known what a row has.
 fn terms_of(alloc: Global, keys: &[&Key], fields: u16) -> Result<Vec<Term>, NoMemory>
-    requires { length keys.now < 2 ^ 16 }
     ensures made { IfOk result (λ terms. AllZip (IsMadeFor (number_among (map (λ key. key.now) keys.now)) fields) (map (λ key. key.now) keys.now) terms.items) }
     ensures absent { IfOk result (λ terms. All (λ term. term.present ≡ false) terms.items) }
 {
@@ -202,7 +200,6 @@ fn terms_of(alloc: Global, keys: &[&Key], fields: u16) -> Result<Vec<Term>, NoMe
 
 /// The keyword's term, before it is known what a row has.
 fn term_of(alloc: Global, key: &Key, words: &[&[u8]], fields: u16) -> Term
-    requires { length words.now < 2 ^ 16 }
     ensures query { result.query ≡ key.now.query }
     ensures word { result.word ≡ unwrap_or (position (λ seen. bytes_eq key.now.word seen.now) words.now) 0 }
     ensures free { result.free ≡ true → IsUnlimited key.now fields }
@@ -210,7 +207,7 @@ fn term_of(alloc: Global, key: &Key, words: &[&[u8]], fields: u16) -> Term
 {
     Term {
         query: key.query,
-        word: number(words, key.word.as_bytes()) as u16,
+        word: number(words, key.word.as_bytes()),
         free: is_free(key, fields),
         present: false,
         places: Vec::new(alloc),
@@ -247,8 +244,7 @@ fn is_among(words: &[&[u8]], word: &[u8]) -> bool
 
 /// The number of the word among these, from 0.
 fn number(words: &[&[u8]], word: &[u8]) -> usize
-    ensures bound { result ≤ length words.now }
-    ensures value { result ≡ unwrap_or (position (λ seen. bytes_eq word.now seen.now) words.now) 0 }
+    ensures { result ≡ unwrap_or (position (λ seen. bytes_eq word.now seen.now) words.now) 0 }
 {
     words.iter().position(|seen| word == *seen).unwrap_or(0)
 }

@@ -27,11 +27,12 @@ pub record Appends {X : Type 0} (old new found : List X) : Type 0 where
   pub is : new ≡ old ++ added
   pub same : SameMembers added found
 
--- what was found was appended, and whether it matches was told
-pub record Finds (found : Found) (old new : Finding) (result : Bool) : Type 0 where
+-- What was found was appended, and whether it matches was told; of hits this is said where the numbers of words are short
+-- enough for them.
+pub record Finds (short : Type 0) (found : Found) (old new : Finding) (result : Bool) : Type 0 where
   pub matches : result ≡ found.matches
   pub occurrences : Appends old.occs.items new.occs.items found.occurrences
-  pub hits : Appends old.hits.items new.hits.items found.hits
+  pub hits : short → Appends old.hits.items new.hits.items found.hits
 
 -- this is so of each row whose terms and marks these are
 abbrev pub OfEachRow : Node → List Term → Marks → ((DocRow → (List ℕ → ℕ) → Type 0) → Type 0)
@@ -70,10 +71,10 @@ join_by marks (joins.Near n) = near n
 join_by marks joins.Sentence = together marks.sentences.items
 join_by marks joins.Paragraph = together marks.paragraphs.items
 
--- a list of what a node finds: its occurrences and its hits, in any order
-pub record Holds (found : Found) (finding : Finding) : Type 0 where
+-- a list of what a node finds: its occurrences and, where numbers are short enough, its hits, in any order
+pub record Holds (short : Type 0) (found : Found) (finding : Finding) : Type 0 where
   pub occurrences : SameMembers finding.occs.items found.occurrences
-  pub hits : SameMembers finding.hits.items found.hits
+  pub hits : short → SameMembers finding.hits.items found.hits
 
 -- this is so of each row whose terms are those of the two, and whose marks they are for both
 abbrev pub OfEachPair : Node → Node → List Term → Marks → ((DocRow → (List ℕ → ℕ) → Type 0) → Type 0)

@@ -1,5 +1,5 @@
 -- the terms of a row: for each keyword, in the order of the text, what is known of it in the row
-use Rattle.std.specs.Prelude.{◌≡◌, ℕ, List, Bool, true}
+use Rattle.std.specs.Prelude.{◌≡◌, ◌<◌, ◌^◌, ℕ, List, true, All}
 use Rattle.std.specs.List.{AllZip, filter}
 use Rattle.doc_types.specs.declared.documents.DocRow.{DocRow}
 use Rattle.doc_types.specs.Chunks.{has_word, hits_of}
@@ -12,6 +12,14 @@ pub record IsTermOf (row : DocRow) (number : List ℕ → ℕ) (key : Key) (term
   pub query : term.query ≡ key.query
   pub word : term.word ≡ number key.word
   pub places : term.places.items ≡ key_places row key
+
+-- the numbers of the terms' words are such as hits have: they fit 16 bits
+abbrev pub AreShort : List Term → Type 0
+AreShort terms = All (λ term. term.word < 2 ^ 16) terms
+
+-- each word's number is such a one
+abbrev pub IsShort : (List ℕ → ℕ) → Type 0
+IsShort number = (word : List ℕ) → number word < 2 ^ 16
 
 abbrev pub AreTermsOf : DocRow → (List ℕ → ℕ) → List Key → List Term → Type 0
 AreTermsOf row number keys terms = AllZip (IsTermOf row number) keys terms

@@ -1,5 +1,5 @@
 -- what the words of a row tell of a node: for each list of spans in force, or for none in force alone
-use Rattle.std.specs.Prelude.{◌≡◌, ℕ, List, [], Bool, true, false, Contains, if◌then◌else◌}
+use Rattle.std.specs.Prelude.{◌≡◌, ℕ, List, [], Bool, true, false, Contains}
 use Rattle.doc_types.specs.declared.documents.DocRow.{DocRow}
 use Rattle.query_marks.specs.declared.key.Key.{Key}
 use Rattle.query_marks.specs.declared.key.How.{How}

@@ -1,5 +1,5 @@
 use Rattle.std.proofs.Common.{arith}
-use Rattle.op_eval.proofs.Searches.{are_hits, own_search}
+use Rattle.op_eval.proofs.Searches.{are_hits, few_keys, own_search}
 use Rattle.op_eval.proofs.calls.hits_in.Goals as goal
 
 pub find-requires-clause-search : goal.find-requires-clause-search
@@ -7,7 +7,8 @@ find-requires-clause-search g c =
     own_search (g.C.Chunk.belongs c.args.chunk.now) (g.C.Chunk.place c.args.chunk.now) (g.C.Chunk.content c.args.chunk.now) 0 c.args.row c.in-Some.root
     c.in_ok-search-in-Some.search (omega arith) c.in_ok-search-in-Some.ensures
 
-pub returns-in_ok-list-in-Some-clause-list : goal.returns-in_ok-list-in-Some-clause-list
-returns-in_ok-list-in-Some-clause-list g c = λ found here.
-    are_hits c.args.query.now c.in-Some.root c.in_ok-search-in-Some.search.root.now found c.sort_hits.new.list.items c.in_ok-list-in-Some.field-0.hits.items
-    c.in-Some.is c.in_ok-search-in-Some.ensures.root c.sort_hits.ensures.ascend c.sort_hits.ensures.same (c.in_ok-list-in-Some.ensures.hits found here)
+pub returns-in_ok-find-in-Some-clause-list : goal.returns-in_ok-find-in-Some-clause-list
+returns-in_ok-find-in-Some-clause-list g c = λ found here.
+    are_hits c.args.query.now c.in-Some.root c.in_ok-search-in-Some.search.root.now found c.sort_hits.new.list.items c.find.new.found.hits.items
+    c.in-Some.is c.in_ok-search-in-Some.ensures.root c.sort_hits.ensures.ascend c.sort_hits.ensures.same
+    (c.in_ok-find-in-Some.ensures.hits found here (few_keys c.args.query.now c.in-Some.root c.in_ok-search-in-Some.search.root.now c.in-Some.is c.in_ok-search-in-Some.ensures.root c.requires.keys))

@@ -7,7 +7,7 @@ find-requires-clause-search g c =
     own_search (g.C.Chunk.belongs c.args.chunk.now) (g.C.Chunk.place c.args.chunk.now) (g.C.Chunk.content c.args.chunk.now) 0 c.args.row c.in-Some.root
     c.in_ok-search-in-Some.search (omega arith) c.in_ok-search-in-Some.ensures
 
-pub returns-in_ok-occs-in-Some-clause-list : goal.returns-in_ok-occs-in-Some-clause-list
-returns-in_ok-occs-in-Some-clause-list g c = λ found here.
-    are_occurrences c.args.query.now c.in-Some.root c.in_ok-search-in-Some.search.root.now found c.sort_distinct.new.list.items c.in_ok-occs-in-Some.field-0.occs.items
-    c.in-Some.is c.in_ok-search-in-Some.ensures.root c.sort_distinct.ensures.ascend c.sort_distinct.ensures.same (c.in_ok-occs-in-Some.ensures.occs found here)
+pub returns-in_ok-find-in-Some-clause-list : goal.returns-in_ok-find-in-Some-clause-list
+returns-in_ok-find-in-Some-clause-list g c = λ found here.
+    are_occurrences c.args.query.now c.in-Some.root c.in_ok-search-in-Some.search.root.now found c.sort_distinct.new.list.items c.find.new.found.occs.items
+    c.in-Some.is c.in_ok-search-in-Some.ensures.root c.sort_distinct.ensures.ascend c.sort_distinct.ensures.same (c.in_ok-find-in-Some.ensures.occs found here)

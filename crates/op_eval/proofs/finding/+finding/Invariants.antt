@@ -9,7 +9,7 @@ use Rattle.occ_lists.specs.Terms.{IsPlaced}
 use Rattle.op_eval.specs.Finding.{any_of}
 use Rattle.op_eval.specs.steps.Asking.{Knows}
 use Rattle.op_eval.specs.steps.Evaluating.{Finds, founds_in, items_keys, part_in}
-use Rattle.op_eval.specs.steps.Terms.{AreTermsOf}
+use Rattle.op_eval.specs.steps.Terms.{AreTermsOf, IsShort}
 use Rattle.op_eval.proofs.Appending.{Passed}
 use Rattle.op_eval.proofs.finding.+finding.Given as goal
 
@@ -19,7 +19,7 @@ invariant-find_all-loop-item l = record {
   spans : l.work.spans.items ≡ l.initial.work.spans.items;
   forward : All IsForward l.out.occs.items;
   found : (row : DocRow) (number : List ℕ → ℕ) → AreTermsOf row number (items_keys l.items) l.terms → All (λ (item : Item). Knows row item.node l.marks) l.items
-      → AreTermsOf row number (items_keys (drop l.item-index l.items)) l.rest × Passed (map (part_in row number l.initial.work.spans.items) (take l.item-index l.items)) l.initial.out l.out;
+      → AreTermsOf row number (items_keys (drop l.item-index l.items)) l.rest × Passed (IsShort number) (map (part_in row number l.initial.work.spans.items) (take l.item-index l.items)) l.initial.out l.out;
 }
 
 abbrev pub invariant-find_span-loop-span : goal.invariant-find_span-loop-span
@@ -27,7 +27,7 @@ invariant-find_span-loop-span l = record {
   spans : l.work.spans.items ≡ l.initial.work.spans.items;
   forward : All IsForward l.out.occs.items;
   found : (row : DocRow) (number : List ℕ → ℕ) → AreTermsOf row number (node_keys l.node) l.terms → Knows row l.node l.marks
-      → Finds (any_of (founds_in row number l.node l.initial.work.spans.items l.zones (take l.span-index l.span-items))) l.initial.out l.out l.some;
+      → Finds (IsShort number) (any_of (founds_in row number l.node l.initial.work.spans.items l.zones (take l.span-index l.span-items))) l.initial.out l.out l.some;
 }
 
 abbrev pub decreases-find : goal.decreases-find

@@ -11,7 +11,7 @@ use Rattle.op_eval.proofs.Forward.{finds_forward, forward_joined}
 use Rattle.op_eval.proofs.joining.put_made.Goals as goal
 use Rattle.op_eval.proofs.joining.put_made.Goals.{In_ok-some}
 
-found : (c : In_ok-some) → Finds (made (join_by c.args.marks.now c.args.join c.args.first.occs.items c.args.second.occs.items) (c.args.first.hits.items ++ c.args.second.hits.items)) c.args.out.now c.put_inside.new.out c.in_ok-some.some
+found : (c : In_ok-some) → Finds (Unit {0}) (made (join_by c.args.marks.now c.args.join c.args.first.occs.items c.args.second.occs.items) (c.args.first.hits.items ++ c.args.second.hits.items)) c.args.out.now c.put_inside.new.out c.in_ok-some.some
 found c =
     let join = join_by c.args.marks.now c.args.join in
     let list = c.put_joined.new.out.items in
@@ -22,7 +22,7 @@ found c =
     made_found joined list list (c.args.first.hits.items ++ c.args.second.hits.items) c.args.out.now c.put_inside.new.out c.in_ok-some.some
     same (λ place. same (λ (o : Occ). holds o place)) (same (λ (o : Occ). true)) c.in_ok-some.ensures.some
     (c.in_ok-some.ensures.occs ∙ c.in_ok-extend_from_slice.ensures.items ∙ ap (λ (xs : List Occ). c.args.out.now.occs.items ++ xs) c.deref-3.ensures.value)
-    (c.in_ok-some.ensures.hits
+    (λ is. c.in_ok-some.ensures.hits
     ∙ ap (λ (hits : List Hit). c.args.out.now.hits.items ++ filter (is_inside list) hits)
     (c.in_ok-extend_from_slice-2.ensures.items ∙ ap (λ (hits : List Hit). c.args.first.hits.items ++ hits) c.deref-4.ensures.value))
 

@@ -5,6 +5,7 @@ use Rattle.occ_lists.specs.Windows.{windows}
 use Rattle.occ_lists.specs.Terms.{listed_in, CoverAlike}
 use Rattle.occ_lists.proofs.Members.{same_is, same_trans}
 use Rattle.op_eval.specs.Finding.{is_inside, Spans}
+use Rattle.op_eval.specs.steps.Terms.{AreShort}
 use Rattle.op_eval.specs.steps.Worded.{term_hits}
 use Rattle.op_eval.proofs.Appending.{made_found, cover_alike}
 use Rattle.op_eval.proofs.quoting.find_proximity.Goals as goal
@@ -16,8 +17,8 @@ returns-clause-found c =
     let spans = c.args.work.now.spans.items in
     let added = c.put_windows.new.out.items in
     let cover = c.put_widest.new.out.items in
-    let hits : c.put_hits.new.hits.items ≡ flat_map (term_hits spans) terms =
-    c.in_ok-put_hits.ensures ∙ ap (λ list. list ++ flat_map (term_hits c.deref-4.result.now) terms) c.take_hits-hits.ensures ∙ ap (λ (s : Spans). flat_map (term_hits s) terms) c.deref-4.ensures.value in
+    let hits : AreShort terms → c.put_hits.new.hits.items ≡ flat_map (term_hits spans) terms = λ short.
+    c.in_ok-put_hits.ensures short ∙ ap (λ list. list ++ flat_map (term_hits c.deref-4.result.now) terms) c.take_hits-hits.ensures ∙ ap (λ (s : Spans). flat_map (term_hits s) terms) c.deref-4.ensures.value in
     let same : SameMembers added (found spans) =
     same_trans added (c.take_occs-windows.result.items ++ found c.deref.result.now) (found spans) c.in_ok-put_windows.ensures
     (same_is (c.take_occs-windows.result.items ++ found c.deref.result.now) (found spans) (ap (λ list. list ++ found c.deref.result.now) c.take_occs-windows.ensures ∙ ap found c.deref.ensures.value)) in
@@ -25,4 +26,4 @@ returns-clause-found c =
     (subst (λ (s : Spans). CoverAlike c.take_occs-widest.result.items cover (found s)) c.deref-3.ensures.value c.in_ok-put_widest.ensures) in
     made_found (found spans) added cover (flat_map (term_hits spans) terms) c.args.out.now c.put_inside.new.out c.in_ok-some.some same alike.0 alike.1 c.in_ok-some.ensures.some
     (c.in_ok-some.ensures.occs ∙ c.in_ok-extend_from_slice.ensures.items ∙ ap (λ list. c.args.out.now.occs.items ++ list) c.deref-2.ensures.value)
-    (c.in_ok-some.ensures.hits ∙ ap (λ list. c.args.out.now.hits.items ++ filter (is_inside cover) list) hits)
+    (λ short. c.in_ok-some.ensures.hits ∙ ap (λ list. c.args.out.now.hits.items ++ filter (is_inside cover) list) (hits short))

@@ -1,16 +1,11 @@
-use Rattle.std.proofs.Common.{Bor, List, ℕ, ap, ◌∙◌, rules, tests, unwrap_or, subst, sym, ◌≤◌, length}
+use Rattle.std.proofs.Common.{Bor, List, ℕ, ap, ◌∙◌, rules, tests, unwrap_or}
 use Rattle.std.specs.Str.{bytes_eq}
 use Rattle.std.proofs.lemmas.Iterator.{YieldsList-from_slice}
 use Rattle.std.proofs.lemmas.Iterator.Search.{position_from_yields_List}
-use Rattle.op_eval.proofs.FirstUses.{number_within}
 use Rattle.op_eval.proofs.slots.number.Goals as goal
 
-pub returns-clause-value : goal.returns-clause-value
-returns-clause-value c =
+pub returns : goal.returns
+returns c =
     c.unwrap_or.ensures
     ∙ ap (λ found. unwrap_or found 0)
     (position_from_yields_List (λ (seen : Bor (List ℕ)). bytes_eq c.args.word.now seen.now) _ _ _ c.position.ensures.ran (YieldsList-from_slice c.args.words.now cc) (λ x b q k. search (rules, tests)))
-
-pub returns-clause-bound : goal.returns-clause-bound
-returns-clause-bound c =
-    subst (λ n. n ≤ length c.args.words.now) (sym (returns-clause-value c)) (number_within (λ (seen : Bor (List ℕ)). bytes_eq c.args.word.now seen.now) c.args.words.now)

@@ -1,16 +1,11 @@
 use Rattle.std.proofs.Common.{Bor, arith, map, subst, sym, ap, ◌∙◌, false, ◌≡◌, All}
 use Rattle.std.proofs.lemmas.List.Elements.{All-push}
-use Rattle.std.proofs.lemmas.List.{length-map}
 use Rattle.occ_lists.specs.declared.term.Term.{Term}
 use Rattle.query_marks.specs.declared.key.Key.{Key}
 use Rattle.op_eval.specs.steps.Slots.{IsMadeFor, number_among}
-use Rattle.op_eval.proofs.FirstUses.{few_words, number_is}
+use Rattle.op_eval.proofs.FirstUses.{number_is}
 use Rattle.op_eval.proofs.Zipped.{zip_more}
 use Rattle.op_eval.proofs.slots.terms_of.Goals as goal
-
-pub term_of-requires : goal.term_of-requires
-term_of-requires c =
-    omega (arith, few_words (λ (key : Key). key.word) (map (λ (key : Bor Key). key.now) c.args.keys.now) c.deref.result.now (ap (map (λ word. word.now)) c.deref.ensures.value ∙ c.in_ok-words.ensures), length-map c.args.keys.now (λ (key : Bor Key). key.now))
 
 pub loop-key-preserved : goal.loop-key-preserved
 loop-key-preserved c =

@@ -1,0 +1,187 @@
+//! Which queries open lists of places: `candidates` over a chunk whose lists can't be opened answers those alone that open none.
+ghost use Rattle.eval_vectors.specs.steps.Reading.{IsSoundIndex};
+ghost use Rattle.std.specs.Prelude.{◌≡◌, ◌<◌};
+
+use crate::cases::DOCUMENTS;
+use crate::documents::chunk_of;
+use crate::queries::query_of;
+use crate::sets::{index_of, lines_of};
+use conf_text::IndexConf;
+use doc_types::{Chunk, Cursor, Gap, Value, ZoneSpan};
+use op_eval::candidates;
+use query_grammar::Query;
+use srch_base::{NoMemory, Steps};
+use std::alloc::Global;
+use std::marker::Brand;
+use std::sync::ledger::{Blank, Ledger};
+use std::test::Fail;
+
+/// A chunk that has no memory for lists of places.
+#[derive(Drop)]
+struct Shut<C> {
+    chunk: C,
+}
+
+impl<C: Chunk> Chunk for Shut<C> {
+    ghost content = { λ shut. C.content shut.chunk };
+
+    ghost words_of = { λ shut. C.words_of shut.chunk };
+
+    ghost belongs = { λ shut cursor. C.belongs shut.chunk cursor };
+
+    ghost place = { λ shut cursor. C.place shut.chunk cursor };
+
+    fn rows(&self) -> u32 {
+        self.chunk.rows()
+    }
+
+    fn fields(&self) -> u16 {
+        self.chunk.fields()
+    }
+
+    fn id(&self, row: u32) -> u64 {
+        self.chunk.id(row)
+    }
+
+    fn born(&self, row: u32) -> u64 {
+        self.chunk.born(row)
+    }
+
+    fn value(&self, row: u32, attr: u16) -> Value {
+        self.chunk.value(row, attr)
+    }
+
+    fn last(&self, row: u32, field: u16) -> u32 {
+        self.chunk.last(row, field)
+    }
+
+    fn find(&self, id: u64) -> Option<u32> {
+        self.chunk.find(id)
+    }
+
+    fn words(&self) -> u32 {
+        self.chunk.words()
+    }
+
+    fn word_at(&self, n: u32) -> &[u8] {
+        self.chunk.word_at(n)
+    }
+
+    fn start(&self, word: &[u8]) -> Option<Cursor> {
+        self.chunk.start(word)
+    }
+
+    fn row(&self, cursor: &Cursor) -> Option<u32> {
+        self.chunk.row(cursor)
+    }
+
+    fn advance(&self, cursor: &mut Cursor) {
+        self.chunk.advance(cursor);
+    }
+
+    fn open<L: Ledger>(
+        &self,
+        _cursor: &Cursor,
+        _into: &mut Vec<(u16, u32)>,
+        steps: &mut Steps<L>,
+    ) -> Result<(), NoMemory> {
+        steps.tick();
+        Err(NoMemory)
+    }
+
+    fn gaps(&self, row: u32, field: u16, into: &mut Vec<(u32, Gap)>) -> Result<(), NoMemory> {
+        self.chunk.gaps(row, field, into)
+    }
+
+    fn spans(&self, row: u32, into: &mut Vec<(u16, ZoneSpan)>) -> Result<(), NoMemory> {
+        self.chunk.spans(row, into)
+    }
+
+    ghost whole = { λ shut. C.whole shut.chunk };
+
+    ghost all_words = { λ shut. C.all_words shut.chunk };
+
+    ghost places = { λ shut cursor belongs. C.places shut.chunk cursor belongs };
+}
+
+/// Queries over the set `letters`, and whether they open a list.
+const OPENING: [(&str, bool); 18] = [
+    ("a", false),
+    ("absent", false),
+    ("a b", false),
+    ("a -b", false),
+    ("a | b", false),
+    ("a MAYBE b", false),
+    ("((a | b) c MAYBE x) -absent", false),
+    ("\"a b c\"/2", false),
+    ("\"a absent\"", false),
+    ("a (b | \"a b\")", false),
+    ("\"a b\"", true),
+    ("\"a b\"~3", true),
+    ("a << b", true),
+    ("a NEAR/2 b", true),
+    ("^a", true),
+    ("a$", true),
+    ("@text[1] a", true),
+    ("a (x | \"a b\")", true),
+];
+
+fn opens_by<L: Ledger, C: Chunk>(alloc: Global, query: &Query, chunk: &C, blank: Blank) -> bool
+    requires name { blank.name ≡ L.name }
+    requires parts { blank.parts ≡ L.parts }
+    requires some { 0 < blank.parts }
+{
+    let mut steps = Steps::<L>::new(blank);
+    candidates(alloc, query, chunk, &[], &mut steps).is_err()
+}
+
+/// Whether the query opens a list of a chunk that has no memory for them.
+fn opens<C: Chunk>(alloc: Global, query: &Query, chunk: &C) -> bool {
+    opens_by::<Brand, C>(alloc, query, chunk, Blank::new(1))
+}
+
+/// Whether the query of a text opens a list.
+fn opens_text<C: Chunk>(
+    alloc: Global,
+    index: &IndexConf,
+    chunk: &C,
+    text: &str,
+) -> Result<bool, Fail>
+    requires { IsSoundIndex index.now }
+{
+    let query = query_of(alloc, text, index)?;
+    Ok(opens(alloc, &query, chunk))
+}
+
+/// Fails with the query if it opens a list and shouldn't, or doesn't and should.
+fn try_query<C: Chunk>(
+    alloc: Global,
+    index: &IndexConf,
+    chunk: &C,
+    text: &str,
+    wanted: bool,
+) -> Result<(), Fail>
+    requires { IsSoundIndex index.now }
+{
+    if opens_text(alloc, index, chunk, text)? == wanted {
+        return Ok(());
+    }
+    Err(Fail::new(format!(in alloc; "{text}")?))
+}
+
+/// Fails with the first of these queries.
+fn try_opening<C: Chunk>(alloc: Global, index: &IndexConf, chunk: &C) -> Result<(), Fail>
+    requires { IsSoundIndex index.now }
+{
+    for (text, wanted) in &OPENING {
+        try_query(alloc, index, chunk, text, *wanted)?;
+    }
+    Ok(())
+}
+
+#[test]
+fn words_alone_open_no_list(rt: HostRuntime) -> Result<(), Fail> {
+    let index = index_of(rt.alloc(), "letters")?;
+    let chunk = chunk_of(rt.alloc(), &index, lines_of(DOCUMENTS, "letters")?)?;
+    try_opening(rt.alloc(), &index, &Shut { chunk })
+}

@@ -1,0 +1,56 @@
+-- a query's tree on its way over the rows of a chunk, between two rows that match
+use Rattle.std.specs.Prelude.{◌≡◌, ◌+◌, ◌<◌, ◌≤◌, ◌^◌, ◌==◌, ◌&&◌, ℕ, List, [], ◌∷◌, map, length, drop, slice_get, Bool, not, Option, Some, None, IfSome, AllPairs}
+use Rattle.std.specs.List.{filter, list_any, enumerate_from}
+use Rattle.doc_types.specs.declared.cursor.Cursor.{Cursor}
+use Rattle.doc_types.specs.declared.documents.DocRow.{DocRow}
+use Rattle.doc_types.specs.Chunks.{Place}
+use Rattle.query_grammar.specs.declared.query.Node.{Node}
+use Rattle.query_grammar.specs.declared.query.Query.{Query}
+use Rattle.query_grammar.specs.DeepValues.{query_keys}
+use Rattle.occ_lists.specs.OccLists.{SameMembers}
+use Rattle.op_eval.specs.declared.finding.Finding.{Finding}
+use Rattle.op_eval.specs.declared.search.Search.{Search}
+use Rattle.op_eval.specs.Finding.{Found}
+use Rattle.op_eval.specs.Matching.{matches}
+use Rattle.op_eval.specs.steps.Searching.{IsSearch}
+use Rattle.op_eval.specs.steps.Wanted.{is_wanted}
+
+-- the numbers of the rows from this one on that pass, ascending
+abbrev pub numbers_from : {X : Type 0} → (ℕ × X → Bool) → ℕ → List X → List ℕ
+numbers_from passes n rows = map (λ e. e.0) (filter passes (drop n (enumerate_from 0 rows)))
+
+-- the row matches the query, and is none of the dead ones
+abbrev pub is_matching : Query → List ℕ → ℕ × DocRow → Bool
+is_matching query dead e = matches query e.1 && not (list_any (λ d. d == e.0) dead)
+
+-- the row that comes after this one; where there is none, the end
+abbrev pub after : Option ℕ → ℕ → ℕ
+after None end = end
+after (Some row) end = row + 1
+
+-- it is the first row from the one on that passes; where there is none, none does
+abbrev pub IsFirst : (ℕ × DocRow → Bool) → List DocRow → ℕ → Option ℕ → Type 0
+IsFirst passes rows from None = numbers_from passes from rows ≡ []
+IsFirst passes rows from (Some row) = (row < length rows) × (numbers_from passes from rows ≡ row ∷ numbers_from passes (row + 1) rows)
+
+-- the hits of the row are found
+abbrev pub HasHits : (DocRow → Found) → List DocRow → Option ℕ → Finding → Type 0
+HasHits finds rows next found = IfSome next (λ row. (its : DocRow) → slice_get rows row ≡ Some its → SameMembers found.hits.items (finds its).hits)
+
+-- The search has gone over no row from this one on, and none from the start up to it passes.
+pub record LooksFrom (belongs : Cursor → Type 0) (place : Cursor → Place) (rows : List DocRow) (root : Node) (dead : List ℕ) (start from : ℕ) (search : Search) : Type 0 where
+  pub within : from ≤ length rows
+  pub tree : search.root.now ≡ root
+  pub at : IsSearch belongs place rows from search.root.now search
+  pub ahead : numbers_from (is_wanted root dead) start rows ≡ numbers_from (is_wanted root dead) from rows
+
+-- The search, where there is one, is of the query's tree, and has gone over no row from this one on.
+abbrev pub StandsAt : (Cursor → Type 0) → (Cursor → Place) → List DocRow → ℕ → Query → Option Search → Type 0
+StandsAt belongs place rows from query search = IfSome search (λ its. (query.root ≡ Some its.root.now) × IsSearch belongs place rows from its.root.now its)
+
+-- What is so between two rows: so far all rows before this one went by.
+pub record IsStream (belongs : Cursor → Type 0) (place : Cursor → Place) (rows : List DocRow) (from : ℕ) (query : Query) (dead : List ℕ) (search : Option Search) : Type 0 where
+  pub within : from ≤ length rows
+  pub few : length (query_keys query) < 2 ^ 16
+  pub ascend : AllPairs (λ row later. row < later) dead
+  pub stands : StandsAt belongs place rows from query search
