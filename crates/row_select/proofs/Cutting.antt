@@ -15,7 +15,7 @@ front_is a b xs =
       | inr low ↦ take-take b a xs low ∙ ap (λ n. take n xs) (omega arith)
     ]
 
-page_of_front : {X : Type 0} (offset count most end : ℕ) (all : List X) → end ≡ min most (offset + count) → drop offset (take end all) ≡ take count (drop offset (take most all))
+pub page_of_front : {X : Type 0} (offset count most end : ℕ) (all : List X) → end ≡ min most (offset + count) → drop offset (take end all) ≡ take count (drop offset (take most all))
 page_of_front offset count most end all is =
     ap (λ n. drop offset (take n all)) is ∙ ap (drop offset) (sym (front_is most (offset + count) all)) ∙ drop-take offset count (take most all)
 

@@ -10,3 +10,7 @@ pub mod Selected
 pub mod Cutting
 -- rows that are moved out one by one
 pub mod Moved
+-- how many pass a test that fails from some place on
+pub mod Counting
+-- the rows that a collector keeps
+pub mod Collected

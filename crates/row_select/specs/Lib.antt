@@ -6,5 +6,7 @@ pub mod Filters
 pub mod Orders
 -- the page
 pub mod Pages
+-- the rows that a collector keeps
+pub mod Collecting
 -- what serves proofs and private functions alone
 pub mod steps

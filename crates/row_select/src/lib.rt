@@ -1,6 +1,7 @@
 //! Which rows a select shows: conditions on columns, the order of rows, and the page.
 #![tactic(auto)]
 
+mod collector;
 mod filter;
 mod laws;
 mod order;
@@ -9,6 +10,7 @@ mod row;
 #[cfg(test)]
 mod tests;
 
+pub use collector::Collector;
 pub use filter::{CompareOp, Filter};
 pub use laws::a_page_is_one_list;
 pub use order::Order;

@@ -1,6 +1,6 @@
 //! The page of the rows in order (the manual of Sphinx, "SELECT syntax": LIMIT and the option `max_matches`).
-ghost use Rattle.std.specs.Prelude.{◌≡◌, ◌+◌, min, IfOk};
-ghost use Rattle.row_select.specs.Pages.{IsTop};
+ghost use Rattle.std.specs.Prelude.{◌≡◌, IfOk};
+ghost use Rattle.row_select.specs.Pages.{IsTop, page_end};
 ghost use Rattle.row_select.specs.steps.Selecting.{AreFirst};
 
 use crate::order::Order;
@@ -22,8 +22,8 @@ pub struct Page {
 
 impl Page {
     /// How many rows, from the first on, are enough to tell the page.
-    fn end(&self) -> usize
-        ensures { result ≡ min self.now.max_matches (self.now.offset + self.now.count) }
+    pub(crate) fn end(&self) -> usize
+        ensures { result ≡ page_end self.now }
     {
         (self.max_matches as usize).min(self.offset as usize + self.count as usize)
     }

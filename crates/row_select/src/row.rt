@@ -1,9 +1,9 @@
 //! A document that a select found, as its conditions and its order see it.
-ghost use Rattle.std.specs.Prelude.{◌≡◌};
+ghost use Rattle.std.specs.Prelude.{◌≡◌, IfOk};
 ghost use Rattle.row_select.specs.Columns.{column_value};
 
 use doc_types::Value;
-use srch_base::Items;
+use srch_base::{Items, NoMemory};
 use std::alloc::Global;
 
 /// A document that a select found.
@@ -23,6 +23,17 @@ impl Row {
             weight: 0,
             values: Items::new(Vec::new(alloc)),
         }
+    }
+
+    /// A row that holds the same.
+    pub(crate) fn copy(&self) -> Result<Row, NoMemory>
+        ensures { IfOk result (λ copy. copy ≡ self.now) }
+    {
+        Ok(Row {
+            id: self.id,
+            weight: self.weight,
+            values: self.values.clone()?,
+        })
     }
 }
 

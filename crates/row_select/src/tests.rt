@@ -189,31 +189,55 @@ fn all_rows(alloc: Global) -> Result<Vec<Row>, Fail> {
     Ok(rows)
 }
 
+/// The order by these keys.
+fn order_by(alloc: Global, keys: &[(ColumnRef, bool)]) -> Result<Order, Fail> {
+    Ok(Order {
+        keys: Items::new(Vec::from_slice(alloc, keys)?),
+    })
+}
+
+/// The page of rows that are found at once, or one after the other.
+fn shown(
+    alloc: Global,
+    rows: Vec<Row>,
+    order: &Order,
+    page: Page,
+    at_once: bool,
+) -> Result<Vec<Row>, Fail> {
+    if at_once {
+        return Ok(top(rows, order, &page).ok().ok_or("no memory")?);
+    }
+    let mut collector = Collector::new(alloc, order, page);
+    for row in rows.iter() {
+        collector.offer(row).ok().ok_or("no memory")?;
+    }
+    Ok(collector.finish().ok().ok_or("no memory")?)
+}
+
 /// The letters of the rows that a page shows, by its keys, offset, count and `max_matches`.
 fn letters_shown(
     alloc: Global,
     keys: [(ColumnRef, bool); 2],
     numbers: [u32; 3],
+    at_once: bool,
 ) -> Result<String, Fail> {
-    let order = Order {
-        keys: Items::new(Vec::from_slice(alloc, &keys)?),
-    };
+    let order = order_by(alloc, &keys)?;
     let [offset, count, max_matches] = numbers;
     let page = Page {
         offset,
         count,
         max_matches,
     };
-    let shown = top(all_rows(alloc)?, &order, &page)
-        .ok()
-        .ok_or("no memory")?;
-    letters_of(alloc, &shown)
+    letters_of(
+        alloc,
+        &shown(alloc, all_rows(alloc)?, &order, page, at_once)?,
+    )
 }
 
 /// The number of the first page that shows other rows.
-fn first_wrong_page(alloc: Global) -> Result<Option<usize>, Fail> {
+fn first_wrong_page(alloc: Global, at_once: bool) -> Result<Option<usize>, Fail> {
     for (at, (keys, numbers, letters)) in PAGES.iter().enumerate() {
-        if letters_shown(alloc, *keys, *numbers)?.as_str() != *letters {
+        if letters_shown(alloc, *keys, *numbers, at_once)?.as_str() != *letters {
             return Ok(Some(at));
         }
     }
@@ -221,20 +245,23 @@ fn first_wrong_page(alloc: Global) -> Result<Option<usize>, Fail> {
 }
 
 /// The ids of a page of 1,200 rows of one weight, ids 1 to 1,200 in no order, by weight.
-fn ids_shown(alloc: Global, offset: u32, max_matches: u32) -> Result<Vec<u64>, Fail> {
+fn ids_shown(
+    alloc: Global,
+    offset: u32,
+    max_matches: u32,
+    at_once: bool,
+) -> Result<Vec<u64>, Fail> {
     let mut rows = Vec::new(alloc);
     for number in 1..1201 {
         rows.push(row(alloc, number * 7 % 1201, 1, [0, 0])?)?;
     }
-    let order = Order {
-        keys: Items::new(Vec::from_slice(alloc, &[(Weight, true)])?),
-    };
+    let order = order_by(alloc, &[(Weight, true)])?;
     let page = Page {
         offset,
         count: 20,
         max_matches,
     };
-    let shown = top(rows, &order, &page).ok().ok_or("no memory")?;
+    let shown = shown(alloc, rows, &order, page, at_once)?;
     Ok(shown.iter().map(|row| row.id).collect(alloc)?)
 }
 
@@ -246,16 +273,31 @@ fn conditions_hold_of_their_rows(rt: HostRuntime) -> Result<(), Fail> {
 
 #[test]
 fn pages_show_their_rows(rt: HostRuntime) -> Result<(), Fail> {
-    assert_eq!(rt; first_wrong_page(rt.alloc())?, None);
+    assert_eq!(rt; first_wrong_page(rt.alloc(), true)?, None);
+    assert_eq!(rt; first_wrong_page(rt.alloc(), false)?, None);
     Ok(())
 }
 
 #[test]
 fn many_rows_are_cut_after_max_matches(rt: HostRuntime) -> Result<(), Fail> {
     assert_eq!(rt;
-        ids_shown(rt.alloc(), 995, 1000)?.as_slice(),
+        ids_shown(rt.alloc(), 995, 1000, true)?.as_slice(),
         [996, 997, 998, 999, 1000].as_slice()
     );
-    assert_eq!(rt; ids_shown(rt.alloc(), 1000, 2000)?.len(), 20);
+    assert_eq!(rt; ids_shown(rt.alloc(), 1000, 2000, true)?.len(), 20);
+    Ok(())
+}
+
+#[test]
+fn many_rows_are_collected(rt: HostRuntime) -> Result<(), Fail> {
+    assert_eq!(rt;
+        ids_shown(rt.alloc(), 995, 1000, false)?.as_slice(),
+        [996, 997, 998, 999, 1000].as_slice()
+    );
+    assert_eq!(rt;
+        ids_shown(rt.alloc(), 7, 10, false)?.as_slice(),
+        [8, 9, 10].as_slice()
+    );
+    assert_eq!(rt; ids_shown(rt.alloc(), 1000, 2000, false)?.len(), 20);
     Ok(())
 }

@@ -1,0 +1,117 @@
+//! The rows that a page may need, kept while the rows are found one after the other.
+ghost use Rattle.std.specs.Prelude.{◌≡◌, ◌≤◌, ◌<◌, ◌*◌, [], ◌∷◌, ◌++◌, List, true, false, length, IfOk, OnOk, OnErr};
+ghost use Rattle.row_select.specs.Collecting.{AreEnough, Keeps, count_not_after};
+ghost use Rattle.row_select.specs.Pages.{IsTop, page_end};
+ghost use Rattle.row_select.specs.declared.row.Row.{Row};
+ghost use Rattle.row_select.specs.steps.Collecting.{IsBordered};
+ghost use Rattle.row_select.specs.steps.Selecting.{AreFirst};
+
+use crate::order::Order;
+use crate::page::{Page, top};
+use crate::row::Row;
+use srch_base::NoMemory;
+use std::alloc::Global;
+use std::marker::Model;
+
+/// The rows that a page may need, of those that were offered so far.
+///
+/// It keeps at most twice as many rows as there are up to the page's end, and copies no other row. Whenever there are so many,
+/// those that come first are put in order and the others let go of; from then on a row that comes after all of these costs one
+/// comparison.
+#[derive(Drop)]
+pub struct Collector<'a> {
+    order: &'a Order,
+    page: Page,
+    rows: Vec<Row>,
+}
+
+impl<'a> Model for Collector<'a> {
+    ghost use Rattle.std.specs.Prelude.{◌≤◌, ◌*◌, length};
+    ghost use Rattle.row_select.specs.Collecting.{Collection};
+    ghost use Rattle.row_select.specs.Pages.{page_end};
+    ghost use Rattle.row_select.specs.steps.Collecting.{IsBordered};
+
+    ghost Value = { Collection };
+
+    ghost view = { λ a. record { order = a.order.now; page = a.page; kept = a.rows.items } };
+
+    ghost invariant = { λ a. IsBordered a.order.now (page_end a.page) a.rows.items × (length a.rows.items ≤ 2 * page_end a.page) };
+}
+
+impl<'a> Collector<'a> {
+    /// Nothing was offered yet.
+    pub fn new(alloc: Global, order: &'a Order, page: Page) -> Collector<'a>
+        ensures order { result.order ≡ order.now }
+        ensures page { result.page ≡ page }
+        ensures nothing { Keeps [] result }
+    {
+        Collector {
+            order,
+            page,
+            rows: Vec::new(alloc),
+        }
+    }
+
+    /// Offers a row; a copy is kept where the page may need it. After an error nothing was offered.
+    pub fn offer(&mut self, row: &Row) -> Result<(), NoMemory>
+        ensures order { self.new.order ≡ self.old.order }
+        ensures page { self.new.page ≡ self.old.page }
+        ensures keeps { (offered : List Row) → Keeps offered self.old → OnOk result (Keeps (offered ++ row.now ∷ []) self.new) }
+        ensures unchanged { OnErr result (self.new ≡ self.old) }
+        // It never keeps more than twice the rows that it may need.
+        ensures few { length self.new.kept ≤ 2 * page_end self.new.page }
+    {
+        let end = self.page.end();
+        add_row(&mut self.rows, self.order, end, row)
+    }
+
+    /// The page of all rows that were offered.
+    pub fn finish(self) -> Result<Vec<Row>, NoMemory>
+        ensures { (offered : List Row) → Keeps offered self.entry → IfOk result (λ shown. IsTop offered self.entry.order self.entry.page shown.items) }
+    {
+        let Collector { order, page, rows } = self;
+        top(rows, order, &page)
+    }
+}
+
+/// Adds a copy of a row where it may be among the first `end`, and drops what no longer is once there are twice as many.
+fn add_row(rows: &mut Vec<Row>, order: &Order, end: usize, row: &Row) -> Result<(), NoMemory>
+    requires bordered { IsBordered order.now end rows.old.items }
+    requires few { length rows.old.items ≤ 2 * end }
+    ensures bordered { IsBordered order.now end rows.new.items }
+    ensures keeps { (offered : List Row) → AreEnough order.now end offered rows.old.items → OnOk result (AreEnough order.now end (offered ++ row.now ∷ []) rows.new.items) }
+    ensures unchanged { OnErr result (rows.new.items ≡ rows.old.items) }
+    ensures few { length rows.new.items ≤ 2 * end }
+{
+    if is_behind(rows, order, end, row) {
+        return Ok(());
+    }
+    rows.push(row.copy()?)?;
+    if rows.len() == end || rows.len() / 2 == end {
+        keep_first(rows, order, end);
+    }
+    Ok(())
+}
+
+/// Whether a row is known to stand behind `end` others.
+fn is_behind(rows: &[Row], order: &Order, end: usize, row: &Row) -> bool
+    requires bordered { IsBordered order.now end rows.now }
+    ensures behind { result ≡ true → end ≤ count_not_after order.now row.now rows.now }
+    ensures open { result ≡ false → 0 < end }
+{
+    if end == 0 {
+        return true;
+    }
+    match rows.get(end - 1) {
+        Some(border) => order.compare(border, row).is_le(),
+        None => false,
+    }
+}
+
+/// Keeps so many of the rows, those that come first, and puts them in order.
+fn keep_first(rows: &mut Vec<Row>, order: &Order, count: usize)
+    ensures { AreFirst order.now rows.old.items count rows.new.items }
+{
+    rows.sort_unstable_by(|row, other| order.compare(row, other));
+    rows.truncate(count);
+}
