@@ -1,4 +1,4 @@
-//! Tests by tables of values from outside over `mysql_wire`, `doc_types` and `srch_base`, which are proved once without them.
+//! Tests by tables of values from outside over `mysql_wire`, `reply_rows`, `doc_types` and `srch_base`, which are proved once without them.
 #![tactic(auto)]
 
 #[cfg(test)]
@@ -13,5 +13,7 @@ mod packets;
 mod reading;
 #[cfg(test)]
 mod replies;
+#[cfg(test)]
+mod result_sets;
 #[cfg(test)]
 mod small_texts;

@@ -1,0 +1,45 @@
+-- The columns of an index, as statements name them: `id`, a field or an attribute.
+use Rattle.std.specs.Prelude.{ℕ, zero, suc, List, [], ◌∷◌, ◌++◌, map, length, codes, Option, Some, None, if◌then◌else◌, slice_index_or}
+use Rattle.std.specs.List.{position}
+use Rattle.std.specs.Str.{bytes_eq}
+use Rattle.doc_types.specs.declared.schema.Schema.{Schema}
+use Rattle.ql_refusals.specs.declared.columns.Target.{Target}
+use Rattle.ql_refusals.specs.declared.columns.Target.TheVariants.{Id, Field, Attr}
+
+-- the column of every index
+abbrev pub id_name : List ℕ
+id_name = codes "id"
+
+abbrev pub attr_names : Schema → List (List ℕ)
+attr_names schema = map (λ attr. attr.0) schema.attrs
+
+-- the place of the field, or of the attribute, with a name
+abbrev pub field_place : Schema → List ℕ → Option ℕ
+field_place schema name = position (λ field. bytes_eq field name) schema.fields
+
+abbrev pub attr_place : Schema → List ℕ → Option ℕ
+attr_place schema name = position (λ attr. bytes_eq attr.0 name) schema.attrs
+
+abbrev pub field_or_attr : Option ℕ → Option ℕ → Option Target
+field_or_attr None None = None
+field_or_attr None (Some attr) = Some (Attr attr)
+field_or_attr (Some field) attr = Some (Field field)
+
+-- the column of this name: the id, a field or an attribute, by its place in the schema
+abbrev pub target_of : Schema → List ℕ → Option Target
+target_of schema name = if bytes_eq name id_name then Some Id else field_or_attr (field_place schema name) (attr_place schema name)
+
+-- as many columns of one kind, by their places
+abbrev pub numbered : (ℕ → Target) → ℕ → List Target
+numbered make zero = []
+numbered make (suc count) = numbered make count ++ make count ∷ []
+
+-- all columns in schema order: the id, the fields, the attributes
+abbrev pub all_targets : Schema → List Target
+all_targets schema = Id ∷ numbered Field (length schema.fields) ++ numbered Attr (length schema.attrs)
+
+-- a column's name
+abbrev pub name_of : Schema → Target → List ℕ
+name_of schema Id = id_name
+name_of schema (Field field) = slice_index_or schema.fields field []
+name_of schema (Attr attr) = slice_index_or (attr_names schema) attr []

@@ -1,0 +1,113 @@
+-- Refusals: the code and the text that a client is told, in the order in which a statement is looked at.
+use Rattle.std.specs.Prelude.{ℕ, List, ◌++◌, ◌==◌, take, codes, if◌then◌else◌, Option, Some, None}
+use Rattle.std.specs.Fmt.{decimal}
+use Rattle.ql_lex.specs.declared.fault.LexFault.{LexFault}
+use Rattle.ql_lex.specs.Faults.{fault_text as lex_text}
+use Rattle.ql_grammar.specs.FaultTexts.{fault_text as parse_text}
+use Rattle.ql_grammar.specs.declared.fault.ParseFault.{ParseFault}
+use Rattle.query_grammar.specs.FaultTexts.{fault_text as query_text}
+use Rattle.query_grammar.specs.declared.fault.QueryFault.{QueryFault}
+
+-- why a statement is refused: a code of the protocol, and a text
+pub record Refused : Type 0 where
+  pub code : ℕ
+  pub text : List ℕ
+
+-- the SQL state of a code
+abbrev pub state_of : ℕ → List ℕ
+state_of code = if code == 1037 then codes "HY001" else codes "42000"
+
+-- a statement that is wrong, or can't be run
+abbrev pub refused : List ℕ → Refused
+refused text = record { code = 1064; text = text }
+
+-- memory was refused
+abbrev pub no_memory : Refused
+no_memory = record { code = 1037; text = codes "out of memory" }
+
+-- the first of two faults
+abbrev pub first : Option Refused → Option Refused → Option Refused
+first None later = later
+first (Some fault) later = Some fault
+
+-- a name as refusals show it: names have at most 64 bytes
+abbrev pub shown : List ℕ → List ℕ
+shown name = take 64 name
+
+-- the text is no packet of statements
+abbrev pub bad_token : LexFault → Refused
+bad_token fault = refused (lex_text fault)
+
+abbrev pub bad_syntax : ParseFault → Refused
+bad_syntax fault = refused (parse_text fault)
+
+-- a statement that is well formed and not built yet
+abbrev pub not_offered : Refused
+not_offered = refused (codes "not offered yet")
+
+-- names
+abbrev pub unknown_index : List ℕ → Refused
+unknown_index name = refused (codes "unknown index '" ++ shown name ++ codes "'")
+
+abbrev pub unknown_column : List ℕ → Refused
+unknown_column name = refused (codes "unknown column '" ++ shown name ++ codes "'")
+
+abbrev pub unknown_option : List ℕ → Refused
+unknown_option name = refused (codes "unknown option '" ++ shown name ++ codes "'")
+
+abbrev pub ranker_not_offered : List ℕ → Refused
+ranker_not_offered name = refused (codes "ranker '" ++ shown name ++ codes "' is not offered")
+
+abbrev pub column_twice : List ℕ → Refused
+column_twice name = refused (codes "column '" ++ shown name ++ codes "' twice")
+
+-- kinds and ranges: a field where only an attribute or the id can stand, and the other way round
+abbrev pub column_is_field : List ℕ → Refused
+column_is_field name = refused (codes "column '" ++ shown name ++ codes "' is a field")
+
+abbrev pub column_is_no_field : List ℕ → Refused
+column_is_no_field name = refused (codes "column '" ++ shown name ++ codes "' is not a field")
+
+abbrev pub wrong_kind : List ℕ → Refused
+wrong_kind name = refused (codes "wrong kind of value for '" ++ shown name ++ codes "'")
+
+abbrev pub value_out_of_range : List ℕ → Refused
+value_out_of_range name = refused (codes "value out of range for '" ++ shown name ++ codes "'")
+
+abbrev pub id_missing : Refused
+id_missing = refused (codes "id is missing")
+
+abbrev pub id_out_of_range : Refused
+id_out_of_range = refused (codes "id out of range")
+
+abbrev pub wrong_number : Refused
+wrong_number = refused (codes "wrong number of values")
+
+-- the parts of a SELECT, in the order in which they are looked at
+abbrev pub second_match : Refused
+second_match = refused (codes "second MATCH")
+
+abbrev pub too_many_columns : Refused
+too_many_columns = refused (codes "too many columns")
+
+abbrev pub too_many_sort_keys : Refused
+too_many_sort_keys = refused (codes "too many sort keys")
+
+abbrev pub max_matches_out_of_range : Refused
+max_matches_out_of_range = refused (codes "max_matches out of range")
+
+-- the page would begin after the last row that is kept
+abbrev pub offset_not_below : ℕ → ℕ → Refused
+offset_not_below offset max_matches = refused (codes "offset " ++ decimal offset ++ codes " is not below max_matches " ++ decimal max_matches)
+
+-- the text of MATCH, with the name that isn't known as refusals show it
+abbrev pub bad_query : QueryFault → Refused
+bad_query fault = refused (query_text (record fault { name = shown fault.name }))
+
+-- the transaction
+abbrev pub too_many_positions : List ℕ → Refused
+too_many_positions name = refused (codes "field '" ++ shown name ++ codes "' above 65535 positions")
+
+-- the store
+abbrev pub duplicate_id : ℕ → Refused
+duplicate_id id = refused (codes "duplicate id " ++ decimal id)

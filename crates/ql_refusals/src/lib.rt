@@ -1,0 +1,14 @@
+//! Why a statement is refused, and the columns of an index as statements name them.
+#![tactic(auto)]
+
+mod columns;
+mod refusal;
+
+pub use columns::{ID, Target, all_targets, name_of, target_of};
+pub use refusal::{
+    MAX_REFUSAL_BYTES, Refusal, bad_query, bad_syntax, bad_token, column_is_field,
+    column_is_no_field, column_twice, duplicate_id, id_missing, id_out_of_range,
+    max_matches_out_of_range, no_memory, not_offered, offset_not_below, ranker_not_offered,
+    second_match, too_many_columns, too_many_positions, too_many_sort_keys, unknown_column,
+    unknown_index, unknown_option, value_out_of_range, wrong_kind, wrong_number,
+};

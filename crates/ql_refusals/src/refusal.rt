@@ -1,0 +1,347 @@
+//! Why a statement is refused: a code of the protocol and a text, made by one named function for each row of the manual's
+//! table, in the table's order.
+ghost use Rattle.std.specs.Prelude.{◌≡◌, ◌+◌, ◌≤◌, ◌++◌, [], length, decimal};
+ghost use Rattle.query_grammar.specs.FaultTexts.{name_text};
+ghost use Rattle.query_marks.specs.KindTexts.{kind_text};
+ghost use Rattle.ql_refusals.specs.Refusals.{bad_query as bad_query_row, bad_syntax as bad_syntax_row, bad_token as bad_token_row, column_is_field as column_is_field_row, column_is_no_field as column_is_no_field_row, column_twice as column_twice_row, duplicate_id as duplicate_id_row, id_missing as id_missing_row, id_out_of_range as id_out_of_range_row, max_matches_out_of_range as max_matches_out_of_range_row, no_memory as no_memory_row, not_offered as not_offered_row, offset_not_below as offset_not_below_row, ranker_not_offered as ranker_not_offered_row, refused, second_match as second_match_row, shown, state_of, too_many_columns as too_many_columns_row, too_many_positions as too_many_positions_row, too_many_sort_keys as too_many_sort_keys_row, unknown_column as unknown_column_row, unknown_index as unknown_index_row, unknown_option as unknown_option_row, value_out_of_range as value_out_of_range_row, wrong_kind as wrong_kind_row, wrong_number as wrong_number_row};
+
+use arrayvec::ArrayVec;
+use itoa::Buffer;
+use ql_grammar::{ParseFault, ParseKind};
+use ql_lex::{LexFault, LexKind};
+use query_grammar::QueryFault;
+use query_marks::QueryKind;
+use std::marker::Model;
+
+/// The most bytes of a refusal's text.
+pub const MAX_REFUSAL_BYTES: usize = 200;
+
+/// The most bytes of a name that a refusal shows; no name of a statement has more.
+const SHOWN: usize = 64;
+
+/// The code of a statement that is wrong, or can't be run: `ER_PARSE_ERROR`.
+const WRONG: u16 = 1064;
+
+/// The code of want of memory: `ER_OUTOFMEMORY`.
+const MEMORY: u16 = 1037;
+
+/// Why a statement is refused. It lies in place: making one takes no memory.
+#[derive(Drop)]
+pub struct Refusal {
+    code: u16,
+    text: ArrayVec<u8, MAX_REFUSAL_BYTES>,
+}
+
+impl Model for Refusal {
+    ghost use Rattle.ql_refusals.specs.Refusals.{Refused};
+
+    ghost Value = { Refused };
+
+    ghost view = { λ refusal. record { code = refusal.code; text = refusal.text.items } };
+}
+
+impl Refusal {
+    /// The protocol's number for it.
+    pub fn code(&self) -> u16
+        ensures { result ≡ self.now.code }
+    {
+        self.code
+    }
+
+    /// The SQL state that goes with the code.
+    pub fn state(&self) -> [u8; 5]
+        ensures { result ≡ state_of self.now.code }
+    {
+        if self.code == MEMORY {
+            *b"HY001"
+        } else {
+            *b"42000"
+        }
+    }
+
+    /// What is shown to the user.
+    pub fn text(&self) -> &[u8]
+        ensures value { result.now ≡ self.now.text }
+        ensures short { length result.now ≤ 200 }
+    {
+        self.text.as_slice()
+    }
+
+    /// A text alone.
+    fn plain(code: u16, text: &[u8]) -> Refusal
+        requires { length text.now ≤ 200 }
+        ensures { result ≡ record { code = code; text = text.now } }
+    {
+        let empty = Refusal {
+            code,
+            text: ArrayVec::new(),
+        };
+        empty.then(text)
+    }
+
+    /// A text with a name in it.
+    fn named(front: &[u8], name: &[u8], back: &[u8]) -> Refusal
+        requires { length front.now + length back.now ≤ 136 }
+        ensures { result ≡ refused (front.now ++ shown name.now ++ back.now) }
+    {
+        Refusal::plain(WRONG, front).then(cut(name)).then(back)
+    }
+
+    /// A text with a number at its end.
+    fn numbered(front: &[u8], number: u64) -> Refusal
+        requires { length front.now ≤ 136 }
+        ensures { result ≡ refused (front.now ++ decimal number) }
+    {
+        Refusal::plain(WRONG, front).then_number(number)
+    }
+
+    /// The text goes on with a part.
+    fn then(mut self, part: &[u8]) -> Refusal
+        requires { length self.text + length part.now ≤ 200 }
+        ensures { result ≡ record { code = self.code; text = self.text ++ part.now } }
+    {
+        let _ = self.text.try_extend_from_slice(part);
+        self
+    }
+
+    /// The text goes on with a number.
+    fn then_number(self, number: u64) -> Refusal
+        requires { length self.text ≤ 160 }
+        ensures value { result ≡ record { code = self.code; text = self.text ++ decimal number } }
+        ensures short { length result.text ≤ length self.text + 40 }
+    {
+        let mut digits = Buffer::new();
+        self.then(digits.format(number).as_bytes())
+    }
+
+    /// The text goes on with the name that a query's fault has, where one isn't known.
+    fn then_unknown(self, kind: QueryKind, name: &[u8]) -> Refusal
+        requires { length self.text ≤ 100 }
+        ensures value { result ≡ record { code = self.code; text = self.text ++ name_text kind (shown name.now) } }
+        ensures short { length result.text ≤ length self.text + 67 }
+    {
+        match kind {
+            QueryKind::UnknownField | QueryKind::UnknownZone => {
+                self.then(b" '").then(cut(name)).then(b"'")
+            }
+            _ => self,
+        }
+    }
+}
+
+/// A name as refusals show it.
+fn cut(name: &[u8]) -> &[u8]
+    ensures value { result.now ≡ shown name.now }
+    ensures short { length result.now ≤ 64 }
+{
+    if name.len() <= SHOWN {
+        return name;
+    }
+    &name[..SHOWN]
+}
+
+/// Memory was refused.
+pub fn no_memory() -> Refusal
+    ensures { result ≡ no_memory_row }
+{
+    Refusal::plain(MEMORY, b"out of memory")
+}
+
+/// No token can be read at a place of the text.
+pub fn bad_token(fault: LexFault) -> Refusal
+    ensures { result ≡ bad_token_row fault }
+{
+    let place = u64::from(fault.place);
+    match fault.kind {
+        LexKind::NotUtf8 => Refusal::numbered(b"text is not UTF-8 at ", place),
+        LexKind::UnclosedQuote => Refusal::numbered(b"unclosed quote at ", place),
+        LexKind::UnclosedComment => Refusal::numbered(b"unclosed comment at ", place),
+        LexKind::BadCharacter => Refusal::numbered(b"bad character at ", place),
+        LexKind::NumberTooLarge => Refusal::numbered(b"number too large at ", place),
+        LexKind::NumberWithPoint => Refusal::numbered(b"number with a point at ", place),
+        LexKind::NameTooLong => Refusal::numbered(b"name too long at ", place),
+    }
+}
+
+/// The tokens are no packet of statements.
+pub fn bad_syntax(fault: ParseFault) -> Refusal
+    ensures { result ≡ bad_syntax_row fault }
+{
+    match fault.kind {
+        ParseKind::Syntax => Refusal::numbered(b"syntax error at ", u64::from(fault.place)),
+        ParseKind::TooMany => Refusal::plain(WRONG, b"too many statements"),
+    }
+}
+
+/// The statement is well formed and not built yet.
+pub fn not_offered() -> Refusal
+    ensures { result ≡ not_offered_row }
+{
+    Refusal::plain(WRONG, b"not offered yet")
+}
+
+/// No index has the name.
+pub fn unknown_index(name: &[u8]) -> Refusal
+    ensures { result ≡ unknown_index_row name.now }
+{
+    Refusal::named(b"unknown index '", name, b"'")
+}
+
+/// No column of the index has the name.
+pub fn unknown_column(name: &[u8]) -> Refusal
+    ensures { result ≡ unknown_column_row name.now }
+{
+    Refusal::named(b"unknown column '", name, b"'")
+}
+
+/// No option has the name.
+pub fn unknown_option(name: &[u8]) -> Refusal
+    ensures { result ≡ unknown_option_row name.now }
+{
+    Refusal::named(b"unknown option '", name, b"'")
+}
+
+/// No weights are offered by a ranker of this name.
+pub fn ranker_not_offered(name: &[u8]) -> Refusal
+    ensures { result ≡ ranker_not_offered_row name.now }
+{
+    Refusal::named(b"ranker '", name, b"' is not offered")
+}
+
+/// The column is named twice.
+pub fn column_twice(name: &[u8]) -> Refusal
+    ensures { result ≡ column_twice_row name.now }
+{
+    Refusal::named(b"column '", name, b"' twice")
+}
+
+/// A field stands where only an attribute or the id can.
+pub fn column_is_field(name: &[u8]) -> Refusal
+    ensures { result ≡ column_is_field_row name.now }
+{
+    Refusal::named(b"column '", name, b"' is a field")
+}
+
+/// An attribute or the id stands where only a field can.
+pub fn column_is_no_field(name: &[u8]) -> Refusal
+    ensures { result ≡ column_is_no_field_row name.now }
+{
+    Refusal::named(b"column '", name, b"' is not a field")
+}
+
+/// A text where a number stands, or a number where a text does.
+pub fn wrong_kind(name: &[u8]) -> Refusal
+    ensures { result ≡ wrong_kind_row name.now }
+{
+    Refusal::named(b"wrong kind of value for '", name, b"'")
+}
+
+/// A number that the attribute's kind can't hold.
+pub fn value_out_of_range(name: &[u8]) -> Refusal
+    ensures { result ≡ value_out_of_range_row name.now }
+{
+    Refusal::named(b"value out of range for '", name, b"'")
+}
+
+/// `id` isn't among the columns.
+pub fn id_missing() -> Refusal
+    ensures { result ≡ id_missing_row }
+{
+    Refusal::plain(WRONG, b"id is missing")
+}
+
+/// A number that no id can be.
+pub fn id_out_of_range() -> Refusal
+    ensures { result ≡ id_out_of_range_row }
+{
+    Refusal::plain(WRONG, b"id out of range")
+}
+
+/// A row has more or fewer values than there are columns.
+pub fn wrong_number() -> Refusal
+    ensures { result ≡ wrong_number_row }
+{
+    Refusal::plain(WRONG, b"wrong number of values")
+}
+
+/// A SELECT has two MATCH.
+pub fn second_match() -> Refusal
+    ensures { result ≡ second_match_row }
+{
+    Refusal::plain(WRONG, b"second MATCH")
+}
+
+/// A SELECT shows more columns than it may.
+pub fn too_many_columns() -> Refusal
+    ensures { result ≡ too_many_columns_row }
+{
+    Refusal::plain(WRONG, b"too many columns")
+}
+
+/// A SELECT is sorted by more keys than it may.
+pub fn too_many_sort_keys() -> Refusal
+    ensures { result ≡ too_many_sort_keys_row }
+{
+    Refusal::plain(WRONG, b"too many sort keys")
+}
+
+/// The option `max_matches` is a number that it can't be.
+pub fn max_matches_out_of_range() -> Refusal
+    ensures { result ≡ max_matches_out_of_range_row }
+{
+    Refusal::plain(WRONG, b"max_matches out of range")
+}
+
+/// The page would begin after the last row that is kept.
+pub fn offset_not_below(offset: u64, max_matches: u64) -> Refusal
+    ensures { result ≡ offset_not_below_row offset max_matches }
+{
+    Refusal::plain(WRONG, b"offset ")
+        .then_number(offset)
+        .then(b" is not below max_matches ")
+        .then_number(max_matches)
+}
+
+/// The text of MATCH is no query.
+pub fn bad_query(fault: &QueryFault) -> Refusal
+    ensures { result ≡ bad_query_row fault.now }
+{
+    Refusal::plain(WRONG, b"query: ")
+        .then(kind_bytes(fault.kind))
+        .then_unknown(fault.kind, fault.name.as_bytes())
+        .then(b" at ")
+        .then_number(u64::from(fault.place))
+}
+
+/// What is wrong with a query, in words.
+fn kind_bytes(kind: QueryKind) -> &'static [u8]
+    ensures value { result.now ≡ kind_text kind }
+    ensures short { length result.now ≤ 24 }
+{
+    match kind {
+        QueryKind::UnclosedQuote => b"unclosed quote",
+        QueryKind::Syntax => b"syntax error",
+        QueryKind::OnlyNot => b"only NOT",
+        QueryKind::UnknownField => b"unknown field",
+        QueryKind::UnknownZone => b"unknown zone",
+        QueryKind::NameTooLong => b"name too long",
+        QueryKind::NumberOutOfRange => b"number out of range",
+        QueryKind::Nesting => b"nesting above 32",
+        QueryKind::TooManyKeywords => b"too many keywords",
+        QueryKind::ZoneSpanBeforeOperator => b"ZONESPAN before operator",
+    }
+}
+
+/// A word of the field would stand above the last position.
+pub fn too_many_positions(name: &[u8]) -> Refusal
+    ensures { result ≡ too_many_positions_row name.now }
+{
+    Refusal::named(b"field '", name, b"' above 65535 positions")
+}
+
+/// A document with the id is there, or was put by the same statement.
+pub fn duplicate_id(id: u64) -> Refusal
+    ensures { result ≡ duplicate_id_row id }
+{
+    Refusal::numbered(b"duplicate id ", id)
+}

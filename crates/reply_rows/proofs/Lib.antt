@@ -1,0 +1,2 @@
+-- payloads that follow others, and the parts of a result set
+pub mod Numbering
