@@ -1,0 +1,128 @@
+-- What a search gathers, document by document and layer by layer.
+use Rattle.std.proofs.Common.{◌≡◌, ℕ, ◌+◌, ◌<◌, ◌≤◌, List, [], ◌∷◌, ◌++◌, Bool, true, false, cond, Some, slice_get, length, take, get_or, refl, sym, ap, subst, ◌∙◌, append_assoc, append-nil}
+use Rattle.std.specs.List.{AllZip, filter}
+use Rattle.std.proofs.lemmas.List.{take_more, take_all}
+use Rattle.std.proofs.lemmas.List.Concat.{flat_map-append}
+use Rattle.std.proofs.lemmas.List.Elements.{filter-append}
+use Rattle.doc_types.specs.declared.documents.DocRow.{DocRow}
+use Rattle.doc_types.specs.declared.hits.Hits.{Hits}
+use Rattle.doc_types.specs.Snapshots.{LayerValue, all_living, living}
+use Rattle.op_eval.specs.Matching.{matches, matching}
+use Rattle.op_eval.specs.Streams.{IsNext, Stream}
+use Rattle.op_eval.proofs.Zipped.{zip_push}
+use Rattle.row_select.specs.Collecting.{Collection, Keeps}
+use Rattle.row_select.specs.Pages.{IsTop}
+use Rattle.row_select.specs.declared.row.Row.{Row}
+use Rattle.doc_search.specs.Searches.{AreShown, IsRowOf, passes}
+use Rattle.doc_search.specs.declared.question.Question.{Question}
+use Rattle.doc_search.specs.steps.Gathering.{Gathers, IsAmid, IsOnWay, matching_in}
+use Rattle.doc_search.proofs.Numbered.{numbers_beside}
+
+-- the number is one of the document
+abbrev IsNumberOf : List DocRow → ℕ → DocRow → Type 0
+IsNumberOf docs number doc = slice_get docs number ≡ Some doc
+
+module _ (question : Question) where
+  -- the rows that pass, once one more is there
+  passing_more : (rows : List Row) (row : Row) (b : Bool) → passes question row ≡ b → filter (passes question) (rows ++ row ∷ []) ≡ filter (passes question) rows ++ cond b (row ∷ []) []
+  passing_more rows row b e = filter-append (passes question) rows (row ∷ []) ∙ ap (λ t. filter (passes question) rows ++ cond t (row ∷ []) []) e
+
+  pub gathers_none : (collection : Collection) → collection.order ≡ question.order → collection.page ≡ question.page → Keeps [] collection → Gathers question [] collection
+  gathers_none collection order page kept = record { rows = []; weighed = tt; order = order; page = page; kept = kept }
+
+  -- a document that passes is offered
+  pub gathers_more : (docs : List DocRow) (doc : DocRow) (row : Row) (old new : Collection) → Gathers question docs old → IsRowOf question doc row → passes question row ≡ true → new.order ≡ old.order → new.page ≡ old.page → ((offered : List Row) → Keeps offered old → Keeps (offered ++ row ∷ []) new) → Gathers question (docs ++ doc ∷ []) new
+  gathers_more docs doc row old new so its passing order page offers = record {
+    rows = so.rows ++ row ∷ [];
+    weighed = zip_push (IsRowOf question) docs so.rows doc row so.weighed its;
+    order = order ∙ so.order;
+    page = page ∙ so.page;
+    kept = subst (λ offered. Keeps offered new) (sym (passing_more so.rows row true passing)) (offers (filter (passes question) so.rows) so.kept);
+  }
+
+  -- and another one isn't
+  pub gathers_same : (docs : List DocRow) (doc : DocRow) (row : Row) (collection : Collection) → Gathers question docs collection → IsRowOf question doc row → passes question row ≡ false → Gathers question (docs ++ doc ∷ []) collection
+  gathers_same docs doc row collection so its failing = record {
+    rows = so.rows ++ row ∷ [];
+    weighed = zip_push (IsRowOf question) docs so.rows doc row so.weighed its;
+    order = so.order;
+    page = so.page;
+    kept = subst (λ offered. Keeps offered collection) (sym (passing_more so.rows row false failing ∙ append-nil (filter (passes question) so.rows))) so.kept;
+  }
+
+  -- ---- within a layer
+  amid_first : (layer : LayerValue) (docs : List DocRow) (dead : List ℕ) (stream : Stream) (before : List DocRow) (collection : Collection) → docs ≡ layer.rows → dead ≡ layer.dead → stream ≡ record { query = question.query; rows = docs; ahead = matching question.query docs dead } → Gathers question before collection → IsAmid question layer.rows (filter (matches question.query) (living layer)) before stream.ahead collection
+  amid_first layer docs dead stream before collection its out told so =
+      let ahead : stream.ahead ≡ matching question.query layer.rows layer.dead =
+      ap (λ (it : Stream). it.ahead) told
+      ∙ ap (λ rows. matching question.query rows dead) its
+      ∙ ap (matching question.query layer.rows) out in
+      record {
+        seen = [];
+        left = filter (matches question.query) (living layer);
+        all = refl;
+        numbers = subst (λ numbers. AllZip (IsNumberOf layer.rows) numbers (filter (matches question.query) (living layer))) (sym ahead) (numbers_beside question.query layer);
+        gathers = subst (λ found. Gathers question found collection) (sym (append-nil before)) so;
+      }
+
+  module _ (docs wanted before : List DocRow) where
+    next_of : (row : ℕ) (ahead : List ℕ) (old new : Collection) (seen left : List DocRow) → seen ++ left ≡ wanted → AllZip (IsNumberOf docs) (row ∷ ahead) left → Gathers question (before ++ seen) old → ((gathered : List DocRow) (doc : DocRow) → slice_get docs row ≡ Some doc → Gathers question gathered old → Gathers question (gathered ++ doc ∷ []) new) → IsAmid question docs wanted before ahead new
+    next_of row ahead old new seen [] all numbers so takes = absurd numbers
+    next_of row ahead old new seen (doc ∷ left) all numbers so takes = record {
+      seen = seen ++ doc ∷ [];
+      left = left;
+      all = append_assoc seen (doc ∷ []) left ∙ all;
+      numbers = numbers.1;
+      gathers = subst (λ gathered. Gathers question gathered new) (append_assoc before seen (doc ∷ [])) (takes (before ++ seen) doc numbers.0 so);
+    }
+
+    amid_next : (row : ℕ) (now ahead : List ℕ) (old new : Collection) → now ≡ row ∷ ahead → IsAmid question docs wanted before now old → ((gathered : List DocRow) (doc : DocRow) → slice_get docs row ≡ Some doc → Gathers question gathered old → Gathers question (gathered ++ doc ∷ []) new) → IsAmid question docs wanted before ahead new
+    amid_next row now ahead old new next amid takes =
+        next_of row ahead old new amid.seen amid.left amid.all (subst (λ numbers. AllZip (IsNumberOf docs) numbers amid.left) next amid.numbers) amid.gathers takes
+
+    last_of : (collection : Collection) (seen left : List DocRow) → seen ++ left ≡ wanted → AllZip (IsNumberOf docs) [] left → Gathers question (before ++ seen) collection → Gathers question (before ++ wanted) collection
+    last_of collection seen [] all numbers so = subst (λ found. Gathers question (before ++ found) collection) (sym (append-nil seen) ∙ all) so
+    last_of collection seen (doc ∷ left) all numbers so = absurd numbers
+
+    amid_last : (now : List ℕ) (collection : Collection) → now ≡ [] → IsAmid question docs wanted before now collection → Gathers question (before ++ wanted) collection
+    amid_last now collection none amid = last_of collection amid.seen amid.left amid.all (subst (λ numbers. AllZip (IsNumberOf docs) numbers amid.left) none amid.numbers) amid.gathers
+
+  pub on_way_first : (layer : LayerValue) (docs : List DocRow) (dead : List ℕ) (stream : Stream) (first : Collection) → docs ≡ layer.rows → dead ≡ layer.dead → stream ≡ record { query = question.query; rows = docs; ahead = matching question.query docs dead } → IsOnWay question layer first stream first
+  on_way_first layer docs dead stream first its out told = record {
+    query = ap (λ (it : Stream). it.query) told;
+    docs = ap (λ (it : Stream). it.rows) told ∙ its;
+    amid = λ before so. amid_first layer docs dead stream before first its out told so;
+  }
+
+  pub on_way_next : (layer : LayerValue) (docs : List DocRow) (number : ℕ) (hits : Hits) (old new : Stream) (first here there : Collection) → docs ≡ layer.rows → IsNext old number hits new → IsOnWay question layer first old here → ((gathered : List DocRow) (doc : DocRow) → slice_get docs number ≡ Some doc → Gathers question gathered here → Gathers question (gathered ++ doc ∷ []) there) → IsOnWay question layer first new there
+  on_way_next layer docs number hits old new first here there its next way takes = record {
+    query = next.query ∙ way.query;
+    docs = next.rows ∙ way.docs;
+    amid = λ before so.
+        amid_next layer.rows (filter (matches question.query) (living layer)) before number old.ahead new.ahead here there next.ahead (way.amid before so)
+        (λ gathered doc at. takes gathered doc (ap (λ rows. slice_get rows number) its ∙ at));
+  }
+
+  pub on_way_last : (layer : LayerValue) (stream : Stream) (first here : Collection) → stream.ahead ≡ [] → IsOnWay question layer first stream here → (before : List DocRow) → Gathers question before first → Gathers question (before ++ filter (matches question.query) (living layer)) here
+  on_way_last layer stream first here none way before so = amid_last layer.rows (filter (matches question.query) (living layer)) before stream.ahead here none (way.amid before so)
+
+  -- ---- over layers
+  pub one_layer : (layers : List LayerValue) (i : ℕ) (layer : LayerValue) → i < length layers → layer ≡ get_or layers i layer → matching_in question (take (i + 1) layers) ≡ matching_in question (take i layers) ++ filter (matches question.query) (living layer)
+  one_layer layers i layer within at =
+      let more : take (i + 1) layers ≡ take i layers ++ layer ∷ [] = take_more layers i layer within ∙ ap (λ l. take i layers ++ l ∷ []) (sym at) in
+      ap (matching_in question) more
+      ∙ ap (filter (matches question.query)) (flat_map-append living (take i layers) (layer ∷ []))
+      ∙ ap (λ docs. filter (matches question.query) (all_living (take i layers) ++ docs)) (append-nil (living layer))
+      ∙ filter-append (matches question.query) (all_living (take i layers)) (living layer)
+
+  pub all_layers : (layers : List LayerValue) (i : ℕ) → length layers ≤ i → matching_in question (take i layers) ≡ matching_in question layers
+  all_layers layers i past = ap (matching_in question) (take_all i layers past)
+
+  -- the page of all that was gathered is what is shown
+  pub gathered_all : (docs : List DocRow) (collection : Collection) (so : Gathers question (filter (matches question.query) docs) collection) (shown : List Row) → IsTop (filter (passes question) so.rows) collection.order collection.page shown → AreShown question docs shown
+  gathered_all docs collection so shown top = (
+    filter (passes question) so.rows,
+    record { rows = so.rows; weighed = so.weighed; passing = refl },
+    subst (λ order. IsTop (filter (passes question) so.rows) order question.page shown) so.order
+        (subst (λ page. IsTop (filter (passes question) so.rows) collection.order page shown) so.page top),
+  )

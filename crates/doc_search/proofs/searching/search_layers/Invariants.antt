@@ -1,0 +1,6 @@
+use Rattle.std.proofs.Common.{take}
+use Rattle.doc_search.specs.steps.Gathering.{Gathers, matching_in}
+use Rattle.doc_search.proofs.searching.search_layers.Given as goal
+
+abbrev pub invariant-loop-layer : goal.invariant-loop-layer
+invariant-loop-layer g l = Gathers l.question (matching_in l.question (take l.layer-index l.layers)) l.collector

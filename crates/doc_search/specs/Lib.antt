@@ -1,0 +1,4 @@
+-- what a search finds, and what is shown of it
+pub mod Searches
+-- what serves proofs and private functions alone
+pub mod steps

@@ -1,0 +1,11 @@
+//! What a search finds among the documents of an index, and the page of it that is shown.
+#![tactic(auto)]
+
+mod laws;
+mod question;
+mod rows;
+mod searching;
+
+pub use laws::a_search_shows_one_list;
+pub use question::Question;
+pub use searching::search;
