@@ -1,0 +1,32 @@
+use Rattle.std.proofs.Common.{sym, subst}
+use Rattle.std.proofs.lemmas.Str.{IsUtf8-from_is_utf8}
+use Rattle.conf_text.specs.declared.conf.IndexConf.{IndexConf}
+use Rattle.doc_search.specs.declared.question.Question.{Question}
+use Rattle.doc_search.specs.Searches.{IsAskedOf}
+use Rattle.doc_types.specs.Schemas.{IsSchema}
+use Rattle.ext_query.proofs.QueryKeys.{few_when_read, numbered_when_read}
+use Rattle.op_eval.specs.Numbered.{IsNumbered}
+use Rattle.op_eval.proofs.NumberedHits.{numbers_kept}
+use Rattle.ql_grammar.specs.declared.select.Select.{Select}
+use Rattle.ql_select.specs.declared.selection.Selection.{Selection}
+use Rattle.ql_select.specs.Parts.{match_text}
+use Rattle.ql_select.specs.Selections.{Selects, setting}
+use Rattle.ql_select.proofs.Questions.{is_asked}
+
+-- the query of a SELECT has its keywords numbered
+numbered_query : (conf : IndexConf) (select : Select) (selection : Selection) → (selects : Selects conf select selection) → IsNumbered selects.query
+numbered_query conf select selection selects =
+    let text = match_text select.conds in
+    let utf8 = IsUtf8-from_is_utf8 text selects.text in
+    let few = few_when_read (setting conf) text selects.query utf8 selects.reads in
+    record {
+      few = few.0;
+      count = few.1;
+      numbers = numbered_when_read (setting conf) text selects.query utf8 selects.reads;
+    }
+
+pub selection_is_asked : (conf : IndexConf) (select : Select) (selection : Selection) → IsSchema conf.schema → Selects conf select selection → IsAskedOf conf.schema selection.question
+selection_is_asked conf select selection schema selects =
+    subst (λ (question : Question). IsAskedOf conf.schema question) (sym selects.question)
+    (is_asked conf select selects.query schema selects.good
+    (numbers_kept conf.schema selects.query (numbered_query conf select selection selects)))

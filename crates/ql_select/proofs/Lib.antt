@@ -1,0 +1,9 @@
+-- what `*` shows, attribute by attribute
+pub mod Numbering
+-- what holds of a SELECT that nothing is wrong with
+pub mod NoFault
+-- what such a SELECT asks of its index
+pub mod Questions
+pub mod Asked
+-- what the answers to a SELECT mean
+pub mod Meaning

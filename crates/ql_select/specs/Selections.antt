@@ -1,0 +1,63 @@
+-- What a SELECT from an index means, or why it is refused.
+use Rattle.std.specs.Prelude.{◌≡◌, ◌⊎◌, ℕ, List, true, false, codes, length, Some, None, Result, Ok, Err}
+use Rattle.std.specs.Str.{is_utf8}
+use Rattle.srch_base.specs.declared.faults.Or.{Or}
+use Rattle.srch_base.specs.declared.faults.Or.TheVariants.{NoMemory, Fault}
+use Rattle.charset_map.specs.Spans.{folded}
+use Rattle.conf_text.specs.declared.conf.IndexConf.{IndexConf}
+use Rattle.doc_search.specs.declared.question.Question.{Question}
+use Rattle.op_eval.specs.Sentences.{query_for}
+use Rattle.ql_grammar.specs.declared.select.Select.{Select}
+use Rattle.ql_refusals.specs.Refusals.{Refused, bad_query, wrong_kind}
+use Rattle.query_grammar.specs.declared.fault.QueryFault.{QueryFault}
+use Rattle.query_grammar.specs.declared.query.Query.{Query}
+use Rattle.query_grammar.specs.Queries.{ReadsQuery}
+use Rattle.query_marks.specs.Marks.{Setting, setting_of}
+use Rattle.ql_select.specs.declared.selection.Selection.{Selection}
+use Rattle.ql_select.specs.Columns.{columns_shown}
+use Rattle.ql_select.specs.Faults.{select_fault}
+use Rattle.ql_select.specs.Options.{ranker_of, weights_of}
+use Rattle.ql_select.specs.Parts.{filters_of, match_text, order_of, page_of}
+
+-- what the texts of an index are read by
+abbrev pub setting : IndexConf → Setting
+setting conf = setting_of (folded conf.charset) conf.schema
+
+-- what a SELECT asks of the documents: this query, and what its other parts say
+abbrev pub question_of : IndexConf → Select → Query → Question
+question_of conf select query = record {
+  query = query_for conf.schema query;
+  ranker = ranker_of select.options;
+  weights = record { list = weights_of conf.schema select.options };
+  filters = filters_of conf.schema select.conds;
+  order = order_of conf.schema select;
+  page = page_of select;
+  attrs = length conf.schema.attrs;
+}
+
+-- A SELECT that nothing is wrong with means this: its question, with the query that its text is, and the columns that it shows.
+pub record Selects (conf : IndexConf) (select : Select) (selection : Selection) : Type 0 where
+  pub good : select_fault conf.schema select ≡ None
+  pub text : is_utf8 (match_text select.conds) ≡ true
+  pub query : Query
+  pub reads : ReadsQuery (setting conf) (match_text select.conds) (Ok query)
+  pub question : selection.question ≡ question_of conf select query
+  pub shown : selection.shown ≡ columns_shown conf.schema select.items
+
+-- A SELECT is refused for the text of its MATCH: it is no query. No text of a statement has bytes that aren't UTF-8.
+abbrev pub RefusesText : IndexConf → List ℕ → Refused → Type 0
+RefusesText conf text refusal =
+    ((is_utf8 text ≡ false) × (refusal ≡ wrong_kind (codes "match")))
+    ⊎ ((is_utf8 text ≡ true) × ((fault : QueryFault) × ReadsQuery (setting conf) text (Err (Fault fault)) × (refusal ≡ bad_query fault)))
+
+-- Why a SELECT is refused by the index that it names.
+abbrev pub RefusesSelection : IndexConf → Select → Refused → Type 0
+RefusesSelection conf select refusal =
+    (select_fault conf.schema select ≡ Some refusal)
+    ⊎ ((select_fault conf.schema select ≡ None) × RefusesText conf (match_text select.conds) refusal)
+
+-- what is answered to a SELECT by the index that it names; without memory nothing is said
+abbrev pub MeansOr : IndexConf → Select → Result Selection (Or Refused) → Type 0
+MeansOr conf select (Ok selection) = Selects conf select selection
+MeansOr conf select (Err NoMemory) = Unit {0}
+MeansOr conf select (Err (Fault refusal)) = RefusesSelection conf select refusal

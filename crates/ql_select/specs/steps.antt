@@ -1,0 +1,2 @@
+-- what is answered to the text of a MATCH
+pub mod Texts

@@ -1,0 +1,129 @@
+//! The limits of a SELECT, and its page. "SELECT syntax" of the manual: LIMIT and the option `max_matches`.
+ghost use Rattle.std.specs.Prelude.{◌≡◌, ◌≤◌, ◌<◌, ◌^◌, ◌-◌, min};
+ghost use Rattle.std.specs.List.{count_by, sum_by};
+ghost use Rattle.ql_select.specs.Faults.{is_match, limits_fault, page_fault, width};
+ghost use Rattle.ql_select.specs.Options.{max_matches_of};
+ghost use Rattle.ql_select.specs.Parts.{limits, page_of};
+
+use crate::options::max_matches_of;
+use doc_types::Schema;
+use ql_grammar::{Cond, LimitPart, Select, SelectItem};
+use ql_refusals::{
+    Refusal, max_matches_out_of_range, offset_not_below, second_match, too_many_columns,
+    too_many_sort_keys,
+};
+use row_select::Page;
+
+/// The most columns of a result set.
+pub const MAX_COLUMNS: usize = 128;
+
+/// The most keys of an order.
+pub const MAX_SORT_KEYS: usize = 5;
+
+/// The most rows that `max_matches` lets exist for the page.
+pub const MAX_MATCHES: u64 = 100_000;
+
+/// The rows that are shown where no LIMIT says how many.
+const DEFAULT_COUNT: u64 = 20;
+
+/// What passes a limit, in the order in which limits are looked at.
+pub(crate) fn limits_fault(schema: &Schema, select: &Select) -> Option<Refusal>
+    ensures { result ≡ limits_fault schema.now select.now }
+{
+    if count_matches(select.conds.as_slice()) > 1 {
+        return Some(second_match());
+    }
+    if count_columns(schema, select.items.as_slice()) > MAX_COLUMNS {
+        return Some(too_many_columns());
+    }
+    if select.order.len() > MAX_SORT_KEYS {
+        return Some(too_many_sort_keys());
+    }
+    page_fault(
+        limits(select.limit).0,
+        max_matches_of(select.options.as_slice()),
+    )
+}
+
+/// How many conditions are a MATCH.
+fn count_matches(conds: &[Cond]) -> usize
+    ensures { result ≡ count_by is_match conds.now }
+{
+    conds.iter().filter(|cond| is_match(cond)).count()
+}
+
+fn is_match(cond: &Cond) -> bool
+    ensures { result ≡ is_match cond.now }
+{
+    matches!(cond, Cond::Match(_))
+}
+
+/// How many columns the list shows, as far as they can be counted.
+fn count_columns(schema: &Schema, items: &[SelectItem]) -> usize
+    ensures { result ≡ min (sum_by (width schema.now) items.now) (2 ^ 64 - 1) }
+{
+    let mut count: usize = 0;
+    'items: for item in items {
+        count = count.saturating_add(width(schema, item));
+    }
+    count
+}
+
+/// How many columns an item shows.
+fn width(schema: &Schema, item: &SelectItem) -> usize
+    ensures { result ≡ width schema.now item.now }
+{
+    match item {
+        SelectItem::All => 1 + schema.attrs.as_slice().len(),
+        SelectItem::One { .. } => 1,
+    }
+}
+
+/// What is wrong with the page.
+fn page_fault(offset: u64, max_matches: u64) -> Option<Refusal>
+    ensures { result ≡ page_fault offset max_matches }
+{
+    if max_matches < 1 || max_matches > MAX_MATCHES {
+        Some(max_matches_out_of_range())
+    } else if offset >= max_matches {
+        Some(offset_not_below(offset, max_matches))
+    } else {
+        None
+    }
+}
+
+/// How many rows are passed over, and how many follow at most.
+fn limits(part: Option<LimitPart>) -> (u64, u64)
+    ensures { result ≡ limits part }
+{
+    match part {
+        None => (0, DEFAULT_COUNT),
+        Some(
+            LimitPart {
+                first,
+                second: None,
+            },
+        ) => (0, first),
+        Some(
+            LimitPart {
+                first,
+                second: Some(second),
+            },
+        ) => (first, second),
+    }
+}
+
+/// The page that a SELECT asks for.
+pub(crate) fn page_of(select: &Select) -> Page
+    requires begins { (limits select.now.limit).0 < max_matches_of select.now.options }
+    requires most { max_matches_of select.now.options ≤ 100000 }
+    ensures { result ≡ page_of select.now }
+{
+    let (offset, count) = limits(select.limit);
+    let max_matches = max_matches_of(select.options.as_slice());
+    Page {
+        offset: offset as u32,
+        count: count.min(max_matches) as u32,
+        max_matches: max_matches as u32,
+    }
+}
