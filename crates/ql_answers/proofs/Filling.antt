@@ -9,8 +9,8 @@ use Rattle.doc_types.specs.declared.tokens.FieldTokens.{FieldTokens}
 use Rattle.doc_types.specs.Documents.{IsField}
 use Rattle.conf_text.specs.declared.conf.IndexConf.{IndexConf}
 use Rattle.ql_grammar.specs.declared.statement.Val.{Val}
-use Rattle.ql_answers.specs.declared.columns.Target.{Target}
-use Rattle.ql_answers.specs.Refusals.{Refused, first, wrong_number}
+use Rattle.ql_refusals.specs.declared.columns.Target.{Target}
+use Rattle.ql_refusals.specs.Refusals.{Refused, first, wrong_number}
 use Rattle.ql_answers.specs.Writing.{Puts, Fills, value_fault, values_fault, row_fault, rows_fault}
 use Rattle.ql_answers.specs.steps.Documents.{IsShaped}
 

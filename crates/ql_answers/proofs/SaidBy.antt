@@ -3,7 +3,7 @@ use Rattle.mysql_wire.specs.Packets.{packet}
 use Rattle.mysql_wire.specs.Replies.{err_packet, err_payload}
 use Rattle.ql_answers.specs.declared.plan.Plan.{Plan}
 use Rattle.ql_answers.specs.declared.plan.Plan.TheVariants.{Agree, Show, Search, Insert}
-use Rattle.ql_answers.specs.Refusals.{Refused, no_memory, state_of}
+use Rattle.ql_refusals.specs.Refusals.{Refused, no_memory, state_of}
 use Rattle.ql_answers.specs.Replies.{Reply, Fails}
 use Rattle.ql_answers.specs.Sessions.{Decides, Happened, NoMemory}
 use Rattle.ql_answers.specs.steps.Answering.{Says, SaysReply}
@@ -24,7 +24,7 @@ says_from plan given happened reply status seq result before after is decides sa
 no_memory_decides : (plan : Plan) → Decides plan NoMemory (Fails no_memory)
 no_memory_decides Agree = refl
 no_memory_decides (Show set) = refl
-no_memory_decides (Search place word) = refl
+no_memory_decides (Search place selection) = refl
 no_memory_decides (Insert place txn) = refl
 
 pub says_no_memory : {E : Type 0} (plan : Plan) (happened : Happened) (refusal : Refused) (status seq : ℕ) (result : Result (ℕ × Bool) E) (before after : List ℕ)

@@ -2,7 +2,7 @@
 use Rattle.std.specs.Prelude.{◌≡◌, ℕ, zero, suc, ◌+◌, List, [], ◌∷◌, Option, Some, None, slice_get, if◌then◌else◌}
 use Rattle.std.specs.Str.{bytes_eq}
 use Rattle.conf_text.specs.declared.conf.IndexConf.{IndexConf}
-use Rattle.ql_answers.specs.Refusals.{Refused, unknown_index, not_offered}
+use Rattle.ql_refusals.specs.Refusals.{Refused, unknown_index, not_offered}
 
 -- the place of the index with a name, the first of these indexes standing at this place
 abbrev pub place_from : ℕ → List IndexConf → List ℕ → Option ℕ

@@ -5,17 +5,19 @@ use Rattle.doc_types.specs.declared.transactions.Txn.{Txn}
 use Rattle.conf_text.specs.declared.conf.IndexConf.{IndexConf}
 use Rattle.ql_grammar.specs.declared.statement.Statement.{Statement}
 use Rattle.ql_grammar.specs.declared.statement.Statement.TheVariants as statements
+use Rattle.ql_select.specs.declared.selection.Selection.{Selection}
 use Rattle.ql_answers.specs.declared.plan.Plan.{Plan}
 use Rattle.ql_answers.specs.declared.plan.Plan.TheVariants.{Agree, Show, Search, Insert}
 use Rattle.ql_answers.specs.Indexes.{index_fault, Serves}
-use Rattle.ql_answers.specs.Refusals.{Refused, not_offered}
+use Rattle.ql_refusals.specs.Refusals.{Refused, not_offered}
 use Rattle.ql_answers.specs.Reading.{WantsSearch, RefusesSelect}
 use Rattle.ql_answers.specs.Showing.{variable, current_database, databases, warnings, tables, description}
 use Rattle.ql_answers.specs.Writing.{WantsInsert, RefusesInsert}
 
 -- What a statement wants. A statement that isn't listed wants nothing: it is refused.
 abbrev pub Wants : List IndexConf → Statement → Plan → Type 0
-Wants confs (statements.Select select) plan = (place : ℕ) × (word : List ℕ) × WantsSearch confs select place word × (plan ≡ Search place word)
+Wants confs (statements.Select select) plan =
+    (place : ℕ) × (selection : Selection) × WantsSearch confs select place selection × (plan ≡ Search place selection)
 Wants confs (statements.SelectVar name limit) plan = plan ≡ Show (variable name limit)
 Wants confs statements.SelectDatabase plan = plan ≡ Show current_database
 Wants confs (statements.Insert false index columns rows) plan =

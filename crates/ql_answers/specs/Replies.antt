@@ -1,25 +1,19 @@
 -- Replies and their packets: OK, ERR, or a result set. "COM_QUERY Response" of the protocol.
-use Rattle.std.specs.Prelude.{ℕ, List, [], ◌∷◌, ◌++◌, map, length}
-use Rattle.mysql_wire.specs.LengthEncoded.{lenenc}
-use Rattle.mysql_wire.specs.Replies.{ok_payload, err_payload, eof_payload}
-use Rattle.mysql_wire.specs.Rows.{column_payload, row_payload}
+use Rattle.std.specs.Prelude.{ℕ, List, [], ◌∷◌, map}
+use Rattle.mysql_wire.specs.Replies.{ok_payload, err_payload}
 use Rattle.mysql_wire.specs.declared.rows.Column.{Column}
 use Rattle.mysql_wire.specs.declared.rows.ColumnKind.TheVariants as kinds
 use Rattle.mysql_wire.specs.declared.rows.Cell.{Cell}
 use Rattle.mysql_wire.specs.declared.rows.Cell.TheVariants as cells
-use Rattle.ql_answers.specs.declared.result_set.ResultSet.{ResultSet}
-use Rattle.ql_answers.specs.Refusals.{Refused, state_of}
+use Rattle.reply_rows.specs.ResultSets.{set_payloads}
+use Rattle.reply_rows.specs.declared.result_set.ResultSet.{ResultSet}
+use Rattle.ql_refusals.specs.Refusals.{Refused, state_of}
 
 -- a reply: rows affected, rows shown, or a refusal
 pub data Reply : Type 0 where
   Done : (affected : ℕ) → Reply
   Shows : (set : ResultSet) → Reply
   Fails : (refusal : Refused) → Reply
-
--- the payloads of a result set: the number of columns, the columns, EOF, the rows, EOF
-abbrev pub set_payloads : ℕ → ResultSet → List (List ℕ)
-set_payloads status set =
-    lenenc (length set.columns) ∷ map column_payload set.columns ++ eof_payload status ∷ map row_payload set.rows ++ eof_payload status ∷ []
 
 -- the payloads of a reply, with this status
 abbrev pub payloads : ℕ → Reply → List (List ℕ)

@@ -1,15 +1,8 @@
 -- Sessions: what is kept between statements, and what is replied to one by what the outside did.
-use Rattle.std.specs.Prelude.{◌≡◌, ℕ, ◌+◌, List, [], ◌∷◌, ◌++◌, Result, Ok, Err, map, take, filter, length, count_by, codes, pos, Bool, true, false, Option, Some, None, if◌then◌else◌}
-use Rattle.std.specs.List.{list_any}
-use Rattle.std.specs.Ordering.{nat_cmp, ordering_then}
-use Rattle.std.specs.declared.cmp.Ordering.{Ordering}
-use Rattle.std.specs.List.Sorted.{IsPermutation, IsSorted}
-use Rattle.mysql_wire.specs.declared.rows.Column.{Column}
-use Rattle.mysql_wire.specs.declared.rows.ColumnKind.TheVariants.{Unsigned}
-use Rattle.mysql_wire.specs.declared.rows.Cell.TheVariants.{Whole}
-use Rattle.doc_types.specs.declared.documents.DocRow.{DocRow}
+use Rattle.std.specs.Prelude.{◌≡◌, ℕ, ◌+◌, List, ◌++◌, All, Result, Ok, Err, length, Bool, true, false, Option, Some, None, if◌then◌else◌}
+use Rattle.doc_types.specs.declared.schema.Schema.{Schema}
 use Rattle.doc_types.specs.declared.transactions.Txn.{Txn}
-use Rattle.doc_types.specs.Chunks.{has_word, is_word}
+use Rattle.doc_types.specs.Documents.{AreRowsOf}
 use Rattle.doc_types.specs.Snapshots.{SnapshotValue, all_living}
 use Rattle.srch_base.specs.declared.faults.Or.{Or}
 use Rattle.srch_base.specs.declared.faults.Or.TheVariants as causes
@@ -22,9 +15,12 @@ use Rattle.ql_answers.specs.declared.event.Event.{Event}
 use Rattle.ql_answers.specs.declared.event.Event.TheVariants as events
 use Rattle.ql_answers.specs.declared.plan.Plan.{Plan}
 use Rattle.ql_answers.specs.declared.plan.Plan.TheVariants.{Agree, Show, Search, Insert}
-use Rattle.ql_answers.specs.declared.result_set.ResultSet.{ResultSet}
 use Rattle.ql_answers.specs.Plans.{Wants, Refuses, TakesMemory}
-use Rattle.ql_answers.specs.Refusals.{Refused, no_memory, duplicate_id}
+use Rattle.ql_refusals.specs.Refusals.{Refused, no_memory, duplicate_id}
+use Rattle.doc_search.specs.declared.question.Question.{Question}
+use Rattle.doc_search.specs.Searches.{AreShown, IsAskedOf}
+use Rattle.row_select.specs.declared.row.Row.{Row}
+use Rattle.ql_answers.specs.Reading.{set_of}
 use Rattle.ql_answers.specs.Replies.{Reply, Done, Shows, Fails, payloads}
 
 -- what a session keeps between its statements
@@ -55,7 +51,7 @@ status_of state more = (if state.autocommit then 2 else 0) + (if more then 8 els
 abbrev pub need_of : Plan → Need
 need_of Agree = needs.Nothing
 need_of (Show set) = needs.Nothing
-need_of (Search place word) = needs.Read place
+need_of (Search place selection) = needs.Read place
 need_of (Insert place txn) = needs.Commit place
 
 -- the transaction that a plan wants to be committed
@@ -79,46 +75,17 @@ happened_by (events.Read front) = Read front.now
 happened_by (events.Committed removed) = Committed removed
 happened_by (events.Duplicate id) = Duplicate id
 
--- in how many fields of a row a word stands: its weight
-abbrev pub weight_of : List ℕ → DocRow → ℕ
-weight_of word row = count_by (λ field. list_any (is_word word) field.words) row.doc.fields
-
--- the rows that have a word, each by its weight and its id
-abbrev pub found : List ℕ → List DocRow → List (ℕ × ℕ)
-found word rows = map (λ row. (weight_of word row, row.doc.id)) (filter (has_word word) rows)
-
--- the greater weight comes first, and at one weight the smaller id
-abbrev pub best_first : ℕ × ℕ → ℕ × ℕ → Ordering
-best_first a b = ordering_then (nat_cmp b.0 a.0) (nat_cmp a.1 b.1)
-
--- how many rows are shown
-abbrev pub page : ℕ
-page = 20
-
--- These are the ids of the best of what was found.
-pub record AreBest (hits : List (ℕ × ℕ)) (ids : List ℕ) : Type 0 where
-  pub ranked : List (ℕ × ℕ)
-  pub same : IsPermutation hits ranked
-  pub sorted : IsSorted best_first ranked
-  pub page_is : ids ≡ map (λ hit. hit.1) (take page ranked)
-
--- These ids are shown: those of the best rows that have the word.
-abbrev pub AreShown : List ℕ → List DocRow → List ℕ → Type 0
-AreShown word rows ids = AreBest (found word rows) ids
-
--- ids, a row each
-abbrev pub id_columns : List Column
-id_columns = record { name = codes "id"; kind = Unsigned } ∷ []
-
-abbrev pub id_set : List ℕ → ResultSet
-id_set ids = record { columns = id_columns; rows = map (λ id. Whole (pos id) ∷ []) ids }
+-- The question is asked of the index whose rows these are.
+abbrev pub CanSearch : Question → SnapshotValue → Type 0
+CanSearch question front = (schema : Schema) × IsAskedOf schema question × All (λ layer. AreRowsOf schema layer.rows) front.layers
 
 -- What is replied to a plan by what happened.
 abbrev pub Decides : Plan → Happened → Reply → Type 0
 Decides plan NoMemory reply = reply ≡ Fails no_memory
 Decides Agree Nothing reply = reply ≡ Done 0
 Decides (Show set) Nothing reply = reply ≡ Shows set
-Decides (Search place word) (Read front) reply = (ids : List ℕ) × AreShown word (all_living front.layers) ids × (reply ≡ Shows (id_set ids))
+Decides (Search place selection) (Read front) reply =
+    (rows : List Row) × AreShown selection.question (all_living front.layers) rows × (reply ≡ Shows (set_of selection.shown rows))
 Decides (Insert place txn) (Committed removed) reply = reply ≡ Done (length txn.ops)
 Decides (Insert place txn) (Duplicate id) reply = reply ≡ Fails (duplicate_id id)
 Decides plan happened reply = ⊥
@@ -128,7 +95,7 @@ abbrev pub CanHave : Plan → Happened → Type 0
 CanHave plan NoMemory = Unit {0}
 CanHave Agree Nothing = Unit {0}
 CanHave (Show set) Nothing = Unit {0}
-CanHave (Search place word) (Read front) = Unit {0}
+CanHave (Search place selection) (Read front) = CanSearch selection.question front
 CanHave (Insert place txn) (Committed removed) = Unit {0}
 CanHave (Insert place txn) (Duplicate id) = Unit {0}
 CanHave plan happened = ⊥
@@ -143,7 +110,7 @@ is_refusal (Fails refusal) = true
 abbrev pub is_small : Happened → Plan → Bool
 is_small NoMemory plan = true
 is_small happened (Show set) = false
-is_small happened (Search place word) = false
+is_small happened (Search place selection) = false
 is_small happened plan = true
 
 -- What `need` answers, and what the session is then.

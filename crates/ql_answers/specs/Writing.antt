@@ -18,11 +18,11 @@ use Rattle.doc_tokens.specs.Tokens.{TokensOf, IsTooLong}
 use Rattle.conf_text.specs.declared.conf.IndexConf.{IndexConf}
 use Rattle.ql_grammar.specs.declared.statement.Val.{Val}
 use Rattle.ql_grammar.specs.declared.statement.Val.TheVariants.{Number, Text}
-use Rattle.ql_answers.specs.declared.columns.Target.{Target}
-use Rattle.ql_answers.specs.declared.columns.Target.TheVariants.{Id, Field, Attr}
-use Rattle.ql_answers.specs.Columns.{id_name, name_of, target_of, all_targets}
+use Rattle.ql_refusals.specs.declared.columns.Target.{Target}
+use Rattle.ql_refusals.specs.declared.columns.Target.TheVariants.{Id, Field, Attr}
+use Rattle.ql_refusals.specs.Columns.{id_name, name_of, target_of, all_targets}
 use Rattle.ql_answers.specs.Indexes.{index_fault, Serves}
-use Rattle.ql_answers.specs.Refusals.{Refused, first, unknown_column, column_twice, id_missing, wrong_number, wrong_kind, id_out_of_range, value_out_of_range, too_many_positions}
+use Rattle.ql_refusals.specs.Refusals.{Refused, first, unknown_column, column_twice, id_missing, wrong_number, wrong_kind, id_out_of_range, value_out_of_range, too_many_positions}
 
 -- the columns that a row's values are for: those that the statement names, or all in schema order
 abbrev pub targets : Schema → Option (List (List ℕ)) → List Target

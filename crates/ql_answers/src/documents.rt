@@ -12,13 +12,12 @@ ghost use Rattle.conf_text.specs.declared.conf.IndexConf.{IndexConf};
 ghost use Rattle.doc_types.specs.declared.schema.Schema.{Schema};
 ghost use Rattle.ql_answers.specs.steps.Documents.{Builds, BuildsAll, IsShaped, PutsOr};
 
-use crate::columns::{Target, name_of};
-use crate::refusal::{Refusal, too_many_positions};
 use crate::writing::kind_of;
 use conf_text::IndexConf;
 use doc_tokens::{TooLong, tokens};
 use doc_types::{AttrKind, Doc, FieldTokens, Schema, Txn, TxnOp, Value};
 use ql_parse::Val;
+use ql_refusals::{Refusal, Target, name_of, too_many_positions};
 use srch_base::{Items, NoMemory, Or};
 use std::alloc::Global;
 use std::marker::Model;

@@ -5,8 +5,8 @@ ghost use Rattle.conf_text.specs.declared.conf.IndexConf.{IndexConf};
 ghost use Rattle.ql_answers.specs.Indexes.{place_of};
 ghost use Rattle.ql_answers.specs.steps.Serving.{ServedOr};
 
-use crate::refusal::{Refusal, not_offered, unknown_index};
 use conf_text::IndexConf;
+use ql_refusals::{Refusal, not_offered, unknown_index};
 
 /// The indexes that statements may name, in the order of the configuration.
 pub trait Catalog {

@@ -3,9 +3,9 @@ ghost use Rattle.std.specs.Prelude.{◌≡◌};
 ghost use Rattle.ql_answers.specs.Sessions.{need_of};
 
 use crate::event::Need;
-use crate::result_set::ResultSet;
 use doc_types::Txn;
-use srch_base::Word;
+use ql_select::Selection;
+use reply_rows::ResultSet;
 
 /// What a statement wants of the outside, with what its reply needs beside that.
 #[derive(Drop)]
@@ -14,8 +14,8 @@ pub enum Plan {
     Agree,
     /// Nothing: this is shown.
     Show(ResultSet),
-    /// The documents of an index that have a word.
-    Search { index: u16, word: Word },
+    /// What a SELECT asks of an index.
+    Search { index: u16, selection: Selection },
     /// A commit of these insertions.
     Insert { index: u16, txn: Txn },
 }

@@ -7,12 +7,12 @@ ghost use Rattle.ql_answers.specs.steps.Planning.{PlansInsert, PlansSelect, Plan
 use crate::documents::insertions;
 use crate::indexes::{Catalog, served};
 use crate::plan::Plan;
-use crate::reading::{one_word, searched};
-use crate::refusal::{Refusal, not_offered};
-use crate::result_set::ResultSet;
 use crate::showing::{current_database, databases, description, tables, variable, warnings};
 use crate::writing::{columns_fault, rows_fault, targets};
 use ql_parse::{Select, Statement, Val};
+use ql_refusals::{Refusal, not_offered};
+use ql_select::is_grouped;
+use reply_rows::ResultSet;
 use srch_base::{Items, Name, NoMemory, Or};
 use std::alloc::Global;
 
@@ -85,18 +85,17 @@ fn show(set: Result<ResultSet, NoMemory>) -> Result<Plan, Or<Refusal>>
 fn plan_select<T: Catalog>(alloc: Global, catalog: &T, select: &Select) -> Result<Plan, Or<Refusal>>
     ensures { PlansSelect (T.confs catalog.now) select.now result }
 {
-    let text = match searched(select) {
-        Some(text) => text,
-        None => return Err(Or::Fault(not_offered())),
-    };
+    if is_grouped(select) {
+        return Err(Or::Fault(not_offered()));
+    }
     let index = match served(catalog, select.index.as_bytes()) {
         Ok(index) => index,
         Err(refusal) => return Err(Or::Fault(refusal)),
     };
-    match one_word(alloc, catalog.conf(index), text) {
-        Ok(Some(word)) => Ok(Plan::Search { index, word }),
-        Ok(None) => Err(Or::Fault(not_offered())),
-        Err(NoMemory) => Err(Or::NoMemory),
+    match ql_select::select(alloc, catalog.conf(index), select) {
+        Ok(selection) => Ok(Plan::Search { index, selection }),
+        Err(Or::NoMemory) => Err(Or::NoMemory),
+        Err(Or::Fault(refusal)) => Err(Or::Fault(refusal)),
     }
 }
 

@@ -1,23 +1,23 @@
 //! What is replied to a plan by what happened, a function for each kind of event: OK with the number of rows, a refusal,
 //! or a result set. Only events that the plan can have come here, so that no reply is made up for others. OK and ERR take
 //! no memory where 256 bytes are spare, and what says that memory was refused takes none where 26 are.
-ghost use Rattle.std.specs.Prelude.{◌≡◌, ◌+◌, ◌≤◌, ◌++◌, [], ◌∷◌, length, map, pos, IfOk, IsOk, OnOk, OnErr, true, false, vec_len, vec_capacity};
+ghost use Rattle.std.specs.Prelude.{◌≡◌, ◌+◌, ◌≤◌, ◌++◌, length, IsOk, OnOk, OnErr, true, false, vec_len, vec_capacity};
 ghost use Rattle.mysql_wire.specs.Replies.{err_packet as err_bytes};
-ghost use Rattle.mysql_wire.specs.declared.rows.Cell.TheVariants as cells;
+ghost use Rattle.ql_answers.specs.Reading.{set_of};
 ghost use Rattle.ql_answers.specs.Replies.{Done, Fails, Shows};
-ghost use Rattle.ql_answers.specs.Refusals.{state_of};
-ghost use Rattle.ql_answers.specs.Sessions.{CanHave, Committed, Duplicate, NoMemory as OutOfMemory, Nothing, Read, happened_by, id_columns, id_set, is_small};
+ghost use Rattle.ql_refusals.specs.Refusals.{state_of};
+ghost use Rattle.ql_answers.specs.Sessions.{CanHave, Committed, Duplicate, NoMemory as OutOfMemory, Nothing, Read, happened_by, is_small};
 ghost use Rattle.ql_answers.specs.steps.Answering.{Says, SaysReply};
 
 use crate::event::Event;
+use crate::found::Found;
 use crate::plan::Plan;
-use crate::refusal::{Refusal, duplicate_id, no_memory};
-use crate::replies::put_set;
-use crate::result_set::ResultSet;
-use crate::searching::best_ids;
+use doc_search::search;
 use doc_types::{Chunk, Snapshot};
-use mysql_wire::{Cell, Column, ColumnKind, Small, err_packet, ok_packet};
-use srch_base::{Items, Name, NoMemory};
+use mysql_wire::{Small, err_packet, ok_packet};
+use ql_refusals::{Refusal, duplicate_id, no_memory};
+use reply_rows::{ResultSet, put_result, put_table};
+use srch_base::NoMemory;
 use std::alloc::Global;
 
 /// Appends the reply to a plan.
@@ -79,10 +79,13 @@ fn say_read<C: Chunk>(
     ensures capacity { vec_capacity out.old ≤ vec_capacity out.new }
 {
     match plan {
-        Plan::Search { word, .. } => {
-            let ids = best_ids(alloc, snapshot, word.as_bytes())?;
-            let set = ids_shown(alloc, ids.as_slice())?;
-            show(alloc, &set, status, seq, out)
+        Plan::Search { selection, .. } => {
+            let rows = search(alloc, &selection.question, snapshot)?;
+            let found = Found {
+                shown: selection.shown.as_slice(),
+                rows: rows.as_slice(),
+            };
+            show_found(alloc, &found, status, seq, out)
         }
         Plan::Agree | Plan::Show(_) | Plan::Insert { .. } => unreachable!(),
     }
@@ -163,7 +166,23 @@ fn show(
     ensures room { vec_capacity out.old + vec_len out.new ≤ vec_capacity out.new + vec_len out.old }
     ensures capacity { vec_capacity out.old ≤ vec_capacity out.new }
 {
-    let next = put_set(alloc, status, set, seq, out)?;
+    let next = put_result(alloc, set, seq, status, out)?;
+    Ok((next, false))
+}
+
+/// What a SELECT found.
+fn show_found(
+    alloc: Global,
+    found: &Found<'_>,
+    status: u16,
+    seq: u8,
+    out: &mut Vec<u8>,
+) -> Result<(u8, bool), NoMemory>
+    ensures says { SaysReply (Shows (set_of found.now.shown.now found.now.rows.now)) status seq result out.old.items out.new.items }
+    ensures room { vec_capacity out.old + vec_len out.new ≤ vec_capacity out.new + vec_len out.old }
+    ensures capacity { vec_capacity out.old ≤ vec_capacity out.new }
+{
+    let next = put_table(alloc, found, seq, status, out)?;
     Ok((next, false))
 }
 
@@ -177,41 +196,4 @@ fn put_small(packet: &Small, out: &mut Vec<u8>) -> Result<(), NoMemory>
 {
     out.extend_from_slice(packet.bytes())?;
     Ok(())
-}
-
-/// Ids, a row each.
-fn ids_shown(alloc: Global, ids: &[u64]) -> Result<ResultSet, NoMemory>
-    ensures { IfOk result (λ set. set ≡ id_set ids.now) }
-{
-    let columns = id_columns(alloc)?;
-    let rows = id_rows(alloc, ids)?;
-    Ok(ResultSet { columns, rows })
-}
-
-fn id_columns(alloc: Global) -> Result<Items<Column>, NoMemory>
-    ensures { IfOk result (λ columns. columns ≡ id_columns) }
-{
-    let kind = ColumnKind::Unsigned;
-    let name = Name::from_slice(alloc, b"id")?;
-    let mut columns = Vec::with_capacity(alloc, 1)?;
-    columns.push(Column { name, kind })?;
-    Ok(Items::new(columns))
-}
-
-fn id_rows(alloc: Global, ids: &[u64]) -> Result<Items<Items<Cell>>, NoMemory>
-    ensures { IfOk result (λ rows. rows ≡ map (λ id. cells.Whole (pos id) ∷ []) ids.now) }
-{
-    let mut rows = Vec::with_capacity(alloc, ids.len())?;
-    'ids: for id in ids {
-        rows.push(id_row(alloc, *id)?)?;
-    }
-    Ok(Items::new(rows))
-}
-
-fn id_row(alloc: Global, id: u64) -> Result<Items<Cell>, NoMemory>
-    ensures { IfOk result (λ row. row ≡ cells.Whole (pos id) ∷ []) }
-{
-    let mut row = Vec::with_capacity(alloc, 1)?;
-    row.push(Cell::Whole(i128::from(id)))?;
-    Ok(Items::new(row))
 }

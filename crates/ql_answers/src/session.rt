@@ -11,27 +11,40 @@ use crate::event::{Event, Need};
 use crate::indexes::Catalog;
 use crate::plan::Plan;
 use crate::planning::plan;
-use crate::refusal::Refusal;
 use crate::saying::say;
 use doc_types::{Chunk, Txn};
 use ql_parse::Statement;
+use ql_refusals::Refusal;
 use srch_base::{NoMemory, Or};
 use std::alloc::Global;
 use std::marker::Model;
 
 /// One client's session. Contracts see it as a `Standing`.
-#[derive(Drop)]
 pub struct Session {
     autocommit: bool,
     plan: Option<Plan>,
 }
 
 impl Model for Session {
+    ghost use Rattle.std.specs.Coded.{codes};
+    ghost use Rattle.query_grammar.specs.contracts.query.Node as node;
     ghost use Rattle.ql_answers.specs.Sessions.{Standing};
 
     ghost Value = { Standing };
 
+    ghost coded = { Prim.hlevel (codes, node.the_row.coded) };
+
     ghost view = { λ session. record { state = record { autocommit = session.autocommit }; plan = session.plan } };
+}
+
+// Not derived: so letting go of a session is a call, and no caller's proof takes apart what its statement wants.
+impl Drop for Session {
+    fn drop(self) {
+        let Session {
+            autocommit: _,
+            plan: _plan,
+        } = self;
+    }
 }
 
 impl Session {

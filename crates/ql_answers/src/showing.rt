@@ -5,11 +5,12 @@ ghost use Rattle.std.specs.Prelude.{◌≡◌, ◌++◌, IfOk, codes, map};
 ghost use Rattle.ql_answers.specs.Replies.{pair};
 ghost use Rattle.ql_answers.specs.Showing.{current_database, databases, description, description_rows, kind_text, tables, variable, variable_value, warnings};
 
-use crate::columns::ID;
 use crate::indexes::Catalog;
-use crate::result_set::{ResultSet, pair, single, text_columns};
+use crate::text_sets::{pair, single, text_columns};
 use doc_types::{AttrKind, Schema};
 use mysql_wire::Cell;
+use ql_refusals::ID;
+use reply_rows::ResultSet;
 use srch_base::{Items, NoMemory};
 use std::alloc::Global;
 

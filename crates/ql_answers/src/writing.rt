@@ -1,17 +1,16 @@
 //! INSERT: which columns its values are for, what is wrong with it, and the documents that its rows become.
 ghost use Rattle.std.specs.List.{list_any};
 ghost use Rattle.std.specs.Str.{bytes_eq, is_utf8};
-ghost use Rattle.ql_answers.specs.Columns.{target_of};
+ghost use Rattle.ql_refusals.specs.Columns.{target_of};
 ghost use Rattle.std.specs.Prelude.{◌≡◌, [], filter_map, length, option_copied, IfOk};
 ghost use Rattle.ql_answers.specs.Writing.{columns_fault, holds, id_fault, name_fault, names_fault, is_between, kind_of, row_fault, rows_fault, targets, value_fault, values_fault};
 
-use crate::columns::{ID, Target, all_targets, name_of, target_of};
-use crate::refusal::{
-    Refusal, column_twice, id_missing, id_out_of_range, unknown_column, value_out_of_range,
-    wrong_kind, wrong_number,
-};
 use doc_types::{AttrKind, Schema};
 use ql_parse::Val;
+use ql_refusals::{
+    ID, Refusal, Target, all_targets, column_twice, id_missing, id_out_of_range, name_of,
+    target_of, unknown_column, value_out_of_range, wrong_kind, wrong_number,
+};
 use srch_base::{Items, Name, NoMemory};
 use std::alloc::Global;
 

@@ -9,7 +9,7 @@ use Rattle.mysql_wire.specs.Replies.{ok_payload}
 use Rattle.ql_answers.specs.declared.plan.Plan.{Plan}
 use Rattle.ql_answers.specs.declared.plan.Plan.TheVariants.{Agree, Show, Search, Insert}
 use Rattle.ql_answers.specs.Replies.{Reply, Done, Fails, payloads}
-use Rattle.ql_answers.specs.Refusals.{Refused, no_memory}
+use Rattle.ql_refusals.specs.Refusals.{Refused, no_memory}
 use Rattle.ql_answers.specs.Sessions.{Happened, State, CanHave, Decides, is_refusal, is_small}
 use Rattle.ql_session.specs.steps.Running.{Says, SaysReply}
 use Rattle.ql_answers.specs.Sessions as happenings
@@ -30,11 +30,11 @@ done (Show set) happenings.NoMemory reply decides small good = absurd (let refus
 done (Show set) (happenings.Read front) reply decides small good = absurd decides
 done (Show set) (happenings.Committed removed) reply decides small good = absurd decides
 done (Show set) (happenings.Duplicate id) reply decides small good = absurd decides
-done (Search place word) happenings.Nothing reply decides small good = absurd decides
-done (Search place word) happenings.NoMemory reply decides small good = absurd (let refused : is_refusal reply ≡ true = rw decides refl in cc)
-done (Search place word) (happenings.Read front) reply decides small good = absurd cc
-done (Search place word) (happenings.Committed removed) reply decides small good = absurd decides
-done (Search place word) (happenings.Duplicate id) reply decides small good = absurd decides
+done (Search place selection) happenings.Nothing reply decides small good = absurd decides
+done (Search place selection) happenings.NoMemory reply decides small good = absurd (let refused : is_refusal reply ≡ true = rw decides refl in cc)
+done (Search place selection) (happenings.Read front) reply decides small good = absurd cc
+done (Search place selection) (happenings.Committed removed) reply decides small good = absurd decides
+done (Search place selection) (happenings.Duplicate id) reply decides small good = absurd decides
 done (Insert at txn) happenings.Nothing reply decides small good = absurd decides
 done (Insert at txn) happenings.NoMemory reply decides small good = absurd (let refused : is_refusal reply ≡ true = rw decides refl in cc)
 done (Insert at txn) (happenings.Read front) reply decides small good = absurd decides

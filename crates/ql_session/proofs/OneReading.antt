@@ -6,7 +6,7 @@ use Rattle.ql_grammar.specs.declared.fault.ParseFault.{ParseFault}
 use Rattle.ql_grammar.specs.declared.statement.Statement.{Statement}
 use Rattle.ql_grammar.specs.declared.statement.TheConstants.{MAX_STATEMENTS}
 use Rattle.ql_grammar.specs.Packets.{IsFault, IsPacket}
-use Rattle.ql_answers.specs.Refusals.{Refused, bad_syntax, bad_token}
+use Rattle.ql_refusals.specs.Refusals.{Refused, bad_syntax, bad_token}
 use Rattle.ql_session.specs.Statements.{RefusesText, RefusesTokens, States}
 
 module _

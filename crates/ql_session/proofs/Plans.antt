@@ -12,6 +12,7 @@ use Rattle.ql_grammar.specs.declared.statement.Statement.{Statement}
 use Rattle.ql_grammar.specs.declared.statement.Statement.TheVariants as statements
 use Rattle.ql_answers.specs.declared.plan.Plan.{Plan}
 use Rattle.ql_answers.specs.declared.plan.Plan.TheVariants.{Agree, Show, Search, Insert}
+use Rattle.ql_select.proofs.Asked.{selection_is_asked}
 use Rattle.ql_answers.specs.Plans.{Wants, TakesMemory}
 use Rattle.ql_answers.specs.Writing.{Inserts, targets}
 use Rattle.ql_session.specs.steps.Wanting.{IsSoundPlan}
@@ -40,7 +41,7 @@ sound_as confs plan other e sound = subst (IsSoundPlan confs) (sym e) sound
 
 pub good : (confs : List IndexConf) (statement : Statement) (plan : Plan) → Wants confs statement plan → IsGood confs statement plan
 good confs (statements.Select select) plan wants =
-    inr (tt, sound_as confs plan (Search wants.0 wants.1) wants.3 (wants.2.conf, wants.2.serves.is))
+    inr (tt, sound_as confs plan (Search wants.0 wants.1) wants.3 (wants.2.conf, wants.2.serves.is, λ schema. selection_is_asked wants.2.conf select wants.1 schema wants.2.selects))
 good confs (statements.SelectVar name limit) plan wants = inr (tt, sound_as confs plan (Show _) wants tt)
 good confs statements.SelectDatabase plan wants = inr (tt, sound_as confs plan (Show _) wants tt)
 good confs (statements.Insert false index columns rows) plan wants =

@@ -5,7 +5,7 @@ use Rattle.srch_base.specs.declared.faults.Or.{Or}
 use Rattle.srch_base.specs.declared.faults.Or.TheVariants as causes
 use Rattle.ql_grammar.specs.declared.statement.Statement.{Statement}
 use Rattle.ql_lex.specs.Tokens.{AreTokens, Lexeme}
-use Rattle.ql_answers.specs.Refusals.{Refused}
+use Rattle.ql_refusals.specs.Refusals.{Refused}
 use Rattle.ql_session.specs.steps.Running.{ReadsText, ReadsTokens}
 
 pub reads_by : {M : Type 0} (text : List ℕ) (tokens : List Lexeme) (result : Result (Vec Statement M) (Or Refused)) → AreTokens text tokens → ReadsTokens tokens result → ReadsText text result

@@ -1,19 +1,23 @@
 -- From what a statement wanted, what came of it and what was said: the statement was answered.
 use Rattle.std.proofs.Common.{◌≡◌, ◌≢◌, inl, inr, ℕ, List, Bool, true, false, refl, subst, sym, ap, ◌∙◌}
-use Rattle.std.specs.Prelude.{Option, Some, Err, slice_get}
+use Rattle.std.specs.Prelude.{All, Option, Some, Err, slice_get, unwrap_or}
+use Rattle.std.specs.Option.{IsSomeAnd}
 use Rattle.srch_base.specs.declared.faults.Or.{Or}
 use Rattle.srch_base.specs.declared.faults.Or.TheVariants as causes
 use Rattle.conf_text.specs.declared.conf.IndexConf.{IndexConf}
+use Rattle.doc_search.specs.Searches.{IsAskedOf}
 use Rattle.ql_grammar.specs.declared.statement.Statement.{Statement}
+use Rattle.doc_types.specs.Documents.{AreRowsOf}
+use Rattle.doc_types.specs.Schemas.{IsSchema}
 use Rattle.doc_types.specs.Snapshots.{SnapshotValue}
 use Rattle.doc_types.specs.declared.transactions.Txn.{Txn}
 use Rattle.ql_answers.specs.declared.event.Need.TheVariants as needs
 use Rattle.ql_answers.specs.declared.plan.Plan.{Plan}
 use Rattle.ql_answers.specs.declared.plan.Plan.TheVariants.{Agree, Show, Search, Insert}
 use Rattle.ql_answers.specs.Plans.{Wants, Refuses, TakesMemory}
-use Rattle.ql_answers.specs.Refusals.{Refused, no_memory}
+use Rattle.ql_refusals.specs.Refusals.{Refused, no_memory}
 use Rattle.ql_answers.specs.Replies.{Reply, Fails}
-use Rattle.ql_answers.specs.Sessions.{State, Standing, Needs, Happened, Decides, is_small, need_of, pending_of}
+use Rattle.ql_answers.specs.Sessions.{CanHave, State, Standing, Needs, Happened, Decides, is_small, need_of, pending_of}
 use Rattle.ql_answers.specs.Sessions as happenings
 use Rattle.ql_session.specs.Tables.{Tables, Event, Nothing, NoMemory, Read, Follows}
 use Rattle.ql_session.specs.Statements.{Meets, told}
@@ -25,7 +29,7 @@ use Rattle.ql_session.proofs.Plans.{good}
 pub wants_commit : (plan : Plan) (place : ℕ) → need_of plan ≡ needs.Commit place → (txn : Txn) × (plan ≡ Insert place txn)
 wants_commit Agree place e = absurd cc
 wants_commit (Show set) place e = absurd cc
-wants_commit (Search at word) place e = absurd cc
+wants_commit (Search at selection) place e = absurd cc
 wants_commit (Insert at txn) place e = (txn, cc)
 
 -- the plan of a session whose transaction is asked for
@@ -48,14 +52,43 @@ can_commit confs statement plan place pending wants is = elim (good confs statem
 pub meets_nothing : (plan : Plan) → need_of plan ≡ needs.Nothing → Meets plan Nothing
 meets_nothing Agree e = tt
 meets_nothing (Show set) e = tt
-meets_nothing (Search place word) e = absurd cc
+meets_nothing (Search place selection) e = absurd cc
 meets_nothing (Insert place txn) e = absurd cc
 
 pub meets_read : (plan : Plan) (place : ℕ) (front : SnapshotValue) → need_of plan ≡ needs.Read place → Meets plan (Read place front)
 meets_read Agree place front e = absurd cc
 meets_read (Show set) place front e = absurd cc
-meets_read (Search at word) place front e = cc
+meets_read (Search at selection) place front e = cc
 meets_read (Insert at txn) place front e = absurd cc
+
+-- the reply to what was read of an index can be asked for: its rows are of the columns that the question was asked for
+pub can_read : (confs : List IndexConf) (plan : Plan) (place : ℕ) (front : SnapshotValue) (conf : IndexConf) → need_of plan ≡ needs.Read place → IsSoundPlan confs plan
+    → slice_get confs place ≡ Some conf → IsSchema conf.schema → All (λ layer. AreRowsOf conf.schema layer.rows) front.layers
+    → CanHave plan (happenings.Read front)
+can_read confs Agree place front conf e sound here schema rows = absurd cc
+can_read confs (Show set) place front conf e sound here schema rows = absurd cc
+can_read confs (Search at selection) place front conf e sound here schema rows =
+    let same : at ≡ place = cc in
+    let both : Some sound.0 ≡ Some conf = sym (subst (λ (p : ℕ). slice_get confs p ≡ Some sound.0) same sound.1) ∙ here in
+    let is : sound.0 ≡ conf = ap (λ (o : Option IndexConf). unwrap_or o conf) both in
+    (conf.schema, subst (λ (c : IndexConf). IsSchema c.schema → IsAskedOf c.schema selection.question) is sound.2 schema, rows)
+can_read confs (Insert at txn) place front conf e sound here schema rows = absurd cc
+
+-- a plan that reads wants what can be had
+reads_soundly : (confs : List IndexConf) (statement : Statement) (plan : Plan) (place : ℕ) → Wants confs statement plan → need_of plan ≡ needs.Read place → IsSoundPlan confs plan
+reads_soundly confs statement plan place wants need = elim (good confs statement plan wants) [
+  | inl agreed ↦ absurd (let clash : needs.Nothing ≡ needs.Read place = sym (ap need_of agreed) ∙ need in cc)
+  | inr h ↦ h.1
+]
+
+-- a session at a statement that reads can be told what was read
+pub can_be_told : (confs : List IndexConf) (statement : Statement) (standing : Option Plan) (plan : Plan) (place : ℕ) (front : SnapshotValue) (conf : IndexConf)
+    → Wants confs statement plan → standing ≡ Some plan → need_of plan ≡ needs.Read place
+    → slice_get confs place ≡ Some conf → IsSchema conf.schema → All (λ layer. AreRowsOf conf.schema layer.rows) front.layers
+    → IsSomeAnd standing (λ p. CanHave p (happenings.Read front))
+can_be_told confs statement standing plan place front conf wants at need here schema rows =
+    subst (λ (o : Option Plan). IsSomeAnd o (λ p. CanHave p (happenings.Read front))) (sym at)
+    (can_read confs plan place front conf need (reads_soundly confs statement plan place wants need) here schema rows)
 
 -- a plan that is agreed to takes no memory
 not_small : (happened : Happened) (plan : Plan) → is_small happened plan ≡ false → plan ≢ Agree
@@ -96,7 +129,7 @@ insert_is_small (happenings.Duplicate id) place txn = refl
 without_memory : (plan : Plan) (reply : Reply) → Decides plan happenings.NoMemory reply → reply ≡ Fails no_memory
 without_memory Agree reply is = is
 without_memory (Show set) reply is = is
-without_memory (Search place word) reply is = is
+without_memory (Search place selection) reply is = is
 without_memory (Insert place txn) reply is = is
 
 -- what was said of a commit

@@ -5,7 +5,7 @@ use Rattle.std.proofs.Math.Dec.{eqb-suc-zero}
 use Rattle.ql_grammar.specs.declared.statement.Statement.{Statement}
 use Rattle.serve_line.specs.Machines.{FollowAll}
 use Rattle.mysql_wire.specs.Packets.{packet, packets_from, sequence_after}
-use Rattle.ql_answers.specs.Refusals.{Refused, no_memory}
+use Rattle.ql_refusals.specs.Refusals.{Refused, no_memory}
 use Rattle.ql_answers.specs.Replies.{Fails, payloads}
 use Rattle.ql_answers.specs.Sessions.{State, is_refusal, status_of}
 use Rattle.ql_session.specs.Tables.{Tables, Event, Configured, Nothing, NoMemory, Read, Committed, Duplicate, Follows}

@@ -10,7 +10,7 @@ use Rattle.ql_grammar.specs.declared.statement.TheConstants.{MAX_STATEMENTS}
 use Rattle.ql_grammar.specs.Packets.{IsFault, IsPacket}
 use Rattle.ql_answers.specs.declared.plan.Plan.{Plan}
 use Rattle.ql_answers.specs.declared.plan.Plan.TheVariants.{Agree, Show, Search, Insert}
-use Rattle.ql_answers.specs.Refusals.{Refused, bad_token, bad_syntax, no_memory, not_offered}
+use Rattle.ql_refusals.specs.Refusals.{Refused, bad_token, bad_syntax, no_memory, not_offered}
 use Rattle.ql_answers.specs.Replies.{Reply, Fails, payloads}
 use Rattle.ql_answers.specs.Plans.{Wants, Refuses, TakesMemory}
 use Rattle.ql_answers.specs.Sessions.{State, status_of, Decides, Happened, is_refusal}
@@ -44,7 +44,7 @@ RefusesText text refusal =
 abbrev pub Meets : Plan → Event → Type 0
 Meets Agree Nothing = ⊤
 Meets (Show set) Nothing = ⊤
-Meets (Search place word) (Read at front) = at ≡ place
+Meets (Search place selection) (Read at front) = at ≡ place
 Meets (Insert place txn) (Committed at ops removed) = (at ≡ place) × (ops ≡ txn.ops)
 Meets (Insert place txn) (Duplicate at ops id) = (at ≡ place) × (ops ≡ txn.ops)
 Meets plan event = ⊥

@@ -2,7 +2,7 @@
 //! is the law.
 ghost use Rattle.std.specs.Prelude.{◌≡◌, ℕ, List};
 ghost use Rattle.ql_grammar.specs.declared.statement.Statement.{Statement as StatementValue};
-ghost use Rattle.ql_answers.specs.Refusals.{Refused};
+ghost use Rattle.ql_refusals.specs.Refusals.{Refused};
 ghost use Rattle.ql_session.specs.Statements.{RefusesText, States};
 
 use ql_lex::one_reading;

@@ -4,7 +4,7 @@ ghost use Rattle.mysql_wire.specs.Packets.{packets_from};
 ghost use Rattle.ql_answers.specs.Replies.{Fails, payloads};
 
 use mysql_wire::{Small, err_packet};
-use ql_answers::Refusal;
+use ql_refusals::Refusal;
 
 /// Appends a packet where there is room for it.
 pub(crate) fn put(packet: &Small, out: &mut Vec<u8>)

@@ -2,6 +2,7 @@
 //!
 //! A statement finds an index by its place among the others, by `Catalog`; what it wants of the documents is asked here.
 ghost use Rattle.std.specs.Prelude.{◌≡◌, ◌<◌, ◌^◌, ◌≤◌, All, IfOk, OnOk, Some, length, map, slice_get};
+ghost use Rattle.doc_types.specs.Documents.{AreRowsOf};
 ghost use Rattle.doc_types.specs.Schemas.{AreZones, IsSchema};
 ghost use Rattle.doc_types.specs.Snapshots.{AreLayers};
 ghost use Rattle.doc_types.specs.Transactions.{IsTxnOf};
@@ -36,6 +37,15 @@ impl Table {
     {
         let store = PlainStore::new(alloc, &conf.schema)?;
         Ok(Table { conf, store })
+    }
+
+    /// Its documents, which are of its columns.
+    fn front(&self) -> &Snapshot<PlainChunk>
+        ensures front { self.now.store.snapshot ≡ result.now }
+        ensures schema { IsSchema self.now.conf.schema }
+        ensures rows { All (λ layer. AreRowsOf self.now.conf.schema layer.rows) result.now.layers }
+    {
+        self.store.snapshot()
     }
 
     /// Commits insertions. After an `Err` nothing was done.
@@ -85,9 +95,10 @@ impl PlainTables {
     /// The documents of the index at a place.
     pub(crate) fn front(&self, place: u16) -> &Snapshot<PlainChunk>
         requires { place < length self.now.confs }
-        ensures { slice_get self.now.fronts place ≡ Some result.now }
+        ensures front { slice_get self.now.fronts place ≡ Some result.now }
+        ensures of { (conf : IndexConf) × (slice_get self.now.confs place ≡ Some conf) × IsSchema conf.schema × All (λ layer. AreRowsOf conf.schema layer.rows) result.now.layers }
     {
-        self.tables[place as usize].store.snapshot()
+        self.tables[place as usize].front()
     }
 
     /// Commits insertions to the index at a place. After an `Err` nothing was done.

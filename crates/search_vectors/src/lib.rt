@@ -7,3 +7,5 @@ mod hosts;
 mod lines;
 #[cfg(test)]
 mod program;
+#[cfg(test)]
+mod ranked;

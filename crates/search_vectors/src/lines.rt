@@ -8,18 +8,18 @@ use std::alloc::Global;
 use std::test::Fail;
 
 /// The greeting of connection 1.
-const GREETING: &[u8] =
+pub(crate) const GREETING: &[u8] =
     b"N\0\0\0\x0a2.2.11-rt1\0\x01\0\0\0\x01\x02\x03\x04\x05\x06\x07\x08\0\x09\xa2\x21\x02\0\x0b\0\x15\0\0\0\0\0\0\0\0\0\0\x09\x0a\x0b\x0c\x0d\x0e\x0f\x10\x11\x12\x13\x14\0mysql_native_password\0";
 
 /// A client's response: the flag of protocol 4.1, no user, an answer of no bytes.
-const RESPONSE: &[u8] =
+pub(crate) const RESPONSE: &[u8] =
     b"\x22\0\0\x01\0\xa2\0\0\0\0\0\x01\x21\0\0\0\0\0\0\0\0\0\0\0\0\0\0\0\0\0\0\0\0\0\0\0\0\0";
 
-const ACCEPTED: &[u8] = b"\x07\0\0\x02\0\0\0\x02\0\0\0";
+pub(crate) const ACCEPTED: &[u8] = b"\x07\0\0\x02\0\0\0\x02\0\0\0";
 
 const INSERT: &[u8] = b"\x2d\0\0\0\x03INSERT INTO rt (id,title) VALUES (1,'hello')";
 
-const INSERTED: &[u8] = b"\x07\0\0\x01\0\x01\0\x02\0\0\0";
+pub(crate) const INSERTED: &[u8] = b"\x07\0\0\x01\0\x01\0\x02\0\0\0";
 
 const SELECT: &[u8] = b"\x27\0\0\0\x03SELECT id FROM rt WHERE MATCH('hello')";
 
@@ -49,7 +49,7 @@ fn joined(alloc: Global, pieces: &[&[u8]]) -> Result<Vec<u8>, Fail> {
 }
 
 /// Runs a session by a configuration over one line of these bytes, and gives what was written to it.
-fn written_by(
+pub(crate) fn written_by(
     alloc: Global,
     conf: &[u8],
     input: &[u8],

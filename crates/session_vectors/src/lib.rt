@@ -20,6 +20,16 @@ mod reading;
 #[cfg(test)]
 mod running;
 #[cfg(test)]
+mod select_documents;
+#[cfg(test)]
+mod select_refusals;
+#[cfg(test)]
+mod select_rows;
+#[cfg(test)]
+mod select_weights;
+#[cfg(test)]
+mod selects;
+#[cfg(test)]
 mod several;
 #[cfg(test)]
 mod sharing;

@@ -1,9 +1,8 @@
 //! A reply as one text, by which tables say what is wanted: `OK 1`, `ERR 1064 42000 syntax error at 0`, `EOF`, and a result
-//! set as `id | 2 | 1`, with `''` for an empty cell. `; ` follows a reply whose status says that another one follows.
+//! set as `id | 2 | 1`, with `''` for an empty cell. A column whose kind isn't that of the column of this name has it behind its
+//! name: `g:Uint`. `; ` follows a reply whose status says that another one follows.
 use itoa::Buffer;
-use mysql_wire::{
-    Column, ColumnKind, read_column, read_eof, read_err, read_lenenc, read_ok, read_row,
-};
+use mysql_wire::{ColumnKind, read_column, read_eof, read_err, read_lenenc, read_ok, read_row};
 use srch_base::Text;
 use std::alloc::Global;
 use std::test::Fail;
@@ -127,16 +126,17 @@ fn tell_end(status: u16, text: &mut Vec<u8>) -> Result<Next, Fail> {
     Ok(Next::Reply)
 }
 
-/// Appends a column's name, after which so many columns come, itself counted.
+/// Appends a column's name, and its kind where the name doesn't say it. So many columns come after it, itself counted.
 fn tell_column(alloc: Global, payload: &[u8], left: u64, text: &mut Vec<u8>) -> Result<Next, Fail> {
     if payload.len() > LONGEST {
         return Err("a payload is long".into());
     }
     let column = read_column(alloc, payload).ok().ok_or("no column")?;
-    if column.kind != kind_of(&column) {
-        return Err("a column of another kind".into());
-    }
     text.extend_from_slice(column.name.as_bytes())?;
+    if column.kind != kind_by_name(column.name.as_bytes()) {
+        text.push(b':')?;
+        text.extend_from_slice(kind_text(column.kind))?;
+    }
     if left <= 1 {
         return Ok(Next::Columned);
     }
@@ -144,12 +144,32 @@ fn tell_column(alloc: Global, payload: &[u8], left: u64, text: &mut Vec<u8>) -> 
     Ok(Next::Column(left - 1))
 }
 
-/// The kind of a column of these replies: ids are numbers, all else is text.
-fn kind_of(column: &Column) -> ColumnKind {
-    if column.name.as_bytes() == b"id".as_slice() {
-        ColumnKind::Unsigned
-    } else {
-        ColumnKind::Text
+/// The kind that the column of this name has in the replies of these tests.
+fn kind_by_name(name: &[u8]) -> ColumnKind {
+    for (known, kind) in KINDS {
+        if name == known.as_bytes() {
+            return kind;
+        }
+    }
+    ColumnKind::Text
+}
+
+/// The columns of the index `rt` with their kinds. What SHOW and DESCRIBE show is text.
+const KINDS: [(&str, ColumnKind); 6] = [
+    ("id", ColumnKind::Unsigned),
+    ("weight()", ColumnKind::Unsigned),
+    ("gid", ColumnKind::Uint),
+    ("price", ColumnKind::Whole),
+    ("flag", ColumnKind::Uint),
+    ("seen", ColumnKind::Uint),
+];
+
+fn kind_text(kind: ColumnKind) -> &'static [u8] {
+    match kind {
+        ColumnKind::Uint => b"Uint",
+        ColumnKind::Whole => b"Whole",
+        ColumnKind::Unsigned => b"Unsigned",
+        ColumnKind::Text => b"Text",
     }
 }
 

@@ -1,6 +1,7 @@
 //! Sessions over the indexes of a configuration.
 use crate::reading::told;
 use conf_text::read_conf;
+use itoa::Buffer;
 use mysql_wire::Command;
 use ql_session::{PlainTables, Session, StepEnd};
 use std::alloc::Global;
@@ -102,4 +103,24 @@ pub(crate) fn first_wrong_in_turn(
         }
     }
     Ok(None)
+}
+
+/// The text of one INSERT of the ids 1 to this one, with the title `a`. The last id comes first.
+pub(crate) fn insert_numbered(alloc: Global, last: u32) -> Result<Vec<u8>, Fail> {
+    let mut text = Vec::from_slice(alloc, b"INSERT INTO rt (title, id) VALUES ")?;
+    push_numbered(last, &mut text)?;
+    for id in 1..last {
+        text.extend_from_slice(b", ")?;
+        push_numbered(id, &mut text)?;
+    }
+    Ok(text)
+}
+
+/// Appends the values of one of them.
+fn push_numbered(id: u32, text: &mut Vec<u8>) -> Result<(), Fail> {
+    let mut digits = Buffer::new();
+    text.extend_from_slice(b"('a', ")?;
+    text.extend_from_slice(digits.format(id).as_bytes())?;
+    text.push(b')')?;
+    Ok(())
 }

@@ -1,5 +1,5 @@
 //! Several statements in one text, many rows in one INSERT, and the description of the widest index.
-use crate::running::{TWO, answer, first_wrong, first_wrong_in_turn, tables_of};
+use crate::running::{TWO, answer, first_wrong, first_wrong_in_turn, insert_numbered, tables_of};
 use itoa::Buffer;
 use ql_session::Session;
 use std::alloc::Global;
@@ -104,18 +104,6 @@ fn a_text_has_32_statements_at_most(rt: HostRuntime) -> Result<(), Fail> {
     Ok(())
 }
 
-/// The text of one INSERT of the ids 1 to 300 with a title.
-fn insert_300(alloc: Global) -> Result<Vec<u8>, Fail> {
-    let mut text = Vec::from_slice(alloc, b"INSERT INTO rt (title, id) VALUES ('a', 300)")?;
-    for id in 1..300_u32 {
-        let mut digits = Buffer::new();
-        text.extend_from_slice(b", ('a', ")?;
-        text.extend_from_slice(digits.format(id).as_bytes())?;
-        text.push(b')')?;
-    }
-    Ok(text)
-}
-
 /// What 300 documents with one word show: the first 20.
 const TWENTY: &[u8] =
     b"id | 1 | 2 | 3 | 4 | 5 | 6 | 7 | 8 | 9 | 10 | 11 | 12 | 13 | 14 | 15 | 16 | 17 | 18 | 19 | 20";
@@ -125,7 +113,12 @@ fn three_hundred_rows_are_inserted_at_once(rt: HostRuntime) -> Result<(), Fail> 
     let alloc = rt.alloc();
     let mut tables = tables_of(alloc, TWO)?;
     let mut session = Session::new();
-    let inserted = answer(alloc, &mut session, &mut tables, &insert_300(alloc)?)?;
+    let inserted = answer(
+        alloc,
+        &mut session,
+        &mut tables,
+        &insert_numbered(alloc, 300)?,
+    )?;
     assert!(rt; inserted.as_slice() == b"OK 300".as_slice());
     let select = b"SELECT id FROM rt WHERE MATCH('a')";
     let told = answer(alloc, &mut session, &mut tables, select)?;

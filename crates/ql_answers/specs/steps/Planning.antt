@@ -7,11 +7,12 @@ use Rattle.conf_text.specs.declared.conf.IndexConf.{IndexConf}
 use Rattle.ql_grammar.specs.declared.select.Select.{Select}
 use Rattle.ql_grammar.specs.declared.statement.Statement.{Statement}
 use Rattle.ql_grammar.specs.declared.statement.Val.{Val}
+use Rattle.ql_select.specs.declared.selection.Selection.{Selection}
 use Rattle.ql_answers.specs.declared.plan.Plan.{Plan}
 use Rattle.ql_answers.specs.declared.plan.Plan.TheVariants.{Show, Search, Insert}
-use Rattle.ql_answers.specs.declared.result_set.ResultSet.{ResultSet}
+use Rattle.reply_rows.specs.declared.result_set.ResultSet.{ResultSet}
 use Rattle.ql_answers.specs.Indexes.{index_fault, Serves}
-use Rattle.ql_answers.specs.Refusals.{Refused}
+use Rattle.ql_refusals.specs.Refusals.{Refused}
 use Rattle.ql_answers.specs.Reading.{WantsSearch, RefusesSelect}
 use Rattle.ql_answers.specs.Showing.{description}
 use Rattle.ql_answers.specs.Writing.{WantsInsert, RefusesInsert}
@@ -23,7 +24,7 @@ Planned confs statement (Err causes.NoMemory) = TakesMemory statement
 Planned confs statement (Err (causes.Fault refusal)) = Refuses confs statement refusal
 
 abbrev pub PlansSelect : List IndexConf → Select → Result Plan (Or Refused) → Type 0
-PlansSelect confs select (Ok plan) = (place : ℕ) × (word : List ℕ) × WantsSearch confs select place word × (plan ≡ Search place word)
+PlansSelect confs select (Ok plan) = (place : ℕ) × (selection : Selection) × WantsSearch confs select place selection × (plan ≡ Search place selection)
 PlansSelect confs select (Err causes.NoMemory) = Unit {0}
 PlansSelect confs select (Err (causes.Fault refusal)) = RefusesSelect confs select refusal
 

@@ -2,7 +2,7 @@
 use Rattle.std.specs.Prelude.{◌≡◌, ◌<◌, ℕ, List, Some, None, Result, Ok, Err, length}
 use Rattle.conf_text.specs.declared.conf.IndexConf.{IndexConf}
 use Rattle.ql_answers.specs.Indexes.{index_fault, place_of}
-use Rattle.ql_answers.specs.Refusals.{Refused}
+use Rattle.ql_refusals.specs.Refusals.{Refused}
 
 abbrev pub ServedOr : List IndexConf → List ℕ → Result ℕ Refused → Type 0
 ServedOr confs name (Ok place) = (index_fault confs name ≡ None) × (place_of confs name ≡ Some place) × (place < length confs)

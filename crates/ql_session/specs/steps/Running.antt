@@ -13,7 +13,7 @@ use Rattle.ql_answers.specs.declared.event.Need.{Need}
 use Rattle.ql_answers.specs.declared.plan.Plan.{Plan}
 use Rattle.ql_answers.specs.declared.plan.Plan.TheVariants.{Agree}
 use Rattle.ql_answers.specs.Plans.{Wants}
-use Rattle.ql_answers.specs.Refusals.{Refused, no_memory}
+use Rattle.ql_refusals.specs.Refusals.{Refused, no_memory}
 use Rattle.ql_answers.specs.Replies.{Reply, Fails, payloads}
 use Rattle.ql_answers.specs.Sessions.{State, Standing, Happened, Decides, is_refusal, is_small, need_of, status_of}
 use Rattle.ql_session.specs.Tables.{Tables, Event, NoMemory, Committed, Duplicate, Follows}

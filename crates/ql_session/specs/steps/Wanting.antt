@@ -1,9 +1,11 @@
 -- What holds of a plan that some statement wants.
 use Rattle.std.specs.Prelude.{◌≡◌, ℕ, List, Some, slice_get}
 use Rattle.doc_types.specs.declared.transactions.Txn.{Txn}
+use Rattle.doc_types.specs.Schemas.{IsSchema}
 use Rattle.doc_types.specs.Transactions.{IsTxnOf}
 use Rattle.plain_store.specs.Commits.{AreInsertions}
 use Rattle.conf_text.specs.declared.conf.IndexConf.{IndexConf}
+use Rattle.doc_search.specs.Searches.{IsAskedOf}
 use Rattle.ql_answers.specs.declared.plan.Plan.{Plan}
 use Rattle.ql_answers.specs.declared.plan.Plan.TheVariants.{Search, Insert}
 
@@ -14,8 +16,9 @@ pub record CanCommit (confs : List IndexConf) (place : ℕ) (txn : Txn) : Type 0
   pub of : IsTxnOf conf.schema txn
   pub insertions : AreInsertions txn.ops
 
--- What the plan wants of an index can be had: the index is there.
+-- What the plan wants of an index can be had: the index is there, and what is asked is asked of its columns.
 abbrev pub IsSoundPlan : List IndexConf → Plan → Type 0
-IsSoundPlan confs (Search place word) = (conf : IndexConf) × (slice_get confs place ≡ Some conf)
+IsSoundPlan confs (Search place selection) =
+    (conf : IndexConf) × (slice_get confs place ≡ Some conf) × (IsSchema conf.schema → IsAskedOf conf.schema selection.question)
 IsSoundPlan confs (Insert place txn) = CanCommit confs place txn
 IsSoundPlan confs plan = Unit {0}

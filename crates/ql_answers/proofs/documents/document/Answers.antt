@@ -4,7 +4,7 @@ use Rattle.std.proofs.lemmas.Grind.{common_steps}
 use Rattle.doc_types.specs.declared.documents.Doc.{Doc}
 use Rattle.ql_answers.specs.Writing.{blank, Fills}
 use Rattle.ql_answers.specs.steps.Documents.{IsShaped}
-use Rattle.ql_answers.specs.declared.columns.Target.TheVariants.{Id}
+use Rattle.ql_refusals.specs.declared.columns.Target.TheVariants.{Id}
 use Rattle.ql_answers.proofs.Filling.{Fills-more, good_rest}
 use Rattle.ql_answers.proofs.documents.document.Goals as goal
 

@@ -1,6 +1,6 @@
 use Rattle.std.proofs.Common.{refl, subst}
 use Rattle.ql_answers.specs.declared.plan.Plan.TheVariants.{Insert}
-use Rattle.ql_answers.specs.Refusals.{Refused, duplicate_id}
+use Rattle.ql_refusals.specs.Refusals.{Refused, duplicate_id}
 use Rattle.ql_answers.specs.Replies.{Fails}
 use Rattle.ql_answers.specs.Sessions.{Duplicate}
 use Rattle.ql_answers.specs.steps.Answering.{SaysReply}

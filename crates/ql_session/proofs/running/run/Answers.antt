@@ -1,5 +1,5 @@
 use Rattle.std.proofs.Common.{refl, inl, inr, subst}
-use Rattle.ql_answers.specs.Refusals.{Refused, no_memory}
+use Rattle.ql_refusals.specs.Refusals.{Refused, no_memory}
 use Rattle.ql_answers.specs.Replies.{Fails}
 use Rattle.ql_session.specs.Tables.{Nothing, NoMemory}
 use Rattle.ql_session.specs.steps.Running.{SaysReply}

@@ -1,7 +1,0 @@
-use Rattle.std.proofs.Common.{Ok}
-use Rattle.std.specs.declared.alloc.AllocError.{AllocError}
-use Rattle.std.proofs.lemmas.Iterator.{YieldsList-from_chars, items_from_collect}
-use Rattle.ql_answers.proofs.reading.characters.Goals as goal
-
-pub returns : goal.returns
-returns c = items_from_collect {E = AllocError} (Ok c.in_ok-list.list) c.in_ok-list.ensures.ran (YieldsList-from_chars c.args.text.now c.utf8.text c.chars.ensures.rest)
