@@ -14,3 +14,7 @@ pub mod Moved
 pub mod Counting
 -- the rows that a collector keeps
 pub mod Collected
+-- whether a number is in a list, by a search among the same numbers in order
+pub mod Listed
+-- conditions on the weight, and those on other columns
+pub mod InTwoParts

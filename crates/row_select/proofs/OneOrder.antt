@@ -1,9 +1,8 @@
 -- Rows of which no two have one id are in order in one way only.
-use Rattle.std.proofs.Common.{◌≡◌, ◌≢◌, ℕ, ◌<◌, Bool, true, false, List, [], ◌∷◌, AllPairs, length, map, get_or, refl, sym, ◌∙◌, ap, subst, arith}
+use Rattle.std.proofs.Common.{◌≡◌, ◌≢◌, ◌↔◌, ℕ, ◌<◌, Bool, true, false, List, [], ◌∷◌, AllPairs, length, map, get_or, refl, sym, ◌∙◌, ap, subst, arith}
 use mathlib.Core.Bool.{true≢false}
 use Rattle.std.specs.Bool.{Decides}
-use Rattle.std.specs.Cmp.{IsStrictWeakOrder}
-use Rattle.std.specs.List.{IsDistinct}
+use Rattle.std.specs.List.{Contains, IsDistinct}
 use Rattle.std.specs.List.Sorted.{IsPermutation}
 use Rattle.std.specs.Ordering.{eq_by_cmp, nat_cmp, is_eq, is_lt, ordering_then, ordering_reverse}
 use Rattle.std.specs.declared.cmp.Ordering.{Ordering}
@@ -11,7 +10,7 @@ use Rattle.std.specs.declared.cmp.Ordering.TheVariants.{Less, Equal, Greater}
 use Rattle.std.proofs.Math.ListN.{get_or-map}
 use Rattle.std.proofs.lemmas.Cmp.{eq_by_cmp_equiv, nat_cmp_total}
 use Rattle.std.proofs.lemmas.List.{length-map}
-use Rattle.std.proofs.lemmas.List.Sorted.{Contains-permutation, IsPermutation-map, IsPermutation-sym, IsPermutation-trans, ranks_by}
+use Rattle.std.proofs.lemmas.List.Sorted.{Contains-permutation, IsPermutation-map, IsPermutation-sym}
 use Rattle.std.proofs.lemmas.Map.Keys.{IsDistinct-IsPermutation}
 use Rattle.std.proofs.lemmas.Map.Lookups.{exact_unsigned}
 use Rattle.std.proofs.lemmas.Map.Made.{AllPairs-from_IsDistinct, IsDistinct-from_AllPairs}
@@ -21,6 +20,7 @@ use Rattle.row_select.specs.declared.order.Order.{Order}
 use Rattle.row_select.specs.declared.row.ColumnRef.{ColumnRef}
 use Rattle.row_select.specs.declared.row.Row.{Row}
 use Rattle.row_select.proofs.Ordered.{by_keys_total}
+use Rattle.row_select.proofs.Selected.{precedes, precedes_ranks}
 use Rattle.row_select.proofs.Sorting.{one_list, rises_from_sorted}
 
 abbrev AreApart : List Row → Type 0
@@ -74,12 +74,16 @@ before : (keys : List (ColumnRef × Bool)) (row later : Row) → is_lt (by_keys 
 before keys row later not_back apart =
     comes_first (by_keys keys row later) (by_keys keys later row) ((by_keys_total keys).antisymm later row) not_back (λ is. apart (same_id keys row later is))
 
-pub one_order : (rows xs ys : List Row) (order : Order) → AreApart rows → AreInOrder order rows xs → AreInOrder order rows ys → xs ≡ ys
-one_order rows xs ys order apart one other =
-    let keys = order.keys in
-    let ranks : IsStrictWeakOrder (λ (row later : Row). is_lt (by_keys keys row later)) = ranks_by (by_keys_total keys) (λ (row : Row). row) in
-    one_list (λ row later. is_lt (by_keys keys row later)) ranks xs ys
-    (λ i j d below low. before keys (get_or xs i d) (get_or xs j d) (rises_from_sorted (λ (row later : Row). is_lt (by_keys keys row later)) ranks xs one.ascend i j d below low) (apart_permutation rows xs one.same apart i j d below low))
-    (λ i j d below low. before keys (get_or ys i d) (get_or ys j d) (rises_from_sorted (λ (row later : Row). is_lt (by_keys keys row later)) ranks ys other.ascend i j d below low) (apart_permutation rows ys other.same apart i j d below low))
-    (λ z there. Contains-permutation xs ys z (IsPermutation-trans xs rows ys (IsPermutation-sym rows xs one.same) other.same) there)
-    (λ z there. Contains-permutation ys xs z (IsPermutation-trans ys rows xs (IsPermutation-sym rows ys other.same) one.same) there)
+-- in order each comes before all later ones
+climbs : (rows sorted : List Row) (order : Order) → AreApart rows → AreInOrder order rows sorted → AllPairs (λ row later. is_lt (by_keys order.keys row later) ≡ true) sorted
+climbs rows sorted order apart its i j d below low =
+    before order.keys (get_or sorted i d) (get_or sorted j d)
+    (rises_from_sorted (precedes order) (precedes_ranks order) sorted its.ascend i j d below low)
+    (apart_permutation rows sorted its.same apart i j d below low)
+
+-- the same rows, listed in two orders
+pub one_order : (rows others xs ys : List Row) (order : Order) → AreApart rows → AreApart others → ((row : Row) → Contains rows row ↔ Contains others row) → AreInOrder order rows xs → AreInOrder order others ys → xs ≡ ys
+one_order rows others xs ys order apart others_apart same one other =
+    one_list (precedes order) (precedes_ranks order) xs ys (climbs rows xs order apart one) (climbs others ys order others_apart other)
+    (λ row there. Contains-permutation others ys row other.same ((same row).0 (Contains-permutation xs rows row (IsPermutation-sym rows xs one.same) there)))
+    (λ row there. Contains-permutation rows xs row one.same ((same row).1 (Contains-permutation ys others row (IsPermutation-sym others ys other.same) there)))

@@ -1,2 +1,3 @@
 pub mod Collecting
+pub mod Listing
 pub mod Selecting

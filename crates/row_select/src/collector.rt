@@ -15,9 +15,9 @@ use std::marker::Model;
 
 /// The rows that a page may need, of those that were offered so far.
 ///
-/// It keeps at most twice as many rows as there are up to the page's end, and copies no other row. Whenever there are so many,
-/// those that come first are put in order and the others let go of; from then on a row that comes after all of these costs one
-/// comparison.
+/// It keeps copies of at most twice as many rows as there are up to the page's end. Whenever there are so many, those that come
+/// first are put in order and the others let go of; from then on a row that comes after all of these costs one comparison, and
+/// isn't copied.
 #[derive(Drop)]
 pub struct Collector<'a> {
     order: &'a Order,

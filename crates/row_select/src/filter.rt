@@ -1,6 +1,6 @@
 //! The conditions of WHERE on columns (the manual of Sphinx, "SELECT syntax").
 ghost use Rattle.std.specs.Prelude.{◌≡◌};
-ghost use Rattle.row_select.specs.Filters.{compares, holds};
+ghost use Rattle.row_select.specs.Filters.{compares, holds, is_weighed};
 
 use crate::row::{ColumnRef, Row};
 use srch_base::Items;
@@ -54,6 +54,17 @@ impl Filter {
                 let value = column.value(row);
                 *low <= value && value <= *high
             }
+        }
+    }
+
+    /// Whether the condition is one on the weight.
+    pub(crate) fn is_weighed(&self) -> bool
+        ensures { result ≡ is_weighed self.now }
+    {
+        match self {
+            Filter::Compare { column, .. }
+            | Filter::Among { column, .. }
+            | Filter::Between { column, .. } => column.is_weight(),
         }
     }
 }

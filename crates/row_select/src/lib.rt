@@ -2,17 +2,17 @@
 #![tactic(auto)]
 
 mod collector;
+mod conditions;
 mod filter;
 mod laws;
 mod order;
 mod page;
 mod row;
-#[cfg(test)]
-mod tests;
 
 pub use collector::Collector;
+pub use conditions::Conditions;
 pub use filter::{CompareOp, Filter};
-pub use laws::a_page_is_one_list;
+pub use laws::{a_page_is_one_list, conditions_hold_in_two_parts};
 pub use order::Order;
 pub use page::{Page, top};
 pub use row::{ColumnRef, Row};

@@ -1,6 +1,7 @@
 //! A document that a select found, as its conditions and its order see it.
 ghost use Rattle.std.specs.Prelude.{◌≡◌, IfOk};
 ghost use Rattle.row_select.specs.Columns.{column_value};
+ghost use Rattle.row_select.specs.Filters.{is_weight};
 
 use doc_types::Value;
 use srch_base::{Items, NoMemory};
@@ -59,5 +60,11 @@ impl ColumnRef {
             },
             ColumnRef::Weight => i128::from(row.weight),
         }
+    }
+
+    pub(crate) fn is_weight(self) -> bool
+        ensures { result ≡ is_weight self }
+    {
+        matches!(self, ColumnRef::Weight)
     }
 }

@@ -1,0 +1,127 @@
+//! The conditions of a search, made ready once and then asked of many rows.
+ghost use Rattle.std.specs.Prelude.{◌≡◌, IfOk};
+ghost use Rattle.std.specs.List.Sorted.{IsSorted};
+ghost use Rattle.std.specs.Ordering.{int_cmp};
+ghost use Rattle.row_select.specs.Filters.{hold_unweighed, hold_weighed, holds, is_among, is_weighed};
+ghost use Rattle.row_select.specs.steps.Listing.{AreListed};
+
+use crate::filter::Filter;
+use crate::row::Row;
+use srch_base::NoMemory;
+use std::alloc::Global;
+use std::marker::Model;
+
+/// The conditions of a search, ready to be asked of many rows.
+///
+/// They keep the numbers of each list in order, so that a row's number is looked up by halving: the time that a list of n
+/// numbers takes for a row grows with the logarithm of n. To ask takes no memory.
+#[derive(Drop)]
+pub struct Conditions<'a> {
+    list: Vec<Condition<'a>>,
+}
+
+impl<'a> Model for Conditions<'a> {
+    ghost use Rattle.std.specs.Prelude.{List};
+    ghost use Rattle.row_select.specs.declared.filter.Filter.{Filter};
+
+    ghost Value = { List Filter };
+
+    ghost view = { λ a. a.list.items };
+}
+
+impl<'a> Conditions<'a> {
+    /// Takes 16 bytes for each number of a list.
+    pub fn over(alloc: Global, filters: &'a [Filter]) -> Result<Conditions<'a>, NoMemory>
+        ensures { IfOk result (λ conditions. conditions ≡ filters.now) }
+    {
+        let mut list = Vec::with_capacity(alloc, filters.len())?;
+        for filter in filters {
+            list.push(Condition::over(alloc, filter)?)?;
+        }
+        Ok(Conditions { list })
+    }
+
+    /// Whether those conditions hold of a row that aren't on its weight. They may be asked before it has one.
+    pub fn hold_unweighed(&self, row: &Row) -> bool
+        ensures { result ≡ hold_unweighed self.now row.now }
+    {
+        self.list
+            .iter()
+            .all(|condition| condition.is_weighed() || condition.holds(row))
+    }
+
+    /// Whether those hold that are on its weight.
+    pub fn hold_weighed(&self, row: &Row) -> bool
+        ensures { result ≡ hold_weighed self.now row.now }
+    {
+        self.list.iter().all(|condition| !condition.is_weighed() || condition.holds(row))
+    }
+}
+
+/// A condition, with the numbers that it lists, in order.
+#[derive(Drop)]
+struct Condition<'a> {
+    filter: &'a Filter,
+    listed: Vec<i128>,
+}
+
+impl<'a> Model for Condition<'a> {
+    ghost use Rattle.row_select.specs.declared.filter.Filter.{Filter};
+    ghost use Rattle.row_select.specs.steps.Listing.{AreListed};
+
+    ghost Value = { Filter };
+
+    ghost view = { λ a. a.filter.now };
+
+    ghost invariant = { λ a. AreListed a.filter.now a.listed.items };
+}
+
+impl<'a> Condition<'a> {
+    fn over(alloc: Global, filter: &'a Filter) -> Result<Condition<'a>, NoMemory>
+        ensures { IfOk result (λ condition. condition ≡ filter.now) }
+    {
+        let listed = listed_in_order(alloc, filter)?;
+        Ok(Condition { filter, listed })
+    }
+
+    fn is_weighed(&self) -> bool
+        ensures { result ≡ is_weighed self.now }
+    {
+        self.filter.is_weighed()
+    }
+
+    fn holds(&self, row: &Row) -> bool
+        ensures { result ≡ holds self.now row.now }
+    {
+        match self.filter {
+            Filter::Among {
+                column,
+                negated,
+                ..
+            } => stands_among(&self.listed, &column.value(row)) != *negated,
+            filter => filter.holds(row),
+        }
+    }
+}
+
+/// The numbers that a condition lists, in order.
+fn listed_in_order(alloc: Global, filter: &Filter) -> Result<Vec<i128>, NoMemory>
+    ensures { IfOk result (λ numbers. AreListed filter.now numbers.items) }
+{
+    match filter {
+        Filter::Among { values, .. } => {
+            let mut numbers = Vec::from_slice(alloc, values.as_slice())?;
+            numbers.sort_unstable();
+            Ok(numbers)
+        }
+        _ => Ok(Vec::new(alloc)),
+    }
+}
+
+/// Whether a number is among others that are in order.
+fn stands_among(numbers: &[i128], number: &i128) -> bool
+    requires { IsSorted int_cmp numbers.now }
+    ensures { result ≡ is_among numbers.now number.now }
+{
+    numbers.binary_search(number).is_ok()
+}
