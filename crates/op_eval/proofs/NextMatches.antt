@@ -1,22 +1,24 @@
--- The next row that matches a query: what a search that goes from row to row leaves behind, and that a tree finds what its query does.
-use Rattle.std.proofs.Common.{◌≡◌, ℕ, ◌+◌, ◌<◌, ◌≤◌, Bool, false, true, cond, List, [], ◌∷◌, ◌++◌, length, get_or, Option, Some, None, Bor, sym, ap, ◌∙◌, subst, arith}
-use Rattle.std.specs.Prelude.{slice_get, ◌&&◌, ◌==◌, not, unwrap_or}
+-- The next row that may match a query: what a search that goes from row to row leaves behind, and that a tree finds what its query does.
+use Rattle.std.proofs.Common.{◌≡◌, ℕ, ◌+◌, ◌<◌, ◌≤◌, false, true, cond, List, [], ◌∷◌, ◌++◌, length, get_or, Option, Some, None, Bor, sym, ap, ◌∙◌, subst, arith, ◌^◌}
+use Rattle.std.specs.Prelude.{slice_get, ◌&&◌, ◌==◌, not, unwrap_or, AllPairs}
 use Rattle.std.specs.List.{list_any}
-use Rattle.std.proofs.lemmas.Option.{slice_get-get_or}
+use Rattle.std.proofs.Math.Bool.{and-true}
+use Rattle.std.proofs.lemmas.Bool.{and_right}
+use Rattle.std.proofs.lemmas.Option.{get_or_from_slice_get, slice_get-get_or, slice_get_within}
 use Rattle.doc_types.specs.declared.cursor.Cursor.{Cursor}
 use Rattle.doc_types.specs.declared.documents.DocRow.{DocRow}
 use Rattle.doc_types.specs.Chunks.{Place}
-use Rattle.doc_types.specs.declared.hits.Hits.{Hits}
 use Rattle.query_grammar.specs.declared.query.Node.{Node}
 use Rattle.query_grammar.specs.declared.query.Query.{Query}
 use Rattle.op_eval.specs.declared.search.Search.{Search}
-use Rattle.op_eval.specs.Matching.{query_finds}
-use Rattle.op_eval.specs.Streams.{Stream, TakesNext, matching_from}
+use Rattle.query_grammar.specs.DeepValues.{query_keys}
+use Rattle.op_eval.specs.Matching.{matches, query_finds}
+use Rattle.op_eval.specs.Streams.{Stream, ahead}
 use Rattle.op_eval.specs.steps.Searching.{IsFirstOf, IsSearch, node_found}
-use Rattle.op_eval.specs.steps.Streaming.{IsFirst, LooksFrom, is_matching, numbers_from}
+use Rattle.op_eval.specs.steps.Streaming.{IsFirstOpen, IsStream, LooksFrom, StandsAt, is_matching, numbers_from}
 use Rattle.op_eval.specs.steps.Wanted.{is_wanted, lives}
 use Rattle.op_eval.proofs.RowsAhead.{end_ahead, none_ahead, row_ahead}
-use Rattle.op_eval.proofs.Searches.{search_from, search_of}
+use Rattle.op_eval.proofs.Searches.{own_search, search_from, search_of}
 
 -- the search at a later row, under another name of its tree
 pub search_at : (belongs : Cursor → Type 0) (place : Cursor → Place) (rows : List DocRow) (from row : ℕ) (other root : Node) (search : Search) → from ≤ row → other ≡ root → IsSearch belongs place rows from other search → IsSearch belongs place rows row root search
@@ -32,45 +34,51 @@ module _ (root : Node) (dead : List ℕ) where
       none_ahead (is_wanted root dead) (r ∷ rows) low (unwrap_or next (length (r ∷ rows))) r up within
       (λ row above below. ap (λ b. b && lives dead row) (first.between row (get_or (r ∷ rows) row r) above below (slice_get-get_or (r ∷ rows) row r (omega (arith, below, within)))))
 
-  -- the row itself, as it is told
-  this_row : (rows : List DocRow) (row : ℕ) (told : Bool) → row < length rows → ((its : DocRow) → slice_get rows row ≡ Some its → told ≡ is_wanted root dead (row, its)) → numbers_from (is_wanted root dead) row rows ≡ cond told (row ∷ []) [] ++ numbers_from (is_wanted root dead) (row + 1) rows
-  this_row [] row told within is = absurd (omega arith)
-  this_row (r ∷ rows) row told within is =
-      row_ahead (is_wanted root dead) (r ∷ rows) row r told within (sym (is (get_or (r ∷ rows) row r) (slice_get-get_or (r ∷ rows) row r within)))
+  -- nor the row itself, if it isn't wanted
+  not_this : (rows : List DocRow) (row : ℕ) → row < length rows → ((its : DocRow) → slice_get rows row ≡ Some its → is_wanted root dead (row, its) ≡ false) → numbers_from (is_wanted root dead) row rows ≡ numbers_from (is_wanted root dead) (row + 1) rows
+  not_this [] row within is = absurd (omega arith)
+  not_this (r ∷ rows) row within is = row_ahead (is_wanted root dead) (r ∷ rows) row r false within (is (get_or (r ∷ rows) row r) (slice_get-get_or (r ∷ rows) row r within))
 
 module _ (belongs : Cursor → Type 0) (place : Cursor → Place) (rows : List DocRow) (root : Node) (dead : List ℕ) (start from : ℕ) (before : Search) (looks : LooksFrom belongs place rows root dead start from before) where
-  -- the next row that may match was told of
-  to_row : (row : ℕ) (there : Search) (told : Bool) → IsFirstOf rows before.root.now from (Some row) → there.root ≡ before.root → ((its : DocRow) → slice_get rows row ≡ Some its → told ≡ is_wanted there.root.now dead (row, its)) → numbers_from (is_wanted root dead) start rows ≡ cond told (row ∷ []) [] ++ numbers_from (is_wanted root dead) (row + 1) rows
-  to_row row there told first same is =
-      let tree : there.root.now ≡ root = ap (λ (tree : Bor Node). tree.now) same ∙ looks.tree in
+  -- nothing is lost up to the next row that may match
+  to_row : (row : ℕ) → IsFirstOf rows before.root.now from (Some row) → numbers_from (is_wanted root dead) start rows ≡ numbers_from (is_wanted root dead) row rows
+  to_row row first =
       looks.ahead
       ∙ up_to root dead rows from (Some row) first.within.0 (omega (arith, first.within.1)) (subst (λ tree. IsFirstOf rows tree from (Some row)) looks.tree first)
-      ∙ this_row root dead rows row told first.within.1 (λ its here. is its here ∙ ap (λ tree. is_wanted tree dead (row, its)) tree)
 
   -- it isn't wanted
-  pub looks_on : (row : ℕ) (there later : Search) → IsFirstOf rows before.root.now from (Some row) → there.root ≡ before.root → later.root ≡ there.root → IsSearch belongs place rows row there.root.now later → ((its : DocRow) → slice_get rows row ≡ Some its → false ≡ is_wanted there.root.now dead (row, its)) → LooksFrom belongs place rows root dead start (row + 1) later
-  looks_on row there later first same stays at is = record {
-    within = omega (arith, first.within.1);
-    tree = ap (λ (tree : Bor Node). tree.now) (stays ∙ same) ∙ looks.tree;
-    at = search_of belongs place rows row (row + 1) there later (omega arith) stays at;
-    ahead = to_row row there false first same is;
+  pub looks_on : (row : ℕ) (there later : Search) → IsFirstOf rows before.root.now from (Some row) → there.root ≡ before.root → later.root ≡ there.root → IsSearch belongs place rows row there.root.now later → ((its : DocRow) → slice_get rows row ≡ Some its → is_wanted there.root.now dead (row, its) ≡ false) → LooksFrom belongs place rows root dead start (row + 1) later
+  looks_on row there later first same stays at is =
+      let tree : there.root.now ≡ root = ap (λ (tree : Bor Node). tree.now) same ∙ looks.tree in
+      record {
+        on = omega (arith, looks.on, first.within.0);
+        within = omega (arith, first.within.1);
+        tree = ap (λ (tree : Bor Node). tree.now) stays ∙ tree;
+        at = search_of belongs place rows row (row + 1) there later (omega arith) stays at;
+        ahead = to_row row first ∙ not_this root dead rows row first.within.1 (λ its here. ap (λ node. is_wanted node dead (row, its)) (sym tree) ∙ is its here);
+      }
+
+  -- it may be
+  pub is_first : (row : ℕ) → IsFirstOf rows before.root.now from (Some row) → list_any (λ d. d == row) dead ≡ false → IsFirstOpen (is_wanted root dead) dead rows start (Some row)
+  is_first row first living = record {
+    on = omega (arith, looks.on, first.within.0);
+    within = first.within.1;
+    living = living;
+    passed = sym (to_row row first);
   }
 
-  -- it is wanted
-  pub comes_first : (row : ℕ) (there : Search) → IsFirstOf rows before.root.now from (Some row) → there.root ≡ before.root → ((its : DocRow) → slice_get rows row ≡ Some its → true ≡ is_wanted there.root.now dead (row, its)) → IsFirst (is_wanted root dead) rows start (Some row)
-  comes_first row there first same is = (first.within.1, to_row row there true first same is)
-
   -- no row is left
-  pub none_left : IsFirstOf rows before.root.now from None → IsFirst (is_wanted root dead) rows start None
+  pub none_left : IsFirstOf rows before.root.now from None → IsFirstOpen (is_wanted root dead) dead rows start None
   none_left first =
       looks.ahead
       ∙ up_to root dead rows from None looks.within (omega arith) (subst (λ tree. IsFirstOf rows tree from None) looks.tree first)
       ∙ end_ahead (is_wanted root dead) rows (length rows) (omega arith)
 
--- the row itself, dead or not
-pub living_row : (rows : List DocRow) (dead : List ℕ) (row : ℕ) (gone : Bool) → row < length rows → gone ≡ list_any (λ d. d == row) dead → numbers_from (λ (e : ℕ × DocRow). lives dead e.0) row rows ≡ cond (not gone) (row ∷ []) [] ++ numbers_from (λ (e : ℕ × DocRow). lives dead e.0) (row + 1) rows
-living_row [] dead row gone within is = absurd (omega arith)
-living_row (r ∷ rows) dead row gone within is = row_ahead (λ (e : ℕ × DocRow). lives dead e.0) (r ∷ rows) row r (not gone) within (ap not (sym is))
+-- a row that is dead is passed over
+pub dead_row : (query : Query) (rows : List DocRow) (dead : List ℕ) (row : ℕ) → row < length rows → list_any (λ d. d == row) dead ≡ true → numbers_from (is_matching query dead) row rows ≡ numbers_from (is_matching query dead) (row + 1) rows
+dead_row query [] dead row within gone = absurd (omega arith)
+dead_row query (r ∷ rows) dead row within gone =
+    row_ahead (is_matching query dead) (r ∷ rows) row r false within (and_right (matches query (get_or (r ∷ rows) row r)) (not (list_any (λ d. d == row) dead)) (ap not gone))
 
 -- ---- a query and its tree
 matching_root : (tree : Option Node) (keywords : ℕ) (root : Node) (dead : List ℕ) → tree ≡ Some root → is_wanted root dead ≡ is_matching (record { root = tree; keywords = keywords }) dead
@@ -87,13 +95,38 @@ finds_root (Some node) keywords root is = let same : root ≡ node = cc in ap no
 pub tree_finds : (query : Query) (root : Node) → query.root ≡ Some root → node_found root ≡ query_finds query
 tree_finds query root is = finds_root query.root query.keywords root is
 
--- ---- what is taken
-pub row_within : (passes : ℕ × DocRow → Bool) (rows : List DocRow) (from row : ℕ) (next : Option ℕ) → next ≡ Some row → IsFirst passes rows from next → row < length rows
-row_within passes rows from row None is first = cc
-row_within passes rows from row (Some next) is first = let same : next ≡ row = cc in omega (arith, first.0, same)
+-- ---- where a stream stands
+module _ (belongs : Cursor → Type 0) (place : Cursor → Place) (rows : List DocRow) (query : Query) where
+  tree_of : (from : ℕ) (search : Option Search) (old : Search) → search ≡ Some old → StandsAt belongs place rows from query search → query.root ≡ Some old.root.now
+  tree_of from None old is stands = cc
+  tree_of from (Some its) old is stands = let same : its ≡ old = cc in stands.0 ∙ ap (λ (search : Search). Some search.root.now) same
 
-pub nothing_taken : (query : Query) (rows : List DocRow) (dead : List ℕ) (from to : ℕ) (next : Option ℕ) (old : Stream) (hits : Hits) → next ≡ None → IsFirst (is_matching query dead) rows from next → to ≡ length rows → record { query = query; rows = rows; ahead = matching_from from query rows dead } ≡ old → TakesNext old next hits (record { query = query; rows = rows; ahead = matching_from to query rows dead })
-nothing_taken query rows dead from to None old hits is first end same =
-    subst (λ (old : Stream). TakesNext old None hits (record { query = query; rows = rows; ahead = matching_from to query rows dead })) same
-    (first, ap (λ (ahead : List ℕ). record { query = query; rows = rows; ahead = ahead }) (end_ahead (is_matching query dead) rows to (omega (arith, end)) ∙ sym first))
-nothing_taken query rows dead from to (Some row) old hits is first end same = cc
+  -- the query's matches are those of the tree of the search that is there
+  pub opens_for : (from : ℕ) (dead : List ℕ) (next : Option ℕ) (search : Option Search) (old : Search) → search ≡ Some old → StandsAt belongs place rows from query search → IsFirstOpen (is_wanted old.root.now dead) dead rows from next → IsFirstOpen (is_matching query dead) dead rows from next
+  opens_for from dead next search old is stands first = subst (λ passes. IsFirstOpen passes dead rows from next) (tree_matches query old.root.now dead (tree_of from search old is stands)) first
+
+  -- and it stays of that tree
+  pub stands_now : (from to : ℕ) (search : Option Search) (old new : Search) → search ≡ Some old → IsSearch belongs place rows to old.root.now new → StandsAt belongs place rows from query search → StandsAt belongs place rows to query (Some new)
+  stands_now from to search old new is at stands = (tree_of from search old is stands ∙ ap Some (sym at.root), own_search belongs place rows to to old.root.now new (omega arith) at)
+
+  -- what has gone over no row from one on has gone over none from a later one on
+  pub stands_later : (from row : ℕ) (search : Option Search) → from ≤ row → StandsAt belongs place rows from query search → StandsAt belongs place rows row query search
+  stands_later from row None up stands = tt
+  stands_later from row (Some search) up stands = (stands.0, search_from belongs place rows from row search.root.now search up stands.1)
+
+  -- it is behind the row at which it stood
+  pub behind : (from : ℕ) (dead : List ℕ) (search : Option Search) → from < length rows → length (query_keys query) < 2 ^ 16 → AllPairs (λ row later. row < later) dead → StandsAt belongs place rows from query search → IsStream belongs place rows (from + 1) query dead search
+  behind from dead search within few ascend stands = record {
+    within = omega (arith, within);
+    few = few;
+    ascend = ascend;
+    stands = stands_later from (from + 1) search (omega arith) stands;
+  }
+
+-- the row at which a stream stands is ahead of it where it matches
+pub ahead_here : (stream : Stream) (doc : DocRow) → slice_get stream.rows stream.at ≡ Some doc → list_any (λ d. d == stream.at) stream.dead ≡ false → ahead stream ≡ cond (matches stream.query doc) (stream.at ∷ []) [] ++ ahead (record stream { at = stream.at + 1 })
+ahead_here stream doc there living =
+    row_ahead (is_matching stream.query stream.dead) stream.rows stream.at doc (matches stream.query doc) (slice_get_within stream.rows stream.at doc there)
+    (ap (λ row. matches stream.query row && not (list_any (λ d. d == stream.at) stream.dead)) (get_or_from_slice_get stream.rows stream.at doc doc there)
+    ∙ ap (λ b. matches stream.query doc && not b) living
+    ∙ and-true (matches stream.query doc))

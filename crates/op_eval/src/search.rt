@@ -79,6 +79,17 @@ impl<'q> Search<'q> {
         }
     }
 
+    /// Whether the row may match, as far as its words tell.
+    pub(crate) fn may_match<C: Chunk>(&mut self, chunk: &C, row: u32) -> bool
+        requires { IsSearch (C.belongs chunk.now) (C.place chunk.now) (C.content chunk.now) row self.old.root.now self.old }
+        ensures root { self.new.root ≡ self.old.root }
+        ensures search { IsSearch (C.belongs chunk.now) (C.place chunk.now) (C.content chunk.now) row self.old.root.now self.new }
+        ensures passed { result ≡ false → (found : DocRow) → slice_get (C.content chunk.now) row ≡ Some found → (node_found self.old.root.now found).matches ≡ false }
+    {
+        self.slots.seek(chunk, row);
+        may_match(self.root, &self.slots.terms)
+    }
+
     /// Whether the row matches.
     pub(crate) fn matches<C: Chunk, L: Ledger>(
         &mut self,

@@ -1,16 +1,18 @@
-//! The rows that match a query one after another, each with its hits, for a caller that looks at each of them once.
-ghost use Rattle.std.specs.Prelude.{◌≡◌, ◌<◌, ◌^◌, length, AllPairs, IsTrue, IfOk, OnErr};
+//! The rows that may match a query one after another, for a caller that looks at each of them once: one row is taken, with its hits
+//! where it matches, and another one is passed over, so that no list of its places is opened.
+ghost use Rattle.std.specs.Prelude.{◌≡◌, ◌+◌, ◌<◌, ◌^◌, Some, length, slice_get, AllPairs, IsTrue, IfOk, OnErr, OnOk};
+ghost use Rattle.doc_types.specs.declared.documents.DocRow.{DocRow};
 ghost use Rattle.occ_lists.specs.OccLists.{SameMembers};
 ghost use Rattle.query_grammar.specs.DeepValues.{query_keys};
 ghost use Rattle.op_eval.specs.Hits.{comes_before};
-ghost use Rattle.op_eval.specs.Matching.{matching};
-ghost use Rattle.op_eval.specs.Streams.{TakesNext};
+ghost use Rattle.op_eval.specs.Matching.{matches};
+ghost use Rattle.op_eval.specs.Streams.{GoesOn, Takes};
 ghost use Rattle.op_eval.specs.steps.Streaming.{StandsAt};
 
 use crate::calls::sort_hits;
 use crate::finding::Finding;
 use crate::search::Search;
-use crate::wanted::first_match;
+use crate::wanted::{find_row, first_open, row_matches};
 use doc_types::{Chunk, Hit, Hits};
 use query_grammar::Query;
 use srch_base::{Items, NoMemory, Steps};
@@ -19,9 +21,11 @@ use std::marker::Model;
 use std::mem;
 use std::sync::ledger::Ledger;
 
-/// The rows of a chunk that match a query and aren't dead, one after another, each with its hits.
+/// A query on its way over the rows of a chunk.
 ///
-/// After want of memory each further call answers that again. Contracts see it as a `Stream`.
+/// `row` goes on to the next row that isn't dead and may match, as far as its words tell. That one is taken, told of without its
+/// hits, or skipped. After want of memory `take` and `matches` answer that again where the query has a keyword. Contracts see it
+/// as a `Stream`.
 #[derive(Drop)]
 pub struct Matches<'a, C: Chunk> {
     query: &'a Query,
@@ -38,20 +42,20 @@ pub struct Matches<'a, C: Chunk> {
 impl<'a, C: Chunk> Model for Matches<'a, C> {
     ghost use Rattle.std.specs.Coded.{codes};
     ghost use Rattle.query_grammar.specs.contracts.query.Node as node;
-    ghost use Rattle.op_eval.specs.Streams.{Stream, matching_from};
+    ghost use Rattle.op_eval.specs.Streams.{Stream};
     ghost use Rattle.op_eval.specs.steps.Streaming.{IsStream};
 
     ghost Value = { Stream };
 
     ghost coded = { Prim.hlevel (codes, node.the_row.coded) };
 
-    ghost view = { λ a. record { query = a.query.now; rows = C.content a.chunk.now; ahead = matching_from a.from a.query.now (C.content a.chunk.now) a.dead.now } };
+    ghost view = { λ a. record { query = a.query.now; rows = C.content a.chunk.now; dead = a.dead.now; at = a.from } };
 
     ghost invariant = { λ a. IsStream (C.belongs a.chunk.now) (C.place a.chunk.now) (C.content a.chunk.now) a.from a.query.now a.dead.now a.search };
 }
 
 impl<'a, C: Chunk> Matches<'a, C> {
-    /// The rows of the chunk that match the query and aren't dead; all are still to come.
+    /// The query before all rows of the chunk.
     pub fn over(
         alloc: Global,
         query: &'a Query,
@@ -60,7 +64,7 @@ impl<'a, C: Chunk> Matches<'a, C> {
     ) -> Result<Matches<'a, C>, NoMemory>
         requires dead { AllPairs (λ row later. row < later) dead.now }
         requires keys { length (query_keys query.now) < 2 ^ 16 }
-        ensures { IfOk result (λ matches. matches ≡ record { query = query.now; rows = C.content chunk.now; ahead = matching query.now (C.content chunk.now) dead.now }) }
+        ensures { IfOk result (λ matches. matches ≡ record { query = query.now; rows = C.content chunk.now; dead = dead.now; at = 0 }) }
     {
         let search = search_of(alloc, query, chunk)?;
         Ok(Matches {
@@ -74,33 +78,64 @@ impl<'a, C: Chunk> Matches<'a, C> {
         })
     }
 
-    /// The next row, if one is left, and its hits in the place of those that are handed in.
-    pub fn next<L: Ledger>(
+    /// Goes on to the next row that isn't dead and may match, as far as its words tell. It stays at one where it stands.
+    pub fn row(&mut self) -> Option<u32>
+        ensures { GoesOn self.old result self.new }
+    {
+        let next = first_open(&mut self.search, self.chunk, self.dead, self.from);
+        match next {
+            Some(row) => self.from = row,
+            None => self.from = self.chunk.rows(),
+        }
+        next
+    }
+
+    /// Whether the row at which it stands matches, and goes on behind it. The hits come in the place of those that are handed in.
+    pub fn take<L: Ledger>(
         &mut self,
         hits: &mut Hits,
         steps: &mut Steps<L>,
-    ) -> Result<Option<u32>, NoMemory>
-        ensures next { IfOk result (λ next. TakesNext self.old next hits.new self.new) }
+    ) -> Result<bool, NoMemory>
+        requires { self.old.at < length self.old.rows }
+        ensures takes { IfOk result (λ told. Takes self.old told hits.old hits.new self.new) }
         ensures same { OnErr result (self.new ≡ self.old) }
+        ensures kept { OnErr result (hits.new ≡ hits.old) }
     {
-        let next = first_match(
+        let told = find_row(
             self.query,
             self.chunk,
-            self.dead,
             self.from,
             &mut self.search,
             &mut self.found,
             steps,
         )?;
-        match next {
-            Some(row) => {
-                self.from = row + 1;
-                hits.keywords = self.query.keywords;
-                hand_over(self.alloc, &mut self.found.hits, &mut hits.list);
-            }
-            None => self.from = self.chunk.rows(),
+        self.from += 1;
+        if told {
+            hits.keywords = self.query.keywords;
+            hand_over(self.alloc, &mut self.found.hits, &mut hits.list);
         }
-        Ok(next)
+        Ok(told)
+    }
+
+    /// Whether the row at which it stands matches, and goes on behind it. Its hits aren't looked for: where its words decide, no
+    /// list of places is opened.
+    pub fn matches<L: Ledger>(&mut self, steps: &mut Steps<L>) -> Result<bool, NoMemory>
+        requires { self.old.at < length self.old.rows }
+        ensures stands { OnOk result (self.new ≡ record self.old { at = self.old.at + 1 }) }
+        ensures told { (doc : DocRow) → slice_get self.old.rows self.old.at ≡ Some doc → IfOk result (λ told. told ≡ matches self.old.query doc) }
+        ensures same { OnErr result (self.new ≡ self.old) }
+    {
+        let told = row_matches(self.query, self.chunk, self.from, &mut self.search, steps)?;
+        self.from += 1;
+        Ok(told)
+    }
+
+    /// Goes on behind the row at which it stands, and doesn't look whether it matches.
+    pub fn skip(&mut self)
+        requires { self.old.at < length self.old.rows }
+        ensures { self.new ≡ record self.old { at = self.old.at + 1 } }
+    {
+        self.from += 1;
     }
 }
 

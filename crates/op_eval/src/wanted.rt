@@ -1,12 +1,14 @@
-//! The first row from one on that matches a query and isn't dead, with what is found in it.
-ghost use Rattle.std.specs.Prelude.{◌≡◌, ◌<◌, ◌≤◌, ◌^◌, Some, length, slice_get, AllPairs, IsTrue, IfOk, OnOk, OnErr};
+//! The next row that isn't dead and may match a query, and what is found in one.
+ghost use Rattle.std.specs.Prelude.{◌≡◌, ◌<◌, ◌≤◌, ◌^◌, ◌==◌, true, false, Some, length, slice_get, unwrap_or, AllPairs, IfSome, IfOk, OnOk};
+ghost use Rattle.std.specs.List.{list_any};
 ghost use Rattle.doc_types.specs.declared.documents.DocRow.{DocRow};
 ghost use Rattle.occ_lists.specs.OccLists.{SameMembers};
-ghost use Rattle.query_grammar.specs.DeepValues.{node_keys};
+ghost use Rattle.query_grammar.specs.DeepValues.{query_keys};
+ghost use Rattle.query_grammar.specs.declared.query.Query.{Query as QueryValue};
 ghost use Rattle.op_eval.specs.Matching.{query_finds};
-ghost use Rattle.op_eval.specs.steps.Searching.{IsSearch, node_found};
-ghost use Rattle.op_eval.specs.steps.Streaming.{HasHits, IsFirst, IsStream, after, is_matching};
-ghost use Rattle.op_eval.specs.steps.Wanted.{is_wanted, lives};
+ghost use Rattle.op_eval.specs.steps.Searching.{IsSearch};
+ghost use Rattle.op_eval.specs.steps.Streaming.{IsFirstOpen, StandsAt, is_matching};
+ghost use Rattle.op_eval.specs.steps.Wanted.{is_wanted};
 
 use crate::calls::is_dead;
 use crate::finding::Finding;
@@ -16,37 +18,30 @@ use query_grammar::Query;
 use srch_base::{NoMemory, Steps};
 use std::sync::ledger::Ledger;
 
-/// The first row from this one on that matches the query and isn't dead. The search is gone after want of memory.
-pub(crate) fn first_match<C: Chunk, L: Ledger>(
-    query: &Query,
+/// The first row from this one on that isn't dead and may match, as far as its words tell. Without a search any row may.
+pub(crate) fn first_open<C: Chunk>(
+    search: &mut Option<Search>,
     chunk: &C,
     dead: &[u32],
     from: u32,
-    search: &mut Option<Search>,
-    found: &mut Finding,
-    steps: &mut Steps<L>,
-) -> Result<Option<u32>, NoMemory>
-    requires { IsStream (C.belongs chunk.now) (C.place chunk.now) (C.content chunk.now) from query.now dead.now search.old }
-    ensures stream { IfOk result (λ next. IsStream (C.belongs chunk.now) (C.place chunk.now) (C.content chunk.now) (after next (length (C.content chunk.now))) query.now dead.now search.new) }
-    ensures stopped { OnErr result (IsStream (C.belongs chunk.now) (C.place chunk.now) (C.content chunk.now) from query.now dead.now search.new) }
-    ensures first { IfOk result (IsFirst (is_matching query.now dead.now) (C.content chunk.now) from) }
-    ensures hits { IfOk result (λ next. HasHits (query_finds query.now) (C.content chunk.now) next found.new) }
+) -> Option<u32>
+    requires from { from ≤ length (C.content chunk.now) }
+    requires dead { AllPairs (λ row later. row < later) dead.now }
+    requires search { IfSome search.old (λ its. IsSearch (C.belongs chunk.now) (C.place chunk.now) (C.content chunk.now) from its.root.now its) }
+    ensures stands { (query : QueryValue) → StandsAt (C.belongs chunk.now) (C.place chunk.now) (C.content chunk.now) from query search.old → StandsAt (C.belongs chunk.now) (C.place chunk.now) (C.content chunk.now) (unwrap_or result (length (C.content chunk.now))) query search.new }
+    ensures first { (query : QueryValue) → StandsAt (C.belongs chunk.now) (C.place chunk.now) (C.content chunk.now) from query search.old → IsFirstOpen (is_matching query dead.now) dead.now (C.content chunk.now) from result }
 {
-    if query.root.is_none() {
-        found.clear();
-        return Ok(first_living(chunk, dead, from));
+    match search {
+        None => first_living(chunk, dead, from),
+        Some(search) => first_worded(search, chunk, dead, from),
     }
-    let mut taken = search.take().ok_or(NoMemory)?;
-    let next = first_wanted(&mut taken, chunk, dead, from, found, steps)?;
-    *search = Some(taken);
-    Ok(next)
 }
 
 /// The first row from this one on that isn't dead.
 fn first_living<C: Chunk>(chunk: &C, dead: &[u32], from: u32) -> Option<u32>
     requires from { from ≤ length (C.content chunk.now) }
     requires dead { AllPairs (λ row later. row < later) dead.now }
-    ensures { IsFirst (λ e. lives dead.now e.0) (C.content chunk.now) from result }
+    ensures { (query : QueryValue) → IsFirstOpen (is_matching query dead.now) dead.now (C.content chunk.now) from result }
 {
     for row in from..chunk.rows() {
         if !is_dead(dead, row) {
@@ -56,51 +51,80 @@ fn first_living<C: Chunk>(chunk: &C, dead: &[u32], from: u32) -> Option<u32>
     None
 }
 
-/// The first row from this one on that matches the tree and isn't dead.
-fn first_wanted<C: Chunk, L: Ledger>(
-    search: &mut Search,
-    chunk: &C,
-    dead: &[u32],
-    from: u32,
-    found: &mut Finding,
-    steps: &mut Steps<L>,
-) -> Result<Option<u32>, NoMemory>
+/// The first row from this one on that isn't dead and may match the tree.
+fn first_worded<C: Chunk>(search: &mut Search, chunk: &C, dead: &[u32], from: u32) -> Option<u32>
     requires from { from ≤ length (C.content chunk.now) }
-    requires few { length (node_keys search.old.root.now) < 2 ^ 16 }
     requires dead { AllPairs (λ row later. row < later) dead.now }
     requires search { IsSearch (C.belongs chunk.now) (C.place chunk.now) (C.content chunk.now) from search.old.root.now search.old }
-    ensures search { IfOk result (λ next. IsSearch (C.belongs chunk.now) (C.place chunk.now) (C.content chunk.now) (after next (length (C.content chunk.now))) search.old.root.now search.new) }
-    ensures first { IfOk result (IsFirst (is_wanted search.old.root.now dead.now) (C.content chunk.now) from) }
-    ensures hits { IfOk result (λ next. HasHits (node_found search.old.root.now) (C.content chunk.now) next found.new) }
+    ensures search { IsSearch (C.belongs chunk.now) (C.place chunk.now) (C.content chunk.now) (unwrap_or result (length (C.content chunk.now))) search.old.root.now search.new }
+    ensures first { IsFirstOpen (is_wanted search.old.root.now dead.now) dead.now (C.content chunk.now) from result }
 {
     let mut at = from;
     'rows: while let Some(row) = search.next_row(chunk, at) {
-        let taken = takes(search, chunk, row, dead, found, steps)?;
-        if taken {
-            return Ok(Some(row));
+        if is_open(search, chunk, dead, row) {
+            return Some(row);
         }
         at = row + 1;
     }
-    Ok(None)
+    None
 }
 
-/// Whether the row matches and isn't dead. A dead one isn't looked at.
-fn takes<C: Chunk, L: Ledger>(
-    search: &mut Search,
+/// Whether the row isn't dead and may match. Of a dead one the words aren't looked at.
+fn is_open<C: Chunk>(search: &mut Search, chunk: &C, dead: &[u32], row: u32) -> bool
+    requires search { IsSearch (C.belongs chunk.now) (C.place chunk.now) (C.content chunk.now) row search.old.root.now search.old }
+    requires dead { AllPairs (λ row later. row < later) dead.now }
+    ensures root { search.new.root ≡ search.old.root }
+    ensures search { IsSearch (C.belongs chunk.now) (C.place chunk.now) (C.content chunk.now) row search.old.root.now search.new }
+    ensures living { result ≡ true → list_any (λ d. d == row) dead.now ≡ false }
+    ensures passed { result ≡ false → (its : DocRow) → slice_get (C.content chunk.now) row ≡ Some its → is_wanted search.old.root.now dead.now (row, its) ≡ false }
+{
+    !is_dead(dead, row) && search.may_match(chunk, row)
+}
+
+/// Whether the row matches, and what is found in it, in the place of what was found before. The search is gone after want of memory.
+pub(crate) fn find_row<C: Chunk, L: Ledger>(
+    query: &Query,
     chunk: &C,
     row: u32,
-    dead: &[u32],
+    search: &mut Option<Search>,
     found: &mut Finding,
     steps: &mut Steps<L>,
 ) -> Result<bool, NoMemory>
     requires row { row < length (C.content chunk.now) }
-    requires few { length (node_keys search.old.root.now) < 2 ^ 16 }
-    requires search { IsSearch (C.belongs chunk.now) (C.place chunk.now) (C.content chunk.now) row search.old.root.now search.old }
-    requires dead { AllPairs (λ row later. row < later) dead.now }
-    ensures root { search.new.root ≡ search.old.root }
-    ensures search { OnOk result (IsSearch (C.belongs chunk.now) (C.place chunk.now) (C.content chunk.now) row search.old.root.now search.new) }
-    ensures told { (its : DocRow) → slice_get (C.content chunk.now) row ≡ Some its → IfOk result (λ told. told ≡ is_wanted search.old.root.now dead.now (row, its)) }
-    ensures hits { (its : DocRow) → slice_get (C.content chunk.now) row ≡ Some its → IfOk result (λ told. IsTrue told → SameMembers found.new.hits.items (node_found search.old.root.now its).hits) }
+    requires few { length (query_keys query.now) < 2 ^ 16 }
+    requires stands { StandsAt (C.belongs chunk.now) (C.place chunk.now) (C.content chunk.now) row query.now search.old }
+    ensures stands { StandsAt (C.belongs chunk.now) (C.place chunk.now) (C.content chunk.now) row query.now search.new }
+    ensures told { (its : DocRow) → slice_get (C.content chunk.now) row ≡ Some its → IfOk result (λ told. told ≡ (query_finds query.now its).matches) }
+    ensures hits { (its : DocRow) → slice_get (C.content chunk.now) row ≡ Some its → OnOk result (SameMembers found.new.hits.items (query_finds query.now its).hits) }
 {
-    Ok(!is_dead(dead, row) && search.find(chunk, row, found, steps)?)
+    if query.root.is_none() {
+        found.clear();
+        return Ok(true);
+    }
+    let mut taken = search.take().ok_or(NoMemory)?;
+    let told = taken.find(chunk, row, found, steps)?;
+    *search = Some(taken);
+    Ok(told)
+}
+
+/// Whether the row matches. The search is gone after want of memory.
+pub(crate) fn row_matches<C: Chunk, L: Ledger>(
+    query: &Query,
+    chunk: &C,
+    row: u32,
+    search: &mut Option<Search>,
+    steps: &mut Steps<L>,
+) -> Result<bool, NoMemory>
+    requires row { row < length (C.content chunk.now) }
+    requires stands { StandsAt (C.belongs chunk.now) (C.place chunk.now) (C.content chunk.now) row query.now search.old }
+    ensures stands { StandsAt (C.belongs chunk.now) (C.place chunk.now) (C.content chunk.now) row query.now search.new }
+    ensures told { (its : DocRow) → slice_get (C.content chunk.now) row ≡ Some its → IfOk result (λ told. told ≡ (query_finds query.now its).matches) }
+{
+    if query.root.is_none() {
+        return Ok(true);
+    }
+    let mut taken = search.take().ok_or(NoMemory)?;
+    let told = taken.matches(chunk, row, steps)?;
+    *search = Some(taken);
+    Ok(told)
 }

@@ -1,5 +1,5 @@
--- a query's tree on its way over the rows of a chunk, between two rows that match
-use Rattle.std.specs.Prelude.{◌≡◌, ◌+◌, ◌<◌, ◌≤◌, ◌^◌, ◌==◌, ◌&&◌, ℕ, List, [], ◌∷◌, map, length, drop, slice_get, Bool, not, Option, Some, None, IfSome, AllPairs}
+-- a query's tree on its way over the rows of a chunk, from one that may match to the next
+use Rattle.std.specs.Prelude.{◌≡◌, ◌<◌, ◌≤◌, ◌^◌, ◌==◌, ◌&&◌, ℕ, List, [], map, length, drop, Bool, not, Option, Some, None, false, IfSome, AllPairs}
 use Rattle.std.specs.List.{filter, list_any, enumerate_from}
 use Rattle.doc_types.specs.declared.cursor.Cursor.{Cursor}
 use Rattle.doc_types.specs.declared.documents.DocRow.{DocRow}
@@ -7,10 +7,7 @@ use Rattle.doc_types.specs.Chunks.{Place}
 use Rattle.query_grammar.specs.declared.query.Node.{Node}
 use Rattle.query_grammar.specs.declared.query.Query.{Query}
 use Rattle.query_grammar.specs.DeepValues.{query_keys}
-use Rattle.occ_lists.specs.OccLists.{SameMembers}
-use Rattle.op_eval.specs.declared.finding.Finding.{Finding}
 use Rattle.op_eval.specs.declared.search.Search.{Search}
-use Rattle.op_eval.specs.Finding.{Found}
 use Rattle.op_eval.specs.Matching.{matches}
 use Rattle.op_eval.specs.steps.Searching.{IsSearch}
 use Rattle.op_eval.specs.steps.Wanted.{is_wanted}
@@ -23,22 +20,21 @@ numbers_from passes n rows = map (λ e. e.0) (filter passes (drop n (enumerate_f
 abbrev pub is_matching : Query → List ℕ → ℕ × DocRow → Bool
 is_matching query dead e = matches query e.1 && not (list_any (λ d. d == e.0) dead)
 
--- the row that comes after this one; where there is none, the end
-abbrev pub after : Option ℕ → ℕ → ℕ
-after None end = end
-after (Some row) end = row + 1
+-- It is a row from this one on that isn't dead, and none before it passes.
+pub record IsOpen (passes : ℕ × DocRow → Bool) (dead : List ℕ) (rows : List DocRow) (from row : ℕ) : Type 0 where
+  pub on : from ≤ row
+  pub within : row < length rows
+  pub living : list_any (λ d. d == row) dead ≡ false
+  pub passed : numbers_from passes row rows ≡ numbers_from passes from rows
 
--- it is the first row from the one on that passes; where there is none, none does
-abbrev pub IsFirst : (ℕ × DocRow → Bool) → List DocRow → ℕ → Option ℕ → Type 0
-IsFirst passes rows from None = numbers_from passes from rows ≡ []
-IsFirst passes rows from (Some row) = (row < length rows) × (numbers_from passes from rows ≡ row ∷ numbers_from passes (row + 1) rows)
-
--- the hits of the row are found
-abbrev pub HasHits : (DocRow → Found) → List DocRow → Option ℕ → Finding → Type 0
-HasHits finds rows next found = IfSome next (λ row. (its : DocRow) → slice_get rows row ≡ Some its → SameMembers found.hits.items (finds its).hits)
+-- it is the first such row that is looked for; where there is none, no row passes
+abbrev pub IsFirstOpen : (ℕ × DocRow → Bool) → List ℕ → List DocRow → ℕ → Option ℕ → Type 0
+IsFirstOpen passes dead rows from None = numbers_from passes from rows ≡ []
+IsFirstOpen passes dead rows from (Some row) = IsOpen passes dead rows from row
 
 -- The search has gone over no row from this one on, and none from the start up to it passes.
 pub record LooksFrom (belongs : Cursor → Type 0) (place : Cursor → Place) (rows : List DocRow) (root : Node) (dead : List ℕ) (start from : ℕ) (search : Search) : Type 0 where
+  pub on : start ≤ from
   pub within : from ≤ length rows
   pub tree : search.root.now ≡ root
   pub at : IsSearch belongs place rows from search.root.now search

@@ -1,9 +1,7 @@
-use Rattle.std.proofs.Common.{◌≡◌, ℕ}
-use Rattle.doc_types.specs.declared.documents.DocRow.{DocRow}
-use Rattle.op_eval.specs.steps.Streaming.{numbers_from}
-use Rattle.op_eval.specs.steps.Wanted.{lives}
+use Rattle.std.proofs.Common.{◌≡◌}
+use Rattle.query_grammar.specs.declared.query.Query.{Query}
+use Rattle.op_eval.specs.steps.Streaming.{is_matching, numbers_from}
 use Rattle.op_eval.proofs.wanted.first_living.Given as goal
 
 abbrev pub invariant-loop-row : goal.invariant-loop-row
-invariant-loop-row g l =
-    numbers_from (λ (e : ℕ × DocRow). lives l.dead e.0) l.fn.from (g.C.Chunk.content l.chunk) ≡ numbers_from (λ (e : ℕ × DocRow). lives l.dead e.0) l.row (g.C.Chunk.content l.chunk)
+invariant-loop-row g l = (query : Query) → numbers_from (is_matching query l.dead) l.fn.from (g.C.Chunk.content l.chunk) ≡ numbers_from (is_matching query l.dead) l.row (g.C.Chunk.content l.chunk)

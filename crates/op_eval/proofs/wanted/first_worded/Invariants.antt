@@ -1,6 +1,6 @@
 use Rattle.std.proofs.Common.{length, ◌-◌}
 use Rattle.op_eval.specs.steps.Streaming.{LooksFrom}
-use Rattle.op_eval.proofs.wanted.first_wanted.Given as goal
+use Rattle.op_eval.proofs.wanted.first_worded.Given as goal
 
 abbrev pub invariant-rows : goal.invariant-rows
 invariant-rows g l = LooksFrom (g.C.Chunk.belongs l.chunk) (g.C.Chunk.place l.chunk) (g.C.Chunk.content l.chunk) l.fn.search.root.now l.dead l.from l.at l.search

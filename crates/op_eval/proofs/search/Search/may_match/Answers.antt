@@ -1,0 +1,13 @@
+use Rattle.std.proofs.Common.{Bor, map, ap, ◌∙◌}
+use Rattle.query_marks.specs.declared.key.Key.{Key}
+use Rattle.query_grammar.specs.DeepValues.{node_keys}
+use Rattle.op_eval.specs.steps.Slots.{keys_of, number_among}
+use Rattle.op_eval.proofs.Searched.{node_apart, seen_as}
+use Rattle.op_eval.proofs.search.Search.may_match.Goals as goal
+
+pub returns-clause-passed : goal.returns-clause-passed
+returns-clause-passed g c = λ fails found here.
+    let node = c.args.self.now.root.now in
+    c.may_match.ensures fails found (number_among (node_keys node)) (node_apart node)
+    (seen_as found (keys_of c.seek.new.self) (node_keys node) c.seek.new.self.terms.items c.deref.result.now
+    (ap (λ keys. map (λ (key : Bor Key). key.now) keys.items) c.seek.ensures.keys ∙ c.requires.keys) c.deref.ensures.value (c.seek.ensures.seen found here))
