@@ -1,8 +1,6 @@
 //! The weight of a document by its hits, for each ranker.
 #![tactic(auto)]
 
-#[cfg(test)]
-mod cases;
 pub mod law;
 mod offsets;
 mod ranker;

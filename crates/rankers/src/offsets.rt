@@ -23,24 +23,27 @@ pub(crate) fn longest(hits: &[Hit], field: u16) -> u64
     requires { AreWithin hits.now }
     ensures { result ≡ lcs (in_field field hits.now) }
 {
-    if hits.iter().all(|hit| hit.position <= SHORT) {
+    if hits
+        .iter()
+        .all(|hit| hit.field != field || hit.position <= SHORT)
+    {
         longest_short(hits, field)
     } else {
         longest_any(hits, field)
     }
 }
 
-/// The same where each field is short.
+/// The same where the field is short.
 fn longest_short(hits: &[Hit], field: u16) -> u64
     requires within { AreWithin hits.now }
-    requires short { All (λ hit. hit.position ≤ SHORT) hits.now }
+    requires short { All (λ hit. hit.field ≡ field → hit.position ≤ SHORT) hits.now }
     ensures { result ≡ lcs (in_field field hits.now) }
 {
     let mut counts = [0; SHORT_OFFSETS];
     longest_by(hits, field, &mut counts)
 }
 
-/// The same for all fields.
+/// The same for any field.
 fn longest_any(hits: &[Hit], field: u16) -> u64
     requires { AreWithin hits.now }
     ensures { result ≡ lcs (in_field field hits.now) }
@@ -52,7 +55,7 @@ fn longest_any(hits: &[Hit], field: u16) -> u64
 /// The same by a table of the counts of all offsets, which are 0 at first.
 fn longest_by(hits: &[Hit], field: u16, counts: &mut [u8]) -> u64
     requires within { AreWithin hits.now }
-    requires room { All (λ hit. hit.position + MOST_QUERY ≤ length counts.old) hits.now }
+    requires room { All (λ hit. hit.field ≡ field → hit.position + MOST_QUERY ≤ length counts.old) hits.now }
     requires none { All (λ count. count ≡ 0) counts.old }
     ensures { result ≡ lcs (in_field field hits.now) }
 {

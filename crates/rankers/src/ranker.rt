@@ -9,8 +9,8 @@ pub enum Ranker {
     WordCount,
     /// A field gives its weight for each of the most keywords that stand in it as they do in the query.
     Proximity,
-    /// A field gives its weight for each distinct word with a hit, and as much as all fields could give by `Proximity` for each
-    /// keyword beyond the first that stands in it as in the query.
+    /// A field gives its weight for each distinct word with a hit, and for each keyword beyond the first that stands in it as in the
+    /// query its weight times as much as all fields could give by `Proximity`.
     MatchAny,
     /// A field gives 2 to the power of its number.
     FieldMask,

@@ -12,7 +12,7 @@ overflow_add-count c =
     let at : ℕ = hit.position + 255 - c.from.result in
     let here : at ≡ hit.position + 255 - hit.query = omega arith in
     let first = (c.requires.within.each c.loop-hit.hit-index d c.loop-hit-test.true).from_one in
-    let room : at < length c.loop-hit.counts = omega (arith, c.requires.room c.loop-hit.hit-index d c.loop-hit-test.true) in
+    let room : at < length c.loop-hit.counts = omega (arith, c.requires.room c.loop-hit.hit-index d c.loop-hit-test.true c.if-hit-field.true) in
     let fits =
     byte_suffices c.args.field c.loop-hit.counts c.loop-hit.most c.args.hits.now c.loop-hit.hit-index at d c.requires.within c.loop-hit-test.true
     c.if-hit-field.true here room c.loop-hit.invariant in
@@ -28,7 +28,7 @@ loop-hit-preserved c =
           (let at : ℕ = hit.position + 255 - w.from.result in
           let here : at ≡ hit.position + 255 - hit.query = omega arith in
           let first = (c.requires.within.each c.loop-hit.hit-index d c.loop-hit-test.true).from_one in
-          let room : at < length c.loop-hit.counts = omega (arith, c.requires.room c.loop-hit.hit-index d c.loop-hit-test.true) in
+          let room : at < length c.loop-hit.counts = omega (arith, c.requires.room c.loop-hit.hit-index d c.loop-hit-test.true w.if-hit-field.true) in
           let tabled =
           tabled_next c.args.field c.loop-hit.counts c.loop-hit.most c.args.hits.now c.loop-hit.hit-index at d c.requires.within c.loop-hit-test.true
           w.if-hit-field.true here room c.loop-hit.invariant in

@@ -1,7 +1,0 @@
-use Rattle.std.proofs.Common.{take}
-use Rattle.std.specs.List.{AllPairs}
-use Rattle.rankers.specs.Weight.{Differ}
-use Rattle.rankers.proofs.cases.are_apart.Given as goal
-
-abbrev pub invariant-loop-place : goal.invariant-loop-place
-invariant-loop-place l = AllPairs Differ (take l.place l.hits)
