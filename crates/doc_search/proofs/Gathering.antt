@@ -1,22 +1,30 @@
 -- What a search gathers, document by document and layer by layer.
-use Rattle.std.proofs.Common.{◌≡◌, ℕ, ◌+◌, ◌<◌, ◌≤◌, List, [], ◌∷◌, ◌++◌, Bool, true, false, cond, Some, slice_get, length, take, get_or, refl, sym, ap, subst, ◌∙◌, append_assoc, append-nil}
+use Rattle.std.proofs.Common.{◌≡◌, ℕ, ◌+◌, ◌<◌, ◌≤◌, List, [], ◌∷◌, ◌++◌, Bool, true, false, cond, Some, slice_get, length, take, get_or, refl, sym, ap, subst, ◌∙◌, append_assoc, append-nil, arith}
+use Rattle.std.specs.Prelude.{◌&&◌}
 use Rattle.std.specs.List.{AllZip, filter}
+use Rattle.std.proofs.lemmas.Bool.{and_left}
 use Rattle.std.proofs.lemmas.List.{take_more, take_all}
 use Rattle.std.proofs.lemmas.List.Concat.{flat_map-append}
 use Rattle.std.proofs.lemmas.List.Elements.{filter-append}
 use Rattle.doc_types.specs.declared.documents.DocRow.{DocRow}
-use Rattle.doc_types.specs.declared.hits.Hits.{Hits}
 use Rattle.doc_types.specs.Snapshots.{LayerValue, all_living, living}
 use Rattle.op_eval.specs.Matching.{matches, matching}
-use Rattle.op_eval.specs.Streams.{IsNext, Stream}
+use Rattle.op_eval.specs.Streams.{GoesTo, Stream, ahead}
+use Rattle.op_eval.proofs.NextMatches.{ahead_here}
+use Rattle.op_eval.proofs.Opening.{row_there}
 use Rattle.op_eval.proofs.Zipped.{zip_push}
+use Rattle.rankers.specs.Weight.{weight}
 use Rattle.row_select.specs.Collecting.{Collection, Keeps}
+use Rattle.row_select.specs.Filters.{hold_unweighed, hold_weighed}
 use Rattle.row_select.specs.Pages.{IsTop}
+use Rattle.row_select.proofs.InTwoParts.{hold_any_weight, hold_in_two}
 use Rattle.row_select.specs.declared.row.Row.{Row}
 use Rattle.doc_search.specs.Searches.{AreShown, IsRowOf, passes}
 use Rattle.doc_search.specs.declared.question.Question.{Question}
-use Rattle.doc_search.specs.steps.Gathering.{Gathers, IsAmid, IsOnWay, matching_in}
+use Rattle.doc_search.specs.steps.Gathering.{Gathers, HasRead, IsAmid, IsOnWay, StandsAt, matching_in}
 use Rattle.doc_search.proofs.Numbered.{numbers_beside}
+use Rattle.doc_search.proofs.SomeHits.{are_its_hits, hits_of}
+use Rattle.doc_search.proofs.Weighing.{row_of}
 
 -- the number is one of the document
 abbrev IsNumberOf : List DocRow → ℕ → DocRow → Type 0
@@ -50,18 +58,42 @@ module _ (question : Question) where
     kept = subst (λ offered. Keeps offered collection) (sym (passing_more so.rows row false failing ∙ append-nil (filter (passes question) so.rows))) so.kept;
   }
 
+  -- ---- a document that was read
+  -- the row that was read, with the weight of the document's hits
+  abbrev weighed_row : DocRow → Row → Row
+  weighed_row doc row = record row { weight = weight question.ranker (record { keywords = question.query.keywords; list = hits_of question.query doc }) question.weights.list }
+
+  -- it fails one of the conditions that look at no weight, whether it matches or not
+  pub gathers_past : (docs : List DocRow) (doc : DocRow) (row : Row) (collection : Collection) → HasRead doc row → hold_unweighed question.filters row ≡ false → Gathers question docs collection → Gathers question (docs ++ filter (matches question.query) (doc ∷ [])) collection
+  gathers_past docs doc row collection read fails so =
+      let its : IsRowOf question doc (weighed_row doc row) =
+      row_of question doc (weighed_row doc row) (record { id = read.id; values = read.values }) (record { hits = hits_of question.query doc; are = are_its_hits question.query doc; is = refl }) in
+      let failing : passes question (weighed_row doc row) ≡ false =
+      hold_in_two question.filters (weighed_row doc row)
+      ∙ and_left (hold_unweighed question.filters (weighed_row doc row)) (hold_weighed question.filters (weighed_row doc row)) (hold_any_weight (weighed_row doc row) row refl refl question.filters ∙ fails) in
+      elim (matches question.query doc) as (λ b. Gathers question (docs ++ cond b (doc ∷ []) []) collection) [
+        | true ↦ gathers_same docs doc (weighed_row doc row) collection so its failing
+        | false ↦ subst (λ gathered. Gathers question gathered collection) (sym (append-nil docs)) so
+      ]
+
+  -- it passes those
+  pub passes_as : (row weighed : Row) → weighed.id ≡ row.id → weighed.values ≡ row.values → hold_unweighed question.filters row ≡ true → passes question weighed ≡ hold_weighed question.filters weighed
+  passes_as row weighed id values passing =
+      hold_in_two question.filters weighed
+      ∙ ap (λ b. b && hold_weighed question.filters weighed) (hold_any_weight weighed row id values question.filters ∙ passing)
+
   -- ---- within a layer
-  amid_first : (layer : LayerValue) (docs : List DocRow) (dead : List ℕ) (stream : Stream) (before : List DocRow) (collection : Collection) → docs ≡ layer.rows → dead ≡ layer.dead → stream ≡ record { query = question.query; rows = docs; ahead = matching question.query docs dead } → Gathers question before collection → IsAmid question layer.rows (filter (matches question.query) (living layer)) before stream.ahead collection
+  amid_first : (layer : LayerValue) (docs : List DocRow) (dead : List ℕ) (stream : Stream) (before : List DocRow) (collection : Collection) → docs ≡ layer.rows → dead ≡ layer.dead → stream ≡ record { query = question.query; rows = docs; dead = dead; at = 0 } → Gathers question before collection → IsAmid question layer.rows (filter (matches question.query) (living layer)) before (ahead stream) collection
   amid_first layer docs dead stream before collection its out told so =
-      let ahead : stream.ahead ≡ matching question.query layer.rows layer.dead =
-      ap (λ (it : Stream). it.ahead) told
+      let all : ahead stream ≡ matching question.query layer.rows layer.dead =
+      ap ahead told
       ∙ ap (λ rows. matching question.query rows dead) its
       ∙ ap (matching question.query layer.rows) out in
       record {
         seen = [];
         left = filter (matches question.query) (living layer);
         all = refl;
-        numbers = subst (λ numbers. AllZip (IsNumberOf layer.rows) numbers (filter (matches question.query) (living layer))) (sym ahead) (numbers_beside question.query layer);
+        numbers = subst (λ numbers. AllZip (IsNumberOf layer.rows) numbers (filter (matches question.query) (living layer))) (sym all) (numbers_beside question.query layer);
         gathers = subst (λ found. Gathers question found collection) (sym (append-nil before)) so;
       }
 
@@ -80,6 +112,19 @@ module _ (question : Question) where
     amid_next row now ahead old new next amid takes =
         next_of row ahead old new amid.seen amid.left amid.all (subst (λ numbers. AllZip (IsNumberOf docs) numbers amid.left) next amid.numbers) amid.gathers takes
 
+    -- a row that may match went by, and is ahead if it does
+    amid_past : (row : ℕ) (doc : DocRow) (b : Bool) (now ahead : List ℕ) (old new : Collection) → slice_get docs row ≡ Some doc → matches question.query doc ≡ b → now ≡ cond b (row ∷ []) [] ++ ahead → IsAmid question docs wanted before now old → ((gathered : List DocRow) → Gathers question gathered old → Gathers question (gathered ++ cond b (doc ∷ []) []) new) → IsAmid question docs wanted before ahead new
+    amid_past row doc true now ahead old new at is next amid takes =
+        amid_next row now ahead old new next amid
+        (λ gathered other there so. let same : doc ≡ other = cc in subst (λ d. Gathers question (gathered ++ d ∷ []) new) same (takes gathered so))
+    amid_past row doc false now ahead old new at is next amid takes = record {
+      seen = amid.seen;
+      left = amid.left;
+      all = amid.all;
+      numbers = subst (λ numbers. AllZip (IsNumberOf docs) numbers amid.left) next amid.numbers;
+      gathers = subst (λ gathered. Gathers question gathered new) (append-nil (before ++ amid.seen)) (takes (before ++ amid.seen) amid.gathers);
+    }
+
     last_of : (collection : Collection) (seen left : List DocRow) → seen ++ left ≡ wanted → AllZip (IsNumberOf docs) [] left → Gathers question (before ++ seen) collection → Gathers question (before ++ wanted) collection
     last_of collection seen [] all numbers so = subst (λ found. Gathers question (before ++ found) collection) (sym (append-nil seen) ∙ all) so
     last_of collection seen (doc ∷ left) all numbers so = absurd numbers
@@ -87,24 +132,46 @@ module _ (question : Question) where
     amid_last : (now : List ℕ) (collection : Collection) → now ≡ [] → IsAmid question docs wanted before now collection → Gathers question (before ++ wanted) collection
     amid_last now collection none amid = last_of collection amid.seen amid.left amid.all (subst (λ numbers. AllZip (IsNumberOf docs) numbers amid.left) none amid.numbers) amid.gathers
 
-  pub on_way_first : (layer : LayerValue) (docs : List DocRow) (dead : List ℕ) (stream : Stream) (first : Collection) → docs ≡ layer.rows → dead ≡ layer.dead → stream ≡ record { query = question.query; rows = docs; ahead = matching question.query docs dead } → IsOnWay question layer first stream first
+  pub on_way_first : (layer : LayerValue) (docs : List DocRow) (dead : List ℕ) (stream : Stream) (first : Collection) → docs ≡ layer.rows → dead ≡ layer.dead → stream ≡ record { query = question.query; rows = docs; dead = dead; at = 0 } → IsOnWay question layer first stream first
   on_way_first layer docs dead stream first its out told = record {
     query = ap (λ (it : Stream). it.query) told;
     docs = ap (λ (it : Stream). it.rows) told ∙ its;
     amid = λ before so. amid_first layer docs dead stream before first its out told so;
   }
 
-  pub on_way_next : (layer : LayerValue) (docs : List DocRow) (number : ℕ) (hits : Hits) (old new : Stream) (first here there : Collection) → docs ≡ layer.rows → IsNext old number hits new → IsOnWay question layer first old here → ((gathered : List DocRow) (doc : DocRow) → slice_get docs number ≡ Some doc → Gathers question gathered here → Gathers question (gathered ++ doc ∷ []) there) → IsOnWay question layer first new there
-  on_way_next layer docs number hits old new first here there its next way takes = record {
-    query = next.query ∙ way.query;
-    docs = next.rows ∙ way.docs;
-    amid = λ before so.
-        amid_next layer.rows (filter (matches question.query) (living layer)) before number old.ahead new.ahead here there next.ahead (way.amid before so)
-        (λ gathered doc at. takes gathered doc (ap (λ rows. slice_get rows number) its ∙ at));
+  -- the stream stands at a row
+  pub stands_at : (layer : LayerValue) (docs : List DocRow) (number : ℕ) (old new : Stream) (first here : Collection) → docs ≡ layer.rows → GoesTo old number new → IsOnWay question layer first old here → StandsAt question docs number new
+  stands_at layer docs number old new first here its next way = record {
+    query = ap (λ (it : Stream). it.query) next.stands ∙ way.query;
+    rows = ap (λ (it : Stream). it.rows) next.stands ∙ way.docs ∙ sym its;
+    at = ap (λ (it : Stream). it.at) next.stands;
+    within = omega (arith, next.within, ap (λ (rows : List DocRow). length rows) (way.docs ∙ sym its));
   }
 
-  pub on_way_last : (layer : LayerValue) (stream : Stream) (first here : Collection) → stream.ahead ≡ [] → IsOnWay question layer first stream here → (before : List DocRow) → Gathers question before first → Gathers question (before ++ filter (matches question.query) (living layer)) here
-  on_way_last layer stream first here none way before so = amid_last layer.rows (filter (matches question.query) (living layer)) before stream.ahead here none (way.amid before so)
+  -- and goes on behind it
+  pub on_way_next : (layer : LayerValue) (docs : List DocRow) (number : ℕ) (old mid new : Stream) (first here there : Collection) → docs ≡ layer.rows → GoesTo old number mid → new ≡ record mid { at = number + 1 } → IsOnWay question layer first old here → ((gathered : List DocRow) (doc : DocRow) → slice_get docs number ≡ Some doc → Gathers question gathered here → Gathers question (gathered ++ filter (matches question.query) (doc ∷ [])) there) → IsOnWay question layer first new there
+  on_way_next layer docs number old mid new first here there its next on way takes =
+      let found = row_there old.rows number next.within in
+      let doc : DocRow = found.0 in
+      let at : slice_get old.rows number ≡ Some doc = found.1 in
+      let behind : new ≡ record old { at = number + 1 } = on ∙ ap (λ (it : Stream). record it { at = number + 1 }) next.stands in
+      let past : ahead old ≡ cond (matches question.query doc) (number ∷ []) [] ++ ahead new =
+      sym next.kept
+      ∙ ap ahead next.stands
+      ∙ ahead_here (record old { at = number }) doc at next.living
+      ∙ ap (λ query. cond (matches query doc) (number ∷ []) [] ++ ahead (record old { at = number + 1 })) way.query
+      ∙ ap (λ (it : Stream). cond (matches question.query doc) (number ∷ []) [] ++ ahead it) (sym behind) in
+      record {
+        query = ap (λ (it : Stream). it.query) behind ∙ way.query;
+        docs = ap (λ (it : Stream). it.rows) behind ∙ way.docs;
+        amid = λ before so.
+            amid_past layer.rows (filter (matches question.query) (living layer)) before number doc (matches question.query doc) (ahead old) (ahead new) here there
+            (ap (λ rows. slice_get rows number) (sym way.docs) ∙ at) refl past (way.amid before so)
+            (λ gathered gathers. takes gathered doc (ap (λ rows. slice_get rows number) (its ∙ sym way.docs) ∙ at) gathers);
+      }
+
+  pub on_way_last : (layer : LayerValue) (stream : Stream) (first here : Collection) → ahead stream ≡ [] → IsOnWay question layer first stream here → (before : List DocRow) → Gathers question before first → Gathers question (before ++ filter (matches question.query) (living layer)) here
+  on_way_last layer stream first here none way before so = amid_last layer.rows (filter (matches question.query) (living layer)) before (ahead stream) here none (way.amid before so)
 
   -- ---- over layers
   pub one_layer : (layers : List LayerValue) (i : ℕ) (layer : LayerValue) → i < length layers → layer ≡ get_or layers i layer → matching_in question (take (i + 1) layers) ≡ matching_in question (take i layers) ++ filter (matches question.query) (living layer)

@@ -6,7 +6,11 @@ pub mod Gathering
 pub mod Values
 -- what the weight of a document asks of its hits
 pub mod Weighing
+-- each document has hits
+pub mod SomeHits
 -- the hits of a document are one list
 pub mod OneHits
--- so is what is found, and what is shown
+-- the members of lists
+pub mod Members
+-- what is found of documents in any order are the same rows, and what is shown is one list
 pub mod OneFound

@@ -1,10 +1,11 @@
--- What is found of documents is one list, and so is what is shown.
-use Rattle.std.proofs.Common.{◌≡◌, ◌≢◌, List, [], ◌∷◌, refl, sym, ap, subst, ◌∙◌}
-use Rattle.std.specs.Prelude.{All, AllPairs}
+-- What is found of documents are the same rows whatever the order in which they are listed, and what is shown is one list.
+use Rattle.std.proofs.Common.{◌≡◌, ◌≢◌, ◌↔◌, List, [], ◌∷◌, sym, ap, subst, ◌∙◌}
+use Rattle.std.specs.Prelude.{All, AllPairs, Contains}
 use Rattle.std.specs.List.{AllZip, filter}
 use Rattle.std.proofs.lemmas.List.Elements.{All-cons, All-head, All-nil, All-tail}
 use Rattle.std.proofs.lemmas.List.Kept.{AllPairs-cons, AllPairs-filter}
 use Rattle.doc_types.specs.declared.documents.DocRow.{DocRow}
+use Rattle.doc_types.specs.Rows.{rows_of}
 use Rattle.op_eval.specs.Matching.{matches}
 use Rattle.op_eval.proofs.Lists.{pairs_head, pairs_nil, pairs_tail}
 use Rattle.rankers.specs.Weight.{weight}
@@ -12,12 +13,10 @@ use Rattle.row_select.specs.Pages.{IsTop}
 use Rattle.row_select.specs.declared.order.Order.{Order}
 use Rattle.row_select.specs.declared.page.Page.{Page}
 use Rattle.row_select.specs.declared.row.Row.{Row}
-use Rattle.doc_search.specs.Searches.{AreShown, IsRowOf, passes}
+use Rattle.doc_search.specs.Searches.{AreFound, AreShown, IsRowOf, passes}
 use Rattle.doc_search.specs.declared.question.Question.{Question}
+use Rattle.doc_search.proofs.Members.{DocsApart, beside_first, beside_second, in_both, in_filter, to_filter}
 use Rattle.doc_search.proofs.OneHits.{one_hits}
-
-abbrev DocsApart : List DocRow → Type 0
-DocsApart docs = AllPairs (λ doc later. doc.doc.id ≢ later.doc.id) docs
 
 abbrev RowsApart : List Row → Type 0
 RowsApart rows = AllPairs (λ row later. row.id ≢ later.id) rows
@@ -32,14 +31,6 @@ module _ (question : Question) where
       let weights : row.weight ≡ other.weight =
       one.weight ∙ ap (λ list. weight question.ranker (record { keywords = question.query.keywords; list = list }) question.weights.list) hits ∙ sym two.weight in
       alike row other (one.id ∙ sym two.id) weights (one.values ∙ sym two.values)
-
-  one_weighed : (docs : List DocRow) (rows other : List Row) → AllZip (IsRowOf question) docs rows → AllZip (IsRowOf question) docs other → rows ≡ other
-  one_weighed [] [] [] one two = refl
-  one_weighed [] [] (b ∷ other) one two = absurd two
-  one_weighed [] (a ∷ rows) other one two = absurd one
-  one_weighed (doc ∷ docs) [] other one two = absurd one
-  one_weighed (doc ∷ docs) (a ∷ rows) [] one two = absurd two
-  one_weighed (doc ∷ docs) (a ∷ rows) (b ∷ other) one two = ap (λ row. row ∷ rows) (one_row doc a b one.0 two.0) ∙ ap (λ list. b ∷ list) (one_weighed docs rows other one.1 two.1)
 
   -- rows of documents of which no two have one id
   all_apart : (doc : DocRow) (row : Row) → row.id ≡ doc.doc.id → (docs : List DocRow) (rows : List Row) → AllZip (IsRowOf question) docs rows → All (λ later. doc.doc.id ≢ later.doc.id) docs → All (λ later. row.id ≢ later.id) rows
@@ -59,11 +50,32 @@ module _ (question : Question) where
       (all_apart d a zip.0.id docs rows zip.1 (pairs_head (λ doc later. doc.doc.id ≢ later.doc.id) d docs apart))
       (rows_apart docs rows zip.1 (pairs_tail (λ doc later. doc.doc.id ≢ later.doc.id) d docs apart))
 
-  pub one_shown : (docs : List DocRow) (shown other : List Row) → ((rows : List Row) (order : Order) (page : Page) (shown other : List Row) → RowsApart rows → IsTop rows order page shown → IsTop rows order page other → shown ≡ other) → DocsApart docs → AreShown question docs shown → AreShown question docs other → shown ≡ other
-  one_shown docs shown other one_page apart one two =
-      let rows : one.1.rows ≡ two.1.rows = one_weighed (filter (matches question.query) docs) one.1.rows two.1.rows one.1.weighed two.1.weighed in
-      let found : two.0 ≡ one.0 = two.1.passing ∙ ap (filter (passes question)) (sym rows) ∙ sym one.1.passing in
+  -- so are those that are found
+  found_apart : (docs : List DocRow) (found : List Row) → DocsApart docs → AreFound question docs found → RowsApart found
+  found_apart docs found apart its =
       let matching : DocsApart (filter (matches question.query) docs) = AllPairs-filter (λ doc later. doc.doc.id ≢ later.doc.id) (matches question.query) docs apart in
-      let weighed : RowsApart one.1.rows = rows_apart (filter (matches question.query) docs) one.1.rows one.1.weighed matching in
-      let passing : RowsApart one.0 = subst RowsApart (sym one.1.passing) (AllPairs-filter (λ row later. row.id ≢ later.id) (passes question) one.1.rows weighed) in
-      one_page one.0 question.order question.page shown other passing one.2 (subst (λ list. IsTop list question.order question.page other) found two.2)
+      subst RowsApart (sym its.passing)
+      (AllPairs-filter (λ row later. row.id ≢ later.id) (passes question) its.rows (rows_apart (filter (matches question.query) docs) its.rows its.weighed matching))
+
+  -- what is found of documents is found of others among which they are
+  found_too : (docs others : List DocRow) (found other : List Row) → ((doc : DocRow) → Contains docs doc → Contains others doc) → AreFound question docs found → AreFound question others other → (row : Row) → Contains found row → Contains other row
+  found_too docs others found other among one two row there =
+      let weighed = in_filter (passes question) one.rows row (subst (λ list. Contains list row) one.passing there) in
+      let beside = beside_first (IsRowOf question) (filter (matches question.query) docs) one.rows row one.weighed weighed.0 in
+      let matching = in_filter (matches question.query) docs beside.0 beside.1 in
+      let too = beside_second (IsRowOf question) (filter (matches question.query) others) two.rows beside.0 two.weighed (to_filter (matches question.query) others beside.0 matching.1 (among beside.0 matching.0)) in
+      let same : too.0 ≡ row = one_row beside.0 too.0 row too.2 beside.2 in
+      subst (λ list. Contains list row) (sym two.passing) (to_filter (passes question) two.rows row weighed.1 (subst (Contains two.rows) same too.1))
+
+  -- rows in two orders have one page
+  abbrev OnePage : Type 0
+  OnePage = (rows others : List Row) (order : Order) (page : Page) (shown other : List Row) → RowsApart rows → RowsApart others → ((row : Row) → Contains rows row ↔ Contains others row) → IsTop rows order page shown → IsTop others order page other → shown ≡ other
+
+  pub one_shown : (docs others : List DocRow) (shown other : List Row) → OnePage → DocsApart docs → DocsApart others → rows_of docs ≡ rows_of others → AreShown question docs shown → AreShown question others other → shown ≡ other
+  one_shown docs others shown other one_page apart others_apart same one two =
+      one_page one.0 two.0 question.order question.page shown other (found_apart docs one.0 apart one.1) (found_apart others two.0 others_apart two.1)
+      (λ row. (
+        found_too docs others one.0 two.0 (in_both docs others apart same) one.1 two.1 row,
+        found_too others docs two.0 one.0 (in_both others docs others_apart (sym same)) two.1 one.1 row,
+      ))
+      one.2 two.2

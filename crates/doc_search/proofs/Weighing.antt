@@ -1,5 +1,6 @@
 -- What the weight of a document asks of its hits, and a row that holds it.
-use Rattle.std.proofs.Common.{◌≡◌, ◌<◌, ℕ, List, Some, length, slice_get, sym, ap, subst, ◌∙◌, arith, ⊎_elim}
+use Rattle.std.proofs.Common.{◌≡◌, ◌<◌, ℕ, Bool, true, false, List, Some, refl, length, slice_get, sym, ap, subst, ◌∙◌, arith, ⊎_elim}
+use Rattle.std.specs.Prelude.{◌==◌, if◌then◌else◌}
 use Rattle.std.proofs.lemmas.List.Elements.{All-weaker}
 use Rattle.std.proofs.lemmas.Option.{get_or_from_slice_get, slice_get_within, slice_get_cases}
 use Rattle.doc_types.specs.declared.documents.DocRow.{DocRow}
@@ -7,14 +8,21 @@ use Rattle.doc_types.specs.declared.hits.Hit.{Hit}
 use Rattle.doc_types.specs.declared.hits.Hits.{Hits}
 use Rattle.doc_types.specs.declared.schema.Schema.{Schema}
 use Rattle.doc_types.specs.Documents.{AreRowsOf, IsDocOf}
+use Rattle.query_grammar.specs.declared.query.Query.{Query}
 use Rattle.op_eval.specs.Hits.{AreHits}
+use Rattle.op_eval.specs.Matching.{matches}
 use Rattle.op_eval.specs.Numbered.{AreHitsWithin, IsHitWithin}
+use Rattle.op_eval.specs.Streams.{Stream, Takes}
 use Rattle.op_eval.proofs.NumberedHits.{can_be_weighed}
+use Rattle.op_eval.proofs.Opening.{row_there}
+use Rattle.rankers.specs.declared.ranker.Ranker.{Ranker}
+use Rattle.rankers.specs.declared.ranker.Ranker.TheVariants as rankers
 use Rattle.rankers.specs.Weight.{AreRanked, IsRanked, weight}
 use Rattle.row_select.specs.declared.row.Row.{Row}
 use Rattle.doc_search.specs.Searches.{IsAskedOf, IsRowOf}
 use Rattle.doc_search.specs.declared.question.Question.{Question}
-use Rattle.doc_search.specs.steps.Gathering.{IsAskedOfDocs}
+use Rattle.doc_search.proofs.SomeHits.{are_its_hits, hits_of}
+use Rattle.doc_search.specs.steps.Gathering.{HasRead, IsAskedOfDocs, IsWeightOf, IsWeighed}
 
 -- a hit within the limits can be ranked
 is_ranked : (keywords fields : ℕ) (hit : Hit) → IsHitWithin keywords fields hit → IsRanked keywords fields hit
@@ -44,12 +52,50 @@ ranked_at question docs number hits asked within keywords are =
     (λ past. absurd (omega (arith, past.0)))
     (slice_get_cases docs number).1
 
--- the row of a document, by what it is made of
-pub is_row : (question : Question) (doc : DocRow) (hits : Hits) (row : Row) → hits.keywords ≡ question.query.keywords → AreHits question.query doc hits.list → row.id ≡ doc.doc.id → row.weight ≡ weight question.ranker hits question.weights.list → row.values ≡ doc.doc.values → IsRowOf question doc row
-is_row question doc hits row keywords are id weighed values = record {
-  hits = hits.list;
-  are = are;
-  id = id;
-  weight = weighed ∙ ap (λ count. weight question.ranker (record { keywords = count; list = hits.list }) question.weights.list) keywords;
-  values = values;
+-- what was taken of a document that matches can be ranked
+pub taken_ranked : (question : Question) (old new : Stream) (before hits : Hits) → IsAskedOfDocs question old.rows → old.query ≡ question.query → old.at < length old.rows → Takes old true before hits new → AreRanked hits question.weights.list
+taken_ranked question old new before hits asked query within takes =
+    let there = row_there old.rows old.at within in
+    ranked_at question old.rows old.at hits asked within
+    ((takes.tells there.0 there.1).1 ∙ ap (λ (its : Query). its.keywords) query)
+    (λ doc here. subst (λ its. AreHits its doc hits.list) query (takes.tells doc here).2)
+
+-- and weighs what its hits weigh
+pub taken_weighs : (question : Question) (old new : Stream) (before hits : Hits) (weighed : ℕ) (doc : DocRow) → old.query ≡ question.query → Takes old true before hits new → slice_get old.rows old.at ≡ Some doc → weighed ≡ weight question.ranker hits question.weights.list → IsWeighed question doc (Some weighed)
+taken_weighs question old new before hits weighed doc query takes here is =
+    let told = takes.tells doc here in (
+      ap (λ its. matches its doc) (sym query) ∙ told.0,
+      record {
+        hits = hits.list;
+        are = subst (λ its. AreHits its doc hits.list) query told.2;
+        is = is ∙ ap (λ count. weight question.ranker (record { keywords = count; list = hits.list }) question.weights.list) (told.1 ∙ ap (λ (its : Query). its.keywords) query);
+      },
+    )
+
+-- the ranker that looks at no hits weighs each document that matches 1
+whichever : (b : Bool) (n : ℕ) → (if b then n else n) ≡ n
+whichever true n = refl
+whichever false n = refl
+
+one_weight : (ranker : Ranker) (hits : Hits) (weights : List ℕ) → ranker ≡ rankers.None → weight ranker hits weights ≡ 1
+one_weight ranker hits weights is = ap (λ (its : Ranker). weight its hits weights) is ∙ whichever (hits.keywords == 0) 1
+
+pub weighs_one : (question : Question) (query : Query) (doc : DocRow) → question.ranker ≡ rankers.None → query ≡ question.query → matches query doc ≡ true → IsWeighed question doc (Some 1)
+weighs_one question query doc unranked same fits = (
+  ap (λ its. matches its doc) (sym same) ∙ fits,
+  record {
+    hits = hits_of question.query doc;
+    are = are_its_hits question.query doc;
+    is = sym (one_weight question.ranker (record { keywords = question.query.keywords; list = hits_of question.query doc }) question.weights.list unranked);
+  },
+)
+
+-- the row of a document that was read, once it has the document's weight
+pub row_of : (question : Question) (doc : DocRow) (row : Row) → HasRead doc row → IsWeightOf question doc row.weight → IsRowOf question doc row
+row_of question doc row read weighed = record {
+  hits = weighed.hits;
+  are = weighed.are;
+  id = read.id;
+  weight = weighed.is;
+  values = read.values;
 }

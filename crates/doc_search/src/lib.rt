@@ -1,6 +1,7 @@
 //! What a search finds among the documents of an index, and the page of it that is shown.
 #![tactic(auto)]
 
+mod asked;
 mod laws;
 mod question;
 mod rows;

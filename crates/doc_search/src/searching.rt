@@ -1,22 +1,27 @@
-//! A search over the layers of a snapshot: each document that matches is weighed, tested, and offered to a collector, which keeps
-//! what the page may need.
+//! A search over the layers of a snapshot: each document that matches and passes the conditions is offered to a collector, which
+//! keeps what the page may need.
 //!
+//! A document's conditions that look at no weight come before its hits, since to find these the places of its words are read.
 //! Nothing is kept of a document that the page doesn't need, and one row and one list of hits serve for all of them.
-ghost use Rattle.std.specs.Prelude.{◌≡◌, ◌<◌, ◌++◌, ◌∷◌, [], List, IfOk, OnOk, All, Some, length, slice_get};
+ghost use Rattle.std.specs.Prelude.{◌≡◌, ◌+◌, ◌<◌, ◌++◌, ◌∷◌, [], List, IfOk, OnOk, All, Some, true, length, slice_get};
 ghost use Rattle.std.specs.List.{filter};
 ghost use Rattle.doc_types.specs.declared.documents.DocRow.{DocRow};
 ghost use Rattle.doc_types.specs.declared.schema.Schema.{Schema};
 ghost use Rattle.doc_types.specs.Documents.{AreRowsOf};
 ghost use Rattle.doc_types.specs.Snapshots.{all_living, living};
-ghost use Rattle.op_eval.specs.Hits.{AreHits};
 ghost use Rattle.op_eval.specs.Matching.{matches};
+ghost use Rattle.rankers.specs.declared.ranker.Ranker.TheVariants as rankers;
+ghost use Rattle.row_select.specs.Filters.{hold_unweighed};
 ghost use Rattle.doc_search.specs.Searches.{AreShown, IsAskedOf};
-ghost use Rattle.doc_search.specs.steps.Gathering.{Gathers, IsAskedOfDocs};
+ghost use Rattle.doc_search.specs.declared.question.Question.{Question as QuestionValue};
+ghost use Rattle.doc_search.specs.steps.Gathering.{Gathers, HasRead, IsAskedOfDocs, IsWeighed, StandsAt};
 
+use crate::asked::Asked;
 use crate::question::Question;
-use crate::rows::{Scratch, passes, read_row};
-use doc_types::{Chunk, Layer, Snapshot};
+use crate::rows::{Scratch, read_row};
+use doc_types::{Chunk, Hits, Layer, Snapshot};
 use op_eval::Matches;
+use rankers::{Ranker, weight};
 use row_select::{Collector, Row};
 use srch_base::{NoMemory, Steps};
 use std::alloc::Global;
@@ -48,67 +53,129 @@ fn search_layers<L: Ledger, C: Chunk>(
     requires some { 0 < blank.parts }
     ensures { IfOk result (λ shown. AreShown question.now (all_living layers.now) shown.items) }
 {
+    let asked = Asked::over(alloc, question)?;
     let mut steps = Steps::<L>::new(blank);
     let mut scratch = Scratch::new(alloc);
     let mut collector = Collector::new(alloc, &question.order, question.page);
     for layer in layers {
-        collect_layer(
-            alloc,
-            question,
-            layer,
-            &mut scratch,
-            &mut collector,
-            &mut steps,
-        )?;
+        collect_layer(&asked, layer, &mut scratch, &mut collector, &mut steps)?;
     }
     collector.finish()
 }
 
 /// Offers what is found in a layer.
 fn collect_layer<L: Ledger, C: Chunk>(
-    alloc: Global,
-    question: &Question,
+    asked: &Asked<'_>,
     layer: &Layer<C>,
     scratch: &mut Scratch,
     collector: &mut Collector<'_>,
     steps: &mut Steps<L>,
 ) -> Result<(), NoMemory>
-    requires { IsAskedOfDocs question.now layer.now.rows }
-    ensures { (before : List DocRow) → Gathers question.now before collector.old → OnOk result (Gathers question.now (before ++ filter (matches question.now.query) (living layer.now)) collector.new) }
+    requires { IsAskedOfDocs asked.now layer.now.rows }
+    ensures { (before : List DocRow) → Gathers asked.now before collector.old → OnOk result (Gathers asked.now (before ++ filter (matches asked.now.query) (living layer.now)) collector.new) }
 {
     let chunk: &C = &layer.chunk;
-    let mut matches = Matches::over(alloc, &question.query, chunk, layer.dead.as_slice())?;
-    'rows: while let Some(number) = matches.next(&mut scratch.hits, steps)? {
-        collect_row(alloc, question, chunk, number, scratch, collector)?;
+    let dead = layer.dead.as_slice();
+    let mut stream = Matches::over(asked.alloc, &asked.question.query, chunk, dead)?;
+    'rows: while let Some(number) = stream.row() {
+        collect_row(asked, chunk, number, &mut stream, scratch, collector, steps)?;
     }
     Ok(())
 }
 
-/// Offers a document that matches, if it passes the conditions.
-fn collect_row<C: Chunk>(
-    alloc: Global,
-    question: &Question,
+/// Goes on behind a row, and offers its document if it matches and passes the conditions.
+fn collect_row<L: Ledger, C: Chunk>(
+    asked: &Asked<'_>,
     chunk: &C,
     number: u32,
+    stream: &mut Matches<'_, C>,
     scratch: &mut Scratch,
     collector: &mut Collector<'_>,
+    steps: &mut Steps<L>,
 ) -> Result<(), NoMemory>
-    requires asked { IsAskedOfDocs question.now (C.content chunk.now) }
-    requires number { number < length (C.content chunk.now) }
-    requires keywords { scratch.old.hits.keywords ≡ question.now.query.keywords }
-    requires hits { (doc : DocRow) → slice_get (C.content chunk.now) number ≡ Some doc → AreHits question.now.query doc scratch.old.hits.list }
-    ensures { (before : List DocRow) (doc : DocRow) → slice_get (C.content chunk.now) number ≡ Some doc → Gathers question.now before collector.old → OnOk result (Gathers question.now (before ++ doc ∷ []) collector.new) }
+    requires asked { IsAskedOfDocs asked.now (C.content chunk.now) }
+    requires stands { StandsAt asked.now (C.content chunk.now) number stream.old }
+    ensures goes_on { OnOk result (stream.new ≡ record stream.old { at = number + 1 }) }
+    ensures gathers { (before : List DocRow) (doc : DocRow) → slice_get (C.content chunk.now) number ≡ Some doc → Gathers asked.now before collector.old → OnOk result (Gathers asked.now (before ++ filter (matches asked.now.query) (doc ∷ [])) collector.new) }
 {
-    read_row(
-        alloc,
-        question,
-        chunk,
-        number,
-        &scratch.hits,
-        &mut scratch.row,
-    )?;
-    if passes(question.filters.as_slice(), &scratch.row) {
-        collector.offer(&scratch.row)?;
+    let attrs = asked.question.attrs;
+    read_row(asked.alloc, chunk, number, attrs, &mut scratch.row)?;
+    if !asked.conditions.hold_unweighed(&scratch.row) {
+        stream.skip();
+        return Ok(());
+    }
+    match weight_of(asked, stream, &mut scratch.hits, steps)? {
+        Some(weight) => offer(asked, weight, &mut scratch.row, collector),
+        None => Ok(()),
+    }
+}
+
+/// Goes on behind a row, and weighs its document if it matches.
+fn weight_of<L: Ledger, C: Chunk>(
+    asked: &Asked<'_>,
+    stream: &mut Matches<'_, C>,
+    hits: &mut Hits,
+    steps: &mut Steps<L>,
+) -> Result<Option<u64>, NoMemory>
+    requires asked { IsAskedOfDocs asked.now stream.old.rows }
+    requires query { stream.old.query ≡ asked.now.query }
+    requires within { stream.old.at < length stream.old.rows }
+    ensures goes_on { OnOk result (stream.new ≡ record stream.old { at = stream.old.at + 1 }) }
+    ensures weighed { (doc : DocRow) → slice_get stream.old.rows stream.old.at ≡ Some doc → IfOk result (IsWeighed asked.now doc) }
+{
+    match asked.question.ranker {
+        Ranker::None => weight_unranked(stream, steps),
+        _ => weight_ranked(asked, stream, hits, steps),
+    }
+}
+
+/// The same by the ranker that gives each document one weight, for which no hits are looked for.
+fn weight_unranked<L: Ledger, C: Chunk>(
+    stream: &mut Matches<'_, C>,
+    steps: &mut Steps<L>,
+) -> Result<Option<u64>, NoMemory>
+    requires { stream.old.at < length stream.old.rows }
+    ensures goes_on { OnOk result (stream.new ≡ record stream.old { at = stream.old.at + 1 }) }
+    ensures weighed { (question : QuestionValue) (doc : DocRow) → question.ranker ≡ rankers.None → stream.old.query ≡ question.query → slice_get stream.old.rows stream.old.at ≡ Some doc → IfOk result (IsWeighed question doc) }
+{
+    let found = stream.matches(steps)?;
+    Ok(if found { Some(1) } else { None })
+}
+
+/// The same by the hits.
+fn weight_ranked<L: Ledger, C: Chunk>(
+    asked: &Asked<'_>,
+    stream: &mut Matches<'_, C>,
+    hits: &mut Hits,
+    steps: &mut Steps<L>,
+) -> Result<Option<u64>, NoMemory>
+    requires asked { IsAskedOfDocs asked.now stream.old.rows }
+    requires query { stream.old.query ≡ asked.now.query }
+    requires within { stream.old.at < length stream.old.rows }
+    ensures goes_on { OnOk result (stream.new ≡ record stream.old { at = stream.old.at + 1 }) }
+    ensures weighed { (doc : DocRow) → slice_get stream.old.rows stream.old.at ≡ Some doc → IfOk result (IsWeighed asked.now doc) }
+{
+    let question = asked.question;
+    let found = stream.take(hits, steps)?;
+    if !found {
+        return Ok(None);
+    }
+    Ok(Some(weight(question.ranker, hits, &question.weights)))
+}
+
+/// Offers a document that matches and passed the conditions that look at no weight, if it passes the others too.
+fn offer(
+    asked: &Asked<'_>,
+    weight: u64,
+    row: &mut Row,
+    collector: &mut Collector<'_>,
+) -> Result<(), NoMemory>
+    requires { hold_unweighed asked.now.filters row.old ≡ true }
+    ensures { (before : List DocRow) (doc : DocRow) → HasRead doc row.old → IsWeighed asked.now doc (Some weight) → Gathers asked.now before collector.old → OnOk result (Gathers asked.now (before ++ doc ∷ []) collector.new) }
+{
+    row.weight = weight;
+    if asked.conditions.hold_weighed(row) {
+        collector.offer(row)?;
     }
     Ok(())
 }

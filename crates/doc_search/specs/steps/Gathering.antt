@@ -1,12 +1,15 @@
 -- what a search has gathered so far
-use Rattle.std.specs.Prelude.{◌≡◌, ℕ, List, ◌++◌, Some, slice_get}
+use Rattle.std.specs.Prelude.{◌≡◌, ◌<◌, ℕ, List, ◌++◌, true, false, Option, Some, None, length, slice_get}
 use Rattle.std.specs.List.{AllZip, filter}
 use Rattle.doc_types.specs.declared.documents.DocRow.{DocRow}
+use Rattle.doc_types.specs.declared.hits.Hit.{Hit}
 use Rattle.doc_types.specs.declared.schema.Schema.{Schema}
 use Rattle.doc_types.specs.Documents.{AreRowsOf}
 use Rattle.doc_types.specs.Snapshots.{LayerValue, all_living, living}
+use Rattle.op_eval.specs.Hits.{AreHits}
 use Rattle.op_eval.specs.Matching.{matches}
-use Rattle.op_eval.specs.Streams.{Stream}
+use Rattle.op_eval.specs.Streams.{Stream, ahead}
+use Rattle.rankers.specs.Weight.{weight}
 use Rattle.row_select.specs.Collecting.{Collection, Keeps}
 use Rattle.row_select.specs.declared.row.Row.{Row}
 use Rattle.doc_search.specs.Searches.{IsAskedOf, IsRowOf, passes}
@@ -17,6 +20,29 @@ pub record IsAskedOfDocs (question : Question) (docs : List DocRow) : Type 0 whe
   pub schema : Schema
   pub asked : IsAskedOf schema question
   pub rows : AreRowsOf schema docs
+
+-- The weight is that of the document's hits.
+pub record IsWeightOf (question : Question) (doc : DocRow) (weighed : ℕ) : Type 0 where
+  pub hits : List Hit
+  pub are : AreHits question.query doc hits
+  pub is : weighed ≡ weight question.ranker (record { keywords = question.query.keywords; list = hits }) question.weights.list
+
+-- The row has the document's id and its values.
+pub record HasRead (doc : DocRow) (row : Row) : Type 0 where
+  pub id : row.id ≡ doc.doc.id
+  pub values : row.values ≡ doc.doc.values
+
+-- the document's weight, if it matches
+abbrev pub IsWeighed : Question → DocRow → Option ℕ → Type 0
+IsWeighed question doc None = matches question.query doc ≡ false
+IsWeighed question doc (Some weighed) = (matches question.query doc ≡ true) × IsWeightOf question doc weighed
+
+-- The stream of the question over these documents stands at the one of this number.
+pub record StandsAt (question : Question) (docs : List DocRow) (number : ℕ) (stream : Stream) : Type 0 where
+  pub query : stream.query ≡ question.query
+  pub rows : stream.rows ≡ docs
+  pub at : stream.at ≡ number
+  pub within : number < length docs
 
 -- of these documents, which match, the collector was offered those that pass, each with its weight
 pub record Gathers (question : Question) (docs : List DocRow) (collection : Collection) : Type 0 where
@@ -40,7 +66,7 @@ pub record IsAmid (question : Question) (docs wanted before : List DocRow) (ahea
 pub record IsOnWay (question : Question) (layer : LayerValue) (first : Collection) (stream : Stream) (here : Collection) : Type 0 where
   pub query : stream.query ≡ question.query
   pub docs : stream.rows ≡ layer.rows
-  pub amid : (before : List DocRow) → Gathers question before first → IsAmid question layer.rows (filter (matches question.query) (living layer)) before stream.ahead here
+  pub amid : (before : List DocRow) → Gathers question before first → IsAmid question layer.rows (filter (matches question.query) (living layer)) before (ahead stream) here
 
 -- the documents of some layers that match
 abbrev pub matching_in : Question → List LayerValue → List DocRow

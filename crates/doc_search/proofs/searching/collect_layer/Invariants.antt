@@ -1,9 +1,9 @@
-use Rattle.std.proofs.Common.{length}
+use Rattle.std.proofs.Common.{length, ◌-◌}
 use Rattle.doc_search.specs.steps.Gathering.{IsOnWay}
 use Rattle.doc_search.proofs.searching.collect_layer.Given as goal
 
 abbrev pub invariant-rows : goal.invariant-rows
-invariant-rows g l = IsOnWay l.question l.layer l.fn.collector l.matches l.collector
+invariant-rows g l = IsOnWay l.asked l.layer l.fn.collector l.stream l.collector
 
 abbrev pub decreases-rows : goal.decreases-rows
-decreases-rows g l = length l.matches.ahead
+decreases-rows g l = length l.stream.rows - l.stream.at
