@@ -1,10 +1,13 @@
 -- The columns of an index, as statements name them: `id`, a field or an attribute.
-use Rattle.std.specs.Prelude.{ℕ, zero, suc, List, [], ◌∷◌, ◌++◌, map, length, codes, Option, Some, None, if◌then◌else◌, slice_index_or}
+use Rattle.std.specs.Prelude.{ℕ, zero, suc, List, [], ◌∷◌, ◌++◌, map, length, Bool, not, is_some, codes, Option, Some, None, if◌then◌else◌, slice_index_or}
 use Rattle.std.specs.List.{position}
 use Rattle.std.specs.Str.{bytes_eq}
+use Rattle.doc_types.specs.declared.schema.AttrKind.{AttrKind}
+use Rattle.doc_types.specs.declared.schema.AttrKind.TheVariants.{Uint}
 use Rattle.doc_types.specs.declared.schema.Schema.{Schema}
 use Rattle.ql_refusals.specs.declared.columns.Target.{Target}
 use Rattle.ql_refusals.specs.declared.columns.Target.TheVariants.{Id, Field, Attr}
+use Rattle.ql_refusals.specs.Refusals.{Refused, unknown_column, column_twice}
 
 -- the column of every index
 abbrev pub id_name : List ℕ
@@ -29,6 +32,12 @@ field_or_attr (Some field) attr = Some (Field field)
 abbrev pub target_of : Schema → List ℕ → Option Target
 target_of schema name = if bytes_eq name id_name then Some Id else field_or_attr (field_place schema name) (attr_place schema name)
 
+-- what is wrong with a name in a list of columns, told whether it stood there before: no column has it, or it stands twice
+abbrev pub name_fault : Schema → Bool → List ℕ → Option Refused
+name_fault schema before name =
+    if not (is_some (target_of schema name)) then Some (unknown_column name)
+    else (if before then Some (column_twice name) else None)
+
 -- as many columns of one kind, by their places
 abbrev pub numbered : (ℕ → Target) → ℕ → List Target
 numbered make zero = []
@@ -43,3 +52,7 @@ abbrev pub name_of : Schema → Target → List ℕ
 name_of schema Id = id_name
 name_of schema (Field field) = slice_index_or schema.fields field []
 name_of schema (Attr attr) = slice_index_or (attr_names schema) attr []
+
+-- the kind of an attribute, by its place in the schema
+abbrev pub kind_of : Schema → ℕ → AttrKind
+kind_of schema attr = (slice_index_or schema.attrs attr ([], Uint)).1

@@ -1,5 +1,5 @@
--- Refusals: the code and the text that a client is told, in the order in which a statement is looked at.
-use Rattle.std.specs.Prelude.{ℕ, List, ◌++◌, ◌==◌, take, codes, if◌then◌else◌, Option, Some, None}
+-- Refusals: the code and the text that a client is told.
+use Rattle.std.specs.Prelude.{ℕ, List, [], ◌∷◌, ◌++◌, ◌==◌, Bool, take, codes, if◌then◌else◌, Option, Some, None}
 use Rattle.std.specs.Fmt.{decimal}
 use Rattle.ql_lex.specs.declared.fault.LexFault.{LexFault}
 use Rattle.ql_lex.specs.Faults.{fault_text as lex_text}
@@ -29,6 +29,15 @@ no_memory = record { code = 1037; text = codes "out of memory" }
 abbrev pub first : Option Refused → Option Refused → Option Refused
 first None later = later
 first (Some fault) later = Some fault
+
+-- the first fault that some of these have
+abbrev pub first_of : {X : Type 0} → (X → Option Refused) → List X → Option Refused
+first_of fault [] = None
+first_of fault (x ∷ xs) = first (fault x) (first_of fault xs)
+
+-- the fault of what has to hold
+abbrev pub unless : Bool → Refused → Option Refused
+unless holds refusal = if holds then None else Some refusal
 
 -- a name as refusals show it: names have at most 64 bytes
 abbrev pub shown : List ℕ → List ℕ

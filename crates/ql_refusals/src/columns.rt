@@ -2,9 +2,10 @@
 //! configuration. Names come in small letters, as the parser keeps them. An index has at most 65 columns, so that its
 //! lists are gone through.
 ghost use Rattle.std.specs.Prelude.{◌≡◌, IfOk};
-ghost use Rattle.ql_refusals.specs.Columns.{all_targets, attr_place, field_place, name_of, target_of};
+ghost use Rattle.ql_refusals.specs.Columns.{all_targets, attr_place, field_place, kind_of, name_fault, name_of, target_of};
 
-use doc_types::Schema;
+use crate::refusal::{Refusal, column_twice, unknown_column};
+use doc_types::{AttrKind, Schema};
 use srch_base::NoMemory;
 use std::alloc::Global;
 
@@ -57,6 +58,19 @@ pub fn target_of(schema: &Schema, name: &[u8]) -> Option<Target>
     }
 }
 
+/// What is wrong with a name in a list of columns, told whether it stood there before: no column has it, or it stands twice.
+pub fn name_fault(schema: &Schema, before: bool, name: &[u8]) -> Option<Refusal>
+    ensures { result ≡ name_fault schema.now before name.now }
+{
+    if target_of(schema, name).is_none() {
+        Some(unknown_column(name))
+    } else if before {
+        Some(column_twice(name))
+    } else {
+        None
+    }
+}
+
 /// All columns in schema order.
 pub fn all_targets(alloc: Global, schema: &Schema) -> Result<Vec<Target>, NoMemory>
     ensures { IfOk result (λ targets. targets.items ≡ all_targets schema.now) }
@@ -86,5 +100,15 @@ pub fn name_of(schema: &Schema, target: Target) -> &[u8]
             Some(attr) => attr.0.as_bytes(),
             None => b"",
         },
+    }
+}
+
+/// The kind of an attribute; an attribute that the schema doesn't have counts as `Uint`.
+pub fn kind_of(schema: &Schema, attr: usize) -> AttrKind
+    ensures { result ≡ kind_of schema.now attr }
+{
+    match schema.attrs.as_slice().get(attr) {
+        Some(attr) => attr.1,
+        None => AttrKind::Uint,
     }
 }

@@ -4,7 +4,7 @@
 mod columns;
 mod refusal;
 
-pub use columns::{ID, Target, all_targets, name_of, target_of};
+pub use columns::{ID, Target, all_targets, kind_of, name_fault, name_of, target_of};
 pub use refusal::{
     MAX_REFUSAL_BYTES, Refusal, bad_query, bad_syntax, bad_token, column_is_field,
     column_is_no_field, column_twice, duplicate_id, id_missing, id_out_of_range,

@@ -1,5 +1,5 @@
-//! Why a statement is refused: a code of the protocol and a text, made by one named function for each row of the manual's
-//! table, in the table's order.
+//! Why a statement is refused: a code of the protocol and a text, made by one named function for each text of the manual's
+//! table.
 ghost use Rattle.std.specs.Prelude.{◌≡◌, ◌+◌, ◌≤◌, ◌++◌, [], length, decimal};
 ghost use Rattle.query_grammar.specs.FaultTexts.{name_text};
 ghost use Rattle.query_marks.specs.KindTexts.{kind_text};
@@ -11,6 +11,7 @@ use ql_grammar::{ParseFault, ParseKind};
 use ql_lex::{LexFault, LexKind};
 use query_grammar::QueryFault;
 use query_marks::QueryKind;
+use srch_base::Or;
 use std::marker::Model;
 
 /// The most bytes of a refusal's text.
@@ -129,6 +130,16 @@ impl Refusal {
     }
 }
 
+impl From<Refusal> for Or<Refusal> {
+    ghost use Rattle.srch_base.specs.declared.faults.Or.TheVariants.{Fault};
+
+    ghost from_gives = { λ refusal cause. cause ≡ Fault refusal };
+
+    fn from(refusal: Refusal) -> Self {
+        Or::Fault(refusal)
+    }
+}
+
 /// A name as refusals show it.
 fn cut(name: &[u8]) -> &[u8]
     ensures value { result.now ≡ shown name.now }
@@ -229,14 +240,14 @@ pub fn column_is_no_field(name: &[u8]) -> Refusal
     Refusal::named(b"column '", name, b"' is not a field")
 }
 
-/// A text where a number stands, or a number where a text does.
+/// A text for a column of numbers, a number for a field, or a value of another form for an option.
 pub fn wrong_kind(name: &[u8]) -> Refusal
     ensures { result ≡ wrong_kind_row name.now }
 {
     Refusal::named(b"wrong kind of value for '", name, b"'")
 }
 
-/// A number that the attribute's kind can't hold.
+/// A number that the attribute's kind can't hold, or no weight of a field.
 pub fn value_out_of_range(name: &[u8]) -> Refusal
     ensures { result ≡ value_out_of_range_row name.now }
 {
