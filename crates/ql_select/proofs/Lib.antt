@@ -1,3 +1,5 @@
+-- the aliases of a list, item by item
+pub mod Aliased
 -- what `*` shows, attribute by attribute
 pub mod Numbering
 -- what holds of a SELECT that nothing is wrong with

@@ -4,7 +4,7 @@ use Rattle.std.specs.List.{find, count_by, sum_by}
 use Rattle.std.specs.Option.{option_map}
 use Rattle.std.specs.Str.{bytes_eq}
 use Rattle.std.proofs.lemmas.Bool.{and_parts, leb-true, ltb-true}
-use Rattle.std.proofs.lemmas.List.Elements.{All-nil, All-cons, All-head, All-tail, All-weaker}
+use Rattle.std.proofs.lemmas.List.Elements.{All-nil, All-head, All-tail, All-weaker}
 use Rattle.std.proofs.lemmas.Option.{none-some}
 use Rattle.std.proofs.lemmas.List.{get_or-reverse, length-reverse}
 use Rattle.std.proofs.lemmas.Slice.Eq.{bytes_eq-Decides}
@@ -16,29 +16,13 @@ use Rattle.ql_grammar.specs.declared.select.SelectOption.{SelectOption}
 use Rattle.ql_refusals.specs.declared.columns.Target.{Target}
 use Rattle.ql_refusals.specs.declared.columns.Target.TheVariants as targets
 use Rattle.ql_refusals.specs.Columns.{target_of}
-use Rattle.ql_refusals.specs.Refusals.{Refused, first, column_is_no_field, value_out_of_range, second_match, too_many_columns, too_many_sort_keys, max_matches_out_of_range, offset_not_below}
+use Rattle.ql_refusals.specs.Refusals.{first_of, unless, column_is_no_field, value_out_of_range, second_match, too_many_columns, too_many_sort_keys, max_matches_out_of_range, offset_not_below}
+use Rattle.ql_refusals.proofs.FirstFault.{first_none, first_of_none, unless_none}
 use Rattle.ql_select.specs.declared.faults.Pass.TheVariants.{Names, Kinds}
 use Rattle.ql_select.specs.declared.limits.TheConstants.{MAX_COLUMNS, MAX_SORT_KEYS, MAX_MATCHES}
-use Rattle.ql_select.specs.Faults.{first_of, is_match, item_fault, cond_fault, key_fault, limits_fault, option_fault, option_name_fault, page_fault, parts_fault, select_fault, target_weight_fault, unless, weight_fault, width}
+use Rattle.ql_select.specs.Faults.{is_match, item_fault, cond_fault, key_fault, limits_fault, option_fault, option_name_fault, page_fault, parts_fault, select_fault, target_weight_fault, weight_fault, width}
 use Rattle.ql_select.specs.Options.{field_weights_option, last_value, max_matches_of, weights_in}
 use Rattle.ql_select.specs.Parts.{limits}
-
--- ---- no fault of several
-
-pub first_none : (a b : Option Refused) → first a b ≡ None → (a ≡ None) × (b ≡ None)
-first_none None b e = (refl, e)
-first_none (Some fault) b e = absurd (none-some fault (sym e))
-
-pub first_of_none : {X : Type 0} (fault : X → Option Refused) (xs : List X) → first_of fault xs ≡ None → All (λ x. fault x ≡ None) xs
-first_of_none fault [] e = All-nil (λ x. fault x ≡ None)
-first_of_none fault (x ∷ xs) e =
-    let both = first_none (fault x) (first_of fault xs) e in
-    All-cons (λ x. fault x ≡ None) x xs both.0 (first_of_none fault xs both.1)
-
--- a test whose fault isn't there holds
-pub unless_none : (holds : Bool) (refusal : Refused) → unless holds refusal ≡ None → holds ≡ true
-unless_none true refusal e = refl
-unless_none false refusal e = absurd (none-some refusal (sym e))
 
 -- ---- the parts of a SELECT with no fault
 
@@ -65,13 +49,13 @@ options_none schema select e =
 -- ---- the page
 
 abbrev pub IsPage : ℕ → ℕ → Type 0
-IsPage offset max_matches = (1 ≤ max_matches) × (max_matches ≤ 100000) × (offset < max_matches)
+IsPage offset max_matches = (1 ≤ max_matches) × (max_matches ≤ MAX_MATCHES) × (offset < max_matches)
 
 page_none : (offset max_matches : ℕ) → page_fault offset max_matches ≡ None → IsPage offset max_matches
 page_none offset max_matches e =
     let both = first_none (unless (nat_le 1 max_matches && nat_le max_matches MAX_MATCHES) max_matches_out_of_range) _ e in
     let range = and_parts (nat_le 1 max_matches) (nat_le max_matches MAX_MATCHES) (unless_none _ max_matches_out_of_range both.0) in
-    (leb-true 1 max_matches range.0, leb-true max_matches 100000 range.1, ltb-true offset max_matches (unless_none (nat_lt offset max_matches) (offset_not_below offset max_matches) both.1))
+    (leb-true 1 max_matches range.0, leb-true max_matches MAX_MATCHES range.1, ltb-true offset max_matches (unless_none (nat_lt offset max_matches) (offset_not_below offset max_matches) both.1))
 
 pub is_page : (schema : Schema) (select : Select) → select_fault schema select ≡ None → IsPage (limits select.limit).0 (max_matches_of select.options)
 is_page schema select e =

@@ -1,5 +1,5 @@
 -- Which columns a SELECT shows. "SELECT syntax" of the manual.
-use Rattle.std.specs.Prelude.{ℕ, List, [], ◌∷◌, map, codes, unwrap_or, slice_index_or}
+use Rattle.std.specs.Prelude.{ℕ, List, [], ◌∷◌, map, codes, unwrap_or}
 use Rattle.std.specs.List.{flat_map, enumerate_from}
 use Rattle.std.specs.Option.{option_map, option_to_list}
 use Rattle.doc_types.specs.declared.schema.Schema.{Schema}
@@ -11,7 +11,7 @@ use Rattle.ql_grammar.specs.declared.select.SelectExpr.{SelectExpr}
 use Rattle.ql_grammar.specs.declared.select.SelectExpr.TheVariants as exprs
 use Rattle.ql_grammar.specs.declared.select.SelectItem.{SelectItem}
 use Rattle.ql_grammar.specs.declared.select.SelectItem.TheVariants as items
-use Rattle.ql_refusals.specs.Columns.{id_name}
+use Rattle.ql_refusals.specs.Columns.{id_name, kind_of}
 use Rattle.row_select.specs.declared.row.ColumnRef.{ColumnRef}
 use Rattle.row_select.specs.declared.row.ColumnRef.TheVariants as columns
 use Rattle.ql_select.specs.declared.selection.Shown.{Shown}
@@ -27,7 +27,7 @@ attr_kind attr_kinds.Timestamp = kinds.Uint
 -- how the values of a column are sent: ids and weights as unsigned numbers of 64 bits
 abbrev pub column_kind : Schema → ColumnRef → ColumnKind
 column_kind schema columns.Id = kinds.Unsigned
-column_kind schema (columns.Attr attr) = attr_kind (slice_index_or schema.attrs attr ([], attr_kinds.Uint)).1
+column_kind schema (columns.Attr attr) = attr_kind (kind_of schema attr)
 column_kind schema columns.Weight = kinds.Unsigned
 
 -- a column under a name

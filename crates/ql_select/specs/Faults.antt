@@ -1,6 +1,6 @@
 -- What is wrong with a SELECT, told by its text and the columns of its index: the names of its options; the other names, from left
 -- to right; kinds and ranges, from left to right; and then the limits, in this order.
-use Rattle.std.specs.Prelude.{ℕ, ◌+◌, List, [], ◌∷◌, ◌++◌, length, Bool, true, false, nat_le, nat_lt, ◌&&◌, not, is_some, Option, Some, None, if◌then◌else◌}
+use Rattle.std.specs.Prelude.{ℕ, ◌+◌, List, [], ◌∷◌, ◌++◌, length, Bool, true, false, nat_le, nat_lt, ◌&&◌, is_some, Option, Some, None, if◌then◌else◌}
 use Rattle.std.specs.List.{list_any, count_by, sum_by}
 use Rattle.std.specs.Str.{bytes_eq}
 use Rattle.doc_types.specs.declared.schema.Schema.{Schema}
@@ -17,19 +17,14 @@ use Rattle.ql_grammar.specs.declared.select.SortName.{SortName}
 use Rattle.ql_grammar.specs.declared.select.SortName.TheVariants as keys
 use Rattle.ql_refusals.specs.declared.columns.Target.{Target}
 use Rattle.ql_refusals.specs.declared.columns.Target.TheVariants as targets
-use Rattle.ql_refusals.specs.Columns.{target_of}
-use Rattle.ql_refusals.specs.Refusals.{Refused, first, unknown_column, column_twice, unknown_option, ranker_not_offered, column_is_field, column_is_no_field, wrong_kind, value_out_of_range, second_match, too_many_columns, too_many_sort_keys, max_matches_out_of_range, offset_not_below}
+use Rattle.ql_refusals.specs.Columns.{name_fault, target_of}
+use Rattle.ql_refusals.specs.Refusals.{Refused, first, first_of, unless, unknown_column, unknown_option, ranker_not_offered, column_is_field, column_is_no_field, wrong_kind, value_out_of_range, second_match, too_many_columns, too_many_sort_keys, max_matches_out_of_range, offset_not_below}
 use Rattle.ql_select.specs.declared.faults.Pass.{Pass}
 use Rattle.ql_select.specs.declared.faults.Pass.TheVariants.{Names, Kinds}
 use Rattle.ql_select.specs.declared.limits.TheConstants.{MAX_COLUMNS, MAX_SORT_KEYS, MAX_MATCHES}
 use Rattle.ql_select.specs.Names.{is_alias}
 use Rattle.ql_select.specs.Options.{ranker_option, max_matches_option, field_weights_option, is_option, ranker_named, max_matches_of}
 use Rattle.ql_select.specs.Parts.{limits}
-
--- the first fault that some of these have
-abbrev pub first_of : {X : Type 0} → (X → Option Refused) → List X → Option Refused
-first_of fault [] = None
-first_of fault (x ∷ xs) = first (fault x) (first_of fault xs)
 
 -- ---- names of columns, and their kinds
 
@@ -69,24 +64,22 @@ key_fault pass schema list key = None
 
 -- no option has this name
 abbrev pub option_name_fault : SelectOption → Option Refused
-option_name_fault option = if is_option option.name then None else Some (unknown_option option.name)
+option_name_fault option = unless (is_option option.name) (unknown_option option.name)
 
--- what is wrong with a name of `field_weights` after others
-abbrev pub weight_name_fault : Schema → List (List ℕ × ℕ) → List ℕ → Option Refused
-weight_name_fault schema before name =
-    if not (is_some (target_of schema name)) then Some (unknown_column name)
-    else (if list_any (λ other. bytes_eq other.0 name) before then Some (column_twice name) else None)
+-- a weight is given to this name
+abbrev pub is_weighed : List (List ℕ × ℕ) → List ℕ → Bool
+is_weighed list name = list_any (λ given. bytes_eq given.0 name) list
 
--- what is wrong with the names of `field_weights`, from left to right
+-- what is wrong with the names of `field_weights` after others, from left to right
 abbrev pub weight_names_fault : Schema → List (List ℕ × ℕ) → List (List ℕ × ℕ) → Option Refused
 weight_names_fault schema before [] = None
 weight_names_fault schema before (given ∷ list) =
-    first (weight_name_fault schema before given.0) (weight_names_fault schema (before ++ given ∷ []) list)
+    first (name_fault schema (is_weighed before given.0) given.0) (weight_names_fault schema (before ++ given ∷ []) list)
 
 -- a weight is given to a field, and is 1 to 65,535
 abbrev pub target_weight_fault : List ℕ → ℕ → Option Target → Option Refused
 target_weight_fault name weight (Some (targets.Field field)) =
-    if nat_le 1 weight && nat_le weight 65535 then None else Some (value_out_of_range name)
+    unless (nat_le 1 weight && nat_le weight 65535) (value_out_of_range name)
 target_weight_fault name weight target = Some (column_is_no_field name)
 
 -- what is wrong with a weight that is given
@@ -95,7 +88,7 @@ weight_fault schema given = target_weight_fault given.0 given.1 (target_of schem
 
 -- what is wrong with the value of `ranker`
 abbrev pub ranker_fault : Pass → OptionValue → Option Refused
-ranker_fault Names (values.Name name) = if is_some (ranker_named name) then None else Some (ranker_not_offered name)
+ranker_fault Names (values.Name name) = unless (is_some (ranker_named name)) (ranker_not_offered name)
 ranker_fault Names value = None
 ranker_fault Kinds (values.Name name) = None
 ranker_fault Kinds value = Some (wrong_kind ranker_option)
@@ -140,10 +133,6 @@ is_match cond = false
 abbrev pub width : Schema → SelectItem → ℕ
 width schema items.All = 1 + length schema.attrs
 width schema (items.One expr alias) = 1
-
--- the fault of what has to hold
-abbrev pub unless : Bool → Refused → Option Refused
-unless holds refusal = if holds then None else Some refusal
 
 -- what is wrong with the page: its offset and `max_matches`
 abbrev pub page_fault : ℕ → ℕ → Option Refused

@@ -9,6 +9,7 @@ use Rattle.ql_grammar.specs.declared.select.OptionValue.TheVariants as values
 use Rattle.ql_grammar.specs.declared.select.SelectOption.{SelectOption}
 use Rattle.rankers.specs.declared.ranker.Ranker.{Ranker}
 use Rattle.rankers.specs.declared.ranker.Ranker.TheVariants as rankers
+use Rattle.ql_select.specs.declared.options.TheConstants.{DEFAULT_MAX_MATCHES}
 
 -- the names of the options
 abbrev pub ranker_option : List ℕ
@@ -56,10 +57,10 @@ ranker_in value = rankers.Proximity
 abbrev pub ranker_of : List SelectOption → Ranker
 ranker_of options = ranker_in (last_value options ranker_option)
 
--- the number that a value is: 1,000, if nothing is said
+-- the number that a value is: `DEFAULT_MAX_MATCHES`, if nothing is said
 abbrev pub number_in : Option OptionValue → ℕ
 number_in (Some (values.Number number)) = number
-number_in value = 1000
+number_in value = DEFAULT_MAX_MATCHES
 
 -- how many rows there are for the page
 abbrev pub max_matches_of : List SelectOption → ℕ

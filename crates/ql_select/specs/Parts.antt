@@ -19,6 +19,7 @@ use Rattle.row_select.specs.declared.order.Order.{Order}
 use Rattle.row_select.specs.declared.page.Page.{Page}
 use Rattle.row_select.specs.declared.row.ColumnRef.{ColumnRef}
 use Rattle.row_select.specs.declared.row.ColumnRef.TheVariants as columns
+use Rattle.ql_select.specs.declared.limits.TheConstants.{DEFAULT_COUNT}
 use Rattle.ql_select.specs.Names.{column_of, key_column}
 use Rattle.ql_select.specs.Options.{max_matches_of}
 
@@ -69,9 +70,9 @@ abbrev pub limits_of : ℕ → Option ℕ → ℕ × ℕ
 limits_of count None = (0, count)
 limits_of offset (Some count) = (offset, count)
 
--- the same of a SELECT: the first 20, if nothing is said
+-- the same of a SELECT: the first `DEFAULT_COUNT`, if nothing is said
 abbrev pub limits : Option LimitPart → ℕ × ℕ
-limits None = (0, 20)
+limits None = (0, DEFAULT_COUNT)
 limits (Some part) = limits_of part.first part.second
 
 -- the page: there are no more than `max_matches` rows, so none is cut off by asking for no more

@@ -1,11 +1,10 @@
 //! What is wrong with a SELECT: the names of its options, the other names, and kinds and ranges, each from left to right.
-ghost use Rattle.std.specs.Prelude.{◌≡◌, []};
-ghost use Rattle.std.specs.List.{list_any};
-ghost use Rattle.std.specs.Str.{bytes_eq};
-ghost use Rattle.ql_select.specs.Faults.{column_fault, cond_fault, field_weights_fault, first_of, item_fault, key_fault, max_matches_fault, named_key_fault, option_fault, option_name_fault, parts_fault, ranker_fault, select_fault, weight_fault, weight_name_fault, weight_names_fault};
+ghost use Rattle.std.specs.Prelude.{◌≡◌, [], IfOk};
+ghost use Rattle.ql_refusals.specs.Refusals.{first_of};
+ghost use Rattle.ql_select.specs.Faults.{column_fault, cond_fault, field_weights_fault, is_weighed, item_fault, key_fault, max_matches_fault, named_key_fault, option_fault, option_name_fault, parts_fault, ranker_fault, select_fault, weight_fault, weight_names_fault};
 
+use crate::aliases::Aliases;
 use crate::limits::limits_fault;
-use crate::names::is_alias;
 use crate::options::{
     FIELD_WEIGHTS_OPTION, MAX_MATCHES_OPTION, RANKER_OPTION, is_option, ranker_named,
 };
@@ -14,10 +13,11 @@ use ql_grammar::{
     Cond, OptionValue, Select, SelectExpr, SelectItem, SelectOption, SortKey, SortName,
 };
 use ql_refusals::{
-    Refusal, Target, column_is_field, column_is_no_field, column_twice, ranker_not_offered,
+    Refusal, Target, column_is_field, column_is_no_field, name_fault, ranker_not_offered,
     target_of, unknown_column, unknown_option, value_out_of_range, wrong_kind,
 };
-use srch_base::Name;
+use srch_base::{Name, NoMemory};
+use std::alloc::Global;
 
 /// What a SELECT is gone over for.
 #[derive(Clone, Copy)]
@@ -29,33 +29,38 @@ pub enum Pass {
 }
 
 /// The first fault of a SELECT but for those of its MATCH.
-pub(crate) fn select_fault(schema: &Schema, select: &Select) -> Option<Refusal>
+pub(crate) fn select_fault(
+    alloc: Global,
+    schema: &Schema,
+    select: &Select,
+) -> Result<Option<Refusal>, NoMemory>
+    ensures { IfOk result (λ fault. fault ≡ select_fault schema.now select.now) }
+{
+    let aliases = Aliases::of(alloc, select.items.as_slice())?;
+    Ok(first_fault(schema, select, &aliases))
+}
+
+/// The same, with the aliases of its list.
+fn first_fault(schema: &Schema, select: &Select, aliases: &Aliases<'_>) -> Option<Refusal>
+    requires { aliases.now ≡ select.now.items }
     ensures { result ≡ select_fault schema.now select.now }
 {
-    match option_names_fault(select.options.as_slice()) {
-        Some(refusal) => return Some(refusal),
-        None => {}
+    if let Some(refusal) = option_names_fault(select.options.as_slice()) {
+        return Some(refusal);
     }
-    match parts_fault(Pass::Names, schema, select) {
-        Some(refusal) => return Some(refusal),
-        None => {}
+    if let Some(refusal) = parts_fault(Pass::Names, schema, select, aliases) {
+        return Some(refusal);
     }
-    match parts_fault(Pass::Kinds, schema, select) {
-        Some(refusal) => Some(refusal),
-        None => limits_fault(schema, select),
+    if let Some(refusal) = parts_fault(Pass::Kinds, schema, select, aliases) {
+        return Some(refusal);
     }
+    limits_fault(schema, select)
 }
 
 fn option_names_fault(options: &[SelectOption]) -> Option<Refusal>
     ensures { result ≡ first_of option_name_fault options.now }
 {
-    'options: for option in options {
-        match option_name_fault(option) {
-            Some(refusal) => return Some(refusal),
-            None => {}
-        }
-    }
-    None
+    options.iter().find_map(|option| option_name_fault(option))
 }
 
 fn option_name_fault(option: &SelectOption) -> Option<Refusal>
@@ -69,26 +74,25 @@ fn option_name_fault(option: &SelectOption) -> Option<Refusal>
 }
 
 /// What is wrong with the parts of a SELECT, from left to right.
-fn parts_fault(pass: Pass, schema: &Schema, select: &Select) -> Option<Refusal>
+fn parts_fault(
+    pass: Pass,
+    schema: &Schema,
+    select: &Select,
+    aliases: &Aliases<'_>,
+) -> Option<Refusal>
+    requires { aliases.now ≡ select.now.items }
     ensures { result ≡ parts_fault pass schema.now select.now }
 {
-    match items_fault(pass, schema, select.items.as_slice()) {
-        Some(refusal) => return Some(refusal),
-        None => {}
+    if let Some(refusal) = items_fault(pass, schema, select.items.as_slice()) {
+        return Some(refusal);
     }
-    match conds_fault(pass, schema, select.conds.as_slice()) {
-        Some(refusal) => return Some(refusal),
-        None => {}
+    if let Some(refusal) = conds_fault(pass, schema, select.conds.as_slice()) {
+        return Some(refusal);
     }
-    match keys_fault(
-        pass,
-        schema,
-        select.items.as_slice(),
-        select.order.as_slice(),
-    ) {
-        Some(refusal) => Some(refusal),
-        None => options_fault(pass, schema, select.options.as_slice()),
+    if let Some(refusal) = keys_fault(pass, schema, aliases, select.order.as_slice()) {
+        return Some(refusal);
     }
+    options_fault(pass, schema, select.options.as_slice())
 }
 
 /// What is wrong with a column that is named.
@@ -105,13 +109,7 @@ fn column_fault(pass: Pass, schema: &Schema, name: &[u8]) -> Option<Refusal>
 fn items_fault(pass: Pass, schema: &Schema, items: &[SelectItem]) -> Option<Refusal>
     ensures { result ≡ first_of (item_fault pass schema.now) items.now }
 {
-    'items: for item in items {
-        match item_fault(pass, schema, item) {
-            Some(refusal) => return Some(refusal),
-            None => {}
-        }
-    }
-    None
+    items.iter().find_map(|item| item_fault(pass, schema, item))
 }
 
 fn item_fault(pass: Pass, schema: &Schema, item: &SelectItem) -> Option<Refusal>
@@ -129,13 +127,7 @@ fn item_fault(pass: Pass, schema: &Schema, item: &SelectItem) -> Option<Refusal>
 fn conds_fault(pass: Pass, schema: &Schema, conds: &[Cond]) -> Option<Refusal>
     ensures { result ≡ first_of (cond_fault pass schema.now) conds.now }
 {
-    'conds: for cond in conds {
-        match cond_fault(pass, schema, cond) {
-            Some(refusal) => return Some(refusal),
-            None => {}
-        }
-    }
-    None
+    conds.iter().find_map(|cond| cond_fault(pass, schema, cond))
 }
 
 fn cond_fault(pass: Pass, schema: &Schema, cond: &Cond) -> Option<Refusal>
@@ -152,25 +144,20 @@ fn cond_fault(pass: Pass, schema: &Schema, cond: &Cond) -> Option<Refusal>
 fn keys_fault(
     pass: Pass,
     schema: &Schema,
-    items: &[SelectItem],
+    aliases: &Aliases<'_>,
     keys: &[SortKey],
 ) -> Option<Refusal>
-    ensures { result ≡ first_of (λ key. key_fault pass schema.now items.now key.by) keys.now }
+    ensures { result ≡ first_of (λ key. key_fault pass schema.now aliases.now key.by) keys.now }
 {
-    'keys: for key in keys {
-        match key_fault(pass, schema, items, &key.by) {
-            Some(refusal) => return Some(refusal),
-            None => {}
-        }
-    }
-    None
+    keys.iter()
+        .find_map(|key| key_fault(pass, schema, aliases, &key.by))
 }
 
-fn key_fault(pass: Pass, schema: &Schema, items: &[SelectItem], by: &SortName) -> Option<Refusal>
-    ensures { result ≡ key_fault pass schema.now items.now by.now }
+fn key_fault(pass: Pass, schema: &Schema, aliases: &Aliases<'_>, by: &SortName) -> Option<Refusal>
+    ensures { result ≡ key_fault pass schema.now aliases.now by.now }
 {
     match by {
-        SortName::Column(name) => named_key_fault(pass, schema, items, name.as_bytes()),
+        SortName::Column(name) => named_key_fault(pass, schema, aliases, name.as_bytes()),
         SortName::Weight | SortName::CountAll => None,
     }
 }
@@ -179,12 +166,12 @@ fn key_fault(pass: Pass, schema: &Schema, items: &[SelectItem], by: &SortName) -
 fn named_key_fault(
     pass: Pass,
     schema: &Schema,
-    items: &[SelectItem],
+    aliases: &Aliases<'_>,
     name: &[u8],
 ) -> Option<Refusal>
-    ensures { result ≡ named_key_fault pass schema.now items.now name.now }
+    ensures { result ≡ named_key_fault pass schema.now aliases.now name.now }
 {
-    if is_alias(items, name) {
+    if aliases.has(name) {
         None
     } else {
         column_fault(pass, schema, name)
@@ -194,13 +181,9 @@ fn named_key_fault(
 fn options_fault(pass: Pass, schema: &Schema, options: &[SelectOption]) -> Option<Refusal>
     ensures { result ≡ first_of (option_fault pass schema.now) options.now }
 {
-    'options: for option in options {
-        match option_fault(pass, schema, option) {
-            Some(refusal) => return Some(refusal),
-            None => {}
-        }
-    }
-    None
+    options
+        .iter()
+        .find_map(|option| option_fault(pass, schema, option))
 }
 
 fn option_fault(pass: Pass, schema: &Schema, option: &SelectOption) -> Option<Refusal>
@@ -255,48 +238,33 @@ fn weight_names_fault(schema: &Schema, list: &[(Name, u64)]) -> Option<Refusal>
     ensures { result ≡ weight_names_fault schema.now [] list.now }
 {
     'list: for (place, given) in list.iter().enumerate() {
-        match weight_name_fault(schema, &list[..place], given.0.as_bytes()) {
-            Some(refusal) => return Some(refusal),
-            None => {}
+        let name = given.0.as_bytes();
+        if let Some(refusal) = name_fault(schema, is_weighed(&list[..place], name), name) {
+            return Some(refusal);
         }
     }
     None
 }
 
-fn weight_name_fault(schema: &Schema, before: &[(Name, u64)], name: &[u8]) -> Option<Refusal>
-    ensures { result ≡ weight_name_fault schema.now before.now name.now }
+/// Whether a weight is given to the name.
+fn is_weighed(list: &[(Name, u64)], name: &[u8]) -> bool
+    ensures { result ≡ is_weighed list.now name.now }
 {
-    if target_of(schema, name).is_none() {
-        Some(unknown_column(name))
-    } else if is_among(name, before) {
-        Some(column_twice(name))
-    } else {
-        None
-    }
-}
-
-fn is_among(name: &[u8], list: &[(Name, u64)]) -> bool
-    ensures { result ≡ list_any (λ other. bytes_eq other.0 name.now) list.now }
-{
-    list.iter().any(|other| other.0.as_bytes() == name)
+    list.iter().any(|given| given.0.as_bytes() == name)
 }
 
 fn weights_fault(schema: &Schema, list: &[(Name, u64)]) -> Option<Refusal>
     ensures { result ≡ first_of (weight_fault schema.now) list.now }
 {
-    'list: for given in list {
-        match weight_fault(schema, given.0.as_bytes(), given.1) {
-            Some(refusal) => return Some(refusal),
-            None => {}
-        }
-    }
-    None
+    list.iter().find_map(|given| weight_fault(schema, given))
 }
 
 /// A weight is given to a field, and is 1 to 65,535.
-fn weight_fault(schema: &Schema, name: &[u8], weight: u64) -> Option<Refusal>
-    ensures { result ≡ weight_fault schema.now (name.now, weight) }
+fn weight_fault(schema: &Schema, given: &(Name, u64)) -> Option<Refusal>
+    ensures { result ≡ weight_fault schema.now given.now }
 {
+    let name = given.0.as_bytes();
+    let weight = given.1;
     match target_of(schema, name) {
         Some(Target::Field(_)) if 1 <= weight && weight <= 65_535 => None,
         Some(Target::Field(_)) => Some(value_out_of_range(name)),

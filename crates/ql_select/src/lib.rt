@@ -1,9 +1,11 @@
 //! What a SELECT from an index means: what it asks of the documents and which columns it shows, or why it is refused.
 //!
-//! Everything here is told by the text and the configuration alone. A SELECT is gone over from left to right twice, for its names
-//! and for their kinds; then come the limits of its parts, and at last the text of its MATCH.
+//! Everything here is told by the text and the configuration alone. First come the names of options; then a SELECT is gone over
+//! from left to right twice, for its other names and for kinds and ranges; then come the limits of its parts, and at last the text
+//! of its MATCH.
 #![tactic(auto)]
 
+mod aliases;
 mod conditions;
 mod faults;
 mod laws;

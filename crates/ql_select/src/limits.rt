@@ -24,7 +24,7 @@ pub const MAX_SORT_KEYS: usize = 5;
 pub const MAX_MATCHES: u64 = 100_000;
 
 /// The rows that are shown where no LIMIT says how many.
-const DEFAULT_COUNT: u64 = 20;
+pub const DEFAULT_COUNT: u64 = 20;
 
 /// What passes a limit, in the order in which limits are looked at.
 pub(crate) fn limits_fault(schema: &Schema, select: &Select) -> Option<Refusal>
@@ -116,7 +116,7 @@ fn limits(part: Option<LimitPart>) -> (u64, u64)
 /// The page that a SELECT asks for.
 pub(crate) fn page_of(select: &Select) -> Page
     requires begins { (limits select.now.limit).0 < max_matches_of select.now.options }
-    requires most { max_matches_of select.now.options ≤ 100000 }
+    requires most { max_matches_of select.now.options ≤ MAX_MATCHES }
     ensures { result ≡ page_of select.now }
 {
     let (offset, count) = limits(select.limit);

@@ -1,7 +1,7 @@
 //! What the names of a SELECT mean, and whether it speaks of groups.
 ghost use Rattle.std.specs.Prelude.{◌≡◌, ◌<◌, ◌^◌, length, option_copied};
 ghost use Rattle.std.specs.List.{find, list_any};
-ghost use Rattle.ql_select.specs.Names.{column_of, expr_column, has_alias, has_group_parts, is_alias, is_count, is_grouped, is_of_groups, item_column, item_is_of_groups, key_column, names_groups, order_column};
+ghost use Rattle.ql_select.specs.Names.{column_of, expr_column, has_alias, has_group_parts, is_count, is_grouped, is_of_groups, item_column, item_is_of_groups, key_column, names_groups, order_column};
 
 use doc_types::Schema;
 use ql_grammar::{Select, SelectExpr, SelectItem, SortKey, SortName};
@@ -42,13 +42,6 @@ fn has_alias(name: &[u8], item: &SelectItem) -> bool
         } => alias.as_bytes() == name,
         _ => false,
     }
-}
-
-/// Whether the name is an alias of the list.
-pub(crate) fn is_alias(items: &[SelectItem], name: &[u8]) -> bool
-    ensures { result ≡ is_alias items.now name.now }
-{
-    items.iter().any(|item| has_alias(name, item))
 }
 
 /// The first item that has this alias.

@@ -20,7 +20,7 @@ const MAX_QUERY_TIME_OPTION: &[u8] = b"max_query_time";
 const COMMENT_OPTION: &[u8] = b"comment";
 
 /// How many rows there are for the page where nothing is said.
-const DEFAULT_MAX_MATCHES: u64 = 1000;
+pub const DEFAULT_MAX_MATCHES: u64 = 1000;
 
 /// Whether there is an option of this name.
 pub(crate) fn is_option(name: &[u8]) -> bool

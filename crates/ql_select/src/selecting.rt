@@ -31,9 +31,8 @@ pub fn select(alloc: Global, conf: &IndexConf, select: &Select) -> Result<Select
     requires schema { IsSchema conf.now.schema }
     ensures { MeansOr conf.now select.now result }
 {
-    match select_fault(&conf.schema, select) {
-        Some(refusal) => return Err(Or::Fault(refusal)),
-        None => {}
+    if let Some(refusal) = select_fault(alloc, &conf.schema, select)? {
+        return Err(Or::Fault(refusal));
     }
     let query = query_of(alloc, conf, match_text(select.conds.as_slice()))?;
     Ok(selection_of(alloc, conf, select, query)?)

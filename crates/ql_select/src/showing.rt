@@ -7,7 +7,7 @@ use crate::selection::Shown;
 use doc_types::{AttrKind, Schema};
 use mysql_wire::{Column, ColumnKind};
 use ql_grammar::{SelectExpr, SelectItem};
-use ql_refusals::ID;
+use ql_refusals::{ID, kind_of};
 use row_select::ColumnRef;
 use srch_base::{Items, Name, NoMemory};
 use std::alloc::Global;
@@ -95,10 +95,7 @@ fn column_kind(schema: &Schema, column: ColumnRef) -> ColumnKind
 {
     match column {
         ColumnRef::Id | ColumnRef::Weight => ColumnKind::Unsigned,
-        ColumnRef::Attr(place) => match schema.attrs.as_slice().get(place as usize) {
-            Some(attr) => attr_kind(attr.1),
-            None => ColumnKind::Uint,
-        },
+        ColumnRef::Attr(place) => attr_kind(kind_of(schema, place as usize)),
     }
 }
 
