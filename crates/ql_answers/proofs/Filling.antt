@@ -1,18 +1,24 @@
-use Rattle.std.proofs.Common.{◌≡◌, ℕ, ◌+◌, ◌<◌, List, [], ◌∷◌, ◌++◌, Option, None, Some, length, take, drop, get_or, sym, ◌∙◌, ap, subst, refl, suc, add-one, nat_eq, Bool, true, false, drop-cons, length-set, arith}
+use Rattle.std.proofs.Common.{◌≡◌, ℕ, ◌+◌, ◌<◌, List, [], ◌∷◌, ◌++◌, None, Some, Err, length, take, drop, get_or, sym, ◌∙◌, ap, subst, refl, suc, add-one, nat_eq, Bool, true, false, drop-cons, length-set, arith}
 use Rattle.std.proofs.lemmas.Bool.{eqb-true}
 use Rattle.std.proofs.lemmas.List.{take_more, length-take-le}
 use Rattle.std.proofs.lemmas.List.Elements.{All-set}
 use Rattle.std.proofs.Math.ListN.{set}
+use Rattle.std.proofs.lemmas.Option.{slice_get-get_or}
+use Rattle.std.specs.List.{AllZip}
+use Rattle.srch_base.specs.declared.faults.Or.{Or}
+use Rattle.srch_base.specs.declared.faults.Or.TheVariants.{NoMemory, Fault}
 use Rattle.doc_types.specs.declared.documents.Doc.{Doc}
 use Rattle.doc_types.specs.declared.schema.Schema.{Schema}
 use Rattle.doc_types.specs.declared.tokens.FieldTokens.{FieldTokens}
+use Rattle.doc_types.specs.declared.transactions.TxnOp.{TxnOp}
 use Rattle.doc_types.specs.Documents.{IsField}
 use Rattle.conf_text.specs.declared.conf.IndexConf.{IndexConf}
 use Rattle.ql_grammar.specs.declared.statement.Val.{Val}
 use Rattle.ql_refusals.specs.declared.columns.Target.{Target}
 use Rattle.ql_refusals.specs.Refusals.{Refused, first, wrong_number}
-use Rattle.ql_answers.specs.Writing.{Puts, Fills, value_fault, values_fault, row_fault, rows_fault}
-use Rattle.ql_answers.specs.steps.Documents.{IsShaped}
+use Rattle.ql_refusals.proofs.FirstFault.{first_none}
+use Rattle.ql_answers.specs.Writing.{Puts, Fills, Inserts, value_fault, values_fault, row_fault, rows_fault}
+use Rattle.ql_answers.specs.steps.Documents.{Builds, BuildsAll, IsShaped}
 
 -- one more value is put after the others
 Fills-snoc : (conf : IndexConf) (targets : List Target) (values : List Val) (old now new : Doc) (target : Target) (value : Val)
@@ -38,16 +44,11 @@ Fills-more conf targets values old now new d value i below within is_value fills
     let vs : take (i + 1) values ≡ take i values ++ value ∷ [] = take_more values i value within ∙ ap (λ (x : Val). take i values ++ x ∷ []) is_value in
     rw (ts, vs) (Fills-snoc conf (take i targets) (take i values) old now new (get_or targets i d) value fronts fills puts)
 
--- where the first of two faults is none, so is the second
-first_none : (a b : Option Refused) → first a b ≡ None → b ≡ None
-first_none None b h = h
-first_none (Some r) b h = cc
-
 pub good_rest : (schema : Schema) (targets : List Target) (values : List Val) (target : Target) (value : Val) (i : ℕ)
     → i < length targets → i < length values
     → values_fault schema (drop i targets) (drop i values) ≡ None → values_fault schema (drop (i + 1) targets) (drop (i + 1) values) ≡ None
 good_rest schema targets values target value i below within h =
-    rw (add-one) (first_none (value_fault schema (get_or targets i target) (get_or values i value)) _ (rw (drop-cons targets i target below, drop-cons values i value within) at h))
+    rw (add-one) (first_none (value_fault schema (get_or targets i target) (get_or values i value)) _ (rw (drop-cons targets i target below, drop-cons values i value within) at h)).1
 
 pub IsShaped-set : (schema : Schema) (doc : Doc) (i : ℕ) (tokens : FieldTokens) → IsShaped schema doc → IsField tokens
     → IsShaped schema (record doc { fields = set doc.fields i tokens })
@@ -56,10 +57,6 @@ IsShaped-set schema doc i tokens shaped good = record {
   values = shaped.values;
   tokens = All-set IsField doc.fields i tokens good shaped.tokens;
 }
-
-first_of_none : (a b : Option Refused) → first a b ≡ None → a ≡ None
-first_of_none None b h = refl
-first_of_none (Some r) b h = cc
 
 row_by : (schema : Schema) (targets : List Target) (row : List Val) (same : Bool) → nat_eq (length row) (length targets) ≡ same
     → row_fault schema targets row ≡ None → (length row ≡ length targets) × (values_fault schema targets row ≡ None)
@@ -74,9 +71,24 @@ pub rows_good : (schema : Schema) (targets : List Target) (rows : List (List Val
 rows_good schema targets rows row i below is h =
     let e : drop i rows ≡ row ∷ drop (suc i) rows = drop-cons rows i row below ∙ ap (λ (x : List Val). x ∷ drop (suc i) rows) is in
     let both : first (row_fault schema targets row) (rows_fault schema targets (drop (suc i) rows)) ≡ None = rw e at h in
-    (first_of_none (row_fault schema targets row) _ both, rw (add-one) (first_none (row_fault schema targets row) _ both))
+    let none = first_none (row_fault schema targets row) _ both in
+    (none.0, rw (add-one) none.1)
 
 -- a good row has as many values as there are columns, and each is good
 pub row_good : (schema : Schema) (targets : List Target) (row : List Val)
     → row_fault schema targets row ≡ None → (length row ≡ length targets) × (values_fault schema targets row ≡ None)
 row_good schema targets row h = row_by schema targets row (nat_eq (length row) (length targets)) refl h
+
+-- where a row isn't built, after rows that were, the rows aren't
+pub rows_unbuilt : (conf : IndexConf) (targets : List Target) (rows : List (List Val)) (row : List Val) (ops : List TxnOp) (place : ℕ) (end : Or Refused)
+    → place < length rows → row ≡ get_or rows place row → AllZip (Inserts conf targets) (take place rows) ops
+    → Builds conf targets row (Err end) → BuildsAll conf targets rows (Err end)
+rows_unbuilt conf targets rows row ops place NoMemory below is inserts unbuilt = tt
+rows_unbuilt conf targets rows row ops place (Fault refusal) below is inserts unbuilt = record {
+  place = place;
+  ops = ops;
+  good = inserts;
+  row = row;
+  is = slice_get-get_or rows place row below ∙ ap Some (sym is);
+  refuses = unbuilt;
+}

@@ -3,3 +3,8 @@ pub mod Filling
 pub mod Placing
 pub mod SaidBy
 pub mod Cells
+pub mod OneServed
+pub mod OneSearch
+pub mod OneInsertion
+pub mod OnePlan
+pub mod OneReply

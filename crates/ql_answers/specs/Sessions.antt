@@ -3,7 +3,7 @@ use Rattle.std.specs.Prelude.{◌≡◌, ℕ, ◌+◌, List, ◌++◌, All, Resu
 use Rattle.doc_types.specs.declared.schema.Schema.{Schema}
 use Rattle.doc_types.specs.declared.transactions.Txn.{Txn}
 use Rattle.doc_types.specs.Documents.{AreRowsOf}
-use Rattle.doc_types.specs.Snapshots.{SnapshotValue, all_living}
+use Rattle.doc_types.specs.Snapshots.{AreLayers, SnapshotValue, all_living}
 use Rattle.srch_base.specs.declared.faults.Or.{Or}
 use Rattle.srch_base.specs.declared.faults.Or.TheVariants as causes
 use Rattle.mysql_wire.specs.Packets.{packets_from, sequence_after}
@@ -66,6 +66,11 @@ pub data Happened : Type 0 where
   Read : (front : SnapshotValue) → Happened
   Committed : (removed : ℕ) → Happened
   Duplicate : (id : ℕ) → Happened
+
+-- The documents, where they were read, have layers as a snapshot has them: no id lives twice.
+abbrev pub HasLayers : Happened → Type 0
+HasLayers (Read front) = AreLayers front.layers
+HasLayers happened = Unit {0}
 
 -- what a call is told of it
 abbrev pub happened_by : {C : Type 0} → Event C → Happened

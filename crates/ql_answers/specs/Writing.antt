@@ -1,6 +1,6 @@
 -- INSERT: what its rows become, and why it is refused. "INSERT and REPLACE syntax" of the manual.
-use Rattle.std.specs.Prelude.{◌≡◌, ℕ, ℤ, pos, ◌⊎◌, ◌==◌, ◌&&◌, negsuc, int_le, not, is_some, List, [], ◌∷◌, ◌++◌, Bool, length, take, replicate, Option, Some, None, if◌then◌else◌, slice_get, slice_set, slice_index_or}
-use Rattle.std.specs.List.{AllZip, list_any, filter_map}
+use Rattle.std.specs.Prelude.{◌≡◌, ℕ, ℤ, pos, ◌⊎◌, ◌==◌, ◌&&◌, negsuc, int_le, List, [], ◌∷◌, ◌++◌, Bool, length, take, replicate, Option, Some, None, if◌then◌else◌, slice_get, slice_set}
+use Rattle.std.specs.List.{AllZip, list_any, filter_map, zip}
 use Rattle.std.specs.Str.{bytes_eq, is_utf8}
 use Rattle.charset_map.specs.Spans.{folded}
 use Rattle.doc_types.specs.declared.documents.Doc.{Doc}
@@ -20,29 +20,28 @@ use Rattle.ql_grammar.specs.declared.statement.Val.{Val}
 use Rattle.ql_grammar.specs.declared.statement.Val.TheVariants.{Number, Text}
 use Rattle.ql_refusals.specs.declared.columns.Target.{Target}
 use Rattle.ql_refusals.specs.declared.columns.Target.TheVariants.{Id, Field, Attr}
-use Rattle.ql_refusals.specs.Columns.{id_name, name_of, target_of, all_targets}
+use Rattle.ql_refusals.specs.Columns.{id_name, kind_of, name_fault, name_of, target_of, all_targets}
 use Rattle.ql_answers.specs.Indexes.{index_fault, Serves}
-use Rattle.ql_refusals.specs.Refusals.{Refused, first, unknown_column, column_twice, id_missing, wrong_number, wrong_kind, id_out_of_range, value_out_of_range, too_many_positions}
+use Rattle.ql_refusals.specs.Refusals.{Refused, first, first_of, unless, id_missing, wrong_number, wrong_kind, id_out_of_range, value_out_of_range, too_many_positions}
 
 -- the columns that a row's values are for: those that the statement names, or all in schema order
 abbrev pub targets : Schema → Option (List (List ℕ)) → List Target
 targets schema None = all_targets schema
 targets schema (Some names) = filter_map (target_of schema) names
 
--- what is wrong with a name of a column after others
-abbrev pub name_fault : Schema → List (List ℕ) → List ℕ → Option Refused
-name_fault schema before name =
-    if not (is_some (target_of schema name)) then Some (unknown_column name)
-    else (if list_any (λ other. bytes_eq other name) before then Some (column_twice name) else None)
+-- a name is one of these
+abbrev pub is_among : List ℕ → List (List ℕ) → Bool
+is_among name names = list_any (λ other. bytes_eq other name) names
 
--- what is wrong with names of columns, from left to right
+-- what is wrong with names of columns after others, from left to right
 abbrev pub names_fault : Schema → List (List ℕ) → List (List ℕ) → Option Refused
 names_fault schema before [] = None
-names_fault schema before (name ∷ names) = first (name_fault schema before name) (names_fault schema (before ++ name ∷ []) names)
+names_fault schema before (name ∷ names) =
+    first (name_fault schema (is_among name before) name) (names_fault schema (before ++ name ∷ []) names)
 
 -- the columns have no id
 abbrev pub id_fault : List (List ℕ) → Option Refused
-id_fault names = if list_any (λ name. bytes_eq name id_name) names then None else Some id_missing
+id_fault names = unless (is_among id_name names) id_missing
 
 -- what is wrong with the columns
 abbrev pub columns_fault : Schema → Option (List (List ℕ)) → Option Refused
@@ -60,24 +59,18 @@ holds Flag number = is_between (pos 0) (pos 1) number
 holds Bigint number = is_between (negsuc 9223372036854775807) (pos 9223372036854775807) number
 holds Timestamp number = is_between (pos 0) (pos 4294967295) number
 
--- the kind of an attribute, by its place in the schema
-abbrev pub kind_of : Schema → ℕ → AttrKind
-kind_of schema attr = (slice_index_or schema.attrs attr ([], Uint)).1
-
 -- what is wrong with a value for a column; no text of a statement has bytes that aren't UTF-8
 abbrev pub value_fault : Schema → Target → Val → Option Refused
-value_fault schema Id (Number number) = if is_between (pos 1) (pos 18446744073709551615) number then None else Some id_out_of_range
+value_fault schema Id (Number number) = unless (is_between (pos 1) (pos 18446744073709551615) number) id_out_of_range
 value_fault schema Id (Text text) = Some (wrong_kind id_name)
 value_fault schema (Field field) (Number number) = Some (wrong_kind (name_of schema (Field field)))
-value_fault schema (Field field) (Text text) = if is_utf8 text then None else Some (wrong_kind (name_of schema (Field field)))
-value_fault schema (Attr attr) (Number number) = if holds (kind_of schema attr) number then None else Some (value_out_of_range (name_of schema (Attr attr)))
+value_fault schema (Field field) (Text text) = unless (is_utf8 text) (wrong_kind (name_of schema (Field field)))
+value_fault schema (Attr attr) (Number number) = unless (holds (kind_of schema attr) number) (value_out_of_range (name_of schema (Attr attr)))
 value_fault schema (Attr attr) (Text text) = Some (wrong_kind (name_of schema (Attr attr)))
 
 -- what is wrong with values, each for its column, from left to right
 abbrev pub values_fault : Schema → List Target → List Val → Option Refused
-values_fault schema [] values = None
-values_fault schema (target ∷ targets) [] = None
-values_fault schema (target ∷ targets) (value ∷ values) = first (value_fault schema target value) (values_fault schema targets values)
+values_fault schema targets values = first_of (λ one. value_fault schema one.0 one.1) (zip targets values)
 
 -- what is wrong with a row: the number of its values, then the values
 abbrev pub row_fault : Schema → List Target → List Val → Option Refused
@@ -85,8 +78,7 @@ row_fault schema targets row = if length row == length targets then values_fault
 
 -- what is wrong with rows, from left to right
 abbrev pub rows_fault : Schema → List Target → List (List Val) → Option Refused
-rows_fault schema targets [] = None
-rows_fault schema targets (row ∷ rows) = first (row_fault schema targets row) (rows_fault schema targets rows)
+rows_fault schema targets rows = first_of (row_fault schema targets) rows
 
 -- the value that the index's character table gives a character
 abbrev pub fold_of : IndexConf → ℕ → Option ℕ

@@ -12,12 +12,11 @@ ghost use Rattle.conf_text.specs.declared.conf.IndexConf.{IndexConf};
 ghost use Rattle.doc_types.specs.declared.schema.Schema.{Schema};
 ghost use Rattle.ql_answers.specs.steps.Documents.{Builds, BuildsAll, IsShaped, PutsOr};
 
-use crate::writing::kind_of;
 use conf_text::IndexConf;
 use doc_tokens::{TooLong, tokens};
 use doc_types::{AttrKind, Doc, FieldTokens, Schema, Txn, TxnOp, Value};
 use ql_parse::Val;
-use ql_refusals::{Refusal, Target, name_of, too_many_positions};
+use ql_refusals::{Refusal, Target, kind_of, name_of, too_many_positions};
 use srch_base::{Items, NoMemory, Or};
 use std::alloc::Global;
 use std::marker::Model;
@@ -234,11 +233,8 @@ pub(crate) fn insertions(
 {
     let mut ops = Vec::with_capacity(alloc, rows.len())?;
     'rows: for row in rows {
-        match document(alloc, conf, targets, row.as_slice()) {
-            Ok(doc) => ops.push(TxnOp::Insert(doc))?,
-            Err(Or::NoMemory) => return Err(Or::NoMemory),
-            Err(Or::Fault(refusal)) => return Err(Or::Fault(refusal)),
-        }
+        let doc = document(alloc, conf, targets, row.as_slice())?;
+        ops.push(TxnOp::Insert(doc))?;
     }
     if ops.len() > u32::MAX as usize {
         return Err(Or::NoMemory);

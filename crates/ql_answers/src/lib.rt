@@ -5,6 +5,7 @@ mod documents;
 mod event;
 mod found;
 mod indexes;
+mod laws;
 mod plan;
 mod planning;
 mod saying;
@@ -15,5 +16,6 @@ mod writing;
 
 pub use event::{Event, Need};
 pub use indexes::Catalog;
+pub use laws::{a_plan_has_one_reply, a_statement_has_one_plan};
 pub use plan::Plan;
 pub use session::Session;

@@ -1,7 +1,5 @@
-//! What a statement wants, or why it is refused: each statement by its text, the configuration and the session alone.
-ghost use Rattle.std.specs.Prelude.{◌≡◌, ◌<◌, ℕ, None, length, slice_get, option_copied, MatchResult};
-ghost use Rattle.conf_text.specs.declared.conf.IndexConf.{IndexConf};
-ghost use Rattle.ql_answers.specs.Indexes.{Serves, index_fault};
+//! What a statement wants, or why it is refused: each statement by its text and the configuration alone.
+ghost use Rattle.std.specs.Prelude.{◌≡◌, option_copied};
 ghost use Rattle.ql_answers.specs.steps.Planning.{PlansInsert, PlansSelect, PlansDescribe, PlansJob, ShowsOr, Planned};
 
 use crate::documents::insertions;
@@ -76,10 +74,7 @@ fn named(columns: &Option<Items<Name>>) -> Option<&[Name]>
 fn show(set: Result<ResultSet, NoMemory>) -> Result<Plan, Or<Refusal>>
     ensures { ShowsOr set result }
 {
-    match set {
-        Ok(set) => Ok(Plan::Show(set)),
-        Err(NoMemory) => Err(Or::NoMemory),
-    }
+    Ok(Plan::Show(set?))
 }
 
 fn plan_select<T: Catalog>(alloc: Global, catalog: &T, select: &Select) -> Result<Plan, Or<Refusal>>
@@ -88,15 +83,9 @@ fn plan_select<T: Catalog>(alloc: Global, catalog: &T, select: &Select) -> Resul
     if is_grouped(select) {
         return Err(Or::Fault(not_offered()));
     }
-    let index = match served(catalog, select.index.as_bytes()) {
-        Ok(index) => index,
-        Err(refusal) => return Err(Or::Fault(refusal)),
-    };
-    match ql_select::select(alloc, catalog.conf(index), select) {
-        Ok(selection) => Ok(Plan::Search { index, selection }),
-        Err(Or::NoMemory) => Err(Or::NoMemory),
-        Err(Or::Fault(refusal)) => Err(Or::Fault(refusal)),
-    }
+    let index = served(catalog, select.index.as_bytes())?;
+    let selection = ql_select::select(alloc, catalog.conf(index), select)?;
+    Ok(Plan::Search { index, selection })
 }
 
 fn plan_insert<T: Catalog>(
@@ -108,45 +97,30 @@ fn plan_insert<T: Catalog>(
 ) -> Result<Plan, Or<Refusal>>
     ensures { PlansInsert (T.confs catalog.now) name.now (option_copied columns.entry) rows.now result }
 {
-    let index = match served(catalog, name) {
-        Ok(index) => index,
-        Err(refusal) => return Err(Or::Fault(refusal)),
-    };
+    let index = served(catalog, name)?;
     let conf = catalog.conf(index);
-    match columns_fault(&conf.schema, columns) {
-        Some(refusal) => return Err(Or::Fault(refusal)),
-        None => {}
+    if let Some(refusal) = columns_fault(&conf.schema, columns) {
+        return Err(Or::Fault(refusal));
     }
     let targets = targets(alloc, &conf.schema, columns)?;
-    match rows_fault(&conf.schema, targets.as_slice(), rows) {
-        Some(refusal) => return Err(Or::Fault(refusal)),
-        None => {}
+    if let Some(refusal) = rows_fault(&conf.schema, targets.as_slice(), rows) {
+        return Err(Or::Fault(refusal));
     }
-    match insertions(alloc, conf, targets.as_slice(), rows) {
-        Ok(txn) => Ok(Plan::Insert { index, txn }),
-        Err(Or::NoMemory) => Err(Or::NoMemory),
-        Err(Or::Fault(refusal)) => Err(Or::Fault(refusal)),
-    }
+    let txn = insertions(alloc, conf, targets.as_slice(), rows)?;
+    Ok(Plan::Insert { index, txn })
 }
 
 fn plan_describe<T: Catalog>(alloc: Global, catalog: &T, name: &[u8]) -> Result<Plan, Or<Refusal>>
     ensures { PlansDescribe (T.confs catalog.now) name.now result }
 {
-    match served(catalog, name) {
-        Ok(index) => match description(alloc, &catalog.conf(index).schema) {
-            Ok(set) => Ok(Plan::Show(set)),
-            Err(NoMemory) => Err(Or::NoMemory),
-        },
-        Err(refusal) => Err(Or::Fault(refusal)),
-    }
+    let index = served(catalog, name)?;
+    show(description(alloc, &catalog.conf(index).schema))
 }
 
 /// FLUSH and OPTIMIZE: what they would do comes last of all that can be wrong with them.
 fn plan_job<T: Catalog>(catalog: &T, name: &[u8]) -> Result<Plan, Or<Refusal>>
     ensures { PlansJob (T.confs catalog.now) name.now result }
 {
-    match served(catalog, name) {
-        Ok(_) => Err(Or::Fault(not_offered())),
-        Err(refusal) => Err(Or::Fault(refusal)),
-    }
+    served(catalog, name)?;
+    Err(Or::Fault(not_offered()))
 }

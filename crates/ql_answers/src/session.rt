@@ -78,15 +78,10 @@ impl Session {
         ensures { Needs (T.confs catalog.now) self.old statement.now result self.new }
     {
         self.plan = None;
-        match plan(alloc, catalog, statement) {
-            Ok(plan) => {
-                let need = plan.need();
-                self.plan = Some(plan);
-                Ok(need)
-            }
-            Err(Or::NoMemory) => Err(Or::NoMemory),
-            Err(Or::Fault(refusal)) => Err(Or::Fault(refusal)),
-        }
+        let plan = plan(alloc, catalog, statement)?;
+        let need = plan.need();
+        self.plan = Some(plan);
+        Ok(need)
     }
 
     /// The transaction that the last `need` wants to be committed.

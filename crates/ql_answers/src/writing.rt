@@ -1,15 +1,14 @@
 //! INSERT: which columns its values are for, what is wrong with it, and the documents that its rows become.
-ghost use Rattle.std.specs.List.{list_any};
-ghost use Rattle.std.specs.Str.{bytes_eq, is_utf8};
+ghost use Rattle.std.specs.Str.{is_utf8};
 ghost use Rattle.ql_refusals.specs.Columns.{target_of};
-ghost use Rattle.std.specs.Prelude.{◌≡◌, [], filter_map, length, option_copied, IfOk};
-ghost use Rattle.ql_answers.specs.Writing.{columns_fault, holds, id_fault, name_fault, names_fault, is_between, kind_of, row_fault, rows_fault, targets, value_fault, values_fault};
+ghost use Rattle.std.specs.Prelude.{◌≡◌, [], filter_map, option_copied, IfOk};
+ghost use Rattle.ql_answers.specs.Writing.{columns_fault, holds, id_fault, is_among, names_fault, is_between, row_fault, rows_fault, targets, value_fault, values_fault};
 
 use doc_types::{AttrKind, Schema};
 use ql_parse::Val;
 use ql_refusals::{
-    ID, Refusal, Target, all_targets, column_twice, id_missing, id_out_of_range, name_of,
-    target_of, unknown_column, value_out_of_range, wrong_kind, wrong_number,
+    ID, Refusal, Target, all_targets, id_missing, id_out_of_range, kind_of, name_fault, name_of,
+    target_of, value_out_of_range, wrong_kind, wrong_number,
 };
 use srch_base::{Items, Name, NoMemory};
 use std::alloc::Global;
@@ -56,28 +55,16 @@ fn names_fault(schema: &Schema, names: &[Name]) -> Option<Refusal>
     ensures { result ≡ names_fault schema.now [] names.now }
 {
     'names: for (place, name) in names.iter().enumerate() {
-        match name_fault(schema, &names[..place], name.as_bytes()) {
-            Some(refusal) => return Some(refusal),
-            None => {}
+        let name = name.as_bytes();
+        if let Some(refusal) = name_fault(schema, is_among(name, &names[..place]), name) {
+            return Some(refusal);
         }
     }
     None
 }
 
-fn name_fault(schema: &Schema, before: &[Name], name: &[u8]) -> Option<Refusal>
-    ensures { result ≡ name_fault schema.now before.now name.now }
-{
-    if target_of(schema, name).is_none() {
-        Some(unknown_column(name))
-    } else if is_among(name, before) {
-        Some(column_twice(name))
-    } else {
-        None
-    }
-}
-
 fn is_among(name: &[u8], names: &[Name]) -> bool
-    ensures { result ≡ list_any (λ other. bytes_eq other name.now) names.now }
+    ensures { result ≡ is_among name.now names.now }
 {
     names.iter().any(|other| other.as_bytes() == name)
 }
@@ -100,13 +87,8 @@ pub(crate) fn rows_fault(
 ) -> Option<Refusal>
     ensures { result ≡ rows_fault schema.now targets.now rows.now }
 {
-    'rows: for row in rows {
-        match row_fault(schema, targets, row.as_slice()) {
-            Some(refusal) => return Some(refusal),
-            None => {}
-        }
-    }
-    None
+    rows.iter()
+        .find_map(|row| row_fault(schema, targets, row.as_slice()))
 }
 
 fn row_fault(schema: &Schema, targets: &[Target], row: &[Val]) -> Option<Refusal>
@@ -119,16 +101,12 @@ fn row_fault(schema: &Schema, targets: &[Target], row: &[Val]) -> Option<Refusal
 }
 
 fn values_fault(schema: &Schema, targets: &[Target], row: &[Val]) -> Option<Refusal>
-    requires { length row.now ≡ length targets.now }
     ensures { result ≡ values_fault schema.now targets.now row.now }
 {
-    'values: for (place, value) in row.iter().enumerate() {
-        match value_fault(schema, targets[place], value) {
-            Some(refusal) => return Some(refusal),
-            None => {}
-        }
-    }
-    None
+    targets
+        .iter()
+        .zip(row)
+        .find_map(|(target, value)| value_fault(schema, *target, value))
 }
 
 /// What is wrong with a value for a column.
@@ -174,16 +152,6 @@ pub(crate) fn is_utf8(bytes: &[u8]) -> bool
     match str::from_utf8(bytes) {
         Ok(_) => true,
         Err(_) => false,
-    }
-}
-
-/// The kind of an attribute; an attribute that the schema doesn't have counts as `Uint`.
-pub(crate) fn kind_of(schema: &Schema, attr: usize) -> AttrKind
-    ensures { result ≡ kind_of schema.now attr }
-{
-    match schema.attrs.as_slice().get(attr) {
-        Some(attr) => attr.1,
-        None => AttrKind::Uint,
     }
 }
 

@@ -1,0 +1,24 @@
+-- A name of an index is served in one way: by one index, or for one reason by none.
+use Rattle.std.proofs.Common.{◌≡◌, ℕ, List, Option, None, Some, sym, ap, ◌∙◌}
+use Rattle.std.specs.Prelude.{slice_get}
+use Rattle.std.proofs.lemmas.Option.{none-some, same_Some}
+use Rattle.conf_text.specs.declared.conf.IndexConf.{IndexConf}
+use Rattle.ql_refusals.specs.Refusals.{Refused}
+use Rattle.ql_answers.specs.Indexes.{Serves, index_fault}
+
+-- what a value of an option is, is one
+pub one_value : {X : Type 0} (option : Option X) (a b : X) → option ≡ Some a → option ≡ Some b → a ≡ b
+one_value option a b one two = same_Some a b (sym one ∙ two)
+
+pub not_both : {X : Type 0} (option : Option X) (a : X) → option ≡ None → option ≡ Some a → ⊥
+not_both option a none some = none-some a (sym none ∙ some)
+
+pub one_place : (confs : List IndexConf) (name : List ℕ) (p q : ℕ) (a b : IndexConf) → Serves confs name p a → Serves confs name q b → p ≡ q
+one_place confs name p q a b one two = same_Some p q (sym one.place_is ∙ two.place_is)
+
+pub one_conf : (confs : List IndexConf) (name : List ℕ) (p q : ℕ) (a b : IndexConf) → Serves confs name p a → Serves confs name q b → a ≡ b
+one_conf confs name p q a b one two =
+    same_Some a b (sym one.is ∙ ap (slice_get confs) (one_place confs name p q a b one two) ∙ two.is)
+
+pub not_served : (confs : List IndexConf) (name : List ℕ) (place : ℕ) (conf : IndexConf) (refusal : Refused) → Serves confs name place conf → index_fault confs name ≡ Some refusal → ⊥
+not_served confs name place conf refusal serves fault = not_both (index_fault confs name) refusal serves.good fault
