@@ -5,3 +5,6 @@ pub mod Answering
 pub mod Reading
 pub mod Several
 pub mod Committing
+pub mod OneReply
+pub mod SoundFronts
+pub mod OneCommand

@@ -1,5 +1,5 @@
 -- The statement machine: what is replied to a text of statements, by what the outside did about each of them.
-use Rattle.std.specs.Prelude.{◌≡◌, ◌≤◌, ◌<◌, ◌⊎◌, ⊤, ℕ, List, [], ◌∷◌, ◌++◌, Bool, true, false, length}
+use Rattle.std.specs.Prelude.{◌≡◌, ◌≤◌, ◌<◌, ◌⊎◌, ⊤, ℕ, List, [], ◌∷◌, ◌++◌, Bool, true, false, All, length}
 use Rattle.mysql_wire.specs.Packets.{packets_from, sequence_after}
 use Rattle.conf_text.specs.declared.conf.IndexConf.{IndexConf}
 use Rattle.ql_lex.specs.declared.fault.LexFault.{LexFault}
@@ -13,7 +13,7 @@ use Rattle.ql_answers.specs.declared.plan.Plan.TheVariants.{Agree, Show, Search,
 use Rattle.ql_refusals.specs.Refusals.{Refused, bad_token, bad_syntax, no_memory, not_offered}
 use Rattle.ql_answers.specs.Replies.{Reply, Fails, payloads}
 use Rattle.ql_answers.specs.Plans.{Wants, Refuses, TakesMemory}
-use Rattle.ql_answers.specs.Sessions.{State, status_of, Decides, Happened, is_refusal}
+use Rattle.ql_answers.specs.Sessions.{State, status_of, Decides, Happened, HasLayers, is_refusal}
 use Rattle.ql_answers.specs.Sessions as happenings
 use Rattle.ql_session.specs.Tables.{Event, Configured, Nothing, NoMemory, Read, Committed, Duplicate}
 
@@ -57,6 +57,10 @@ told NoMemory = happenings.NoMemory
 told (Read place front) = happenings.Read front
 told (Committed place ops removed) = happenings.Committed removed
 told (Duplicate place ops id) = happenings.Duplicate id
+
+-- What was read has layers as a snapshot has them, at each of these events.
+abbrev pub HaveLayers : List Event → Type 0
+HaveLayers events = All (λ event. HasLayers (told event)) events
 
 -- The statement is refused, and nothing is asked for.
 abbrev pub IsRefused : List IndexConf → Statement → Event → Reply → Type 0

@@ -1,5 +1,5 @@
 -- The indexes and their documents, and what the outside does to them about a statement.
-use Rattle.std.specs.Prelude.{◌≡◌, ℕ, List, map, Some, slice_get, slice_set}
+use Rattle.std.specs.Prelude.{◌≡◌, ℕ, List, All, map, Some, slice_get, slice_set}
 use Rattle.doc_types.specs.Commits.{verdict}
 use Rattle.doc_types.specs.Commits as verdicts
 use Rattle.doc_types.specs.Snapshots.{AreLayers, SnapshotValue, live}
@@ -15,6 +15,10 @@ pub record Tables : Type 0 where
 -- these indexes without documents
 abbrev pub empty_tables : List IndexConf → Tables
 empty_tables confs = record { confs = confs; fronts = map (λ conf. empty_snapshot) confs }
+
+-- The documents of each index have layers as a snapshot has them: no id lives twice.
+abbrev pub AreSound : Tables → Type 0
+AreSound tables = All (λ front. AreLayers front.layers) tables.fronts
 
 -- What the outside did about a text or a statement, with the place of the index that it was done to.
 pub data Event : Type 0 where

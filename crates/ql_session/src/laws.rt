@@ -1,10 +1,17 @@
-//! A law of the definitions. The function does nothing but call the laws on texts and tokens that it rests on; its contract
-//! is the law.
+//! Laws of the definitions. The functions do nothing but call the laws that they rest on; their contracts are the laws.
 ghost use Rattle.std.specs.Prelude.{◌≡◌, ℕ, List};
+ghost use Rattle.conf_text.specs.declared.conf.IndexConf.{IndexConf};
 ghost use Rattle.ql_grammar.specs.declared.statement.Statement.{Statement as StatementValue};
 ghost use Rattle.ql_refusals.specs.Refusals.{Refused};
-ghost use Rattle.ql_session.specs.Statements.{RefusesText, States};
+ghost use Rattle.ql_answers.specs.Replies.{Reply};
+ghost use Rattle.ql_answers.specs.Sessions.{HasLayers, State};
+ghost use Rattle.mysql_wire.specs.Commands.{Asked};
+ghost use Rattle.ql_session.specs.Session.{Answers};
+ghost use Rattle.ql_session.specs.Statements.{AnswersText, HaveLayers, RefusesText, Replies, States, told};
+ghost use Rattle.ql_session.specs.Tables.{AreSound, Event, Follows, Tables, empty_tables};
+ghost use Rattle.serve_line.specs.Machines.{FollowAll};
 
+use ql_answers::{a_plan_has_one_reply, a_statement_has_one_plan};
 use ql_lex::one_reading;
 use ql_parse::{packets_have_no_fault, tokens_have_one_fault, tokens_have_one_value};
 
@@ -19,3 +26,32 @@ pub fn a_text_is_read_in_one_way()
     packets_have_no_fault();
     tokens_have_one_fault();
 }
+
+/// What came of a statement has one reply, where what was read has layers as a snapshot has them.
+pub fn a_statement_has_one_reply()
+    ensures { (confs : List IndexConf) (statement : StatementValue) (event : Event) (a b : Reply) → HasLayers (told event) → Replies confs statement event a → Replies confs statement event b → a ≡ b }
+{
+    a_statement_has_one_plan();
+    a_plan_has_one_reply();
+}
+
+/// What came of a text has one reply, byte for byte, where what was read has layers as a snapshot has them.
+pub fn a_text_has_one_reply()
+    ensures { (state : State) (text : List ℕ) (events : List Event) (a b : List ℕ) → HaveLayers events → AnswersText state text events a → AnswersText state text events b → a ≡ b }
+{
+    a_text_is_read_in_one_way();
+    a_statement_has_one_reply();
+}
+
+/// What came of a command has one reply, byte for byte, and leaves the session in one state.
+pub fn a_command_has_one_reply()
+    ensures { (old : State) (asked : Asked) (events : List Event) (a b : List ℕ) (x y : State) → HaveLayers events → Answers old asked events a x → Answers old asked events b y → (a ≡ b) × (x ≡ y) }
+{
+    a_text_has_one_reply();
+}
+
+/// Documents that begin with none keep layers as a snapshot has them, whatever follows, and so has what is read of them.
+pub fn layers_stay_sound()
+    ensures first { (confs : List IndexConf) → AreSound (empty_tables confs) }
+    ensures after { (old : Tables) (events : List Event) (new : Tables) → AreSound old → FollowAll Follows old events new → HaveLayers events × AreSound new }
+{}

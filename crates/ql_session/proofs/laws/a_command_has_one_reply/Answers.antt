@@ -1,0 +1,5 @@
+use Rattle.ql_session.proofs.OneCommand.{one_command}
+use Rattle.ql_session.proofs.laws.a_command_has_one_reply.Goals as goal
+
+pub returns : goal.returns
+returns c = one_command c.a_text_has_one_reply.ensures
