@@ -1,15 +1,17 @@
-"""Prints the documents and queries of docs/cases/evaluation.md as the constants that the tests of evaluation run over.
+"""Writes the documents and queries of docs/cases/evaluation.md as the constants that tests of evaluation and of tokens run over.
 
-At the top of the repository: python3 scripts/evaluation_cases.py > crates/eval_vectors/src/cases.rt
+At the top of the repository: python3 scripts/evaluation_cases.py
 """
 import re
-import sys
 
 DOCUMENT = "docs/cases/evaluation.md"
+EVALUATION = "crates/eval_vectors/src/cases.rt"
+TOKENS = "crates/text_vectors/src/evaluated_fields.rt"
 
-HEAD = """//! The documents and queries of docs/cases/evaluation.md, as scripts/evaluation_cases.py prints them: edit them there. A
-//! line `# S` begins what is of the set S. Parts of a line are separated by ` ⇒ `; the empty text is an empty part.
+HEAD = """//! The {what} of docs/cases/evaluation.md, as scripts/evaluation_cases.py writes them: edit them there. {how}
 """
+SECTIONS = "A\n//! line `# S` begins what is of the set S. Parts of a line are separated by ` ⇒ `; the empty text is an empty part."
+LINES = "Parts\n//! of a line are separated by ` ⇒ `."
 
 PLACES = r"-|\d+\.\d+-\d+(?: \d+\.\d+-\d+)*"
 HITS = r"-|\d+/\d+@\d+\.\d+(?: \d+/\d+@\d+\.\d+)*"
@@ -89,18 +91,54 @@ def headed(rows):
         yield line
 
 
+def written_words(words):
+    """Words and boundaries as the tests of tokens write them: `a 1, b 3s`, by the letter of the boundary before the word."""
+    written, boundary = [], ""
+    for sign in words.split(" ") if words != "-" else []:
+        word, position = sign.rsplit("@", 1)
+        if word in ("(sentence)", "(paragraph)"):
+            boundary = word[1]
+        else:
+            written.append(f"{word} {position}{boundary}")
+            boundary = ""
+    return ", ".join(written)
+
+
+def written_spans(spans):
+    return ", ".join(span.replace("@", " ") for span in spans.split(" ") if span != "-")
+
+
+def fields(sets):
+    """The fields with their flags of html_strip and index_sp, their words and their spans."""
+    for about, documents, rows in sets.values():
+        sp, strip = about.split("; ")[2:]
+        texts = dict(documents)
+        for place, words, spans in rows:
+            number, field = place.split(".")
+            text = texts[number][int(field)]
+            if text:
+                yield f"{strip} ⇒ {sp} ⇒ {text} ⇒ {written_words(words)} ⇒ {written_spans(spans)}"
+
+
+def write(path, what, how, constants):
+    with open(path, "w", encoding="utf8") as file:
+        file.write(HEAD.format(what=what, how=how) + "\n" + "\n".join(constants))
+
+
 def main():
-    with open(sys.argv[1] if len(sys.argv) > 1 else DOCUMENT, encoding="utf8") as file:
+    with open(DOCUMENT, encoding="utf8") as file:
         sets, queries = read(file.read())
-    print(HEAD)
     schemas = [f"{name} ⇒ {about}" for name, (about, _, _) in sets.items()]
-    print(constant("Sets with their fields, their zones, `index_sp` and `html_strip`.", "SETS", schemas))
     documents = [(name, " ⇒ ".join([number] + texts)) for name, (_, docs, _) in sets.items() for number, texts in docs]
-    print(constant("Documents: the id and the text of each field.", "DOCUMENTS", headed(documents)))
-    tokens = [(name, " ⇒ ".join(row)) for name, (_, _, rows) in sets.items() for row in rows]
-    print(constant("Fields of documents as `id.field` with their words and boundaries, and their spans.", "TOKENS", headed(tokens)))
     asked = [(name, f"{query} ⇒ {found}") for name, query, found in queries]
-    print(constant("Queries with what they find.", "QUERIES", headed(asked)), end="")
+    write(EVALUATION, "documents and queries", SECTIONS, [
+        constant("Sets with their fields, their zones, `index_sp` and `html_strip`.", "SETS", schemas),
+        constant("Documents: the id and the text of each field.", "DOCUMENTS", headed(documents)),
+        constant("Queries with what they find.", "QUERIES", headed(asked)),
+    ])
+    write(TOKENS, "fields of documents", LINES, [
+        constant("`html_strip` and `index_sp` of an index, the text of a field, its words and its spans.", "FIELDS", fields(sets)),
+    ])
 
 
 if __name__ == "__main__":

@@ -1,5 +1,5 @@
-//! Tests over documents and queries and what these find, which were worked out by hand; the crate that evaluates queries is
-//! proved once without them.
+//! Tests over documents and queries, what these find and what it weighs, which were worked out by hand; the crates that evaluate
+//! queries and weigh hits are proved once without them.
 #![tactic(auto)]
 
 #[cfg(test)]
@@ -7,11 +7,11 @@ mod cases;
 #[cfg(test)]
 mod documents;
 #[cfg(test)]
-mod fields;
-#[cfg(test)]
 mod long_queries;
 #[cfg(test)]
 mod opening;
+#[cfg(test)]
+mod pages;
 #[cfg(test)]
 mod queries;
 #[cfg(test)]
@@ -19,6 +19,6 @@ mod sets;
 #[cfg(test)]
 mod sizes;
 #[cfg(test)]
-mod streams;
-#[cfg(test)]
 mod telling;
+#[cfg(test)]
+mod weights;

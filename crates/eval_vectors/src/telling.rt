@@ -1,12 +1,12 @@
 //! What a query finds in a chunk, as the tables tell it.
-ghost use Rattle.std.specs.Prelude.{◌≡◌, ◌<◌, ◌^◌, length};
+ghost use Rattle.std.specs.Prelude.{◌≡◌, ◌<◌, ◌^◌, length, AllPairs};
 ghost use Rattle.query_grammar.specs.DeepValues.{query_keys};
 
-use doc_types::{Chunk, Hit};
+use doc_types::{Chunk, Hit, Hits};
 use occ_lists::Occ;
-use op_eval::{candidates, hits, occurrences};
+use op_eval::{Matches, candidates, hits, occurrences};
 use query_grammar::Query;
-use srch_base::Steps;
+use srch_base::{Items, Steps};
 use std::alloc::Global;
 use std::marker::Brand;
 use std::sync::ledger::{Blank, Ledger};
@@ -97,6 +97,122 @@ fn told_rows<C: Chunk, L: Ledger>(
     Ok(text)
 }
 
+/// Whether these are the hits of the row.
+fn are_hits<C: Chunk, L: Ledger>(
+    alloc: Global,
+    query: &Query,
+    chunk: &C,
+    row: u32,
+    found: &Hits,
+    steps: &mut Steps<L>,
+) -> Result<bool, Fail>
+    requires { length (query_keys query.now) < 2 ^ 16 }
+{
+    if row >= chunk.rows() {
+        return Ok(false);
+    }
+    Ok(*found == hits(alloc, query, chunk, row, steps)?)
+}
+
+/// The next row that matches, if one is left, with its hits in the place of others.
+fn next_match<C: Chunk, L: Ledger>(
+    matches: &mut Matches<'_, C>,
+    found: &mut Hits,
+    steps: &mut Steps<L>,
+) -> Result<Option<u32>, Fail> {
+    'rows: while let Some(row) = matches.row() {
+        let told = matches.take(found, steps)?;
+        if told {
+            return Ok(Some(row));
+        }
+    }
+    Ok(None)
+}
+
+/// The next row that matches, if one is left. Its hits aren't looked for.
+fn next_unread<C: Chunk, L: Ledger>(
+    matches: &mut Matches<'_, C>,
+    steps: &mut Steps<L>,
+) -> Result<Option<u32>, Fail> {
+    'rows: while let Some(row) = matches.row() {
+        let told = matches.matches(steps)?;
+        if told {
+            return Ok(Some(row));
+        }
+    }
+    Ok(None)
+}
+
+/// Whether the rows that match come one after another by `Matches`, each with its hits, and nothing after them.
+fn come_with_hits<C: Chunk, L: Ledger>(
+    alloc: Global,
+    query: &Query,
+    chunk: &C,
+    dead: &[u32],
+    rows: &[u32],
+    steps: &mut Steps<L>,
+) -> Result<bool, Fail>
+    requires dead { AllPairs (λ row later. row < later) dead.now }
+    requires keys { length (query_keys query.now) < 2 ^ 16 }
+{
+    let mut matches = Matches::over(alloc, query, chunk, dead)?;
+    let mut found = Hits {
+        keywords: 0,
+        list: Items::new(Vec::new(alloc)),
+    };
+    for row in rows {
+        if next_match(&mut matches, &mut found, steps)? != Some(*row) {
+            return Ok(false);
+        }
+        if !are_hits(alloc, query, chunk, *row, &found, steps)? {
+            return Ok(false);
+        }
+    }
+    Ok(
+        next_match(&mut matches, &mut found, steps)?.is_none()
+            && next_match(&mut matches, &mut found, steps)?.is_none(),
+    )
+}
+
+/// Whether they come so where their hits aren't looked for.
+fn come_unread<C: Chunk, L: Ledger>(
+    alloc: Global,
+    query: &Query,
+    chunk: &C,
+    dead: &[u32],
+    rows: &[u32],
+    steps: &mut Steps<L>,
+) -> Result<bool, Fail>
+    requires dead { AllPairs (λ row later. row < later) dead.now }
+    requires keys { length (query_keys query.now) < 2 ^ 16 }
+{
+    let mut matches = Matches::over(alloc, query, chunk, dead)?;
+    for row in rows {
+        if next_unread(&mut matches, steps)? != Some(*row) {
+            return Ok(false);
+        }
+    }
+    Ok(next_unread(&mut matches, steps)?.is_none())
+}
+
+/// Whether the rows that match come one after another, both ways.
+fn come_in_order<C: Chunk, L: Ledger>(
+    alloc: Global,
+    query: &Query,
+    chunk: &C,
+    dead: &[u32],
+    rows: &[u32],
+    steps: &mut Steps<L>,
+) -> Result<bool, Fail>
+    requires dead { AllPairs (λ row later. row < later) dead.now }
+    requires keys { length (query_keys query.now) < 2 ^ 16 }
+{
+    Ok(
+        come_with_hits(alloc, query, chunk, dead, rows, steps)?
+            && come_unread(alloc, query, chunk, dead, rows, steps)?,
+    )
+}
+
 /// Whether the others match where the first row that matches is dead.
 fn kills_one<C: Chunk, L: Ledger>(
     alloc: Global,
@@ -104,12 +220,17 @@ fn kills_one<C: Chunk, L: Ledger>(
     chunk: &C,
     matching: &[u32],
     steps: &mut Steps<L>,
-) -> Result<bool, Fail> {
+) -> Result<bool, Fail>
+    requires { length (query_keys query.now) < 2 ^ 16 }
+{
     match matching.split_first() {
         None => Ok(true),
         Some((first, others)) => {
             let left = candidates(alloc, query, chunk, &[*first], steps)?;
-            Ok(left.as_slice() == others)
+            Ok(
+                left.as_slice() == others
+                    && come_in_order(alloc, query, chunk, &[*first], others, steps)?,
+            )
         }
     }
 }
@@ -128,6 +249,9 @@ fn told_by<L: Ledger, C: Chunk>(
     let mut steps = Steps::<L>::new(blank);
     let matching = candidates(alloc, query, chunk, &[], &mut steps)?;
     let mut text = told_rows(alloc, query, chunk, matching.as_slice(), &mut steps)?;
+    if !come_in_order(alloc, query, chunk, &[], matching.as_slice(), &mut steps)? {
+        text.push_str("; others one after another")?;
+    }
     if !kills_one(alloc, query, chunk, matching.as_slice(), &mut steps)? {
         text.push_str("; others where the first of them is dead")?;
     }

@@ -35,6 +35,22 @@ SELECT id FROM rt OPTION max_matches=-1 ⇒ ERR 1064 42000 syntax error at 37
 SELECT id FROM rt OPTION field_weights=() ⇒ ERR 1064 42000 syntax error at 40
 SELECT id FROM rt OPTION field_weights=(title=-1) ⇒ ERR 1064 42000 syntax error at 46
 SELECT COUNT(*) FROM nosuch WHERE ⇒ ERR 1064 42000 syntax error at 33
+SELECT @weight FROM rt ⇒ ERR 1064 42000 bad character at 7
+SELECT id FROM rt ORDER BY @weight DESC ⇒ ERR 1064 42000 bad character at 27
+SELECT @@weight FROM rt ⇒ ERR 1064 42000 syntax error at 16
+SELECT id, @@x FROM rt ⇒ ERR 1064 42000 syntax error at 11
+SELECT id FROM rt WHERE id > -18446744073709551616 ⇒ ERR 1064 42000 number too large at 30
+SELECT id FROM rt WHERE MATCH() ⇒ ERR 1064 42000 syntax error at 30
+SELECT id FROM rt WHERE MATCH('a', 'b') ⇒ ERR 1064 42000 syntax error at 33
+SELECT id FROM rt WHERE MATCH('a') = 1 ⇒ ERR 1064 42000 syntax error at 35
+SELECT id FROM rt WHERE match = 1 ⇒ ERR 1064 42000 syntax error at 30
+SELECT id FROM rt WHERE `match`('a') ⇒ ERR 1064 42000 syntax error at 31
+SELECT id FROM rt WHERE gid IN (1, 2,) ⇒ ERR 1064 42000 syntax error at 37
+SELECT id FROM rt LIMIT 1 OFFSET 1 ⇒ ERR 1064 42000 syntax error at 26
+SELECT id FROM rt OPTION ranker ⇒ ERR 1064 42000 syntax error at 31
+SELECT WEIGHT(*) FROM rt ⇒ ERR 1064 42000 syntax error at 14
+SELECT ID() FROM rt ⇒ ERR 1064 42000 syntax error at 9
+SELECT id AS `weight()` FROM rt ⇒ ERR 1064 42000 bad character at 13
 SELECT COUNT(*) FROM rt ⇒ ERR 1064 42000 not offered yet
 SELECT COUNT(DISTINCT gid) FROM rt ⇒ ERR 1064 42000 not offered yet
 SELECT MIN(gid) FROM rt ⇒ ERR 1064 42000 not offered yet
@@ -150,6 +166,19 @@ SELECT id, id, id, id, id, id, id, id, id, id, id, id, id, id, id, id, id, id, i
 SELECT id FROM rt ORDER BY id, id, id, id, id, id, nosuch ⇒ ERR 1064 42000 unknown column 'nosuch'
 SELECT id FROM rt LIMIT 1000, 1 OPTION max_matches=0, ranker=bm25 ⇒ ERR 1064 42000 ranker 'bm25' is not offered
 SELECT id FROM rt WHERE MATCH('"') AND nosuch = 1 ⇒ ERR 1064 42000 unknown column 'nosuch'
+SELECT id FROM rt WHERE `match` = 1 ⇒ ERR 1064 42000 unknown column 'match'
+SELECT nosuch AS x FROM rt ORDER BY x ⇒ ERR 1064 42000 unknown column 'nosuch'
+SELECT id AS x, title AS x FROM rt ORDER BY x, nosuch ⇒ ERR 1064 42000 unknown column 'nosuch'
+SELECT id, gid AS x FROM rt WHERE x = 10 ORDER BY x ⇒ ERR 1064 42000 unknown column 'x'
+SELECT id FROM rt ORDER BY groupby ⇒ ERR 1064 42000 unknown column 'groupby'
+SELECT id FROM rt WHERE count = 1 ⇒ ERR 1064 42000 unknown column 'count'
+SELECT id FROM rt OPTION field_weights=(nosuch=1), field_weights=(title=1) ⇒ ERR 1064 42000 unknown column 'nosuch'
+SELECT id FROM rt WHERE MATCH('cup') OPTION comment='x', ranker=nosuch, max_matches='a' ⇒ ERR 1064 42000 ranker 'nosuch' is not offered
+SELECT id FROM rt WHERE title = 1 OPTION field_weights=(title=1, title=2) ⇒ ERR 1064 42000 column 'title' twice
+SELECT id FROM rt ORDER BY nosuch OPTION field_weights=(title=1, title=2) ⇒ ERR 1064 42000 unknown column 'nosuch'
+# pages
+SELECT id FROM pages OPTION field_weights=(title=1) ⇒ ERR 1064 42000 unknown column 'title'
+# shop
 SELECT title FROM rt ⇒ ERR 1064 42000 column 'title' is a field
 SELECT *, Content AS c FROM rt ⇒ ERR 1064 42000 column 'content' is a field
 SELECT title AS gid FROM rt ORDER BY gid ⇒ ERR 1064 42000 column 'title' is a field
@@ -193,6 +222,17 @@ SELECT id FROM rt ORDER BY id, id, id, id, id, title ⇒ ERR 1064 42000 column '
 SELECT id FROM rt OPTION max_matches=0, ranker=1 ⇒ ERR 1064 42000 wrong kind of value for 'ranker'
 SELECT id FROM rt LIMIT 1000, 1 OPTION field_weights=(id=1) ⇒ ERR 1064 42000 column 'id' is not a field
 SELECT id FROM rt WHERE MATCH('"') AND title = 1 ⇒ ERR 1064 42000 column 'title' is a field
+SELECT title AS x, id AS x FROM rt ORDER BY x ⇒ ERR 1064 42000 column 'title' is a field
+SELECT id FROM rt OPTION max_matches=(nosuch=5) ⇒ ERR 1064 42000 wrong kind of value for 'max_matches'
+SELECT id FROM rt OPTION ranker=(nosuch=1), ranker=none ⇒ ERR 1064 42000 wrong kind of value for 'ranker'
+SELECT id FROM rt OPTION field_weights=nosuch ⇒ ERR 1064 42000 wrong kind of value for 'field_weights'
+SELECT id FROM rt OPTION field_weights=5, field_weights=(title=1) ⇒ ERR 1064 42000 wrong kind of value for 'field_weights'
+SELECT id FROM rt ORDER BY title OPTION field_weights=(gid=1) ⇒ ERR 1064 42000 column 'title' is a field
+SELECT id FROM rt OPTION field_weights=(id=0) ⇒ ERR 1064 42000 column 'id' is not a field
+SELECT id FROM rt OPTION field_weights=(title=0), max_matches=0 ⇒ ERR 1064 42000 value out of range for 'title'
+# pages
+SELECT id FROM pages ORDER BY text ⇒ ERR 1064 42000 column 'text' is a field
+# shop
 SELECT id FROM rt WHERE MATCH('a') AND MATCH('b') ⇒ ERR 1064 42000 second MATCH
 SELECT id FROM rt WHERE MATCH('tea') AND gid = 10 AND MATCH('tea') ⇒ ERR 1064 42000 second MATCH
 SELECT id FROM rt WHERE MATCH('') AND MATCH('') AND MATCH('') ⇒ ERR 1064 42000 second MATCH
@@ -218,6 +258,8 @@ SELECT id FROM rt LIMIT 200000, 1 OPTION max_matches=100001 ⇒ ERR 1064 42000 m
 SELECT id FROM rt WHERE MATCH('"') OPTION max_matches=0 ⇒ ERR 1064 42000 max_matches out of range
 SELECT id FROM rt WHERE MATCH('"') LIMIT 1000, 1 ⇒ ERR 1064 42000 offset 1000 is not below max_matches 1000
 SELECT id FROM rt WHERE MATCH('-a') LIMIT 5, 1 OPTION max_matches=5 ⇒ ERR 1064 42000 offset 5 is not below max_matches 5
+SELECT id FROM rt LIMIT 5, 1 OPTION max_matches=100001, max_matches=5 ⇒ ERR 1064 42000 offset 5 is not below max_matches 5
+SELECT id FROM rt WHERE MATCH('a') AND id = 1 AND MATCH('(') ⇒ ERR 1064 42000 second MATCH
 SELECT id FROM rt WHERE MATCH('"a b') ⇒ ERR 1064 42000 query: unclosed quote at 0
 SELECT id FROM rt WHERE MATCH('tea "') ⇒ ERR 1064 42000 query: unclosed quote at 4
 SELECT id FROM rt WHERE MATCH('a |') ⇒ ERR 1064 42000 query: syntax error at 3
@@ -243,6 +285,10 @@ SELECT id FROM rt WHERE MATCH('a, a, a, a, a, a, a, a, a, a, a, a, a, a, a, a, a
 SELECT id, WEIGHT() FROM rt WHERE MATCH('a, a, a, a, a, a, a, a, a, a, a, a, a, a, a, a, a, a, a, a, a, a, a, a, a, a, a, a, a, a, a, a, a, a, a, a, a, a, a, a, a, a, a, a, a, a, a, a, a, a, a, a, a, a, a, a, a, a, a, a, a, a, a, a, a, a, a, a, a, a, a, a, a, a, a, a, a, a, a, a, a, a, a, a, a, a, a, a, a, a, a, a, a, a, a, a, a, a, a, a, a, a, a, a, a, a, a, a, a, a, a, a, a, a, a, a, a, a, a, a, a, a, a, a, a, a, a, a, a, a, a, a, a, a, a, a, a, a, a, a, a, a, a, a, a, a, a, a, a, a, a, a, a, a, a, a, a, a, a, a, a, a, a, a, a, a, a, a, a, a, a, a, a, a, a, a, a, a, a, a, a, a, a, a, a, a, a, a, a, a, a, a, a, a, a, a, a, a, a, a, a, a, a, a, a, a, a, a, a, a, a, a, a, a, a, a, a, a, a, a, a, a, a, a, a, a, a, a, a, a, a, a, a, a, a, a, a, a, a, a, a, a, a, a, a, a, a, a, a, a, a, a, a, a, a') OPTION ranker=wordcount ⇒ id, weight() | 2, 255 | 42, 255
 SELECT id FROM rt WHERE MATCH('@nofield x "') ⇒ ERR 1064 42000 query: unknown field 'nofield' at 0
 SELECT id FROM rt WHERE gid = 11 AND MATCH('-a') LIMIT 0 ⇒ ERR 1064 42000 query: only NOT at 0
+SELECT id FROM rt WHERE MATCH('(') ⇒ ERR 1064 42000 query: syntax error at 1
+SELECT id FROM rt WHERE MATCH(')') ⇒ ERR 1064 42000 query: syntax error at 0
+SELECT id FROM rt WHERE MATCH('tea\n(') ⇒ ERR 1064 42000 query: syntax error at 5
+SELECT id FROM rt WHERE MATCH("\"tea") ⇒ ERR 1064 42000 query: unclosed quote at 0
 # empty
 SELECT id FROM rt WHERE MATCH('-a') ⇒ ERR 1064 42000 query: only NOT at 0
 SELECT nosuch FROM rt ⇒ ERR 1064 42000 unknown column 'nosuch'

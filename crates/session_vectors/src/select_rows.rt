@@ -61,6 +61,14 @@ SELECT id AS gid, gid AS id FROM rt ORDER BY id, gid DESC LIMIT 3 ⇒ gid:Unsign
 SELECT gid, price AS gid FROM rt ORDER BY gid LIMIT 1 ⇒ gid, gid:Whole | 10, -9223372036854775808
 SELECT id, WEIGHT() AS id FROM rt WHERE MATCH('tea') ORDER BY id LIMIT 5 ⇒ id, id | 1, 1 | 42, 1 | 300, 1 | 9223372036854775808, 1 | 2, 2
 SELECT id, flag AS a, gid AS b FROM rt ORDER BY a DESC, b, id DESC LIMIT 6 ⇒ id, a:Uint, b:Uint | 4294967296, 1, 10 | 1, 1, 10 | 9223372036854775808, 1, 20 | 42, 1, 20 | 2, 1, 20 | 18446744073709551615, 0, 0
+SELECT id AS nosuch FROM rt ORDER BY nosuch DESC LIMIT 1 ⇒ nosuch:Unsigned | 18446744073709551615
+SELECT WEIGHT() AS price, id FROM rt WHERE MATCH('tea') AND price < 0 ORDER BY price DESC ⇒ price:Unsigned, id | 2, 4294967296 | 1, 42 | 1, 9223372036854775808
+SELECT gid AS id FROM rt WHERE id = 42 ⇒ id:Uint | 20
+SELECT id, WEIGHT() AS w, gid AS w FROM rt WHERE MATCH('cup') ORDER BY w ⇒ id, w:Unsigned, w:Uint | 65536, 1, 30 | 42, 2, 20
+SELECT WEIGHT() FROM rt WHERE MATCH('cup') ORDER BY id DESC ⇒ weight() | 1 | 2
+SELECT WEIGHT() AS title, id AS content FROM rt WHERE MATCH('@title cup @content tea') ORDER BY content ⇒ title:Unsigned, content:Unsigned | 2, 42
+SELECT *, id AS gid FROM rt ORDER BY gid DESC LIMIT 1 ⇒ id, gid, price, flag, seen, gid:Unsigned | 18446744073709551615, 0, 0, 0, 4294967295, 18446744073709551615
+SELECT id count FROM rt ORDER BY count DESC LIMIT 1 ⇒ count:Unsigned | 18446744073709551615
 SELECT id FROM rt WHERE id = 42 ⇒ id | 42
 SELECT id FROM rt WHERE id = 0 ⇒ id
 SELECT id FROM rt WHERE id = -1 ⇒ id
@@ -91,6 +99,9 @@ SELECT id FROM rt WHERE id BETWEEN 65536 AND 7 ⇒ id
 SELECT id FROM rt WHERE id BETWEEN 7 AND 7 ⇒ id | 7
 SELECT id FROM rt WHERE id BETWEEN -5 AND 2 ⇒ id | 1 | 2
 SELECT id FROM rt WHERE id BETWEEN 9223372036854775808 AND 18446744073709551615 ⇒ id | 9223372036854775808 | 18446744073709551615
+SELECT id FROM rt WHERE id = 00000000000000000000000000000042 ⇒ id | 42
+SELECT id FROM rt WHERE id BETWEEN 18446744073709551615 AND 18446744073709551615 ⇒ id | 18446744073709551615
+SELECT id FROM rt WHERE id NOT IN (18446744073709551615) AND id > 9223372036854775807 ⇒ id | 9223372036854775808
 SELECT id FROM rt WHERE gid = 10 ⇒ id | 1 | 3 | 4294967296
 SELECT id FROM rt WHERE gid = -0 ⇒ id | 7 | 18446744073709551615
 SELECT id FROM rt WHERE gid = 4294967295 ⇒ id | 300
@@ -148,6 +159,8 @@ SELECT id FROM rt WHERE price BETWEEN -5 AND 0 ⇒ id | 7 | 42 | 922337203685477
 SELECT id FROM rt WHERE price BETWEEN 0 AND -5 ⇒ id
 SELECT id FROM rt WHERE price BETWEEN 1990 AND 18446744073709551615 ⇒ id | 2 | 300 | 65536
 SELECT id FROM rt WHERE price BETWEEN -18446744073709551615 AND -6 ⇒ id | 4294967296
+SELECT id FROM rt WHERE price BETWEEN -9223372036854775808 AND -9223372036854775808 ⇒ id | 4294967296
+SELECT id FROM rt WHERE price IN (-18446744073709551615, 9223372036854775808, -5) ⇒ id | 42 | 9223372036854775808
 SELECT id FROM rt WHERE flag = 1 ⇒ id | 1 | 2 | 42 | 4294967296 | 9223372036854775808
 SELECT id FROM rt WHERE flag = 0 ⇒ id | 3 | 7 | 300 | 65536 | 18446744073709551615
 SELECT id FROM rt WHERE flag = 2 ⇒ id
@@ -186,6 +199,7 @@ SELECT id, WEIGHT() FROM rt WHERE MATCH('tea') AND price < 0 ⇒ id, weight() | 
 SELECT id, WEIGHT() FROM rt WHERE flag = 1 AND MATCH('green tea') AND seen <= 1000 AND id > 1 ⇒ id, weight() | 4294967296, 2 | 9223372036854775808, 2
 SELECT id, WEIGHT() FROM rt WHERE gid = 0 AND MATCH('') ⇒ id, weight() | 7, 1 | 18446744073709551615, 1
 SELECT id FROM rt WHERE MATCH('tea') AND id = 7 ⇒ id
+SELECT id FROM rt WHERE gid = 10 AND gid BETWEEN 5 AND 15 AND gid IN (10, 11) AND gid NOT IN (11) AND gid != 11 LIMIT 1, 1 ⇒ id | 3
 SELECT id FROM rt ORDER BY id ⇒ id | 1 | 2 | 3 | 7 | 42 | 300 | 65536 | 4294967296 | 9223372036854775808 | 18446744073709551615
 SELECT id FROM rt ORDER BY id ASC ⇒ id | 1 | 2 | 3 | 7 | 42 | 300 | 65536 | 4294967296 | 9223372036854775808 | 18446744073709551615
 SELECT id FROM rt ORDER BY id DESC ⇒ id | 18446744073709551615 | 9223372036854775808 | 4294967296 | 65536 | 300 | 42 | 7 | 3 | 2 | 1
@@ -250,6 +264,8 @@ SELECT id FROM rt OPTION max_matches=0 ⇒ ERR 1064 42000 max_matches out of ran
 SELECT id FROM rt OPTION max_matches=100001 ⇒ ERR 1064 42000 max_matches out of range
 SELECT id FROM rt OPTION max_matches=4294967297 ⇒ ERR 1064 42000 max_matches out of range
 SELECT id FROM rt OPTION max_matches=18446744073709551615 ⇒ ERR 1064 42000 max_matches out of range
+SELECT id FROM rt LIMIT 4, 18446744073709551615 OPTION max_matches=5 ⇒ id | 42
+SELECT id FROM rt OPTION max_matches=00003 ⇒ id | 1 | 2 | 3
 # many
 SELECT id FROM rt ⇒ id | 1 | 2 | 3 | 4 | 5 | 6 | 7 | 8 | 9 | 10 | 11 | 12 | 13 | 14 | 15 | 16 | 17 | 18 | 19 | 20
 SELECT id FROM rt WHERE MATCH('a') ⇒ id | 1 | 2 | 3 | 4 | 5 | 6 | 7 | 8 | 9 | 10 | 11 | 12 | 13 | 14 | 15 | 16 | 17 | 18 | 19 | 20
@@ -266,6 +282,11 @@ SELECT id FROM rt ORDER BY id DESC LIMIT 998, 20 ⇒ id | 202 | 201
 SELECT id FROM rt ORDER BY gid, id DESC LIMIT 2 ⇒ id | 1200 | 1199
 SELECT id FROM rt WHERE MATCH('a') AND id > 1195 ⇒ id | 1196 | 1197 | 1198 | 1199 | 1200
 SELECT id FROM rt WHERE id NOT IN (1, 3) LIMIT 3 ⇒ id | 2 | 4 | 5
+SELECT id FROM rt LIMIT 999, 2 OPTION max_matches=1001 ⇒ id | 1000 | 1001
+SELECT id FROM rt WHERE id > 1198 LIMIT 1, 20 OPTION max_matches=2 ⇒ id | 1200
+SELECT id FROM rt WHERE MATCH('a') ORDER BY id DESC LIMIT 1 OPTION max_matches=1 ⇒ id | 1200
+SELECT id FROM rt LIMIT 1199, 5 OPTION max_matches=1200 ⇒ id | 1200
+SELECT id FROM rt LIMIT 253 ⇒ id | 1 | 2 | 3 | 4 | 5 | 6 | 7 | 8 | 9 | 10 | 11 | 12 | 13 | 14 | 15 | 16 | 17 | 18 | 19 | 20 | 21 | 22 | 23 | 24 | 25 | 26 | 27 | 28 | 29 | 30 | 31 | 32 | 33 | 34 | 35 | 36 | 37 | 38 | 39 | 40 | 41 | 42 | 43 | 44 | 45 | 46 | 47 | 48 | 49 | 50 | 51 | 52 | 53 | 54 | 55 | 56 | 57 | 58 | 59 | 60 | 61 | 62 | 63 | 64 | 65 | 66 | 67 | 68 | 69 | 70 | 71 | 72 | 73 | 74 | 75 | 76 | 77 | 78 | 79 | 80 | 81 | 82 | 83 | 84 | 85 | 86 | 87 | 88 | 89 | 90 | 91 | 92 | 93 | 94 | 95 | 96 | 97 | 98 | 99 | 100 | 101 | 102 | 103 | 104 | 105 | 106 | 107 | 108 | 109 | 110 | 111 | 112 | 113 | 114 | 115 | 116 | 117 | 118 | 119 | 120 | 121 | 122 | 123 | 124 | 125 | 126 | 127 | 128 | 129 | 130 | 131 | 132 | 133 | 134 | 135 | 136 | 137 | 138 | 139 | 140 | 141 | 142 | 143 | 144 | 145 | 146 | 147 | 148 | 149 | 150 | 151 | 152 | 153 | 154 | 155 | 156 | 157 | 158 | 159 | 160 | 161 | 162 | 163 | 164 | 165 | 166 | 167 | 168 | 169 | 170 | 171 | 172 | 173 | 174 | 175 | 176 | 177 | 178 | 179 | 180 | 181 | 182 | 183 | 184 | 185 | 186 | 187 | 188 | 189 | 190 | 191 | 192 | 193 | 194 | 195 | 196 | 197 | 198 | 199 | 200 | 201 | 202 | 203 | 204 | 205 | 206 | 207 | 208 | 209 | 210 | 211 | 212 | 213 | 214 | 215 | 216 | 217 | 218 | 219 | 220 | 221 | 222 | 223 | 224 | 225 | 226 | 227 | 228 | 229 | 230 | 231 | 232 | 233 | 234 | 235 | 236 | 237 | 238 | 239 | 240 | 241 | 242 | 243 | 244 | 245 | 246 | 247 | 248 | 249 | 250 | 251 | 252 | 253
 # shop
 SELECT id, WEIGHT() FROM rt WHERE MATCH('cup') OPTION max_query_time=0, comment='a b' ⇒ id, weight() | 42, 2 | 65536, 1
 SELECT id FROM rt LIMIT 1 OPTION max_query_time='soon', comment=5 ⇒ id | 1
@@ -284,4 +305,7 @@ SELECT id, WEIGHT() FROM rt WHERE MATCH('cup') OPTION field_weights=(title=10), 
 SELECT id, WEIGHT() FROM rt WHERE MATCH('cup') OPTION field_weights=(Title=65535, `content`=1), comment='x' ⇒ id, weight() | 42, 65536 | 65536, 65535
 SELECT id, WEIGHT() FROM rt WHERE MATCH('cup') OPTION field_weights=(content=3, title=2), RANKER=`WordCount` ⇒ id, weight() | 42, 5 | 65536, 2
 SELECT id, WEIGHT() FROM rt WHERE gid = 30 OPTION field_weights=(title=10), ranker=fieldmask ⇒ id, weight() | 65536, 1
+SELECT id, WEIGHT() FROM rt WHERE MATCH('cup') OPTION field_weights=(title=10), field_weights=(title=3) ⇒ id, weight() | 42, 4 | 65536, 3
+SELECT id, WEIGHT() FROM rt WHERE MATCH('cup') OPTION field_weights=(title=65535, content=65535), ranker=matchany ⇒ id, weight() | 42, 131070 | 65536, 65535
+SELECT id, WEIGHT() FROM rt WHERE MATCH('cup') ORDER BY WEIGHT() OPTION ranker=none ⇒ id, weight() | 42, 1 | 65536, 1
 "#;

@@ -15,6 +15,7 @@ SELECT id, WEIGHT() FROM rt WHERE MATCH('tea') OPTION field_weights=(title=10), 
 SELECT id, WEIGHT() FROM rt WHERE MATCH('tea') OPTION ranker=matchany, field_weights=(title=10) ⇒ id, weight() | 2, 11 | 3, 11 | 4294967296, 11 | 1, 10 | 42, 1 | 300, 1 | 9223372036854775808, 1
 SELECT id, WEIGHT() FROM rt WHERE MATCH('tea') OPTION ranker=fieldmask, field_weights=(title=10) ⇒ id, weight() | 2, 3 | 3, 3 | 4294967296, 3 | 42, 2 | 300, 2 | 9223372036854775808, 2 | 1, 1
 SELECT id, WEIGHT() FROM rt WHERE MATCH('tea') OPTION field_weights=(content=10) ⇒ id, weight() | 2, 11 | 3, 11 | 4294967296, 11 | 42, 10 | 300, 10 | 9223372036854775808, 10 | 1, 1
+SELECT id FROM rt WHERE MATCH('tea\0green') ⇒ id | 4294967296 | 2 | 42 | 9223372036854775808 | 1
 SELECT id, WEIGHT() FROM rt WHERE MATCH('green tea') OPTION ranker=none ⇒ id, weight() | 1, 1 | 2, 1 | 42, 1 | 4294967296, 1 | 9223372036854775808, 1
 SELECT id, WEIGHT() FROM rt WHERE MATCH('green tea') OPTION ranker=wordcount ⇒ id, weight() | 2, 3 | 4294967296, 3 | 9223372036854775808, 3 | 1, 2 | 42, 2
 SELECT id, WEIGHT() FROM rt WHERE MATCH('green tea') OPTION ranker=proximity ⇒ id, weight() | 2, 3 | 1, 2 | 42, 2 | 4294967296, 2 | 9223372036854775808, 2
@@ -83,6 +84,9 @@ SELECT id, WEIGHT() FROM rt WHERE MATCH('"hello world program"/2') OPTION ranker
 SELECT id, WEIGHT() FROM rt WHERE MATCH('"hello world program"/2') OPTION ranker=proximity, field_weights=(title=10, content=1) ⇒ id, weight() | 7, 21 | 18446744073709551615, 20
 SELECT id, WEIGHT() FROM rt WHERE MATCH('"hello world program"/2') OPTION ranker=matchany, field_weights=(title=10, content=1) ⇒ id, weight() | 7, 351 | 18446744073709551615, 350
 SELECT id, WEIGHT() FROM rt WHERE MATCH('"hello world program"/2') OPTION ranker=fieldmask, field_weights=(title=10, content=1) ⇒ id, weight() | 7, 3 | 18446744073709551615, 1
+# animals
+SELECT id, WEIGHT() FROM rt WHERE MATCH('"cat foo x y dog"/2') ⇒ id, weight() | 1, 2 | 2, 2
+# shop
 SELECT id, WEIGHT() FROM rt WHERE MATCH('cup MAYBE tea') OPTION ranker=none ⇒ id, weight() | 42, 1 | 65536, 1
 SELECT id, WEIGHT() FROM rt WHERE MATCH('cup MAYBE tea') OPTION ranker=wordcount ⇒ id, weight() | 42, 3 | 65536, 1
 SELECT id, WEIGHT() FROM rt WHERE MATCH('cup MAYBE tea') OPTION ranker=proximity ⇒ id, weight() | 42, 2 | 65536, 1
@@ -105,6 +109,7 @@ SELECT id, WEIGHT() FROM rt WHERE MATCH('tea -green') OPTION ranker=matchany, fi
 SELECT id, WEIGHT() FROM rt WHERE MATCH('tea -green') OPTION ranker=fieldmask, field_weights=(content=3) ⇒ id, weight() | 3, 3 | 300, 2
 SELECT id, WEIGHT() FROM rt WHERE MATCH('"green tea" -pot') OPTION ranker=matchany ⇒ id, weight() | 1, 8
 SELECT id, WEIGHT() FROM rt WHERE MATCH('"green tea" -pot -cup') OPTION ranker=matchany ⇒ id, weight() | 1, 10
+SELECT id FROM rt WHERE MATCH('a -') ⇒ id | 2 | 42
 SELECT id, WEIGHT() FROM rt WHERE MATCH('@title green @content tea') OPTION ranker=none ⇒ id, weight() | 42, 1 | 4294967296, 1 | 9223372036854775808, 1
 SELECT id, WEIGHT() FROM rt WHERE MATCH('@title green @content tea') OPTION ranker=wordcount ⇒ id, weight() | 9223372036854775808, 3 | 42, 2 | 4294967296, 2
 SELECT id, WEIGHT() FROM rt WHERE MATCH('@title green @content tea') OPTION ranker=proximity ⇒ id, weight() | 42, 2 | 4294967296, 2 | 9223372036854775808, 2

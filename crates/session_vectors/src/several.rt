@@ -169,7 +169,7 @@ fn description(alloc: Global) -> Result<Vec<u8>, Fail> {
 }
 
 #[test]
-fn the_largest_reply_has_70_packets(rt: HostRuntime) -> Result<(), Fail> {
+fn the_longest_description_has_70_packets(rt: HostRuntime) -> Result<(), Fail> {
     let alloc = rt.alloc();
     let mut tables = tables_of(alloc, &widest(alloc)?)?;
     let told = answer(alloc, &mut Session::new(), &mut tables, b"DESCRIBE wide")?;

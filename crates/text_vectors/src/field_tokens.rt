@@ -4,6 +4,7 @@
 ghost use Rattle.std.specs.Prelude.{◌≡◌, [], ◌∷◌, codes, IfOk};
 ghost use Rattle.doc_types.specs.Schemas.{AreZones};
 
+use crate::evaluated_fields::FIELDS;
 use charset_map::Charset;
 use doc_tokens::{TooLong, tokens};
 use doc_types::{FieldTokens, Gap, ZoneSpan};
@@ -13,7 +14,7 @@ use std::alloc::Global;
 use std::fmt::Write;
 use std::test::Fail;
 
-/// A text with markup in an index with the zones `th` and `i`; whether sentences and paragraphs are looked for; its words,
+/// A text with markup in an index with the zones `th`, `i`, `td` and `em`; whether sentences and paragraphs are looked for; its words,
 /// each with its position and, after it, `s` or `p` for the boundary before it; its spans: zone, first and last position.
 const MARKUP: [(&str, bool, &str, &str); 31] = [
     ("", true, "", ""),
@@ -120,13 +121,15 @@ fn written(alloc: Global, tokens: &FieldTokens) -> Result<String, Fail> {
     Ok(text)
 }
 
-/// The rules of an index with the zones `th` and `i`.
+/// The rules of an index with the zones `th`, `i`, `td` and `em`.
 fn rules(alloc: Global, strip: bool, sp: bool) -> Result<MarkRules, NoMemory>
     ensures { IfOk result (λ rules. AreZones rules.zones) }
 {
     let mut zones = Vec::new(alloc);
     zones.push(Name::from_slice(alloc, b"th")?)?;
     zones.push(Name::from_slice(alloc, b"i")?)?;
+    zones.push(Name::from_slice(alloc, b"td")?)?;
+    zones.push(Name::from_slice(alloc, b"em")?)?;
     let zones = Items::new(zones);
     Ok(MarkRules { strip, sp, zones })
 }
@@ -151,6 +154,8 @@ fn zone_name(zone: u16) -> &'static str {
     match zone {
         0 => "th",
         1 => "i",
+        2 => "td",
+        3 => "em",
         _ => "another",
     }
 }
@@ -211,6 +216,27 @@ fn first_other_plain(alloc: Global) -> Result<Option<usize>, Fail> {
         if !has(alloc, false, true, text, with, "")?
             || !has(alloc, false, false, text, without, "")?
         {
+            return Ok(Some(at));
+        }
+    }
+    Ok(None)
+}
+
+/// Whether a line of the fields of documents has the words and spans of its text.
+fn has_line(alloc: Global, line: &str) -> Result<bool, Fail> {
+    let mut parts = line.split(" ⇒ ");
+    let strip = parts.next() == Some("1");
+    let sp = parts.next() == Some("1");
+    let text = parts.next().ok_or("no text")?;
+    let words = parts.next().ok_or("no words")?;
+    let spans = parts.next().ok_or("no spans")?;
+    has(alloc, strip, sp, text, words, spans)
+}
+
+/// The number of the first field of a document that has other words or spans.
+fn first_other_field(alloc: Global) -> Result<Option<usize>, Fail> {
+    for (at, line) in FIELDS.trim_start().lines().enumerate() {
+        if !has_line(alloc, line)? {
             return Ok(Some(at));
         }
     }
@@ -333,6 +359,7 @@ fn first_other_bytes(alloc: Global) -> Result<Option<usize>, Fail> {
 fn texts_have_their_words(rt: HostRuntime) -> Result<(), Fail> {
     assert_eq!(rt; first_other_markup(rt.alloc())?, None);
     assert_eq!(rt; first_other_plain(rt.alloc())?, None);
+    assert_eq!(rt; first_other_field(rt.alloc())?, None);
     assert_eq!(rt; first_other_bytes(rt.alloc())?, None);
     assert_eq!(rt; first_other_last(rt.alloc())?, None);
     assert_eq!(rt; first_other_long(rt.alloc())?, None);

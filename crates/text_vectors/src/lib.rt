@@ -13,6 +13,8 @@ mod configuration_orders;
 #[cfg(test)]
 mod configurations;
 #[cfg(test)]
+mod evaluated_fields;
+#[cfg(test)]
 mod field_tokens;
 #[cfg(test)]
 mod marks;
