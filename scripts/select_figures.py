@@ -33,10 +33,13 @@ RESPONSE = (
 
 SELECTS = [
     ("a word that all have, ranked", "SELECT id, WEIGHT() FROM rt WHERE MATCH('all')", 100),
+    ("the same word, not ranked", "SELECT id FROM rt WHERE MATCH('all') OPTION ranker=none", 200),
+    ("the same word and a condition", "SELECT id FROM rt WHERE MATCH('all') AND gid = 7", 200),
     ("two words, of which every sixth has both", "SELECT id FROM rt WHERE MATCH('half third')", 200),
     ("a phrase that every fifth has", "SELECT id FROM rt WHERE MATCH('\"green tea\"')", 100),
     ("one word out of 20,000", "SELECT id FROM rt WHERE MATCH('w777')", 2000),
     ("a condition alone", "SELECT id FROM rt WHERE gid = 7", 200),
+    ("a condition by 1,000 numbers", f"SELECT id FROM rt WHERE price IN ({', '.join(map(str, range(1000)))})", 100),
     ("the order of an attribute", "SELECT id, price FROM rt WHERE MATCH('all') ORDER BY price DESC", 100),
     ("1,000 rows of all columns", "SELECT * FROM rt WHERE MATCH('all') LIMIT 1000", 100),
     ("the last page of 100,000", "SELECT id FROM rt LIMIT 99980,20 OPTION max_matches=100000", 100),
