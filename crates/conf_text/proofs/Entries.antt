@@ -5,7 +5,7 @@ use Rattle.std.specs.List.{cons_option, filter_map, list_any}
 use Rattle.std.specs.Option.{is_some}
 use Rattle.std.specs.Str.{bytes_eq}
 use Rattle.std.proofs.lemmas.Bool.{true≢false}
-use Rattle.conf_text.specs.declared.conf.IndexConf.{IndexConf}
+use Rattle.index_conf.specs.declared.conf.IndexConf.{IndexConf}
 use Rattle.conf_text.specs.declared.keys.Key.{Key}
 use Rattle.conf_text.specs.steps.Drafts.{AreIndexes, has_key}
 use Rattle.conf_text.specs.Faults.{has_name, has_path, is_text}

@@ -6,13 +6,14 @@ use Rattle.std.specs.Str.{bytes_eq}
 use Rattle.std.proofs.lemmas.Bool.{leb-false, ltb-false, or_parts}
 use Rattle.std.proofs.lemmas.List.{map-append, reverse-append, length-map}
 use Rattle.doc_types.specs.declared.schema.AttrKind.{AttrKind}
-use Rattle.conf_text.specs.declared.conf.Conf.{Conf}
+use Rattle.index_conf.specs.declared.conf.Conf.{Conf}
 use Rattle.std.proofs.lemmas.List.Elements.{All-nil, All-push, All-append, All-map}
 use Rattle.doc_types.specs.Schemas.{AreDistinct, AreZones, IsName, IsSchema, columns, is_capital, is_column_name}
-use Rattle.conf_text.specs.declared.conf.IndexConf.{IndexConf}
-use Rattle.conf_text.specs.declared.conf.TheConstants.{MAX_INDEXES}
+use Rattle.index_conf.specs.declared.conf.IndexConf.{IndexConf}
+use Rattle.index_conf.specs.declared.conf.TheConstants.{MAX_INDEXES}
 use Rattle.conf_text.specs.declared.keys.Key.TheVariants as keys
-use Rattle.conf_text.specs.Confs.{IsIndexOf, IsSound, shape, shapes_back}
+use Rattle.conf_text.specs.Confs.{IsIndexOf, shape, shapes_back}
+use Rattle.index_conf.specs.Soundness.{IsSound}
 use Rattle.conf_text.specs.steps.Drafts.{AreIndexes, entry_with}
 use Rattle.conf_text.specs.Faults.{AreGood, IsGoodAt, has_name, has_path, is_among, is_long, is_text}
 use Rattle.conf_text.specs.Lines.{Line, content}

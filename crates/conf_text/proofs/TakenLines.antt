@@ -5,7 +5,7 @@ use Rattle.std.specs.List.{AllZip}
 use Rattle.std.proofs.lemmas.Bool.{true≢false}
 use Rattle.srch_base.specs.declared.faults.Or.{Or}
 use Rattle.srch_base.specs.declared.faults.Or.TheVariants as causes
-use Rattle.conf_text.specs.declared.conf.IndexConf.{IndexConf}
+use Rattle.index_conf.specs.declared.conf.IndexConf.{IndexConf}
 use Rattle.conf_text.specs.declared.draft.Draft.{Draft}
 use Rattle.conf_text.specs.declared.fault.ConfKind.{ConfKind}
 use Rattle.conf_text.specs.declared.fault.ConfKind.TheVariants as kinds

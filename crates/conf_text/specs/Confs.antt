@@ -9,9 +9,10 @@ use Rattle.charset_map.specs.Spans.{folded}
 use Rattle.doc_types.specs.Schemas.{IsSchema, AreDistinct}
 use Rattle.srch_base.specs.declared.faults.Or.{Or}
 use Rattle.srch_base.specs.declared.faults.Or.TheVariants as causes
-use Rattle.conf_text.specs.declared.conf.Conf.{Conf}
-use Rattle.conf_text.specs.declared.conf.IndexConf.{IndexConf}
-use Rattle.conf_text.specs.declared.conf.TheConstants.{MAX_INDEXES, MAX_CONF_BYTES}
+use Rattle.index_conf.specs.declared.conf.Conf.{Conf}
+use Rattle.index_conf.specs.declared.conf.IndexConf.{IndexConf}
+use Rattle.index_conf.specs.declared.conf.TheConstants.{MAX_INDEXES}
+use Rattle.conf_text.specs.declared.size.TheConstants.{MAX_CONF_BYTES}
 use Rattle.conf_text.specs.declared.fault.ConfFault.{ConfFault}
 use Rattle.conf_text.specs.declared.fault.ConfKind.TheVariants as kinds
 use Rattle.conf_text.specs.declared.keys.Key.TheVariants as keys
@@ -122,14 +123,3 @@ abbrev pub ReadsConf : List ℕ → Result Conf (Or ConfFault) → Type 0
 ReadsConf text (Ok conf) = IsConfOf text conf
 ReadsConf text (Err causes.NoMemory) = Unit {0}
 ReadsConf text (Err (causes.Fault fault)) = IsFaultOf text fault
-
--- what holds of every configuration: it has some indexes and not too many, their names and paths are distinct, and each has
--- a schema within the limits, whose zones and boundaries are those that its texts are marked by
-pub record IsSound (conf : Conf) : Type 0 where
-  pub some : 0 < length conf.indexes
-  pub few : length conf.indexes ≤ MAX_INDEXES
-  pub names : AreDistinct (map (λ index. index.schema.name) conf.indexes)
-  pub paths : AreDistinct (map (λ index. index.path) conf.indexes)
-  pub schemas : All (λ index. IsSchema index.schema) conf.indexes
-  pub zones : All (λ index. index.rules.zones ≡ index.schema.zones) conf.indexes
-  pub sp : All (λ index. index.rules.sp ≡ index.schema.sp) conf.indexes

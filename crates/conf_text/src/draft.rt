@@ -13,13 +13,13 @@ ghost use Rattle.conf_text.specs.Faults.{is_repeated};
 ghost use Rattle.conf_text.specs.Sections.{Entry, IndexText};
 ghost use Rattle.conf_text.specs.steps.Settings.{IsSetting};
 
-use crate::conf::IndexConf;
 use crate::fault::ConfKind;
 use crate::keys::Key;
 use crate::setting::{Setting, read_setting};
 use crate::zones::{long, some_long, stands_among};
 use charset_map::Charset;
 use doc_types::{AttrKind, MAX_ATTRS, MAX_FIELDS, MAX_ZONES, Schema};
+use index_conf::IndexConf;
 use mark_scan::MarkRules;
 use srch_base::{Items, Name, NoMemory, Or, Text};
 use std::alloc::Global;

@@ -1,7 +1,7 @@
 //! Laws of the definitions. Each function does nothing: its contract is the law.
 ghost use Rattle.std.specs.Prelude.{◌≡◌, ℕ, List};
 ghost use Rattle.std.specs.List.{AllZip};
-ghost use Rattle.conf_text.specs.declared.conf.Conf.{Conf};
+ghost use Rattle.index_conf.specs.declared.conf.Conf.{Conf};
 ghost use Rattle.conf_text.specs.declared.fault.ConfFault.{ConfFault};
 ghost use Rattle.conf_text.specs.Confs.{AreSameIndex, IsConfOf, IsFaultOf};
 

@@ -12,7 +12,8 @@
 //! line the first in the order of `ConfKind` is given.
 ghost use Rattle.std.specs.Prelude.{◌≡◌, ◌||◌, nat_le, ◌<◌, ◌≤◌, ◌^◌, List, ℕ, IfOk, length, if◌then◌else◌};
 ghost use Rattle.conf_text.specs.declared.reading.Place.TheVariants.{Headed, Inside};
-ghost use Rattle.conf_text.specs.Confs.{IsSound, ReadsConf};
+ghost use Rattle.conf_text.specs.Confs.{ReadsConf};
+ghost use Rattle.index_conf.specs.Soundness.{IsSound};
 ghost use Rattle.conf_text.specs.steps.Drafts.{AreIndexes, IsDraft};
 ghost use Rattle.conf_text.specs.Faults.{fits, is_long, is_outside, is_syntax};
 ghost use Rattle.conf_text.specs.Lines.{lines_of};
@@ -23,14 +24,15 @@ ghost use Rattle.conf_text.specs.Shapes.{small};
 ghost use Rattle.conf_text.specs.steps.SeenShapes.{seen, value_length};
 ghost use Rattle.conf_text.specs.steps.Taking.{Begins, Closes, Enters, EntersIndex, Leads, PlaceHas, TakesLine, place_of};
 
-use crate::conf::{Conf, IndexConf, MAX_CONF_BYTES, MAX_INDEXES};
 use crate::draft::{Draft, name_is_taken};
 use crate::fault::{ConfFault, ConfKind};
 use crate::keys::Key;
 use crate::lines::{Lines, content};
 use crate::shape::{Shape, shape_of};
+use crate::size::MAX_CONF_BYTES;
 use crate::text::small_name;
 use crate::zones::long;
+use index_conf::{Conf, IndexConf, MAX_INDEXES};
 use srch_base::{Items, NoMemory, Or};
 use std::alloc::Global;
 

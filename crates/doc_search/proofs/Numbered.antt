@@ -6,7 +6,7 @@ use Rattle.std.proofs.Math.Bool.{and_comm}
 use Rattle.std.proofs.lemmas.List.Elements.{filter_agree}
 use Rattle.doc_types.specs.declared.documents.DocRow.{DocRow}
 use Rattle.doc_types.specs.Snapshots.{LayerValue, is_dead, living}
-use Rattle.query_grammar.specs.declared.query.Query.{Query}
+use Rattle.query_tree.specs.declared.query.Query.{Query}
 use Rattle.op_eval.specs.Matching.{matches, matching}
 use Rattle.op_eval.proofs.Lists.{filter_twice}
 

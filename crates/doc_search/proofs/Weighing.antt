@@ -8,7 +8,7 @@ use Rattle.doc_types.specs.declared.hits.Hit.{Hit}
 use Rattle.doc_types.specs.declared.hits.Hits.{Hits}
 use Rattle.doc_types.specs.declared.schema.Schema.{Schema}
 use Rattle.doc_types.specs.Documents.{AreRowsOf, IsDocOf}
-use Rattle.query_grammar.specs.declared.query.Query.{Query}
+use Rattle.query_tree.specs.declared.query.Query.{Query}
 use Rattle.op_eval.specs.Hits.{AreHits}
 use Rattle.op_eval.specs.Matching.{matches}
 use Rattle.op_eval.specs.Numbered.{AreHitsWithin, IsHitWithin}

@@ -18,7 +18,7 @@ pub(crate) struct Asked<'a> {
 impl<'a> Model for Asked<'a> {
     ghost use Rattle.std.specs.Prelude.{◌≡◌};
     ghost use Rattle.std.specs.Coded.{codes};
-    ghost use Rattle.query_grammar.specs.contracts.query.Node as node;
+    ghost use Rattle.query_tree.specs.contracts.query.Node as node;
     ghost use Rattle.doc_search.specs.declared.question.Question.{Question};
 
     ghost Value = { Question };

@@ -1,5 +1,5 @@
 //! What is asked of an index.
-use query_grammar::Query;
+use query_tree::Query;
 use rankers::{Ranker, Weights};
 use row_select::{Filter, Order, Page};
 use srch_base::Items;

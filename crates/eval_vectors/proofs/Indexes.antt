@@ -1,9 +1,9 @@
 -- The last index of a configuration keeps the limits.
 use Rattle.std.proofs.Common.{◌≡◌, List, [], ◌∷◌, ◌++◌, All, length, length-append, arith, subst}
 use Rattle.std.proofs.Math.Seq.{get_or-append_seam}
-use Rattle.conf_text.specs.Confs.{IsSound}
-use Rattle.conf_text.specs.declared.conf.Conf.{Conf}
-use Rattle.conf_text.specs.declared.conf.IndexConf.{IndexConf}
+use Rattle.index_conf.specs.Soundness.{IsSound}
+use Rattle.index_conf.specs.declared.conf.Conf.{Conf}
+use Rattle.index_conf.specs.declared.conf.IndexConf.{IndexConf}
 use Rattle.doc_types.specs.Schemas.{IsSchema}
 use Rattle.eval_vectors.specs.steps.Reading.{IsSoundIndex}
 

@@ -2,7 +2,7 @@
 ghost use Rattle.std.specs.Prelude.{◌<◌, All, AllPairs, IfOk, IsTrue, OnOk};
 ghost use Rattle.eval_vectors.specs.steps.Reading.{AreFewRows, IsShortField, IsShortRow, IsSoundIndex};
 
-use conf_text::IndexConf;
+use index_conf::IndexConf;
 use doc_tokens::tokens;
 use doc_types::{Doc, DocRow, FieldTokens, PlainChunk};
 use srch_base::Items;

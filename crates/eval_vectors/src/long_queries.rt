@@ -6,7 +6,7 @@ use crate::documents::chunk_of;
 use crate::queries::query_of;
 use crate::sets::index_of;
 use crate::telling::told;
-use conf_text::IndexConf;
+use index_conf::IndexConf;
 use doc_types::PlainChunk;
 use std::alloc::Global;
 use std::test::Fail;

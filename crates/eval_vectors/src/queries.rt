@@ -1,15 +1,16 @@
 //! Runs over queries and what they find, as docs/cases/evaluation.md tells it.
 ghost use Rattle.std.specs.Prelude.{◌<◌, ◌^◌, IfOk, length};
-ghost use Rattle.query_grammar.specs.DeepValues.{query_keys};
+ghost use Rattle.query_tree.specs.TreeKeys.{query_keys};
 ghost use Rattle.eval_vectors.specs.steps.Reading.{IsSoundIndex};
 
 use crate::cases::{DOCUMENTS, QUERIES};
 use crate::documents::chunk_of;
 use crate::sets::{index_of, lines_of};
 use crate::telling::told;
-use conf_text::IndexConf;
+use index_conf::IndexConf;
 use doc_types::PlainChunk;
-use ext_query::{Query, read_query};
+use query_tree::Query;
+use query_read::read_query;
 use op_eval::for_schema;
 use std::alloc::Global;
 use std::test::Fail;

@@ -1,10 +1,11 @@
 //! The sets of documents: what stands of each in the tables, and its index.
 ghost use Rattle.std.specs.Prelude.{IfOk};
-ghost use Rattle.conf_text.specs.Confs.{IsSound};
+ghost use Rattle.index_conf.specs.Soundness.{IsSound};
 ghost use Rattle.eval_vectors.specs.steps.Reading.{IsSoundIndex};
 
 use crate::cases::SETS;
-use conf_text::{Conf, IndexConf, read_conf};
+use conf_text::read_conf;
+use index_conf::{Conf, IndexConf};
 use std::alloc::Global;
 use std::test::Fail;
 

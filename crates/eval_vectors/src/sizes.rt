@@ -5,7 +5,7 @@ use crate::documents::{built, push};
 use crate::queries::query_of;
 use crate::sets::index_of;
 use crate::telling::count;
-use conf_text::IndexConf;
+use index_conf::IndexConf;
 use doc_types::PlainChunk;
 use std::alloc::Global;
 use std::test::Fail;

@@ -1,11 +1,11 @@
 //! What a query finds in a chunk, as the tables tell it.
 ghost use Rattle.std.specs.Prelude.{◌≡◌, ◌<◌, ◌^◌, length, AllPairs};
-ghost use Rattle.query_grammar.specs.DeepValues.{query_keys};
+ghost use Rattle.query_tree.specs.TreeKeys.{query_keys};
 
 use doc_types::{Chunk, Hit, Hits};
 use occ_lists::Occ;
 use op_eval::{Matches, candidates, hits, occurrences};
-use query_grammar::Query;
+use query_tree::Query;
 use srch_base::{Items, Steps};
 use std::alloc::Global;
 use std::marker::Brand;

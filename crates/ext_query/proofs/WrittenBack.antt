@@ -8,16 +8,17 @@ use Rattle.doc_types.specs.Schemas.{IsSchema}
 use Rattle.query_pieces.specs.declared.piece.Piece.{Piece}
 use Rattle.query_pieces.specs.Pieces.{ArePieces}
 use Rattle.query_pieces.proofs.OneReading.{pieces_same}
-use Rattle.query_marks.specs.declared.key.Key.{Key}
+use Rattle.query_tree.specs.declared.key.Key.{Key}
 use Rattle.query_marks.specs.declared.mark.Mark.{Mark}
 use Rattle.query_marks.specs.declared.mark.Sign.{Sign}
 use Rattle.query_marks.specs.declared.mark.Sign.TheVariants as signs
 use Rattle.query_marks.specs.Marks.{Setting, setting_of, limit_of, sign_of, wrong_of, mark_at, after, before_marks, marks_from, marks_of, at_start}
-use Rattle.query_grammar.specs.declared.query.Node.{Node}
-use Rattle.query_grammar.specs.declared.query.Query.{Query}
+use Rattle.query_tree.specs.declared.query.Node.{Node}
+use Rattle.query_tree.specs.declared.query.Query.{Query}
 use Rattle.query_grammar.specs.Grammar.{Is, IsOpenAnd, IsQuery}
 use Rattle.query_grammar.specs.Queries.{keys_of, IsRoot, IsValue}
-use Rattle.query_grammar.specs.DeepValues.{IsDeepRoot, IsDeepValue, IsShallow, node_keys, query_keys, GivesChars, ReadsBack}
+use Rattle.query_grammar.specs.DeepValues.{IsDeepRoot, IsDeepValue, IsShallow, GivesChars, ReadsBack}
+use Rattle.query_tree.specs.TreeKeys.{node_keys, query_keys}
 use Rattle.query_write.specs.Written.{node_tokens, query_tokens, tokens_text, written}
 use Rattle.query_write.specs.steps.Signs.{ArePiecesOf}
 use Rattle.query_write.specs.steps.TokenRun.{start, signs_of}
@@ -33,8 +34,8 @@ use Rattle.query_write.proofs.CarriedQueries.{query_makes}
 use Rattle.query_write.proofs.TableChanges.{Kept, each_from, writable_kept}
 use Rattle.query_write.proofs.KeyCounts.{marks_count, signs_count, carries_count, carries_few, tokens_count, ended_count, marks_signs}
 use Rattle.query_grammar.proofs.MarkOrder.{only_one}
-use Rattle.ext_query.proofs.AtDepth.{root_within}
-use Rattle.ext_query.proofs.OpenQueries.{text_of_root}
+use Rattle.query_read.proofs.AtDepth.{root_within}
+use Rattle.query_read.proofs.OpenQueries.{text_of_root}
 use Rattle.query_write.proofs.RightPieces.{right_pieces}
 
 -- ---- a tree that a text has can be written

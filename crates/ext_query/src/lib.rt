@@ -1,26 +1,15 @@
-//! Extended queries, read: a text is the query that it is, or its first fault.
+//! Extended queries: their types, the reader, the writer, and what holds of them.
 #![tactic(auto)]
 
-mod copies;
-mod cursor;
-mod faults;
-mod joins;
-mod keys_law;
-mod levels;
-mod operators;
-mod reader;
-mod reading;
-mod recognizer;
-mod text_law;
 mod written_law;
 
-pub use keys_law::a_query_has_at_most_255_keywords;
 pub use query_grammar::{
-    Item, Node, Query, QueryFault, a_query_has_no_fault, a_text_has_one_first_fault,
-    a_text_is_one_query,
+    QueryFault, a_query_has_no_fault, a_text_has_one_first_fault, a_text_is_one_query,
 };
-pub use query_marks::{How, Key, Limit, QueryKind};
+pub use query_marks::QueryKind;
+pub use query_read::{
+    a_query_has_at_most_255_keywords, a_query_is_a_text_of_the_grammar, read_query,
+};
+pub use query_tree::{How, Item, Key, Limit, Node, Query};
 pub use query_write::put_query;
-pub use reading::read_query;
-pub use text_law::a_query_is_a_text_of_the_grammar;
 pub use written_law::{a_value_is_one_without_the_limit, a_written_query_is_read_back};

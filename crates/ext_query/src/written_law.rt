@@ -6,7 +6,7 @@ ghost use Rattle.doc_types.specs.Schemas.{IsSchema};
 ghost use Rattle.query_pieces.specs.declared.piece.Piece.{Piece};
 ghost use Rattle.query_pieces.specs.Pieces.{ArePieces};
 ghost use Rattle.query_marks.specs.Marks.{Setting, setting_of, marks_of};
-ghost use Rattle.query_grammar.specs.declared.query.Query.{Query as QueryValue};
+ghost use Rattle.query_tree.specs.declared.query.Query.{Query as QueryValue};
 ghost use Rattle.query_grammar.specs.DeepValues.{IsDeepValue, IsShallow, GivesChars, ReadsBack};
 ghost use Rattle.query_grammar.specs.Queries.{IsValue};
 ghost use Rattle.query_write.specs.Written.{written};

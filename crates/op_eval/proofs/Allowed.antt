@@ -9,7 +9,7 @@ use Rattle.std.proofs.lemmas.List.Elements.{All-weaker}
 use Rattle.doc_types.specs.declared.documents.DocRow.{DocRow}
 use Rattle.doc_types.specs.declared.tokens.ZoneSpan.{ZoneSpan}
 use Rattle.doc_types.specs.Chunks.{IsContent, hits_of, spans_of}
-use Rattle.query_marks.specs.declared.key.Key.{Key}
+use Rattle.query_tree.specs.declared.key.Key.{Key}
 use Rattle.occ_lists.specs.declared.occ.Occ.{Occ}
 use Rattle.occ_lists.specs.declared.term.Term.{Term}
 use Rattle.occ_lists.specs.Places.{holds}

@@ -2,15 +2,15 @@
 use Rattle.std.proofs.Common.{◌≡◌, refl, sym, ap, ◌∙◌, subst, List, [], ◌∷◌, ◌++◌, map}
 use Rattle.std.specs.List.{flat_map}
 use Rattle.std.proofs.lemmas.List.{append-nil}
-use Rattle.query_marks.specs.declared.key.Key.{Key}
-use Rattle.query_grammar.specs.declared.query.Item.{Item}
-use Rattle.query_grammar.specs.declared.query.Node.{Node}
-use Rattle.query_grammar.specs.declared.query.Node.TheOpen.{Node-F}
-use Rattle.query_grammar.specs.declared.query.Node.TheVariants.{rolls-Word, rolls-Quoted, rolls-And, rolls-Or, rolls-Maybe, rolls-Before, rolls-Near, rolls-Sentence, rolls-Paragraph, rolls-ZoneSpan}
-use Rattle.query_grammar.specs.declared.query.Node.TheViews.{roll-Node}
-use Rattle.query_grammar.specs.declared.query.Node.TheFolds.{map-Node, ind-Node}
-use Rattle.query_grammar.specs.DeepValues.{node_keys}
-use Rattle.query_grammar.proofs.NodeKeys.{keys_and, keys_or, keys_maybe, keys_before, keys_near, keys_sentence, keys_paragraph, keys_span}
+use Rattle.query_tree.specs.declared.key.Key.{Key}
+use Rattle.query_tree.specs.declared.query.Item.{Item}
+use Rattle.query_tree.specs.declared.query.Node.{Node}
+use Rattle.query_tree.specs.declared.query.Node.TheOpen.{Node-F}
+use Rattle.query_tree.specs.declared.query.Node.TheVariants.{rolls-Word, rolls-Quoted, rolls-And, rolls-Or, rolls-Maybe, rolls-Before, rolls-Near, rolls-Sentence, rolls-Paragraph, rolls-ZoneSpan}
+use Rattle.query_tree.specs.declared.query.Node.TheViews.{roll-Node}
+use Rattle.query_tree.specs.declared.query.Node.TheFolds.{map-Node, ind-Node}
+use Rattle.query_tree.specs.TreeKeys.{node_keys}
+use Rattle.query_tree.proofs.NodeKeys.{keys_and, keys_or, keys_maybe, keys_before, keys_near, keys_sentence, keys_paragraph, keys_span}
 use Rattle.op_eval.specs.Sentences.{both, joined_by_and, item_joined_by_and}
 use Rattle.op_eval.proofs.AndNodes.{of_word, of_quoted, of_and, of_or, of_maybe, of_before, of_near, of_sentence, of_paragraph, of_zonespan}
 

@@ -8,7 +8,7 @@ use Rattle.std.proofs.lemmas.List.{map_more, map_push, length-map}
 use Rattle.std.proofs.lemmas.List.Elements.{filter-append}
 use Rattle.std.proofs.lemmas.Slice.Eq.{bytes_eq-Decides}
 use Rattle.occ_lists.proofs.Members.{any_alike, any_filter, any_map}
-use Rattle.query_marks.specs.declared.key.Key.{Key}
+use Rattle.query_tree.specs.declared.key.Key.{Key}
 use Rattle.op_eval.specs.Matching.{first_uses}
 use Rattle.op_eval.specs.steps.Slots.{with_word, number_among}
 use Rattle.op_eval.specs.steps.Terms.{IsShort}

@@ -1,10 +1,10 @@
 -- Nodes that join two others, whatever the operator: their keywords, and what they ask for.
 use Rattle.std.proofs.Common.{◌≡◌, ◌∙◌, ap, ℕ, ◌⊎◌, inl, inr}
 use Rattle.std.specs.Prelude.{◌++◌, ◌||◌, true}
-use Rattle.query_grammar.specs.declared.query.Node.{Node}
-use Rattle.query_grammar.specs.declared.query.Node.TheVariants as nodes
-use Rattle.query_grammar.specs.DeepValues.{node_keys}
-use Rattle.query_grammar.proofs.NodeKeys.{keys_or, keys_maybe, keys_before, keys_near, keys_sentence, keys_paragraph}
+use Rattle.query_tree.specs.declared.query.Node.{Node}
+use Rattle.query_tree.specs.declared.query.Node.TheVariants as nodes
+use Rattle.query_tree.specs.TreeKeys.{node_keys}
+use Rattle.query_tree.proofs.NodeKeys.{keys_or, keys_maybe, keys_before, keys_near, keys_sentence, keys_paragraph}
 use Rattle.op_eval.specs.steps.Asking.{asks_boundaries, asks_spans}
 use Rattle.op_eval.proofs.Nodes.{bounds_or, bounds_maybe, bounds_before, bounds_near, bounds_sentence, bounds_paragraph, zones_or, zones_maybe, zones_before, zones_near, zones_sentence, zones_paragraph}
 

@@ -8,10 +8,10 @@ use Rattle.std.proofs.lemmas.Option.{get_or_from_slice_get, slice_get-get_or, sl
 use Rattle.doc_types.specs.declared.cursor.Cursor.{Cursor}
 use Rattle.doc_types.specs.declared.documents.DocRow.{DocRow}
 use Rattle.doc_types.specs.Chunks.{Place}
-use Rattle.query_grammar.specs.declared.query.Node.{Node}
-use Rattle.query_grammar.specs.declared.query.Query.{Query}
+use Rattle.query_tree.specs.declared.query.Node.{Node}
+use Rattle.query_tree.specs.declared.query.Query.{Query}
 use Rattle.op_eval.specs.declared.search.Search.{Search}
-use Rattle.query_grammar.specs.DeepValues.{query_keys}
+use Rattle.query_tree.specs.TreeKeys.{query_keys}
 use Rattle.op_eval.specs.Matching.{matches, query_finds}
 use Rattle.op_eval.specs.Streams.{Stream, ahead}
 use Rattle.op_eval.specs.steps.Searching.{IsFirstOf, IsSearch, node_found}

@@ -8,12 +8,12 @@ use Rattle.std.proofs.lemmas.List.Folds.{list_any_at}
 use Rattle.srch_base.specs.declared.faults.NoMemory.{NoMemory}
 use Rattle.doc_types.specs.declared.documents.DocRow.{DocRow}
 use Rattle.doc_types.specs.Chunks.{spans_of}
-use Rattle.query_marks.specs.declared.key.Key.{Key}
-use Rattle.query_grammar.specs.declared.query.Item.{Item}
-use Rattle.query_grammar.specs.declared.query.Node.{Node}
-use Rattle.query_grammar.specs.declared.query.Node.TheVariants as nodes
-use Rattle.query_grammar.specs.DeepValues.{node_keys}
-use Rattle.query_grammar.proofs.NodeKeys.{keys_and, keys_span}
+use Rattle.query_tree.specs.declared.key.Key.{Key}
+use Rattle.query_tree.specs.declared.query.Item.{Item}
+use Rattle.query_tree.specs.declared.query.Node.{Node}
+use Rattle.query_tree.specs.declared.query.Node.TheVariants as nodes
+use Rattle.query_tree.specs.TreeKeys.{node_keys}
+use Rattle.query_tree.proofs.NodeKeys.{keys_and, keys_span}
 use Rattle.occ_lists.specs.declared.term.Term.{Term}
 use Rattle.occ_lists.specs.Joined.{before, near, together}
 use Rattle.occ_lists.specs.Sound.{IsForward}

@@ -3,14 +3,14 @@ use Rattle.std.proofs.Common.{◌≡◌, refl, sym, ap, ◌∙◌, ℕ, List, []
 use Rattle.std.specs.Prelude.{map, ◌||◌}
 use Rattle.std.specs.List.{flat_map, list_any}
 use Rattle.doc_types.specs.declared.documents.DocRow.{DocRow}
-use Rattle.query_marks.specs.declared.key.Key.{Key}
-use Rattle.query_marks.specs.declared.key.How.{How}
-use Rattle.query_grammar.specs.declared.query.Item.{Item}
-use Rattle.query_grammar.specs.declared.query.Node.{Node}
-use Rattle.query_grammar.specs.declared.query.Node.TheVariants as nodes
-use Rattle.query_grammar.specs.declared.query.Node.TheOpen.{Node-F}
-use Rattle.query_grammar.specs.declared.query.Node.TheVariants.{rolls-Word, rolls-Quoted, rolls-And, rolls-Or, rolls-Maybe, rolls-Before, rolls-Near, rolls-Sentence, rolls-Paragraph, rolls-ZoneSpan}
-use Rattle.query_grammar.specs.declared.query.Node.TheFolds.{fold-Item, fold-roll-Node, fold_out-Item}
+use Rattle.query_tree.specs.declared.key.Key.{Key}
+use Rattle.query_tree.specs.declared.key.How.{How}
+use Rattle.query_tree.specs.declared.query.Item.{Item}
+use Rattle.query_tree.specs.declared.query.Node.{Node}
+use Rattle.query_tree.specs.declared.query.Node.TheVariants as nodes
+use Rattle.query_tree.specs.declared.query.Node.TheOpen.{Node-F}
+use Rattle.query_tree.specs.declared.query.Node.TheVariants.{rolls-Word, rolls-Quoted, rolls-And, rolls-Or, rolls-Maybe, rolls-Before, rolls-Near, rolls-Sentence, rolls-Paragraph, rolls-ZoneSpan}
+use Rattle.query_tree.specs.declared.query.Node.TheFolds.{fold-Item, fold-roll-Node, fold_out-Item}
 use Rattle.occ_lists.specs.Joined.{before, near, together}
 use Rattle.op_eval.specs.Keywords.{places_within, sentence_ends, paragraph_ends}
 use Rattle.op_eval.specs.Finding.{Found, Part, Spans, SpannedPart, keyword, quoted, hits_at, all_of, either, perhaps, joined, any_of, spans_in, node_step, node_finds}

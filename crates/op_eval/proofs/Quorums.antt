@@ -7,9 +7,9 @@ use Rattle.std.proofs.lemmas.Bool.{leb-true, le-leb, both_ways, true_from_ne_fal
 use Rattle.std.proofs.lemmas.List.Sums.{sum_by-cons}
 use Rattle.std.proofs.lemmas.Slice.Zip.{AllZip-long}
 use Rattle.doc_types.specs.declared.documents.DocRow.{DocRow}
-use Rattle.query_marks.specs.declared.key.Key.{Key}
-use Rattle.query_marks.specs.declared.key.How.{How}
-use Rattle.query_marks.specs.declared.key.How.TheVariants as hows
+use Rattle.query_tree.specs.declared.key.Key.{Key}
+use Rattle.query_tree.specs.declared.key.How.{How}
+use Rattle.query_tree.specs.declared.key.How.TheVariants as hows
 use Rattle.occ_lists.specs.declared.term.Term.{Term}
 use Rattle.op_eval.specs.Finding.{Spans, is_enough}
 use Rattle.op_eval.specs.steps.Terms.{AreSeenIn, IsSeenIn}

@@ -4,9 +4,9 @@ use Rattle.std.specs.Prelude.{◌&&◌, if◌then◌else◌, count_by}
 use Rattle.std.specs.List.{list_all}
 use Rattle.std.proofs.lemmas.Bool.{cases_Bool, and_cases}
 use Rattle.doc_types.specs.declared.documents.DocRow.{DocRow}
-use Rattle.query_marks.specs.declared.key.Key.{Key}
-use Rattle.query_marks.specs.declared.key.How.{How}
-use Rattle.query_marks.specs.declared.key.How.TheVariants as hows
+use Rattle.query_tree.specs.declared.key.Key.{Key}
+use Rattle.query_tree.specs.declared.key.How.{How}
+use Rattle.query_tree.specs.declared.key.How.TheVariants as hows
 use Rattle.occ_lists.specs.declared.term.Term.{Term}
 use Rattle.op_eval.specs.Finding.{Found, Spans, is_some, is_enough, nothing}
 use Rattle.op_eval.specs.declared.verdict.Verdict.{Verdict}

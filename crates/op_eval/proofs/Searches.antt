@@ -8,9 +8,9 @@ use Rattle.std.proofs.lemmas.Option.{slice_get-get_or}
 use Rattle.doc_types.specs.declared.cursor.Cursor.{Cursor}
 use Rattle.doc_types.specs.declared.documents.DocRow.{DocRow}
 use Rattle.doc_types.specs.Chunks.{IsContent, Place}
-use Rattle.query_grammar.specs.declared.query.Node.{Node}
-use Rattle.query_grammar.specs.declared.query.Query.{Query}
-use Rattle.query_grammar.specs.DeepValues.{node_keys, query_keys}
+use Rattle.query_tree.specs.declared.query.Node.{Node}
+use Rattle.query_tree.specs.declared.query.Query.{Query}
+use Rattle.query_tree.specs.TreeKeys.{node_keys, query_keys}
 use Rattle.op_eval.specs.declared.search.Search.{Search}
 use Rattle.doc_types.specs.declared.hits.Hit.{Hit}
 use Rattle.occ_lists.specs.declared.occ.Occ.{Occ}

@@ -5,16 +5,16 @@ use Rattle.std.specs.List.{filter, list_all}
 use Rattle.std.proofs.lemmas.Bool.{or_parts, true≢false}
 use Rattle.doc_types.specs.declared.documents.DocRow.{DocRow}
 use Rattle.doc_types.specs.declared.hits.Hit.{Hit}
-use Rattle.query_marks.specs.declared.key.Key.{Key}
-use Rattle.query_marks.specs.declared.key.How.{How}
-use Rattle.query_marks.specs.declared.key.How.TheVariants as hows
-use Rattle.query_grammar.specs.declared.query.Item.{Item}
-use Rattle.query_grammar.specs.declared.query.Node.{Node}
-use Rattle.query_grammar.specs.declared.query.Node.TheVariants as nodes
-use Rattle.query_grammar.specs.declared.query.Node.TheOpen.{Node-F}
-use Rattle.query_grammar.specs.declared.query.Node.TheVariants.{rolls-Word, rolls-Quoted, rolls-And, rolls-Or, rolls-Maybe, rolls-Before, rolls-Near, rolls-Sentence, rolls-Paragraph, rolls-ZoneSpan}
-use Rattle.query_grammar.specs.declared.query.Node.TheViews.{roll-Node}
-use Rattle.query_grammar.specs.declared.query.Node.TheFolds.{map-Node, ind-Node}
+use Rattle.query_tree.specs.declared.key.Key.{Key}
+use Rattle.query_tree.specs.declared.key.How.{How}
+use Rattle.query_tree.specs.declared.key.How.TheVariants as hows
+use Rattle.query_tree.specs.declared.query.Item.{Item}
+use Rattle.query_tree.specs.declared.query.Node.{Node}
+use Rattle.query_tree.specs.declared.query.Node.TheVariants as nodes
+use Rattle.query_tree.specs.declared.query.Node.TheOpen.{Node-F}
+use Rattle.query_tree.specs.declared.query.Node.TheVariants.{rolls-Word, rolls-Quoted, rolls-And, rolls-Or, rolls-Maybe, rolls-Before, rolls-Near, rolls-Sentence, rolls-Paragraph, rolls-ZoneSpan}
+use Rattle.query_tree.specs.declared.query.Node.TheViews.{roll-Node}
+use Rattle.query_tree.specs.declared.query.Node.TheFolds.{map-Node, ind-Node}
 use Rattle.occ_lists.specs.declared.occ.Occ.{Occ}
 use Rattle.occ_lists.specs.Joined.{before, near, together}
 use Rattle.op_eval.specs.Keywords.{places_within, sentence_ends, paragraph_ends}

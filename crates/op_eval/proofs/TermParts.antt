@@ -3,12 +3,12 @@ use Rattle.std.proofs.Common.{arith, ◌≡◌, ◌≤◌, ◌<◌, ◌+◌, ℕ
 use Rattle.std.specs.List.{AllZip, flat_map}
 use Rattle.std.proofs.lemmas.List.{drop_more}
 use Rattle.std.proofs.lemmas.Slice.Zip.{AllZip-long}
-use Rattle.query_marks.specs.declared.key.Key.{Key}
-use Rattle.query_grammar.specs.declared.query.Item.{Item}
-use Rattle.query_grammar.specs.declared.query.Node.{Node}
-use Rattle.query_grammar.specs.declared.query.Node.TheVariants as nodes
-use Rattle.query_grammar.specs.DeepValues.{node_keys}
-use Rattle.query_grammar.proofs.NodeKeys.{keys_and, keys_span}
+use Rattle.query_tree.specs.declared.key.Key.{Key}
+use Rattle.query_tree.specs.declared.query.Item.{Item}
+use Rattle.query_tree.specs.declared.query.Node.{Node}
+use Rattle.query_tree.specs.declared.query.Node.TheVariants as nodes
+use Rattle.query_tree.specs.TreeKeys.{node_keys}
+use Rattle.query_tree.proofs.NodeKeys.{keys_and, keys_span}
 use Rattle.occ_lists.specs.declared.term.Term.{Term}
 use Rattle.op_eval.proofs.JoinedNodes.{IsJoint, keys_joint}
 

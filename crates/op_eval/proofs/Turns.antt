@@ -9,9 +9,9 @@ use Rattle.std.proofs.lemmas.List.Elements.{filter-append}
 use Rattle.std.proofs.lemmas.List.Folds.{list_all-append, list_any-append}
 use Rattle.doc_types.specs.declared.documents.DocRow.{DocRow}
 use Rattle.doc_types.specs.declared.tokens.ZoneSpan.{ZoneSpan}
-use Rattle.query_grammar.specs.declared.query.Item.{Item}
-use Rattle.query_grammar.specs.declared.query.Node.{Node}
-use Rattle.query_grammar.specs.DeepValues.{node_keys}
+use Rattle.query_tree.specs.declared.query.Item.{Item}
+use Rattle.query_tree.specs.declared.query.Node.{Node}
+use Rattle.query_tree.specs.TreeKeys.{node_keys}
 use Rattle.occ_lists.specs.declared.term.Term.{Term}
 use Rattle.op_eval.specs.declared.finding.Finding.{Finding}
 use Rattle.op_eval.specs.declared.marks.Marks.{Marks}

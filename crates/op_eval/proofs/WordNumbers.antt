@@ -7,9 +7,9 @@ use Rattle.std.proofs.lemmas.Bool.{cases_Bool, cases_lt, or_cases, or_left, or_r
 use Rattle.std.proofs.lemmas.List.Folds.{list_any_none}
 use Rattle.std.proofs.lemmas.List.Sums.{fails_before_first, passes_at_first}
 use Rattle.std.proofs.lemmas.Slice.Eq.{bytes_eq-Decides}
-use Rattle.query_marks.specs.declared.key.Key.{Key}
-use Rattle.query_grammar.specs.declared.query.Query.{Query}
-use Rattle.query_grammar.specs.DeepValues.{query_keys}
+use Rattle.query_tree.specs.declared.key.Key.{Key}
+use Rattle.query_tree.specs.declared.query.Query.{Query}
+use Rattle.query_tree.specs.TreeKeys.{query_keys}
 use Rattle.op_eval.specs.Matching.{first_uses, number_in}
 use Rattle.op_eval.specs.steps.Verdicts.{AreApart}
 

@@ -7,12 +7,12 @@ use Rattle.doc_types.specs.declared.documents.DocRow.{DocRow}
 use Rattle.doc_types.specs.declared.hits.Hit.{Hit}
 use Rattle.doc_types.specs.declared.tokens.ZoneSpan.{ZoneSpan}
 use Rattle.doc_types.specs.Chunks.{spans_of}
-use Rattle.query_marks.specs.declared.key.Key.{Key}
-use Rattle.query_marks.specs.declared.key.How.{How}
-use Rattle.query_marks.specs.declared.key.How.TheVariants as hows
-use Rattle.query_grammar.specs.declared.query.Node.{Node}
-use Rattle.query_grammar.specs.declared.query.Node.TheOpen.{Node-F, Item-F}
-use Rattle.query_grammar.specs.declared.query.Node.TheFolds.{fold-Node}
+use Rattle.query_tree.specs.declared.key.Key.{Key}
+use Rattle.query_tree.specs.declared.key.How.{How}
+use Rattle.query_tree.specs.declared.key.How.TheVariants as hows
+use Rattle.query_tree.specs.declared.query.Node.{Node}
+use Rattle.query_tree.specs.declared.query.Node.TheOpen.{Node-F, Item-F}
+use Rattle.query_tree.specs.declared.query.Node.TheFolds.{fold-Node}
 use Rattle.occ_lists.specs.declared.occ.Occ.{Occ}
 use Rattle.occ_lists.specs.Places.{at_place, holds}
 use Rattle.occ_lists.specs.Joined.{before, near, together}

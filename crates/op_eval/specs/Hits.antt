@@ -2,7 +2,7 @@
 use Rattle.std.specs.Prelude.{List, Bool, ◌&&◌, ◌||◌, ◌==◌, nat_lt, IsTrue, AllPairs}
 use Rattle.doc_types.specs.declared.documents.DocRow.{DocRow}
 use Rattle.doc_types.specs.declared.hits.Hit.{Hit}
-use Rattle.query_grammar.specs.declared.query.Query.{Query}
+use Rattle.query_tree.specs.declared.query.Query.{Query}
 use Rattle.occ_lists.specs.OccLists.{SameMembers}
 use Rattle.op_eval.specs.Matching.{query_finds}
 

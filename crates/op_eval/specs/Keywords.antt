@@ -9,7 +9,7 @@ use Rattle.doc_types.specs.declared.tokens.ZoneSpan.{ZoneSpan}
 use Rattle.doc_types.specs.declared.tokens.Gap.{Gap}
 use Rattle.doc_types.specs.declared.tokens.Gap.TheVariants as gaps
 use Rattle.doc_types.specs.Chunks.{hits_of, spans_of, gaps_of, by_field, last_position}
-use Rattle.query_marks.specs.declared.key.Key.{Key}
+use Rattle.query_tree.specs.declared.key.Key.{Key}
 use Rattle.occ_lists.specs.Places.{is_within, within_all}
 
 -- the field is one of those whose bits are set, the first field's being the lowest

@@ -3,9 +3,9 @@ use Rattle.std.specs.Prelude.{ℕ, List, [], ◌∷◌, map, Bool, true, ◌&&�
 use Rattle.std.specs.List.{filter, list_any, enumerate_from, position}
 use Rattle.std.specs.Str.{bytes_eq}
 use Rattle.doc_types.specs.declared.documents.DocRow.{DocRow}
-use Rattle.query_grammar.specs.declared.query.Node.{Node}
-use Rattle.query_grammar.specs.declared.query.Query.{Query}
-use Rattle.query_grammar.specs.DeepValues.{query_keys}
+use Rattle.query_tree.specs.declared.query.Node.{Node}
+use Rattle.query_tree.specs.declared.query.Query.{Query}
+use Rattle.query_tree.specs.TreeKeys.{query_keys}
 use Rattle.op_eval.specs.Finding.{Found, node_finds}
 
 -- each word once, in the order of first use

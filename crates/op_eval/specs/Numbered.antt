@@ -5,9 +5,9 @@ use Rattle.doc_types.specs.declared.documents.DocRow.{DocRow}
 use Rattle.doc_types.specs.declared.hits.Hit.{Hit}
 use Rattle.doc_types.specs.declared.tokens.FieldTokens.{FieldTokens}
 use Rattle.doc_types.specs.declared.tokens.TheConstants.{MAX_POSITION}
-use Rattle.query_marks.specs.declared.key.Key.{Key}
-use Rattle.query_grammar.specs.declared.query.Query.{Query}
-use Rattle.query_grammar.specs.DeepValues.{query_keys}
+use Rattle.query_tree.specs.declared.key.Key.{Key}
+use Rattle.query_tree.specs.declared.query.Query.{Query}
+use Rattle.query_tree.specs.TreeKeys.{query_keys}
 use Rattle.op_eval.specs.Keywords.{key_places}
 use Rattle.op_eval.specs.Matching.{number_in}
 

@@ -1,7 +1,7 @@
 -- The occurrences of a query in a row.
 use Rattle.std.specs.Prelude.{List}
 use Rattle.doc_types.specs.declared.documents.DocRow.{DocRow}
-use Rattle.query_grammar.specs.declared.query.Query.{Query}
+use Rattle.query_tree.specs.declared.query.Query.{Query}
 use Rattle.occ_lists.specs.declared.occ.Occ.{Occ}
 use Rattle.occ_lists.specs.OccLists.{SameMembers, Ascend}
 use Rattle.op_eval.specs.Matching.{query_finds}

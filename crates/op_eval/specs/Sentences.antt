@@ -1,12 +1,12 @@
 -- SENTENCE and PARAGRAPH in an index whose sentences aren't read: there they are AND.
 use Rattle.std.specs.Prelude.{[], ◌∷◌, false, option_map, if◌then◌else◌}
 use Rattle.doc_types.specs.declared.schema.Schema.{Schema}
-use Rattle.query_grammar.specs.declared.query.Item.{Item}
-use Rattle.query_grammar.specs.declared.query.Node.{Node}
-use Rattle.query_grammar.specs.declared.query.Node.TheVariants as nodes
-use Rattle.query_grammar.specs.declared.query.Node.TheOpen.{Node-F, Item-F}
-use Rattle.query_grammar.specs.declared.query.Node.TheFolds.{fold-Node}
-use Rattle.query_grammar.specs.declared.query.Query.{Query}
+use Rattle.query_tree.specs.declared.query.Item.{Item}
+use Rattle.query_tree.specs.declared.query.Node.{Node}
+use Rattle.query_tree.specs.declared.query.Node.TheVariants as nodes
+use Rattle.query_tree.specs.declared.query.Node.TheOpen.{Node-F, Item-F}
+use Rattle.query_tree.specs.declared.query.Node.TheFolds.{fold-Node}
+use Rattle.query_tree.specs.declared.query.Query.{Query}
 
 -- both of two nodes
 abbrev pub both : Node → Node → Node

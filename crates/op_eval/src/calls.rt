@@ -2,7 +2,7 @@
 ghost use Rattle.std.specs.Prelude.{◌≡◌, ◌+◌, ◌<◌, ◌≤◌, ◌^◌, ◌++◌, ◌∷◌, ◌==◌, [], Some, length, slice_get, if◌then◌else◌, AllPairs, IsTrue, IfOk, OnOk};
 ghost use Rattle.std.specs.List.{list_any};
 ghost use Rattle.doc_types.specs.declared.documents.DocRow.{DocRow};
-ghost use Rattle.query_grammar.specs.DeepValues.{query_keys};
+ghost use Rattle.query_tree.specs.TreeKeys.{query_keys};
 ghost use Rattle.occ_lists.specs.OccLists.{SameMembers};
 ghost use Rattle.op_eval.specs.Hits.{AreHits, comes_before};
 ghost use Rattle.op_eval.specs.Matching.{matching};
@@ -14,7 +14,7 @@ use crate::finding::Finding;
 use crate::search::Search;
 use doc_types::{Chunk, Hit, Hits};
 use occ_lists::{Occ, sort_distinct};
-use query_grammar::{Node, Query};
+use query_tree::{Node, Query};
 use srch_base::{Items, NoMemory, Steps};
 use std::alloc::Global;
 use std::sync::ledger::Ledger;

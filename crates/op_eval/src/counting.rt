@@ -2,10 +2,10 @@
 //! the keywords of the nodes beside it; a chain of joins leans to the left, and its right sides are short.
 ghost use Rattle.std.specs.Prelude.{◌≡◌, ◌≤◌, ◌++◌, length, min};
 ghost use Rattle.std.specs.List.{flat_map};
-ghost use Rattle.query_grammar.specs.DeepValues.{node_keys};
+ghost use Rattle.query_tree.specs.TreeKeys.{node_keys};
 
 use occ_lists::Term;
-use query_grammar::{Item, Node};
+use query_tree::{Item, Node};
 
 /// The terms of a node that stand first, and those after them.
 pub(crate) fn part_first<'t>(node: &Node, terms: &'t [Term]) -> (&'t [Term], &'t [Term])

@@ -17,7 +17,7 @@ use crate::matching::{Work, is_among, terms_first, terms_last};
 use crate::quoting::{find_quoted, find_words};
 use doc_types::{Hit, ZoneSpan};
 use occ_lists::{Buffers, Occ, Term, sort_distinct};
-use query_grammar::{Item, Node};
+use query_tree::{Item, Node};
 use srch_base::NoMemory;
 use std::alloc::Global;
 

@@ -1,10 +1,10 @@
 //! The keywords of a query, in the order of its text, and the numbers of their words.
 ghost use Rattle.std.specs.Prelude.{◌≡◌, ◌++◌, map, OnOk};
 ghost use Rattle.std.specs.List.{flat_map};
-ghost use Rattle.query_grammar.specs.DeepValues.{node_keys};
+ghost use Rattle.query_tree.specs.TreeKeys.{node_keys};
 
-use query_grammar::{Item, Node};
-use query_marks::Key;
+use query_tree::{Item, Node};
+use query_tree::Key;
 use srch_base::NoMemory;
 
 /// Appends the keywords of the node.

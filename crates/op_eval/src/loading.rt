@@ -16,7 +16,7 @@ use crate::marks::Marks;
 use crate::slots::{Slots, has_field};
 use doc_types::{Chunk, Cursor, Gap, ZoneSpan};
 use occ_lists::{Buffers, Cover, Occ, Term};
-use query_marks::Key;
+use query_tree::Key;
 use srch_base::{NoMemory, Steps};
 use std::alloc::Global;
 use std::mem;

@@ -2,7 +2,7 @@
 ghost use Rattle.std.specs.Prelude.{◌≡◌, ◌≤◌, ◌∷◌, [], ◌++◌, map, length, All, IfOk, OnOk};
 ghost use Rattle.std.specs.List.{list_all};
 ghost use Rattle.occ_lists.specs.Terms.{IsPlaced};
-ghost use Rattle.query_grammar.specs.DeepValues.{node_keys};
+ghost use Rattle.query_tree.specs.TreeKeys.{node_keys};
 ghost use Rattle.op_eval.specs.Finding.{any_of, either, node_finds, passes, perhaps};
 ghost use Rattle.op_eval.specs.Keywords.{is_among};
 ghost use Rattle.op_eval.specs.steps.Asking.{AreMarks};
@@ -16,8 +16,8 @@ use crate::quorum::is_enough;
 use crate::quoting::standing;
 use doc_types::ZoneSpan;
 use occ_lists::{Buffers, Term, put_runs, put_widest};
-use query_grammar::{Item, Node};
-use query_marks::How;
+use query_tree::{Item, Node};
+use query_tree::How;
 use srch_base::NoMemory;
 
 /// What evaluation works with: the spans in force, and lists to use again.

@@ -2,7 +2,7 @@
 ghost use Rattle.std.specs.Prelude.{◌≡◌, ◌*◌, ◌^◌, nat_le};
 ghost use Rattle.op_eval.specs.Finding.{is_enough};
 
-use query_marks::How;
+use query_tree::How;
 
 /// Whether so many of n listed keywords are enough for a quorum.
 pub(crate) fn is_enough(how: How, n: usize, matched: usize) -> bool

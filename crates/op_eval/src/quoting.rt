@@ -18,7 +18,7 @@ use crate::matching::Work;
 use crate::quorum::is_enough;
 use doc_types::{Hit, ZoneSpan};
 use occ_lists::{Occ, Term, put_runs, put_widest, put_windows, within};
-use query_marks::How;
+use query_tree::How;
 use srch_base::NoMemory;
 
 /// Whether the keyword stands inside the spans.

@@ -1,11 +1,11 @@
 //! Queries in an index that reads no sentences: SENTENCE and PARAGRAPH are AND there. The tree that a text is read as keeps them,
 //! so that it is written as it was read; an index makes of it what it means.
 ghost use Rattle.std.specs.Prelude.{◌≡◌, map, IfOk};
-ghost use Rattle.query_grammar.specs.DeepValues.{query_keys};
+ghost use Rattle.query_tree.specs.TreeKeys.{query_keys};
 ghost use Rattle.op_eval.specs.Sentences.{both, item_joined_by_and, joined_by_and, query_for};
 
 use doc_types::Schema;
-use query_grammar::{Item, Node, Query};
+use query_tree::{Item, Node, Query};
 use sqlite_items::{Boxed, Items};
 use srch_base::NoMemory;
 use std::alloc::Global;

@@ -4,7 +4,7 @@ ghost use Rattle.std.specs.Prelude.{◌≡◌, ℕ, ◌<◌, ◌==◌, true, fal
 ghost use Rattle.std.specs.List.{AllZip, list_any, position};
 ghost use Rattle.std.specs.Str.{bytes_eq};
 ghost use Rattle.doc_types.specs.declared.documents.DocRow.{DocRow};
-ghost use Rattle.query_grammar.specs.DeepValues.{node_keys};
+ghost use Rattle.query_tree.specs.TreeKeys.{node_keys};
 ghost use Rattle.op_eval.specs.Keywords.{has_field};
 ghost use Rattle.op_eval.specs.Matching.{first_uses};
 ghost use Rattle.op_eval.specs.steps.Terms.{AreSeenIn};
@@ -13,8 +13,8 @@ ghost use Rattle.op_eval.specs.steps.Slots.{with_word, AreAt, AreSlots, HasPasse
 use crate::keys::put_keys;
 use doc_types::{Chunk, Cursor};
 use occ_lists::Term;
-use query_grammar::Node;
-use query_marks::Key;
+use query_tree::Node;
+use query_tree::Key;
 use srch_base::NoMemory;
 use std::alloc::Global;
 

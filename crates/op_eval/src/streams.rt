@@ -3,7 +3,7 @@
 ghost use Rattle.std.specs.Prelude.{◌≡◌, ◌+◌, ◌<◌, ◌^◌, Some, length, slice_get, AllPairs, IsTrue, IfOk, OnErr, OnOk};
 ghost use Rattle.doc_types.specs.declared.documents.DocRow.{DocRow};
 ghost use Rattle.occ_lists.specs.OccLists.{SameMembers};
-ghost use Rattle.query_grammar.specs.DeepValues.{query_keys};
+ghost use Rattle.query_tree.specs.TreeKeys.{query_keys};
 ghost use Rattle.op_eval.specs.Hits.{comes_before};
 ghost use Rattle.op_eval.specs.Matching.{matches};
 ghost use Rattle.op_eval.specs.Streams.{GoesOn, Takes};
@@ -14,7 +14,7 @@ use crate::finding::Finding;
 use crate::search::Search;
 use crate::wanted::{find_row, first_open, row_matches};
 use doc_types::{Chunk, Hit, Hits};
-use query_grammar::Query;
+use query_tree::Query;
 use srch_base::{Items, NoMemory, Steps};
 use std::alloc::Global;
 use std::marker::Model;
@@ -41,7 +41,7 @@ pub struct Matches<'a, C: Chunk> {
 
 impl<'a, C: Chunk> Model for Matches<'a, C> {
     ghost use Rattle.std.specs.Coded.{codes};
-    ghost use Rattle.query_grammar.specs.contracts.query.Node as node;
+    ghost use Rattle.query_tree.specs.contracts.query.Node as node;
     ghost use Rattle.op_eval.specs.Streams.{Stream};
     ghost use Rattle.op_eval.specs.steps.Streaming.{IsStream};
 

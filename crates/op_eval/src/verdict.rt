@@ -4,8 +4,8 @@
 ghost use Rattle.std.specs.Prelude.{◌≡◌, ℕ, List, [], ◌∷◌, ◌&&◌, not, length, count_by, if◌then◌else◌};
 ghost use Rattle.std.specs.List.{flat_map, list_all};
 ghost use Rattle.doc_types.specs.declared.documents.DocRow.{DocRow};
-ghost use Rattle.query_marks.specs.declared.key.Key.{Key as KeyValue};
-ghost use Rattle.query_grammar.specs.DeepValues.{node_keys};
+ghost use Rattle.query_tree.specs.declared.key.Key.{Key as KeyValue};
+ghost use Rattle.query_tree.specs.TreeKeys.{node_keys};
 ghost use Rattle.op_eval.specs.Finding as finding;
 ghost use Rattle.op_eval.specs.Finding.{node_finds};
 ghost use Rattle.op_eval.specs.steps.Terms.{AreSeenIn, IsSeenIn};
@@ -14,8 +14,8 @@ ghost use Rattle.op_eval.specs.steps.Verdicts.{AreApart, Tells, negation, conjun
 use crate::counting::{part_first, part_last};
 use crate::quorum::is_enough;
 use occ_lists::Term;
-use query_grammar::{Item, Node};
-use query_marks::How;
+use query_tree::{Item, Node};
+use query_tree::How;
 
 /// Whether a row matches, as far as its words tell.
 #[derive(Clone, Copy, Debug, PartialEq, Eq)]

@@ -3,8 +3,8 @@ ghost use Rattle.std.specs.Prelude.{◌≡◌, ◌<◌, ◌≤◌, ◌^◌, ◌=
 ghost use Rattle.std.specs.List.{list_any};
 ghost use Rattle.doc_types.specs.declared.documents.DocRow.{DocRow};
 ghost use Rattle.occ_lists.specs.OccLists.{SameMembers};
-ghost use Rattle.query_grammar.specs.DeepValues.{query_keys};
-ghost use Rattle.query_grammar.specs.declared.query.Query.{Query as QueryValue};
+ghost use Rattle.query_tree.specs.TreeKeys.{query_keys};
+ghost use Rattle.query_tree.specs.declared.query.Query.{Query as QueryValue};
 ghost use Rattle.op_eval.specs.Matching.{query_finds};
 ghost use Rattle.op_eval.specs.steps.Searching.{IsSearch};
 ghost use Rattle.op_eval.specs.steps.Streaming.{IsFirstOpen, StandsAt, is_matching};
@@ -14,7 +14,7 @@ use crate::calls::is_dead;
 use crate::finding::Finding;
 use crate::search::Search;
 use doc_types::Chunk;
-use query_grammar::Query;
+use query_tree::Query;
 use srch_base::{NoMemory, Steps};
 use std::sync::ledger::Ledger;
 

@@ -3,7 +3,7 @@ use Rattle.std.proofs.Common.{◌≡◌, ◌⊎◌, ℕ, zero, suc, List, [], �
 use Rattle.std.specs.Prelude.{pos, slice_get, slice_set}
 use Rattle.std.specs.List.{AllZip}
 use Rattle.std.proofs.lemmas.Option.{none-some, same_Some}
-use Rattle.conf_text.specs.declared.conf.IndexConf.{IndexConf}
+use Rattle.index_conf.specs.declared.conf.IndexConf.{IndexConf}
 use Rattle.doc_tokens.specs.Tokens.{IsTooLong, TokensOf}
 use Rattle.doc_types.specs.declared.documents.Doc.{Doc}
 use Rattle.doc_types.specs.declared.tokens.FieldTokens.{FieldTokens}
@@ -12,8 +12,8 @@ use Rattle.doc_types.specs.declared.transactions.TxnOp.{TxnOp}
 use Rattle.doc_types.specs.declared.transactions.TxnOp.TheVariants as operations
 use Rattle.doc_types.specs.Documents.{IsField}
 use Rattle.mark_scan.specs.declared.mark.MarkRules.{MarkRules}
-use Rattle.ql_grammar.specs.declared.statement.Val.{Val}
-use Rattle.ql_grammar.specs.declared.statement.Val.TheVariants.{Number, Text}
+use Rattle.ql_tree.specs.declared.statement.Val.{Val}
+use Rattle.ql_tree.specs.declared.statement.Val.TheVariants.{Number, Text}
 use Rattle.ql_refusals.specs.declared.columns.Target.{Target}
 use Rattle.ql_refusals.specs.declared.columns.Target.TheVariants.{Id, Field, Attr}
 use Rattle.ql_refusals.specs.Refusals.{Refused}

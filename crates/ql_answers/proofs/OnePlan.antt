@@ -2,17 +2,17 @@
 -- INSERT are read in one way.
 use Rattle.std.proofs.Common.{◌≡◌, ℕ, List, Option, false, sym, ap, ◌∙◌, inl, inr}
 use Rattle.std.specs.Str.{IsUtf8}
-use Rattle.conf_text.specs.declared.conf.IndexConf.{IndexConf}
+use Rattle.index_conf.specs.declared.conf.IndexConf.{IndexConf}
 use Rattle.doc_tokens.specs.Tokens.{IsTooLong, TokensOf}
 use Rattle.doc_types.specs.declared.tokens.FieldTokens.{FieldTokens}
 use Rattle.doc_types.specs.declared.transactions.Txn.{Txn}
 use Rattle.doc_types.specs.Documents.{IsField}
 use Rattle.mark_scan.specs.declared.mark.MarkRules.{MarkRules}
-use Rattle.ql_grammar.specs.declared.statement.Statement.{Statement}
-use Rattle.ql_grammar.specs.declared.statement.Statement.TheVariants as statements
+use Rattle.ql_tree.specs.declared.statement.Statement.{Statement}
+use Rattle.ql_tree.specs.declared.statement.Statement.TheVariants as statements
 use Rattle.ql_refusals.specs.Refusals.{Refused}
 use Rattle.query_grammar.specs.declared.fault.QueryFault.{QueryFault}
-use Rattle.query_grammar.specs.declared.query.Query.{Query}
+use Rattle.query_tree.specs.declared.query.Query.{Query}
 use Rattle.query_grammar.specs.Queries.{IsRefused, IsValue}
 use Rattle.query_marks.specs.Marks.{Setting, marks_of}
 use Rattle.query_pieces.specs.declared.piece.Piece.{Piece}

@@ -5,11 +5,11 @@ use Rattle.std.specs.Str.{IsUtf8, is_utf8}
 use Rattle.std.proofs.lemmas.Bool.{false≢true}
 use Rattle.std.proofs.lemmas.Str.{IsUtf8-from_is_utf8}
 use Rattle.srch_base.specs.declared.faults.Or.TheVariants.{Fault}
-use Rattle.conf_text.specs.declared.conf.IndexConf.{IndexConf}
-use Rattle.ql_grammar.specs.declared.select.Select.{Select}
+use Rattle.index_conf.specs.declared.conf.IndexConf.{IndexConf}
+use Rattle.ql_tree.specs.declared.select.Select.{Select}
 use Rattle.ql_refusals.specs.Refusals.{Refused, bad_query}
 use Rattle.query_grammar.specs.declared.fault.QueryFault.{QueryFault}
-use Rattle.query_grammar.specs.declared.query.Query.{Query}
+use Rattle.query_tree.specs.declared.query.Query.{Query}
 use Rattle.query_grammar.specs.Queries.{IsRefused, IsValue, ReadsQuery}
 use Rattle.query_marks.specs.Marks.{Setting, marks_of}
 use Rattle.query_pieces.specs.declared.piece.Piece.{Piece}

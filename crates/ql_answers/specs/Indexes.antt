@@ -1,7 +1,7 @@
 -- Indexes, as statements name them.
 use Rattle.std.specs.Prelude.{◌≡◌, ℕ, zero, suc, ◌+◌, List, [], ◌∷◌, Option, Some, None, slice_get, if◌then◌else◌}
 use Rattle.std.specs.Str.{bytes_eq}
-use Rattle.conf_text.specs.declared.conf.IndexConf.{IndexConf}
+use Rattle.index_conf.specs.declared.conf.IndexConf.{IndexConf}
 use Rattle.ql_refusals.specs.Refusals.{Refused, unknown_index, not_offered}
 
 -- the place of the index with a name, the first of these indexes standing at this place

@@ -2,9 +2,9 @@
 -- the outside then did.
 use Rattle.std.specs.Prelude.{◌≡◌, ◌⊎◌, ℕ, List, false, Some, None}
 use Rattle.doc_types.specs.declared.transactions.Txn.{Txn}
-use Rattle.conf_text.specs.declared.conf.IndexConf.{IndexConf}
-use Rattle.ql_grammar.specs.declared.statement.Statement.{Statement}
-use Rattle.ql_grammar.specs.declared.statement.Statement.TheVariants as statements
+use Rattle.index_conf.specs.declared.conf.IndexConf.{IndexConf}
+use Rattle.ql_tree.specs.declared.statement.Statement.{Statement}
+use Rattle.ql_tree.specs.declared.statement.Statement.TheVariants as statements
 use Rattle.ql_select.specs.declared.selection.Selection.{Selection}
 use Rattle.ql_answers.specs.declared.plan.Plan.{Plan}
 use Rattle.ql_answers.specs.declared.plan.Plan.TheVariants.{Agree, Show, Search, Insert}

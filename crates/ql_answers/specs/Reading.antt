@@ -1,8 +1,8 @@
 -- SELECT from an index: what it wants, why it is refused, and the result set of what it finds. "SELECT syntax" of the manual.
 use Rattle.std.specs.Prelude.{◌≡◌, ◌⊎◌, ℕ, List, map, true, false, Some}
 use Rattle.mysql_wire.specs.declared.rows.Cell.TheVariants.{Whole}
-use Rattle.conf_text.specs.declared.conf.IndexConf.{IndexConf}
-use Rattle.ql_grammar.specs.declared.select.Select.{Select}
+use Rattle.index_conf.specs.declared.conf.IndexConf.{IndexConf}
+use Rattle.ql_tree.specs.declared.select.Select.{Select}
 use Rattle.ql_refusals.specs.Refusals.{Refused, not_offered}
 use Rattle.reply_rows.specs.declared.result_set.ResultSet.{ResultSet}
 use Rattle.row_select.specs.Columns.{column_value}

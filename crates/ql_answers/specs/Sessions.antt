@@ -7,8 +7,8 @@ use Rattle.doc_types.specs.Snapshots.{AreLayers, SnapshotValue, all_living}
 use Rattle.srch_base.specs.declared.faults.Or.{Or}
 use Rattle.srch_base.specs.declared.faults.Or.TheVariants as causes
 use Rattle.mysql_wire.specs.Packets.{packets_from, sequence_after}
-use Rattle.conf_text.specs.declared.conf.IndexConf.{IndexConf}
-use Rattle.ql_grammar.specs.declared.statement.Statement.{Statement}
+use Rattle.index_conf.specs.declared.conf.IndexConf.{IndexConf}
+use Rattle.ql_tree.specs.declared.statement.Statement.{Statement}
 use Rattle.ql_answers.specs.declared.event.Need.{Need}
 use Rattle.ql_answers.specs.declared.event.Need.TheVariants as needs
 use Rattle.ql_answers.specs.declared.event.Event.{Event}

@@ -5,7 +5,7 @@ use Rattle.std.specs.Str.{bytes_eq}
 use Rattle.doc_types.specs.declared.schema.Schema.{Schema}
 use Rattle.doc_types.specs.declared.schema.AttrKind.{AttrKind}
 use Rattle.doc_types.specs.declared.schema.AttrKind.TheVariants.{Uint, Bool as Flag, Bigint, Timestamp}
-use Rattle.conf_text.specs.declared.conf.IndexConf.{IndexConf}
+use Rattle.index_conf.specs.declared.conf.IndexConf.{IndexConf}
 use Rattle.reply_rows.specs.declared.result_set.ResultSet.{ResultSet}
 use Rattle.ql_refusals.specs.Columns.{id_name}
 use Rattle.ql_answers.specs.Replies.{texts, single, pair}

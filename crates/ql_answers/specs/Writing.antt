@@ -15,9 +15,9 @@ use Rattle.doc_types.specs.declared.transactions.TxnOp.TheVariants as operations
 use Rattle.doc_types.specs.Documents.{IsField}
 use Rattle.doc_types.specs.Transactions.{IsTxnOf}
 use Rattle.doc_tokens.specs.Tokens.{TokensOf, IsTooLong}
-use Rattle.conf_text.specs.declared.conf.IndexConf.{IndexConf}
-use Rattle.ql_grammar.specs.declared.statement.Val.{Val}
-use Rattle.ql_grammar.specs.declared.statement.Val.TheVariants.{Number, Text}
+use Rattle.index_conf.specs.declared.conf.IndexConf.{IndexConf}
+use Rattle.ql_tree.specs.declared.statement.Val.{Val}
+use Rattle.ql_tree.specs.declared.statement.Val.TheVariants.{Number, Text}
 use Rattle.ql_refusals.specs.declared.columns.Target.{Target}
 use Rattle.ql_refusals.specs.declared.columns.Target.TheVariants.{Id, Field, Attr}
 use Rattle.ql_refusals.specs.Columns.{id_name, kind_of, name_fault, name_of, target_of, all_targets}

@@ -8,14 +8,14 @@ ghost use Rattle.doc_types.specs.Documents.{IsField};
 ghost use Rattle.doc_types.specs.Schemas.{AreZones};
 ghost use Rattle.doc_tokens.specs.Tokens.{Gives};
 ghost use Rattle.ql_answers.specs.Writing.{Puts, blank, fold_of, holds, is_between, rows_fault, value_fault, values_fault};
-ghost use Rattle.conf_text.specs.declared.conf.IndexConf.{IndexConf};
+ghost use Rattle.index_conf.specs.declared.conf.IndexConf.{IndexConf};
 ghost use Rattle.doc_types.specs.declared.schema.Schema.{Schema};
 ghost use Rattle.ql_answers.specs.steps.Documents.{Builds, BuildsAll, IsShaped, PutsOr};
 
-use conf_text::IndexConf;
+use index_conf::IndexConf;
 use doc_tokens::{TooLong, tokens};
 use doc_types::{AttrKind, Doc, FieldTokens, Schema, Txn, TxnOp, Value};
-use ql_parse::Val;
+use ql_tree::Val;
 use ql_refusals::{Refusal, Target, kind_of, name_of, too_many_positions};
 use srch_base::{Items, NoMemory, Or};
 use std::alloc::Global;

@@ -1,11 +1,11 @@
 //! Indexes, as statements name them.
 ghost use Rattle.std.specs.Prelude.{◌≡◌, ◌<◌, ℕ, List, length, slice_get, Some, IfSome};
 ghost use Rattle.doc_types.specs.Schemas.{AreZones, IsSchema};
-ghost use Rattle.conf_text.specs.declared.conf.IndexConf.{IndexConf};
+ghost use Rattle.index_conf.specs.declared.conf.IndexConf.{IndexConf};
 ghost use Rattle.ql_answers.specs.Indexes.{place_of};
 ghost use Rattle.ql_answers.specs.steps.Serving.{ServedOr};
 
-use conf_text::IndexConf;
+use index_conf::IndexConf;
 use ql_refusals::{Refusal, not_offered, unknown_index};
 
 /// The indexes that statements may name, in the order of the configuration.

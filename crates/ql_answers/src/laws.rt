@@ -2,8 +2,8 @@
 //! contract is the law.
 ghost use Rattle.std.specs.Prelude.{◌≡◌, List};
 ghost use Rattle.doc_types.specs.Snapshots.{AreLayers, SnapshotValue, live};
-ghost use Rattle.conf_text.specs.declared.conf.IndexConf.{IndexConf};
-ghost use Rattle.ql_grammar.specs.declared.statement.Statement.{Statement};
+ghost use Rattle.index_conf.specs.declared.conf.IndexConf.{IndexConf};
+ghost use Rattle.ql_tree.specs.declared.statement.Statement.{Statement};
 ghost use Rattle.ql_refusals.specs.Refusals.{Refused};
 ghost use Rattle.ql_answers.specs.declared.plan.Plan.{Plan};
 ghost use Rattle.ql_answers.specs.Plans.{Refuses, Wants};
@@ -12,7 +12,7 @@ ghost use Rattle.ql_answers.specs.Sessions.{Decides, Happened, HasLayers, Read};
 
 use doc_search::a_search_shows_one_list;
 use doc_tokens::a_text_has_one_answer;
-use ext_query::{a_query_has_no_fault, a_text_has_one_first_fault, a_text_is_one_query};
+use query_grammar::{a_query_has_no_fault, a_text_has_one_first_fault, a_text_is_one_query};
 use query_pieces::each_text_has_pieces;
 
 /// A statement wants one thing or is refused for one reason, and never both.

@@ -7,7 +7,7 @@ use crate::indexes::{Catalog, served};
 use crate::plan::Plan;
 use crate::showing::{current_database, databases, description, tables, variable, warnings};
 use crate::writing::{columns_fault, rows_fault, targets};
-use ql_parse::{Select, Statement, Val};
+use ql_tree::{Select, Statement, Val};
 use ql_refusals::{Refusal, not_offered};
 use ql_select::is_grouped;
 use reply_rows::ResultSet;

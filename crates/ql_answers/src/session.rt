@@ -13,7 +13,7 @@ use crate::plan::Plan;
 use crate::planning::plan;
 use crate::saying::say;
 use doc_types::{Chunk, Txn};
-use ql_parse::Statement;
+use ql_tree::Statement;
 use ql_refusals::Refusal;
 use srch_base::{NoMemory, Or};
 use std::alloc::Global;
@@ -27,7 +27,7 @@ pub struct Session {
 
 impl Model for Session {
     ghost use Rattle.std.specs.Coded.{codes};
-    ghost use Rattle.query_grammar.specs.contracts.query.Node as node;
+    ghost use Rattle.query_tree.specs.contracts.query.Node as node;
     ghost use Rattle.ql_answers.specs.Sessions.{Standing};
 
     ghost Value = { Standing };

@@ -2,7 +2,7 @@
 use Rattle.std.proofs.Common.{arith, ◌≡◌, ◌≤◌, ℕ, zero, suc, length, List, [], ◌∷◌, ◌++◌, inl, inr, refl, sym, ◌∙◌, ap, subst, append_assoc}
 use Rattle.ql_lex.specs.declared.token.Sign.TheVariants as signs
 use Rattle.ql_lex.specs.Tokens.{Lexeme}
-use Rattle.ql_grammar.specs.declared.statement.Statement.{Statement}
+use Rattle.ql_tree.specs.declared.statement.Statement.{Statement}
 use Rattle.ql_grammar.specs.Tokens.{kind}
 use Rattle.ql_grammar.specs.Classes.{the_end, fits}
 use Rattle.token_grammar.specs.Language.{one, In}

@@ -6,18 +6,18 @@ use Rattle.ql_grammar.specs.declared.keyword.Keyword.{Keyword}
 use Rattle.ql_grammar.specs.declared.keyword.Keyword.TheVariants as keywords
 use Rattle.ql_grammar.specs.declared.kind.Kind.{Kind}
 use Rattle.ql_grammar.specs.declared.kind.Kind.TheVariants as kinds
-use Rattle.ql_grammar.specs.declared.select.Comparison.{Comparison}
-use Rattle.ql_grammar.specs.declared.select.Comparison.TheVariants as comparisons
-use Rattle.ql_grammar.specs.declared.select.Cond.{Cond}
-use Rattle.ql_grammar.specs.declared.select.Cond.TheVariants as condition
-use Rattle.ql_grammar.specs.declared.select.OptionValue.{OptionValue}
-use Rattle.ql_grammar.specs.declared.select.OptionValue.TheVariants as values
-use Rattle.ql_grammar.specs.declared.select.SelectExpr.{SelectExpr}
-use Rattle.ql_grammar.specs.declared.select.SelectExpr.TheVariants as exprs
-use Rattle.ql_grammar.specs.declared.select.SelectItem.{SelectItem}
-use Rattle.ql_grammar.specs.declared.select.SelectItem.TheVariants as items
-use Rattle.ql_grammar.specs.declared.select.SortName.{SortName}
-use Rattle.ql_grammar.specs.declared.select.SortName.TheVariants as sorts
+use Rattle.ql_tree.specs.declared.select.Comparison.{Comparison}
+use Rattle.ql_tree.specs.declared.select.Comparison.TheVariants as comparisons
+use Rattle.ql_tree.specs.declared.select.Cond.{Cond}
+use Rattle.ql_tree.specs.declared.select.Cond.TheVariants as condition
+use Rattle.ql_tree.specs.declared.select.OptionValue.{OptionValue}
+use Rattle.ql_tree.specs.declared.select.OptionValue.TheVariants as values
+use Rattle.ql_tree.specs.declared.select.SelectExpr.{SelectExpr}
+use Rattle.ql_tree.specs.declared.select.SelectExpr.TheVariants as exprs
+use Rattle.ql_tree.specs.declared.select.SelectItem.{SelectItem}
+use Rattle.ql_tree.specs.declared.select.SelectItem.TheVariants as items
+use Rattle.ql_tree.specs.declared.select.SortName.{SortName}
+use Rattle.ql_tree.specs.declared.select.SortName.TheVariants as sorts
 use Rattle.ql_grammar.specs.Tokens.{kind}
 use Rattle.ql_grammar.specs.Classes.{a_comparison, fits}
 use Rattle.token_grammar.specs.Language.{Re, In}

@@ -4,7 +4,7 @@ use Rattle.std.specs.Prelude.{ℤ}
 use native.Mathlib.Omega.{arith}
 use Rattle.ql_lex.specs.Tokens.{Lexeme}
 use Rattle.ql_grammar.specs.declared.keyword.Keyword.TheVariants as keywords
-use Rattle.ql_grammar.specs.declared.select.Comparison.{Comparison}
+use Rattle.ql_tree.specs.declared.select.Comparison.{Comparison}
 use Rattle.ql_grammar.specs.Classes.{Class}
 use Rattle.ql_grammar.specs.Terminals.{keyword, name, number, text, whole, comma, enclosed}
 use Rattle.ql_grammar.specs.steps.Grammar as grammar

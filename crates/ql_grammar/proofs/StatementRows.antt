@@ -3,14 +3,14 @@ use Rattle.std.proofs.Common.{ℕ, List, [], ◌∷◌, ◌++◌, Bool, Option, 
 use Rattle.ql_lex.specs.declared.token.Sign.TheVariants as signs
 use Rattle.ql_lex.specs.Tokens.{Lexeme}
 use Rattle.ql_grammar.specs.declared.keyword.Keyword.TheVariants as keywords
-use Rattle.ql_grammar.specs.declared.select.Select.{Select}
-use Rattle.ql_grammar.specs.declared.statement.Ids.{Ids}
-use Rattle.ql_grammar.specs.declared.statement.Plain.{Plain}
-use Rattle.ql_grammar.specs.declared.statement.Scope.{Scope}
-use Rattle.ql_grammar.specs.declared.statement.Scope.TheVariants as scopes
-use Rattle.ql_grammar.specs.declared.statement.SetValue.{SetValue}
-use Rattle.ql_grammar.specs.declared.statement.Target.{Target}
-use Rattle.ql_grammar.specs.declared.statement.Val.{Val}
+use Rattle.ql_tree.specs.declared.select.Select.{Select}
+use Rattle.ql_tree.specs.declared.statement.Ids.{Ids}
+use Rattle.ql_tree.specs.declared.statement.Plain.{Plain}
+use Rattle.ql_tree.specs.declared.statement.Scope.{Scope}
+use Rattle.ql_tree.specs.declared.statement.Scope.TheVariants as scopes
+use Rattle.ql_tree.specs.declared.statement.SetValue.{SetValue}
+use Rattle.ql_tree.specs.declared.statement.Target.{Target}
+use Rattle.ql_tree.specs.declared.statement.Val.{Val}
 use Rattle.ql_grammar.specs.Classes.{Class}
 use Rattle.ql_grammar.specs.Terminals.{text, whole, keyword, sign, number, name, two_keywords}
 use Rattle.ql_grammar.specs.steps.Grammar as grammar

@@ -8,8 +8,8 @@ use Rattle.ql_grammar.specs.declared.fault.ParseFault.{ParseFault}
 use Rattle.ql_grammar.specs.declared.fault.ParseKind.{ParseKind}
 use Rattle.ql_grammar.specs.declared.fault.ParseKind.TheVariants.{Syntax, TooMany}
 use Rattle.ql_grammar.specs.declared.kind.Kind.TheVariants as kinds
-use Rattle.ql_grammar.specs.declared.statement.TheConstants.{MAX_STATEMENTS}
-use Rattle.ql_grammar.specs.declared.statement.Statement.{Statement}
+use Rattle.ql_tree.specs.declared.statement.TheConstants.{MAX_STATEMENTS}
+use Rattle.ql_tree.specs.declared.statement.Statement.{Statement}
 use Rattle.ql_grammar.specs.Tokens.{kind}
 use Rattle.ql_grammar.specs.Parts.{IsSign}
 use Rattle.token_grammar.specs.Values.{◌then◌, IsOne, IsPerhaps, AreListed}

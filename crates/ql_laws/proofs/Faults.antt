@@ -6,8 +6,8 @@ use Rattle.token_grammar.proofs.Stops.{goes_over}
 use Rattle.ql_grammar.specs.declared.fault.ParseFault.{ParseFault}
 use Rattle.ql_grammar.specs.declared.fault.ParseKind.{ParseKind}
 use Rattle.ql_grammar.specs.declared.fault.ParseKind.TheVariants.{Syntax, TooMany}
-use Rattle.ql_grammar.specs.declared.statement.Statement.{Statement}
-use Rattle.ql_grammar.specs.declared.statement.TheConstants.{MAX_STATEMENTS}
+use Rattle.ql_tree.specs.declared.statement.Statement.{Statement}
+use Rattle.ql_tree.specs.declared.statement.TheConstants.{MAX_STATEMENTS}
 use Rattle.ql_grammar.specs.Packets.{IsPacket, BeginsPacket, HasKind, IsFault}
 
 pub packet_no_fault : (tokens : List Lexeme) (list : List Statement) (fault : ParseFault) → IsPacket list tokens → length list ≤ MAX_STATEMENTS → IsFault tokens fault → ⊥

@@ -2,7 +2,7 @@
 use Rattle.std.proofs.Common.{◌≡◌, zero, List, [], ◌∷◌, ◌++◌, refl, sym, ◌∙◌, ap, subst, append_assoc, append-nil}
 use Rattle.ql_lex.specs.declared.token.Sign.TheVariants as signs
 use Rattle.ql_lex.specs.Tokens.{Lexeme}
-use Rattle.ql_grammar.specs.declared.statement.Statement.{Statement}
+use Rattle.ql_tree.specs.declared.statement.Statement.{Statement}
 use Rattle.token_grammar.specs.Language.{seq, In}
 use Rattle.ql_grammar.specs.Terminals.{sign}
 use Rattle.ql_grammar.specs.steps.Grammar.{statement, more_statements}

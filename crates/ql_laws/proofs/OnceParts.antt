@@ -8,8 +8,8 @@ use Rattle.ql_grammar.specs.declared.keyword.Keyword.{Keyword}
 use Rattle.ql_grammar.specs.declared.keyword.Keyword.TheVariants as keywords
 use Rattle.ql_grammar.specs.declared.kind.Kind.{Kind}
 use Rattle.ql_grammar.specs.declared.kind.Kind.TheVariants as kinds
-use Rattle.ql_grammar.specs.declared.select.Comparison.{Comparison}
-use Rattle.ql_grammar.specs.declared.select.Comparison.TheVariants as comparisons
+use Rattle.ql_tree.specs.declared.select.Comparison.{Comparison}
+use Rattle.ql_tree.specs.declared.select.Comparison.TheVariants as comparisons
 use Rattle.ql_grammar.specs.Tokens.{kind, name_value, number_value, text_value}
 use Rattle.ql_grammar.specs.Classes.{Class, the_keyword, any_name, name_but, a_number, a_text, a_sysvar, the_sign, a_comparison, fits, is_name}
 use Rattle.token_grammar.specs.Language.{Re, seq}

@@ -5,23 +5,23 @@ use Rattle.ql_lex.specs.declared.token.Sign.TheVariants as signs
 use Rattle.ql_lex.specs.Tokens.{Lexeme}
 use Rattle.ql_grammar.specs.declared.keyword.Keyword.{Keyword}
 use Rattle.ql_grammar.specs.declared.keyword.Keyword.TheVariants as keywords
-use Rattle.ql_grammar.specs.declared.select.Comparison.{Comparison}
-use Rattle.ql_grammar.specs.declared.select.Cond.{Cond}
-use Rattle.ql_grammar.specs.declared.select.Cond.TheVariants as condition
-use Rattle.ql_grammar.specs.declared.select.FacetPart.{FacetPart}
-use Rattle.ql_grammar.specs.declared.select.Having.{Having}
-use Rattle.ql_grammar.specs.declared.select.LimitPart.{LimitPart}
-use Rattle.ql_grammar.specs.declared.select.OptionValue.{OptionValue}
-use Rattle.ql_grammar.specs.declared.select.OptionValue.TheVariants as values
-use Rattle.ql_grammar.specs.declared.select.Select.{Select}
-use Rattle.ql_grammar.specs.declared.select.SelectExpr.{SelectExpr}
-use Rattle.ql_grammar.specs.declared.select.SelectExpr.TheVariants as exprs
-use Rattle.ql_grammar.specs.declared.select.SelectItem.{SelectItem}
-use Rattle.ql_grammar.specs.declared.select.SelectItem.TheVariants as items
-use Rattle.ql_grammar.specs.declared.select.SelectOption.{SelectOption}
-use Rattle.ql_grammar.specs.declared.select.SortKey.{SortKey}
-use Rattle.ql_grammar.specs.declared.select.SortName.{SortName}
-use Rattle.ql_grammar.specs.declared.select.SortName.TheVariants as sorts
+use Rattle.ql_tree.specs.declared.select.Comparison.{Comparison}
+use Rattle.ql_tree.specs.declared.select.Cond.{Cond}
+use Rattle.ql_tree.specs.declared.select.Cond.TheVariants as condition
+use Rattle.ql_tree.specs.declared.select.FacetPart.{FacetPart}
+use Rattle.ql_tree.specs.declared.select.Having.{Having}
+use Rattle.ql_tree.specs.declared.select.LimitPart.{LimitPart}
+use Rattle.ql_tree.specs.declared.select.OptionValue.{OptionValue}
+use Rattle.ql_tree.specs.declared.select.OptionValue.TheVariants as values
+use Rattle.ql_tree.specs.declared.select.Select.{Select}
+use Rattle.ql_tree.specs.declared.select.SelectExpr.{SelectExpr}
+use Rattle.ql_tree.specs.declared.select.SelectExpr.TheVariants as exprs
+use Rattle.ql_tree.specs.declared.select.SelectItem.{SelectItem}
+use Rattle.ql_tree.specs.declared.select.SelectItem.TheVariants as items
+use Rattle.ql_tree.specs.declared.select.SelectOption.{SelectOption}
+use Rattle.ql_tree.specs.declared.select.SortKey.{SortKey}
+use Rattle.ql_tree.specs.declared.select.SortName.{SortName}
+use Rattle.ql_tree.specs.declared.select.SortName.TheVariants as sorts
 use Rattle.ql_grammar.specs.Classes.{Class, the_keyword, the_sign}
 use Rattle.token_grammar.specs.Language.{Re}
 use Rattle.ql_grammar.specs.Terminals.{keyword, name, enclosed}

@@ -5,20 +5,20 @@ use Rattle.ql_lex.specs.declared.token.Sign.TheVariants as signs
 use Rattle.ql_lex.specs.Tokens.{Lexeme}
 use Rattle.ql_grammar.specs.declared.keyword.Keyword.{Keyword}
 use Rattle.ql_grammar.specs.declared.keyword.Keyword.TheVariants as keywords
-use Rattle.ql_grammar.specs.declared.statement.Ids.{Ids}
-use Rattle.ql_grammar.specs.declared.statement.Ids.TheVariants as numbers
-use Rattle.ql_grammar.specs.declared.statement.Plain.{Plain}
-use Rattle.ql_grammar.specs.declared.statement.Plain.TheVariants as plains
-use Rattle.ql_grammar.specs.declared.statement.Scope.{Scope}
-use Rattle.ql_grammar.specs.declared.statement.Scope.TheVariants as scopes
-use Rattle.ql_grammar.specs.declared.statement.SetValue.{SetValue}
-use Rattle.ql_grammar.specs.declared.statement.SetValue.TheVariants as settings
-use Rattle.ql_grammar.specs.declared.statement.Statement.{Statement}
-use Rattle.ql_grammar.specs.declared.statement.Statement.TheVariants as statements
-use Rattle.ql_grammar.specs.declared.statement.Target.{Target}
-use Rattle.ql_grammar.specs.declared.statement.Target.TheVariants as targets
-use Rattle.ql_grammar.specs.declared.statement.Val.{Val}
-use Rattle.ql_grammar.specs.declared.statement.Val.TheVariants as vals
+use Rattle.ql_tree.specs.declared.statement.Ids.{Ids}
+use Rattle.ql_tree.specs.declared.statement.Ids.TheVariants as numbers
+use Rattle.ql_tree.specs.declared.statement.Plain.{Plain}
+use Rattle.ql_tree.specs.declared.statement.Plain.TheVariants as plains
+use Rattle.ql_tree.specs.declared.statement.Scope.{Scope}
+use Rattle.ql_tree.specs.declared.statement.Scope.TheVariants as scopes
+use Rattle.ql_tree.specs.declared.statement.SetValue.{SetValue}
+use Rattle.ql_tree.specs.declared.statement.SetValue.TheVariants as settings
+use Rattle.ql_tree.specs.declared.statement.Statement.{Statement}
+use Rattle.ql_tree.specs.declared.statement.Statement.TheVariants as statements
+use Rattle.ql_tree.specs.declared.statement.Target.{Target}
+use Rattle.ql_tree.specs.declared.statement.Target.TheVariants as targets
+use Rattle.ql_tree.specs.declared.statement.Val.{Val}
+use Rattle.ql_tree.specs.declared.statement.Val.TheVariants as vals
 use Rattle.ql_grammar.specs.Classes.{the_sign}
 use Rattle.ql_grammar.specs.Terminals.{keyword, sysvar, target_name}
 use Rattle.ql_grammar.specs.steps.Grammar.{select_variable, select_database, select, val, insert, ids, plain, setting, assignment, scoped, set_rest, shown, statement}

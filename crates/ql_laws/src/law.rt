@@ -3,8 +3,8 @@
 ghost use Rattle.std.specs.Prelude.{◌≡◌, ◌≤◌, List, length};
 ghost use Rattle.ql_lex.specs.Tokens.{Lexeme};
 ghost use Rattle.ql_grammar.specs.declared.fault.ParseFault.{ParseFault as Fault};
-ghost use Rattle.ql_grammar.specs.declared.statement.Statement.{Statement as StatementValue};
-ghost use Rattle.ql_grammar.specs.declared.statement.TheConstants.{MAX_STATEMENTS};
+ghost use Rattle.ql_tree.specs.declared.statement.Statement.{Statement as StatementValue};
+ghost use Rattle.ql_tree.specs.declared.statement.TheConstants.{MAX_STATEMENTS};
 ghost use Rattle.ql_grammar.specs.Packets.{IsFault, IsPacket};
 
 /// Tokens are a packet of one list of statements only.

@@ -11,8 +11,8 @@ use Rattle.std.proofs.lemmas.List.{take_more}
 use Rattle.std.proofs.lemmas.List.Folds.{list_any-append}
 use Rattle.std.proofs.lemmas.Map.Text.{is_eq-slice_cmp}
 use Rattle.std.proofs.lemmas.Option.{none-some}
-use Rattle.ql_grammar.specs.declared.select.SelectItem.{SelectItem}
-use Rattle.ql_grammar.specs.declared.select.SelectItem.TheVariants as items
+use Rattle.ql_tree.specs.declared.select.SelectItem.{SelectItem}
+use Rattle.ql_tree.specs.declared.select.SelectItem.TheVariants as items
 use Rattle.ql_select.specs.Names.{has_alias, is_alias}
 use Rattle.ql_select.specs.steps.Aliases.{HasAliases, alias_of}
 

@@ -1,13 +1,13 @@
 use Rattle.std.proofs.Common.{sym, subst}
 use Rattle.std.proofs.lemmas.Str.{IsUtf8-from_is_utf8}
-use Rattle.conf_text.specs.declared.conf.IndexConf.{IndexConf}
+use Rattle.index_conf.specs.declared.conf.IndexConf.{IndexConf}
 use Rattle.doc_search.specs.declared.question.Question.{Question}
 use Rattle.doc_search.specs.Searches.{IsAskedOf}
 use Rattle.doc_types.specs.Schemas.{IsSchema}
-use Rattle.ext_query.proofs.QueryKeys.{few_when_read, numbered_when_read}
+use Rattle.query_read.proofs.QueryKeys.{few_when_read, numbered_when_read}
 use Rattle.op_eval.specs.Numbered.{IsNumbered}
 use Rattle.op_eval.proofs.NumberedHits.{numbers_kept}
-use Rattle.ql_grammar.specs.declared.select.Select.{Select}
+use Rattle.ql_tree.specs.declared.select.Select.{Select}
 use Rattle.ql_select.specs.declared.selection.Selection.{Selection}
 use Rattle.ql_select.specs.Parts.{match_text}
 use Rattle.ql_select.specs.Selections.{Selects, setting}

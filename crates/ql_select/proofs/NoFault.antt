@@ -9,10 +9,10 @@ use Rattle.std.proofs.lemmas.Option.{none-some}
 use Rattle.std.proofs.lemmas.List.{get_or-reverse, length-reverse}
 use Rattle.std.proofs.lemmas.Slice.Eq.{bytes_eq-Decides}
 use Rattle.doc_types.specs.declared.schema.Schema.{Schema}
-use Rattle.ql_grammar.specs.declared.select.OptionValue.{OptionValue}
-use Rattle.ql_grammar.specs.declared.select.OptionValue.TheVariants as values
-use Rattle.ql_grammar.specs.declared.select.Select.{Select}
-use Rattle.ql_grammar.specs.declared.select.SelectOption.{SelectOption}
+use Rattle.ql_tree.specs.declared.select.OptionValue.{OptionValue}
+use Rattle.ql_tree.specs.declared.select.OptionValue.TheVariants as values
+use Rattle.ql_tree.specs.declared.select.Select.{Select}
+use Rattle.ql_tree.specs.declared.select.SelectOption.{SelectOption}
 use Rattle.ql_refusals.specs.declared.columns.Target.{Target}
 use Rattle.ql_refusals.specs.declared.columns.Target.TheVariants as targets
 use Rattle.ql_refusals.specs.Columns.{target_of}

@@ -5,13 +5,13 @@ use Rattle.std.specs.Option.{option_map}
 use Rattle.std.specs.Str.{bytes_eq}
 use Rattle.std.proofs.lemmas.List.{length-map}
 use Rattle.std.proofs.lemmas.List.Elements.{All-map}
-use Rattle.conf_text.specs.declared.conf.IndexConf.{IndexConf}
+use Rattle.index_conf.specs.declared.conf.IndexConf.{IndexConf}
 use Rattle.doc_search.specs.Searches.{IsAskedOf}
 use Rattle.doc_types.specs.Schemas.{IsSchema}
 use Rattle.op_eval.specs.Numbered.{IsNumbered}
 use Rattle.op_eval.specs.Sentences.{query_for}
-use Rattle.ql_grammar.specs.declared.select.Select.{Select}
-use Rattle.query_grammar.specs.declared.query.Query.{Query}
+use Rattle.ql_tree.specs.declared.select.Select.{Select}
+use Rattle.query_tree.specs.declared.query.Query.{Query}
 use Rattle.ql_select.specs.Faults.{select_fault}
 use Rattle.ql_select.specs.Options.{field_weights_option, last_value, weight_for, weights_in}
 use Rattle.ql_select.specs.Selections.{question_of}

@@ -7,10 +7,10 @@ use Rattle.doc_types.specs.declared.schema.AttrKind.{AttrKind}
 use Rattle.doc_types.specs.declared.schema.AttrKind.TheVariants as attr_kinds
 use Rattle.mysql_wire.specs.declared.rows.ColumnKind.{ColumnKind}
 use Rattle.mysql_wire.specs.declared.rows.ColumnKind.TheVariants as kinds
-use Rattle.ql_grammar.specs.declared.select.SelectExpr.{SelectExpr}
-use Rattle.ql_grammar.specs.declared.select.SelectExpr.TheVariants as exprs
-use Rattle.ql_grammar.specs.declared.select.SelectItem.{SelectItem}
-use Rattle.ql_grammar.specs.declared.select.SelectItem.TheVariants as items
+use Rattle.ql_tree.specs.declared.select.SelectExpr.{SelectExpr}
+use Rattle.ql_tree.specs.declared.select.SelectExpr.TheVariants as exprs
+use Rattle.ql_tree.specs.declared.select.SelectItem.{SelectItem}
+use Rattle.ql_tree.specs.declared.select.SelectItem.TheVariants as items
 use Rattle.ql_refusals.specs.Columns.{id_name, kind_of}
 use Rattle.row_select.specs.declared.row.ColumnRef.{ColumnRef}
 use Rattle.row_select.specs.declared.row.ColumnRef.TheVariants as columns

@@ -4,13 +4,13 @@ use Rattle.std.specs.Prelude.{ℕ, List, Bool, true, false, ◌||◌, ◌==◌, 
 use Rattle.std.specs.List.{find, list_any}
 use Rattle.std.specs.Str.{bytes_eq}
 use Rattle.doc_types.specs.declared.schema.Schema.{Schema}
-use Rattle.ql_grammar.specs.declared.select.Select.{Select}
-use Rattle.ql_grammar.specs.declared.select.SelectItem.{SelectItem}
-use Rattle.ql_grammar.specs.declared.select.SelectItem.TheVariants as items
-use Rattle.ql_grammar.specs.declared.select.SelectExpr.{SelectExpr}
-use Rattle.ql_grammar.specs.declared.select.SelectExpr.TheVariants as exprs
-use Rattle.ql_grammar.specs.declared.select.SortName.{SortName}
-use Rattle.ql_grammar.specs.declared.select.SortName.TheVariants as keys
+use Rattle.ql_tree.specs.declared.select.Select.{Select}
+use Rattle.ql_tree.specs.declared.select.SelectItem.{SelectItem}
+use Rattle.ql_tree.specs.declared.select.SelectItem.TheVariants as items
+use Rattle.ql_tree.specs.declared.select.SelectExpr.{SelectExpr}
+use Rattle.ql_tree.specs.declared.select.SelectExpr.TheVariants as exprs
+use Rattle.ql_tree.specs.declared.select.SortName.{SortName}
+use Rattle.ql_tree.specs.declared.select.SortName.TheVariants as keys
 use Rattle.ql_refusals.specs.declared.columns.Target.{Target}
 use Rattle.ql_refusals.specs.declared.columns.Target.TheVariants as targets
 use Rattle.ql_refusals.specs.Columns.{target_of}

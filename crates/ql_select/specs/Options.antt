@@ -4,9 +4,9 @@ use Rattle.std.specs.List.{find}
 use Rattle.std.specs.Option.{option_map}
 use Rattle.std.specs.Str.{bytes_eq}
 use Rattle.doc_types.specs.declared.schema.Schema.{Schema}
-use Rattle.ql_grammar.specs.declared.select.OptionValue.{OptionValue}
-use Rattle.ql_grammar.specs.declared.select.OptionValue.TheVariants as values
-use Rattle.ql_grammar.specs.declared.select.SelectOption.{SelectOption}
+use Rattle.ql_tree.specs.declared.select.OptionValue.{OptionValue}
+use Rattle.ql_tree.specs.declared.select.OptionValue.TheVariants as values
+use Rattle.ql_tree.specs.declared.select.SelectOption.{SelectOption}
 use Rattle.rankers.specs.declared.ranker.Ranker.{Ranker}
 use Rattle.rankers.specs.declared.ranker.Ranker.TheVariants as rankers
 use Rattle.ql_select.specs.declared.options.TheConstants.{DEFAULT_MAX_MATCHES}

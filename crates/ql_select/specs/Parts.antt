@@ -3,14 +3,14 @@ use Rattle.std.specs.Prelude.{ℕ, List, [], ◌∷◌, Bool, true, false, min, 
 use Rattle.std.specs.List.{filter_map}
 use Rattle.std.specs.Option.{option_map}
 use Rattle.doc_types.specs.declared.schema.Schema.{Schema}
-use Rattle.ql_grammar.specs.declared.select.Comparison.{Comparison}
-use Rattle.ql_grammar.specs.declared.select.Comparison.TheVariants as comparisons
-use Rattle.ql_grammar.specs.declared.select.Cond.{Cond}
-use Rattle.ql_grammar.specs.declared.select.Cond.TheVariants as conds
-use Rattle.ql_grammar.specs.declared.select.LimitPart.{LimitPart}
-use Rattle.ql_grammar.specs.declared.select.Select.{Select}
-use Rattle.ql_grammar.specs.declared.select.SelectItem.{SelectItem}
-use Rattle.ql_grammar.specs.declared.select.SortKey.{SortKey}
+use Rattle.ql_tree.specs.declared.select.Comparison.{Comparison}
+use Rattle.ql_tree.specs.declared.select.Comparison.TheVariants as comparisons
+use Rattle.ql_tree.specs.declared.select.Cond.{Cond}
+use Rattle.ql_tree.specs.declared.select.Cond.TheVariants as conds
+use Rattle.ql_tree.specs.declared.select.LimitPart.{LimitPart}
+use Rattle.ql_tree.specs.declared.select.Select.{Select}
+use Rattle.ql_tree.specs.declared.select.SelectItem.{SelectItem}
+use Rattle.ql_tree.specs.declared.select.SortKey.{SortKey}
 use Rattle.row_select.specs.declared.filter.CompareOp.{CompareOp}
 use Rattle.row_select.specs.declared.filter.CompareOp.TheVariants as operators
 use Rattle.row_select.specs.declared.filter.Filter.{Filter}

@@ -4,13 +4,13 @@ use Rattle.std.specs.Str.{is_utf8}
 use Rattle.srch_base.specs.declared.faults.Or.{Or}
 use Rattle.srch_base.specs.declared.faults.Or.TheVariants.{NoMemory, Fault}
 use Rattle.charset_map.specs.Spans.{folded}
-use Rattle.conf_text.specs.declared.conf.IndexConf.{IndexConf}
+use Rattle.index_conf.specs.declared.conf.IndexConf.{IndexConf}
 use Rattle.doc_search.specs.declared.question.Question.{Question}
 use Rattle.op_eval.specs.Sentences.{query_for}
-use Rattle.ql_grammar.specs.declared.select.Select.{Select}
+use Rattle.ql_tree.specs.declared.select.Select.{Select}
 use Rattle.ql_refusals.specs.Refusals.{Refused, bad_query, wrong_kind}
 use Rattle.query_grammar.specs.declared.fault.QueryFault.{QueryFault}
-use Rattle.query_grammar.specs.declared.query.Query.{Query}
+use Rattle.query_tree.specs.declared.query.Query.{Query}
 use Rattle.query_grammar.specs.Queries.{ReadsQuery}
 use Rattle.query_marks.specs.Marks.{Setting, setting_of}
 use Rattle.ql_select.specs.declared.selection.Selection.{Selection}

@@ -6,7 +6,7 @@ ghost use Rattle.std.specs.Prelude.{◌≡◌, IfOk, option_copied};
 ghost use Rattle.ql_select.specs.Names.{is_alias};
 ghost use Rattle.ql_select.specs.steps.Aliases.{alias_of};
 
-use ql_grammar::SelectItem;
+use ql_tree::SelectItem;
 use srch_base::NoMemory;
 use std::alloc::Global;
 use std::collections::BTreeSet;
@@ -21,7 +21,7 @@ pub(crate) struct Aliases<'a> {
 
 impl<'a> Model for Aliases<'a> {
     ghost use Rattle.std.specs.Prelude.{List};
-    ghost use Rattle.ql_grammar.specs.declared.select.SelectItem.{SelectItem};
+    ghost use Rattle.ql_tree.specs.declared.select.SelectItem.{SelectItem};
     ghost use Rattle.ql_select.specs.steps.Aliases.{HasAliases};
 
     ghost Value = { List SelectItem };

@@ -4,7 +4,7 @@ ghost use Rattle.ql_select.specs.Parts.{filter_of, filters_of, match_text, opera
 
 use crate::names::column_of;
 use doc_types::Schema;
-use ql_grammar::{Comparison, Cond};
+use ql_tree::{Comparison, Cond};
 use row_select::{CompareOp, Filter};
 use srch_base::{Items, NoMemory};
 use std::alloc::Global;

@@ -1,8 +1,8 @@
 //! A law of what a SELECT means. The function does nothing: its contract is the law.
 ghost use Rattle.doc_types.specs.Schemas.{IsSchema};
-ghost use Rattle.conf_text.specs.declared.conf.IndexConf.{IndexConf};
+ghost use Rattle.index_conf.specs.declared.conf.IndexConf.{IndexConf};
 ghost use Rattle.doc_search.specs.Searches.{IsAskedOf};
-ghost use Rattle.ql_grammar.specs.declared.select.Select.{Select};
+ghost use Rattle.ql_tree.specs.declared.select.Select.{Select};
 ghost use Rattle.ql_select.specs.declared.selection.Selection.{Selection};
 ghost use Rattle.ql_select.specs.Selections.{Selects};
 

@@ -3,7 +3,7 @@ ghost use Rattle.std.specs.Prelude.{◌≡◌, ◌≤◌, All, IfOk, option_copi
 ghost use Rattle.ql_select.specs.Options.{field_weights_option, is_option, last_value, max_matches_of, ranker_named, ranker_of, weight_for, weights_in, weights_of};
 
 use doc_types::Schema;
-use ql_grammar::{OptionValue, SelectOption};
+use ql_tree::{OptionValue, SelectOption};
 use rankers::{Ranker, Weights};
 use srch_base::{Items, Name, NoMemory};
 use std::alloc::Global;

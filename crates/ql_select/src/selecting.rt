@@ -13,13 +13,13 @@ use crate::options::{ranker_of, weights_of};
 use crate::selection::Selection;
 use crate::showing::columns_shown;
 use crate::sorting::order_of;
-use conf_text::IndexConf;
+use index_conf::IndexConf;
 use doc_search::Question;
-use ext_query::read_query;
+use query_read::read_query;
 use op_eval::for_schema;
-use ql_grammar::Select;
+use ql_tree::Select;
 use ql_refusals::{Refusal, bad_query, wrong_kind};
-use query_grammar::Query;
+use query_tree::Query;
 use srch_base::{NoMemory, Or};
 use std::alloc::Global;
 

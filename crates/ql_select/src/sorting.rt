@@ -6,7 +6,7 @@ ghost use Rattle.ql_select.specs.Parts.{key_of, order_of};
 
 use crate::names::key_column;
 use doc_types::Schema;
-use ql_grammar::{Select, SelectItem, SortKey};
+use ql_tree::{Select, SelectItem, SortKey};
 use row_select::{ColumnRef, Order};
 use srch_base::{Items, NoMemory};
 use std::alloc::Global;

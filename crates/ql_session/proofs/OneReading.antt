@@ -3,8 +3,8 @@ use Rattle.std.proofs.Common.{◌≡◌, ◌≤◌, ℕ, List, length, sym, ap, 
 use Rattle.ql_lex.specs.declared.fault.LexKind.{LexKind}
 use Rattle.ql_lex.specs.Tokens.{AreTokens, FaultAt, Lexeme}
 use Rattle.ql_grammar.specs.declared.fault.ParseFault.{ParseFault}
-use Rattle.ql_grammar.specs.declared.statement.Statement.{Statement}
-use Rattle.ql_grammar.specs.declared.statement.TheConstants.{MAX_STATEMENTS}
+use Rattle.ql_tree.specs.declared.statement.Statement.{Statement}
+use Rattle.ql_tree.specs.declared.statement.TheConstants.{MAX_STATEMENTS}
 use Rattle.ql_grammar.specs.Packets.{IsFault, IsPacket}
 use Rattle.ql_refusals.specs.Refusals.{Refused, bad_syntax, bad_token}
 use Rattle.ql_session.specs.Statements.{RefusesText, RefusesTokens, States}

@@ -1,9 +1,9 @@
 -- What came of a statement has one reply, and so has what came of the statements of a text.
 use Rattle.std.proofs.Common.{◌≡◌, ℕ, List, [], ◌∷◌, ◌++◌, Bool, true, false, sym, ap, subst, ◌∙◌, inl, inr}
 use Rattle.std.proofs.lemmas.List.Elements.{All-head, All-tail}
-use Rattle.conf_text.specs.declared.conf.IndexConf.{IndexConf}
+use Rattle.index_conf.specs.declared.conf.IndexConf.{IndexConf}
 use Rattle.mysql_wire.specs.Packets.{packets_from, sequence_after}
-use Rattle.ql_grammar.specs.declared.statement.Statement.{Statement}
+use Rattle.ql_tree.specs.declared.statement.Statement.{Statement}
 use Rattle.ql_refusals.specs.Refusals.{Refused}
 use Rattle.ql_answers.specs.declared.plan.Plan.{Plan}
 use Rattle.ql_answers.specs.declared.plan.Plan.TheVariants.{Agree, Insert, Search, Show}

@@ -3,7 +3,7 @@ use Rattle.std.proofs.Common.{ℕ, List, Ok, Err, inr}
 use Rattle.std.specs.Prelude.{Result, Vec}
 use Rattle.srch_base.specs.declared.faults.Or.{Or}
 use Rattle.srch_base.specs.declared.faults.Or.TheVariants as causes
-use Rattle.ql_grammar.specs.declared.statement.Statement.{Statement}
+use Rattle.ql_tree.specs.declared.statement.Statement.{Statement}
 use Rattle.ql_lex.specs.Tokens.{AreTokens, Lexeme}
 use Rattle.ql_refusals.specs.Refusals.{Refused}
 use Rattle.ql_session.specs.steps.Running.{ReadsText, ReadsTokens}

@@ -4,9 +4,9 @@ use Rattle.std.specs.Prelude.{All, Option, Some, Err, slice_get, unwrap_or}
 use Rattle.std.specs.Option.{IsSomeAnd}
 use Rattle.srch_base.specs.declared.faults.Or.{Or}
 use Rattle.srch_base.specs.declared.faults.Or.TheVariants as causes
-use Rattle.conf_text.specs.declared.conf.IndexConf.{IndexConf}
+use Rattle.index_conf.specs.declared.conf.IndexConf.{IndexConf}
 use Rattle.doc_search.specs.Searches.{IsAskedOf}
-use Rattle.ql_grammar.specs.declared.statement.Statement.{Statement}
+use Rattle.ql_tree.specs.declared.statement.Statement.{Statement}
 use Rattle.doc_types.specs.Documents.{AreRowsOf}
 use Rattle.doc_types.specs.Schemas.{IsSchema}
 use Rattle.doc_types.specs.Snapshots.{SnapshotValue}

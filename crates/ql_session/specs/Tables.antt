@@ -4,7 +4,7 @@ use Rattle.doc_types.specs.Commits.{verdict}
 use Rattle.doc_types.specs.Commits as verdicts
 use Rattle.doc_types.specs.Snapshots.{AreLayers, SnapshotValue, live}
 use Rattle.doc_types.specs.declared.transactions.TxnOp.{TxnOp}
-use Rattle.conf_text.specs.declared.conf.IndexConf.{IndexConf}
+use Rattle.index_conf.specs.declared.conf.IndexConf.{IndexConf}
 use Rattle.plain_store.specs.Commits.{Accepts, empty_snapshot}
 
 -- The indexes as they are configured, and the documents of each, in the same order.

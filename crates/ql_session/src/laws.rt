@@ -1,7 +1,7 @@
 //! Laws of the definitions. The functions do nothing but call the laws that they rest on; their contracts are the laws.
 ghost use Rattle.std.specs.Prelude.{◌≡◌, ℕ, List};
-ghost use Rattle.conf_text.specs.declared.conf.IndexConf.{IndexConf};
-ghost use Rattle.ql_grammar.specs.declared.statement.Statement.{Statement as StatementValue};
+ghost use Rattle.index_conf.specs.declared.conf.IndexConf.{IndexConf};
+ghost use Rattle.ql_tree.specs.declared.statement.Statement.{Statement as StatementValue};
 ghost use Rattle.ql_refusals.specs.Refusals.{Refused};
 ghost use Rattle.ql_answers.specs.Replies.{Reply};
 ghost use Rattle.ql_answers.specs.Sessions.{HasLayers, State};
@@ -13,7 +13,7 @@ ghost use Rattle.serve_line.specs.Machines.{FollowAll};
 
 use ql_answers::{a_plan_has_one_reply, a_statement_has_one_plan};
 use ql_lex::one_reading;
-use ql_parse::{packets_have_no_fault, tokens_have_one_fault, tokens_have_one_value};
+use ql_laws::{packets_have_no_fault, tokens_have_one_fault, tokens_have_one_value};
 
 /// A text states one list of statements or is refused for one reason, and never both.
 pub fn a_text_is_read_in_one_way()

@@ -17,7 +17,7 @@ use crate::refusing::put_refusal;
 use doc_types::PlainChunk;
 use plain_store::Duplicate;
 use ql_answers::{Event, Need, Session};
-use ql_parse::Statement;
+use ql_tree::Statement;
 use ql_refusals::{Refusal, no_memory};
 use srch_base::{NoMemory, Or};
 use std::alloc::Global;

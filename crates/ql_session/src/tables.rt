@@ -10,7 +10,7 @@ ghost use Rattle.plain_store.specs.Commits.{AreInsertions, Commits as CommitsTo,
 ghost use Rattle.ql_session.specs.Tables.{empty_tables};
 ghost use Rattle.ql_session.specs.steps.Running.{Commits};
 
-use conf_text::IndexConf;
+use index_conf::IndexConf;
 use doc_types::{PlainChunk, Snapshot, Txn};
 use plain_store::{Duplicate, PlainStore};
 use ql_answers::Catalog;

@@ -1,19 +1,19 @@
 -- Statements and their canonical texts.
 use Rattle.std.proofs.Common.{◌≡◌, [], ◌∷◌, Some, None, refl}
 use Rattle.std.specs.Prelude.{codes, pos, negsuc, true, false}
-use Rattle.ql_grammar.specs.declared.statement.Ids.TheVariants as ids
-use Rattle.ql_grammar.specs.declared.statement.Plain.TheVariants as plains
-use Rattle.ql_grammar.specs.declared.statement.Scope.TheVariants as scopes
-use Rattle.ql_grammar.specs.declared.statement.SetValue.TheVariants as settings
-use Rattle.ql_grammar.specs.declared.statement.Statement.TheVariants as statements
-use Rattle.ql_grammar.specs.declared.statement.Target.TheVariants as targets
-use Rattle.ql_grammar.specs.declared.statement.Val.TheVariants as vals
-use Rattle.ql_grammar.specs.declared.select.Comparison.TheVariants as comparisons
-use Rattle.ql_grammar.specs.declared.select.Cond.TheVariants as conds
-use Rattle.ql_grammar.specs.declared.select.OptionValue.TheVariants as values
-use Rattle.ql_grammar.specs.declared.select.SelectExpr.TheVariants as exprs
-use Rattle.ql_grammar.specs.declared.select.SelectItem.TheVariants as items
-use Rattle.ql_grammar.specs.declared.select.SortName.TheVariants as sorts
+use Rattle.ql_tree.specs.declared.statement.Ids.TheVariants as ids
+use Rattle.ql_tree.specs.declared.statement.Plain.TheVariants as plains
+use Rattle.ql_tree.specs.declared.statement.Scope.TheVariants as scopes
+use Rattle.ql_tree.specs.declared.statement.SetValue.TheVariants as settings
+use Rattle.ql_tree.specs.declared.statement.Statement.TheVariants as statements
+use Rattle.ql_tree.specs.declared.statement.Target.TheVariants as targets
+use Rattle.ql_tree.specs.declared.statement.Val.TheVariants as vals
+use Rattle.ql_tree.specs.declared.select.Comparison.TheVariants as comparisons
+use Rattle.ql_tree.specs.declared.select.Cond.TheVariants as conds
+use Rattle.ql_tree.specs.declared.select.OptionValue.TheVariants as values
+use Rattle.ql_tree.specs.declared.select.SelectExpr.TheVariants as exprs
+use Rattle.ql_tree.specs.declared.select.SelectItem.TheVariants as items
+use Rattle.ql_tree.specs.declared.select.SortName.TheVariants as sorts
 use Rattle.std.specs.Fmt.{digits}
 use Rattle.ql_write.specs.Canonical.{canonical_text}
 

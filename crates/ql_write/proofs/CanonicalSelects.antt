@@ -4,22 +4,22 @@ use Rattle.ql_lex.specs.declared.token.Sign.TheVariants as signs
 use Rattle.ql_lex.specs.Tokens.{Lexeme}
 use Rattle.ql_grammar.specs.declared.keyword.Keyword.{Keyword}
 use Rattle.ql_grammar.specs.declared.keyword.Keyword.TheVariants as keywords
-use Rattle.ql_grammar.specs.declared.select.Cond.{Cond}
-use Rattle.ql_grammar.specs.declared.select.Cond.TheVariants as conds
-use Rattle.ql_grammar.specs.declared.select.FacetPart.{FacetPart}
-use Rattle.ql_grammar.specs.declared.select.Having.{Having}
-use Rattle.ql_grammar.specs.declared.select.LimitPart.{LimitPart}
-use Rattle.ql_grammar.specs.declared.select.OptionValue.{OptionValue}
-use Rattle.ql_grammar.specs.declared.select.OptionValue.TheVariants as values
-use Rattle.ql_grammar.specs.declared.select.Select.{Select}
-use Rattle.ql_grammar.specs.declared.select.SelectExpr.{SelectExpr}
-use Rattle.ql_grammar.specs.declared.select.SelectExpr.TheVariants as exprs
-use Rattle.ql_grammar.specs.declared.select.SelectItem.{SelectItem}
-use Rattle.ql_grammar.specs.declared.select.SelectItem.TheVariants as items
-use Rattle.ql_grammar.specs.declared.select.SelectOption.{SelectOption}
-use Rattle.ql_grammar.specs.declared.select.SortKey.{SortKey}
-use Rattle.ql_grammar.specs.declared.select.SortName.{SortName}
-use Rattle.ql_grammar.specs.declared.select.SortName.TheVariants as sorts
+use Rattle.ql_tree.specs.declared.select.Cond.{Cond}
+use Rattle.ql_tree.specs.declared.select.Cond.TheVariants as conds
+use Rattle.ql_tree.specs.declared.select.FacetPart.{FacetPart}
+use Rattle.ql_tree.specs.declared.select.Having.{Having}
+use Rattle.ql_tree.specs.declared.select.LimitPart.{LimitPart}
+use Rattle.ql_tree.specs.declared.select.OptionValue.{OptionValue}
+use Rattle.ql_tree.specs.declared.select.OptionValue.TheVariants as values
+use Rattle.ql_tree.specs.declared.select.Select.{Select}
+use Rattle.ql_tree.specs.declared.select.SelectExpr.{SelectExpr}
+use Rattle.ql_tree.specs.declared.select.SelectExpr.TheVariants as exprs
+use Rattle.ql_tree.specs.declared.select.SelectItem.{SelectItem}
+use Rattle.ql_tree.specs.declared.select.SelectItem.TheVariants as items
+use Rattle.ql_tree.specs.declared.select.SelectOption.{SelectOption}
+use Rattle.ql_tree.specs.declared.select.SortKey.{SortKey}
+use Rattle.ql_tree.specs.declared.select.SortName.{SortName}
+use Rattle.ql_tree.specs.declared.select.SortName.TheVariants as sorts
 use Rattle.ql_grammar.specs.Parts.{IsKeyword, AreKeywords, IsComma}
 use Rattle.token_grammar.specs.Values.{◌then◌, IsPerhaps, AreListed}
 use Rattle.ql_write.specs.Pieces.{Piece, keyword, name, with_commas, given, given_all, in_row}

@@ -8,20 +8,20 @@ use Rattle.ql_lex.specs.Shapes.{is_name_byte}
 use Rattle.ql_lex.specs.Spacing.{Spelling, AreSpellings, spaced, HasTokens}
 use Rattle.ql_lex.specs.Tokens.{Lexeme, AreTokens, AreLexemes, end_token}
 use Rattle.ql_grammar.specs.declared.keyword.Keyword.TheVariants as keywords
-use Rattle.ql_grammar.specs.declared.statement.Ids.{Ids}
-use Rattle.ql_grammar.specs.declared.statement.Ids.TheVariants as ids
-use Rattle.ql_grammar.specs.declared.statement.Plain.{Plain}
-use Rattle.ql_grammar.specs.declared.statement.Plain.TheVariants as plains
-use Rattle.ql_grammar.specs.declared.statement.Scope.{Scope}
-use Rattle.ql_grammar.specs.declared.statement.Scope.TheVariants as scopes
-use Rattle.ql_grammar.specs.declared.statement.SetValue.{SetValue}
-use Rattle.ql_grammar.specs.declared.statement.SetValue.TheVariants as settings
-use Rattle.ql_grammar.specs.declared.statement.Statement.{Statement}
-use Rattle.ql_grammar.specs.declared.statement.Statement.TheVariants as statements
-use Rattle.ql_grammar.specs.declared.statement.Target.{Target}
-use Rattle.ql_grammar.specs.declared.statement.Target.TheVariants as targets
-use Rattle.ql_grammar.specs.declared.statement.Val.{Val}
-use Rattle.ql_grammar.specs.declared.statement.Val.TheVariants as vals
+use Rattle.ql_tree.specs.declared.statement.Ids.{Ids}
+use Rattle.ql_tree.specs.declared.statement.Ids.TheVariants as ids
+use Rattle.ql_tree.specs.declared.statement.Plain.{Plain}
+use Rattle.ql_tree.specs.declared.statement.Plain.TheVariants as plains
+use Rattle.ql_tree.specs.declared.statement.Scope.{Scope}
+use Rattle.ql_tree.specs.declared.statement.Scope.TheVariants as scopes
+use Rattle.ql_tree.specs.declared.statement.SetValue.{SetValue}
+use Rattle.ql_tree.specs.declared.statement.SetValue.TheVariants as settings
+use Rattle.ql_tree.specs.declared.statement.Statement.{Statement}
+use Rattle.ql_tree.specs.declared.statement.Statement.TheVariants as statements
+use Rattle.ql_tree.specs.declared.statement.Target.{Target}
+use Rattle.ql_tree.specs.declared.statement.Target.TheVariants as targets
+use Rattle.ql_tree.specs.declared.statement.Val.{Val}
+use Rattle.ql_tree.specs.declared.statement.Val.TheVariants as vals
 use Rattle.ql_grammar.specs.Classes.{fits, is_name, is_keyword, name_but}
 use Rattle.ql_grammar.specs.Packets.{IsPacket}
 use Rattle.ql_grammar.specs.Parts.{IsSign, IsTargetName}

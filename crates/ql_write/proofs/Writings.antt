@@ -5,9 +5,9 @@ use Rattle.std.specs.Result.{IsErr}
 use Rattle.srch_base.specs.declared.faults.NoMemory.{NoMemory}
 use Rattle.std.proofs.lemmas.Grind.{flat_map-append}
 use Rattle.ql_grammar.specs.declared.keyword.Keyword.TheVariants as keywords
-use Rattle.ql_grammar.specs.declared.select.Select.{Select}
-use Rattle.ql_grammar.specs.declared.statement.Statement.{Statement}
-use Rattle.ql_grammar.specs.declared.statement.Statement.TheVariants as statements
+use Rattle.ql_tree.specs.declared.select.Select.{Select}
+use Rattle.ql_tree.specs.declared.statement.Statement.{Statement}
+use Rattle.ql_tree.specs.declared.statement.Statement.TheVariants as statements
 use Rattle.ql_write.specs.Pieces.{Piece, keyword, name, spelling, written, with_commas, given, given_all, in_row}
 use Rattle.ql_write.specs.Canonical.{pieces, canonical_text, item, where_pieces, group_pieces, within_pieces, having_pieces, ordered, limit_pieces, option_pieces, facet, select_pieces}
 use Rattle.ql_write.specs.steps.Writing.{Keeps, Appended, Appends, with_spaces, with_space, head_pieces, groups_pieces, tail_pieces}

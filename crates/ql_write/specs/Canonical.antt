@@ -2,36 +2,36 @@
 use Rattle.std.specs.Prelude.{ℕ, Bool, true, false, List, [], ◌∷◌, ◌++◌}
 use Rattle.ql_lex.specs.declared.token.Sign.TheVariants as signs
 use Rattle.ql_grammar.specs.declared.keyword.Keyword.TheVariants as keywords
-use Rattle.ql_grammar.specs.declared.select.Cond.{Cond}
-use Rattle.ql_grammar.specs.declared.select.Cond.TheVariants as conds
-use Rattle.ql_grammar.specs.declared.select.FacetPart.{FacetPart}
-use Rattle.ql_grammar.specs.declared.select.Having.{Having}
-use Rattle.ql_grammar.specs.declared.select.LimitPart.{LimitPart}
-use Rattle.ql_grammar.specs.declared.select.OptionValue.{OptionValue}
-use Rattle.ql_grammar.specs.declared.select.OptionValue.TheVariants as values
-use Rattle.ql_grammar.specs.declared.select.Select.{Select}
-use Rattle.ql_grammar.specs.declared.select.SelectExpr.{SelectExpr}
-use Rattle.ql_grammar.specs.declared.select.SelectExpr.TheVariants as exprs
-use Rattle.ql_grammar.specs.declared.select.SelectItem.{SelectItem}
-use Rattle.ql_grammar.specs.declared.select.SelectItem.TheVariants as items
-use Rattle.ql_grammar.specs.declared.select.SelectOption.{SelectOption}
-use Rattle.ql_grammar.specs.declared.select.SortKey.{SortKey}
-use Rattle.ql_grammar.specs.declared.select.SortName.{SortName}
-use Rattle.ql_grammar.specs.declared.select.SortName.TheVariants as sorts
-use Rattle.ql_grammar.specs.declared.statement.Ids.{Ids}
-use Rattle.ql_grammar.specs.declared.statement.Ids.TheVariants as ids
-use Rattle.ql_grammar.specs.declared.statement.Plain.{Plain}
-use Rattle.ql_grammar.specs.declared.statement.Plain.TheVariants as plains
-use Rattle.ql_grammar.specs.declared.statement.Scope.{Scope}
-use Rattle.ql_grammar.specs.declared.statement.Scope.TheVariants as scopes
-use Rattle.ql_grammar.specs.declared.statement.SetValue.{SetValue}
-use Rattle.ql_grammar.specs.declared.statement.SetValue.TheVariants as settings
-use Rattle.ql_grammar.specs.declared.statement.Statement.{Statement}
-use Rattle.ql_grammar.specs.declared.statement.Statement.TheVariants as statements
-use Rattle.ql_grammar.specs.declared.statement.Target.{Target}
-use Rattle.ql_grammar.specs.declared.statement.Target.TheVariants as targets
-use Rattle.ql_grammar.specs.declared.statement.Val.{Val}
-use Rattle.ql_grammar.specs.declared.statement.Val.TheVariants as vals
+use Rattle.ql_tree.specs.declared.select.Cond.{Cond}
+use Rattle.ql_tree.specs.declared.select.Cond.TheVariants as conds
+use Rattle.ql_tree.specs.declared.select.FacetPart.{FacetPart}
+use Rattle.ql_tree.specs.declared.select.Having.{Having}
+use Rattle.ql_tree.specs.declared.select.LimitPart.{LimitPart}
+use Rattle.ql_tree.specs.declared.select.OptionValue.{OptionValue}
+use Rattle.ql_tree.specs.declared.select.OptionValue.TheVariants as values
+use Rattle.ql_tree.specs.declared.select.Select.{Select}
+use Rattle.ql_tree.specs.declared.select.SelectExpr.{SelectExpr}
+use Rattle.ql_tree.specs.declared.select.SelectExpr.TheVariants as exprs
+use Rattle.ql_tree.specs.declared.select.SelectItem.{SelectItem}
+use Rattle.ql_tree.specs.declared.select.SelectItem.TheVariants as items
+use Rattle.ql_tree.specs.declared.select.SelectOption.{SelectOption}
+use Rattle.ql_tree.specs.declared.select.SortKey.{SortKey}
+use Rattle.ql_tree.specs.declared.select.SortName.{SortName}
+use Rattle.ql_tree.specs.declared.select.SortName.TheVariants as sorts
+use Rattle.ql_tree.specs.declared.statement.Ids.{Ids}
+use Rattle.ql_tree.specs.declared.statement.Ids.TheVariants as ids
+use Rattle.ql_tree.specs.declared.statement.Plain.{Plain}
+use Rattle.ql_tree.specs.declared.statement.Plain.TheVariants as plains
+use Rattle.ql_tree.specs.declared.statement.Scope.{Scope}
+use Rattle.ql_tree.specs.declared.statement.Scope.TheVariants as scopes
+use Rattle.ql_tree.specs.declared.statement.SetValue.{SetValue}
+use Rattle.ql_tree.specs.declared.statement.SetValue.TheVariants as settings
+use Rattle.ql_tree.specs.declared.statement.Statement.{Statement}
+use Rattle.ql_tree.specs.declared.statement.Statement.TheVariants as statements
+use Rattle.ql_tree.specs.declared.statement.Target.{Target}
+use Rattle.ql_tree.specs.declared.statement.Target.TheVariants as targets
+use Rattle.ql_tree.specs.declared.statement.Val.{Val}
+use Rattle.ql_tree.specs.declared.statement.Val.TheVariants as vals
 use Rattle.ql_grammar.specs.Selects.{comparison_sign}
 use Rattle.ql_write.specs.Pieces.{Piece, keyword, sign, name, number, text, variable, whole, listed, with_commas, in_parentheses, given, given_all, in_row, name_piece, number_piece, written}
 

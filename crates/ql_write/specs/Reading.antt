@@ -2,7 +2,7 @@
 use Rattle.std.specs.Prelude.{List, [], ◌∷◌, ℕ, All}
 use Rattle.ql_lex.specs.Shapes.{IsLexeme}
 use Rattle.ql_lex.specs.Tokens.{Lexeme, AreTokens}
-use Rattle.ql_grammar.specs.declared.statement.Statement.{Statement}
+use Rattle.ql_tree.specs.declared.statement.Statement.{Statement}
 use Rattle.ql_grammar.specs.Packets.{IsPacket}
 use Rattle.ql_grammar.specs.Statements.{IsStatement}
 

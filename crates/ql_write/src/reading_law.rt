@@ -2,7 +2,7 @@
 //! but call the laws on tokens that they rest on; their contracts are the laws.
 ghost use Rattle.std.specs.Prelude.{ℕ, List, [], ◌∷◌, All};
 ghost use Rattle.ql_lex.specs.Tokens.{Lexeme, AreTokens, AreLexemes};
-ghost use Rattle.ql_grammar.specs.declared.statement.Statement.{Statement as StatementValue};
+ghost use Rattle.ql_tree.specs.declared.statement.Statement.{Statement as StatementValue};
 ghost use Rattle.ql_grammar.specs.Packets.{IsPacket};
 ghost use Rattle.ql_write.specs.Canonical.{canonical_text};
 ghost use Rattle.ql_write.specs.Reading.{IsValue, ReadsAs};

@@ -2,14 +2,15 @@
 
 ghost use Rattle.std.specs.Prelude.{◌≡◌, ◌++◌, ◌∷◌, []};
 ghost use Rattle.ql_grammar.specs.declared.keyword.Keyword.TheVariants as keywords;
-ghost use Rattle.ql_grammar.specs.declared.select.SelectExpr.TheVariants as exprs;
+ghost use Rattle.ql_tree.specs.declared.select.SelectExpr.TheVariants as exprs;
 ghost use Rattle.ql_write.specs.Pieces.{given, in_parentheses, name, keyword};
 ghost use Rattle.ql_write.specs.Canonical.{count_all, expr, alias_pieces};
 ghost use Rattle.ql_write.specs.steps.Writing.{Appends};
 
 use crate::writing::{Token, put_all, put_one};
 use crate::written::Written;
-use ql_grammar::{Keyword, SelectExpr, SelectItem};
+use ql_grammar::Keyword;
+use ql_tree::{SelectExpr, SelectItem};
 use ql_lex::Sign;
 use srch_base::{Name, NoMemory};
 

@@ -3,7 +3,7 @@
 
 ghost use Rattle.std.specs.Prelude.{◌≡◌, ◌++◌, ◌∷◌, []};
 ghost use Rattle.ql_grammar.specs.declared.keyword.Keyword.TheVariants as keywords;
-ghost use Rattle.ql_grammar.specs.declared.select.Cond.TheVariants as conds;
+ghost use Rattle.ql_tree.specs.declared.select.Cond.TheVariants as conds;
 ghost use Rattle.ql_write.specs.Pieces.{keyword, name, text, in_parentheses, given, given_all};
 ghost use Rattle.ql_write.specs.Canonical.{negation, cond, direction, ordered, facet_order, where_pieces, group_pieces, within_pieces, option_pieces};
 ghost use Rattle.ql_write.specs.steps.Writing.{Appends, head_pieces, groups_pieces, tail_pieces};
@@ -12,10 +12,8 @@ ghost use Rattle.ql_grammar.specs.Selects.{comparison_sign as sign_of};
 use crate::writing::{Token, put_all, put_one};
 use crate::written::{Written, put_enclosed, put_given, put_in_row, put_listed, put_with_commas};
 use crate::written_items::{put_call, put_count};
-use ql_grammar::{
-    Comparison, Cond, FacetPart, Having, Keyword, LimitPart, OptionValue, Select, SelectOption,
-    SortKey, SortName,
-};
+use ql_grammar::Keyword;
+use ql_tree::{Comparison, Cond, FacetPart, Having, LimitPart, OptionValue, Select, SelectOption, SortKey, SortName};
 use ql_lex::Sign;
 use srch_base::{Name, NoMemory, Text};
 

@@ -2,14 +2,15 @@
 
 ghost use Rattle.std.specs.Prelude.{◌≡◌, ◌++◌, ◌∷◌, [], OnOk, OnErr};
 ghost use Rattle.ql_grammar.specs.declared.keyword.Keyword.TheVariants as keywords;
-ghost use Rattle.ql_grammar.specs.declared.statement.Statement.TheVariants as statements;
+ghost use Rattle.ql_tree.specs.declared.statement.Statement.TheVariants as statements;
 ghost use Rattle.ql_write.specs.Pieces.{keyword, name, given, with_commas};
 ghost use Rattle.ql_write.specs.Canonical.{columns_pieces, scope as scope_of, row, put_word as put_keyword, pieces, canonical_text};
 ghost use Rattle.ql_write.specs.steps.Writing.{Appends};
 
 use crate::writing::{Token, put_all, put_one};
 use crate::written::{Written, put_enclosed, put_with_commas};
-use ql_grammar::{Ids, Keyword, Plain, Scope, SetValue, Statement, Target, Val};
+use ql_grammar::Keyword;
+use ql_tree::{Ids, Plain, Scope, SetValue, Statement, Target, Val};
 use ql_lex::Sign;
 use srch_base::{Items, Name, NoMemory};
 

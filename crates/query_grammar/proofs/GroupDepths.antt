@@ -2,8 +2,8 @@
 use Rattle.std.proofs.Common.{ℕ, zero, suc, ◌≤◌, List, Option, arith}
 use Rattle.query_marks.specs.declared.mark.Mark.{Mark}
 use Rattle.token_grammar.specs.Values.{◌then◌, AreInRow}
-use Rattle.query_grammar.specs.declared.query.Node.{Node}
-use Rattle.query_grammar.specs.declared.query.Item.{Item}
+use Rattle.query_tree.specs.declared.query.Node.{Node}
+use Rattle.query_tree.specs.declared.query.Item.{Item}
 use Rattle.query_grammar.specs.Grammar.{IsItem, Section, IsAnd, IsOrder, IsAndNode, IsExpr, IsGroup}
 use Rattle.query_grammar.specs.QueryFaults.{Any}
 use Rattle.query_grammar.proofs.PartsWithin.{IsInherited, row_within, items_within, and_within}

@@ -17,7 +17,6 @@ pub mod MarkOrder
 pub mod MarkPlaces
 pub mod MarkSigns
 pub mod NegatedItems
-pub mod NodeKeys
 pub mod OneAnswer
 pub mod OneFault
 pub mod OneWord

@@ -13,9 +13,9 @@ use Rattle.query_pieces.specs.Pieces.{Splits, ArePieces, ends_in_letter}
 use Rattle.query_pieces.specs.steps.Ends.{Follows}
 use Rattle.query_pieces.proofs.EachPiece.{piece_follows}
 use Rattle.query_marks.specs.declared.fault.Wrong.{Wrong}
-use Rattle.query_marks.specs.declared.key.Key.{Key}
-use Rattle.query_marks.specs.declared.key.How.{How}
-use Rattle.query_marks.specs.declared.key.How.TheVariants as hows
+use Rattle.query_tree.specs.declared.key.Key.{Key}
+use Rattle.query_tree.specs.declared.key.How.{How}
+use Rattle.query_tree.specs.declared.key.How.TheVariants as hows
 use Rattle.query_marks.specs.declared.mark.Mark.{Mark}
 use Rattle.query_marks.specs.declared.mark.Sign.{Sign}
 use Rattle.query_marks.specs.declared.mark.Sign.TheVariants as signs

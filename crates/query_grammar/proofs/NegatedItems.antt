@@ -7,8 +7,8 @@ use Rattle.token_grammar.specs.Values.{AreInRow}
 use Rattle.token_grammar.proofs.Bools.{or_first}
 use Rattle.query_marks.specs.declared.mark.Mark.{Mark}
 use Rattle.query_marks.specs.declared.mark.Sign.TheVariants as signs
-use Rattle.query_grammar.specs.declared.query.Item.{Item}
-use Rattle.query_grammar.specs.declared.query.Node.{Node}
+use Rattle.query_tree.specs.declared.query.Item.{Item}
+use Rattle.query_tree.specs.declared.query.Node.{Node}
 use Rattle.query_grammar.specs.Grammar.{Section, IsItem, IsLimit, IsSection, IsAnd, items_of, all_items, has_item}
 use Rattle.query_grammar.specs.QueryFaults.{IsAnyLimit, FirstItem}
 use Rattle.query_grammar.proofs.MarkPlaces.{none_contained, first_contained, contained_later, contained_cases}

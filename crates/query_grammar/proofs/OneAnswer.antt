@@ -9,8 +9,8 @@ use Rattle.query_marks.specs.declared.mark.Mark.{Mark}
 use Rattle.query_marks.specs.declared.mark.Sign.TheVariants as signs
 use Rattle.query_marks.specs.Marks.{Setting, marks_of}
 use Rattle.query_grammar.specs.declared.fault.QueryFault.{QueryFault}
-use Rattle.query_grammar.specs.declared.query.Node.{Node}
-use Rattle.query_grammar.specs.declared.query.Query.{Query}
+use Rattle.query_tree.specs.declared.query.Node.{Node}
+use Rattle.query_tree.specs.declared.query.Query.{Query}
 use Rattle.query_grammar.specs.Grammar.{Is, IsGroup, IsExpr, IsQuery}
 use Rattle.query_grammar.specs.QueryFaults.{Any, Told}
 use Rattle.query_grammar.specs.Queries.{told_of, IsRoot, IsValue, IsRefused}

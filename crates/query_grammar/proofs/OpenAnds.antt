@@ -2,7 +2,7 @@
 use Rattle.std.proofs.Common.{ℕ, zero, suc, List, Option}
 use Rattle.query_marks.specs.declared.mark.Mark.{Mark}
 use Rattle.token_grammar.specs.Values.{◌then◌}
-use Rattle.query_grammar.specs.declared.query.Node.{Node}
+use Rattle.query_tree.specs.declared.query.Node.{Node}
 use Rattle.query_grammar.specs.Grammar.{Section, IsOrder, IsAndNode, IsExpr, IsGroup, IsQuery, IsOpenAnd}
 use Rattle.query_grammar.specs.QueryFaults.{Any}
 use Rattle.query_grammar.proofs.GroupDepths.{row_to, and_to}

@@ -3,8 +3,8 @@
 use Rattle.std.proofs.Common.{◌≡◌, Bool, true, false, List, [], ◌∷◌, ◌++◌, inl, inr, subst}
 use Rattle.query_marks.specs.declared.mark.Mark.{Mark}
 use Rattle.token_grammar.specs.Values.{AreInRow}
-use Rattle.query_grammar.specs.declared.query.Node.{Node}
-use Rattle.query_grammar.specs.declared.query.Item.{Item}
+use Rattle.query_tree.specs.declared.query.Node.{Node}
+use Rattle.query_tree.specs.declared.query.Item.{Item}
 use Rattle.query_grammar.specs.Grammar.{IsJoin, IsChoice, IsItem, Section, IsSection, IsAnd}
 
 pub record IsInherited (Holds : List Mark → Type 0) : Type 0 where

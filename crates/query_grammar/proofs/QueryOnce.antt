@@ -11,8 +11,8 @@ use Rattle.query_marks.specs.declared.mark.Sign.{Sign}
 use Rattle.query_marks.specs.declared.mark.Sign.TheVariants as signs
 use Rattle.query_grammar.specs.declared.class.Class.{Class}
 use Rattle.query_grammar.specs.declared.class.Class.TheVariants as classes
-use Rattle.query_grammar.specs.declared.query.Node.{Node}
-use Rattle.query_grammar.specs.declared.query.Node.TheVariants as nodes
+use Rattle.query_tree.specs.declared.query.Node.{Node}
+use Rattle.query_tree.specs.declared.query.Node.TheVariants as nodes
 use Rattle.query_grammar.specs.Grammar.{Is, IsLeaf, IsLoose, joined, IsJoin, IsAlt, IsItem, IsLimit, IsSection, IsAndNode, IsExpr, IsGroup, IsQuery}
 use Rattle.query_grammar.specs.QueryFaults.{Any}
 use Rattle.query_grammar.specs.steps.Classes.{class_of}

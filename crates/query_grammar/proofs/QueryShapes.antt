@@ -4,15 +4,15 @@ use Rattle.std.proofs.Common.{◌≡◌, ℕ, List, [], ◌∷◌, ◌++◌, Boo
 use Rattle.std.specs.Prelude.{◌≢◌}
 use Rattle.token_grammar.specs.Values.{◌then◌, IsOne, AreInRow}
 use Rattle.token_grammar.proofs.Agreement.{IsEither}
-use Rattle.query_marks.specs.declared.key.Key.{Key}
-use Rattle.query_marks.specs.declared.key.How.{How}
-use Rattle.query_marks.specs.declared.key.How.TheVariants as hows
+use Rattle.query_tree.specs.declared.key.Key.{Key}
+use Rattle.query_tree.specs.declared.key.How.{How}
+use Rattle.query_tree.specs.declared.key.How.TheVariants as hows
 use Rattle.query_marks.specs.declared.mark.Mark.{Mark}
 use Rattle.query_marks.specs.declared.mark.Sign.TheVariants as signs
 use Rattle.query_grammar.specs.declared.class.Class.TheVariants as classes
-use Rattle.query_grammar.specs.declared.query.Item.{Item}
-use Rattle.query_grammar.specs.declared.query.Node.{Node}
-use Rattle.query_grammar.specs.declared.query.Node.TheVariants as nodes
+use Rattle.query_tree.specs.declared.query.Item.{Item}
+use Rattle.query_tree.specs.declared.query.Node.{Node}
+use Rattle.query_tree.specs.declared.query.Node.TheVariants as nodes
 use Rattle.query_grammar.specs.Grammar.{Section, Is, IsLeaf, IsLoose, AreJoined, IsJoin, IsChoice, chosen, IsAlt, IsItem, IsLimit, last_of, IsSection, node_of, all_items, IsOrder, ordered, IsAndNode, IsExpr}
 use Rattle.query_grammar.specs.QueryFaults.{Any}
 use Rattle.query_grammar.specs.steps.Classes.{fits}

@@ -6,7 +6,7 @@ use Rattle.token_grammar.proofs.Bools.{and_second}
 use Rattle.token_grammar.proofs.Verdicts.{Leaving, verdict_none, verdict_some}
 use Rattle.query_marks.specs.declared.mark.Mark.{Mark}
 use Rattle.query_grammar.specs.declared.class.Class.TheVariants as classes
-use Rattle.query_grammar.specs.declared.query.Node.{Node}
+use Rattle.query_tree.specs.declared.query.Node.{Node}
 use Rattle.query_grammar.specs.Grammar.{IsQuery}
 use Rattle.query_grammar.specs.QueryFaults.{Any, Stops, IsRead}
 use Rattle.query_grammar.specs.steps.Classes.{fits, is_ended}

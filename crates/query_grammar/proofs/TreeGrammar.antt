@@ -5,9 +5,9 @@ use Rattle.std.proofs.lemmas.List.{append-nil}
 use Rattle.token_grammar.specs.Values.{◌then◌, AreInRow}
 use Rattle.token_grammar.proofs.Lists.{row_last}
 use Rattle.query_marks.specs.declared.mark.Mark.{Mark}
-use Rattle.query_grammar.specs.declared.query.Item.{Item}
-use Rattle.query_grammar.specs.declared.query.Node.{Node}
-use Rattle.query_grammar.specs.declared.query.Node.TheVariants as nodes
+use Rattle.query_tree.specs.declared.query.Item.{Item}
+use Rattle.query_tree.specs.declared.query.Node.{Node}
+use Rattle.query_tree.specs.declared.query.Node.TheVariants as nodes
 use Rattle.query_grammar.specs.Grammar.{Is, IsLeaf, IsJoin, IsChoice, chosen, IsAlt, IsItem, Section, IsLimit, last_of, IsSection, node_of, items_of, all_items, IsAnd, has_item, IsOpenAnd, IsOrder, ordered, IsAndNode, IsExpr}
 use Rattle.query_grammar.specs.Grammar as grammar
 

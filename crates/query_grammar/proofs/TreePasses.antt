@@ -2,8 +2,8 @@
 use Rattle.std.proofs.Common.{arith, ◌≤◌, ℕ, zero, suc, List, [], ◌∷◌, Bool, true, false, Option, inl, inr}
 use Rattle.token_grammar.specs.Values.{◌then◌, AreInRow}
 use Rattle.query_marks.specs.declared.mark.Mark.{Mark}
-use Rattle.query_grammar.specs.declared.query.Item.{Item}
-use Rattle.query_grammar.specs.declared.query.Node.{Node}
+use Rattle.query_tree.specs.declared.query.Item.{Item}
+use Rattle.query_tree.specs.declared.query.Node.{Node}
 use Rattle.query_grammar.specs.Grammar.{IsJoin, IsChoice, IsAlt, IsItem, Section, IsSection, IsAnd, IsOrder, IsAndNode, IsExpr, IsGroup, IsQuery}
 
 row_map : {A : Type 0} (P Q : A → List Mark → Type 0) → ((x : A) (u : List Mark) → P x u → Q x u) → (xs : List A) (u : List Mark) → AreInRow P xs u → AreInRow Q xs u

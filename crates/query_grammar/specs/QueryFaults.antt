@@ -1,8 +1,8 @@
 -- The first fault of a text, by place, and at one place by the order of the kinds.
 use Rattle.std.specs.Prelude.{◌≡◌, ◌≢◌, ◌⊎◌, ◌<◌, ◌≤◌, ℕ, List, [], ◌∷◌, ◌++◌, true, false, Some, None, Contains}
 use Rattle.token_grammar.specs.Values.{Begins}
-use Rattle.query_grammar.specs.declared.query.Node.{Node}
-use Rattle.query_grammar.specs.declared.query.Item.{Item}
+use Rattle.query_tree.specs.declared.query.Node.{Node}
+use Rattle.query_tree.specs.declared.query.Item.{Item}
 use Rattle.query_marks.specs.declared.fault.QueryKind.{QueryKind}
 use Rattle.query_marks.specs.declared.fault.QueryKind.TheVariants as kinds
 use Rattle.query_marks.specs.declared.mark.Mark.{Mark}

@@ -5,7 +5,7 @@ ghost use Rattle.query_pieces.specs.declared.piece.Piece.{Piece};
 ghost use Rattle.query_pieces.specs.Pieces.{ArePieces};
 ghost use Rattle.query_marks.specs.Marks.{Setting, marks_of};
 ghost use Rattle.query_grammar.specs.declared.fault.QueryFault.{QueryFault as Fault};
-ghost use Rattle.query_grammar.specs.declared.query.Query.{Query as QueryValue};
+ghost use Rattle.query_tree.specs.declared.query.Query.{Query as QueryValue};
 ghost use Rattle.query_grammar.specs.Queries.{IsRefused, IsValue};
 
 /// A text is one query at most.

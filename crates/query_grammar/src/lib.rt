@@ -5,9 +5,7 @@
 mod class;
 mod fault;
 mod law;
-mod query;
 
 pub use class::Class;
 pub use fault::QueryFault;
 pub use law::{a_query_has_no_fault, a_text_has_one_first_fault, a_text_is_one_query};
-pub use query::{Item, Node, Query};

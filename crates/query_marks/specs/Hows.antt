@@ -2,8 +2,8 @@
 use Rattle.std.specs.Prelude.{ℕ, List, Bool, false, ◌==◌, nat_le, if◌then◌else◌, length}
 use Rattle.query_pieces.specs.declared.piece.Number.{Number}
 use Rattle.query_pieces.specs.declared.piece.Number.TheVariants as numbers
-use Rattle.query_marks.specs.declared.key.How.{How}
-use Rattle.query_marks.specs.declared.key.How.TheVariants as hows
+use Rattle.query_tree.specs.declared.key.How.{How}
+use Rattle.query_tree.specs.declared.key.How.TheVariants as hows
 use Rattle.query_marks.specs.LimitNames.{bytes_of, number_of}
 
 -- the share that decimals write, and 0 for more than four decimals

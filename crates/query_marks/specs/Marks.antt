@@ -12,10 +12,10 @@ use Rattle.query_pieces.specs.declared.piece.ZoneLimit.{ZoneLimit}
 use Rattle.query_pieces.specs.declared.piece.Form.{Form}
 use Rattle.query_pieces.specs.declared.piece.Form.TheVariants as forms
 use Rattle.query_pieces.specs.declared.piece.Piece.{Piece}
-use Rattle.query_marks.specs.declared.key.Key.{Key}
-use Rattle.query_marks.specs.declared.key.Limit.{Limit}
-use Rattle.query_marks.specs.declared.key.How.{How}
-use Rattle.query_marks.specs.declared.key.How.TheVariants as hows
+use Rattle.query_tree.specs.declared.key.Key.{Key}
+use Rattle.query_tree.specs.declared.key.Limit.{Limit}
+use Rattle.query_tree.specs.declared.key.How.{How}
+use Rattle.query_tree.specs.declared.key.How.TheVariants as hows
 use Rattle.query_marks.specs.declared.fault.QueryKind.{QueryKind}
 use Rattle.query_marks.specs.declared.fault.QueryKind.TheVariants as kinds
 use Rattle.query_marks.specs.declared.fault.Wrong.{Wrong}

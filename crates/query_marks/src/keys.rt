@@ -3,7 +3,6 @@ ghost use Rattle.std.specs.Prelude.{◌≡◌, ◌≢◌, ◌≤◌, ◌<◌, �
 ghost use Rattle.query_marks.specs.QueryWords.{has_letters, runs_in, word_of};
 ghost use Rattle.query_marks.specs.Marks.{zone_numbers, limit_of as limit_in, keys_after, nobody as nobody_key, nobodies as nobody_keys, keys_of};
 
-use crate::key::{Key, Limit};
 use crate::limits::Limits;
 use crate::names::numbers_of;
 use crate::slices::bytes_of;
@@ -11,6 +10,7 @@ use crate::state::State;
 use crate::steps::has_room;
 use crate::words::{after_run, count_words, run_len, word};
 use query_pieces::Slice;
+use query_tree::{Key, Limit};
 use sqlite_items::Items;
 use srch_base::{Name, NoMemory, Word};
 use std::alloc::Global;

@@ -3,7 +3,6 @@
 
 mod fault;
 mod faulty;
-mod key;
 mod keys;
 mod limits;
 mod mark;
@@ -18,7 +17,6 @@ mod steps;
 mod words;
 
 pub use fault::{QueryKind, Wrong};
-pub use key::{How, Key, Limit};
 pub use limits::Limits;
 pub use mark::{Mark, Sign};
 pub use reading::marks;

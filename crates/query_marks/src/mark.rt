@@ -1,6 +1,6 @@
 //! Marks: what the grammar sees of a text.
 use crate::fault::Wrong;
-use crate::key::{How, Key};
+use query_tree::{How, Key};
 use sqlite_items::{Boxed, Items};
 
 /// What a piece is to the grammar.

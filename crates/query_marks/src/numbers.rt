@@ -5,9 +5,9 @@ ghost use Rattle.std.specs.List.{list_all};
 ghost use Rattle.query_marks.specs.LimitNames.{small_value, number_of as number_in};
 ghost use Rattle.query_marks.specs.Hows.{share_of as share_in, how_of as how_in, is_out as is_out_of_range};
 
-use crate::key::How;
 use crate::slices::bytes_of;
 use query_pieces::Number;
+use query_tree::How;
 
 /// Whether all bytes are digits.
 fn are_digits(bytes: &[u8]) -> bool

@@ -2,11 +2,11 @@
 ghost use Rattle.std.specs.Prelude.{◌≡◌, ◌<◌, ◌^◌, IfOk, length};
 ghost use Rattle.query_marks.specs.Marks.{word_sign as sign_of_word, phrase_sign as sign_of_phrase, loose_sign as sign_of_loose, quoted_sign as sign_of_quoted, zone_sign as sign_of_zones};
 
-use crate::key::{How, Key};
 use crate::mark::Sign;
 use crate::names::numbers_of;
 use crate::slices::bytes_of;
 use query_pieces::ZoneLimit;
+use query_tree::{How, Key};
 use sqlite_items::{Boxed, Items};
 use srch_base::{Name, NoMemory};
 use std::alloc::Global;

@@ -1,10 +1,11 @@
 //! What texts are read by: the schema of an index, which a configuration describes, and a character table.
 ghost use Rattle.std.specs.Prelude.{IfOk};
-ghost use Rattle.conf_text.specs.Confs.{IsSound};
+ghost use Rattle.index_conf.specs.Soundness.{IsSound};
 
 use crate::spelling::written_out;
 use charset_map::Charset;
-use conf_text::{Conf, read_conf};
+use conf_text::read_conf;
+use index_conf::Conf;
 use std::alloc::Global;
 use std::test::Fail;
 

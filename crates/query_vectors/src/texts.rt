@@ -1,5 +1,5 @@
 //! Runs over texts and what they are, as docs/cases/extended_queries.md tells them.
-ghost use Rattle.conf_text.specs.Confs.{IsSound};
+ghost use Rattle.index_conf.specs.Soundness.{IsSound};
 ghost use Rattle.doc_types.specs.Schemas.{IsSchema};
 
 use crate::cases::{NUMBERS, TREES};
@@ -7,7 +7,7 @@ use crate::numbering::numbered;
 use crate::settings::{charset_of, conf_of};
 use crate::spelling::written_out;
 use charset_map::Charset;
-use conf_text::Conf;
+use index_conf::Conf;
 use doc_types::Schema;
 use ext_query::{Query, QueryFault, QueryKind, put_query, read_query};
 use srch_base::Or;

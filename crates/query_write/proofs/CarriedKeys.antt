@@ -7,10 +7,10 @@ use Rattle.std.proofs.lemmas.List.Elements.{All-nil, All-cons, All-head, All-tai
 use Rattle.doc_types.specs.declared.schema.Schema.{Schema}
 use Rattle.query_marks.specs.declared.fault.QueryKind.TheVariants as kinds
 use Rattle.query_marks.specs.declared.fault.Wrong.{Wrong}
-use Rattle.query_marks.specs.declared.key.Key.{Key}
-use Rattle.query_marks.specs.declared.key.Limit.{Limit}
-use Rattle.query_marks.specs.declared.key.How.{How}
-use Rattle.query_marks.specs.declared.key.How.TheVariants as hows
+use Rattle.query_tree.specs.declared.key.Key.{Key}
+use Rattle.query_tree.specs.declared.key.Limit.{Limit}
+use Rattle.query_tree.specs.declared.key.How.{How}
+use Rattle.query_tree.specs.declared.key.How.TheVariants as hows
 use Rattle.query_marks.specs.declared.mark.Sign.{Sign}
 use Rattle.query_marks.specs.Hows.{is_out}
 use Rattle.query_marks.specs.Marks.{nameless, keys_after, nobody, nobodies, keys_of, passes_limit, counted, word_sign, quoted_sign, wrong_count, wrong_quoted}

@@ -15,7 +15,7 @@ use Rattle.query_pieces.specs.declared.piece.Piece.{Piece}
 use Rattle.query_marks.specs.declared.fault.QueryKind.{QueryKind}
 use Rattle.query_marks.specs.declared.fault.QueryKind.TheVariants as kinds
 use Rattle.query_marks.specs.declared.fault.Wrong.{Wrong}
-use Rattle.query_marks.specs.declared.key.Limit.{Limit}
+use Rattle.query_tree.specs.declared.key.Limit.{Limit}
 use Rattle.query_marks.specs.declared.limits.Limits.{Limits}
 use Rattle.query_marks.specs.declared.mark.Mark.{Mark}
 use Rattle.query_marks.specs.declared.mark.Sign.{Sign}

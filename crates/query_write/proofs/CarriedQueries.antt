@@ -3,12 +3,12 @@ use Rattle.std.proofs.Common.{arith, ◌≡◌, ◌≤◌, ◌+◌, ℕ, zero, s
 use Rattle.std.specs.Prelude.{◌≢◌, ◌⊎◌, IsTrue}
 use Rattle.token_grammar.specs.Values.{◌then◌, IsOne, AreInRow}
 use Rattle.doc_types.specs.declared.schema.Schema.{Schema}
-use Rattle.query_marks.specs.declared.key.Limit.{Limit}
+use Rattle.query_tree.specs.declared.key.Limit.{Limit}
 use Rattle.query_marks.specs.declared.mark.Mark.{Mark}
 use Rattle.query_marks.specs.declared.mark.Sign.TheVariants as signs
-use Rattle.query_grammar.specs.declared.query.Item.{Item}
-use Rattle.query_grammar.specs.declared.query.Node.{Node}
-use Rattle.query_grammar.specs.declared.query.Node.TheVariants as nodes
+use Rattle.query_tree.specs.declared.query.Item.{Item}
+use Rattle.query_tree.specs.declared.query.Node.{Node}
+use Rattle.query_tree.specs.declared.query.Node.TheVariants as nodes
 use Rattle.query_grammar.specs.Grammar.{Is, IsItem, Section, IsLimit, last_of, IsSection, node_of, items_of, all_items, IsAnd, has_item, IsOpenAnd, IsOrder, ordered, IsAndNode, IsExpr, IsGroup, IsQuery}
 use Rattle.query_write.specs.steps.TokenRun.{AreRightZones}
 use Rattle.query_write.specs.steps.Writable.{IsRightLimit, IsWritable, AreWritable, of_items, of_before, of_near, of_span, no_items, more_items}

@@ -11,8 +11,8 @@ use Rattle.std.proofs.lemmas.Str.{digit_value_digit}
 use Rattle.query_pieces.specs.declared.piece.Slice.{Slice}
 use Rattle.query_pieces.specs.declared.piece.Number.{Number}
 use Rattle.query_pieces.specs.declared.piece.Number.TheVariants as numbers
-use Rattle.query_marks.specs.declared.key.How.{How}
-use Rattle.query_marks.specs.declared.key.How.TheVariants as hows
+use Rattle.query_tree.specs.declared.key.How.{How}
+use Rattle.query_tree.specs.declared.key.How.TheVariants as hows
 use Rattle.query_marks.specs.declared.fault.QueryKind.TheVariants as kinds
 use Rattle.query_marks.specs.LimitNames.{bytes_of, number_of, small_value}
 use Rattle.query_marks.specs.Hows.{share_of, how_of, is_out}

@@ -11,8 +11,8 @@ use Rattle.query_pieces.specs.declared.piece.Number.{Number}
 use Rattle.query_pieces.specs.declared.piece.Number.TheVariants as numbers
 use Rattle.query_pieces.specs.QueryBytes.{byte, spells, digits_end}
 use Rattle.query_pieces.specs.Operators.{slice, number_at}
-use Rattle.query_marks.specs.declared.key.How.{How}
-use Rattle.query_marks.specs.declared.key.How.TheVariants as hows
+use Rattle.query_tree.specs.declared.key.How.{How}
+use Rattle.query_tree.specs.declared.key.How.TheVariants as hows
 use Rattle.query_write.specs.Written.{padded, how_text}
 use Rattle.query_write.specs.steps.Signs.{IsHow, IsSmall, HasSmall}
 use Rattle.query_write.proofs.SpellPlaces.{IsRest, rest_past, rest_next, byte_first, slice_at, spells_is, begins, begins_apart}

@@ -11,8 +11,8 @@ use Rattle.query_pieces.specs.declared.piece.Piece.{Piece}
 use Rattle.query_pieces.specs.QueryBytes.{is_bound}
 use Rattle.query_pieces.specs.Operators.{slice, piece, NumberAt, number_at, quoted_at, quote_end, is_inside}
 use Rattle.query_pieces.specs.Pieces.{Stands}
-use Rattle.query_marks.specs.declared.key.Key.{Key}
-use Rattle.query_marks.specs.declared.key.How.{How}
+use Rattle.query_tree.specs.declared.key.Key.{Key}
+use Rattle.query_tree.specs.declared.key.How.{How}
 use Rattle.query_marks.specs.QueryWords.{words_in}
 use Rattle.query_marks.specs.LimitNames.{bytes_of}
 use Rattle.query_write.specs.Spelling.{stays, escape, spelled_from, spelled}

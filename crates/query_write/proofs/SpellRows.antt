@@ -9,7 +9,7 @@ use Rattle.query_pieces.specs.declared.piece.Piece.{Piece}
 use Rattle.query_pieces.specs.QueryBytes.{byte_before, is_bound, is_blank, opens_not}
 use Rattle.query_pieces.specs.Operators.{piece}
 use Rattle.query_pieces.specs.Pieces.{Splits, ArePieces, ends_in_letter}
-use Rattle.query_marks.specs.declared.key.Key.{Key}
+use Rattle.query_tree.specs.declared.key.Key.{Key}
 use Rattle.query_write.specs.Spelling.{is_plain, spelled}
 use Rattle.query_write.specs.Written.{WrittenToken, token_text, tokens_text}
 use Rattle.query_write.specs.steps.Signs.{ArePiecesOf, IsPlainWord, CanBeRead, follows, is_atom, is_closed, is_space, AreSpaced}

@@ -8,8 +8,8 @@ use Rattle.query_pieces.specs.declared.piece.Form.TheVariants as forms
 use Rattle.query_pieces.specs.QueryBytes.{byte_before, is_bound, is_blank, opens_not, is_zone_byte, begins_zone}
 use Rattle.query_pieces.specs.Operators.{slice, piece, zones_of}
 use Rattle.query_pieces.specs.Pieces.{Stands, ends_in_letter}
-use Rattle.query_marks.specs.declared.key.Key.{Key}
-use Rattle.query_marks.specs.declared.key.How.{How}
+use Rattle.query_tree.specs.declared.key.Key.{Key}
+use Rattle.query_tree.specs.declared.key.How.{How}
 use Rattle.query_marks.specs.QueryWords.{words_in}
 use Rattle.query_write.specs.Spelling.{stays, escape, spelled, spelled_from}
 use Rattle.query_write.specs.Written.{WrittenToken, key_text, token_text, listed, parted, zones_text, name_of, fields_text, positions_text}

@@ -7,18 +7,18 @@ use Rattle.std.proofs.lemmas.Bool.{and_from}
 use Rattle.std.proofs.lemmas.List.Elements.{All-nil, All-cons, All-head, All-tail}
 use Rattle.std.proofs.lemmas.Str.{chars-encodes}
 use Rattle.doc_types.specs.declared.schema.Schema.{Schema}
-use Rattle.query_marks.specs.declared.key.Key.{Key}
-use Rattle.query_marks.specs.declared.key.Limit.{Limit}
-use Rattle.query_marks.specs.declared.key.How.TheVariants as hows
-use Rattle.query_grammar.specs.declared.query.Item.{Item}
-use Rattle.query_grammar.specs.declared.query.Node.{Node}
-use Rattle.query_grammar.specs.declared.query.Node.TheVariants as nodes
-use Rattle.query_grammar.specs.DeepValues.{node_keys}
+use Rattle.query_tree.specs.declared.key.Key.{Key}
+use Rattle.query_tree.specs.declared.key.Limit.{Limit}
+use Rattle.query_tree.specs.declared.key.How.TheVariants as hows
+use Rattle.query_tree.specs.declared.query.Item.{Item}
+use Rattle.query_tree.specs.declared.query.Node.{Node}
+use Rattle.query_tree.specs.declared.query.Node.TheVariants as nodes
+use Rattle.query_tree.specs.TreeKeys.{node_keys}
 use Rattle.query_write.specs.steps.Signs.{IsPlainWord}
 use Rattle.query_write.specs.steps.Writable.{AreKeys, IsLeafOf, of_word, of_phrase, AreLeavesOf, one_leaf, more_leaves, IsWritable, AreWritable, of_leaf, of_loose, of_sentences, of_paragraphs, of_items, of_or, of_maybe, of_before, of_near, of_span, no_items, more_items}
 use Rattle.query_write.specs.steps.Carried.{every}
 use Rattle.query_write.proofs.CarriedMarks.{Each}
-use Rattle.query_grammar.proofs.NodeKeys.{keys_word, keys_quoted, keys_and, keys_or, keys_maybe, keys_before, keys_near, keys_sentence, keys_paragraph, keys_span}
+use Rattle.query_tree.proofs.NodeKeys.{keys_word, keys_quoted, keys_and, keys_or, keys_maybe, keys_before, keys_near, keys_sentence, keys_paragraph, keys_span}
 
 each_split : {X : Type 0} (P : X → Type 0) (a b : List X) → Each P (a ++ b) → Each P a × Each P b
 each_split P [] b h = (tt, h)

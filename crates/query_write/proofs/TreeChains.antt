@@ -3,10 +3,10 @@ use Rattle.std.proofs.Common.{arith, ◌≡◌, ◌≤◌, ℕ, zero, suc, List,
 use Rattle.std.specs.Prelude.{◌≢◌}
 use Rattle.token_grammar.specs.Values.{◌then◌, AreInRow}
 use Rattle.doc_types.specs.declared.schema.Schema.{Schema}
-use Rattle.query_marks.specs.declared.key.Limit.{Limit}
+use Rattle.query_tree.specs.declared.key.Limit.{Limit}
 use Rattle.query_marks.specs.declared.mark.Mark.{Mark}
 use Rattle.query_marks.specs.declared.mark.Sign.{Sign}
-use Rattle.query_grammar.specs.declared.query.Node.{Node}
+use Rattle.query_tree.specs.declared.query.Node.{Node}
 use Rattle.query_grammar.specs.Grammar.{Is, IsLeaf, IsJoin, AreJoined}
 use Rattle.query_grammar.specs.Grammar as grammar
 use Rattle.query_write.specs.Written.{WrittenToken, Space, Open, Close, Line, Part, part_of, joined, is_choice, is_order, enclosed}

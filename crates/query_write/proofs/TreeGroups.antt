@@ -4,7 +4,7 @@ use Rattle.token_grammar.specs.Values.{◌then◌}
 use Rattle.doc_types.specs.declared.schema.Schema.{Schema}
 use Rattle.query_marks.specs.declared.mark.Mark.{Mark}
 use Rattle.query_marks.specs.declared.mark.Sign.TheVariants as signs
-use Rattle.query_grammar.specs.declared.query.Node.{Node}
+use Rattle.query_tree.specs.declared.query.Node.{Node}
 use Rattle.query_grammar.specs.Grammar.{Is, IsJoin, IsAlt, IsOpenAnd, IsExpr, IsGroup}
 use Rattle.query_write.specs.Written.{WrittenToken, Space, Open, Close, Part, Choice, Order, part, part_of, whole, left, is_choice, is_order, all_fields}
 use Rattle.query_write.specs.steps.TokenRun.{Ambient, standing, spanless}

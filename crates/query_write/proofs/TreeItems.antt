@@ -7,9 +7,9 @@ use Rattle.token_grammar.specs.Values.{◌then◌, IsAbsent, AreInRow}
 use Rattle.doc_types.specs.declared.schema.Schema.{Schema}
 use Rattle.query_marks.specs.declared.mark.Mark.{Mark}
 use Rattle.query_marks.specs.declared.mark.Sign.TheVariants as signs
-use Rattle.query_grammar.specs.declared.query.Item.{Item}
-use Rattle.query_grammar.specs.declared.query.Node.{Node}
-use Rattle.query_grammar.specs.declared.query.Node.TheVariants as nodes
+use Rattle.query_tree.specs.declared.query.Item.{Item}
+use Rattle.query_tree.specs.declared.query.Node.{Node}
+use Rattle.query_tree.specs.declared.query.Node.TheVariants as nodes
 use Rattle.query_grammar.specs.Grammar.{IsJoin, IsItem, IsLimit, node_of, has_item, IsOpenAnd, IsExpr}
 use Rattle.query_write.specs.Written.{WrittenToken, Space, Open, Close, Part, Single, part, part_of, item_tokens, whole}
 use Rattle.query_write.specs.steps.TokenRun.{Ambient, Standing, standing, spanless, zoned, AreRightZones}

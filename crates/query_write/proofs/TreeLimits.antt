@@ -4,9 +4,9 @@ use Rattle.std.specs.Prelude.{All, not, ◌||◌, ◌==◌}
 use Rattle.std.proofs.lemmas.Bool.{eqb-true}
 use Rattle.token_grammar.specs.Values.{◌then◌, AreInRow}
 use Rattle.doc_types.specs.declared.schema.Schema.{Schema}
-use Rattle.query_marks.specs.declared.key.Limit.{Limit}
+use Rattle.query_tree.specs.declared.key.Limit.{Limit}
 use Rattle.query_marks.specs.declared.mark.Sign.TheVariants as signs
-use Rattle.query_grammar.specs.declared.query.Node.{Node}
+use Rattle.query_tree.specs.declared.query.Node.{Node}
 use Rattle.query_grammar.specs.Grammar.{IsJoin, IsLimit, last_of, node_of, items_of, IsOpenAnd, IsExpr}
 use Rattle.query_write.specs.Written.{WrittenToken, Space, Open, Close, Part, has_zones, limits, zone_tokens, under, enclosed, whole, all_fields}
 use Rattle.query_write.specs.steps.TokenRun.{Ambient, standing, spanless, ambient_limit, IsRightZone}

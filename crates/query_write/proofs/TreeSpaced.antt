@@ -4,12 +4,12 @@ use Rattle.std.specs.Prelude.{All}
 use Rattle.std.specs.List.{flat_map}
 use Rattle.doc_types.specs.declared.schema.Schema.{Schema}
 use Rattle.doc_types.specs.Schemas.{IsSchema}
-use Rattle.query_marks.specs.declared.key.Key.{Key}
-use Rattle.query_marks.specs.declared.key.Limit.{Limit}
-use Rattle.query_marks.specs.declared.key.How.TheVariants as hows
-use Rattle.query_grammar.specs.declared.query.Item.{Item}
-use Rattle.query_grammar.specs.declared.query.Node.{Node}
-use Rattle.query_grammar.specs.declared.query.Node.TheVariants as nodes
+use Rattle.query_tree.specs.declared.key.Key.{Key}
+use Rattle.query_tree.specs.declared.key.Limit.{Limit}
+use Rattle.query_tree.specs.declared.key.How.TheVariants as hows
+use Rattle.query_tree.specs.declared.query.Item.{Item}
+use Rattle.query_tree.specs.declared.query.Node.{Node}
+use Rattle.query_tree.specs.declared.query.Node.TheVariants as nodes
 use Rattle.query_write.specs.Written.{WrittenToken, Space, Open, Close, Line, Single, Sentences, Paragraphs, Choice, Order, Part, part, part_of, item_tokens, node_tokens, joined, left, whole, is_choice, is_order, first_limit}
 use Rattle.query_write.specs.steps.Signs.{CanBeRead, AreSpaced, follows, is_spaced}
 use Rattle.query_write.specs.steps.Writable.{IsRightLimit, AreKeys, IsLeafOf, of_word, of_phrase, AreLeavesOf, one_leaf, more_leaves, IsWritable, AreWritable, of_leaf, of_loose, of_sentences, of_paragraphs, of_items, of_or, of_maybe, of_before, of_near, of_span, no_items, more_items}

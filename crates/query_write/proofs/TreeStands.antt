@@ -4,10 +4,10 @@ use Rattle.std.specs.Prelude.{All}
 use Rattle.std.proofs.lemmas.List.Elements.{All-nil, All-cons, All-head, All-tail}
 use Rattle.doc_types.specs.declared.schema.Schema.{Schema}
 use Rattle.doc_types.specs.Schemas.{IsSchema}
-use Rattle.query_marks.specs.declared.key.Key.{Key}
-use Rattle.query_marks.specs.declared.key.Limit.{Limit}
-use Rattle.query_marks.specs.declared.key.How.{How}
-use Rattle.query_marks.specs.declared.key.How.TheVariants as hows
+use Rattle.query_tree.specs.declared.key.Key.{Key}
+use Rattle.query_tree.specs.declared.key.Limit.{Limit}
+use Rattle.query_tree.specs.declared.key.How.{How}
+use Rattle.query_tree.specs.declared.key.How.TheVariants as hows
 use Rattle.query_marks.specs.Marks.{keys_after}
 use Rattle.query_write.specs.Written.{WrittenToken, Space, Open, Close, Line, Part, is_single, limits, zone_tokens, under, enclosed, whole, left}
 use Rattle.query_write.specs.steps.Signs.{IsPlainWord, IsPlainKey, HasSmall, CanBeRead, AreSpaced}

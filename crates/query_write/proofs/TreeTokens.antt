@@ -5,9 +5,9 @@ use Rattle.doc_types.specs.declared.schema.Schema.{Schema}
 use Rattle.query_marks.specs.declared.mark.Mark.{Mark}
 use Rattle.query_marks.specs.declared.mark.Sign.{Sign}
 use Rattle.query_marks.specs.declared.mark.Sign.TheVariants as signs
-use Rattle.query_grammar.specs.declared.query.Item.{Item}
-use Rattle.query_grammar.specs.declared.query.Node.{Node}
-use Rattle.query_grammar.specs.declared.query.Node.TheVariants as nodes
+use Rattle.query_tree.specs.declared.query.Item.{Item}
+use Rattle.query_tree.specs.declared.query.Node.{Node}
+use Rattle.query_tree.specs.declared.query.Node.TheVariants as nodes
 use Rattle.query_grammar.specs.Grammar.{Is, IsJoin, IsAlt, IsOpenAnd, IsAndNode, IsExpr}
 use Rattle.query_write.specs.Written.{WrittenToken, Choice, Order, Sentences, Paragraphs, Part, part, part_of, joined, left, whole, is_choice, is_order}
 use Rattle.query_write.specs.steps.TokenRun.{Standing, standing, token_sign, token_after, IsRight, IsInRange}

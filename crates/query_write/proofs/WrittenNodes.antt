@@ -3,8 +3,8 @@ use Rattle.std.proofs.Common.{◌≡◌, ℕ, List, [], ◌∷◌, ◌++◌, Boo
 use Rattle.std.specs.Prelude.{Option, Some, None, if◌then◌else◌}
 use Rattle.srch_base.specs.declared.faults.NoMemory.{NoMemory}
 use Rattle.doc_types.specs.declared.schema.Schema.{Schema}
-use Rattle.query_marks.specs.declared.key.Limit.{Limit}
-use Rattle.query_grammar.specs.declared.query.Node.{Node}
+use Rattle.query_tree.specs.declared.key.Limit.{Limit}
+use Rattle.query_tree.specs.declared.query.Node.{Node}
 use Rattle.query_write.specs.Written.{WrittenToken, Line, token_text, tokens_text, part_of, node_tokens, left, joined, under, limits, zone_tokens}
 use Rattle.query_write.specs.steps.Writes.{Appended, Appends, limit_over, limit_tokens}
 use Rattle.query_write.proofs.Writings.{then_appended, joined_text}

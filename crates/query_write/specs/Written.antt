@@ -2,16 +2,16 @@
 use Rattle.std.specs.Prelude.{ℕ, ◌-◌, ◌/◌, ◌%◌, List, [], ◌∷◌, ◌++◌, Bool, true, false, ◌==◌, ◌||◌, not, Option, Some, None, unwrap_or, if◌then◌else◌, codes, decimal, length, map, replicate, slice_get}
 use Rattle.std.specs.List.{flat_map}
 use Rattle.doc_types.specs.declared.schema.Schema.{Schema}
-use Rattle.query_marks.specs.declared.key.Key.{Key}
-use Rattle.query_marks.specs.declared.key.Limit.{Limit}
-use Rattle.query_marks.specs.declared.key.How.{How}
-use Rattle.query_marks.specs.declared.key.How.TheVariants as hows
+use Rattle.query_tree.specs.declared.key.Key.{Key}
+use Rattle.query_tree.specs.declared.key.Limit.{Limit}
+use Rattle.query_tree.specs.declared.key.How.{How}
+use Rattle.query_tree.specs.declared.key.How.TheVariants as hows
 use Rattle.query_marks.specs.Limits.{mask}
-use Rattle.query_grammar.specs.declared.query.Item.{Item}
-use Rattle.query_grammar.specs.declared.query.Node.{Node}
-use Rattle.query_grammar.specs.declared.query.Node.TheOpen.{Node-F, Item-F}
-use Rattle.query_grammar.specs.declared.query.Node.TheFolds.{fold-Node}
-use Rattle.query_grammar.specs.declared.query.Query.{Query}
+use Rattle.query_tree.specs.declared.query.Item.{Item}
+use Rattle.query_tree.specs.declared.query.Node.{Node}
+use Rattle.query_tree.specs.declared.query.Node.TheOpen.{Node-F, Item-F}
+use Rattle.query_tree.specs.declared.query.Node.TheFolds.{fold-Node}
+use Rattle.query_tree.specs.declared.query.Query.{Query}
 use Rattle.query_write.specs.Spelling.{spelled}
 
 -- What the written form is made of. A space stands only where one of these does.

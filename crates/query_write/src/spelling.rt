@@ -5,7 +5,7 @@ ghost use Rattle.query_write.specs.Spelling.{is_plain as is_plain_byte, is_lette
 ghost use Rattle.query_write.specs.Written.{key_text};
 ghost use Rattle.query_write.specs.steps.Writes.{Keeps, Appended};
 
-use query_marks::Key;
+use query_tree::Key;
 use srch_base::NoMemory;
 
 /// A byte that bounds an operator which is written in letters.

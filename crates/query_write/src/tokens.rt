@@ -6,7 +6,7 @@ ghost use Rattle.query_write.specs.steps.Writes.{Appended, token_of, separator, 
 use crate::spelling::put_key;
 use doc_types::Schema;
 use itoa::Buffer;
-use query_marks::{How, Key};
+use query_tree::{How, Key};
 use srch_base::{Name, NoMemory};
 
 /// A token that is written.

@@ -6,9 +6,9 @@ use Rattle.srch_base.specs.declared.door.Door.{Ghosts as DoorWords}
 use Rattle.srch_base.specs.declared.faults.OpenFault.{OpenFault}
 use Rattle.srch_base.specs.declared.faults.OpenFault.TheVariants as opening
 use Rattle.conf_text.specs.Confs.{IsConfOf}
-use Rattle.conf_text.specs.declared.conf.Conf.{Conf}
-use Rattle.conf_text.specs.declared.conf.IndexConf.{IndexConf}
-use Rattle.conf_text.specs.declared.conf.TheConstants.{MAX_CONF_BYTES}
+use Rattle.index_conf.specs.declared.conf.Conf.{Conf}
+use Rattle.index_conf.specs.declared.conf.IndexConf.{IndexConf}
+use Rattle.conf_text.specs.declared.size.TheConstants.{MAX_CONF_BYTES}
 use Rattle.searchd_top.specs.CommandLine.{session}
 use Rattle.searchd_top.specs.Configuring.{Texts, AreReadOf}
 use Rattle.searchd_top.specs.Lending.{CountsOpening}

@@ -1,9 +1,9 @@
 -- The configuration of a run: what is read of its file, and what that says.
 use Rattle.std.specs.Prelude.{◌≡◌, ⊤, ℕ, ◌+◌, List, Option, Some, None, slice_get, take}
 use Rattle.conf_text.specs.Confs.{IsConfOf, IsFaultOf}
-use Rattle.conf_text.specs.declared.conf.Conf.{Conf}
-use Rattle.conf_text.specs.declared.conf.IndexConf.{IndexConf}
-use Rattle.conf_text.specs.declared.conf.TheConstants.{MAX_CONF_BYTES}
+use Rattle.index_conf.specs.declared.conf.Conf.{Conf}
+use Rattle.index_conf.specs.declared.conf.IndexConf.{IndexConf}
+use Rattle.conf_text.specs.declared.size.TheConstants.{MAX_CONF_BYTES}
 use Rattle.conf_text.specs.declared.fault.ConfFault.{ConfFault}
 use Rattle.searchd_top.specs.CommandLine.{session}
 

@@ -4,7 +4,7 @@ use Rattle.std.specs.List.{AllZip}
 use Rattle.srch_base.specs.Counts.{Rose}
 use Rattle.srch_base.specs.declared.link.Link.{Ghosts as LinkWords}
 use Rattle.srch_base.specs.declared.door.Door.{Ghosts as DoorWords}
-use Rattle.conf_text.specs.declared.conf.IndexConf.{IndexConf}
+use Rattle.index_conf.specs.declared.conf.IndexConf.{IndexConf}
 use Rattle.ql_session.specs.Tables.{Tables, Event, Follows, empty_tables}
 use Rattle.serve_line.specs.Machines.{FollowAll}
 use Rattle.ql_session.specs.Session.{Session}

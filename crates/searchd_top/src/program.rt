@@ -1,7 +1,7 @@
 //! The top call: the words of the command line are looked at first, then the configuration is read, then a door is asked
 //! for and its line served. The first refusal decides the status, and its line is printed to the errors.
 ghost use Rattle.std.specs.Prelude.{◌≡◌, ◌↔◌, ◌≤◌, length, map, string_bytes};
-ghost use Rattle.conf_text.specs.Confs.{IsSound};
+ghost use Rattle.index_conf.specs.Soundness.{IsSound};
 ghost use Rattle.searchd_top.specs.CommandLine.{AsksSession, session};
 ghost use Rattle.searchd_top.specs.Statuses.{line_of};
 ghost use Rattle.searchd_top.specs.Printing.{Reports};
@@ -11,7 +11,8 @@ ghost use Rattle.searchd_top.specs.steps.Halves.{Configures, ServesBy};
 use crate::command_line::session_file;
 use crate::serving::serve_one;
 use crate::{Host, Status, Stream};
-use conf_text::{Conf, ConfFault, MAX_CONF_BYTES, read_conf};
+use conf_text::{ConfFault, MAX_CONF_BYTES, read_conf};
+use index_conf::Conf;
 use ql_session::PlainTables;
 use srch_base::{Failed, NoMemory, Or};
 use std::alloc::Global;

@@ -1,7 +1,8 @@
 //! What an index has by its configuration, worked out by hand: two whole files, changes after which a file still is one,
 //! changes that break it, and the longest file that is read; and what the kinds of faults are in words.
 use crate::configuration_faults::fault_of;
-use conf_text::{ConfKind, IndexConf, MAX_CONF_BYTES, read_conf};
+use conf_text::{ConfKind, MAX_CONF_BYTES, read_conf};
+use index_conf::IndexConf;
 use doc_types::AttrKind;
 use srch_base::Name;
 use std::alloc::Global;

@@ -7,7 +7,7 @@ use Rattle.conf_text.specs.declared.lines.Lines.{Lines}
 use Rattle.conf_text.specs.declared.lines.PartHead.{PartHead}
 use Rattle.srch_base.specs.declared.faults.Or.{Or}
 use Rattle.srch_base.specs.declared.faults.Or.TheVariants as causes
-use Rattle.conf_text.specs.declared.conf.IndexConf.{IndexConf}
+use Rattle.index_conf.specs.declared.conf.IndexConf.{IndexConf}
 use Rattle.conf_text.specs.declared.fault.ConfFault.{ConfFault}
 use Rattle.conf_text.specs.Confs.{AreFaultless, IsFirstBadLine, IsFirstFault, IsUtf8Line, shapes_back}
 use Rattle.conf_text.specs.steps.Drafts.{AreIndexes}

@@ -3,8 +3,8 @@ use Rattle.std.specs.Prelude.{◌≡◌, ℕ, List, [], ◌∷◌, ◌++◌, Boo
 use Rattle.std.specs.List.{list_any}
 use Rattle.srch_base.specs.declared.faults.Or.{Or}
 use Rattle.srch_base.specs.declared.faults.Or.TheVariants as causes
-use Rattle.conf_text.specs.declared.conf.IndexConf.{IndexConf}
-use Rattle.conf_text.specs.declared.conf.TheConstants.{MAX_INDEXES}
+use Rattle.index_conf.specs.declared.conf.IndexConf.{IndexConf}
+use Rattle.index_conf.specs.declared.conf.TheConstants.{MAX_INDEXES}
 use Rattle.conf_text.specs.declared.draft.Draft.{Draft}
 use Rattle.conf_text.specs.declared.fault.ConfKind.{ConfKind}
 use Rattle.conf_text.specs.declared.fault.ConfKind.TheVariants as kinds

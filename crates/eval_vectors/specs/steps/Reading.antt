@@ -1,6 +1,6 @@
 -- What the tests read: an index, and rows of its schema.
 use Rattle.std.specs.Prelude.{◌≡◌, ◌≤◌, List, All, length}
-use Rattle.conf_text.specs.declared.conf.IndexConf.{IndexConf}
+use Rattle.index_conf.specs.declared.conf.IndexConf.{IndexConf}
 use Rattle.doc_types.specs.declared.documents.DocRow.{DocRow}
 use Rattle.doc_types.specs.declared.schema.Schema.{Schema}
 use Rattle.doc_types.specs.declared.tokens.FieldTokens.{FieldTokens}

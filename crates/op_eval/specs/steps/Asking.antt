@@ -3,10 +3,10 @@ use Rattle.std.specs.Prelude.{◌≡◌, Bool, true, false, ◌||◌, IsTrue}
 use Rattle.std.specs.List.{list_any}
 use Rattle.doc_types.specs.declared.documents.DocRow.{DocRow}
 use Rattle.doc_types.specs.Chunks.{spans_of}
-use Rattle.query_grammar.specs.declared.query.Node.{Node}
-use Rattle.query_grammar.specs.declared.query.Node.TheOpen.{Node-F, Item-F}
-use Rattle.query_grammar.specs.declared.query.Node.TheFolds.{fold-Node}
-use Rattle.query_marks.specs.declared.key.Key.{Key}
+use Rattle.query_tree.specs.declared.query.Node.{Node}
+use Rattle.query_tree.specs.declared.query.Node.TheOpen.{Node-F, Item-F}
+use Rattle.query_tree.specs.declared.query.Node.TheFolds.{fold-Node}
+use Rattle.query_tree.specs.declared.key.Key.{Key}
 use Rattle.occ_lists.specs.Places.{ArePlaces}
 use Rattle.op_eval.specs.declared.marks.Marks.{Marks}
 use Rattle.op_eval.specs.Keywords.{sentence_ends, paragraph_ends}

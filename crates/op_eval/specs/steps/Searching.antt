@@ -3,8 +3,8 @@ use Rattle.std.specs.Prelude.{◌≡◌, ◌≤◌, ◌<◌, ℕ, List, [], Opti
 use Rattle.doc_types.specs.declared.cursor.Cursor.{Cursor}
 use Rattle.doc_types.specs.declared.documents.DocRow.{DocRow}
 use Rattle.doc_types.specs.Chunks.{Place, has_word}
-use Rattle.query_grammar.specs.declared.query.Node.{Node}
-use Rattle.query_grammar.specs.DeepValues.{node_keys}
+use Rattle.query_tree.specs.declared.query.Node.{Node}
+use Rattle.query_tree.specs.TreeKeys.{node_keys}
 use Rattle.op_eval.specs.declared.search.Search.{Search}
 use Rattle.op_eval.specs.Finding.{Found, node_finds}
 use Rattle.op_eval.specs.steps.Asking.{AreMarks, asks_boundaries, asks_spans}

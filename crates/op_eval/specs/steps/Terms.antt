@@ -3,7 +3,7 @@ use Rattle.std.specs.Prelude.{◌≡◌, ◌<◌, ◌^◌, ℕ, List, true, All}
 use Rattle.std.specs.List.{AllZip, filter}
 use Rattle.doc_types.specs.declared.documents.DocRow.{DocRow}
 use Rattle.doc_types.specs.Chunks.{has_word, hits_of}
-use Rattle.query_marks.specs.declared.key.Key.{Key}
+use Rattle.query_tree.specs.declared.key.Key.{Key}
 use Rattle.occ_lists.specs.declared.term.Term.{Term}
 use Rattle.op_eval.specs.Keywords.{key_places, allows}
 

@@ -1,9 +1,9 @@
 -- what the words of a row tell of a node: for each list of spans in force, or for none in force alone
 use Rattle.std.specs.Prelude.{◌≡◌, ℕ, List, [], Bool, true, false, Contains}
 use Rattle.doc_types.specs.declared.documents.DocRow.{DocRow}
-use Rattle.query_marks.specs.declared.key.Key.{Key}
-use Rattle.query_marks.specs.declared.key.How.{How}
-use Rattle.query_grammar.specs.declared.query.Item.{Item}
+use Rattle.query_tree.specs.declared.key.Key.{Key}
+use Rattle.query_tree.specs.declared.key.How.{How}
+use Rattle.query_tree.specs.declared.query.Item.{Item}
 use Rattle.std.specs.List.{flat_map}
 use Rattle.op_eval.specs.Keywords.{places_within}
 use Rattle.op_eval.specs.Finding.{Spans, is_some, hits_at, quoted, passes, node_finds}

@@ -4,7 +4,7 @@ use Rattle.std.specs.List.{filter, list_any, enumerate_from}
 use Rattle.doc_types.specs.declared.cursor.Cursor.{Cursor}
 use Rattle.doc_types.specs.declared.documents.DocRow.{DocRow}
 use Rattle.doc_types.specs.Chunks.{Place}
-use Rattle.query_grammar.specs.declared.query.Node.{Node}
+use Rattle.query_tree.specs.declared.query.Node.{Node}
 use Rattle.op_eval.specs.declared.search.Search.{Search}
 use Rattle.op_eval.specs.steps.Searching.{IsSearch, node_found}
 

@@ -2,8 +2,8 @@
 use Rattle.std.specs.Prelude.{ℕ, List, map, length, Bool, true, nat_lt, if◌then◌else◌}
 use Rattle.std.specs.List.{filter, flat_map, count_by}
 use Rattle.doc_types.specs.declared.hits.Hit.{Hit}
-use Rattle.query_marks.specs.declared.key.How.{How}
-use Rattle.query_marks.specs.declared.key.How.TheVariants as hows
+use Rattle.query_tree.specs.declared.key.How.{How}
+use Rattle.query_tree.specs.declared.key.How.TheVariants as hows
 use Rattle.occ_lists.specs.declared.term.Term.{Term}
 use Rattle.occ_lists.specs.Places.{at_place, within_all}
 use Rattle.occ_lists.specs.Runs.{runs}

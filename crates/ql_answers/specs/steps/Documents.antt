@@ -8,8 +8,8 @@ use Rattle.doc_types.specs.declared.schema.Schema.{Schema}
 use Rattle.doc_types.specs.declared.transactions.Txn.{Txn}
 use Rattle.doc_types.specs.Transactions.{IsTxnOf}
 use Rattle.doc_types.specs.Documents.{IsField, IsDocOf}
-use Rattle.conf_text.specs.declared.conf.IndexConf.{IndexConf}
-use Rattle.ql_grammar.specs.declared.statement.Val.{Val}
+use Rattle.index_conf.specs.declared.conf.IndexConf.{IndexConf}
+use Rattle.ql_tree.specs.declared.statement.Val.{Val}
 use Rattle.ql_refusals.specs.declared.columns.Target.{Target}
 use Rattle.ql_refusals.specs.Refusals.{Refused}
 use Rattle.ql_answers.specs.Writing.{Puts, IsTooLongFor, IsDocument, Inserts, RefusesRow, RefusesRows}

@@ -1,6 +1,6 @@
 -- What is answered for the name of an index.
 use Rattle.std.specs.Prelude.{◌≡◌, ◌<◌, ℕ, List, Some, None, Result, Ok, Err, length}
-use Rattle.conf_text.specs.declared.conf.IndexConf.{IndexConf}
+use Rattle.index_conf.specs.declared.conf.IndexConf.{IndexConf}
 use Rattle.ql_answers.specs.Indexes.{index_fault, place_of}
 use Rattle.ql_refusals.specs.Refusals.{Refused}
 

@@ -3,8 +3,8 @@ use Rattle.std.specs.Prelude.{ℕ, List, Option, Some, None}
 use Rattle.ql_lex.specs.declared.token.Sign.TheVariants as signs
 use Rattle.ql_lex.specs.Tokens.{Lexeme}
 use Rattle.ql_grammar.specs.declared.keyword.Keyword.TheVariants as keywords
-use Rattle.ql_grammar.specs.declared.select.SelectExpr.{SelectExpr}
-use Rattle.ql_grammar.specs.declared.select.SelectExpr.TheVariants as exprs
+use Rattle.ql_tree.specs.declared.select.SelectExpr.{SelectExpr}
+use Rattle.ql_tree.specs.declared.select.SelectExpr.TheVariants as exprs
 use Rattle.ql_grammar.specs.Parts.{IsKeyword, IsSign, IsName}
 use Rattle.token_grammar.specs.Values.{◌then◌}
 

@@ -3,10 +3,10 @@ use Rattle.std.specs.Prelude.{List}
 use Rattle.ql_lex.specs.declared.token.Sign.TheVariants as signs
 use Rattle.ql_lex.specs.Tokens.{Lexeme}
 use Rattle.ql_grammar.specs.declared.keyword.Keyword.TheVariants as keywords
-use Rattle.ql_grammar.specs.declared.statement.SetValue.{SetValue}
-use Rattle.ql_grammar.specs.declared.statement.Statement.{Statement}
-use Rattle.ql_grammar.specs.declared.statement.Statement.TheVariants as statements
-use Rattle.ql_grammar.specs.declared.statement.Target.{Target}
+use Rattle.ql_tree.specs.declared.statement.SetValue.{SetValue}
+use Rattle.ql_tree.specs.declared.statement.Statement.{Statement}
+use Rattle.ql_tree.specs.declared.statement.Statement.TheVariants as statements
+use Rattle.ql_tree.specs.declared.statement.Target.{Target}
 use Rattle.ql_grammar.specs.Parts.{IsKeyword, IsSign, IsName, IsNumber, IsVariable, AreParens}
 use Rattle.token_grammar.specs.Values.{◌then◌, IsGiven}
 use Rattle.ql_grammar.specs.Selects.{IsSelected}

@@ -4,8 +4,8 @@ use Rattle.std.specs.Borrow.{Bor}
 use Rattle.std.specs.BTreeSet.{BTreeSet, contains_by}
 use Rattle.std.specs.Cmp.Lexicographic.{slice_cmp}
 use Rattle.std.specs.Ordering.{nat_cmp}
-use Rattle.ql_grammar.specs.declared.select.SelectItem.{SelectItem}
-use Rattle.ql_grammar.specs.declared.select.SelectItem.TheVariants as items
+use Rattle.ql_tree.specs.declared.select.SelectItem.{SelectItem}
+use Rattle.ql_tree.specs.declared.select.SelectItem.TheVariants as items
 use Rattle.ql_select.specs.Names.{is_alias}
 
 -- the alias of an item

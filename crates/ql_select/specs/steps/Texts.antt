@@ -3,9 +3,9 @@ use Rattle.std.specs.Prelude.{◌≡◌, ℕ, List, true, Result, Ok, Err}
 use Rattle.std.specs.Str.{is_utf8}
 use Rattle.srch_base.specs.declared.faults.Or.{Or}
 use Rattle.srch_base.specs.declared.faults.Or.TheVariants.{NoMemory, Fault}
-use Rattle.conf_text.specs.declared.conf.IndexConf.{IndexConf}
+use Rattle.index_conf.specs.declared.conf.IndexConf.{IndexConf}
 use Rattle.ql_refusals.specs.Refusals.{Refused}
-use Rattle.query_grammar.specs.declared.query.Query.{Query}
+use Rattle.query_tree.specs.declared.query.Query.{Query}
 use Rattle.query_grammar.specs.Queries.{ReadsQuery}
 use Rattle.ql_select.specs.Selections.{RefusesText, setting}
 

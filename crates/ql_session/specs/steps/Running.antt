@@ -3,11 +3,11 @@ use Rattle.std.specs.Prelude.{◌≡◌, ◌≢◌, ◌≤◌, ◌⊎◌, ℕ, L
 use Rattle.srch_base.specs.declared.faults.Or.{Or}
 use Rattle.srch_base.specs.declared.faults.Or.TheVariants as causes
 use Rattle.mysql_wire.specs.Packets.{packets_from, sequence_after}
-use Rattle.conf_text.specs.declared.conf.IndexConf.{IndexConf}
+use Rattle.index_conf.specs.declared.conf.IndexConf.{IndexConf}
 use Rattle.doc_types.specs.declared.transactions.TxnOp.{TxnOp}
 use Rattle.plain_store.specs.declared.duplicate.Duplicate.{Duplicate as TheDuplicate}
 use Rattle.ql_lex.specs.Tokens.{Lexeme}
-use Rattle.ql_grammar.specs.declared.statement.Statement.{Statement}
+use Rattle.ql_tree.specs.declared.statement.Statement.{Statement}
 use Rattle.ql_grammar.specs.Packets.{IsPacket}
 use Rattle.ql_answers.specs.declared.event.Need.{Need}
 use Rattle.ql_answers.specs.declared.plan.Plan.{Plan}

@@ -5,7 +5,7 @@ use Rattle.srch_base.specs.declared.faults.NoMemory.{NoMemory}
 use Rattle.ql_write.specs.declared.writing.Token.{Token}
 use Rattle.ql_write.specs.declared.writing.Token.TheVariants as tokens
 use Rattle.ql_grammar.specs.declared.keyword.Keyword.TheVariants as keywords
-use Rattle.ql_grammar.specs.declared.select.Select.{Select}
+use Rattle.ql_tree.specs.declared.select.Select.{Select}
 use Rattle.ql_write.specs.Pieces.{Piece, keyword, sign, name, number, text, variable, spelling, with_commas, given, given_all, in_row}
 use Rattle.ql_write.specs.Canonical.{item, where_pieces, group_pieces, within_pieces, having_pieces, ordered, limit_pieces, option_pieces, facet}
 

@@ -3,7 +3,7 @@ use Rattle.std.specs.Prelude.{◌≡◌, ℕ, List, Option, Some, None, Result, 
 use Rattle.srch_base.specs.declared.faults.Or.{Or}
 use Rattle.srch_base.specs.declared.faults.Or.TheVariants.{NoMemory, Fault}
 use Rattle.query_marks.specs.declared.mark.Mark.{Mark}
-use Rattle.query_grammar.specs.declared.query.Node.{Node}
+use Rattle.query_tree.specs.declared.query.Node.{Node}
 use Rattle.query_grammar.specs.declared.fault.QueryFault.{QueryFault}
 use Rattle.query_grammar.specs.Grammar.{IsQuery}
 use Rattle.query_grammar.specs.QueryFaults.{Any, Stops, Told, IsCandidate, IsFirstFault}

@@ -18,9 +18,9 @@ use Rattle.query_pieces.specs.declared.piece.Form.TheVariants as forms
 use Rattle.query_pieces.specs.declared.piece.Piece.{Piece}
 use Rattle.query_pieces.specs.QueryBytes.{begins_field, is_field_byte, begins_zone, is_zone_byte}
 use Rattle.query_pieces.specs.Operators.{are_names, is_listed}
-use Rattle.query_marks.specs.declared.key.Key.{Key}
-use Rattle.query_marks.specs.declared.key.How.{How}
-use Rattle.query_marks.specs.declared.key.How.TheVariants as hows
+use Rattle.query_tree.specs.declared.key.Key.{Key}
+use Rattle.query_tree.specs.declared.key.How.{How}
+use Rattle.query_tree.specs.declared.key.How.TheVariants as hows
 use Rattle.query_marks.specs.QueryWords.{words_in}
 use Rattle.query_marks.specs.LimitNames.{bytes_of}
 use Rattle.query_write.specs.Written.{WrittenToken, parted, padded, named, all_fields, name_of}

@@ -4,10 +4,10 @@ use Rattle.std.specs.Prelude.{◌≡◌, ◌≢◌, ◌≤◌, ◌<◌, ◌^◌,
 use Rattle.std.specs.List.{list_all}
 use Rattle.doc_types.specs.declared.schema.Schema.{Schema}
 use Rattle.query_pieces.specs.QueryBytes.{begins_zone, is_zone_byte}
-use Rattle.query_marks.specs.declared.key.Key.{Key}
-use Rattle.query_marks.specs.declared.key.Limit.{Limit}
-use Rattle.query_marks.specs.declared.key.How.{How}
-use Rattle.query_marks.specs.declared.key.How.TheVariants as hows
+use Rattle.query_tree.specs.declared.key.Key.{Key}
+use Rattle.query_tree.specs.declared.key.Limit.{Limit}
+use Rattle.query_tree.specs.declared.key.How.{How}
+use Rattle.query_tree.specs.declared.key.How.TheVariants as hows
 use Rattle.query_marks.specs.declared.mark.Sign.{Sign}
 use Rattle.query_marks.specs.declared.mark.Sign.TheVariants as signs
 use Rattle.query_marks.specs.Marks.{keys_after, quoted_sign}

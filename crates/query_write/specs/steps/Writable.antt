@@ -1,14 +1,14 @@
 -- Which trees can be written: those that are values of the grammar. Their keywords are numbered in the tree's order.
 use Rattle.std.specs.Prelude.{◌≡◌, ◌≢◌, ◌≤◌, ◌+◌, ℕ, List, [], ◌∷◌, false, Option, IsTrue, All, length}
 use Rattle.doc_types.specs.declared.schema.Schema.{Schema}
-use Rattle.query_marks.specs.declared.key.Key.{Key}
-use Rattle.query_marks.specs.declared.key.Limit.{Limit}
-use Rattle.query_marks.specs.declared.key.How.{How}
-use Rattle.query_marks.specs.declared.key.How.TheVariants as hows
+use Rattle.query_tree.specs.declared.key.Key.{Key}
+use Rattle.query_tree.specs.declared.key.Limit.{Limit}
+use Rattle.query_tree.specs.declared.key.How.{How}
+use Rattle.query_tree.specs.declared.key.How.TheVariants as hows
 use Rattle.query_marks.specs.Marks.{keys_after}
-use Rattle.query_grammar.specs.declared.query.Item.{Item}
-use Rattle.query_grammar.specs.declared.query.Node.{Node}
-use Rattle.query_grammar.specs.declared.query.Node.TheVariants as nodes
+use Rattle.query_tree.specs.declared.query.Item.{Item}
+use Rattle.query_tree.specs.declared.query.Node.{Node}
+use Rattle.query_tree.specs.declared.query.Node.TheVariants as nodes
 use Rattle.query_grammar.specs.Grammar.{has_item}
 use Rattle.query_write.specs.Written.{all_fields}
 use Rattle.query_write.specs.steps.Signs.{IsPlainWord}

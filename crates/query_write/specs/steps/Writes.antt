@@ -4,7 +4,7 @@ use Rattle.std.specs.Borrow.{Bor}
 use Rattle.std.specs.List.{flat_map}
 use Rattle.srch_base.specs.declared.faults.NoMemory.{NoMemory}
 use Rattle.doc_types.specs.declared.schema.Schema.{Schema}
-use Rattle.query_marks.specs.declared.key.Limit.{Limit}
+use Rattle.query_tree.specs.declared.key.Limit.{Limit}
 use Rattle.query_write.specs.declared.tokens.Token.{Token}
 use Rattle.query_write.specs.declared.tokens.Token.TheVariants as tokens
 use Rattle.query_write.specs.declared.written.Line.{Line as WriterLine}

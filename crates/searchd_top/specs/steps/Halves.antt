@@ -4,10 +4,11 @@ use Rattle.std.specs.List.{AllZip}
 use Rattle.srch_base.specs.Counts.{Rose}
 use Rattle.srch_base.specs.declared.link.Link.{Ghosts as LinkWords}
 use Rattle.srch_base.specs.declared.door.Door.{Ghosts as DoorWords}
-use Rattle.conf_text.specs.Confs.{IsConfOf, IsFaultOf, IsSound}
-use Rattle.conf_text.specs.declared.conf.Conf.{Conf}
-use Rattle.conf_text.specs.declared.conf.IndexConf.{IndexConf}
-use Rattle.conf_text.specs.declared.conf.TheConstants.{MAX_CONF_BYTES}
+use Rattle.conf_text.specs.Confs.{IsConfOf, IsFaultOf}
+use Rattle.index_conf.specs.Soundness.{IsSound}
+use Rattle.index_conf.specs.declared.conf.Conf.{Conf}
+use Rattle.index_conf.specs.declared.conf.IndexConf.{IndexConf}
+use Rattle.conf_text.specs.declared.size.TheConstants.{MAX_CONF_BYTES}
 use Rattle.searchd_top.specs.Configuring.{AreReadOf}
 use Rattle.searchd_top.specs.Lending.{HandsBack, SomeZip}
 use Rattle.searchd_top.specs.Sessions.{DidWork, DoorFailed, ServesOne, WorkedOrFailed}

@@ -2,8 +2,8 @@ use Rattle.std.proofs.Common.{◌≡◌, ◌≤◌, ◌∙◌, ℕ, List, [], �
 use Rattle.std.specs.Prelude.{Option, None}
 use Rattle.std.proofs.lemmas.Bool.{true≢false}
 use Rattle.srch_base.specs.declared.faults.Or.{Or}
-use Rattle.conf_text.specs.declared.conf.IndexConf.{IndexConf}
-use Rattle.conf_text.specs.declared.conf.TheConstants.{MAX_CONF_BYTES}
+use Rattle.index_conf.specs.declared.conf.IndexConf.{IndexConf}
+use Rattle.conf_text.specs.declared.size.TheConstants.{MAX_CONF_BYTES}
 use Rattle.conf_text.specs.declared.fault.ConfFault.{ConfFault}
 use Rattle.conf_text.specs.Confs.{AreLinesOf, IsFirstFault, ReadsConf, at_line, no_index}
 use Rattle.conf_text.specs.steps.Drafts.{AreIndexes}

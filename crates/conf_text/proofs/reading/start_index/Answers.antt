@@ -2,8 +2,8 @@ use Rattle.std.proofs.Common.{sym, ◌∙◌, ap, subst, Bool, List, ℕ, ◌≡
 use Rattle.std.specs.Prelude.{◌||◌, nat_le}
 use Rattle.std.specs.List.{list_any}
 use Rattle.std.specs.Str.{bytes_eq}
-use Rattle.conf_text.specs.declared.conf.IndexConf.{IndexConf}
-use Rattle.conf_text.specs.declared.conf.TheConstants.{MAX_INDEXES}
+use Rattle.index_conf.specs.declared.conf.IndexConf.{IndexConf}
+use Rattle.index_conf.specs.declared.conf.TheConstants.{MAX_INDEXES}
 use Rattle.conf_text.specs.steps.Drafts.{AreIndexes, IsDraft}
 use Rattle.conf_text.specs.Faults.{has_name, is_long}
 use Rattle.conf_text.specs.Sections.{IndexText}

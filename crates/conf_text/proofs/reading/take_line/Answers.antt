@@ -1,5 +1,5 @@
 use Rattle.std.proofs.Common.{◌≡◌, ◌∙◌, ap, sym, subst, false, Bool, Ok, List}
-use Rattle.conf_text.specs.declared.conf.IndexConf.{IndexConf}
+use Rattle.index_conf.specs.declared.conf.IndexConf.{IndexConf}
 use Rattle.conf_text.specs.steps.Drafts.{AreIndexes}
 use Rattle.conf_text.specs.Faults.{is_syntax}
 use Rattle.conf_text.specs.Sections.{Place, spot_at}

@@ -1,7 +1,7 @@
 use Rattle.std.proofs.Common.{ap, length, arith}
 use Rattle.charset_map.specs.Spans.{folded}
 use Rattle.query_marks.specs.Marks.{setting_of}
-use Rattle.ext_query.proofs.QueryKeys.{few_when_read}
+use Rattle.query_read.proofs.QueryKeys.{few_when_read}
 use Rattle.eval_vectors.proofs.queries.query_of.Goals as goal
 
 pub returns-in-Ok : goal.returns-in-Ok

@@ -1,8 +1,8 @@
 use Rattle.std.proofs.Common.{Bool, ◌≡◌, sym, ap, ◌∙◌}
 use Rattle.std.specs.Prelude.{◌||◌}
 use Rattle.std.specs.List.{list_any}
-use Rattle.query_grammar.specs.declared.query.Item.{Item}
-use Rattle.query_grammar.specs.declared.query.Node.{Node}
+use Rattle.query_tree.specs.declared.query.Item.{Item}
+use Rattle.query_tree.specs.declared.query.Node.{Node}
 use Rattle.op_eval.specs.steps.Asking.{asks_boundaries, asks_spans, has_zones}
 use Rattle.op_eval.proofs.Nodes.{bounds_word, bounds_quoted, bounds_and, bounds_span, zones_word, zones_quoted, zones_and, zones_span}
 use Rattle.op_eval.proofs.JoinedNodes.{bounds_plain, zones_plain, bounds_bounded, zones_bounded}

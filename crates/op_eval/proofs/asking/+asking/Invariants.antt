@@ -1,6 +1,6 @@
 use Rattle.std.proofs.Common.{◌≡◌, take}
 use Rattle.std.specs.List.{list_any}
-use Rattle.query_grammar.specs.declared.query.Item.{Item}
+use Rattle.query_tree.specs.declared.query.Item.{Item}
 use Rattle.op_eval.specs.steps.Asking.{asks_boundaries, asks_spans}
 use Rattle.op_eval.proofs.asking.+asking.Given as goal
 

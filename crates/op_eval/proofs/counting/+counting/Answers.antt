@@ -1,9 +1,9 @@
 use Rattle.std.proofs.Common.{arith, ◌++◌, ◌∙◌, sym, ap, length, length-append}
 use Rattle.std.specs.List.{flat_map}
-use Rattle.query_grammar.specs.declared.query.Item.{Item}
-use Rattle.query_grammar.specs.declared.query.Node.{Node}
-use Rattle.query_grammar.specs.DeepValues.{node_keys}
-use Rattle.query_grammar.proofs.NodeKeys.{keys_word, keys_quoted, keys_and, keys_span}
+use Rattle.query_tree.specs.declared.query.Item.{Item}
+use Rattle.query_tree.specs.declared.query.Node.{Node}
+use Rattle.query_tree.specs.TreeKeys.{node_keys}
+use Rattle.query_tree.proofs.NodeKeys.{keys_word, keys_quoted, keys_and, keys_span}
 use Rattle.op_eval.proofs.JoinedNodes.{keys_joint}
 use Rattle.op_eval.proofs.counting.+counting.Goals as goal
 

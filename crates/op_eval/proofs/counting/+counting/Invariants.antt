@@ -1,7 +1,7 @@
 use Rattle.std.proofs.Common.{◌≡◌, length, min, ◌-◌, ◌^◌, take}
 use Rattle.std.specs.List.{flat_map}
-use Rattle.query_grammar.specs.declared.query.Item.{Item}
-use Rattle.query_grammar.specs.DeepValues.{node_keys}
+use Rattle.query_tree.specs.declared.query.Item.{Item}
+use Rattle.query_tree.specs.TreeKeys.{node_keys}
 use Rattle.op_eval.proofs.counting.+counting.Given as goal
 
 abbrev pub invariant-count_items-loop-item : goal.invariant-count_items-loop-item

@@ -1,8 +1,8 @@
 use Rattle.std.proofs.Common.{ℕ, true, List, [], ◌∷◌, get_or, map, take, IfOk, refl, ap, ◌∙◌, subst}
 use Rattle.std.specs.List.{flat_map}
 use Rattle.std.proofs.lemmas.List.{take_all}
-use Rattle.query_grammar.specs.declared.query.Item.{Item}
-use Rattle.query_grammar.specs.DeepValues.{node_keys}
+use Rattle.query_tree.specs.declared.query.Item.{Item}
+use Rattle.query_tree.specs.TreeKeys.{node_keys}
 use Rattle.op_eval.specs.declared.joining.Join.TheVariants as joins
 use Rattle.op_eval.specs.Finding.{Found, Spans, all_of, any_of, node_finds}
 use Rattle.op_eval.specs.steps.Evaluating.{Finds, Holds, founds_in, part_finds, part_in}

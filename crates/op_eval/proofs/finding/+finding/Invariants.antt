@@ -1,9 +1,9 @@
 use Rattle.std.proofs.Common.{◌≡◌, ℕ, ◌+◌, ◌*◌, max, List, map, take, drop}
-use Rattle.query_grammar.specs.declared.query.Node.{size-Node}
+use Rattle.query_tree.specs.declared.query.Node.{size-Node}
 use Rattle.std.specs.List.{All}
 use Rattle.doc_types.specs.declared.documents.DocRow.{DocRow}
-use Rattle.query_grammar.specs.declared.query.Item.{Item}
-use Rattle.query_grammar.specs.DeepValues.{node_keys}
+use Rattle.query_tree.specs.declared.query.Item.{Item}
+use Rattle.query_tree.specs.TreeKeys.{node_keys}
 use Rattle.occ_lists.specs.Sound.{IsForward}
 use Rattle.occ_lists.specs.Terms.{IsPlaced}
 use Rattle.op_eval.specs.Finding.{any_of}

@@ -2,11 +2,11 @@ use Rattle.std.proofs.Common.{◌≡◌, List, ◌++◌, map, OnOk, sym, ap, ◌
 use Rattle.std.specs.Borrow.{Bor}
 use Rattle.std.specs.List.{flat_map}
 use Rattle.std.proofs.lemmas.List.{append_assoc, map_push}
-use Rattle.query_marks.specs.declared.key.Key.{Key}
-use Rattle.query_grammar.specs.declared.query.Item.{Item}
-use Rattle.query_grammar.specs.declared.query.Node.{Node}
-use Rattle.query_grammar.specs.DeepValues.{node_keys}
-use Rattle.query_grammar.proofs.NodeKeys.{keys_word, keys_quoted, keys_and, keys_span}
+use Rattle.query_tree.specs.declared.key.Key.{Key}
+use Rattle.query_tree.specs.declared.query.Item.{Item}
+use Rattle.query_tree.specs.declared.query.Node.{Node}
+use Rattle.query_tree.specs.TreeKeys.{node_keys}
+use Rattle.query_tree.proofs.NodeKeys.{keys_word, keys_quoted, keys_and, keys_span}
 use Rattle.op_eval.proofs.JoinedNodes.{keys_joint}
 use Rattle.op_eval.proofs.keys.+keys.Goals as goal
 

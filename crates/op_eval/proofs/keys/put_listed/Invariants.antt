@@ -1,6 +1,6 @@
 use Rattle.std.proofs.Common.{◌≡◌, ◌++◌, map, take}
 use Rattle.std.specs.Borrow.{Bor}
-use Rattle.query_marks.specs.declared.key.Key.{Key}
+use Rattle.query_tree.specs.declared.key.Key.{Key}
 use Rattle.op_eval.proofs.keys.put_listed.Given as goal
 
 abbrev pub invariant-loop-key : goal.invariant-loop-key

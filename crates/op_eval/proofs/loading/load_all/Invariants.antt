@@ -1,6 +1,6 @@
 use Rattle.std.proofs.Common.{◌≡◌, ℕ, ◌<◌, ◌≤◌, ◌+◌, Bor, Some, get_or, slice_get}
 use Rattle.doc_types.specs.declared.documents.DocRow.{DocRow}
-use Rattle.query_marks.specs.declared.key.Key.{Key}
+use Rattle.query_tree.specs.declared.key.Key.{Key}
 use Rattle.occ_lists.specs.declared.term.Term.{Term}
 use Rattle.op_eval.specs.Keywords.{key_places}
 use Rattle.op_eval.proofs.loading.load_all.Given as goal

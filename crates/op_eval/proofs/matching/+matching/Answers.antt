@@ -1,7 +1,7 @@
 use Rattle.std.proofs.Common.{◌≡◌, Bool, [], ◌∷◌, get_or, map, nat_lt, IfOk, refl, sym, ap, ◌∙◌}
 use Rattle.std.specs.Prelude.{◌||◌}
 use Rattle.std.proofs.lemmas.Bool.{or_left}
-use Rattle.query_grammar.specs.DeepValues.{node_keys}
+use Rattle.query_tree.specs.TreeKeys.{node_keys}
 use Rattle.op_eval.specs.Finding.{Found, Spans, any_of, node_finds}
 use Rattle.op_eval.specs.steps.Evaluating.{founds_in, part_in}
 use Rattle.op_eval.specs.steps.Terms.{IsTermOf}

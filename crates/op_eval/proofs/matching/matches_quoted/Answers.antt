@@ -1,5 +1,5 @@
 use Rattle.std.proofs.Common.{◌++◌, length, map, sym, ◌∙◌, ap, inl, inr}
-use Rattle.query_marks.specs.declared.key.How.{How}
+use Rattle.query_tree.specs.declared.key.How.{How}
 use Rattle.occ_lists.specs.Runs.{runs}
 use Rattle.occ_lists.specs.Windows.{windows}
 use Rattle.occ_lists.specs.Terms.{listed_in}

@@ -1,5 +1,5 @@
 use Rattle.std.proofs.Common.{Bor, arith}
-use Rattle.query_marks.specs.declared.key.Key.{Key}
+use Rattle.query_tree.specs.declared.key.Key.{Key}
 use Rattle.op_eval.specs.steps.Slots.{Stands}
 use Rattle.op_eval.proofs.Passing.{started}
 use Rattle.op_eval.proofs.Zipped.{zip_more}

@@ -1,5 +1,5 @@
 use Rattle.std.proofs.Common.{Bor, ap, ◌∙◌, arith}
-use Rattle.query_marks.specs.declared.key.Key.{Key}
+use Rattle.query_tree.specs.declared.key.Key.{Key}
 use Rattle.op_eval.specs.steps.Slots.{with_word}
 use Rattle.op_eval.proofs.FirstUses.{first_uses_more}
 use Rattle.op_eval.proofs.slots.distinct.Goals as goal

@@ -1,7 +1,7 @@
 use Rattle.std.proofs.Common.{Bor, arith, map, subst, sym, ap, ◌∙◌, false, ◌≡◌, All}
 use Rattle.std.proofs.lemmas.List.Elements.{All-push}
 use Rattle.occ_lists.specs.declared.term.Term.{Term}
-use Rattle.query_marks.specs.declared.key.Key.{Key}
+use Rattle.query_tree.specs.declared.key.Key.{Key}
 use Rattle.op_eval.specs.steps.Slots.{IsMadeFor, number_among}
 use Rattle.op_eval.proofs.FirstUses.{number_is}
 use Rattle.op_eval.proofs.Zipped.{zip_more}

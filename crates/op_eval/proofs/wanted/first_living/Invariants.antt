@@ -1,5 +1,5 @@
 use Rattle.std.proofs.Common.{◌≡◌}
-use Rattle.query_grammar.specs.declared.query.Query.{Query}
+use Rattle.query_tree.specs.declared.query.Query.{Query}
 use Rattle.op_eval.specs.steps.Streaming.{is_matching, numbers_from}
 use Rattle.op_eval.proofs.wanted.first_living.Given as goal
 

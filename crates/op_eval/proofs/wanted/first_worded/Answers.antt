@@ -1,5 +1,5 @@
 use Rattle.std.proofs.Common.{ap, ◌∙◌, Bor, arith}
-use Rattle.query_grammar.specs.declared.query.Node.{Node}
+use Rattle.query_tree.specs.declared.query.Node.{Node}
 use Rattle.op_eval.proofs.NextMatches.{is_first, looks_on, none_left, search_at}
 use Rattle.op_eval.proofs.Searches.{few, search_of}
 use Rattle.op_eval.proofs.wanted.first_worded.Goals as goal

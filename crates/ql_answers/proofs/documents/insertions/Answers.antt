@@ -7,7 +7,7 @@ use Rattle.std.proofs.lemmas.List.Elements.{All-push}
 use Rattle.doc_types.specs.declared.transactions.TxnOp.{TxnOp}
 use Rattle.doc_types.specs.declared.transactions.TxnOp.TheVariants.{Insert}
 use Rattle.doc_types.specs.Transactions.{IsOpOf}
-use Rattle.ql_grammar.specs.declared.statement.Val.{Val}
+use Rattle.ql_tree.specs.declared.statement.Val.{Val}
 use Rattle.ql_answers.specs.Writing.{Inserts}
 use Rattle.ql_answers.specs.steps.Documents.{Builds}
 use Rattle.std.proofs.lemmas.Result.{err_from_is_err_and}

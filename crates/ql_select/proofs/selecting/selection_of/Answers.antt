@@ -1,6 +1,6 @@
 use Rattle.std.proofs.Common.{◌≤◌, List, sym, subst}
 use Rattle.std.specs.Prelude.{All}
-use Rattle.ql_grammar.specs.declared.select.SelectOption.{SelectOption}
+use Rattle.ql_tree.specs.declared.select.SelectOption.{SelectOption}
 use Rattle.ql_select.specs.Options.{field_weights_option, last_value, weights_in}
 use Rattle.ql_select.proofs.NoFault.{is_page, small_weights}
 use Rattle.ql_select.proofs.selecting.selection_of.Goals as goal

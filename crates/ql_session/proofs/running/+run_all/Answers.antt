@@ -1,5 +1,5 @@
 use Rattle.std.proofs.Common.{List, Bool, not, ap, sym, subst, ◌∙◌}
-use Rattle.ql_grammar.specs.declared.statement.Statement.{Statement}
+use Rattle.ql_tree.specs.declared.statement.Statement.{Statement}
 use Rattle.ql_session.specs.steps.Running.{Runs}
 use Rattle.ql_session.proofs.Several.{RunsAll, more_by_length, none_left, runs_last, runs_on}
 use Rattle.ql_session.proofs.running.+run_all.Goals as goal

@@ -1,6 +1,6 @@
 use Rattle.std.proofs.Common.{All, List, sym, subst, ◌∙◌, arith}
 use Rattle.doc_types.specs.Schemas.{IsSchema}
-use Rattle.conf_text.specs.declared.conf.IndexConf.{IndexConf}
+use Rattle.index_conf.specs.declared.conf.IndexConf.{IndexConf}
 use Rattle.query_vectors.proofs.texts.told.Goals as goal
 
 pub told_by-requires : goal.told_by-requires

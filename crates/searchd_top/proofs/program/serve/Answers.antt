@@ -1,5 +1,5 @@
 use Rattle.std.proofs.Common.{◌≡◌, List, refl, set, ap, ◌∙◌, sym, subst}
-use Rattle.conf_text.specs.declared.conf.IndexConf.{IndexConf}
+use Rattle.index_conf.specs.declared.conf.IndexConf.{IndexConf}
 use Rattle.ql_session.specs.Tables.{Tables}
 use Rattle.searchd_top.specs.Sessions.{ServesOne}
 use Rattle.searchd_top.specs.declared.status.Status.TheVariants.{NoMemory}

@@ -1,7 +1,7 @@
 use Rattle.std.proofs.Common.{◌≡◌, false, Bor, map, All, IfOk, subst, sym, ap, ◌∙◌, rules}
 use Rattle.std.specs.List.{list_any}
-use Rattle.query_marks.specs.declared.key.Key.{Key}
-use Rattle.query_grammar.specs.DeepValues.{node_keys}
+use Rattle.query_tree.specs.declared.key.Key.{Key}
+use Rattle.query_tree.specs.TreeKeys.{node_keys}
 use Rattle.occ_lists.specs.Terms.{IsPlaced}
 use Rattle.op_eval.specs.Finding.{Found}
 use Rattle.op_eval.specs.steps.Evaluating.{Finds}

@@ -1,7 +1,7 @@
 use Rattle.std.proofs.Common.{◌≡◌, false, map, subst, ap, ◌∙◌, rules}
 use Rattle.std.specs.Prelude.{All}
 use Rattle.doc_types.specs.Chunks.{has_word}
-use Rattle.query_marks.specs.declared.key.Key.{Key}
+use Rattle.query_tree.specs.declared.key.Key.{Key}
 use Rattle.op_eval.proofs.Searched.{words_are}
 use Rattle.op_eval.proofs.search.Search.next_row.Goals as goal
 

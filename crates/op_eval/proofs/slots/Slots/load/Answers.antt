@@ -2,7 +2,7 @@ use Rattle.std.proofs.Common.{◌≡◌, List, Bor, length, get_or, sym, ap, sub
 use Rattle.std.specs.List.{AllZip}
 use Rattle.std.specs.Vec.{with_items}
 use Rattle.std.proofs.lemmas.List.{with_items_is, length-map}
-use Rattle.query_marks.specs.declared.key.Key.{Key}
+use Rattle.query_tree.specs.declared.key.Key.{Key}
 use Rattle.op_eval.specs.Keywords.{key_places}
 use Rattle.op_eval.specs.steps.Slots.{IsTermFor, keys_of, number_among}
 use Rattle.op_eval.specs.steps.Terms.{IsTermOf}

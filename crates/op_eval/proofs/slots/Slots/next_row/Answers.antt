@@ -1,5 +1,5 @@
 use Rattle.std.proofs.Common.{Bor, map, IfSome, All, subst, sym, ap, ◌∙◌}
-use Rattle.query_marks.specs.declared.key.Key.{Key}
+use Rattle.query_tree.specs.declared.key.Key.{Key}
 use Rattle.op_eval.specs.steps.Slots.{IsFirstWith, earliest, words_of}
 use Rattle.op_eval.proofs.Passing.{all_belong}
 use Rattle.op_eval.proofs.NextRows.{earliest_is_first}

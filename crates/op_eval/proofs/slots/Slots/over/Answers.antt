@@ -1,6 +1,6 @@
 use Rattle.std.proofs.Common.{Bor, List, map, subst}
 use Rattle.std.specs.List.{AllZip}
-use Rattle.query_marks.specs.declared.key.Key.{Key}
+use Rattle.query_tree.specs.declared.key.Key.{Key}
 use Rattle.op_eval.specs.steps.Slots.{IsTermFor, Stands, number_among}
 use Rattle.op_eval.proofs.Allowed.{terms_for}
 use Rattle.op_eval.proofs.slots.Slots.over.Goals as goal

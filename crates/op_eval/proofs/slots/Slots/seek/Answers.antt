@@ -2,7 +2,7 @@ use Rattle.std.proofs.Common.{◌≡◌, Bor, length, None, IfSome, All, ap, sub
 use Rattle.std.specs.List.{AllZip}
 use Rattle.std.specs.Vec.{with_items}
 use Rattle.std.proofs.lemmas.List.{with_items_is, length-map}
-use Rattle.query_marks.specs.declared.key.Key.{Key}
+use Rattle.query_tree.specs.declared.key.Key.{Key}
 use Rattle.op_eval.specs.steps.Slots.{IsTermFor, Stands, is_next, keys_of, number_among, words_of}
 use Rattle.op_eval.specs.steps.Terms.{IsSeenIn}
 use Rattle.op_eval.proofs.Marking.{marked_for, marked_seen}

@@ -1,5 +1,5 @@
 use Rattle.std.proofs.Common.{◌∙◌, List, ap}
-use Rattle.ql_grammar.specs.declared.select.SelectItem.{SelectItem}
+use Rattle.ql_tree.specs.declared.select.SelectItem.{SelectItem}
 use Rattle.ql_select.specs.Names.{is_alias}
 use Rattle.ql_select.proofs.aliases.Aliases.has.Goals as goal
 

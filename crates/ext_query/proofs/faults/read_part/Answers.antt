@@ -1,5 +1,0 @@
-use Rattle.ext_query.proofs.FirstFaults.{read_before}
-use Rattle.ext_query.proofs.faults.read_part.Goals as goal
-
-pub returns-in-Some : goal.returns-in-Some
-returns-in-Some c = read_before c.args.marks.now c.args.stop c.in-Some.place c.marks_before.result c.in-Some.is c.requires.orderly c.requires.stops c.marks_before.ensures

@@ -1,9 +1,0 @@
-use Rattle.std.proofs.Common.{length}
-use Rattle.ext_query.proofs.OrderSteps.{LimitsRead}
-use Rattle.ext_query.proofs.reader.limits.Given as goal
-
-abbrev pub invariant-limits : goal.invariant-limits
-invariant-limits l = LimitsRead l.fn.input l.span l.input
-
-abbrev pub decreases-limits : goal.decreases-limits
-decreases-limits l = length l.input

@@ -1,0 +1,2 @@
+-- what holds of every configuration that is served
+pub mod Soundness

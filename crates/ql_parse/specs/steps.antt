@@ -1,3 +1,0 @@
--- What serves proofs and private functions alone.
-pub mod Selecting
-pub mod PacketReading

@@ -1,2 +1,0 @@
--- What serves proofs and private functions alone.
-pub mod Seconds

@@ -1,0 +1,9 @@
+pub mod Cursors
+pub mod Steps
+pub mod Wholes
+pub mod StatementValues
+pub mod SelectValues
+pub mod SelectSteps
+pub mod PacketSteps
+pub mod Faults
+pub mod ParseAnswers

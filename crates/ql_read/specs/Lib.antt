@@ -1,0 +1,2 @@
+-- What serves proofs and private functions alone
+pub mod steps

@@ -1,0 +1,76 @@
+//! A packet: statements with `;` between them, and maybe one after the last. A packet has at most 32; one more is a fault of
+//! its own kind where a statement begins there, and a syntax error where none does.
+
+ghost use Rattle.std.specs.Prelude.{◌≡◌};
+ghost use Rattle.ql_lex.specs.Tokens.{AreLexemes};
+ghost use Rattle.ql_grammar.specs.Packets.{Parses};
+ghost use Rattle.ql_read.specs.steps.PacketReading.{ReadsPacket, syntax_error};
+ghost use Rattle.ql_grammar.specs.Tokens.{lexemes};
+
+use crate::cursor::Cursor;
+use crate::statements::statement;
+use ql_grammar::{ParseFault, ParseKind};
+use ql_lex::{Sign, Token};
+use ql_tree::{MAX_STATEMENTS, Statement};
+use srch_base::{Items, Or};
+use std::alloc::Global;
+
+/// Reads statements with `;` between them up to the end; none, where one more begins than are allowed.
+fn packet(alloc: Global, input: &mut Cursor<'_>) -> Result<Option<Items<Statement>>, Or<u32>>
+    ensures { ReadsPacket input.old result input.new }
+{
+    let mut list = Vec::new(alloc);
+    list.push(statement(alloc, input)?)?;
+    'statements: while input.takes_sign(Sign::Semicolon) {
+        if input.is_end() {
+            return Ok(Some(Items::new(list)));
+        }
+        if list.len() == MAX_STATEMENTS {
+            if input.begins_statement() {
+                return Ok(None);
+            }
+            return Err(Or::Fault(input.place()));
+        }
+        list.push(statement(alloc, input)?)?;
+    }
+    if input.is_end() {
+        return Ok(Some(Items::new(list)));
+    }
+    Err(Or::Fault(input.place()))
+}
+
+/// The fault of a syntax error's place.
+fn syntax(error: Or<u32>) -> Or<ParseFault>
+    ensures { result ≡ syntax_error error }
+{
+    match error {
+        Or::NoMemory => Or::NoMemory,
+        Or::Fault(place) => {
+            let kind = ParseKind::Syntax;
+            Or::Fault(ParseFault { place, kind })
+        }
+    }
+}
+
+/// The statements of a text, from its tokens as `ql_lex::lex` gives them.
+///
+/// It takes a time linear in the number of tokens, and never looks further ahead than two of them. The grammar is printed in
+/// `docs/SPHINXQL.md`.
+pub fn parse(alloc: Global, tokens: &[Token<'_>]) -> Result<Vec<Statement>, Or<ParseFault>>
+    requires { AreLexemes (lexemes tokens.now) }
+    ensures { Parses (lexemes tokens.now) result }
+{
+    let mut input = Cursor::new(tokens);
+    match packet(alloc, &mut input) {
+        Ok(Some(list)) => {
+            let statements = list.into_vec();
+            Ok(statements)
+        }
+        Ok(None) => {
+            let place = input.place();
+            let kind = ParseKind::TooMany;
+            Err(Or::Fault(ParseFault { place, kind }))
+        }
+        Err(error) => Err(syntax(error)),
+    }
+}

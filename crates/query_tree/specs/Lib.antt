@@ -1,0 +1,2 @@
+-- the keywords of a query
+pub mod TreeKeys
