@@ -2,9 +2,9 @@
 ghost use Rattle.std.specs.Prelude.{◌<◌, All, AllPairs, IfOk, IsTrue, OnOk};
 ghost use Rattle.eval_vectors.specs.steps.Reading.{AreFewRows, IsShortField, IsShortRow, IsSoundIndex};
 
-use index_conf::IndexConf;
 use doc_tokens::tokens;
 use doc_types::{Doc, DocRow, FieldTokens, PlainChunk};
+use index_conf::IndexConf;
 use srch_base::Items;
 use std::alloc::Global;
 use std::test::Fail;

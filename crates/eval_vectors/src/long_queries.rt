@@ -6,8 +6,8 @@ use crate::documents::chunk_of;
 use crate::queries::query_of;
 use crate::sets::index_of;
 use crate::telling::told;
-use index_conf::IndexConf;
 use doc_types::PlainChunk;
+use index_conf::IndexConf;
 use std::alloc::Global;
 use std::test::Fail;
 

@@ -7,11 +7,11 @@ use crate::cases::{DOCUMENTS, QUERIES};
 use crate::documents::chunk_of;
 use crate::sets::{index_of, lines_of};
 use crate::telling::told;
-use index_conf::IndexConf;
 use doc_types::PlainChunk;
-use query_tree::Query;
-use query_read::read_query;
+use index_conf::IndexConf;
 use op_eval::for_schema;
+use query_read::read_query;
+use query_tree::Query;
 use std::alloc::Global;
 use std::test::Fail;
 

@@ -5,8 +5,8 @@ use crate::documents::{built, push};
 use crate::queries::query_of;
 use crate::sets::index_of;
 use crate::telling::count;
-use index_conf::IndexConf;
 use doc_types::PlainChunk;
+use index_conf::IndexConf;
 use std::alloc::Global;
 use std::test::Fail;
 

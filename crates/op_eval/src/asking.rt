@@ -3,8 +3,7 @@ ghost use Rattle.std.specs.Prelude.{◌≡◌, ◌||◌, false};
 ghost use Rattle.std.specs.List.{list_any};
 ghost use Rattle.op_eval.specs.steps.Asking.{asks_boundaries, asks_spans, has_zones};
 
-use query_tree::{Item, Node};
-use query_tree::Key;
+use query_tree::{Item, Key, Node};
 
 /// What is asked for.
 #[derive(Clone, Copy)]

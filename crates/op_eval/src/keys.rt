@@ -3,8 +3,7 @@ ghost use Rattle.std.specs.Prelude.{◌≡◌, ◌++◌, map, OnOk};
 ghost use Rattle.std.specs.List.{flat_map};
 ghost use Rattle.query_tree.specs.TreeKeys.{node_keys};
 
-use query_tree::{Item, Node};
-use query_tree::Key;
+use query_tree::{Item, Key, Node};
 use srch_base::NoMemory;
 
 /// Appends the keywords of the node.

@@ -16,8 +16,7 @@ use crate::quorum::is_enough;
 use crate::quoting::standing;
 use doc_types::ZoneSpan;
 use occ_lists::{Buffers, Term, put_runs, put_widest};
-use query_tree::{Item, Node};
-use query_tree::How;
+use query_tree::{How, Item, Node};
 use srch_base::NoMemory;
 
 /// What evaluation works with: the spans in force, and lists to use again.

@@ -13,8 +13,7 @@ ghost use Rattle.op_eval.specs.steps.Slots.{with_word, AreAt, AreSlots, HasPasse
 use crate::keys::put_keys;
 use doc_types::{Chunk, Cursor};
 use occ_lists::Term;
-use query_tree::Node;
-use query_tree::Key;
+use query_tree::{Key, Node};
 use srch_base::NoMemory;
 use std::alloc::Global;
 

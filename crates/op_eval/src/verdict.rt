@@ -14,8 +14,7 @@ ghost use Rattle.op_eval.specs.steps.Verdicts.{AreApart, Tells, negation, conjun
 use crate::counting::{part_first, part_last};
 use crate::quorum::is_enough;
 use occ_lists::Term;
-use query_tree::{Item, Node};
-use query_tree::How;
+use query_tree::{How, Item, Node};
 
 /// Whether a row matches, as far as its words tell.
 #[derive(Clone, Copy, Debug, PartialEq, Eq)]

@@ -12,11 +12,11 @@ ghost use Rattle.index_conf.specs.declared.conf.IndexConf.{IndexConf};
 ghost use Rattle.doc_types.specs.declared.schema.Schema.{Schema};
 ghost use Rattle.ql_answers.specs.steps.Documents.{Builds, BuildsAll, IsShaped, PutsOr};
 
-use index_conf::IndexConf;
 use doc_tokens::{TooLong, tokens};
 use doc_types::{AttrKind, Doc, FieldTokens, Schema, Txn, TxnOp, Value};
-use ql_tree::Val;
+use index_conf::IndexConf;
 use ql_refusals::{Refusal, Target, kind_of, name_of, too_many_positions};
+use ql_tree::Val;
 use srch_base::{Items, NoMemory, Or};
 use std::alloc::Global;
 use std::marker::Model;

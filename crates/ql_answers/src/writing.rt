@@ -5,11 +5,11 @@ ghost use Rattle.std.specs.Prelude.{◌≡◌, [], filter_map, option_copied, If
 ghost use Rattle.ql_answers.specs.Writing.{columns_fault, holds, id_fault, is_among, names_fault, is_between, row_fault, rows_fault, targets, value_fault, values_fault};
 
 use doc_types::{AttrKind, Schema};
-use ql_tree::Val;
 use ql_refusals::{
     ID, Refusal, Target, all_targets, id_missing, id_out_of_range, kind_of, name_fault, name_of,
     target_of, value_out_of_range, wrong_kind, wrong_number,
 };
+use ql_tree::Val;
 use srch_base::{Items, Name, NoMemory};
 use std::alloc::Global;
 

@@ -9,11 +9,11 @@ use crate::options::{
     FIELD_WEIGHTS_OPTION, MAX_MATCHES_OPTION, RANKER_OPTION, is_option, ranker_named,
 };
 use doc_types::Schema;
-use ql_tree::{Cond, OptionValue, Select, SelectExpr, SelectItem, SelectOption, SortKey, SortName};
 use ql_refusals::{
     Refusal, Target, column_is_field, column_is_no_field, name_fault, ranker_not_offered,
     target_of, unknown_column, unknown_option, value_out_of_range, wrong_kind,
 };
+use ql_tree::{Cond, OptionValue, Select, SelectExpr, SelectItem, SelectOption, SortKey, SortName};
 use srch_base::{Name, NoMemory};
 use std::alloc::Global;
 

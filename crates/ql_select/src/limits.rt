@@ -7,11 +7,11 @@ ghost use Rattle.ql_select.specs.Parts.{limits, page_of};
 
 use crate::options::max_matches_of;
 use doc_types::Schema;
-use ql_tree::{Cond, LimitPart, Select, SelectItem};
 use ql_refusals::{
     Refusal, max_matches_out_of_range, offset_not_below, second_match, too_many_columns,
     too_many_sort_keys,
 };
+use ql_tree::{Cond, LimitPart, Select, SelectItem};
 use row_select::Page;
 
 /// The most columns of a result set.

@@ -4,8 +4,8 @@ ghost use Rattle.std.specs.List.{find, list_any};
 ghost use Rattle.ql_select.specs.Names.{column_of, expr_column, has_alias, has_group_parts, is_count, is_grouped, is_of_groups, item_column, item_is_of_groups, key_column, names_groups, order_column};
 
 use doc_types::Schema;
-use ql_tree::{Select, SelectExpr, SelectItem, SortKey, SortName};
 use ql_refusals::{Target, target_of};
+use ql_tree::{Select, SelectExpr, SelectItem, SortKey, SortName};
 use row_select::ColumnRef;
 
 /// The column of numbers of this name.

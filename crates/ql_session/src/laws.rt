@@ -12,8 +12,8 @@ ghost use Rattle.ql_session.specs.Tables.{AreSound, Event, Follows, Tables, empt
 ghost use Rattle.serve_line.specs.Machines.{FollowAll};
 
 use ql_answers::{a_plan_has_one_reply, a_statement_has_one_plan};
-use ql_lex::one_reading;
 use ql_laws::{packets_have_no_fault, tokens_have_one_fault, tokens_have_one_value};
+use ql_lex::one_reading;
 
 /// A text states one list of statements or is refused for one reason, and never both.
 pub fn a_text_is_read_in_one_way()

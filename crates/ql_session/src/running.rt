@@ -17,8 +17,8 @@ use crate::refusing::put_refusal;
 use doc_types::PlainChunk;
 use plain_store::Duplicate;
 use ql_answers::{Event, Need, Session};
-use ql_tree::Statement;
 use ql_refusals::{Refusal, no_memory};
+use ql_tree::Statement;
 use srch_base::{NoMemory, Or};
 use std::alloc::Global;
 

@@ -10,8 +10,8 @@ ghost use Rattle.plain_store.specs.Commits.{AreInsertions, Commits as CommitsTo,
 ghost use Rattle.ql_session.specs.Tables.{empty_tables};
 ghost use Rattle.ql_session.specs.steps.Running.{Commits};
 
-use index_conf::IndexConf;
 use doc_types::{PlainChunk, Snapshot, Txn};
+use index_conf::IndexConf;
 use plain_store::{Duplicate, PlainStore};
 use ql_answers::Catalog;
 use srch_base::{NoMemory, Or};

@@ -4,9 +4,9 @@ ghost use Rattle.ql_grammar.specs.Tokens.{lexemes};
 ghost use Rattle.ql_session.specs.steps.Running.{ReadsText, ReadsTokens};
 
 use ql_lex::{Token, lex};
-use ql_tree::Statement;
 use ql_read::parse;
 use ql_refusals::{Refusal, bad_syntax, bad_token, not_offered};
+use ql_tree::Statement;
 use srch_base::Or;
 use std::alloc::Global;
 

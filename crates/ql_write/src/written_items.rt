@@ -10,8 +10,8 @@ ghost use Rattle.ql_write.specs.steps.Writing.{Appends};
 use crate::writing::{Token, put_all, put_one};
 use crate::written::Written;
 use ql_grammar::Keyword;
-use ql_tree::{SelectExpr, SelectItem};
 use ql_lex::Sign;
+use ql_tree::{SelectExpr, SelectItem};
 use srch_base::{Name, NoMemory};
 
 /// `COUNT ( * )`

@@ -13,8 +13,11 @@ use crate::writing::{Token, put_all, put_one};
 use crate::written::{Written, put_enclosed, put_given, put_in_row, put_listed, put_with_commas};
 use crate::written_items::{put_call, put_count};
 use ql_grammar::Keyword;
-use ql_tree::{Comparison, Cond, FacetPart, Having, LimitPart, OptionValue, Select, SelectOption, SortKey, SortName};
 use ql_lex::Sign;
+use ql_tree::{
+    Comparison, Cond, FacetPart, Having, LimitPart, OptionValue, Select, SelectOption, SortKey,
+    SortName,
+};
 use srch_base::{Name, NoMemory, Text};
 
 /// The sign of a comparison.

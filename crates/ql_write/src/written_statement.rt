@@ -10,8 +10,8 @@ ghost use Rattle.ql_write.specs.steps.Writing.{Appends};
 use crate::writing::{Token, put_all, put_one};
 use crate::written::{Written, put_enclosed, put_with_commas};
 use ql_grammar::Keyword;
-use ql_tree::{Ids, Plain, Scope, SetValue, Statement, Target, Val};
 use ql_lex::Sign;
+use ql_tree::{Ids, Plain, Scope, SetValue, Statement, Target, Val};
 use srch_base::{Items, Name, NoMemory};
 
 impl Written for Val {

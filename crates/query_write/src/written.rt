@@ -7,8 +7,7 @@ ghost use Rattle.query_write.specs.steps.Writes.{Appends, token_of, read_limit, 
 
 use crate::tokens::{Token, is_all, put_one};
 use doc_types::Schema;
-use query_tree::{Item, Node, Query};
-use query_tree::{Key, Limit};
+use query_tree::{Item, Key, Limit, Node, Query};
 use srch_base::NoMemory;
 
 /// The line of the grammar by which a node is made of others.

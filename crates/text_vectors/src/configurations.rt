@@ -2,8 +2,8 @@
 //! changes that break it, and the longest file that is read; and what the kinds of faults are in words.
 use crate::configuration_faults::fault_of;
 use conf_text::{ConfKind, MAX_CONF_BYTES, read_conf};
-use index_conf::IndexConf;
 use doc_types::AttrKind;
+use index_conf::IndexConf;
 use srch_base::Name;
 use std::alloc::Global;
 use std::test::Fail;
