@@ -15,7 +15,7 @@ TOKENS = "crates/text_vectors/src/evaluated_fields.rt"
 HEAD = """//! The {what} of docs/cases/evaluation.md, as scripts/evaluation_cases.py writes them: edit them there. {how}
 """
 SECTIONS = "A\n//! line `# S` begins what is of the set S. Parts of a line are separated by ` ⇒ `; the empty text is an empty part."
-LINES = "Parts\n//! of a line are separated by ` ⇒ `."
+LINES = "A\n//! line begins with `html_strip` and `index_sp` of the index; words and spans stand each after ` ⇒ `."
 
 PLACES = r"-|\d+\.\d+-\d+(?: \d+\.\d+-\d+)*"
 HITS = r"-|\d+/\d+@\d+\.\d+(?: \d+/\d+@\d+\.\d+)*"
@@ -115,7 +115,7 @@ def fields(sets):
             number, field = place.split(".")
             text = texts[number][int(field)]
             if text:
-                yield f"{strip} ⇒ {sp} ⇒ {text} ⇒ {written_words(words)} ⇒ {written_spans(spans)}"
+                yield f"{strip} {sp} {text} ⇒ {written_words(words)} ⇒ {written_spans(spans)}"
 
 
 def file(what, how, constants):
@@ -133,7 +133,7 @@ def made():
         constant("Queries with what they find.", "QUERIES", headed(asked)),
     ])
     yield TOKENS, file("fields of documents", LINES, [
-        constant("`html_strip` and `index_sp` of an index, the text of a field, its words and its spans.", "FIELDS", fields(sets)),
+        constant("Texts of fields with their words and spans.", "FIELDS", fields(sets)),
     ])
 
 

@@ -5,7 +5,7 @@ ghost use Rattle.eval_vectors.specs.steps.Reading.{IsSoundIndex};
 use crate::documents::chunk_of;
 use crate::queries::query_of;
 use crate::sets::index_of;
-use crate::telling::told;
+use crate::telling::{compare, told};
 use doc_types::PlainChunk;
 use index_conf::IndexConf;
 use std::alloc::Global;
@@ -20,52 +20,17 @@ const NO_WORD: u32 = 256;
 /// The word that the second document doesn't have.
 const MISSING: u32 = 128;
 
-/// How a query's words are joined.
-struct Join {
-    operator: &'static str,
-    /// One occurrence goes over all words, in place of one for each.
-    whole: bool,
-    /// The second document matches too.
-    without: bool,
-}
-
-const JOINS: [Join; 7] = [
-    Join {
-        operator: " ",
-        whole: false,
-        without: false,
-    },
-    Join {
-        operator: " | ",
-        whole: false,
-        without: true,
-    },
-    Join {
-        operator: " MAYBE ",
-        whole: false,
-        without: true,
-    },
-    Join {
-        operator: " << ",
-        whole: true,
-        without: false,
-    },
-    Join {
-        operator: " NEAR/3 ",
-        whole: true,
-        without: false,
-    },
-    Join {
-        operator: " SENTENCE ",
-        whole: true,
-        without: false,
-    },
-    Join {
-        operator: " PARAGRAPH ",
-        whole: true,
-        without: false,
-    },
-];
+/// Two words with the operator that joins a query's words; whether each word has an occurrence of its own or one goes over all;
+/// and the documents that match.
+const JOINS: &str = "\
+a b ⇒ each ⇒ 1
+a | b ⇒ each ⇒ 1, 2
+a MAYBE b ⇒ each ⇒ 1, 2
+a << b ⇒ all ⇒ 1
+a NEAR/3 b ⇒ all ⇒ 1
+a SENTENCE b ⇒ all ⇒ 1
+a PARAGRAPH b ⇒ all ⇒ 1
+";
 
 /// The words but one, with this between them.
 fn words(alloc: Global, between: &str, without: u32) -> Result<String, Fail> {
@@ -131,13 +96,13 @@ fn found_of(alloc: Global, whole: bool, without: u32) -> Result<String, Fail> {
     Ok(format!(in alloc; "{occs},{hits}")?)
 }
 
-/// What the query finds.
-fn wanted(alloc: Global, join: &Join) -> Result<String, Fail> {
-    let first = found_of(alloc, join.whole, NO_WORD)?;
-    if !join.without {
+/// What the query finds in these documents.
+fn wanted(alloc: Global, whole: bool, documents: &str) -> Result<String, Fail> {
+    let first = found_of(alloc, whole, NO_WORD)?;
+    if documents == "1" {
         return Ok(format!(in alloc; "1:{first}")?);
     }
-    let second = found_of(alloc, join.whole, MISSING)?;
+    let second = found_of(alloc, whole, MISSING)?;
     Ok(format!(in alloc; "1:{first}; 2:{second}")?)
 }
 
@@ -155,25 +120,25 @@ fn told_of(
     told(alloc, &query, chunk)
 }
 
-/// Fails with the operator if its query finds something else, and with what it finds.
-fn try_join(alloc: Global, index: &IndexConf, chunk: &PlainChunk, join: &Join) -> Result<(), Fail>
+/// Fails with the two words if the query of their operator finds something else, and with what it finds.
+fn try_join(alloc: Global, index: &IndexConf, chunk: &PlainChunk, line: &str) -> Result<(), Fail>
     requires { IsSoundIndex index.now }
 {
-    let found = told_of(alloc, index, chunk, join.operator)?;
-    let wanted = wanted(alloc, join)?;
-    if found.as_str() == wanted.as_str() {
-        return Ok(());
-    }
-    let operator = join.operator;
-    Err(Fail::new(format!(in alloc; "{operator}: {found}")?))
+    let (pair, rest) = line.split_once(" ⇒ ").ok_or("a line without an arrow")?;
+    let (occs, documents) = rest.split_once(" ⇒ ").ok_or("a line with one arrow")?;
+    let operator = pair.strip_prefix('a').ok_or("no a")?;
+    let operator = operator.strip_suffix('b').ok_or("no b")?;
+    let found = told_of(alloc, index, chunk, operator)?;
+    let wanted = wanted(alloc, occs == "all", documents)?;
+    compare(alloc, pair, found.as_str(), wanted.as_str())
 }
 
 /// Fails with the first operator of which a query finds something else.
 fn try_joins(alloc: Global, index: &IndexConf, chunk: &PlainChunk) -> Result<(), Fail>
     requires { IsSoundIndex index.now }
 {
-    for join in &JOINS {
-        try_join(alloc, index, chunk, join)?;
+    for line in JOINS.lines() {
+        try_join(alloc, index, chunk, line)?;
     }
     Ok(())
 }

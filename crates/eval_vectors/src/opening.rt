@@ -6,6 +6,7 @@ use crate::cases::DOCUMENTS;
 use crate::documents::chunk_of;
 use crate::queries::query_of;
 use crate::sets::{index_of, lines_of};
+use crate::telling::compare;
 use doc_types::{Chunk, Cursor, Gap, Value, ZoneSpan};
 use index_conf::IndexConf;
 use op_eval::candidates;
@@ -105,26 +106,26 @@ impl<C: Chunk> Chunk for Shut<C> {
 }
 
 /// Queries over the set `letters`, and whether they open a list.
-const OPENING: [(&str, bool); 18] = [
-    ("a", false),
-    ("absent", false),
-    ("a b", false),
-    ("a -b", false),
-    ("a | b", false),
-    ("a MAYBE b", false),
-    ("((a | b) c MAYBE x) -absent", false),
-    ("\"a b c\"/2", false),
-    ("\"a absent\"", false),
-    ("a (b | \"a b\")", false),
-    ("\"a b\"", true),
-    ("\"a b\"~3", true),
-    ("a << b", true),
-    ("a NEAR/2 b", true),
-    ("^a", true),
-    ("a$", true),
-    ("@text[1] a", true),
-    ("a (x | \"a b\")", true),
-];
+const OPENING: &str = r#"
+a ⇒ no list
+absent ⇒ no list
+a b ⇒ no list
+a -b ⇒ no list
+a | b ⇒ no list
+a MAYBE b ⇒ no list
+((a | b) c MAYBE x) -absent ⇒ no list
+"a b c"/2 ⇒ no list
+"a absent" ⇒ no list
+a (b | "a b") ⇒ no list
+"a b" ⇒ a list
+"a b"~3 ⇒ a list
+a << b ⇒ a list
+a NEAR/2 b ⇒ a list
+^a ⇒ a list
+a$ ⇒ a list
+@text[1] a ⇒ a list
+a (x | "a b") ⇒ a list
+"#;
 
 fn opens_by<L: Ledger, C: Chunk>(alloc: Global, query: &Query, chunk: &C, blank: Blank) -> bool
     requires name { blank.name ≡ L.name }
@@ -140,41 +141,29 @@ fn opens<C: Chunk>(alloc: Global, query: &Query, chunk: &C) -> bool {
     opens_by::<Brand, C>(alloc, query, chunk, Blank::new(1))
 }
 
-/// Whether the query of a text opens a list.
-fn opens_text<C: Chunk>(
+/// What the query of a text opens.
+fn opened<C: Chunk>(
     alloc: Global,
     index: &IndexConf,
     chunk: &C,
     text: &str,
-) -> Result<bool, Fail>
+) -> Result<&'static str, Fail>
     requires { IsSoundIndex index.now }
 {
     let query = query_of(alloc, text, index)?;
-    Ok(opens(alloc, &query, chunk))
-}
-
-/// Fails with the query if it opens a list and shouldn't, or doesn't and should.
-fn try_query<C: Chunk>(
-    alloc: Global,
-    index: &IndexConf,
-    chunk: &C,
-    text: &str,
-    wanted: bool,
-) -> Result<(), Fail>
-    requires { IsSoundIndex index.now }
-{
-    if opens_text(alloc, index, chunk, text)? == wanted {
-        return Ok(());
+    if opens(alloc, &query, chunk) {
+        return Ok("a list");
     }
-    Err(Fail::new(format!(in alloc; "{text}")?))
+    Ok("no list")
 }
 
-/// Fails with the first of these queries.
+/// Fails with the first query that opens a list and shouldn't, or doesn't and should.
 fn try_opening<C: Chunk>(alloc: Global, index: &IndexConf, chunk: &C) -> Result<(), Fail>
     requires { IsSoundIndex index.now }
 {
-    for (text, wanted) in &OPENING {
-        try_query(alloc, index, chunk, text, *wanted)?;
+    for line in OPENING.trim_start().lines() {
+        let (text, wanted) = line.split_once(" ⇒ ").ok_or("a line without an arrow")?;
+        compare(alloc, text, opened(alloc, index, chunk, text)?, wanted)?;
     }
     Ok(())
 }

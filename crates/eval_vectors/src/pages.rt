@@ -1,120 +1,183 @@
 //! Which rows conditions hold of and which rows pages show, worked out by hand.
+use crate::telling::compare;
 use doc_types::Value;
-use row_select::ColumnRef::{Attr, Id, Weight};
-use row_select::CompareOp::{AtLeast, AtMost, Equal, Greater, Less, NotEqual};
 use row_select::{Collector, ColumnRef, CompareOp, Conditions, Filter, Order, Page, Row, top};
 use srch_base::Items;
 use std::alloc::Global;
 use std::test::Fail;
 
 /// The rows of both tables: a letter that stands for the row, its id, its weight and two attributes.
-const ROWS: [(char, u64, u64, i64, i64); 6] = [
-    ('A', u64::MAX, 3, 0, 4_294_967_295),
-    ('B', 1, 3, i64::MIN, 5),
-    ('C', 1 << 63, u64::MAX - 1, 1, -1),
-    ('D', 2, u64::MAX, i64::MAX, 5),
-    ('E', 3, 3, 0, -1),
-    ('F', 4, 0, -1, 5),
-];
+const ROWS: &str = "\
+A 18446744073709551615 3 0 4294967295
+B 1 3 -9223372036854775808 5
+C 9223372036854775808 18446744073709551614 1 -1
+D 2 18446744073709551615 9223372036854775807 5
+E 3 3 0 -1
+F 4 0 -1 5
+";
 
-/// What a condition says of its column.
+/// Conditions: a column, what is said of it, and the rows of which that holds.
+const CONDITIONS: &str = "\
+id = 18446744073709551615 ⇒ A
+id = 18446744073709551616 ⇒ 
+id = -1 ⇒ 
+id <> 1 ⇒ ACDEF
+id <> -1 ⇒ ABCDEF
+id < 1 ⇒ 
+id < 2 ⇒ B
+id > 9223372036854775807 ⇒ AC
+id > 18446744073709551614 ⇒ A
+id > 18446744073709551615 ⇒ 
+id <= 0 ⇒ 
+id <= 1 ⇒ B
+id <= 170141183460469231731687303715884105727 ⇒ ABCDEF
+id >= 18446744073709551615 ⇒ A
+id >= 18446744073709551616 ⇒ 
+id >= -170141183460469231731687303715884105728 ⇒ ABCDEF
+weight = 3 ⇒ ABE
+weight <> 3 ⇒ CDF
+weight > 18446744073709551614 ⇒ D
+weight < 0 ⇒ 
+weight <= 0 ⇒ F
+attr0 = -9223372036854775808 ⇒ B
+attr0 = 9223372036854775808 ⇒ 
+attr0 <> 0 ⇒ BCDF
+attr0 < -9223372036854775808 ⇒ 
+attr0 < 0 ⇒ BF
+attr0 < 170141183460469231731687303715884105727 ⇒ ABCDEF
+attr0 < -170141183460469231731687303715884105728 ⇒ 
+attr0 > -1 ⇒ ACDE
+attr0 > 9223372036854775807 ⇒ 
+attr0 <= -9223372036854775808 ⇒ B
+attr0 <= 0 ⇒ ABEF
+attr0 >= 0 ⇒ ACDE
+attr0 >= 9223372036854775807 ⇒ D
+attr1 = 4294967295 ⇒ A
+attr1 = -1 ⇒ CE
+attr2 = 0 ⇒ ABCDEF
+id in -1 18446744073709551615 ⇒ A
+id not-in 1 1 ⇒ ACDEF
+weight in 3 0 ⇒ ABEF
+attr0 in 0 1 ⇒ ACE
+attr0 not-in 0 1 ⇒ BDF
+attr0 not-in -170141183460469231731687303715884105728 170141183460469231731687303715884105727 ⇒ ABCDEF
+id between 2 2 ⇒ D
+id between 9223372036854775808 18446744073709551615 ⇒ AC
+attr0 between -9223372036854775808 -1 ⇒ BF
+attr0 between 0 1 ⇒ ACE
+attr0 between 1 0 ⇒ 
+attr0 between -170141183460469231731687303715884105728 170141183460469231731687303715884105727 ⇒ ABCDEF
+weight between 4 18446744073709551614 ⇒ C
+";
+
+/// Pages: two keys, the offset, the count and `max_matches`, and the rows that are shown.
+const PAGES: &str = "\
+weight desc, weight desc; 0 20 1000 ⇒ DCBEAF
+weight asc, weight desc; 0 20 1000 ⇒ FBEACD
+id asc, id desc; 0 20 1000 ⇒ BDEFCA
+id desc, id asc; 0 20 1000 ⇒ ACFEDB
+attr0 asc, weight desc; 0 20 1000 ⇒ BFEACD
+attr0 desc, weight desc; 0 20 1000 ⇒ DCEAFB
+attr0 desc, id desc; 0 20 1000 ⇒ DCAEFB
+attr1 asc, weight desc; 0 20 1000 ⇒ CEDBFA
+attr1 desc, attr0 asc; 0 20 1000 ⇒ ABFDEC
+weight desc, attr1 asc; 0 20 1000 ⇒ DCEBAF
+id asc, id asc; 0 0 1000 ⇒ 
+id asc, id asc; 3 0 1000 ⇒ 
+id asc, id asc; 0 1 1000 ⇒ B
+id asc, id asc; 2 2 1000 ⇒ EF
+id asc, id asc; 4 20 1000 ⇒ CA
+id asc, id asc; 6 20 1000 ⇒ 
+id asc, id asc; 7 1 1000 ⇒ 
+id asc, id asc; 0 20 3 ⇒ BDE
+id asc, id asc; 2 20 3 ⇒ E
+id asc, id asc; 1 1 3 ⇒ D
+id asc, id asc; 3 20 3 ⇒ 
+id asc, id asc; 4 20 3 ⇒ 
+id asc, id asc; 0 20 0 ⇒ 
+id asc, id asc; 5 1 6 ⇒ A
+id desc, id desc; 0 4294967295 4294967295 ⇒ ACFEDB
+id desc, id desc; 4294967295 4294967295 4294967295 ⇒ 
+";
+
+/// What a table's text is, and how it is tried.
 #[derive(Clone, Copy)]
-enum Test {
-    Is(CompareOp, i128),
-    In([i128; 2]),
-    NotIn([i128; 2]),
-    Between(i128, i128),
+enum Trial {
+    /// A condition by itself.
+    Alone,
+    /// A condition made ready.
+    Ready,
+    /// A page of all rows at once.
+    AtOnce,
+    /// A page of rows that are found one after the other.
+    Collected,
 }
 
-/// A column, what is said of it, and the rows of which that holds.
-const CONDITIONS: [(ColumnRef, Test, &str); 50] = [
-    (Id, Test::Is(Equal, 18_446_744_073_709_551_615), "A"),
-    (Id, Test::Is(Equal, 18_446_744_073_709_551_616), ""),
-    (Id, Test::Is(Equal, -1), ""),
-    (Id, Test::Is(NotEqual, 1), "ACDEF"),
-    (Id, Test::Is(NotEqual, -1), "ABCDEF"),
-    (Id, Test::Is(Less, 1), ""),
-    (Id, Test::Is(Less, 2), "B"),
-    (Id, Test::Is(Greater, 9_223_372_036_854_775_807), "AC"),
-    (Id, Test::Is(Greater, 18_446_744_073_709_551_614), "A"),
-    (Id, Test::Is(Greater, 18_446_744_073_709_551_615), ""),
-    (Id, Test::Is(AtMost, 0), ""),
-    (Id, Test::Is(AtMost, 1), "B"),
-    (Id, Test::Is(AtMost, i128::MAX), "ABCDEF"),
-    (Id, Test::Is(AtLeast, 18_446_744_073_709_551_615), "A"),
-    (Id, Test::Is(AtLeast, 18_446_744_073_709_551_616), ""),
-    (Id, Test::Is(AtLeast, i128::MIN), "ABCDEF"),
-    (Weight, Test::Is(Equal, 3), "ABE"),
-    (Weight, Test::Is(NotEqual, 3), "CDF"),
-    (Weight, Test::Is(Greater, 18_446_744_073_709_551_614), "D"),
-    (Weight, Test::Is(Less, 0), ""),
-    (Weight, Test::Is(AtMost, 0), "F"),
-    (Attr(0), Test::Is(Equal, -9_223_372_036_854_775_808), "B"),
-    (Attr(0), Test::Is(Equal, 9_223_372_036_854_775_808), ""),
-    (Attr(0), Test::Is(NotEqual, 0), "BCDF"),
-    (Attr(0), Test::Is(Less, -9_223_372_036_854_775_808), ""),
-    (Attr(0), Test::Is(Less, 0), "BF"),
-    (Attr(0), Test::Is(Less, i128::MAX), "ABCDEF"),
-    (Attr(0), Test::Is(Less, i128::MIN), ""),
-    (Attr(0), Test::Is(Greater, -1), "ACDE"),
-    (Attr(0), Test::Is(Greater, 9_223_372_036_854_775_807), ""),
-    (Attr(0), Test::Is(AtMost, -9_223_372_036_854_775_808), "B"),
-    (Attr(0), Test::Is(AtMost, 0), "ABEF"),
-    (Attr(0), Test::Is(AtLeast, 0), "ACDE"),
-    (Attr(0), Test::Is(AtLeast, 9_223_372_036_854_775_807), "D"),
-    (Attr(1), Test::Is(Equal, 4_294_967_295), "A"),
-    (Attr(1), Test::Is(Equal, -1), "CE"),
-    (Attr(2), Test::Is(Equal, 0), "ABCDEF"),
-    (Id, Test::In([-1, 18_446_744_073_709_551_615]), "A"),
-    (Id, Test::NotIn([1, 1]), "ACDEF"),
-    (Weight, Test::In([3, 0]), "ABEF"),
-    (Attr(0), Test::In([0, 1]), "ACE"),
-    (Attr(0), Test::NotIn([0, 1]), "BDF"),
-    (Attr(0), Test::NotIn([i128::MIN, i128::MAX]), "ABCDEF"),
-    (Id, Test::Between(2, 2), "D"),
-    (Id, Test::Between(1 << 63, (1 << 64) - 1), "AC"),
-    (Attr(0), Test::Between(-9_223_372_036_854_775_808, -1), "BF"),
-    (Attr(0), Test::Between(0, 1), "ACE"),
-    (Attr(0), Test::Between(1, 0), ""),
-    (Attr(0), Test::Between(i128::MIN, i128::MAX), "ABCDEF"),
-    (Weight, Test::Between(4, 18_446_744_073_709_551_614), "C"),
-];
+fn number(text: Option<&str>) -> Result<i128, Fail> {
+    Ok(text.ok_or("no number")?.parse().or(Err("no number"))?)
+}
 
-/// Two keys, the offset, the count and `max_matches` of a page, and the rows that it shows.
-const PAGES: [([(ColumnRef, bool); 2], [u32; 3], &str); 26] = [
-    ([(Weight, true), (Weight, true)], [0, 20, 1000], "DCBEAF"),
-    ([(Weight, false), (Weight, true)], [0, 20, 1000], "FBEACD"),
-    ([(Id, false), (Id, true)], [0, 20, 1000], "BDEFCA"),
-    ([(Id, true), (Id, false)], [0, 20, 1000], "ACFEDB"),
-    ([(Attr(0), false), (Weight, true)], [0, 20, 1000], "BFEACD"),
-    ([(Attr(0), true), (Weight, true)], [0, 20, 1000], "DCEAFB"),
-    ([(Attr(0), true), (Id, true)], [0, 20, 1000], "DCAEFB"),
-    ([(Attr(1), false), (Weight, true)], [0, 20, 1000], "CEDBFA"),
-    ([(Attr(1), true), (Attr(0), false)], [0, 20, 1000], "ABFDEC"),
-    ([(Weight, true), (Attr(1), false)], [0, 20, 1000], "DCEBAF"),
-    ([(Id, false), (Id, false)], [0, 0, 1000], ""),
-    ([(Id, false), (Id, false)], [3, 0, 1000], ""),
-    ([(Id, false), (Id, false)], [0, 1, 1000], "B"),
-    ([(Id, false), (Id, false)], [2, 2, 1000], "EF"),
-    ([(Id, false), (Id, false)], [4, 20, 1000], "CA"),
-    ([(Id, false), (Id, false)], [6, 20, 1000], ""),
-    ([(Id, false), (Id, false)], [7, 1, 1000], ""),
-    ([(Id, false), (Id, false)], [0, 20, 3], "BDE"),
-    ([(Id, false), (Id, false)], [2, 20, 3], "E"),
-    ([(Id, false), (Id, false)], [1, 1, 3], "D"),
-    ([(Id, false), (Id, false)], [3, 20, 3], ""),
-    ([(Id, false), (Id, false)], [4, 20, 3], ""),
-    ([(Id, false), (Id, false)], [0, 20, 0], ""),
-    ([(Id, false), (Id, false)], [5, 1, 6], "A"),
-    ([(Id, true), (Id, true)], [0, u32::MAX, u32::MAX], "ACFEDB"),
-    ([(Id, true), (Id, true)], [u32::MAX, u32::MAX, u32::MAX], ""),
-];
+fn natural(text: Option<&str>) -> Result<u64, Fail> {
+    Ok(text.ok_or("no number")?.parse().or(Err("no number"))?)
+}
 
-/// A row of two attributes.
-fn row(alloc: Global, id: u64, weight: u64, held: [i64; 2]) -> Result<Row, Fail> {
+fn short(text: Option<&str>) -> Result<u32, Fail> {
+    Ok(text.ok_or("no number")?.parse().or(Err("no number"))?)
+}
+
+fn column(name: &str) -> Result<ColumnRef, Fail> {
+    match name {
+        "id" => Ok(ColumnRef::Id),
+        "weight" => Ok(ColumnRef::Weight),
+        "attr0" => Ok(ColumnRef::Attr(0)),
+        "attr1" => Ok(ColumnRef::Attr(1)),
+        "attr2" => Ok(ColumnRef::Attr(2)),
+        _ => Err("no column".into()),
+    }
+}
+
+fn comparison(sign: &str) -> Result<CompareOp, Fail> {
+    match sign {
+        "=" => Ok(CompareOp::Equal),
+        "<>" => Ok(CompareOp::NotEqual),
+        "<" => Ok(CompareOp::Less),
+        ">" => Ok(CompareOp::Greater),
+        "<=" => Ok(CompareOp::AtMost),
+        ">=" => Ok(CompareOp::AtLeast),
+        _ => Err("no comparison".into()),
+    }
+}
+
+/// A condition, as the table writes it.
+fn condition(alloc: Global, text: &str) -> Result<Filter, Fail> {
+    let mut words = text.split(' ');
+    let column = column(words.next().ok_or("no column")?)?;
+    let sign = words.next().ok_or("no comparison")?;
+    let value = number(words.next())?;
+    match sign {
+        "in" | "not-in" => Ok(Filter::Among {
+            column,
+            values: Items::new(Vec::from_slice(alloc, &[value, number(words.next())?])?),
+            negated: sign == "not-in",
+        }),
+        "between" => Ok(Filter::Between {
+            column,
+            low: value,
+            high: number(words.next())?,
+        }),
+        _ => Ok(Filter::Compare {
+            column,
+            op: comparison(sign)?,
+            value,
+        }),
+    }
+}
+
+/// A row of these attributes.
+fn row(alloc: Global, id: u64, weight: u64, held: &[i64]) -> Result<Row, Fail> {
     let mut values = Vec::new(alloc);
     for number in held {
-        values.push(Value::Whole(number))?;
+        values.push(Value::Whole(*number))?;
     }
     Ok(Row {
         id,
@@ -123,86 +186,83 @@ fn row(alloc: Global, id: u64, weight: u64, held: [i64; 2]) -> Result<Row, Fail>
     })
 }
 
-/// A list of these numbers.
-fn list(alloc: Global, numbers: &[i128; 2]) -> Result<Items<i128>, Fail> {
-    Ok(Items::new(Vec::from_slice(alloc, numbers)?))
+/// A whole number that an attribute holds.
+fn held(text: Option<&str>) -> Result<i64, Fail> {
+    Ok(text.ok_or("no value")?.parse().or(Err("no value"))?)
 }
 
-fn condition(alloc: Global, column: ColumnRef, test: Test) -> Result<Filter, Fail> {
-    Ok(match test {
-        Test::Is(op, value) => Filter::Compare { column, op, value },
-        Test::In(numbers) => Filter::Among {
-            column,
-            values: list(alloc, &numbers)?,
-            negated: false,
-        },
-        Test::NotIn(numbers) => Filter::Among {
-            column,
-            values: list(alloc, &numbers)?,
-            negated: true,
-        },
-        Test::Between(low, high) => Filter::Between { column, low, high },
-    })
+/// The letter of a row and the row, as the table writes it.
+fn lettered_row(alloc: Global, line: &str) -> Result<(char, Row), Fail> {
+    let mut words = line.split(' ');
+    let letter = words.next().ok_or("no letter")?.chars().next();
+    let id = natural(words.next())?;
+    let weight = natural(words.next())?;
+    let values = [held(words.next())?, held(words.next())?];
+    Ok((letter.ok_or("no letter")?, row(alloc, id, weight, &values)?))
 }
 
-/// Whether conditions hold of a row: each by itself, or all of them made ready.
-fn hold(alloc: Global, filters: &[Filter], row: &Row, ready: bool) -> Result<bool, Fail> {
-    if ready {
-        let conditions = Conditions::over(alloc, filters).ok().ok_or("no memory")?;
-        return Ok(conditions.hold_unweighed(row) && conditions.hold_weighed(row));
+/// Whether a condition holds of a row: by itself, or made ready.
+fn holds(alloc: Global, filter: &Filter, row: &Row, trial: Trial) -> Result<bool, Fail> {
+    match trial {
+        Trial::Ready => {
+            let conditions = Conditions::over(alloc, std::slice::from_ref(filter))?;
+            Ok(conditions.hold_unweighed(row) && conditions.hold_weighed(row))
+        }
+        _ => Ok(filter.holds(row)),
     }
-    Ok(filters.iter().all(|filter| filter.holds(row)))
 }
 
-/// The letters of the rows of which conditions hold.
-fn letters_where(alloc: Global, filters: &[Filter], ready: bool) -> Result<String, Fail> {
+/// The letters of the rows of which a condition holds.
+fn letters_where(alloc: Global, filter: &Filter, trial: Trial) -> Result<String, Fail> {
     let mut letters = String::new(alloc);
-    for (letter, id, weight, first, second) in ROWS {
-        let row = row(alloc, id, weight, [first, second])?;
-        if hold(alloc, filters, &row, ready)? {
+    for line in ROWS.lines() {
+        let (letter, row) = lettered_row(alloc, line)?;
+        if holds(alloc, filter, &row, trial)? {
             letters.push(letter)?;
         }
     }
     Ok(letters)
 }
 
-/// The number of the first condition that holds of other rows.
-fn first_wrong_condition(alloc: Global, ready: bool) -> Result<Option<usize>, Fail> {
-    for (at, (column, test, letters)) in CONDITIONS.iter().enumerate() {
-        let filters = [condition(alloc, *column, *test)?];
-        if letters_where(alloc, &filters, ready)?.as_str() != *letters {
-            return Ok(Some(at));
+/// The letter of the row of the table with this id.
+fn letter_of(alloc: Global, id: u64) -> Result<char, Fail> {
+    for line in ROWS.lines() {
+        let (letter, row) = lettered_row(alloc, line)?;
+        if row.id == id {
+            return Ok(letter);
         }
     }
-    Ok(None)
-}
-
-/// The letters of rows of the table.
-fn letters_of(alloc: Global, rows: &[Row]) -> Result<String, Fail> {
-    let mut letters = String::new(alloc);
-    for row in rows {
-        for (letter, id, _, _, _) in ROWS {
-            if row.id == id {
-                letters.push(letter)?;
-            }
-        }
-    }
-    Ok(letters)
+    Err("a row that isn't in the table".into())
 }
 
 /// The rows of the table.
 fn all_rows(alloc: Global) -> Result<Vec<Row>, Fail> {
     let mut rows = Vec::new(alloc);
-    for (_, id, weight, first, second) in ROWS {
-        rows.push(row(alloc, id, weight, [first, second])?)?;
+    for line in ROWS.lines() {
+        let (_, row) = lettered_row(alloc, line)?;
+        rows.push(row)?;
     }
     Ok(rows)
 }
 
 /// The order by these keys.
-fn order_by(alloc: Global, keys: &[(ColumnRef, bool)]) -> Result<Order, Fail> {
+fn order_by(alloc: Global, text: &str) -> Result<Order, Fail> {
+    let mut keys = Vec::new(alloc);
+    for key in text.split(", ") {
+        let (name, way) = key.split_once(' ').ok_or("a key without asc or desc")?;
+        keys.push((column(name)?, way == "desc"))?;
+    }
     Ok(Order {
-        keys: Items::new(Vec::from_slice(alloc, keys)?),
+        keys: Items::new(keys),
+    })
+}
+
+fn page_of(text: &str) -> Result<Page, Fail> {
+    let mut numbers = text.split(' ');
+    Ok(Page {
+        offset: short(numbers.next())?,
+        count: short(numbers.next())?,
+        max_matches: short(numbers.next())?,
     })
 }
 
@@ -212,103 +272,100 @@ fn shown(
     rows: Vec<Row>,
     order: &Order,
     page: Page,
-    at_once: bool,
+    trial: Trial,
 ) -> Result<Vec<Row>, Fail> {
-    if at_once {
-        return Ok(top(rows, order, &page).ok().ok_or("no memory")?);
-    }
-    let mut collector = Collector::new(alloc, order, page);
-    for row in rows.iter() {
-        collector.offer(row).ok().ok_or("no memory")?;
-    }
-    Ok(collector.finish().ok().ok_or("no memory")?)
-}
-
-/// The letters of the rows that a page shows, by its keys, offset, count and `max_matches`.
-fn letters_shown(
-    alloc: Global,
-    keys: [(ColumnRef, bool); 2],
-    numbers: [u32; 3],
-    at_once: bool,
-) -> Result<String, Fail> {
-    let order = order_by(alloc, &keys)?;
-    let [offset, count, max_matches] = numbers;
-    let page = Page {
-        offset,
-        count,
-        max_matches,
-    };
-    letters_of(
-        alloc,
-        &shown(alloc, all_rows(alloc)?, &order, page, at_once)?,
-    )
-}
-
-/// The number of the first page that shows other rows.
-fn first_wrong_page(alloc: Global, at_once: bool) -> Result<Option<usize>, Fail> {
-    for (at, (keys, numbers, letters)) in PAGES.iter().enumerate() {
-        if letters_shown(alloc, *keys, *numbers, at_once)?.as_str() != *letters {
-            return Ok(Some(at));
+    match trial {
+        Trial::AtOnce => Ok(top(rows, order, &page)?),
+        _ => {
+            let mut collector = Collector::new(alloc, order, page);
+            for row in rows.iter() {
+                collector.offer(row)?;
+            }
+            Ok(collector.finish()?)
         }
     }
-    Ok(None)
+}
+
+/// The letters of the rows that a page shows.
+fn letters_shown(alloc: Global, text: &str, trial: Trial) -> Result<String, Fail> {
+    let (keys, numbers) = text.split_once("; ").ok_or("a page without numbers")?;
+    let order = order_by(alloc, keys)?;
+    let mut letters = String::new(alloc);
+    for row in shown(alloc, all_rows(alloc)?, &order, page_of(numbers)?, trial)?.iter() {
+        letters.push(letter_of(alloc, row.id)?)?;
+    }
+    Ok(letters)
+}
+
+/// The letters of the rows that a text of a table has.
+fn letters(alloc: Global, text: &str, trial: Trial) -> Result<String, Fail> {
+    match trial {
+        Trial::Alone | Trial::Ready => letters_where(alloc, &condition(alloc, text)?, trial),
+        Trial::AtOnce | Trial::Collected => letters_shown(alloc, text, trial),
+    }
+}
+
+/// Fails with the first text of a table that has other rows, and with these.
+fn try_table(alloc: Global, table: &str, trial: Trial) -> Result<(), Fail> {
+    for line in table.lines() {
+        let (text, wanted) = line.split_once(" ⇒ ").ok_or("a line without an arrow")?;
+        let found = letters(alloc, text, trial)?;
+        compare(alloc, text, found.as_str(), wanted)?;
+    }
+    Ok(())
 }
 
 /// The ids of a page of 1,200 rows of one weight, ids 1 to 1,200 in no order, by weight.
-fn ids_shown(
-    alloc: Global,
-    offset: u32,
-    max_matches: u32,
-    at_once: bool,
-) -> Result<Vec<u64>, Fail> {
+fn ids_shown(alloc: Global, offset: u32, max_matches: u32, trial: Trial) -> Result<Vec<u64>, Fail> {
     let mut rows = Vec::new(alloc);
     for number in 1..1201 {
-        rows.push(row(alloc, number * 7 % 1201, 1, [0, 0])?)?;
+        rows.push(row(alloc, number * 7 % 1201, 1, &[0, 0])?)?;
     }
-    let order = order_by(alloc, &[(Weight, true)])?;
+    let order = order_by(alloc, "weight desc")?;
     let page = Page {
         offset,
         count: 20,
         max_matches,
     };
-    let shown = shown(alloc, rows, &order, page, at_once)?;
+    let shown = shown(alloc, rows, &order, page, trial)?;
     Ok(shown.iter().map(|row| row.id).collect(alloc)?)
 }
 
 #[test]
 fn conditions_hold_of_their_rows(rt: HostRuntime) -> Result<(), Fail> {
-    assert_eq!(rt; first_wrong_condition(rt.alloc(), false)?, None);
-    assert_eq!(rt; first_wrong_condition(rt.alloc(), true)?, None);
-    Ok(())
+    try_table(rt.alloc(), CONDITIONS, Trial::Alone)?;
+    try_table(rt.alloc(), CONDITIONS, Trial::Ready)
 }
 
 #[test]
 fn pages_show_their_rows(rt: HostRuntime) -> Result<(), Fail> {
-    assert_eq!(rt; first_wrong_page(rt.alloc(), true)?, None);
-    assert_eq!(rt; first_wrong_page(rt.alloc(), false)?, None);
-    Ok(())
+    try_table(rt.alloc(), PAGES, Trial::AtOnce)?;
+    try_table(rt.alloc(), PAGES, Trial::Collected)
 }
 
 #[test]
 fn many_rows_are_cut_after_max_matches(rt: HostRuntime) -> Result<(), Fail> {
     assert_eq!(rt;
-        ids_shown(rt.alloc(), 995, 1000, true)?.as_slice(),
+        ids_shown(rt.alloc(), 995, 1000, Trial::AtOnce)?.as_slice(),
         [996, 997, 998, 999, 1000].as_slice()
     );
-    assert_eq!(rt; ids_shown(rt.alloc(), 1000, 2000, true)?.len(), 20);
+    assert_eq!(rt; ids_shown(rt.alloc(), 1000, 2000, Trial::AtOnce)?.len(), 20);
     Ok(())
 }
 
 #[test]
 fn many_rows_are_collected(rt: HostRuntime) -> Result<(), Fail> {
     assert_eq!(rt;
-        ids_shown(rt.alloc(), 995, 1000, false)?.as_slice(),
+        ids_shown(rt.alloc(), 995, 1000, Trial::Collected)?.as_slice(),
         [996, 997, 998, 999, 1000].as_slice()
     );
     assert_eq!(rt;
-        ids_shown(rt.alloc(), 7, 10, false)?.as_slice(),
+        ids_shown(rt.alloc(), 7, 10, Trial::Collected)?.as_slice(),
         [8, 9, 10].as_slice()
     );
-    assert_eq!(rt; ids_shown(rt.alloc(), 1000, 2000, false)?.len(), 20);
+    assert_eq!(rt;
+        ids_shown(rt.alloc(), 1000, 2000, Trial::Collected)?.len(),
+        20
+    );
     Ok(())
 }

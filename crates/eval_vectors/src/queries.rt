@@ -6,7 +6,7 @@ ghost use Rattle.eval_vectors.specs.steps.Reading.{IsSoundIndex};
 use crate::cases::{DOCUMENTS, QUERIES};
 use crate::documents::chunk_of;
 use crate::sets::{index_of, lines_of};
-use crate::telling::told;
+use crate::telling::{compare, told};
 use doc_types::PlainChunk;
 use index_conf::IndexConf;
 use op_eval::for_schema;
@@ -37,9 +37,7 @@ fn try_lines(alloc: Global, lines: &str, index: &IndexConf, chunk: &PlainChunk) 
         let (text, wanted) = line.split_once(" ⇒ ").ok_or("a line without an arrow")?;
         let query = query_of(alloc, text, index)?;
         let found = told(alloc, &query, chunk)?;
-        if found.as_str() != wanted {
-            return Err(Fail::new(format!(in alloc; "{text} ⇒ {found}")?));
-        }
+        compare(alloc, text, found.as_str(), wanted)?;
     }
     Ok(())
 }

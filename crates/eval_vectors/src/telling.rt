@@ -12,6 +12,14 @@ use std::marker::Brand;
 use std::sync::ledger::{Blank, Ledger};
 use std::test::Fail;
 
+/// Fails with a text and with what was found for it, where this isn't what is wanted.
+pub(crate) fn compare(alloc: Global, text: &str, found: &str, wanted: &str) -> Result<(), Fail> {
+    if found == wanted {
+        return Ok(());
+    }
+    Err(Fail::new(format!(in alloc; "{text} ⇒ {found}")?))
+}
+
 /// Appends occurrences.
 fn put_occurrences(occs: &[Occ], into: &mut String) -> Result<(), Fail> {
     for (number, occ) in occs.iter().enumerate() {

@@ -2,6 +2,7 @@
 ghost use Rattle.std.specs.Prelude.{IsTrue, IsFalse, All, AllPairs};
 ghost use Rattle.rankers.specs.Weight.{AreRanked, Differ, IsRanked};
 
+use crate::telling::compare;
 use doc_types::{Hit, Hits, MAX_POSITION};
 use rankers::{Ranker, Weights, weight};
 use srch_base::Items;
@@ -125,39 +126,46 @@ fn told(alloc: Global, hits: &Hits, weights: &Weights) -> Result<String, Fail> {
     Ok(text)
 }
 
-/// The number of the first case that isn't as it should be, with what the rankers give; none where all are.
-fn wrong_case(alloc: Global) -> Result<String, Fail> {
-    let mut text = String::new(alloc);
-    for (place, case) in CASES.lines().enumerate() {
-        let mut parts = case.split(';');
-        let mut list = Vec::new(alloc);
-        for hit in parts.next().ok_or("no hits")?.split_whitespace() {
-            list.push(hit_of(hit)?)?;
-        }
-        let keywords = number(parts.next().ok_or("no keywords")?.trim())?;
-        let mut weights = Vec::new(alloc);
-        for weight in parts.next().ok_or("no weights")?.split_whitespace() {
-            weights.push(u32::from(number(weight)?))?;
-        }
-        let hits = Hits {
-            keywords,
-            list: Items::new(list),
-        };
-        let weights = Weights {
-            list: Items::new(weights),
-        };
-        let given = told(alloc, &hits, &weights)?;
-        if parts.next() != Some(given.as_str()) {
-            write!(text, "{place}:{given}")?;
-            return Ok(text);
-        }
+/// The hits of a case.
+fn hits_in(alloc: Global, text: &str) -> Result<Items<Hit>, Fail> {
+    let mut list = Vec::new(alloc);
+    for hit in text.split_whitespace() {
+        list.push(hit_of(hit)?)?;
     }
-    Ok(text)
+    Ok(Items::new(list))
+}
+
+/// The weights of the fields of a case.
+fn weights_in(alloc: Global, text: &str) -> Result<Weights, Fail> {
+    let mut list = Vec::new(alloc);
+    for weight in text.split_whitespace() {
+        list.push(u32::from(number(weight)?))?;
+    }
+    Ok(Weights {
+        list: Items::new(list),
+    })
+}
+
+/// Fails with a case that isn't as it should be, and with what the rankers give.
+fn try_case(alloc: Global, case: &str) -> Result<(), Fail> {
+    let mut parts = case.split(';');
+    let list = hits_in(alloc, parts.next().ok_or("no hits")?)?;
+    let keywords = number(parts.next().ok_or("no keywords")?.trim())?;
+    let weights = weights_in(alloc, parts.next().ok_or("no weights")?)?;
+    let given = told(alloc, &Hits { keywords, list }, &weights)?;
+    compare(
+        alloc,
+        case,
+        given.as_str(),
+        parts.next().ok_or("no result")?,
+    )
 }
 
 #[test]
 fn weights_are_those_worked_out_by_hand(rt: HostRuntime) -> Result<(), Fail> {
-    assert_eq!(rt; wrong_case(rt.alloc())?.as_str(), "");
+    for case in CASES.lines() {
+        try_case(rt.alloc(), case)?;
+    }
     Ok(())
 }
 
@@ -197,6 +205,5 @@ fn greatest_weights_fit(rt: HostRuntime) -> Result<(), Fail> {
     let given = told(alloc, &hits, &weights)?;
     // 286 and 255 + 31 times 65,535; 65,535 * (255 + 254 * 255 * 32 * 65,535 + 31).
     let wanted = " 1 18743010 18743010 8901649372127010 4294967295";
-    assert_eq!(rt; given.as_str(), wanted);
-    Ok(())
+    compare(alloc, "greatest hits", given.as_str(), wanted)
 }

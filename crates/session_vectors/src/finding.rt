@@ -1,148 +1,64 @@
 //! What a word finds: the most fields first, then the smallest id. Worked out by hand from the texts of the documents.
-use crate::running::{TWO, answer, first_wrong_after, first_wrong_in_turn, tables_of};
+use crate::running::{TWO, answer, tables_of, try_each, try_in_turn};
 use itoa::Buffer;
 use ql_session::{PlainTables, Session};
 use std::alloc::Global;
 use std::test::Fail;
 
-/// Three documents: the word `a` stands in one field of the first and the third, and in both of the second.
-const THREE: &str =
-    "INSERT INTO rt VALUES (1,'a b','c',0,0,0,0), (2,'a','a',0,0,0,0), (3,'A','',0,0,0,0)";
-
-/// What is sent before, and what a word finds: the most fields that have it first, then the smallest id.
-const FOUND: [(&str, &str, &str); 19] = [
-    (
-        THREE,
-        "SELECT id FROM rt WHERE MATCH('a')",
-        "id | 2 | 1 | 3",
-    ),
-    (
-        THREE,
-        "SELECT id FROM rt WHERE MATCH(' A ')",
-        "id | 2 | 1 | 3",
-    ),
-    (THREE, "SELECT id FROM rt WHERE MATCH('c')", "id | 1"),
-    (THREE, "SELECT id FROM rt WHERE MATCH('zz')", "id"),
-    (THREE, "select `ID` from RT where match(\"B\");", "id | 1"),
-    (
-        THREE,
-        "SELECT id FROM rt WHERE MATCH('\\t a\\r\\n')",
-        "id | 2 | 1 | 3",
-    ),
-    ("", "SELECT id FROM rt WHERE MATCH('a')", "id"),
-    (
-        "INSERT INTO rt (id, title) VALUES (18446744073709551615, 'a')",
-        "SELECT id FROM rt WHERE MATCH('a')",
-        "id | 18446744073709551615",
-    ),
-    (
-        "INSERT INTO rt (title, id) VALUES ('a', 1), ('a', 18446744073709551615), ('a', 9)",
-        "SELECT id FROM rt WHERE MATCH('a')",
-        "id | 1 | 9 | 18446744073709551615",
-    ),
-    (
-        "INSERT INTO rt (id, title) VALUES (1, 'aaaaaaaaaaaaaaaaaaaaaaaaaaaaaaaaaaaaaaaaaaaaaaaaaa')",
-        "SELECT id FROM rt WHERE MATCH('aaaaaaaaaaaaaaaaaaaaaaaaaaaaaaaaaaaaaaaaaa')",
-        "id | 1",
-    ),
-    (
-        "INSERT INTO rt (id, title) VALUES (1, 'aaaaaaaaaaaaaaaaaaaaaaaaaaaaaaaaaaaaaaaaaaaaaaaaaa')",
-        "SELECT id FROM rt WHERE MATCH('aaaaaaaaaaaaaaaaaaaaaaaaaaaaaaaaaaaaaaaaaaa')",
-        "id | 1",
-    ),
-    (
-        "INSERT INTO rt (id, title) VALUES (1, 'aaaaaaaaaaaaaaaaaaaaaaaaaaaaaaaaaaaaaaaaaaaaaaaaaa')",
-        "SELECT id FROM rt WHERE MATCH('aaaaaaaaaaaaaaaaaaaaaaaaaaaaaaaaaaaaaaaaa')",
-        "id",
-    ),
-    (
-        "INSERT INTO rt (id, title) VALUES (7, \"it\\'s\")",
-        "SELECT id FROM rt WHERE MATCH('s')",
-        "id | 7",
-    ),
-    // more of one word in a field counts once
-    (
-        "INSERT INTO rt (id, title, content) VALUES (1, 'a a a', ''), (2, 'a', 'a'), (3, '', 'a')",
-        "SELECT id FROM rt WHERE MATCH('a')",
-        "id | 2 | 1 | 3",
-    ),
-    // a field that isn't named is empty
-    (
-        "INSERT INTO rt (content, id) VALUES ('a', 4)",
-        "SELECT id FROM rt WHERE MATCH('a')",
-        "id | 4",
-    ),
-    (
-        "INSERT INTO rt (id, title) VALUES (1, 'a-b, c_d')",
-        "SELECT id FROM rt WHERE MATCH('c_d')",
-        "id | 1",
-    ),
-    (
-        "INSERT INTO rt (id, title) VALUES (1, 'a-b, c_d')",
-        "SELECT id FROM rt WHERE MATCH('c')",
-        "id",
-    ),
-    (
-        "INSERT INTO rt (id, title) VALUES (1, 'Жук')",
-        "SELECT id FROM rt WHERE MATCH('жУК')",
-        "id | 1",
-    ),
-    (
-        "INSERT INTO rt (id, title) VALUES (1, 'a\\nb\\tc')",
-        "SELECT id FROM rt WHERE MATCH('b')",
-        "id | 1",
-    ),
-];
+/// What a word finds: the most fields that have it first, then the smallest id. Where a line has three parts, the first is sent before.
+/// In the first of them `a` stands in one field of the first and the third document, and in both of the second. More of one word in
+/// a field counts once, and a field that isn't named is empty.
+const FOUND: &str = r#"
+INSERT INTO rt VALUES (1,'a b','c',0,0,0,0), (2,'a','a',0,0,0,0), (3,'A','',0,0,0,0) ⇒ SELECT id FROM rt WHERE MATCH('a') ⇒ id | 2 | 1 | 3
+INSERT INTO rt VALUES (1,'a b','c',0,0,0,0), (2,'a','a',0,0,0,0), (3,'A','',0,0,0,0) ⇒ SELECT id FROM rt WHERE MATCH(' A ') ⇒ id | 2 | 1 | 3
+INSERT INTO rt VALUES (1,'a b','c',0,0,0,0), (2,'a','a',0,0,0,0), (3,'A','',0,0,0,0) ⇒ SELECT id FROM rt WHERE MATCH('c') ⇒ id | 1
+INSERT INTO rt VALUES (1,'a b','c',0,0,0,0), (2,'a','a',0,0,0,0), (3,'A','',0,0,0,0) ⇒ SELECT id FROM rt WHERE MATCH('zz') ⇒ id
+INSERT INTO rt VALUES (1,'a b','c',0,0,0,0), (2,'a','a',0,0,0,0), (3,'A','',0,0,0,0) ⇒ select `ID` from RT where match("B"); ⇒ id | 1
+INSERT INTO rt VALUES (1,'a b','c',0,0,0,0), (2,'a','a',0,0,0,0), (3,'A','',0,0,0,0) ⇒ SELECT id FROM rt WHERE MATCH('\t a\r\n') ⇒ id | 2 | 1 | 3
+SELECT id FROM rt WHERE MATCH('a') ⇒ id
+INSERT INTO rt (id, title) VALUES (18446744073709551615, 'a') ⇒ SELECT id FROM rt WHERE MATCH('a') ⇒ id | 18446744073709551615
+INSERT INTO rt (title, id) VALUES ('a', 1), ('a', 18446744073709551615), ('a', 9) ⇒ SELECT id FROM rt WHERE MATCH('a') ⇒ id | 1 | 9 | 18446744073709551615
+INSERT INTO rt (id, title) VALUES (1, 'aaaaaaaaaaaaaaaaaaaaaaaaaaaaaaaaaaaaaaaaaaaaaaaaaa') ⇒ SELECT id FROM rt WHERE MATCH('aaaaaaaaaaaaaaaaaaaaaaaaaaaaaaaaaaaaaaaaaa') ⇒ id | 1
+INSERT INTO rt (id, title) VALUES (1, 'aaaaaaaaaaaaaaaaaaaaaaaaaaaaaaaaaaaaaaaaaaaaaaaaaa') ⇒ SELECT id FROM rt WHERE MATCH('aaaaaaaaaaaaaaaaaaaaaaaaaaaaaaaaaaaaaaaaaaa') ⇒ id | 1
+INSERT INTO rt (id, title) VALUES (1, 'aaaaaaaaaaaaaaaaaaaaaaaaaaaaaaaaaaaaaaaaaaaaaaaaaa') ⇒ SELECT id FROM rt WHERE MATCH('aaaaaaaaaaaaaaaaaaaaaaaaaaaaaaaaaaaaaaaaa') ⇒ id
+INSERT INTO rt (id, title) VALUES (7, "it\'s") ⇒ SELECT id FROM rt WHERE MATCH('s') ⇒ id | 7
+INSERT INTO rt (id, title, content) VALUES (1, 'a a a', ''), (2, 'a', 'a'), (3, '', 'a') ⇒ SELECT id FROM rt WHERE MATCH('a') ⇒ id | 2 | 1 | 3
+INSERT INTO rt (content, id) VALUES ('a', 4) ⇒ SELECT id FROM rt WHERE MATCH('a') ⇒ id | 4
+INSERT INTO rt (id, title) VALUES (1, 'a-b, c_d') ⇒ SELECT id FROM rt WHERE MATCH('c_d') ⇒ id | 1
+INSERT INTO rt (id, title) VALUES (1, 'a-b, c_d') ⇒ SELECT id FROM rt WHERE MATCH('c') ⇒ id
+INSERT INTO rt (id, title) VALUES (1, 'Жук') ⇒ SELECT id FROM rt WHERE MATCH('жУК') ⇒ id | 1
+INSERT INTO rt (id, title) VALUES (1, 'a\nb\tc') ⇒ SELECT id FROM rt WHERE MATCH('b') ⇒ id | 1
+"#;
 
 #[test]
 fn a_word_finds_the_best_documents_first(rt: HostRuntime) -> Result<(), Fail> {
-    assert_eq!(rt; first_wrong_after(rt.alloc(), &FOUND)?, None);
-    Ok(())
+    try_each(rt.alloc(), FOUND)
 }
 
 /// Texts that are sent in turn: a refused INSERT leaves nothing, and a later one is found with those before it.
-const IN_TURN: [(&str, &str); 17] = [
-    (
-        "INSERT INTO rt (id, title) VALUES (1, 'a'), (1, 'a')",
-        "ERR 1064 42000 duplicate id 1",
-    ),
-    ("SELECT id FROM rt WHERE MATCH('a')", "id"),
-    ("INSERT INTO rt (id, title) VALUES (2, 'b')", "OK 1"),
-    (
-        "INSERT INTO rt (id, title) VALUES (1, 'a'), (2, 'a')",
-        "ERR 1064 42000 duplicate id 2",
-    ),
-    ("SELECT id FROM rt WHERE MATCH('a')", "id"),
-    (
-        "INSERT INTO rt (id, title) VALUES (1, 'a'), (0, 'a')",
-        "ERR 1064 42000 id out of range",
-    ),
-    ("SELECT id FROM rt WHERE MATCH('a')", "id"),
-    (
-        "INSERT INTO rt (id, title) VALUES (3, 'b a'), (1, 'a b')",
-        "OK 2",
-    ),
-    ("SELECT id FROM rt WHERE MATCH('a')", "id | 1 | 3"),
-    ("SELECT id FROM rt WHERE MATCH('b')", "id | 1 | 2 | 3"),
-    (
-        "INSERT INTO rt (id, title, content) VALUES (4, 'b', 'B')",
-        "OK 1",
-    ),
-    ("SELECT id FROM rt WHERE MATCH('b')", "id | 4 | 1 | 2 | 3"),
-    (
-        "INSERT INTO rt (id, title) VALUES (4, 'c')",
-        "ERR 1064 42000 duplicate id 4",
-    ),
-    ("SELECT id FROM rt WHERE MATCH('c')", "id"),
-    ("SELEC", "ERR 1064 42000 syntax error at 0"),
-    ("SET NAMES utf8", "OK 0"),
-    ("SELECT id FROM rt WHERE MATCH('b')", "id | 4 | 1 | 2 | 3"),
-];
+const IN_TURN: &str = r#"
+INSERT INTO rt (id, title) VALUES (1, 'a'), (1, 'a') ⇒ ERR 1064 42000 duplicate id 1
+SELECT id FROM rt WHERE MATCH('a') ⇒ id
+INSERT INTO rt (id, title) VALUES (2, 'b') ⇒ OK 1
+INSERT INTO rt (id, title) VALUES (1, 'a'), (2, 'a') ⇒ ERR 1064 42000 duplicate id 2
+SELECT id FROM rt WHERE MATCH('a') ⇒ id
+INSERT INTO rt (id, title) VALUES (1, 'a'), (0, 'a') ⇒ ERR 1064 42000 id out of range
+SELECT id FROM rt WHERE MATCH('a') ⇒ id
+INSERT INTO rt (id, title) VALUES (3, 'b a'), (1, 'a b') ⇒ OK 2
+SELECT id FROM rt WHERE MATCH('a') ⇒ id | 1 | 3
+SELECT id FROM rt WHERE MATCH('b') ⇒ id | 1 | 2 | 3
+INSERT INTO rt (id, title, content) VALUES (4, 'b', 'B') ⇒ OK 1
+SELECT id FROM rt WHERE MATCH('b') ⇒ id | 4 | 1 | 2 | 3
+INSERT INTO rt (id, title) VALUES (4, 'c') ⇒ ERR 1064 42000 duplicate id 4
+SELECT id FROM rt WHERE MATCH('c') ⇒ id
+SELEC ⇒ ERR 1064 42000 syntax error at 0
+SET NAMES utf8 ⇒ OK 0
+SELECT id FROM rt WHERE MATCH('b') ⇒ id | 4 | 1 | 2 | 3
+"#;
 
 #[test]
 fn a_refused_insert_leaves_nothing(rt: HostRuntime) -> Result<(), Fail> {
-    assert_eq!(rt; first_wrong_in_turn(rt.alloc(), TWO, &IN_TURN)?, None);
-    Ok(())
+    try_in_turn(rt.alloc(), TWO, IN_TURN)
 }
 
 /// The text of an INSERT of one document with a title.
@@ -188,32 +104,21 @@ rt_attr_uint = price\nrt_attr_timestamp = added\n\
 charset_table = 0..9, A..Z->a..z, a..z, U+410..U+42F->U+430..U+44F, U+430..U+44F\n\
 html_strip = 1\n}\n";
 
-/// Texts that are sent to it in turn.
-const SHOPPING: [(&str, &str); 10] = [
-    (
-        "INSERT INTO rt (id, title) VALUES (1, 'Большой <b>Чай</b>-ник')",
-        "OK 1",
-    ),
-    (
-        "INSERT INTO rt (id, title, content, price) VALUES (2, 'te<b>st</b>', 'te<p>st', 5)",
-        "OK 1",
-    ),
-    ("SELECT id FROM rt WHERE MATCH('БОЛЬШОЙ')", "id | 1"),
-    ("SELECT id FROM rt WHERE MATCH('чай')", "id | 1"),
-    ("SELECT id FROM rt WHERE MATCH('b')", "id"),
-    ("SELECT id FROM rt WHERE MATCH('test')", "id | 2"),
-    ("SELECT id FROM rt WHERE MATCH('te')", "id | 2"),
-    // `_` is no letter of this table
-    ("SELECT id FROM rt WHERE MATCH('a_b')", "id"),
-    ("SELECT id FROM rt WHERE MATCH('st_te')", "id | 2"),
-    (
-        "DESCRIBE rt",
-        "Field, Type | id, bigint | title, field | content, field | price, uint | added, timestamp",
-    ),
-];
+/// Texts that are sent to it in turn. `_` is no letter of its table.
+const SHOPPING: &str = r#"
+INSERT INTO rt (id, title) VALUES (1, 'Большой <b>Чай</b>-ник') ⇒ OK 1
+INSERT INTO rt (id, title, content, price) VALUES (2, 'te<b>st</b>', 'te<p>st', 5) ⇒ OK 1
+SELECT id FROM rt WHERE MATCH('БОЛЬШОЙ') ⇒ id | 1
+SELECT id FROM rt WHERE MATCH('чай') ⇒ id | 1
+SELECT id FROM rt WHERE MATCH('b') ⇒ id
+SELECT id FROM rt WHERE MATCH('test') ⇒ id | 2
+SELECT id FROM rt WHERE MATCH('te') ⇒ id | 2
+SELECT id FROM rt WHERE MATCH('a_b') ⇒ id
+SELECT id FROM rt WHERE MATCH('st_te') ⇒ id | 2
+DESCRIBE rt ⇒ Field, Type | id, bigint | title, field | content, field | price, uint | added, timestamp
+"#;
 
 #[test]
 fn words_are_those_of_the_index(rt: HostRuntime) -> Result<(), Fail> {
-    assert_eq!(rt; first_wrong_in_turn(rt.alloc(), SHOP, &SHOPPING)?, None);
-    Ok(())
+    try_in_turn(rt.alloc(), SHOP, SHOPPING)
 }

@@ -35,3 +35,5 @@ mod several;
 mod sharing;
 #[cfg(test)]
 mod showing;
+#[cfg(test)]
+mod spelling;

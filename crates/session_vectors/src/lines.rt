@@ -1,5 +1,6 @@
 //! Lines from the greeting to each of their ends, with their bytes by the protocol's documentation.
 use crate::running::{TWO, tables_of};
+use crate::spelling::written_out;
 use ql_session::{LinkEnd, serve_link};
 use srch_base::MemoryLink;
 use std::alloc::Global;
@@ -17,77 +18,43 @@ const RESPONSE: &[u8] =
 const ACCEPTED: &[u8] = b"\x07\0\0\x02\0\0\0\x02\0\0\0";
 
 /// What is sent after the response, how the line ends, and what is written after the OK of the response.
-const LINES: [(&[u8], LinkEnd, &[u8]); 17] = [
-    (b"", LinkEnd::End, b""),
-    (b"\x01\0", LinkEnd::Truncated, b""),
-    (b"\x01\0\0\0", LinkEnd::Truncated, b""),
-    (
-        b"\x01\0\0\0\x0e",
-        LinkEnd::End,
-        b"\x07\0\0\x01\0\0\0\x02\0\0\0",
-    ),
-    (b"\x01\0\0\0\x01", LinkEnd::Quit, b""),
-    (
-        b"\x01\0\0\0\x0e\x01\0\0\0\x0e\x01\0\0\0\x01\x01\0\0\0\x0e",
-        LinkEnd::Quit,
-        b"\x07\0\0\x01\0\0\0\x02\0\0\0\x07\0\0\x01\0\0\0\x02\0\0\0",
-    ),
-    (
-        b"!\0\0\0\x03select @@version_comment limit 1",
-        LinkEnd::End,
-        b"\x01\0\0\x01\x018\0\0\x02\x03def\0\0\0\x11@@version_comment\x11@@version_comment\x0c!\0\xff\0\0\0\xfd\0\0\0\0\0\x05\0\0\x03\xfe\0\0\x02\0\x08\0\0\x04\x07searchd\x05\0\0\x05\xfe\0\0\x02\0",
-    ),
-    (
-        b"\x01\0\x80\0",
-        LinkEnd::TooLarge { length: 8_388_609 },
-        b"#\0\0\x01\xff\x81\x04#08S01packet above 8388608 bytes",
-    ),
-    (
-        b"\x01\0\0\0\x0e\x01\0\x80\0\x01\0\0\0\x0e",
-        LinkEnd::TooLarge { length: 8_388_609 },
-        b"\x07\0\0\x01\0\0\0\x02\0\0\0#\0\0\x01\xff\x81\x04#08S01packet above 8388608 bytes",
-    ),
-    (
-        b"\x01\0\0\x01\x0e",
-        LinkEnd::OutOfOrder { seq: 1 },
-        b"\x1c\0\0\x02\xff\x84\x04#08S01packet out of order",
-    ),
-    (
-        b"\x01\0\0\xff\x0e",
-        LinkEnd::OutOfOrder { seq: 255 },
-        b"\x1c\0\0\0\xff\x84\x04#08S01packet out of order",
-    ),
-    (
-        b"\0\0\0\0",
-        LinkEnd::End,
-        b"\x18\0\0\x01\xff\x17\x04#08S01unknown command",
-    ),
-    (
-        b"\x01\0\0\0\x04",
-        LinkEnd::End,
-        b"\x18\0\0\x01\xff\x17\x04#08S01unknown command",
-    ),
-    (
-        b"\x03\0\0\0\x1b\0\0",
-        LinkEnd::End,
-        b"\x05\0\0\x01\xfe\0\0\x02\0",
-    ),
-    (
-        b"\x02\0\0\0\x1b\0",
-        LinkEnd::End,
-        b"\x18\0\0\x01\xff\x17\x04#08S01unknown command",
-    ),
-    (
-        b"\x03\0\0\0\x02rt",
-        LinkEnd::End,
-        b"\x07\0\0\x01\0\0\0\x02\0\0\0",
-    ),
-    (
-        b"\x08\0\0\0\x03SELEC 1\x01\0\0\0\x01",
-        LinkEnd::Quit,
-        b"\x1a\0\0\x01\xff(\x04#42000syntax error at 0",
-    ),
-];
+const LINES: &str = r#"
+ ⇒ end ⇒ 
+⟨01 00⟩ ⇒ truncated ⇒ 
+⟨01 00 00 00⟩ ⇒ truncated ⇒ 
+⟨01 00 00 00 0e⟩ ⇒ end ⇒ ⟨07 00 00 01 00 00 00 02 00 00 00⟩
+⟨01 00 00 00 01⟩ ⇒ quit ⇒ 
+⟨01 00 00 00 0e 01 00 00 00 0e 01 00 00 00 01 01 00 00 00 0e⟩ ⇒ quit ⇒ ⟨07 00 00 01 00 00 00 02 00 00 00 07 00 00 01 00 00 00 02 00 00 00⟩
+⟨21 00 00 00 03⟩select @@version_comment limit 1 ⇒ end ⇒ ⟨01 00 00 01 01 38 00 00 02 03⟩def⟨00 00 00 11⟩@@version_comment⟨11⟩@@version_comment⟨0c 21 00 ff 00 00 00 fd 00 00 00 00 00 05 00 00 03 fe 00 00 02 00 08 00 00 04 07⟩searchd⟨05 00 00 05 fe 00 00 02 00⟩
+⟨01 00 80 00⟩ ⇒ too large 8388609 ⇒ ⟨23 00 00 01 ff 81 04⟩#08S01packet above 8388608 bytes
+⟨01 00 00 00 0e 01 00 80 00 01 00 00 00 0e⟩ ⇒ too large 8388609 ⇒ ⟨07 00 00 01 00 00 00 02 00 00 00 23 00 00 01 ff 81 04⟩#08S01packet above 8388608 bytes
+⟨01 00 00 01 0e⟩ ⇒ out of order 1 ⇒ ⟨1c 00 00 02 ff 84 04⟩#08S01packet out of order
+⟨01 00 00 ff 0e⟩ ⇒ out of order 255 ⇒ ⟨1c 00 00 00 ff 84 04⟩#08S01packet out of order
+⟨00 00 00 00⟩ ⇒ end ⇒ ⟨18 00 00 01 ff 17 04⟩#08S01unknown command
+⟨01 00 00 00 04⟩ ⇒ end ⇒ ⟨18 00 00 01 ff 17 04⟩#08S01unknown command
+⟨03 00 00 00 1b 00 00⟩ ⇒ end ⇒ ⟨05 00 00 01 fe 00 00 02 00⟩
+⟨02 00 00 00 1b 00⟩ ⇒ end ⇒ ⟨18 00 00 01 ff 17 04⟩#08S01unknown command
+⟨03 00 00 00 02⟩rt ⇒ end ⇒ ⟨07 00 00 01 00 00 00 02 00 00 00⟩
+⟨08 00 00 00 03⟩SELEC 1⟨01 00 00 00 01⟩ ⇒ quit ⇒ ⟨1a 00 00 01 ff 28 04⟩#42000syntax error at 0
+"#;
+
+/// How a line ends, as the table writes it.
+fn end_of(text: &str) -> Result<LinkEnd, Fail> {
+    if let Some(length) = text.strip_prefix("too large ") {
+        let length = length.parse().or(Err("no number"))?;
+        return Ok(LinkEnd::TooLarge { length });
+    }
+    if let Some(seq) = text.strip_prefix("out of order ") {
+        let seq = seq.parse().or(Err("no number"))?;
+        return Ok(LinkEnd::OutOfOrder { seq });
+    }
+    match text {
+        "end" => Ok(LinkEnd::End),
+        "truncated" => Ok(LinkEnd::Truncated),
+        "quit" => Ok(LinkEnd::Quit),
+        _ => Err("no end".into()),
+    }
+}
 
 /// Two pieces, one after the other.
 fn joined(alloc: Global, first: &[u8], second: &[u8]) -> Result<Vec<u8>, Fail> {
@@ -106,22 +73,24 @@ fn ends(alloc: Global, input: &[u8], cut: u32, end: LinkEnd, written: &[u8]) -> 
     Ok(got == end && link.written() == written)
 }
 
-/// The number of the first line that ends otherwise.
-fn first_other_end(alloc: Global) -> Result<Option<usize>, Fail> {
+/// Fails with what is sent where a line ends otherwise.
+fn try_line(alloc: Global, line: &str) -> Result<(), Fail> {
+    let (sent, rest) = line.split_once(" ⇒ ").ok_or("a line without an arrow")?;
+    let (end, replies) = rest.split_once(" ⇒ ").ok_or("a line with one arrow")?;
+    let input = joined(alloc, RESPONSE, &written_out(alloc, sent)?)?;
     let begun = joined(alloc, GREETING, ACCEPTED)?;
-    for (at, (sent, end, replies)) in LINES.iter().enumerate() {
-        let input = joined(alloc, RESPONSE, sent)?;
-        let written = joined(alloc, &begun, replies)?;
-        if !ends(alloc, &input, 0, *end, &written)? {
-            return Ok(Some(at));
-        }
+    let written = joined(alloc, &begun, &written_out(alloc, replies)?)?;
+    if ends(alloc, &input, 0, end_of(end)?, &written)? {
+        return Ok(());
     }
-    Ok(None)
+    Err(Fail::new(format!(in alloc; "{sent}")?))
 }
 
 #[test]
 fn lines_end_so(rt: HostRuntime) -> Result<(), Fail> {
-    assert_eq!(rt; first_other_end(rt.alloc())?, None);
+    for line in LINES.lines().skip(1) {
+        try_line(rt.alloc(), line)?;
+    }
     Ok(())
 }
 

@@ -1,92 +1,40 @@
 //! Texts that are no packet of statements, with the place of their first fault.
-use crate::running::{first_wrong, is_replied};
+use crate::running::try_each;
 use std::test::Fail;
 
-/// Texts that are refused before any statement is looked at, by their tokens or by the grammar.
-const REFUSED: [(&str, &str); 26] = [
-    ("SELEC 1", "ERR 1064 42000 syntax error at 0"),
-    ("", "ERR 1064 42000 syntax error at 0"),
-    (";", "ERR 1064 42000 syntax error at 0"),
-    ("SELECT", "ERR 1064 42000 syntax error at 6"),
-    (
-        "SELECT id FROM rt WHERE MATCH('",
-        "ERR 1064 42000 unclosed quote at 30",
-    ),
-    (
-        "INSERT INTO rt VALUES (1.5)",
-        "ERR 1064 42000 number with a point at 23",
-    ),
-    (
-        "INSERT INTO rt VALUES (18446744073709551616)",
-        "ERR 1064 42000 number too large at 23",
-    ),
-    (
-        "SET NAMES utf8 /* x",
-        "ERR 1064 42000 unclosed comment at 15",
-    ),
-    ("SHOW TABLES #", "ERR 1064 42000 bad character at 12"),
-    ("DESCRIBE `rt", "ERR 1064 42000 unclosed quote at 9"),
-    (
-        "DESCRIBE aaaaaaaaaaaaaaaaaaaaaaaaaaaaaaaaaaaaaaaaaaaaaaaaaaaaaaaaaaaaaaaaa",
-        "ERR 1064 42000 name too long at 9",
-    ),
-    (
-        "INSERT INTO rt VALUES (1,'a'",
-        "ERR 1064 42000 syntax error at 28",
-    ),
-    (
-        "INSERT INTO rt (id) VALUES ()",
-        "ERR 1064 42000 syntax error at 28",
-    ),
-    (
-        "UPDATE rt SET gid = 1 WHERE id = 1",
-        "ERR 1064 42000 syntax error at 0",
-    ),
-    ("SHOW STATUS", "ERR 1064 42000 syntax error at 5"),
-    ("SHOW TABLES LIKE 'a'", "ERR 1064 42000 syntax error at 12"),
-    (
-        "SELECT id FROM rt, other",
-        "ERR 1064 42000 syntax error at 17",
-    ),
-    ("SET NAMES", "ERR 1064 42000 syntax error at 9"),
-    ("SELECT @@x LIMIT 1, 2", "ERR 1064 42000 syntax error at 18"),
-    ("SET NAMES utf8; SELEC", "ERR 1064 42000 syntax error at 16"),
-    (
-        "SELECT id FROM nosuch WHERE",
-        "ERR 1064 42000 syntax error at 27",
-    ),
-    (
-        "INSERT INTO nosuch VALUES (1) 'a",
-        "ERR 1064 42000 unclosed quote at 30",
-    ),
-    // the tokens of the whole packet come before its statements
-    (
-        "SELEC 1; INSERT INTO rt VALUES (1, 'a",
-        "ERR 1064 42000 unclosed quote at 35",
-    ),
-    (
-        "INSERT INTO nosuch VALUES (1.5)",
-        "ERR 1064 42000 number with a point at 27",
-    ),
-    (
-        "SHOW TABLES;;SHOW TABLES",
-        "ERR 1064 42000 syntax error at 12",
-    ),
-    (
-        "DESCRIBE nosuch nosuch",
-        "ERR 1064 42000 syntax error at 16",
-    ),
-];
-
-/// A text of which a byte is no UTF-8, by its place.
-const NOT_UTF8: &[u8] = b"INSERT INTO rt VALUES (1,'\xff')";
-
-const NOT_TEXT: &[u8] = b"ERR 1064 42000 text is not UTF-8 at 25";
+/// Texts that are refused before any statement is looked at, by their tokens or by the grammar; the tokens of the whole packet come
+/// before its statements. In the last one a byte is no UTF-8.
+const REFUSED: &str = r#"
+SELEC 1 ⇒ ERR 1064 42000 syntax error at 0
+ ⇒ ERR 1064 42000 syntax error at 0
+; ⇒ ERR 1064 42000 syntax error at 0
+SELECT ⇒ ERR 1064 42000 syntax error at 6
+SELECT id FROM rt WHERE MATCH(' ⇒ ERR 1064 42000 unclosed quote at 30
+INSERT INTO rt VALUES (1.5) ⇒ ERR 1064 42000 number with a point at 23
+INSERT INTO rt VALUES (18446744073709551616) ⇒ ERR 1064 42000 number too large at 23
+SET NAMES utf8 /* x ⇒ ERR 1064 42000 unclosed comment at 15
+SHOW TABLES # ⇒ ERR 1064 42000 bad character at 12
+DESCRIBE `rt ⇒ ERR 1064 42000 unclosed quote at 9
+DESCRIBE aaaaaaaaaaaaaaaaaaaaaaaaaaaaaaaaaaaaaaaaaaaaaaaaaaaaaaaaaaaaaaaaa ⇒ ERR 1064 42000 name too long at 9
+INSERT INTO rt VALUES (1,'a' ⇒ ERR 1064 42000 syntax error at 28
+INSERT INTO rt (id) VALUES () ⇒ ERR 1064 42000 syntax error at 28
+UPDATE rt SET gid = 1 WHERE id = 1 ⇒ ERR 1064 42000 syntax error at 0
+SHOW STATUS ⇒ ERR 1064 42000 syntax error at 5
+SHOW TABLES LIKE 'a' ⇒ ERR 1064 42000 syntax error at 12
+SELECT id FROM rt, other ⇒ ERR 1064 42000 syntax error at 17
+SET NAMES ⇒ ERR 1064 42000 syntax error at 9
+SELECT @@x LIMIT 1, 2 ⇒ ERR 1064 42000 syntax error at 18
+SET NAMES utf8; SELEC ⇒ ERR 1064 42000 syntax error at 16
+SELECT id FROM nosuch WHERE ⇒ ERR 1064 42000 syntax error at 27
+INSERT INTO nosuch VALUES (1) 'a ⇒ ERR 1064 42000 unclosed quote at 30
+SELEC 1; INSERT INTO rt VALUES (1, 'a ⇒ ERR 1064 42000 unclosed quote at 35
+INSERT INTO nosuch VALUES (1.5) ⇒ ERR 1064 42000 number with a point at 27
+SHOW TABLES;;SHOW TABLES ⇒ ERR 1064 42000 syntax error at 12
+DESCRIBE nosuch nosuch ⇒ ERR 1064 42000 syntax error at 16
+INSERT INTO rt VALUES (1,'⟨ff⟩') ⇒ ERR 1064 42000 text is not UTF-8 at 25
+"#;
 
 #[test]
 fn a_text_that_is_no_packet_is_refused_by_its_place(rt: HostRuntime) -> Result<(), Fail> {
-    let alloc = rt.alloc();
-    assert_eq!(rt; first_wrong(alloc, &REFUSED)?, None);
-    assert!(rt; is_replied(alloc, b"", NOT_UTF8, NOT_TEXT)?);
-    Ok(())
+    try_each(rt.alloc(), REFUSED)
 }

@@ -1,5 +1,6 @@
 //! Sessions over the indexes of a configuration.
 use crate::reading::told;
+use crate::spelling::written_out;
 use conf_text::read_conf;
 use itoa::Buffer;
 use mysql_wire::Command;
@@ -44,65 +45,69 @@ pub(crate) fn answer(
     told(alloc, &packets)
 }
 
-/// Whether this is replied to a text in a new session over new indexes, after a text that is answered OK. No text is sent
-/// before where that is empty.
-pub(crate) fn is_replied(
+/// Fails where something else is replied to a text, with what is replied.
+pub(crate) fn try_reply(
     alloc: Global,
-    before: &[u8],
-    text: &[u8],
-    reply: &[u8],
-) -> Result<bool, Fail> {
+    session: &mut Session,
+    tables: &mut PlainTables,
+    text: &str,
+    reply: &str,
+) -> Result<(), Fail> {
+    let sent = written_out(alloc, text)?;
+    let told = answer(alloc, session, tables, sent.as_slice())?;
+    if told.as_slice() == reply.as_bytes() {
+        return Ok(());
+    }
+    let told = String::from_utf8(told).ok().ok_or("no UTF-8")?;
+    Err(Fail::new(format!(in alloc; "{text} ⇒ {told}")?))
+}
+
+/// Sends a text that is answered OK.
+fn send(
+    alloc: Global,
+    session: &mut Session,
+    tables: &mut PlainTables,
+    text: &str,
+) -> Result<(), Fail> {
+    let sent = written_out(alloc, text)?;
+    if answer(alloc, session, tables, sent.as_slice())?.starts_with(b"OK ") {
+        return Ok(());
+    }
+    Err("what is sent before is refused".into())
+}
+
+/// Fails where something else is replied to the text of a line, in a new session over new indexes. Where the line has three parts,
+/// the first is sent before.
+fn try_anew(alloc: Global, line: &str) -> Result<(), Fail> {
     let mut tables = tables_of(alloc, TWO)?;
     let mut session = Session::new();
-    if !before.is_empty() {
-        let first = answer(alloc, &mut session, &mut tables, before)?;
-        if !first.starts_with(b"OK ") {
-            return Err("what is sent before is refused".into());
+    let (texts, reply) = line.rsplit_once(" ⇒ ").ok_or("a line without an arrow")?;
+    match texts.split_once(" ⇒ ") {
+        Some((before, text)) => {
+            send(alloc, &mut session, &mut tables, before)?;
+            try_reply(alloc, &mut session, &mut tables, text, reply)
         }
+        None => try_reply(alloc, &mut session, &mut tables, texts, reply),
     }
-    let told = answer(alloc, &mut session, &mut tables, text)?;
-    Ok(told.as_slice() == reply)
 }
 
-/// The number of the first of these texts to which something else is replied, each in a session of its own.
-pub(crate) fn first_wrong(alloc: Global, cases: &[(&str, &str)]) -> Result<Option<usize>, Fail> {
-    for (at, (text, reply)) in cases.iter().enumerate() {
-        if !is_replied(alloc, b"", text.as_bytes(), reply.as_bytes())? {
-            return Ok(Some(at));
-        }
+/// Fails with the first text of a table to which something else is replied, each in a session of its own.
+pub(crate) fn try_each(alloc: Global, table: &str) -> Result<(), Fail> {
+    for line in table.lines().skip(1) {
+        try_anew(alloc, line)?;
     }
-    Ok(None)
+    Ok(())
 }
 
-/// The same where each text has one that is sent before.
-pub(crate) fn first_wrong_after(
-    alloc: Global,
-    cases: &[(&str, &str, &str)],
-) -> Result<Option<usize>, Fail> {
-    for (at, (before, text, reply)) in cases.iter().enumerate() {
-        if !is_replied(alloc, before.as_bytes(), text.as_bytes(), reply.as_bytes())? {
-            return Ok(Some(at));
-        }
-    }
-    Ok(None)
-}
-
-/// The number of the first text to which something else is replied, where all are sent in turn in one session over the indexes
-/// of this configuration.
-pub(crate) fn first_wrong_in_turn(
-    alloc: Global,
-    conf: &[u8],
-    cases: &[(&str, &str)],
-) -> Result<Option<usize>, Fail> {
+/// The same where all are sent in turn in one session over the indexes of this configuration.
+pub(crate) fn try_in_turn(alloc: Global, conf: &[u8], table: &str) -> Result<(), Fail> {
     let mut tables = tables_of(alloc, conf)?;
     let mut session = Session::new();
-    for (at, (text, reply)) in cases.iter().enumerate() {
-        let told = answer(alloc, &mut session, &mut tables, text.as_bytes())?;
-        if told.as_slice() != reply.as_bytes() {
-            return Ok(Some(at));
-        }
+    for line in table.lines().skip(1) {
+        let (text, reply) = line.split_once(" ⇒ ").ok_or("a line without an arrow")?;
+        try_reply(alloc, &mut session, &mut tables, text, reply)?;
     }
-    Ok(None)
+    Ok(())
 }
 
 /// The text of one INSERT of the ids 1 to this one, with the title `a`. The last id comes first.

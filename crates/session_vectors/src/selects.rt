@@ -1,5 +1,5 @@
 //! Runs over SELECTs and what is replied to them, as docs/cases/selects.md tells it.
-use crate::running::{TWO, answer, insert_numbered, tables_of};
+use crate::running::{TWO, answer, insert_numbered, tables_of, try_reply};
 use crate::select_documents::{CONFIGURATIONS, DOCUMENTS};
 use crate::select_refusals::REFUSALS;
 use crate::select_rows::ROWS;
@@ -36,12 +36,7 @@ fn try_line(
     line: &str,
 ) -> Result<(), Fail> {
     let (text, reply) = line.split_once(" ⇒ ").ok_or("a line without an arrow")?;
-    let told = answer(alloc, session, tables, text.as_bytes())?;
-    if told.as_slice() == reply.as_bytes() {
-        return Ok(());
-    }
-    let told = String::from_utf8(told).ok().ok_or("no UTF-8")?;
-    Err(Fail::new(format!(in alloc; "{text} ⇒ {told}")?))
+    try_reply(alloc, session, tables, text, reply)
 }
 
 /// Sends what a line of a set's documents says.

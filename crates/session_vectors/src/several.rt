@@ -1,5 +1,5 @@
 //! Several statements in one text, many rows in one INSERT, and the description of the widest index.
-use crate::running::{TWO, answer, first_wrong, first_wrong_in_turn, insert_numbered, tables_of};
+use crate::running::{TWO, answer, insert_numbered, tables_of, try_each, try_in_turn};
 use itoa::Buffer;
 use ql_session::Session;
 use std::alloc::Global;
@@ -7,101 +7,51 @@ use std::test::Fail;
 
 /// Texts of several statements, which aren't offered yet as a whole, and what comes before that: the tokens and the grammar of
 /// the whole text.
-const SEVERAL: [(&str, &str); 11] = [
-    ("SHOW TABLES; SHOW TABLES", "ERR 1064 42000 not offered yet"),
-    (
-        "SET NAMES utf8; SELECT id FROM nosuch WHERE MATCH('a')",
-        "ERR 1064 42000 not offered yet",
-    ),
-    (
-        "SET NAMES utf8;SET NAMES utf8;",
-        "ERR 1064 42000 not offered yet",
-    ),
-    (
-        "DESCRIBE nosuch; SHOW TABLES",
-        "ERR 1064 42000 not offered yet",
-    ),
-    (
-        "INSERT INTO rt (nosuch) VALUES (1); SHOW TABLES",
-        "ERR 1064 42000 not offered yet",
-    ),
-    ("BEGIN; SHOW TABLES", "ERR 1064 42000 not offered yet"),
-    ("SHOW TABLES; SHOW", "ERR 1064 42000 syntax error at 17"),
-    ("SHOW TABLES; SELEC", "ERR 1064 42000 syntax error at 13"),
-    (
-        "SHOW TABLES; SHOW TABLES 'a",
-        "ERR 1064 42000 unclosed quote at 25",
-    ),
-    ("SHOW DATABASES;", "Database"),
-    ("SHOW DATABASES ; /* c */ ", "Database"),
-];
+const SEVERAL: &str = r#"
+SHOW TABLES; SHOW TABLES ⇒ ERR 1064 42000 not offered yet
+SET NAMES utf8; SELECT id FROM nosuch WHERE MATCH('a') ⇒ ERR 1064 42000 not offered yet
+SET NAMES utf8;SET NAMES utf8; ⇒ ERR 1064 42000 not offered yet
+DESCRIBE nosuch; SHOW TABLES ⇒ ERR 1064 42000 not offered yet
+INSERT INTO rt (nosuch) VALUES (1); SHOW TABLES ⇒ ERR 1064 42000 not offered yet
+BEGIN; SHOW TABLES ⇒ ERR 1064 42000 not offered yet
+SHOW TABLES; SHOW ⇒ ERR 1064 42000 syntax error at 17
+SHOW TABLES; SELEC ⇒ ERR 1064 42000 syntax error at 13
+SHOW TABLES; SHOW TABLES 'a ⇒ ERR 1064 42000 unclosed quote at 25
+SHOW DATABASES; ⇒ Database
+SHOW DATABASES ; /* c */  ⇒ Database
+"#;
 
 #[test]
 fn several_statements_are_not_offered_yet(rt: HostRuntime) -> Result<(), Fail> {
-    assert_eq!(rt; first_wrong(rt.alloc(), &SEVERAL)?, None);
-    Ok(())
+    try_each(rt.alloc(), SEVERAL)
 }
 
 /// None of several statements is run.
-const IN_TURN: [(&str, &str); 5] = [
-    (
-        "INSERT INTO rt (id, title) VALUES (1, 'a'); SELECT id FROM rt WHERE MATCH('a')",
-        "ERR 1064 42000 not offered yet",
-    ),
-    ("SELECT id FROM rt WHERE MATCH('a')", "id"),
-    (
-        "INSERT INTO rt (id, title) VALUES (3, 'a'); SELEC",
-        "ERR 1064 42000 syntax error at 44",
-    ),
-    ("INSERT INTO rt (id, title) VALUES (3, 'a');", "OK 1"),
-    ("SELECT id FROM rt WHERE MATCH('a');", "id | 3"),
-];
+const IN_TURN: &str = r#"
+INSERT INTO rt (id, title) VALUES (1, 'a'); SELECT id FROM rt WHERE MATCH('a') ⇒ ERR 1064 42000 not offered yet
+SELECT id FROM rt WHERE MATCH('a') ⇒ id
+INSERT INTO rt (id, title) VALUES (3, 'a'); SELEC ⇒ ERR 1064 42000 syntax error at 44
+INSERT INTO rt (id, title) VALUES (3, 'a'); ⇒ OK 1
+SELECT id FROM rt WHERE MATCH('a'); ⇒ id | 3
+"#;
 
 #[test]
 fn none_of_several_statements_is_run(rt: HostRuntime) -> Result<(), Fail> {
-    assert_eq!(rt; first_wrong_in_turn(rt.alloc(), TWO, &IN_TURN)?, None);
-    Ok(())
+    try_in_turn(rt.alloc(), TWO, IN_TURN)
 }
 
-/// A piece so many times, with `; ` between.
-fn times(alloc: Global, count: usize, piece: &[u8]) -> Result<Vec<u8>, Fail> {
-    let mut text = Vec::new(alloc);
-    for at in 0..count {
-        if at > 0 {
-            text.extend_from_slice(b"; ")?;
-        }
-        text.extend_from_slice(piece)?;
-    }
-    Ok(text)
-}
-
-/// How many times a statement stands in a text, and the reply.
-const COUNTS: [(usize, &str, &str); 5] = [
-    (1, "SET NAMES utf8", "OK 0"),
-    (2, "SET NAMES utf8", "ERR 1064 42000 not offered yet"),
-    (32, "SET NAMES utf8", "ERR 1064 42000 not offered yet"),
-    (33, "SET NAMES utf8", "ERR 1064 42000 too many statements"),
-    (33, "COMMIT", "ERR 1064 42000 too many statements"),
-];
-
-/// The number of the first of them with another reply.
-fn first_other_count(alloc: Global) -> Result<Option<usize>, Fail> {
-    let mut tables = tables_of(alloc, TWO)?;
-    let mut session = Session::new();
-    for (at, (count, statement, reply)) in COUNTS.iter().enumerate() {
-        let text = times(alloc, *count, statement.as_bytes())?;
-        let told = answer(alloc, &mut session, &mut tables, &text)?;
-        if told.as_slice() != reply.as_bytes() {
-            return Ok(Some(at));
-        }
-    }
-    Ok(None)
-}
+/// Texts of many statements.
+const COUNTS: &str = r#"
+SET NAMES utf8 ⇒ OK 0
+⟨SET NAMES utf8;  × 1⟩SET NAMES utf8 ⇒ ERR 1064 42000 not offered yet
+⟨SET NAMES utf8;  × 31⟩SET NAMES utf8 ⇒ ERR 1064 42000 not offered yet
+⟨SET NAMES utf8;  × 32⟩SET NAMES utf8 ⇒ ERR 1064 42000 too many statements
+⟨COMMIT;  × 32⟩COMMIT ⇒ ERR 1064 42000 too many statements
+"#;
 
 #[test]
 fn a_text_has_32_statements_at_most(rt: HostRuntime) -> Result<(), Fail> {
-    assert_eq!(rt; first_other_count(rt.alloc())?, None);
-    Ok(())
+    try_in_turn(rt.alloc(), TWO, COUNTS)
 }
 
 /// What 300 documents with one word show: the first 20.

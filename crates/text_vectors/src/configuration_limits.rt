@@ -1,8 +1,7 @@
 //! The limits of a configuration, each from both sides: fields, attributes, zones, bytes of a name, indexes. A row is a
 //! template in which `%` and a letter stand for many lines, so that it can be read. All lines and kinds are worked out by
 //! hand.
-use crate::configuration_faults::fault_of;
-use conf_text::ConfKind;
+use crate::tables::{Telling, try_table};
 use std::alloc::Global;
 use std::fmt::Write;
 use std::test::Fail;
@@ -63,60 +62,35 @@ pub(crate) fn expanded(alloc: Global, template: &str) -> Result<String, Fail> {
     Ok(text)
 }
 
-/// Texts in which `%` and a letter stand for samples, with the line and the kind of the first fault where there is one, worked
-/// out by hand.
-const LIMITS: [(&str, Option<(u32, ConfKind)>); 23] = [
-    ("%H%F}\n", None),
-    ("%H%A}\n", None),
-    ("%H%Frt_field = c\n}\n", Some((36, ConfKind::Limit))),
-    ("%H%Art_attr_bool = c\n}\n", Some((37, ConfKind::Limit))),
-    ("%Hrt_field = %N\n}\n", None),
-    ("%Hrt_field = %L\n}\n", Some((5, ConfKind::Limit))),
-    ("%Hrt_attr_bool = %L\n}\n", Some((5, ConfKind::Limit))),
-    ("%Hhtml_strip = 1\nindex_zones = %N\n}\n", None),
-    (
-        "%Hhtml_strip = 1\nindex_zones = %L\n}\n",
-        Some((6, ConfKind::Limit)),
-    ),
-    (
-        "%Hhtml_strip = 1\nindex_zones = %Zz\n}\n",
-        Some((6, ConfKind::Limit)),
-    ),
-    (
-        "%Hhtml_strip = 1\nindex_zones = %Z%L\n}\n",
-        Some((6, ConfKind::Limit)),
-    ),
-    ("index %N {\n}\n", Some((2, ConfKind::Missing))),
-    ("index %L {\n}\n", Some((1, ConfKind::Limit))),
-    ("source %L {\n}\n%H}\n", None),
-    ("%I", None),
-    ("%Iindex i8 {\n}\n", Some((41, ConfKind::Limit))),
-    // of two kinds on one line the first in their order
-    ("%Iindex i7 {\n}\n", Some((41, ConfKind::Repeated))),
-    ("%Iindex i8 {\n", Some((41, ConfKind::Syntax))),
-    ("%H%Frt_field = F\n}\n", Some((36, ConfKind::Repeated))),
-    ("%H%Frt_field = id\n}\n", Some((36, ConfKind::BadValue))),
-    ("%Hrt_field = %L-\n}\n", Some((5, ConfKind::BadValue))),
-    ("%Hindex_zones = %Zz,Z0\n}\n", Some((5, ConfKind::BadValue))),
-    (
-        "%Hindex_zones = a\nindex_zones = %L\n}\n",
-        Some((6, ConfKind::Repeated)),
-    ),
-];
-
-/// The number of the first text that has another fault.
-fn first_other_limit(alloc: Global) -> Result<Option<usize>, Fail> {
-    for (at, (template, wanted)) in LIMITS.iter().enumerate() {
-        let text = expanded(alloc, template)?;
-        if fault_of(alloc, text.as_bytes())? != *wanted {
-            return Ok(Some(at));
-        }
-    }
-    Ok(None)
-}
+/// Texts in which `%` and a letter stand for samples, with the line and the kind of the first fault where there is one. Of two
+/// kinds on one line the first in their order is told.
+const LIMITS: &str = r#"
+%H%F}¶ ⇒ none
+%H%A}¶ ⇒ none
+%H%Frt_field = c¶}¶ ⇒ 36 limit
+%H%Art_attr_bool = c¶}¶ ⇒ 37 limit
+%Hrt_field = %N¶}¶ ⇒ none
+%Hrt_field = %L¶}¶ ⇒ 5 limit
+%Hrt_attr_bool = %L¶}¶ ⇒ 5 limit
+%Hhtml_strip = 1¶index_zones = %N¶}¶ ⇒ none
+%Hhtml_strip = 1¶index_zones = %L¶}¶ ⇒ 6 limit
+%Hhtml_strip = 1¶index_zones = %Zz¶}¶ ⇒ 6 limit
+%Hhtml_strip = 1¶index_zones = %Z%L¶}¶ ⇒ 6 limit
+index %N {¶}¶ ⇒ 2 missing key
+index %L {¶}¶ ⇒ 1 limit
+source %L {¶}¶%H}¶ ⇒ none
+%I ⇒ none
+%Iindex i8 {¶}¶ ⇒ 41 limit
+%Iindex i7 {¶}¶ ⇒ 41 repeated
+%Iindex i8 {¶ ⇒ 41 syntax
+%H%Frt_field = F¶}¶ ⇒ 36 repeated
+%H%Frt_field = id¶}¶ ⇒ 36 bad value
+%Hrt_field = %L-¶}¶ ⇒ 5 bad value
+%Hindex_zones = %Zz,Z0¶}¶ ⇒ 5 bad value
+%Hindex_zones = a¶index_zones = %L¶}¶ ⇒ 6 repeated
+"#;
 
 #[test]
 fn tells_where_a_limit_is_passed(rt: HostRuntime) -> Result<(), Fail> {
-    assert_eq!(rt; first_other_limit(rt.alloc())?, None);
-    Ok(())
+    try_table(rt.alloc(), LIMITS, Telling::Conf)
 }

@@ -5,6 +5,8 @@ ghost use Rattle.std.specs.Prelude.{◌≡◌, [], ◌∷◌, codes, IfOk};
 ghost use Rattle.doc_types.specs.Schemas.{AreZones};
 
 use crate::evaluated_fields::FIELDS;
+use crate::spelling::written_text;
+use crate::tables::{Telling, try_table};
 use charset_map::Charset;
 use doc_tokens::{TooLong, tokens};
 use doc_types::{FieldTokens, Gap, ZoneSpan};
@@ -14,89 +16,62 @@ use std::alloc::Global;
 use std::fmt::Write;
 use std::test::Fail;
 
-/// A text with markup in an index with the zones `th`, `i`, `td` and `em`; whether sentences and paragraphs are looked for; its words,
-/// each with its position and, after it, `s` or `p` for the boundary before it; its spans: zone, first and last position.
-const MARKUP: [(&str, bool, &str, &str); 31] = [
-    ("", true, "", ""),
-    (" <p>.<!-- a -->", true, "", ""),
-    // An inline tag joins, all other tags and comments separate.
-    ("te<B>st</B>", false, "test 1", ""),
-    ("te<P>st</P>", false, "te 1, st 2", ""),
-    ("te<P>st</P>", true, "te 1, st 3p", ""),
-    ("te<x:y z>st", true, "te 1, st 2", ""),
-    ("te<!-- x. -->st", true, "te 1, st 2", ""),
-    ("te<!--<b></b>-->st", true, "te 1, st 2", ""),
-    // An inline tag that is a zone separates.
-    ("te<i>st</i>", true, "te 1, st 2", "i 2-2"),
-    // What is no comment is plain text, with the end of a sentence.
-    ("a<!-->b", true, "a 1, b 3s", ""),
-    ("a<!-->b", false, "a 1, b 2", ""),
-    ("a<!-->-->b", true, "a 1, b 2", ""),
-    // Letters are folded.
-    ("ПРИ<b>В</b>ЕТ Мир", true, "привет 1, мир 2", ""),
-    // Several ends in a row are one boundary, of a paragraph if one of them is.
-    ("a!? b", true, "a 1, b 3s", ""),
-    ("a. <p>b", true, "a 1, b 3p", ""),
-    ("a<p>! b", true, "a 1, b 3p", ""),
-    ("a<p></p><p>b", true, "a 1, b 3p", ""),
-    // Ends before the first word and after the last one are no boundaries.
-    ("!<p>a b!</p>", true, "a 1, b 2", ""),
-    // Each element of a zone is a span of its own.
-    (
-        "<th>hello</th> x <th>world</th>",
-        false,
-        "hello 1, x 2, world 3",
-        "th 1-1, th 3-3",
-    ),
-    ("<th>hello world", false, "hello 1, world 2", "th 1-2"),
-    ("<th>a<TH>b", false, "a 1, b 2", "th 1-1, th 2-2"),
-    ("a <th> b </th> c", true, "a 1, b 3p, c 5p", "th 3-3"),
-    // A tag that closes itself does nothing to zones, but ends a paragraph.
-    ("<th>a<th/>b", true, "a 1, b 3p", "th 1-3"),
-    // Spans without a word are dropped, and a closing tag without an open span does nothing.
-    ("<th></th>a<th>", false, "a 1", ""),
-    ("</th>a</i>", false, "a 1", ""),
-    // A closing tag ends the span of its own zone.
-    ("<th>a</i>b", false, "a 1, b 2", "th 1-2"),
-    ("<th>a</th>b</th>c", false, "a 1, b 2, c 3", "th 1-1"),
-    // Spans of different zones may overlap. They stand by first position, last position and zone.
-    (
-        "<th>a<i>b</th>c</i>d",
-        false,
-        "a 1, b 2, c 3, d 4",
-        "th 1-2, i 2-3",
-    ),
-    ("<th><i>a</i>b</th>", false, "a 1, b 2", "i 1-1, th 1-2"),
-    ("<i><th>a</th></i>", false, "a 1", "th 1-1, i 1-1"),
-    (
-        "<i>a<th>b<i>c</th>d",
-        false,
-        "a 1, b 2, c 3, d 4",
-        "i 1-2, th 2-3, i 3-4",
-    ),
-];
+/// Texts in an index with the zones `th`, `i`, `td` and `em`, each after its `html_strip` and `index_sp`, with their words, each with
+/// its position and, after it, `s` or `p` for the boundary before it, and their spans: zone, first and last position. In turn: an
+/// inline tag joins, all other tags and comments separate; an inline tag that is a zone separates; what is no comment is plain
+/// text, with the end of a sentence; letters are folded; several ends in a row are one boundary, of a paragraph if one of them
+/// is; ends before the first word and after the last one are no boundaries; each element of a zone is a span of its own; a tag
+/// that closes itself does nothing to zones, but ends a paragraph; spans without a word are dropped, and a closing tag without an
+/// open span does nothing; a closing tag ends the span of its own zone; spans of different zones may overlap, and stand by first
+/// position, last position and zone.
+const MARKUP: &str = r#"
+1 1  ⇒  ⇒ 
+1 1  <p>.<!-- a --> ⇒  ⇒ 
+1 0 te<B>st</B> ⇒ test 1 ⇒ 
+1 0 te<P>st</P> ⇒ te 1, st 2 ⇒ 
+1 1 te<P>st</P> ⇒ te 1, st 3p ⇒ 
+1 1 te<x:y z>st ⇒ te 1, st 2 ⇒ 
+1 1 te<!-- x. -->st ⇒ te 1, st 2 ⇒ 
+1 1 te<!--<b></b>-->st ⇒ te 1, st 2 ⇒ 
+1 1 te<i>st</i> ⇒ te 1, st 2 ⇒ i 2-2
+1 1 a<!-->b ⇒ a 1, b 3s ⇒ 
+1 0 a<!-->b ⇒ a 1, b 2 ⇒ 
+1 1 a<!-->-->b ⇒ a 1, b 2 ⇒ 
+1 1 ПРИ<b>В</b>ЕТ Мир ⇒ привет 1, мир 2 ⇒ 
+1 1 a!? b ⇒ a 1, b 3s ⇒ 
+1 1 a. <p>b ⇒ a 1, b 3p ⇒ 
+1 1 a<p>! b ⇒ a 1, b 3p ⇒ 
+1 1 a<p></p><p>b ⇒ a 1, b 3p ⇒ 
+1 1 !<p>a b!</p> ⇒ a 1, b 2 ⇒ 
+1 0 <th>hello</th> x <th>world</th> ⇒ hello 1, x 2, world 3 ⇒ th 1-1, th 3-3
+1 0 <th>hello world ⇒ hello 1, world 2 ⇒ th 1-2
+1 0 <th>a<TH>b ⇒ a 1, b 2 ⇒ th 1-1, th 2-2
+1 1 a <th> b </th> c ⇒ a 1, b 3p, c 5p ⇒ th 3-3
+1 1 <th>a<th/>b ⇒ a 1, b 3p ⇒ th 1-3
+1 0 <th></th>a<th> ⇒ a 1 ⇒ 
+1 0 </th>a</i> ⇒ a 1 ⇒ 
+1 0 <th>a</i>b ⇒ a 1, b 2 ⇒ th 1-2
+1 0 <th>a</th>b</th>c ⇒ a 1, b 2, c 3 ⇒ th 1-1
+1 0 <th>a<i>b</th>c</i>d ⇒ a 1, b 2, c 3, d 4 ⇒ th 1-2, i 2-3
+1 0 <th><i>a</i>b</th> ⇒ a 1, b 2 ⇒ i 1-1, th 1-2
+1 0 <i><th>a</th></i> ⇒ a 1 ⇒ th 1-1, i 1-1
+1 0 <i>a<th>b<i>c</th>d ⇒ a 1, b 2, c 3, d 4 ⇒ i 1-2, th 2-3, i 3-4
+"#;
 
-/// A text whose markup isn't looked at, and its words with and without boundaries.
-const PLAIN: [(&str, &str, &str); 5] = [
-    (
-        "John D. Doe met S.T.A.L.K.E.R. He left!",
-        "john 1, d 2, doe 3, met 4, s 5, t 6, a 7, l 8, k 9, e 10, r 11, he 13s, left 14",
-        "john 1, d 2, doe 3, met 4, s 5, t 6, a 7, l 8, k 9, e 10, r 11, he 12, left 13",
-    ),
-    ("te<B>st", "te 1, b 2, st 3", "te 1, b 2, st 3"),
-    ("a. B. c! d", "a 1, b 3s, c 4, d 6s", "a 1, b 2, c 3, d 4"),
-    (
-        "123456789-123456789_123456789_123456789_12345",
-        "123456789 1, 123456789_123456789_123456789_12345 2",
-        "123456789 1, 123456789_123456789_123456789_12345 2",
-    ),
-    // Runs of 43 letters, of one and of two bytes, are cut after 42.
-    (
-        "0123456789_0123456789_0123456789_0123456789-абвгдежзийклмнопрстуфхцчшщъыьэюяабвгдежзийк",
-        "0123456789_0123456789_0123456789_012345678 1, абвгдежзийклмнопрстуфхцчшщъыьэюяабвгдежзий 2",
-        "0123456789_0123456789_0123456789_012345678 1, абвгдежзийклмнопрстуфхцчшщъыьэюяабвгдежзий 2",
-    ),
-];
+/// The same of texts whose markup isn't looked at, with and without boundaries. At the end runs of 43 letters, of one and of two
+/// bytes, which are cut after 42.
+const PLAIN: &str = r#"
+0 1 John D. Doe met S.T.A.L.K.E.R. He left! ⇒ john 1, d 2, doe 3, met 4, s 5, t 6, a 7, l 8, k 9, e 10, r 11, he 13s, left 14 ⇒ 
+0 0 John D. Doe met S.T.A.L.K.E.R. He left! ⇒ john 1, d 2, doe 3, met 4, s 5, t 6, a 7, l 8, k 9, e 10, r 11, he 12, left 13 ⇒ 
+0 1 te<B>st ⇒ te 1, b 2, st 3 ⇒ 
+0 0 te<B>st ⇒ te 1, b 2, st 3 ⇒ 
+0 1 a. B. c! d ⇒ a 1, b 3s, c 4, d 6s ⇒ 
+0 0 a. B. c! d ⇒ a 1, b 2, c 3, d 4 ⇒ 
+0 1 123456789-123456789_123456789_123456789_12345 ⇒ 123456789 1, 123456789_123456789_123456789_12345 2 ⇒ 
+0 0 123456789-123456789_123456789_123456789_12345 ⇒ 123456789 1, 123456789_123456789_123456789_12345 2 ⇒ 
+0 1 0123456789_0123456789_0123456789_0123456789-абвгдежзийклмнопрстуфхцчшщъыьэюяабвгдежзийк ⇒ 0123456789_0123456789_0123456789_012345678 1, абвгдежзийклмнопрстуфхцчшщъыьэюяабвгдежзий 2 ⇒ 
+0 0 0123456789_0123456789_0123456789_0123456789-абвгдежзийклмнопрстуфхцчшщъыьэюяабвгдежзийк ⇒ 0123456789_0123456789_0123456789_012345678 1, абвгдежзийклмнопрстуфхцчшщъыьэюяабвгдежзий 2 ⇒ 
+"#;
 
 fn letter(gap: Gap) -> &'static str {
     match gap {
@@ -181,66 +156,16 @@ fn put_span(span: &ZoneSpan, text: &mut String) -> Result<(), Fail> {
     Ok(())
 }
 
-/// Whether a text has these words and spans by the default table.
-fn has(
-    alloc: Global,
-    strip: bool,
-    sp: bool,
-    text: &str,
-    words: &str,
-    spans: &str,
-) -> Result<bool, Fail> {
+/// The words and spans of a text by the default table, which stands after its `html_strip` and `index_sp`.
+pub(crate) fn tokens_told(alloc: Global, line: &str) -> Result<String, Fail> {
+    let (strip, rest) = line.split_once(' ').ok_or("no html_strip")?;
+    let (sp, text) = rest.split_once(' ').ok_or("no index_sp")?;
+    let text = written_text(alloc, text)?;
     let charset = Charset::default_table(alloc).or(Err("no table"))?;
-    let found = read(alloc, &charset, strip, sp, text).or(Err("no tokens"))?;
-    let list = written(alloc, &found)?;
-    if list.as_str() != words {
-        return Ok(false);
-    }
-    let list = written_spans(alloc, found.spans.as_slice())?;
-    Ok(list.as_str() == spans)
-}
-
-/// The number of the first text with markup that has other words or spans.
-fn first_other_markup(alloc: Global) -> Result<Option<usize>, Fail> {
-    for (at, (text, sp, words, spans)) in MARKUP.iter().enumerate() {
-        if !has(alloc, true, *sp, text, words, spans)? {
-            return Ok(Some(at));
-        }
-    }
-    Ok(None)
-}
-
-/// The number of the first other text that has other words.
-fn first_other_plain(alloc: Global) -> Result<Option<usize>, Fail> {
-    for (at, (text, with, without)) in PLAIN.iter().enumerate() {
-        if !has(alloc, false, true, text, with, "")?
-            || !has(alloc, false, false, text, without, "")?
-        {
-            return Ok(Some(at));
-        }
-    }
-    Ok(None)
-}
-
-/// Whether a line of the fields of documents has the words and spans of its text.
-fn has_line(alloc: Global, line: &str) -> Result<bool, Fail> {
-    let mut parts = line.split(" ⇒ ");
-    let strip = parts.next() == Some("1");
-    let sp = parts.next() == Some("1");
-    let text = parts.next().ok_or("no text")?;
-    let words = parts.next().ok_or("no words")?;
-    let spans = parts.next().ok_or("no spans")?;
-    has(alloc, strip, sp, text, words, spans)
-}
-
-/// The number of the first field of a document that has other words or spans.
-fn first_other_field(alloc: Global) -> Result<Option<usize>, Fail> {
-    for (at, line) in FIELDS.trim_start().lines().enumerate() {
-        if !has_line(alloc, line)? {
-            return Ok(Some(at));
-        }
-    }
-    Ok(None)
+    let found = read(alloc, &charset, strip == "1", sp == "1", text.as_str()).or(Err("no tokens"))?;
+    let words = written(alloc, &found)?;
+    let spans = written_spans(alloc, found.spans.as_slice())?;
+    Ok(format!(in alloc; "{words} ⇒ {spans}")?)
 }
 
 /// A `!` that is in the table ends a sentence for the marks, but is no boundary of a word.
@@ -254,114 +179,78 @@ fn letters_make_no_boundary(rt: HostRuntime) -> Result<(), Fail> {
     Ok(())
 }
 
-/// The position of the last word of a text that ends like this after so many words, or the position that is too great.
-fn last_position(alloc: Global, count: u32, end: &str) -> Result<Result<u32, u32>, Fail> {
-    let mut text = String::new(alloc);
-    for _ in 0..count {
-        text.push_str("ab ")?;
-    }
-    text.push_str(end)?;
+/// Texts, and the position of the last word or the one that is too great.
+const LAST: &str = r#"
+⟨ab  × 65535⟩! ⇒ 65535
+⟨ab  × 65533⟩! a ⇒ 65535
+⟨ab  × 65536⟩ ⇒ too long at 65536
+⟨ab  × 70000⟩ ⇒ too long at 65536
+⟨ab  × 65533⟩! a b ⇒ too long at 65536
+⟨ab  × 65534⟩! a ⇒ too long at 65536
+⟨ab  × 65535⟩! a ⇒ too long at 65537
+"#;
+
+/// The position of the last word of a text, or the one that is too great.
+pub(crate) fn last_told(alloc: Global, text: &str) -> Result<String, Fail> {
+    let text = written_text(alloc, text)?;
     let charset = Charset::default_table(alloc).or(Err("no table"))?;
     match read(alloc, &charset, true, true, text.as_str()) {
         Ok(found) => {
-            let last = found.words.as_slice().last().ok_or("no word")?;
-            Ok(Ok(last.position))
+            let last = found.words.as_slice().last().ok_or("no word")?.position;
+            Ok(format!(in alloc; "{last}")?)
         }
-        Err(Or::Fault(fault)) => Ok(Err(fault.position)),
-        Err(Or::NoMemory) => Err("no memory")?,
+        Err(Or::Fault(fault)) => {
+            let position = fault.position;
+            Ok(format!(in alloc; "too long at {position}")?)
+        }
+        Err(Or::NoMemory) => Err("no memory".into()),
     }
 }
 
-/// How many words of a text stand before its end, the end, and the position of the last word or the one that is too great,
-/// worked out by hand.
-const LAST: [(u32, &str, Result<u32, u32>); 7] = [
-    (65_535, "!", Ok(65_535)),
-    (65_533, "! a", Ok(65_535)),
-    (65_536, "", Err(65_536)),
-    (70_000, "", Err(65_536)),
-    (65_533, "! a b", Err(65_536)),
-    (65_534, "! a", Err(65_536)),
-    (65_535, "! a", Err(65_537)),
-];
+/// Long texts, and how many words and spans they have.
+const LONG: &str = r#"
+⟨Я × 50000⟩ ⇒ 1 words, 0 spans
+⟨<th> × 10000⟩ ⇒ 0 words, 0 spans
+⟨<th><i>a</i></th> × 5000⟩ ⇒ 5000 words, 10000 spans
+"#;
 
-/// The number of the first text whose last word stands elsewhere.
-fn first_other_last(alloc: Global) -> Result<Option<usize>, Fail> {
-    for (at, (count, end, last)) in LAST.iter().enumerate() {
-        if last_position(alloc, *count, end)? != *last {
-            return Ok(Some(at));
-        }
-    }
-    Ok(None)
-}
-
-/// How many words and spans a text repeated so often has.
-fn counts(alloc: Global, count: u32, part: &str) -> Result<(usize, usize), Fail> {
-    let mut text = String::new(alloc);
-    for _ in 0..count {
-        text.push_str(part)?;
-    }
+/// How many words and spans a text has.
+pub(crate) fn sizes_told(alloc: Global, text: &str) -> Result<String, Fail> {
+    let text = written_text(alloc, text)?;
     let charset = Charset::default_table(alloc).or(Err("no table"))?;
     let found = read(alloc, &charset, true, false, text.as_str()).or(Err("no tokens"))?;
-    Ok((found.words.len(), found.spans.len()))
+    let (words, spans) = (found.words.len(), found.spans.len());
+    Ok(format!(in alloc; "{words} words, {spans} spans")?)
 }
 
-/// How often a text is repeated, the text, and how many words and spans it then has.
-const LONG: [(u32, &str, usize, usize); 3] = [
-    (50_000, "Я", 1, 0),
-    (10_000, "<th>", 0, 0),
-    (5_000, "<th><i>a</i></th>", 5_000, 10_000),
-];
+/// Runs of letters of four bytes, and how many bytes their words have: at most 42 times 4.
+const BYTES: &str = r#"
+⟨𐐨 × 1⟩ ⇒ 4
+⟨𐐨 × 41⟩ ⇒ 164
+⟨𐐨 × 42⟩ ⇒ 168
+⟨𐐨 × 43⟩ ⇒ 168
+"#;
 
-/// The number of the first long text that has others.
-fn first_other_long(alloc: Global) -> Result<Option<usize>, Fail> {
-    for (at, (count, part, words, spans)) in LONG.iter().enumerate() {
-        if counts(alloc, *count, part)? != (*words, *spans) {
-            return Ok(Some(at));
-        }
-    }
-    Ok(None)
-}
-
-/// How many bytes the word of a run of so many letters of four bytes has.
-fn word_bytes(alloc: Global, count: u32) -> Result<usize, Fail> {
-    let mut text = String::new(alloc);
-    for _ in 0..count {
-        text.push('\u{10428}')?;
-    }
+/// How many bytes the first word of a text has, whose letters have four.
+pub(crate) fn word_bytes(alloc: Global, text: &str) -> Result<String, Fail> {
+    let text = written_text(alloc, text)?;
     let charset = Charset::read(alloc, "U+10428..U+1044F").or(Err("no table"))?;
     let found = read(alloc, &charset, false, false, text.as_str()).or(Err("no tokens"))?;
-    Ok(
-        found
-            .words
-            .as_slice()
-            .first()
-            .ok_or("no word")?
-            .word
-            .as_bytes()
-            .len(),
-    )
-}
-
-/// How many letters of four bytes a run has, and how many bytes its word has: at most 42 times 4.
-const BYTES: [(u32, usize); 4] = [(1, 4), (41, 164), (42, 168), (43, 168)];
-
-/// The number of the first run whose word has other bytes.
-fn first_other_bytes(alloc: Global) -> Result<Option<usize>, Fail> {
-    for (at, (count, bytes)) in BYTES.iter().enumerate() {
-        if word_bytes(alloc, *count)? != *bytes {
-            return Ok(Some(at));
-        }
-    }
-    Ok(None)
+    let word = found.words.as_slice().first().ok_or("no word")?;
+    let bytes = word.word.as_bytes().len();
+    Ok(format!(in alloc; "{bytes}")?)
 }
 
 #[test]
 fn texts_have_their_words(rt: HostRuntime) -> Result<(), Fail> {
-    assert_eq!(rt; first_other_markup(rt.alloc())?, None);
-    assert_eq!(rt; first_other_plain(rt.alloc())?, None);
-    assert_eq!(rt; first_other_field(rt.alloc())?, None);
-    assert_eq!(rt; first_other_bytes(rt.alloc())?, None);
-    assert_eq!(rt; first_other_last(rt.alloc())?, None);
-    assert_eq!(rt; first_other_long(rt.alloc())?, None);
-    Ok(())
+    try_table(rt.alloc(), MARKUP, Telling::Tokens)?;
+    try_table(rt.alloc(), PLAIN, Telling::Tokens)?;
+    try_table(rt.alloc(), FIELDS, Telling::Tokens)
+}
+
+#[test]
+fn words_and_positions_have_limits(rt: HostRuntime) -> Result<(), Fail> {
+    try_table(rt.alloc(), BYTES, Telling::WordBytes)?;
+    try_table(rt.alloc(), LAST, Telling::Last)?;
+    try_table(rt.alloc(), LONG, Telling::Sizes)
 }

@@ -20,3 +20,7 @@ mod field_tokens;
 mod marks;
 #[cfg(test)]
 mod name_tables;
+#[cfg(test)]
+mod spelling;
+#[cfg(test)]
+mod tables;

@@ -4,7 +4,10 @@
 ghost use Rattle.std.specs.Prelude.{◌≡◌};
 ghost use Rattle.name_table.specs.Order.{IsInOrder};
 
+use crate::tables::{Telling, try_table};
 use name_table::{NameTable, value_at, words_of};
+use std::alloc::Global;
+use std::test::Fail;
 
 macro_rules! keywords {
     ($form:ident $(, $argument:expr)*) => {
@@ -85,57 +88,55 @@ fn keyword_at(place: u16) -> Option<&'static str> {
 }
 
 /// Words in letters of either case, and their places.
-const PLACES: [(&str, Option<u16>); 12] = [
-    ("and", Some(0)),
-    ("AND", Some(0)),
-    ("BeTween", Some(5)),
-    ("FACET", Some(19)),
-    ("match", Some(41)),
-    ("Quick", Some(59)),
-    ("", None),
-    ("an", None),
-    ("andy", None),
-    ("AND ", None),
-    ("Z", None),
-    ("Änd", None),
-];
+const PLACES: &str = r#"
+and ⇒ 0
+AND ⇒ 0
+BeTween ⇒ 5
+FACET ⇒ 19
+match ⇒ 41
+Quick ⇒ 59
+ ⇒ none
+an ⇒ none
+andy ⇒ none
+AND  ⇒ none
+Z ⇒ none
+Änd ⇒ none
+"#;
 
-/// The number of the first word with another place.
-fn first_other_place() -> Option<usize> {
-    for (at, (word, place)) in PLACES.iter().enumerate() {
-        if keyword_table().find(word.as_bytes()) != *place {
-            return Some(at);
-        }
+/// The place of a word, or `none`.
+pub(crate) fn place_told(alloc: Global, word: &str) -> Result<String, Fail> {
+    let mut told = String::new(alloc);
+    match keyword_table().find(word.as_bytes()) {
+        Some(place) => write!(told, "{place}")?,
+        None => told.push_str("none")?,
     }
-    None
+    Ok(told)
 }
 
 #[test]
-fn finds_words_in_either_case(rt: HostRuntime) {
-    assert_eq!(rt; first_other_place(), None);
+fn finds_words_in_either_case(rt: HostRuntime) -> Result<(), Fail> {
+    try_table(rt.alloc(), PLACES, Telling::Place)
 }
 
 /// Places, and the values there.
-const VALUES: [(u16, Option<&str>); 4] = [
-    (0, Some("AND")),
-    (19, Some("FACET")),
-    (59, Some("QUICK")),
-    (60, None),
-];
+const VALUES: &str = r#"
+0 ⇒ AND
+19 ⇒ FACET
+59 ⇒ QUICK
+60 ⇒ none
+"#;
 
-/// The number of the first place with another value.
-fn first_other_value() -> Option<usize> {
-    for (at, (place, value)) in VALUES.iter().enumerate() {
-        if keyword_at(*place) != *value {
-            return Some(at);
-        }
-    }
-    None
+/// The value at a place, or `none`.
+pub(crate) fn value_told(alloc: Global, place: &str) -> Result<String, Fail> {
+    let mut told = String::new(alloc);
+    let place = place.parse::<u16>().or(Err("no place"))?;
+    told.push_str(keyword_at(place).unwrap_or("none"))?;
+    Ok(told)
 }
 
 #[test]
-fn gives_the_value_at_a_place(rt: HostRuntime) {
-    assert_eq!(rt; first_other_value(), None);
+fn gives_the_value_at_a_place(rt: HostRuntime) -> Result<(), Fail> {
+    try_table(rt.alloc(), VALUES, Telling::Value)
 }
 
 #[test]
