@@ -5,7 +5,7 @@ ghost use Rattle.ql_tree.specs.declared.statement.Statement.{Statement as Statem
 ghost use Rattle.ql_refusals.specs.Refusals.{Refused};
 ghost use Rattle.ql_answers.specs.Replies.{Reply};
 ghost use Rattle.ql_answers.specs.Sessions.{HasLayers, State};
-ghost use Rattle.mysql_wire.specs.Commands.{Asked};
+ghost use Rattle.mysql_wire.specs.Commands.{ClientCommand};
 ghost use Rattle.ql_session.specs.Session.{Answers};
 ghost use Rattle.ql_session.specs.Statements.{AnswersText, HaveLayers, RefusesText, Replies, States, told};
 ghost use Rattle.ql_session.specs.Tables.{AreSound, Event, Follows, Tables, empty_tables};
@@ -45,7 +45,7 @@ pub fn a_text_has_one_reply()
 
 /// What came of a command has one reply, byte for byte, and leaves the session in one state.
 pub fn a_command_has_one_reply()
-    ensures { (old : State) (asked : Asked) (events : List Event) (a b : List ℕ) (x y : State) → HaveLayers events → Answers old asked events a x → Answers old asked events b y → (a ≡ b) × (x ≡ y) }
+    ensures { (old : State) (asked : ClientCommand) (events : List Event) (a b : List ℕ) (x y : State) → HaveLayers events → Answers old asked events a x → Answers old asked events b y → (a ≡ b) × (x ≡ y) }
 {
     a_text_has_one_reply();
 }
