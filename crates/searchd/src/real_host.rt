@@ -10,8 +10,8 @@ use std::fs;
 use std::io::{self, ErrorKind, Read, Stderr, Stdin, Stdout, Write};
 use std::rt::Files;
 
-/// The host of the program: files, the standard streams, and one door over them. It tells nothing of texts or of what was
-/// printed.
+/// The host of the program: files, the standard streams, and one door over them. It knows no text beforehand, and
+/// records neither what is printed nor what is requested.
 #[derive(Drop)]
 pub struct RealHost<R> {
     files: R,
@@ -63,6 +63,8 @@ impl<R: Files> Host for RealHost<R> {
     ghost faults = { λ host. host.faults };
 
     ghost print_faults = { λ host to. of_stream to host.out_faults host.error_faults };
+
+    ghost requests = { λ _. None };
 
     fn read_text(&mut self, path: &str, limit: u32) -> Result<Vec<u8>, OpenFault> {
         match read_file(self.alloc, &self.files, path, limit) {

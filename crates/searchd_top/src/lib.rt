@@ -8,7 +8,7 @@ mod program;
 mod serving;
 mod status;
 
-pub use host::{Host, Stream};
+pub use host::{Host, Request, Stream};
 pub use memory_host::MemoryHost;
 pub use program::searchd;
 pub use status::Status;
