@@ -30,14 +30,14 @@ no_layers =
 pub empty_sound : (confs : List IndexConf) → AreSound (empty_tables confs)
 empty_sound confs = All-map IsSound (λ (conf : IndexConf). empty_snapshot) confs (λ place other within. no_layers)
 
-sound_at : (fronts : List SnapshotValue) (place : ℕ) (front : SnapshotValue) → All IsSound fronts → slice_get fronts place ≡ Some front → IsSound front
+pub sound_at : (fronts : List SnapshotValue) (place : ℕ) (front : SnapshotValue) → All IsSound fronts → slice_get fronts place ≡ Some front → IsSound front
 sound_at fronts place front sound is =
     subst IsSound (get_or_from_slice_get fronts place front front is) (sound place front (slice_get_within fronts place front is))
 
 sound_as : (old new : Tables) → new ≡ old → AreSound old → AreSound new
 sound_as old new same sound = subst AreSound (sym same) sound
 
-one_event : (old : Tables) (event : Event) (new : Tables) → AreSound old → Follows old event new → HasLayers (told event) × AreSound new
+pub one_event : (old : Tables) (event : Event) (new : Tables) → AreSound old → Follows old event new → HasLayers (told event) × AreSound new
 one_event old (Configured confs) new sound (is, same) = (tt, sound_as old new same sound)
 one_event old Nothing new sound same = (tt, sound_as old new same sound)
 one_event old NoMemory new sound same = (tt, sound_as old new same sound)

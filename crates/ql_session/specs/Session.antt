@@ -1,14 +1,14 @@
 -- A session: the machine that answers a connection's commands, and a whole session over a connection.
-use Rattle.std.specs.Prelude.{◌≡◌, ◌≢◌, ℕ, List, [], ◌∷◌, false, codes}
+use Rattle.std.specs.Prelude.{◌≡◌, ◌≢◌, ℕ, List, All, [], ◌∷◌, false, codes}
 use Rattle.srch_base.specs.Moves.{Meters}
 use Rattle.mysql_wire.specs.Packets.{packets_from}
 use Rattle.mysql_wire.specs.Replies.{ok_payload, eof_payload, err_payload}
 use Rattle.mysql_wire.specs.Commands.{ClientCommand, Quit as asks_quit, InitDb, Query, Ping, SetOption, Unknown}
-use Rattle.serve_line.specs.Machines.{Machine, Answered}
-use Rattle.serve_line.specs.Line.{IsLine}
+use Rattle.serve_line.specs.Machines.{Machine, Answered, FollowAll}
+use Rattle.serve_line.specs.Line.{IsLine, EndsByClient}
 use Rattle.serve_line.specs.declared.line.LinkEnd.{LinkEnd}
 use Rattle.ql_answers.specs.Sessions.{State, new_state, status_of}
-use Rattle.ql_session.specs.Tables.{Tables, Event, Follows}
+use Rattle.ql_session.specs.Tables.{Tables, Event, NoMemory, Follows}
 use Rattle.ql_session.specs.Statements.{AnswersText}
 use Rattle.ql_session.specs.declared.session.StepEnd.{StepEnd}
 use Rattle.ql_session.specs.declared.session.StepEnd.TheVariants.{Reply, Quit}
@@ -35,3 +35,14 @@ TakesStep Quit old asked before left out new = (asked ≡ asks_quit) × (left �
 -- A whole session over a connection.
 abbrev pub Session : ℕ → Meters → Meters → List ℕ → List ℕ → LinkEnd → List Event → Type 0
 Session connection before now read written end events = IsLine statement_machine connection new_state before now read written end events
+
+-- A whole session of this connection that led from tables to tables, which its client ended and to which no memory was refused.
+pub record IsUndisturbed (connection : ℕ) (old : Tables) (read written : List ℕ) (left : Tables) : Type 0 where
+  pub before : Meters
+  pub now : Meters
+  pub end : LinkEnd
+  pub events : List Event
+  pub session : Session connection before now read written end events
+  pub follows : FollowAll Follows old events left
+  pub client : EndsByClient end
+  pub memory : All (λ event. event ≢ NoMemory) events

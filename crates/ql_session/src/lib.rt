@@ -13,7 +13,7 @@ mod tables;
 mod texts;
 
 pub use laws::{
-    a_command_has_one_reply, a_statement_has_one_reply, a_text_has_one_reply,
+    a_command_has_one_reply, a_line_has_one_reply, a_statement_has_one_reply, a_text_has_one_reply,
     a_text_is_read_in_one_way, layers_stay_sound,
 };
 pub use line::serve_link;

@@ -141,3 +141,10 @@ pub record Ends {S E : Type 0} (machine : Machine S E) (before now : Meters) (en
 -- A whole connection, with its number and the state in which its session begins: at first nothing was read and nothing written.
 abbrev pub IsLine : {S E : Type 0} → Machine S E → ℕ → S → Meters → Meters → List ℕ → List ℕ → LinkEnd → List E → Type 0
 IsLine machine connection start before now read written end events = Ends machine before now end (Opened connection start) [] read written events
+
+-- The connection ended by what its client sent: neither reading nor writing failed, and memory wasn't refused.
+abbrev pub EndsByClient : LinkEnd → Type 0
+EndsByClient ReadFault = ⊥
+EndsByClient WriteFault = ⊥
+EndsByClient NoMemory = ⊥
+EndsByClient end = ⊤
