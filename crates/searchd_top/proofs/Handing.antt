@@ -17,8 +17,8 @@ use Rattle.searchd_top.specs.Requests.{Requested}
 use Rattle.searchd_top.specs.steps.Halves.{Configures, SaysOfDoor, SaysServing, ServesBy, one_door}
 use Rattle.searchd_top.specs.Statuses.{status_of}
 use Rattle.searchd_top.specs.declared.host.Host.{Ghosts as HostWords}
-use Rattle.searchd_top.specs.declared.host.Request.{Request}
-use Rattle.searchd_top.specs.declared.host.Request.TheVariants.{ReadText}
+use Rattle.searchd_top.specs.declared.requests.Request.{Request}
+use Rattle.searchd_top.specs.declared.requests.Request.TheVariants.{ReadText}
 use Rattle.searchd_top.specs.declared.status.Status.{Status}
 use Rattle.searchd_top.specs.declared.status.Status.TheVariants.{Done, Usage, Config, HostFault, NoMemory}
 

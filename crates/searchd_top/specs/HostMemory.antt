@@ -6,7 +6,7 @@ use Rattle.srch_base.specs.Memory.{Lines, one_more}
 use Rattle.srch_base.specs.declared.faults.OpenFault.{OpenFault}
 use Rattle.srch_base.specs.declared.faults.OpenFault.TheVariants as opening
 use Rattle.searchd_top.specs.Printing.{of_stream}
-use Rattle.searchd_top.specs.declared.host.Request.{Request}
+use Rattle.searchd_top.specs.declared.requests.Request.{Request}
 use Rattle.searchd_top.specs.declared.host.Stream.{Stream}
 use Rattle.searchd_top.specs.declared.host.Stream.TheVariants as streams
 

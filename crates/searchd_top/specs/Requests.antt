@@ -1,7 +1,7 @@
 -- Requests to a host: for the texts of files, and for doors to clients.
 use Rattle.std.specs.Prelude.{◌≡◌, ⊤, ℕ, List, [], ◌∷◌, ◌++◌, Option, Some, None}
-use Rattle.searchd_top.specs.declared.host.Request.{Request}
-use Rattle.searchd_top.specs.declared.host.Request.TheVariants.{ReadText, OpenDoors}
+use Rattle.searchd_top.specs.declared.requests.Request.{Request}
+use Rattle.searchd_top.specs.declared.requests.Request.TheVariants.{ReadText, OpenDoors}
 
 -- These were the requests between two states of a host, where it records them. A host may stop recording.
 abbrev pub Requested : Option (List Request) → Option (List Request) → List Request → Type 0

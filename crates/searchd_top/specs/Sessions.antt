@@ -14,7 +14,7 @@ use Rattle.searchd_top.specs.Configuring.{Texts, IsConfigured, IsMisconfigured}
 use Rattle.searchd_top.specs.Lending.{HandsBack, SomeZip}
 use Rattle.searchd_top.specs.Requests.{Requested, requests_of}
 use Rattle.searchd_top.specs.declared.host.Host.{Ghosts as HostWords}
-use Rattle.searchd_top.specs.declared.host.Request.{Request}
+use Rattle.searchd_top.specs.declared.requests.Request.{Request}
 use Rattle.searchd_top.specs.declared.status.Status.{Status}
 use Rattle.searchd_top.specs.declared.status.Status.TheVariants.{Done, Usage, Config, HostFault, NoMemory}
 

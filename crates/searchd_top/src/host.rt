@@ -2,14 +2,15 @@
 //! The real one is a thin adapter in the program; the one over memory records everything, for tests.
 ghost use Rattle.std.specs.Prelude.{◌≡◌, ◌+◌, ◌≤◌, ◌++◌, [], ◌∷◌, ℕ, List, Option, length, option_copied, IfOk, MatchResult};
 ghost use Rattle.std.specs.List.{All};
-ghost use Rattle.searchd_top.specs.declared.host.Request.{Request};
 ghost use Rattle.searchd_top.specs.declared.host.Stream.{Stream};
+ghost use Rattle.searchd_top.specs.declared.requests.Request.{Request};
 ghost use Rattle.searchd_top.specs.Configuring.{AreReadOf};
 ghost use Rattle.searchd_top.specs.Printing.{PrintsLine, CountsPrint};
 ghost use Rattle.searchd_top.specs.Lending.{IsWithin, CountsOpening};
 ghost use Rattle.searchd_top.specs.Requests.{Requested};
 
-use srch_base::{Door, Failed, OpenFault, Text};
+use crate::Request;
+use srch_base::{Door, Failed, OpenFault};
 
 /// The standard streams that are printed to.
 #[derive(Clone, Copy, PartialEq, Eq)]
@@ -18,18 +19,9 @@ pub enum Stream {
     Err,
 }
 
-/// A request to a host.
-#[derive(Debug, PartialEq, Eq, Drop)]
-pub enum Request {
-    /// The text that a path names.
-    ReadText(Text),
-    /// So many doors: with an address over its listener, and otherwise over the standard streams.
-    OpenDoors(Option<Text>, u32),
-}
-
 /// All that the program needs of the outside: its texts, where it prints, and where its connections come from.
 ///
-/// A host may know its texts, and record what was printed and requested; the real one does neither.
+/// A host may know its texts, and record what was printed and requested; the real one records requests alone.
 pub trait Host {
     type Entry: Door + Send;
 

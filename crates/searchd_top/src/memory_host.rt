@@ -1,5 +1,5 @@
 //! A host over memory, which records all that was printed and requested, and fails the calls whose numbers it was given.
-ghost use Rattle.std.specs.Prelude.{◌≡◌, ◌+◌, ◌≤◌, ◌++◌, ◌==◌, [], ◌∷◌, None, length, map, take, drop, is_err, option_copied, option_map, IfOk, OnOk, OnErr, IsTrue, IsErr, MatchResult};
+ghost use Rattle.std.specs.Prelude.{◌≡◌, ◌+◌, ◌≤◌, ◌++◌, ◌==◌, [], ◌∷◌, length, map, take, drop, is_err, option_copied, IfOk, OnOk, OnErr, IsTrue, IsErr, MatchResult};
 ghost use Rattle.std.specs.List.{All, list_any};
 ghost use Rattle.srch_base.specs.Counts.{Rose};
 ghost use Rattle.srch_base.specs.Memory.{one_more, lines_given};
@@ -9,7 +9,7 @@ ghost use Rattle.searchd_top.specs.Lending.{IsWithin, CountsOpening, says_failed
 ghost use Rattle.searchd_top.specs.Requests.{Requested};
 ghost use Rattle.searchd_top.specs.HostMemory.{host_over, text_of, printed_to, with_printed, with_print_fault, print_faults_of, printed_of, doors_of, fails_next, opens_none, reads_none, after_print, after_doors, after_read};
 
-use crate::{Host, Request, Stream};
+use crate::{Host, Request, Requests, Stream};
 use srch_base::{Failed, ListDoor, NoMemory, OpenFault, Text};
 use std::alloc::Global;
 use std::marker::Model;
@@ -30,7 +30,7 @@ pub struct MemoryHost {
     back: Vec<ListDoor>,
     failing: Vec<u32>,
     calls: u64,
-    requests: Option<Vec<Request>>,
+    requests: Requests,
     out: Vec<u8>,
     errors: Vec<u8>,
     faults: u64,
@@ -39,7 +39,7 @@ pub struct MemoryHost {
 }
 
 impl Model for MemoryHost {
-    ghost use Rattle.std.specs.Prelude.{◌≤◌, length, option_map, vec_capacity};
+    ghost use Rattle.std.specs.Prelude.{◌≤◌, length, vec_capacity};
     ghost use Rattle.searchd_top.specs.HostMemory.{HostMemory};
 
     ghost Value = { HostMemory };
@@ -51,7 +51,7 @@ impl Model for MemoryHost {
       back = a.back.items;
       failing = a.failing.items;
       calls = a.calls;
-      requests = option_map (λ requests. requests.items) a.requests;
+      requests = a.requests;
       out = a.out.items;
       errors = a.errors.items;
       faults = a.faults;
@@ -81,7 +81,7 @@ impl MemoryHost {
             at: 0,
             failing,
             calls: 0,
-            requests: Some(Vec::new(alloc)),
+            requests: Requests::new(alloc),
             out: Vec::new(alloc),
             errors: Vec::new(alloc),
             faults: 0,
@@ -111,20 +111,7 @@ impl MemoryHost {
     pub fn requests(&self) -> Option<&[Request]>
         ensures { option_copied result ≡ self.now.requests }
     {
-        self.requests.as_ref().map(|requests| requests.as_slice())
-    }
-
-    /// Records a request. Where memory is refused nothing is recorded any more.
-    fn keep_request(&mut self, request: Result<Request, NoMemory>)
-        ensures asks { MatchResult request
-            (λ request. Requested self.old.requests self.new.requests (request ∷ []))
-            (λ refused. self.new.requests ≡ None) }
-        ensures rest { self.new ≡ record self.old { requests = self.new.requests } }
-    {
-        let kept = self.requests.take();
-        if let Ok(request) = request {
-            self.requests = with_one_more(kept, request);
-        }
+        self.requests.list()
     }
 
     /// Records a request for the text of a path.
@@ -132,8 +119,7 @@ impl MemoryHost {
         ensures asks { Requested self.old.requests self.new.requests (Request.ReadText path.now ∷ []) }
         ensures rest { self.new ≡ record self.old { requests = self.new.requests } }
     {
-        let path = Text::from_slice(self.alloc, path.as_bytes());
-        self.keep_request(path.map(Request::ReadText));
+        self.requests.add_text(path);
     }
 
     /// Records a request for doors.
@@ -141,13 +127,7 @@ impl MemoryHost {
         ensures asks { Requested self.old.requests self.new.requests (Request.OpenDoors (option_copied listen.entry) n ∷ []) }
         ensures rest { self.new ≡ record self.old { requests = self.new.requests } }
     {
-        let request = match listen {
-            Some(address) => Text::from_slice(self.alloc, address.as_bytes()).map(
-                |address| Request::OpenDoors(Some(address), n),
-            ),
-            None => Ok(Request::OpenDoors(None, n)),
-        };
-        self.keep_request(request);
+        self.requests.add_doors(listen, n);
     }
 
     /// Counts one more call, and says whether it is one of those that fail.
@@ -289,15 +269,6 @@ impl Host for MemoryHost {
     {
         let _appended = self.back.append(&mut doors);
     }
-}
-
-/// These requests and one more, unless memory is refused.
-fn with_one_more(requests: Option<Vec<Request>>, request: Request) -> Option<Vec<Request>>
-    ensures { Requested (option_map (λ requests. requests.items) requests) (option_map (λ requests. requests.items) result) (request ∷ []) }
-{
-    let mut requests = requests?;
-    requests.push(request).ok()?;
-    Some(requests)
 }
 
 /// Files, each a path and a text, as a host keeps them.

@@ -1,8 +1,8 @@
 -- Two connections over the same bytes write the same, where each command is answered in one way and neither connection met a fault.
-use Rattle.std.proofs.Common.{◌≡◌, ◌≢◌, ◌⊎◌, ℕ, suc, ◌+◌, ◌<◌, List, [], ◌∷◌, ◌++◌, refl, sym, ap, subst, ◌∙◌, inl, inr, arith, append_assoc}
+use Rattle.std.proofs.Common.{◌≡◌, ◌≢◌, ◌⊎◌, ℕ, suc, ◌<◌, List, [], ◌∷◌, ◌++◌, refl, sym, ap, subst, ◌∙◌, inl, inr, arith, append_assoc}
 use Rattle.std.specs.List.{flat_map}
 use Rattle.srch_base.specs.Moves.{Meters}
-use Rattle.mysql_wire.specs.Packets.{packet, BeginsWith}
+use Rattle.mysql_wire.specs.Packets.{BeginsWith}
 use Rattle.mysql_wire.specs.Fronts.{Front, Part, Packet, TooLarge as TooLargeFront, OutOfOrder as OutOfOrderFront, HasFront}
 use Rattle.mysql_wire.specs.Handshake.{Response, IsResponse, IsBadResponse}
 use Rattle.mysql_wire.specs.Commands.{ClientCommand, Quit as asks_quit, command_of}

@@ -14,8 +14,8 @@ use Rattle.searchd_top.specs.Lending.{HandsBack, SomeZip}
 use Rattle.searchd_top.specs.Requests.{Requested}
 use Rattle.searchd_top.specs.Sessions.{DidWork, DoorFailed, ServesOne, WorkedOrFailed}
 use Rattle.searchd_top.specs.declared.host.Host.{Ghosts as HostWords}
-use Rattle.searchd_top.specs.declared.host.Request.{Request}
-use Rattle.searchd_top.specs.declared.host.Request.TheVariants.{OpenDoors}
+use Rattle.searchd_top.specs.declared.requests.Request.{Request}
+use Rattle.searchd_top.specs.declared.requests.Request.TheVariants.{OpenDoors}
 use Rattle.searchd_top.specs.declared.status.Status.{Status}
 use Rattle.searchd_top.specs.declared.status.Status.TheVariants.{Done, Usage, Config, HostFault, NoMemory}
 

@@ -1,7 +1,7 @@
 use Rattle.std.proofs.Common.{◌∷◌, []}
 use Rattle.searchd_top.proofs.Handing.{runs_configured, runs_none, says_unconfigured}
 use Rattle.searchd_top.specs.CommandLine.{session}
-use Rattle.searchd_top.specs.declared.host.Request.TheVariants.{ReadText}
+use Rattle.searchd_top.specs.declared.requests.Request.TheVariants.{ReadText}
 use Rattle.searchd_top.proofs.program.run_session.Goals as goal
 
 pub returns-in-Err-clause-runs : goal.returns-in-Err-clause-runs

@@ -5,7 +5,7 @@ use Rattle.searchd_top.specs.Sessions.{ServesOne}
 use Rattle.searchd_top.specs.declared.status.Status.TheVariants.{NoMemory}
 use Rattle.searchd_top.proofs.Handing.{serves_none, says_refused, serves_door, requested_none}
 use Rattle.searchd_top.specs.Requests.{Requested}
-use Rattle.searchd_top.specs.declared.host.Request.{Request}
+use Rattle.searchd_top.specs.declared.requests.Request.{Request}
 use Rattle.searchd_top.specs.steps.Halves.{one_door}
 use Rattle.std.specs.Prelude.{Option}
 use Rattle.searchd_top.proofs.Lines.{single, single_set}
