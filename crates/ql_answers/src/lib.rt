@@ -9,8 +9,8 @@ mod laws;
 mod plan;
 mod planning;
 mod saying;
-mod session;
 mod showing;
+mod statement_machine;
 mod text_sets;
 mod writing;
 
@@ -18,4 +18,4 @@ pub use event::{Event, Need};
 pub use indexes::Catalog;
 pub use laws::{a_plan_has_one_reply, a_statement_has_one_plan};
 pub use plan::Plan;
-pub use session::Session;
+pub use statement_machine::StatementMachine;

@@ -1,7 +1,7 @@
-//! A session: what is kept between a client's statements, and the two calls that answer one.
+//! The statement machine: what is kept between a client's statements, and the two calls that answer one.
 //!
 //! `need` says what a statement wants, or why it is refused; then the caller does it, and `reply` says what came of it. The
-//! session knows no store: what the reply uses of the configuration it keeps between the two calls.
+//! machine knows no store: what the reply uses of the configuration it keeps between the two calls.
 ghost use Rattle.std.specs.Prelude.{◌≡◌, ◌+◌, ◌≤◌, true, false, IsSome, IsOk, Some, vec_len, vec_capacity};
 ghost use Rattle.std.specs.Option.{IsSomeAnd};
 ghost use Rattle.ql_answers.specs.Sessions.{CanHave, NoMemory as OutOfMemory, at_rest, happened_by, is_small, new_state, pending_of, status_of};
@@ -19,13 +19,13 @@ use srch_base::{NoMemory, Or};
 use std::alloc::Global;
 use std::marker::Model;
 
-/// One client's session. Contracts see it as a `Standing`.
-pub struct Session {
+/// One client's statement machine: a session without a store. Contracts see it as a `Standing`.
+pub struct StatementMachine {
     autocommit: bool,
     plan: Option<Plan>,
 }
 
-impl Model for Session {
+impl Model for StatementMachine {
     ghost use Rattle.std.specs.Coded.{codes};
     ghost use Rattle.query_tree.specs.contracts.query.Node as node;
     ghost use Rattle.ql_answers.specs.Sessions.{Standing};
@@ -34,25 +34,25 @@ impl Model for Session {
 
     ghost coded = { Prim.hlevel (codes, node.the_row.coded) };
 
-    ghost view = { λ session. record { state = record { autocommit = session.autocommit }; plan = session.plan } };
+    ghost view = { λ machine. record { state = record { autocommit = machine.autocommit }; plan = machine.plan } };
 }
 
-// Not derived: so letting go of a session is a call, and no caller's proof takes apart what its statement wants.
-impl Drop for Session {
+// Not derived: so letting go of a machine is a call, and no caller's proof takes apart what its statement wants.
+impl Drop for StatementMachine {
     fn drop(self) {
-        let Session {
+        let StatementMachine {
             autocommit: _,
             plan: _plan,
         } = self;
     }
 }
 
-impl Session {
-    /// A session that begins: autocommit is 1.
-    pub fn new() -> Session
+impl StatementMachine {
+    /// The machine of a session that begins: autocommit is 1.
+    pub fn new() -> StatementMachine
         ensures { result ≡ at_rest new_state }
     {
-        Session {
+        StatementMachine {
             autocommit: true,
             plan: None,
         }
@@ -67,7 +67,7 @@ impl Session {
         autocommit + follows
     }
 
-    /// What a statement wants. After `Ok` the session waits for what came of it, and keeps what the reply uses of the
+    /// What a statement wants. After `Ok` the machine waits for what came of it, and keeps what the reply uses of the
     /// configuration; after an `Err` nothing is wanted.
     pub fn need<T: Catalog>(
         &mut self,
@@ -99,7 +99,7 @@ impl Session {
     /// whether the statement was refused. Its packets begin at `seq`; `more` says that another statement of the packet follows.
     ///
     /// OK and ERR take no memory where 256 bytes are spare, and what says that memory was refused takes none where 26 are;
-    /// rows leave as much spare room as they found. After NoMemory the session and `out` are as before.
+    /// rows leave as much spare room as they found. After NoMemory the machine and `out` are as before.
     pub fn reply<C: Chunk>(
         &mut self,
         alloc: Global,
