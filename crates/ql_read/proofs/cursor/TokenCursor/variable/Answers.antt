@@ -7,7 +7,7 @@ use Rattle.ql_grammar.specs.Tokens.{kind}
 use Rattle.ql_read.proofs.Cursors.{variable_form}
 use Rattle.token_grammar.proofs.Rows.{takes_next, fails_at, fits_next}
 use Rattle.ql_grammar.proofs.ClassKinds.{variable_is}
-use Rattle.ql_read.proofs.cursor.Cursor.variable.Goals as goal
+use Rattle.ql_read.proofs.cursor.TokenCursor.variable.Goals as goal
 
 pub token_name-requires : goal.token_name-requires
 token_name-requires c =

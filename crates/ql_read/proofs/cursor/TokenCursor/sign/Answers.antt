@@ -1,6 +1,6 @@
 use Rattle.ql_read.proofs.Steps.{takes_sign}
 use Rattle.token_grammar.proofs.Rows.{fails_at}
-use Rattle.ql_read.proofs.cursor.Cursor.sign.Goals as goal
+use Rattle.ql_read.proofs.cursor.TokenCursor.sign.Goals as goal
 
 pub returns-then-is_sign : goal.returns-then-is_sign
 returns-then-is_sign c = takes_sign c.if-is_sign.ensures c.skip.ensures.next

@@ -6,7 +6,7 @@ use Rattle.ql_grammar.specs.Tokens.{kind}
 use Rattle.ql_read.proofs.Cursors.{number_form}
 use Rattle.token_grammar.proofs.Rows.{takes_next, fails_at, fits_next}
 use Rattle.ql_grammar.proofs.ClassKinds.{number_is}
-use Rattle.ql_read.proofs.cursor.Cursor.number.Goals as goal
+use Rattle.ql_read.proofs.cursor.TokenCursor.number.Goals as goal
 
 pub number_of-requires : goal.number_of-requires
 number_of-requires c =

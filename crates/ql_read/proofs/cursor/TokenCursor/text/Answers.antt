@@ -7,7 +7,7 @@ use Rattle.ql_grammar.specs.Tokens.{kind}
 use Rattle.ql_read.proofs.Cursors.{text_form}
 use Rattle.token_grammar.proofs.Rows.{takes_next, fails_at, fits_next}
 use Rattle.ql_grammar.proofs.ClassKinds.{text_is}
-use Rattle.ql_read.proofs.cursor.Cursor.text.Goals as goal
+use Rattle.ql_read.proofs.cursor.TokenCursor.text.Goals as goal
 
 pub put_text-requires : goal.put_text-requires
 put_text-requires c =

@@ -3,7 +3,7 @@ use Rattle.std.specs.Str.{str_to_ascii_lowercase}
 use Rattle.ql_lex.specs.Tokens.{lexeme_of}
 use Rattle.ql_read.proofs.Cursors.{named}
 use Rattle.token_grammar.proofs.Rows.{takes_next, fails_at, fits_next}
-use Rattle.ql_read.proofs.cursor.Cursor.name.Goals as goal
+use Rattle.ql_read.proofs.cursor.TokenCursor.name.Goals as goal
 
 pub token_name-requires : goal.token_name-requires
 token_name-requires c =

@@ -6,7 +6,7 @@ use Rattle.ql_grammar.specs.Tokens.{kind}
 use Rattle.ql_read.proofs.Cursors.{named}
 use Rattle.ql_grammar.proofs.ClassKinds.{but_name}
 use Rattle.token_grammar.proofs.Rows.{takes_next, fails_at, fits_next}
-use Rattle.ql_read.proofs.cursor.Cursor.target_name.Goals as goal
+use Rattle.ql_read.proofs.cursor.TokenCursor.target_name.Goals as goal
 
 pub token_name-requires : goal.token_name-requires
 token_name-requires c =

@@ -4,7 +4,7 @@ use Rattle.ql_grammar.specs.Parts.{IsKeyword}
 use Rattle.token_grammar.specs.Reading.{TakesIf}
 use Rattle.ql_read.proofs.Steps.{takes_keyword}
 use Rattle.ql_grammar.specs.Alphabet.{sphinxql}
-use Rattle.ql_read.proofs.cursor.Cursor.takes_keyword.Goals as goal
+use Rattle.ql_read.proofs.cursor.TokenCursor.takes_keyword.Goals as goal
 
 pub returns-then-found : goal.returns-then-found
 returns-then-found c =

@@ -1,6 +1,6 @@
 use Rattle.std.proofs.Common.{refl}
 use Rattle.token_grammar.proofs.Rows.{takes_seq, fails_first, fails_next, fails_with}
-use Rattle.ql_read.proofs.cursor.Cursor.two_keywords.Goals as goal
+use Rattle.ql_read.proofs.cursor.TokenCursor.two_keywords.Goals as goal
 
 pub returns-in_err-keyword : goal.returns-in_err-keyword
 returns-in_err-keyword c = fails_with _ _ c.from_residual.result c.from_residual.ensures.1 (fails_first c.in_err-keyword.ensures refl)
