@@ -5,7 +5,7 @@ use Rattle.query_marks.specs.declared.mark.Mark.{Mark}
 use Rattle.query_grammar.specs.steps.Classes.{fits}
 use Rattle.query_grammar.specs.steps.MarkAlphabet.{query_marks}
 use Rattle.query_read.proofs.MarkTaken.{mark_taken, no_end}
-use Rattle.query_read.proofs.cursor.Cursor.takes.Goals as goal
+use Rattle.query_read.proofs.cursor.MarkCursor.takes.Goals as goal
 
 pub skip-requires : goal.skip-requires
 skip-requires c = no_end c.requires c.if-found.ensures
