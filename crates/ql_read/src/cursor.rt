@@ -1,5 +1,5 @@
 //! A cursor over the tokens of a text, of which the last is the end. Tests look at the next token, or at two; takers go on
-//! after it. A taker that doesn't find its token answers the place of the next one and takes nothing.
+//! after it. A taker that doesn't find its token answers the offset of the next one and takes nothing.
 //! No token but a name or a text is copied.
 
 ghost use Rattle.std.specs.Prelude.{◌≡◌, ◌≢◌, [], ◌∷◌, IsTrue, length};
@@ -23,7 +23,7 @@ use srch_base::{Name, Or, Text};
 use std::alloc::Global;
 use std::marker::Model;
 
-/// The tokens of a text from a place on, of which the last is the end.
+/// The tokens of a text that are left, of which the last is the end.
 #[derive(Drop)]
 pub(crate) struct TokenCursor<'a> {
     rest: &'a [Token<'a>],
@@ -99,7 +99,7 @@ impl<'a> TokenCursor<'a> {
         &rest[0]
     }
 
-    /// The place of the next token.
+    /// The offset of the next token.
     pub(crate) fn place(&self) -> u32
         ensures { result ≡ first_place sphinxql self.now }
     {

@@ -58,7 +58,7 @@ impl Part for Row {
     }
 }
 
-/// Reads `INSERT` or `REPLACE`, and tells whether it is the second.
+/// Reads `INSERT` or `REPLACE`, and answers whether it is the second.
 fn replaces(input: &mut TokenCursor<'_>) -> Result<bool, Or<u32>>
     ensures { ReadsPart sphinxql (keyword keywords.Replace ∣ keyword keywords.Insert) [] IsPut input.old result input.new }
 {

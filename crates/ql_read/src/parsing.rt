@@ -39,7 +39,7 @@ fn packet(alloc: Global, input: &mut TokenCursor<'_>) -> Result<Option<Items<Sta
     Err(Or::Fault(input.place()))
 }
 
-/// The fault of a syntax error's place.
+/// The fault of a syntax error's offset.
 fn syntax(error: Or<u32>) -> Or<ParseFault>
     ensures { result ≡ syntax_error error }
 {
