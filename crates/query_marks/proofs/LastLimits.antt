@@ -1,6 +1,6 @@
 -- The limits over a keyword are those of the last limit before it in its group: the limits of a group and of the groups around
 -- it are those that the pieces before leave, where groups that have ended are passed over.
-use Rattle.std.proofs.Common.{◌≡◌, ◌+◌, ◌<◌, ℕ, zero, suc, Bool, true, false, List, [], ◌∷◌, ◌++◌, Option, Some, None, refl, sym, ap, subst, ◌∙◌, append_assoc, length, reverse, arith}
+use Rattle.std.proofs.Common.{◌≡◌, ◌+◌, ◌<◌, ℕ, suc, Bool, true, false, List, [], ◌∷◌, ◌++◌, Option, Some, None, refl, sym, ap, subst, ◌∙◌, append_assoc, length, reverse, arith}
 use Rattle.std.specs.Prelude.{◌==◌, nat_le, All, MatchOption, if◌then◌else◌}
 use Rattle.std.specs.Option.{option_map}
 use Rattle.std.proofs.lemmas.List.{reverse-append}
@@ -22,7 +22,7 @@ use Rattle.query_marks.specs.declared.state.State.{State}
 use Rattle.query_marks.specs.Limits.{zone_limits}
 use Rattle.query_marks.specs.Hows.{how_of}
 use Rattle.query_marks.specs.LimitNames.{bytes_of, numbers_of}
-use Rattle.query_marks.specs.Marks.{Setting, after, at_start, but_last, keys_after, keys_of, last_of, limit_of, loose_sign, mark_at, mark_of, nobodies, nobody, phrase_sign, quoted_sign, sign_of, slice_words, word_sign, wrong_of, zone_sign}
+use Rattle.query_marks.specs.Marks.{Setting, after, at_start, but_last, keys_after, keys_of, last_of, limit_of, loose_sign, mark_at, nobodies, nobody, phrase_sign, quoted_sign, sign_of, slice_words, word_sign, wrong_of, zone_sign}
 use Rattle.query_marks.specs.LimitsOver.{CloseGroups, forms_of, keys_of_sign, limits_after, limits_over, IsMarkAfter, IsUnder}
 use Rattle.query_marks.proofs.GroupLimits.{but_last_is, last_is}
 use Rattle.query_marks.proofs.PieceMarks.{mark_made, place_after, state_after}
