@@ -1,5 +1,5 @@
 //! A disk in memory, which tells everything. It is for tests and for trying things out.
-ghost use Rattle.std.specs.Prelude.{◌≡◌, ◌⊎◌, ◌<◌, ◌≤◌, ◌++◌, [], ◌∷◌, ℕ, List, ◌+◌, ◌^◌, Some, length, reverse, take, vec_capacity, vec_len, IfOk, OnOk, OnErr};
+ghost use Rattle.std.specs.Prelude.{◌≡◌, ◌⊎◌, ◌<◌, ◌≤◌, ◌++◌, [], ◌∷◌, ℕ, List, ◌+◌, ◌^◌, Some, None, length, reverse, take, vec_capacity, vec_len, IfOk, OnOk, OnErr};
 ghost use Rattle.srch_base.specs.Counts.{Rose};
 ghost use Rattle.chunk_store.specs.Images.{contents, over};
 ghost use Rattle.chunk_store.specs.Memory.{put_in, image_of, replayed, AreFitting, AreFitting-prop, MayLeave, MayHaveLeft, outcome};
@@ -17,7 +17,6 @@ use std::collections::BTreeMap;
 ///
 /// Its calls are counted from 1, and those whose numbers it was given fail and do nothing. A call for whose record no memory
 /// is left fails as well, and isn't counted.
-#[derive(Drop)]
 pub struct MemoryDisk {
     alloc: Global,
     start: Stored,
@@ -29,9 +28,27 @@ pub struct MemoryDisk {
     ghost fitting: { AreFitting (image_of start) (reverse calls.items) } by { AreFitting-prop (image_of start) (reverse calls.items) },
 }
 
+// Not derived: so letting go of a disk is a call, and no caller's proof takes apart what it holds.
+impl Drop for MemoryDisk {
+    fn drop(self) {
+        let MemoryDisk {
+            alloc: _,
+            start: _start,
+            files: _files,
+            calls: _calls,
+            failing: _failing,
+            faults: _,
+        } = self;
+    }
+}
+
 impl MemoryDisk {
     /// An empty disk whose calls with these numbers fail.
-    pub fn new(alloc: Global, failing: Vec<u64>) -> MemoryDisk {
+    pub fn new(alloc: Global, failing: Vec<u64>) -> MemoryDisk
+        ensures files { (f : ℕ) → image_of result.files f ≡ None }
+        ensures calls { result.calls.items ≡ [] }
+        ensures failing { result.failing.items ≡ failing.items }
+    {
         MemoryDisk {
             alloc,
             start: BTreeMap::new(alloc),
