@@ -7,7 +7,7 @@ use Rattle.std.proofs.Math.Logic.{∥∥₁_elim}
 use Rattle.std.proofs.lemmas.Option.{slice_get-get_or}
 use Rattle.doc_types.specs.declared.cursor.Cursor.{Cursor}
 use Rattle.doc_types.specs.declared.documents.DocRow.{DocRow}
-use Rattle.doc_types.specs.Chunks.{IsContent, Place}
+use Rattle.doc_types.specs.Chunks.{IsContent, CursorPlace}
 use Rattle.query_tree.specs.declared.query.Node.{Node}
 use Rattle.query_tree.specs.declared.query.Query.{Query}
 use Rattle.query_tree.specs.TreeKeys.{node_keys, query_keys}
@@ -21,14 +21,14 @@ use Rattle.op_eval.specs.Hits.{AreHits, comes_before}
 use Rattle.op_eval.specs.Matching.{matching, query_finds}
 use Rattle.op_eval.specs.Occurrences.{AreOccurrences}
 use Rattle.op_eval.specs.steps.Searching.{IsFirstOf, IsSearch, node_found}
-use Rattle.op_eval.specs.steps.Slots.{words_of}
+use Rattle.word_rows.specs.Slots.{words_of}
 use Rattle.op_eval.specs.steps.Wanted.{HasVisited, is_wanted, lives, numbers_before, numbers_of}
-use Rattle.op_eval.proofs.Passing.{all_weaken}
+use Rattle.word_rows.proofs.Passing.{all_weaken}
 use Rattle.op_eval.proofs.RowNumbers.{all_before, next_passes, passed_to}
 
 -- ---- where a search stands
 -- the search that has gone over no row from one on has gone over none from a later one on
-pub search_from : (belongs : Cursor → Type 0) (place : Cursor → Place) (rows : List DocRow) (from row : ℕ) (root : Node) (search : Search) → from ≤ row → IsSearch belongs place rows from root search → IsSearch belongs place rows row root search
+pub search_from : (belongs : Cursor → Type 0) (place : Cursor → CursorPlace) (rows : List DocRow) (from row : ℕ) (root : Node) (search : Search) → from ≤ row → IsSearch belongs place rows from root search → IsSearch belongs place rows row root search
 search_from belongs place rows from row root search up at = record {
   root = at.root;
   keys = at.keys;
@@ -44,12 +44,12 @@ search_from belongs place rows from row root search up at = record {
 }
 
 -- under another name of the tree
-pub search_of : (belongs : Cursor → Type 0) (place : Cursor → Place) (rows : List DocRow) (from row : ℕ) (before there : Search) → from ≤ row → there.root ≡ before.root → IsSearch belongs place rows from before.root.now there → IsSearch belongs place rows row there.root.now there
+pub search_of : (belongs : Cursor → Type 0) (place : Cursor → CursorPlace) (rows : List DocRow) (from row : ℕ) (before there : Search) → from ≤ row → there.root ≡ before.root → IsSearch belongs place rows from before.root.now there → IsSearch belongs place rows row there.root.now there
 search_of belongs place rows from row before there up same at =
     subst (λ root. IsSearch belongs place rows row root there) (sym at.root) (search_from belongs place rows from row before.root.now there up at)
 
 -- as its own tree has it
-pub own_search : (belongs : Cursor → Type 0) (place : Cursor → Place) (rows : List DocRow) (from row : ℕ) (root : Node) (search : Search) → from ≤ row → IsSearch belongs place rows from root search → IsSearch belongs place rows row search.root.now search
+pub own_search : (belongs : Cursor → Type 0) (place : Cursor → CursorPlace) (rows : List DocRow) (from row : ℕ) (root : Node) (search : Search) → from ≤ row → IsSearch belongs place rows from root search → IsSearch belongs place rows row search.root.now search
 own_search belongs place rows from row root search up at =
     subst (λ tree. IsSearch belongs place rows row tree search) (sym at.root) (search_from belongs place rows from row root search up at)
 
@@ -74,7 +74,7 @@ all_passed (r ∷ rows) root dead low next up within first =
     (λ row above below. ap (λ b. b && lives dead row) (first.between row (get_or (r ∷ rows) row r) above below (slice_get-get_or (r ∷ rows) row r (omega (arith, below, within)))))
 
 -- one row more is visited
-pub visited_next : (belongs : Cursor → Type 0) (place : Cursor → Place) (rows : List DocRow) (root : Node) (dead : List ℕ) (from row : ℕ) (before there after : Search) (old new : List ℕ) → HasVisited belongs place rows root dead from before old → IsFirstOf rows before.root.now from (Some row) → there.root ≡ before.root → after.root ≡ there.root → IsSearch belongs place rows row there.root.now after → ((r : DocRow) → slice_get rows row ≡ Some r → new ≡ old ++ (if is_wanted there.root.now dead (row, r) then row ∷ [] else [])) → HasVisited belongs place rows root dead (row + 1) after new
+pub visited_next : (belongs : Cursor → Type 0) (place : Cursor → CursorPlace) (rows : List DocRow) (root : Node) (dead : List ℕ) (from row : ℕ) (before there after : Search) (old new : List ℕ) → HasVisited belongs place rows root dead from before old → IsFirstOf rows before.root.now from (Some row) → there.root ≡ before.root → after.root ≡ there.root → IsSearch belongs place rows row there.root.now after → ((r : DocRow) → slice_get rows row ≡ Some r → new ≡ old ++ (if is_wanted there.root.now dead (row, r) then row ∷ [] else [])) → HasVisited belongs place rows root dead (row + 1) after new
 visited_next belongs place rows root dead from row before there after old new visited first same_first same_second at is =
     let within : row < length rows = first.within.1 in
     let some : DocRow = some_row rows row within in
@@ -94,7 +94,7 @@ visited_next belongs place rows root dead from row before there after old new vi
     }
 
 -- no row is left
-pub visited_all : (belongs : Cursor → Type 0) (place : Cursor → Place) (rows : List DocRow) (root : Node) (dead : List ℕ) (from : ℕ) (search : Search) (found : List ℕ) → HasVisited belongs place rows root dead from search found → IsFirstOf rows search.root.now from None → found ≡ numbers_of (is_wanted root dead) rows
+pub visited_all : (belongs : Cursor → Type 0) (place : Cursor → CursorPlace) (rows : List DocRow) (root : Node) (dead : List ℕ) (from : ℕ) (search : Search) (found : List ℕ) → HasVisited belongs place rows root dead from search found → IsFirstOf rows search.root.now from None → found ≡ numbers_of (is_wanted root dead) rows
 visited_all belongs place rows root dead from search found visited first =
     visited.all
     ∙ sym (all_passed rows root dead from None visited.within (omega arith) (subst (λ tree. IsFirstOf rows tree from None) visited.tree first))

@@ -1,11 +1,11 @@
 use Rattle.std.proofs.Common.{sym, ap, ◌∙◌}
 use Rattle.std.specs.List.{list_any}
-use Rattle.op_eval.specs.steps.Asking.{has_zones}
-use Rattle.op_eval.specs.steps.Slots.{keys_of, number_among}
-use Rattle.op_eval.proofs.Loaded.{all_placed}
-use Rattle.op_eval.proofs.Opening.{row_there}
-use Rattle.op_eval.proofs.PlacedRows.{IsPlacedRow, at_one, placed_rows}
-use Rattle.op_eval.proofs.ZonesAsked.{zones_asked}
+use Rattle.word_rows.specs.RowMarks.{has_zones}
+use Rattle.word_rows.specs.Slots.{keys_of, number_among}
+use Rattle.word_rows.proofs.Loaded.{all_placed}
+use Rattle.word_rows.proofs.Opening.{row_there}
+use Rattle.word_rows.proofs.PlacedRows.{IsPlacedRow, at_one, placed_rows}
+use Rattle.word_rows.proofs.ZonesAsked.{zones_asked}
 use Rattle.op_eval.proofs.search.Search.load.Goals as goal
 
 pub load-requires-2-clause-spans : goal.load-requires-2-clause-spans
