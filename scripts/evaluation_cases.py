@@ -1,8 +1,12 @@
 """Writes the documents and queries of docs/cases/evaluation.md as the constants that tests of evaluation and of tokens run over.
 
-At the top of the repository: python3 scripts/evaluation_cases.py
+At the top of the repository: python3 scripts/evaluation_cases.py [--check]
 """
+
 import re
+import sys
+
+from tables import constant, read, run
 
 DOCUMENT = "docs/cases/evaluation.md"
 EVALUATION = "crates/eval_vectors/src/cases.rt"
@@ -36,7 +40,7 @@ def text(cell):
     return inside.group(1)
 
 
-def read(document):
+def sets_and_queries(document):
     """The sets as (name, schema line, documents, tokens), and the queries as (set, query, found)."""
     sets, queries = {}, []
     name = columns = None
@@ -73,12 +77,6 @@ def read(document):
         else:
             raise AssertionError(line)
     return sets, queries
-
-
-def constant(about, name, lines):
-    lines = "\n".join(lines)
-    assert '"#' not in lines and "\t" not in lines
-    return f'/// {about}\npub(crate) const {name}: &str = r#"\n{lines}\n"#;\n'
 
 
 def headed(rows):
@@ -120,26 +118,24 @@ def fields(sets):
                 yield f"{strip} ⇒ {sp} ⇒ {text} ⇒ {written_words(words)} ⇒ {written_spans(spans)}"
 
 
-def write(path, what, how, constants):
-    with open(path, "w", encoding="utf8") as file:
-        file.write(HEAD.format(what=what, how=how) + "\n" + "\n".join(constants))
+def file(what, how, constants):
+    return HEAD.format(what=what, how=how) + "\n" + "\n".join(constants)
 
 
-def main():
-    with open(DOCUMENT, encoding="utf8") as file:
-        sets, queries = read(file.read())
+def made():
+    sets, queries = sets_and_queries(read(DOCUMENT))
     schemas = [f"{name} ⇒ {about}" for name, (about, _, _) in sets.items()]
     documents = [(name, " ⇒ ".join([number] + texts)) for name, (_, docs, _) in sets.items() for number, texts in docs]
     asked = [(name, f"{query} ⇒ {found}") for name, query, found in queries]
-    write(EVALUATION, "documents and queries", SECTIONS, [
+    yield EVALUATION, file("documents and queries", SECTIONS, [
         constant("Sets with their fields, their zones, `index_sp` and `html_strip`.", "SETS", schemas),
         constant("Documents: the id and the text of each field.", "DOCUMENTS", headed(documents)),
         constant("Queries with what they find.", "QUERIES", headed(asked)),
     ])
-    write(TOKENS, "fields of documents", LINES, [
+    yield TOKENS, file("fields of documents", LINES, [
         constant("`html_strip` and `index_sp` of an index, the text of a field, its words and its spans.", "FIELDS", fields(sets)),
     ])
 
 
 if __name__ == "__main__":
-    main()
+    sys.exit(run(made))

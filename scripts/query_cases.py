@@ -1,12 +1,17 @@
-"""Prints the texts of docs/cases/extended_queries.md as the constants that the tests of extended queries run over.
+"""Writes the texts of docs/cases/extended_queries.md as the constants that the tests of extended queries run over.
 
-At the top of the repository: python3 scripts/query_cases.py > crates/query_vectors/src/cases.rt
+At the top of the repository: python3 scripts/query_cases.py [--check]
 """
+
 import re
+import sys
+
+from tables import constant, read, run
 
 DOCUMENT = "docs/cases/extended_queries.md"
+TABLE = "crates/query_vectors/src/cases.rt"
 
-HEAD = """//! The texts of docs/cases/extended_queries.md, as scripts/query_cases.py prints them: edit them there. A line `# S: T` says
+HEAD = """//! The texts of docs/cases/extended_queries.md, as scripts/query_cases.py writes them: edit them there. A line `# S: T` says
 //! which index's schema the texts after it are read for, and by which character table. Each of them is followed by `⇒` and
 //! by what it is. `⟨x × n⟩` is x written n times.
 """
@@ -53,20 +58,15 @@ def section_lines(cases):
         yield f"{text} ⇒ {meant}"
 
 
-def constant(about, name, cases):
-    lines = "\n".join(section_lines(cases))
-    assert '"#' not in lines and "\t" not in lines
-    return f'/// {about}\npub(crate) const {name}: &str = r#"\n{lines}\n"#;\n'
-
-
-def main():
-    with open(DOCUMENT, encoding="utf8") as file:
-        found = list(rows(file.read()))
+def made():
+    found = list(rows(read(DOCUMENT)))
     trees = [(setting, text, meant) for setting, text, meant, numbers in found if not numbers]
     numbers = [(setting, text, meant) for setting, text, meant, numbers in found if numbers]
-    print(HEAD)
-    print(constant("Texts with their trees or their faults.", "TREES", trees))
-    print(constant("Texts with their keywords, each followed by its query position.", "NUMBERS", numbers), end="")
+    yield TABLE, HEAD + "\n" + "\n".join([
+        constant("Texts with their trees or their faults.", "TREES", section_lines(trees)),
+        constant("Texts with their keywords, each followed by its query position.", "NUMBERS", section_lines(numbers)),
+    ])
 
 
-main()
+if __name__ == "__main__":
+    sys.exit(run(made))

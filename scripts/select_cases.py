@@ -1,8 +1,12 @@
 """Writes the configurations, documents and SELECTs of docs/cases/selects.md as the constants that tests of sessions run over.
 
-At the top of the repository: python3 scripts/select_cases.py
+At the top of the repository: python3 scripts/select_cases.py [--check]
 """
+
 import re
+import sys
+
+from tables import constant, read, run
 
 DOCUMENT = "docs/cases/selects.md"
 FOLDER = "crates/session_vectors/src"
@@ -99,31 +103,22 @@ def selects(part, sets):
             yield select
 
 
-def constant(about, name, lines):
-    lines = "\n".join(lines)
-    assert '"#' not in lines and "\t" not in lines
-    return f'/// {about}\npub(crate) const {name}: &str = r#"\n{lines}\n"#;\n'
-
-
-def write(module, what, how, constants):
+def file(module, what, how, constants):
     text = HEAD.format(what=what, how=how) + "\n" + "\n".join(constants)
     assert text.count("\n") < 400, module
-    with open(f"{FOLDER}/{module}.rt", "w", encoding="utf8") as file:
-        file.write(text)
+    return f"{FOLDER}/{module}.rt", text
 
 
-def main():
-    with open(DOCUMENT, encoding="utf8") as file:
-        of = parts(file.read())
+def made():
+    of = parts(read(DOCUMENT))
     sets = {name for name, _ in sections(of["Documents"])}
-    made = [
+    yield file("select_documents", "configurations and documents", LINES, [
         constant("Configurations by name.", "CONFIGURATIONS", configurations(of["Configurations"])),
         constant("Sets: the configuration, then what is sent, or the ids that are made.", "DOCUMENTS", documents(of["Documents"])),
-    ]
-    write("select_documents", "configurations and documents", LINES, made)
+    ])
     for head, (module, name, about) in PARTS.items():
-        write(module, f"part `{head}`", LINES, [constant(f"{about}.", name, selects(of[head], sets))])
+        yield file(module, f"part `{head}`", LINES, [constant(f"{about}.", name, selects(of[head], sets))])
 
 
 if __name__ == "__main__":
-    main()
+    sys.exit(run(made))

@@ -6,6 +6,7 @@ ghost use Rattle.doc_vectors.specs.steps.Columns.{HasColumns};
 use crate::documents::{DOCUMENTS, rows};
 use crate::row_answers::told_row;
 use crate::word_answers::told_word;
+use any_chunk::AnyChunk;
 use doc_types::{Chunk, PlainChunk};
 use srch_base::NoMemory;
 use std::alloc::Global;
@@ -147,6 +148,25 @@ fn a_chunk_answers_by_its_rows(rt: HostRuntime) -> Result<(), Fail> {
 #[test]
 fn a_chunk_answers_by_its_words(rt: HostRuntime) -> Result<(), Fail> {
     let chunk = the_chunk(rt.alloc())?;
+    assert_eq!(rt; chunk.words(), 30);
+    assert_eq!(rt; first_other_word(rt.alloc(), &chunk)?, None);
+    assert!(rt; !has_absent(&chunk));
+    Ok(())
+}
+
+#[test]
+fn a_chunk_of_any_kind_answers_by_its_rows(rt: HostRuntime) -> Result<(), Fail> {
+    let chunk = AnyChunk::Ram(the_chunk(rt.alloc())?);
+    assert_eq!(rt; chunk.rows(), 10);
+    assert_eq!(rt; chunk.fields(), 3);
+    assert_eq!(rt; first_other_row(rt.alloc(), &chunk)?, None);
+    assert_eq!(rt; first_other_id(&chunk), None);
+    Ok(())
+}
+
+#[test]
+fn a_chunk_of_any_kind_answers_by_its_words(rt: HostRuntime) -> Result<(), Fail> {
+    let chunk = AnyChunk::Ram(the_chunk(rt.alloc())?);
     assert_eq!(rt; chunk.words(), 30);
     assert_eq!(rt; first_other_word(rt.alloc(), &chunk)?, None);
     assert!(rt; !has_absent(&chunk));

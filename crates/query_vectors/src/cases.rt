@@ -1,4 +1,4 @@
-//! The texts of docs/cases/extended_queries.md, as scripts/query_cases.py prints them: edit them there. A line `# S: T` says
+//! The texts of docs/cases/extended_queries.md, as scripts/query_cases.py writes them: edit them there. A line `# S: T` says
 //! which index's schema the texts after it are read for, and by which character table. Each of them is followed by `⇒` and
 //! by what it is. `⟨x × n⟩` is x written n times.
 

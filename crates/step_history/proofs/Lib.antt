@@ -1,0 +1,5 @@
+pub mod Changes
+pub mod Steps
+pub mod Between
+pub mod Counts
+pub mod LogEnds

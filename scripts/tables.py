@@ -1,0 +1,44 @@
+"""What the scripts share that make the tables of tests out of docs/cases.
+
+Each of them has a function `made`, which gives the path and the text of each file that it makes. At the top of the
+repository `python3 scripts/NAME.py` writes these files; with --check it names those that differ instead, as
+scripts/house.py does for all of them.
+"""
+
+import sys
+from itertools import zip_longest
+from pathlib import Path
+
+ROOT = Path(__file__).resolve().parent.parent
+
+
+def read(path):
+    return (ROOT / path).read_text(encoding="utf8")
+
+
+def constant(about, name, lines):
+    """A constant with a text of these lines."""
+    lines = "\n".join(lines)
+    assert '"#' not in lines and "\t" not in lines
+    return f'/// {about}\npub(crate) const {name}: &str = r#"\n{lines}\n"#;\n'
+
+
+def difference(path, text):
+    """The number of the first line in which a file differs from its text, None where it is the same."""
+    there = read(path) if (ROOT / path).exists() else ""
+    if there == text:
+        return None
+    both = zip_longest(there.split("\n"), text.split("\n"))
+    return next(number for number, (old, new) in enumerate(both, 1) if old != new)
+
+
+def run(made):
+    """Writes the files, or with --check names those that differ; the exit status."""
+    wrong = 0
+    for path, text in made():
+        if sys.argv[1:] != ["--check"]:
+            (ROOT / path).write_text(text, encoding="utf8")
+        elif line := difference(path, text):
+            print(f"{path}:{line}: differs from what {Path(sys.argv[0]).name} makes")
+            wrong += 1
+    return 1 if wrong else 0
