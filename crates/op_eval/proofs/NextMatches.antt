@@ -11,7 +11,7 @@ use Rattle.doc_types.specs.Chunks.{CursorPlace}
 use Rattle.query_tree.specs.declared.query.Node.{Node}
 use Rattle.query_tree.specs.declared.query.Query.{Query}
 use Rattle.op_eval.specs.declared.search.Search.{Search}
-use Rattle.query_tree.specs.TreeKeys.{node_keys, query_keys}
+use Rattle.query_tree.specs.TreeKeys.{query_keys}
 use Rattle.op_eval.specs.Matching.{matches, query_finds}
 use Rattle.op_eval.specs.Streams.{Stream, ahead}
 use Rattle.op_eval.specs.steps.Searching.{IsFirstOf, IsSearch, node_found}
@@ -102,14 +102,6 @@ none_finds_root (Some node) keywords row is = cc
 -- a query without a tree finds nothing, and matches
 pub none_finds : (query : Query) (row : DocRow) → query.root ≡ None → query_finds query row ≡ record { matches = true; occurrences = []; hits = [] }
 none_finds query row is = none_finds_root query.root query.keywords row is
-
-keys_root : (tree : Option Node) (keywords : ℕ) (root : Node) → tree ≡ Some root → query_keys (record { root = tree; keywords = keywords }) ≡ node_keys root
-keys_root None keywords root is = cc
-keys_root (Some node) keywords root is = let same : node ≡ root = cc in ap node_keys same
-
--- the keywords of a query are those of its tree
-pub tree_keys : (query : Query) (root : Node) → query.root ≡ Some root → query_keys query ≡ node_keys root
-tree_keys query root is = keys_root query.root query.keywords root is
 
 -- ---- where a stream stands
 module _ (belongs : Cursor → Type 0) (place : Cursor → CursorPlace) (rows : List DocRow) (query : Query) where

@@ -16,6 +16,7 @@ use Rattle.doc_types.specs.declared.hits.Hit.{Hit}
 use Rattle.occ_lists.specs.declared.occ.Occ.{Occ}
 use Rattle.occ_lists.specs.OccLists.{Ascend, SameMembers}
 use Rattle.occ_lists.proofs.Members.{same_trans}
+use Rattle.word_rows.specs.Keywords.{present_in}
 use Rattle.op_eval.specs.Finding.{Found}
 use Rattle.op_eval.specs.Hits.{AreHits, comes_before}
 use Rattle.op_eval.specs.Matching.{matching, query_finds}
@@ -130,6 +131,15 @@ few_of (Some node) keywords root is few = let same : node ≡ root = cc in subst
 -- a query's tree has its keywords
 pub few_keys : (query : Query) (root tree : Node) → query.root ≡ Some root → tree ≡ root → length (query_keys query) < 2 ^ 16 → length (node_keys tree) < 2 ^ 16
 few_keys query root tree is same few = subst (λ (n : Node). length (node_keys n) < 2 ^ 16) (sym same) (few_of query.root query.keywords root is few)
+
+keys_root : (tree : Option Node) (keywords : ℕ) (root : Node) → tree ≡ Some root → query_keys (record { root = tree; keywords = keywords }) ≡ node_keys root
+keys_root None keywords root is = cc
+keys_root (Some node) keywords root is = let same : node ≡ root = cc in ap node_keys same
+
+-- what a query's tree opens, as what the query does
+pub opened_by : (query : Query) (root tree : Node) (row : DocRow) (old new : ℕ) → query.root ≡ Some root → tree ≡ root → new ≤ old + present_in row (node_keys tree) → new ≤ old + present_in row (query_keys query)
+opened_by query root tree row old new is same low =
+    subst (λ keys. new ≤ old + present_in row keys) (ap node_keys same ∙ sym (keys_root query.root query.keywords root is)) low
 
 -- what stands in order, each once, is what the query finds
 pub are_occurrences : (query : Query) (root tree : Node) (row : DocRow) (occs found : List Occ) → query.root ≡ Some root → tree ≡ root → Ascend occs → SameMembers occs found → SameMembers found (node_found tree row).occurrences → AreOccurrences query row occs

@@ -14,3 +14,5 @@ pub mod WordTable
 pub mod FieldValues
 -- offsets as whole numbers
 pub mod WholeOffsets
+-- the greatest of what hits give, one hit more at a time
+pub mod AnyOrder

@@ -3,8 +3,8 @@
 //! Where the positions of a field's hits ascend, as evaluation gives them, only 255 offsets can come again at any time: those just
 //! below the position that was reached. So their counts have places in a ring of 256, and the time is linear in the hits, however
 //! long a field can be. Hits in any other order are counted for each offset anew.
-ghost use Rattle.std.specs.Prelude.{◌≡◌, ℕ, ◌+◌, ◌<◌, ◌%◌, length, slice_set, IfSome};
-ghost use Rattle.std.specs.List.{count_by};
+ghost use Rattle.std.specs.Prelude.{◌≡◌, ℕ, ◌+◌, ◌<◌, ◌%◌, ◌==◌, ◌&&◌, length, slice_set, IfSome};
+ghost use Rattle.std.specs.List.{filter};
 ghost use Rattle.rankers.specs.Weight.{in_field, lcs, same_offset};
 ghost use Rattle.rankers.specs.steps.FieldValue.{AreWithin};
 ghost use Rattle.rankers.specs.steps.Offsets.{count_in};
@@ -86,7 +86,7 @@ fn longest_in_any_order(hits: &[Hit], field: u16) -> u64
 
 /// How many hits of the field stand at the offset of this one.
 fn count_at_offset(hits: &[Hit], field: u16, hit: &Hit) -> u64
-    ensures { result ≡ count_by (same_offset hit.now) (in_field field hits.now) }
+    ensures { result ≡ length (filter (λ other. (other.field == field) && same_offset hit.now other) hits.now) }
 {
     hits.iter()
         .filter(|other| other.field == field && is_at_offset(hit, other))

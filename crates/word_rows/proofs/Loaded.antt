@@ -1,8 +1,9 @@
 -- Terms that have read their places in a row.
-use Rattle.std.proofs.Common.{◌≡◌, ℕ, ◌<◌, ◌≤◌, List, Bor, length, get_or, map, sym, ap, subst, ◌∙◌, arith, true, [], ◌∷◌}
+use Rattle.std.proofs.Common.{◌≡◌, ℕ, ◌+◌, ◌<◌, ◌≤◌, List, Bor, length, get_or, set, map, inl, inr, sym, ap, subst, ◌∙◌, arith, true, [], ◌∷◌}
 use Rattle.std.specs.Prelude.{All}
 use Rattle.std.specs.List.{AllZip}
-use Rattle.std.proofs.lemmas.List.{get_or-map, length-map}
+use Rattle.std.proofs.lemmas.Bool.{cases_eq}
+use Rattle.std.proofs.lemmas.List.{get_or-map, get_or-set_same, get_or-set_other, get_or_default, length-map}
 use Rattle.std.proofs.lemmas.List.Elements.{All-nil, All-cons, All-filter, All-weaker}
 use Rattle.std.proofs.lemmas.List.Kept.{AllPairs-filter}
 use Rattle.doc_types.specs.declared.documents.DocRow.{DocRow}
@@ -75,3 +76,29 @@ module _ (row : DocRow) (placed : IsPlacedRow row) where
   all_placed number [] (term ∷ terms) are = absurd are
   all_placed number (key ∷ keys) [] are = absurd are
   all_placed number (key ∷ keys) (term ∷ terms) are = All-cons IsPlaced term terms (one_placed number key term are.0) (all_placed number keys terms are.1)
+
+-- ---- one term more is read, with its places alone
+module _ (at : ℕ) (first terms : List Term) (new : Term) (within : at < length terms)
+    (same : (k : ℕ) (d : Term) → get_or terms k d ≡ record (get_or first k d) { places = (get_or terms k d).places })
+    (its : (d : Term) → new ≡ record (get_or terms at d) { places = new.places }) where
+  pub same_more : (k : ℕ) (d : Term) → get_or (set terms at new) k d ≡ record (get_or first k d) { places = (get_or (set terms at new) k d).places }
+  same_more k d =
+      elim (cases_eq k at) [
+        | inl here ↦
+            subst (λ (n : ℕ). get_or (set terms at new) n d ≡ record (get_or first n d) { places = (get_or (set terms at new) n d).places }) (sym here)
+            (subst (λ (t : Term). t ≡ record (get_or first at d) { places = t.places }) (sym (get_or-set_same terms at new d within))
+            (its d ∙ ap (λ (t : Term). record t { places = new.places }) (same at d)))
+        | inr other ↦
+            subst (λ (t : Term). t ≡ record (get_or first k d) { places = t.places }) (sym (get_or-set_other terms at k new d other)) (same k d)
+      ]
+
+  pub done_more : (row : DocRow) (keys : List (Bor Key)) (key : Bor Key) → key ≡ get_or keys at key → new.places.items ≡ key_places row key.now → ((k : ℕ) (d : Term) (e : Bor Key) → k < at → (get_or terms k d).places.items ≡ key_places row (get_or keys k e).now) → (long : at < length keys) → (k : ℕ) (d : Term) (e : Bor Key) → k < at + 1 → (get_or (set terms at new) k d).places.items ≡ key_places row (get_or keys k e).now
+  done_more row keys key is read done long k d e below =
+      elim (cases_eq k at) [
+        | inl here ↦
+            subst (λ (n : ℕ). (get_or (set terms at new) n d).places.items ≡ key_places row (get_or keys n e).now) (sym here)
+            (ap (λ (t : Term). t.places.items) (get_or-set_same terms at new d within)
+            ∙ read
+            ∙ ap (λ (b : Bor Key). key_places row b.now) (is ∙ get_or_default keys at key e long))
+        | inr other ↦ ap (λ (t : Term). t.places.items) (get_or-set_other terms at k new d other) ∙ done k d e (omega (arith, other))
+      ]

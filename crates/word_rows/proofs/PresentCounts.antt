@@ -1,5 +1,5 @@
 -- How many of a row's terms are present, which bounds the lists that are opened.
-use Rattle.std.proofs.Common.{◌≡◌, ℕ, ◌+◌, ◌<◌, ◌≤◌, Bool, cond, List, [], ◌∷◌, length, get_or, take, refl, sym, ap, ◌∙◌, arith}
+use Rattle.std.proofs.Common.{◌≡◌, ℕ, ◌+◌, ◌<◌, ◌≤◌, cond, List, [], ◌∷◌, length, get_or, take, refl, sym, ap, ◌∙◌}
 use Rattle.std.specs.List.{count_by}
 use Rattle.std.proofs.lemmas.List.{take_more, take_all}
 use Rattle.std.proofs.lemmas.List.Sums.{sum_by-cons, sum_by_push, sum_by-take-le}
@@ -13,23 +13,13 @@ use Rattle.word_rows.specs.Terms.{AreSeenIn}
 -- as many as there are keywords whose word the row has
 pub present_count : (row : DocRow) (keys : List Key) (terms : List Term) → AreSeenIn row keys terms → count_by (λ term. term.present) terms ≡ present_in row keys
 present_count row [] [] seen = refl
+present_count row [] (term ∷ terms) seen = absurd seen
+present_count row (key ∷ keys) [] seen = absurd seen
 present_count row (key ∷ keys) (term ∷ terms) seen =
     sum_by-cons (λ (t : Term). cond t.present 1 0) term terms
     ∙ (ap (λ b. cond b 1 0 + count_by (λ (t : Term). t.present) terms) seen.0.present
     ∙ (ap (λ n. cond (has_word key.word row) 1 0 + n) (present_count row keys terms seen.1)
     ∙ sym (sum_by-cons (λ (k : Key). cond (has_word k.word row) 1 0) key keys)))
-
--- no more than there are keywords
-pub present_few : (row : DocRow) (keys : List Key) → present_in row keys ≤ length keys
-present_few row [] = omega arith
-present_few row (key ∷ keys) =
-    let rest = present_few row keys in
-    let is = sum_by-cons (λ (k : Key). cond (has_word k.word row) 1 0) key keys in
-    at_most (has_word key.word row) (present_in row keys) (length keys) rest is
-  where
-    at_most : (b : Bool) (n m : ℕ) {all : ℕ} → n ≤ m → all ≡ cond b 1 0 + n → all ≤ m + 1
-    at_most true n m low is = omega arith
-    at_most false n m low is = omega arith
 
 -- one term more
 pub present_more : (terms : List Term) (at : ℕ) (d : Term) → at < length terms → count_by (λ term. term.present) (take (at + 1) terms) ≡ count_by (λ term. term.present) (take at terms) + cond (get_or terms at d).present 1 0

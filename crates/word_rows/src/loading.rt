@@ -53,14 +53,16 @@ impl RowMarks {
             self.spans.clear();
             chunk.spans(row, &mut self.spans)?;
         }
-        if asked.boundaries {
-            let read = load_ends(chunk, row, gaps, &mut self.sentences, &mut self.paragraphs);
-            if read.is_err() {
-                self.forget_ends();
-            }
-            read?;
+        if !asked.boundaries {
+            return Ok(());
         }
-        Ok(())
+        match load_ends(chunk, row, gaps, &mut self.sentences, &mut self.paragraphs) {
+            Ok(()) => Ok(()),
+            Err(end) => {
+                self.forget_ends();
+                Err(end)
+            }
+        }
     }
 
     /// Takes the ends of sentences and paragraphs out.

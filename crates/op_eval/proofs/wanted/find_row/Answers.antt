@@ -1,13 +1,11 @@
-use Rattle.std.proofs.Common.{◌≡◌, ◌≤◌, ◌+◌, Bool, List, Some, [], IfOk, refl, sym, ap, subst, ◌∙◌, rules}
+use Rattle.std.proofs.Common.{◌≡◌, Bool, IfOk, refl, sym, ap, subst, ◌∙◌}
 use Rattle.std.specs.List.{list_any}
 use Rattle.std.specs.Prelude.{OnOk}
 use Rattle.doc_types.specs.declared.documents.DocRow.{DocRow}
-use Rattle.query_tree.specs.declared.key.Key.{Key}
 use Rattle.occ_lists.specs.OccLists.{SameMembers}
-use Rattle.word_rows.specs.Keywords.{present_in}
 use Rattle.op_eval.specs.Finding.{Found}
-use Rattle.op_eval.proofs.NextMatches.{no_tree, none_finds, search_there, stands_now, tree_finds, tree_keys, tree_of}
-use Rattle.op_eval.proofs.Searches.{few_keys}
+use Rattle.op_eval.proofs.NextMatches.{no_tree, none_finds, search_there, stands_now, tree_finds, tree_of}
+use Rattle.op_eval.proofs.Searches.{few_keys, opened_by}
 use Rattle.op_eval.proofs.wanted.find_row.Goals as goal
 
 pub returns-in-None-clause-told : goal.returns-in-None-clause-told
@@ -32,7 +30,7 @@ returns-in-Some-clause-stands g c =
 pub returns-in-Some-clause-count : goal.returns-in-Some-clause-count
 returns-in-Some-clause-count g c = λ its here.
     let is = tree_of (g.C.Chunk.belongs c.args.chunk.now) (g.C.Chunk.place c.args.chunk.now) (g.C.Chunk.content c.args.chunk.now) c.args.query.now c.args.row c.args.search.now c.in-Some.search c.in-Some.is c.requires.stands in
-    subst (λ (keys : List Key). c.find.new.steps ≤ c.args.steps.now + present_in its keys) (sym (tree_keys c.args.query.now c.in-Some.search.root.now is)) (c.find.ensures.count its here)
+    opened_by c.args.query.now c.in-Some.search.root.now c.in-Some.search.root.now its c.args.steps.now c.find.new.steps is refl (c.find.ensures.count its here)
 
 pub returns-in-Some-clause-told : goal.returns-in-Some-clause-told
 returns-in-Some-clause-told g c = λ its here.

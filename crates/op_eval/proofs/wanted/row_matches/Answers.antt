@@ -1,9 +1,8 @@
-use Rattle.std.proofs.Common.{◌≡◌, ◌≤◌, ◌+◌, Bool, List, Some, [], IfOk, refl, sym, ap, subst, ◌∙◌, rules}
+use Rattle.std.proofs.Common.{◌≡◌, Bool, IfOk, refl, sym, ap, subst, ◌∙◌}
 use Rattle.doc_types.specs.declared.documents.DocRow.{DocRow}
-use Rattle.query_tree.specs.declared.key.Key.{Key}
-use Rattle.word_rows.specs.Keywords.{present_in}
 use Rattle.op_eval.specs.Finding.{Found}
-use Rattle.op_eval.proofs.NextMatches.{no_tree, none_finds, search_there, stands_now, tree_finds, tree_keys, tree_of}
+use Rattle.op_eval.proofs.NextMatches.{no_tree, none_finds, search_there, stands_now, tree_finds, tree_of}
+use Rattle.op_eval.proofs.Searches.{opened_by}
 use Rattle.op_eval.proofs.wanted.row_matches.Goals as goal
 
 pub returns-in-None-clause-told : goal.returns-in-None-clause-told
@@ -23,7 +22,7 @@ returns-in-Some-clause-stands g c =
 pub returns-in-Some-clause-count : goal.returns-in-Some-clause-count
 returns-in-Some-clause-count g c = λ its here.
     let is = tree_of (g.C.Chunk.belongs c.args.chunk.now) (g.C.Chunk.place c.args.chunk.now) (g.C.Chunk.content c.args.chunk.now) c.args.query.now c.args.row c.args.search.now c.in-Some.search c.in-Some.is c.requires.stands in
-    subst (λ (keys : List Key). c.matches.new.steps ≤ c.args.steps.now + present_in its keys) (sym (tree_keys c.args.query.now c.in-Some.search.root.now is)) (c.matches.ensures.count its here)
+    opened_by c.args.query.now c.in-Some.search.root.now c.in-Some.search.root.now its c.args.steps.now c.matches.new.steps is refl (c.matches.ensures.count its here)
 
 pub returns-in-Some-clause-told : goal.returns-in-Some-clause-told
 returns-in-Some-clause-told g c = λ its here.

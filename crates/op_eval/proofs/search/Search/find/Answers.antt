@@ -12,8 +12,8 @@ use Rattle.word_rows.proofs.FirstUses.{number_short}
 use Rattle.op_eval.proofs.Searched.{finds_as, hits_are, knows_as, node_apart, nothing_found, occs_are, seen_as, terms_as, told_is}
 use Rattle.op_eval.proofs.search.Search.find.Goals as goal
 
-pub find-requires-clause-placed : goal.find-requires-clause-placed
-find-requires-clause-placed g c = subst (All IsPlaced) (sym c.deref-2.ensures.value) c.in_ok-load.ensures.placed
+pub find-told-requires-clause-placed : goal.find-told-requires-clause-placed
+find-told-requires-clause-placed g c = subst (All IsPlaced) (sym c.deref-2.ensures.value) c.in_ok-load.ensures.placed
 
 pub returns-then-not-may_match-clause-told : goal.returns-then-not-may_match-clause-told
 returns-then-not-may_match-clause-told g c = λ found here.

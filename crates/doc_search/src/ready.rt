@@ -9,13 +9,13 @@ use std::marker::Model;
 
 /// A question, and its conditions made ready once for all documents. Contracts see it as the question.
 #[derive(Drop)]
-pub(crate) struct Asked<'a> {
+pub(crate) struct ReadyQuestion<'a> {
     pub(crate) question: &'a Question,
     pub(crate) conditions: Conditions<'a>,
     pub(crate) alloc: Global,
 }
 
-impl<'a> Model for Asked<'a> {
+impl<'a> Model for ReadyQuestion<'a> {
     ghost use Rattle.std.specs.Prelude.{◌≡◌};
     ghost use Rattle.std.specs.Coded.{codes};
     ghost use Rattle.query_tree.specs.contracts.query.Node as node;
@@ -30,12 +30,12 @@ impl<'a> Model for Asked<'a> {
     ghost invariant = { λ a. a.conditions ≡ a.question.now.filters };
 }
 
-impl<'a> Asked<'a> {
-    pub(crate) fn over(alloc: Global, question: &'a Question) -> Result<Asked<'a>, NoMemory>
+impl<'a> ReadyQuestion<'a> {
+    pub(crate) fn over(alloc: Global, question: &'a Question) -> Result<ReadyQuestion<'a>, NoMemory>
         ensures { IfOk result (λ asked. asked ≡ question.now) }
     {
         let conditions = Conditions::over(alloc, question.filters.as_slice())?;
-        Ok(Asked {
+        Ok(ReadyQuestion {
             question,
             conditions,
             alloc,
