@@ -2,7 +2,8 @@
 use crate::running::{TWO, replied, tables_of};
 use crate::spelling::written_out;
 use mysql_wire::Command;
-use ql_session::{Session, StepEnd};
+use ql_session::{PlainTables, Session, StepEnd};
+use std::alloc::Global;
 use std::test::Fail;
 
 /// Commands that one session is sent in turn, and the bytes of their replies, by the protocol's documentation.
@@ -48,17 +49,27 @@ fn command(text: &str) -> Result<Command<'_>, Fail> {
     }
 }
 
+/// Fails with a command to which other bytes are replied.
+fn try_command(
+    alloc: Global,
+    session: &mut Session,
+    tables: &mut PlainTables,
+    line: &str,
+) -> Result<(), Fail> {
+    let (text, reply) = line.split_once(" ⇒ ").ok_or("a line without an arrow")?;
+    let packets = replied(alloc, session, tables, command(text)?)?;
+    if packets.as_slice() == written_out(alloc, reply)?.as_slice() {
+        return Ok(());
+    }
+    Err(Fail::new(format!(in alloc; "{text}")?))
+}
+
 #[test]
 fn commands_are_answered_by_these_bytes(rt: HostRuntime) -> Result<(), Fail> {
-    let alloc = rt.alloc();
-    let mut tables = tables_of(alloc, TWO)?;
+    let mut tables = tables_of(rt.alloc(), TWO)?;
     let mut session = Session::new();
     for line in COMMANDS.lines().skip(1) {
-        let (text, reply) = line.split_once(" ⇒ ").ok_or("a line without an arrow")?;
-        let packets = replied(alloc, &mut session, &mut tables, command(text)?)?;
-        if packets.as_slice() != written_out(alloc, reply)?.as_slice() {
-            return Err(Fail::new(format!(in alloc; "{text}")?));
-        }
+        try_command(rt.alloc(), &mut session, &mut tables, line)?;
     }
     Ok(())
 }

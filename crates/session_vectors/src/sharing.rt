@@ -1,6 +1,7 @@
 //! Two sessions over the same documents, and indexes of other names.
 use crate::running::{TWO, tables_of, try_in_turn, try_reply};
-use ql_session::Session;
+use ql_session::{PlainTables, Session};
+use std::alloc::Global;
 use std::test::Fail;
 
 /// Texts that two sessions over the same documents send in turn, which of them sends it, and the reply.
@@ -16,21 +17,29 @@ second: INSERT INTO rt (id, content) VALUES (6, 'a A') ⇒ OK 1
 first: INSERT INTO rt (id) VALUES (7), (6) ⇒ ERR 1064 42000 duplicate id 6
 "#;
 
+/// Fails where something else is replied to the text of a line, which one of the two sessions sends.
+fn try_shared(
+    alloc: Global,
+    first: &mut Session,
+    second: &mut Session,
+    tables: &mut PlainTables,
+    line: &str,
+) -> Result<(), Fail> {
+    let (sent, reply) = line.split_once(" ⇒ ").ok_or("a line without an arrow")?;
+    let (sender, text) = sent.split_once(": ").ok_or("a line without a session")?;
+    match sender {
+        "second" => try_reply(alloc, second, tables, text, reply),
+        _ => try_reply(alloc, first, tables, text, reply),
+    }
+}
+
 #[test]
 fn sessions_share_documents(rt: HostRuntime) -> Result<(), Fail> {
-    let alloc = rt.alloc();
-    let mut tables = tables_of(alloc, TWO)?;
+    let mut tables = tables_of(rt.alloc(), TWO)?;
     let mut first = Session::new();
     let mut second = Session::new();
     for line in SHARED.lines().skip(1) {
-        let (sent, reply) = line.split_once(" ⇒ ").ok_or("a line without an arrow")?;
-        let (sender, text) = sent.split_once(": ").ok_or("a line without a session")?;
-        let session = if sender == "second" {
-            &mut second
-        } else {
-            &mut first
-        };
-        try_reply(alloc, session, &mut tables, text, reply)?;
+        try_shared(rt.alloc(), &mut first, &mut second, &mut tables, line)?;
     }
     Ok(())
 }
