@@ -29,11 +29,7 @@ pub struct Slots<'q> {
 
 impl<'q> Slots<'q> {
     /// The keywords of the node, each before all rows that have its word.
-    pub fn over<C: Chunk>(
-        alloc: Global,
-        node: &'q Node,
-        chunk: &C,
-    ) -> Result<Slots<'q>, NoMemory>
+    pub fn over<C: Chunk>(alloc: Global, node: &'q Node, chunk: &C) -> Result<Slots<'q>, NoMemory>
         ensures keys { IfOk result (λ slots. keys_of slots ≡ node_keys node.now) }
         ensures slots { IfOk result (λ slots. AreSlots (C.belongs chunk.now) (C.place chunk.now) (C.content chunk.now) 0 slots) }
         ensures absent { IfOk result (λ slots. All (λ term. term.present ≡ false) slots.terms.items) }
