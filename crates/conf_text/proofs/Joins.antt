@@ -12,7 +12,7 @@ use Rattle.conf_text.specs.declared.lines.PartHead.{PartHead}
 use Rattle.conf_text.specs.Lines.{Line, is_joined, joined_parts, lines_from, onto_line, unjoined}
 use Rattle.conf_text.specs.steps.LineReader.{bound, left, IsPartRead, IsLineRead}
 
--- parts that are joined, in front of the first of these lines
+-- parts that are joined, before the first of these lines
 abbrev pub onto_lines : ℕ → List (List ℕ) → List Line → List Line
 onto_lines number [] lines = lines
 onto_lines number (part ∷ parts) lines = onto_line number part (onto_lines (number + 1) parts lines)

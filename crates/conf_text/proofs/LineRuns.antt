@@ -10,8 +10,8 @@ use Rattle.conf_text.specs.declared.size.TheConstants.{MAX_CONF_BYTES}
 use Rattle.conf_text.specs.declared.fault.ConfKind.{ConfKind}
 use Rattle.conf_text.specs.declared.lines.LineHead.{LineHead}
 use Rattle.conf_text.specs.declared.lines.Lines.{Lines}
-use Rattle.conf_text.specs.declared.reading.Place.{Place as CodePlace}
-use Rattle.conf_text.specs.declared.reading.Place.TheVariants as places
+use Rattle.conf_text.specs.declared.reading.LinePlace.{LinePlace as CodePlace}
+use Rattle.conf_text.specs.declared.reading.LinePlace.TheVariants as places
 use Rattle.conf_text.specs.Confs.{AreFaultless, IsFirstBadLine, IsFirstFault, IsUtf8Line, is_last, shape, shapes_back}
 use Rattle.conf_text.specs.steps.Drafts.{AreIndexes}
 use Rattle.conf_text.specs.Faults.{AreGood, IsFaultAt, IsGoodAt, fits, is_outside, is_syntax}

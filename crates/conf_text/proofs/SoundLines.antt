@@ -17,7 +17,7 @@ use Rattle.index_conf.specs.Soundness.{IsSound}
 use Rattle.conf_text.specs.steps.Drafts.{AreIndexes, entry_with}
 use Rattle.conf_text.specs.Faults.{AreGood, IsGoodAt, has_name, has_path, is_among, is_long, is_text}
 use Rattle.conf_text.specs.Lines.{Line, content}
-use Rattle.conf_text.specs.Sections.{Entry, IndexText, Place, Spot, attrs_in, after_head, entry_of, fields_in, entries_after, entries_in, given, headed, index, indexes_after, indexes_in, inside, other, outside, place_after, place_in, spot_at, spot_in}
+use Rattle.conf_text.specs.Sections.{Entry, IndexText, LinePlace, Spot, attrs_in, after_head, entry_of, fields_in, entries_after, entries_in, given, headed, index, indexes_after, indexes_in, inside, other, outside, place_after, place_in, spot_at, spot_in}
 use Rattle.conf_text.specs.Shapes.{Shape, bare_head, before_brace, before_equals, after_equals, after_word, blank, closing, entry, entry_shape, first_word, has_equals, head, head_of, head_shape, index_head, is_name, misformed, named_head, opening, opens_section, other_head, shape_of, small, unknown_head, wants_name, wants_no_name, words_shape}
 use Rattle.conf_text.specs.Keys.{key_named}
 use Rattle.conf_text.proofs.Pairs.{all_cons, all_head, all_tail, distinct_both}
@@ -78,7 +78,7 @@ pub record GoodStart (texts : List IndexText) (name : List ℕ) : Type 0 where
   pub new : list_any (has_name name) texts ≡ false
   pub few : length texts < MAX_INDEXES
 
-abbrev pub GoodPlace : List IndexText → List Entry → Place → Type 0
+abbrev pub GoodPlace : List IndexText → List Entry → LinePlace → Type 0
 GoodPlace texts entries outside = Unit {0}
 GoodPlace texts entries (headed (index name)) = GoodStart texts name × GoodEntries texts entries
 GoodPlace texts entries (headed other) = Unit {0}
@@ -143,13 +143,13 @@ sound_end texts entries name sound =
     }
 
 -- a section that is no index ends
-sound_other_end : (texts : List IndexText) (entries : List Entry) (place : Place) → SoundSpot (spot_at texts entries place) → SoundSpot (spot_at (texts ++ []) entries outside)
+sound_other_end : (texts : List IndexText) (entries : List Entry) (place : LinePlace) → SoundSpot (spot_at texts entries place) → SoundSpot (spot_at (texts ++ []) entries outside)
 sound_other_end texts entries place sound =
     subst (λ (ts : List IndexText). SoundSpot (spot_at ts entries outside)) (sym (append-nil texts))
     (record { texts = sound.texts; few = sound.few; names = sound.names; paths = sound.paths; place = tt })
 
 -- another place
-sound_at : (texts : List IndexText) (entries more : List Entry) (place next : Place) → SoundSpot (spot_at texts entries place) → GoodPlace texts more next → SoundSpot (spot_at texts more next)
+sound_at : (texts : List IndexText) (entries more : List Entry) (place next : LinePlace) → SoundSpot (spot_at texts entries place) → GoodPlace texts more next → SoundSpot (spot_at texts more next)
 sound_at texts entries more place next sound good = record { texts = sound.texts; few = sound.few; names = sound.names; paths = sound.paths; place = good }
 
 -- the head of an index
@@ -171,7 +171,7 @@ other_good texts true = tt
 other_good texts false = tt
 
 -- a good line more
-sound_more : (texts : List IndexText) (entries : List Entry) (place : Place) (line : Shape) → HasSmall line → IsGoodAt (spot_at texts entries place) line false → SoundSpot (spot_at texts entries place) → SoundSpot (spot_at (indexes_after texts place entries line) (entries_after entries line) (place_after place line))
+sound_more : (texts : List IndexText) (entries : List Entry) (place : LinePlace) (line : Shape) → HasSmall line → IsGoodAt (spot_at texts entries place) line false → SoundSpot (spot_at texts entries place) → SoundSpot (spot_at (indexes_after texts place entries line) (entries_after entries line) (place_after place line))
 sound_more texts entries place blank is_small good sound = sound
 sound_more texts entries outside (index_head name opens) is_small good sound =
     sound_at texts entries [] outside (after_head (index name) opens) sound (headed_good texts name opens (start_good texts entries name opens is_small good))

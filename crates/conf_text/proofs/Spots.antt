@@ -7,20 +7,20 @@ use Rattle.conf_text.specs.declared.fault.ConfKind.TheVariants as kinds
 use Rattle.conf_text.specs.declared.keys.Key.{Key}
 use Rattle.index_conf.specs.declared.conf.IndexConf.{IndexConf}
 use Rattle.conf_text.specs.declared.draft.Draft.{Draft}
-use Rattle.conf_text.specs.declared.reading.Place.{Place as CodePlace}
-use Rattle.conf_text.specs.declared.reading.Place.TheVariants as places
+use Rattle.conf_text.specs.declared.reading.LinePlace.{LinePlace as CodePlace}
+use Rattle.conf_text.specs.declared.reading.LinePlace.TheVariants as places
 use Rattle.conf_text.specs.declared.reading.Section.TheVariants as sections
 use Rattle.conf_text.specs.steps.Taking.{Leads, PlaceHas, place_of}
 use Rattle.conf_text.specs.steps.Drafts.{AreIndexes, IsDraft, IsEndFault, IsEntryFault, IsGoodEnd, IsGoodEntry}
 use Rattle.conf_text.specs.Faults.{IsFaultAt, IsGoodAt, StandsAt, StandsAtEnd, StandsAtEntry, is_syntax}
-use Rattle.conf_text.specs.Sections.{Entry, IndexText, Place, Spot, after_head, headed, index, inside, other, outside, spot_at}
+use Rattle.conf_text.specs.Sections.{Entry, IndexText, LinePlace, Spot, after_head, headed, index, inside, other, outside, spot_at}
 use Rattle.conf_text.specs.Shapes.{Shape, closing, entry, opening}
 
 -- no fault stands at a line that isn't misplaced, where none of the others does
 pub good_from : (spot : Spot) (line : Shape) (last : Bool) → is_syntax spot.place line last ≡ false → ((kind : ConfKind) → StandsAt kind spot.indexes spot.entries spot.place line → ⊥) → IsGoodAt spot line last
 good_from spot line last fine none = (none kinds.Limit, (none kinds.Missing, (none kinds.Repeated, (none kinds.BadValue, (none kinds.UnknownKey, (none kinds.UnknownSection, ((λ yes. true≢false (sym yes ∙ fine)), (none kinds.NotText, tt))))))))
 
-opening_none : (texts : List IndexText) (entries : List Entry) (place : Place) (kind : ConfKind) → StandsAt kind texts entries place opening → ⊥
+opening_none : (texts : List IndexText) (entries : List Entry) (place : LinePlace) (kind : ConfKind) → StandsAt kind texts entries place opening → ⊥
 opening_none texts entries outside kind stands = stands
 opening_none texts entries (headed section) kind stands = stands
 opening_none texts entries (inside (index name)) kind stands = stands

@@ -10,13 +10,13 @@ use Rattle.conf_text.specs.declared.draft.Draft.{Draft}
 use Rattle.conf_text.specs.declared.fault.ConfKind.{ConfKind}
 use Rattle.conf_text.specs.declared.fault.ConfKind.TheVariants as kinds
 use Rattle.conf_text.specs.declared.keys.Key.{Key}
-use Rattle.conf_text.specs.declared.reading.Place.{Place as CodePlace}
-use Rattle.conf_text.specs.declared.reading.Place.TheVariants as places
+use Rattle.conf_text.specs.declared.reading.LinePlace.{LinePlace as CodePlace}
+use Rattle.conf_text.specs.declared.reading.LinePlace.TheVariants as places
 use Rattle.conf_text.specs.declared.reading.Section.TheVariants as sections
 use Rattle.conf_text.specs.Confs.{IsIndexOf}
 use Rattle.conf_text.specs.steps.Drafts.{AreIndexes, EndsIndex, IsDraft}
 use Rattle.conf_text.specs.Faults.{IsFaultAt, is_syntax}
-use Rattle.conf_text.specs.Sections.{Entry, IndexText, Place, after_opening, entries_after, headed, index, inside, other, outside, spot_at}
+use Rattle.conf_text.specs.Sections.{Entry, IndexText, LinePlace, after_opening, entries_after, headed, index, inside, other, outside, spot_at}
 use Rattle.conf_text.specs.Shapes.{closing, entry, opening}
 use Rattle.conf_text.specs.steps.Taking.{Closes, Enters, Leads, PlaceHas, TakesLine, place_of}
 use Rattle.conf_text.proofs.Spots.{faulty_end, faulty_entry, good_closing, good_entry, good_opening, good_other_closing, good_other_entry, unknown_entry}
@@ -37,11 +37,11 @@ closes_index texts entries place draft old new made is ends added are has =
     has
 
 -- `{` was taken
-pub opened : (texts : List IndexText) (entries : List Entry) (place : Place) (last : Bool) (old : List IndexConf) (next : CodePlace) → is_syntax place opening last ≡ false → AreIndexes texts old → Leads (after_opening place) entries next → TakesLine (spot_at texts entries place) opening last old (Ok next)
+pub opened : (texts : List IndexText) (entries : List Entry) (place : LinePlace) (last : Bool) (old : List IndexConf) (next : CodePlace) → is_syntax place opening last ≡ false → AreIndexes texts old → Leads (after_opening place) entries next → TakesLine (spot_at texts entries place) opening last old (Ok next)
 opened texts entries place last old next fine are leads = record { good = good_opening (spot_at texts entries place) last fine; indexes = are; leads = leads }
 
 -- `}` was taken
-pub closed : (texts : List IndexText) (entries : List Entry) (place : Place) (last : Bool) (new : List IndexConf) (result : Result CodePlace (Or ConfKind)) → is_syntax place closing last ≡ false → Closes texts entries place new result → TakesLine (spot_at texts entries place) closing last new result
+pub closed : (texts : List IndexText) (entries : List Entry) (place : LinePlace) (last : Bool) (new : List IndexConf) (result : Result CodePlace (Or ConfKind)) → is_syntax place closing last ≡ false → Closes texts entries place new result → TakesLine (spot_at texts entries place) closing last new result
 closed texts entries outside last new result fine closes = absurd (true≢false fine)
 closed texts entries (headed section) last new result fine closes = absurd (true≢false fine)
 closed texts entries (inside (index name)) last new (Ok next) fine closes = record {
@@ -64,7 +64,7 @@ unknown_key texts entries name value last kind fine is =
     subst (λ (k : ConfKind). IsFaultAt k (spot_at texts entries (inside (index name))) (entry None value) last) (sym is) (unknown_entry texts entries name value last fine)
 
 -- an entry was taken
-pub entered : (texts : List IndexText) (entries : List Entry) (place : Place) (key : Option Key) (value : List ℕ) (last : Bool) (old : List IndexConf) (result : Result CodePlace (Or ConfKind)) → is_syntax place (entry key value) last ≡ false → AreIndexes texts old → Enters texts entries place key value result → TakesLine (spot_at texts entries place) (entry key value) last old result
+pub entered : (texts : List IndexText) (entries : List Entry) (place : LinePlace) (key : Option Key) (value : List ℕ) (last : Bool) (old : List IndexConf) (result : Result CodePlace (Or ConfKind)) → is_syntax place (entry key value) last ≡ false → AreIndexes texts old → Enters texts entries place key value result → TakesLine (spot_at texts entries place) (entry key value) last old result
 entered texts entries outside key value last old result fine are enters = absurd (true≢false fine)
 entered texts entries (headed section) key value last old result fine are enters = absurd (true≢false fine)
 entered texts entries (inside (index name)) None value last old (Ok next) fine are enters = absurd enters

@@ -6,12 +6,10 @@ use Rattle.std.specs.Str.{IsUtf8}
 use Rattle.charset_map.specs.declared.span.Span.{Span}
 use Rattle.charset_map.specs.TableText.{IsTableOf, default_text}
 use Rattle.charset_map.specs.Spans.{folded}
-use Rattle.doc_types.specs.Schemas.{IsSchema, AreDistinct}
 use Rattle.srch_base.specs.declared.faults.Or.{Or}
 use Rattle.srch_base.specs.declared.faults.Or.TheVariants as causes
 use Rattle.index_conf.specs.declared.conf.Conf.{Conf}
 use Rattle.index_conf.specs.declared.conf.IndexConf.{IndexConf}
-use Rattle.index_conf.specs.declared.conf.TheConstants.{MAX_INDEXES}
 use Rattle.conf_text.specs.declared.size.TheConstants.{MAX_CONF_BYTES}
 use Rattle.conf_text.specs.declared.fault.ConfFault.{ConfFault}
 use Rattle.conf_text.specs.declared.fault.ConfKind.TheVariants as kinds

@@ -8,12 +8,12 @@ use Rattle.conf_text.specs.declared.fault.ConfKind.{ConfKind}
 use Rattle.conf_text.specs.declared.fault.ConfKind.TheVariants as kinds
 use Rattle.conf_text.specs.declared.keys.Key.{Key}
 use Rattle.conf_text.specs.declared.keys.Key.TheVariants as keys
-use Rattle.conf_text.specs.Sections.{index, Place, outside, headed, inside, place_after, Entry, IndexText, Spot, spot_in, given, fields_in, attrs_in}
+use Rattle.conf_text.specs.Sections.{index, LinePlace, outside, headed, inside, place_after, Entry, IndexText, Spot, spot_in, given, fields_in, attrs_in}
 use Rattle.conf_text.specs.Shapes.{Shape, blank, index_head, other_head, unknown_head, opening, closing, entry, small}
 use Rattle.conf_text.specs.Values.{IsValue, zones_in}
 
 -- the grammar can have a line of this shape at the place; the head of an unknown section is told apart
-abbrev pub fits : Place → Shape → Bool
+abbrev pub fits : LinePlace → Shape → Bool
 fits outside blank = true
 fits outside (index_head name opens) = true
 fits outside (other_head opens) = true
@@ -26,13 +26,13 @@ fits (inside section) closing = true
 fits _ _ = false
 
 -- the text can end here
-abbrev pub is_outside : Place → Bool
+abbrev pub is_outside : LinePlace → Bool
 is_outside outside = true
 is_outside (headed section) = false
 is_outside (inside section) = false
 
 -- the line is misplaced, or it is the last one and a section is left open
-abbrev pub is_syntax : Place → Shape → Bool → Bool
+abbrev pub is_syntax : LinePlace → Shape → Bool → Bool
 is_syntax place line last = not (fits place line) || (last && not (is_outside (place_after place line)))
 
 -- a name stands among others
@@ -120,7 +120,7 @@ IsUnknownKey kinds.UnknownKey = Unit {0}
 IsUnknownKey _ = ⊥
 
 -- A fault of this kind stands at a line of this shape at a place, after these indexes and these entries.
-abbrev pub StandsAt : ConfKind → List IndexText → List Entry → Place → Shape → Type 0
+abbrev pub StandsAt : ConfKind → List IndexText → List Entry → LinePlace → Shape → Type 0
 StandsAt kind indexes entries outside unknown_head = IsUnknownSection kind
 StandsAt kind indexes entries outside (index_head name opens) = StandsAtHead kind indexes name
 StandsAt kind indexes entries (inside (index name)) (entry None value) = IsUnknownKey kind

@@ -1,3 +1,5 @@
+-- what holds of every configuration that is served
+pub use Rattle.index_conf.specs.Soundness
 -- the lines of a text, and what each says
 pub mod Lines
 -- the keys of an index

@@ -17,7 +17,7 @@ is_joined part = slice_index part (length part - 1) == 92
 abbrev pub unjoined : List ℕ → List ℕ
 unjoined part = if is_joined part then take (length part - 1) part else part
 
--- a part in front of the first of these lines, or as the last line
+-- a part before the first of these lines, or as the last line
 abbrev pub onto_line : ℕ → List ℕ → List Line → List Line
 onto_line number part [] = record { number = number; parts = part ∷ [] } ∷ []
 onto_line number part (line ∷ lines) = record { number = number; parts = part ∷ line.parts } ∷ lines
@@ -47,7 +47,7 @@ abbrev pub uncommented_after : ℕ → List ℕ → List ℕ
 uncommented_after before [] = []
 uncommented_after before (b ∷ bytes) = if begins_comment before b then [] else b ∷ uncommented_after b bytes
 
--- a line without its comment, which may begin at its front too
+-- a line without its comment, which may begin at its start too
 abbrev pub uncommented : List ℕ → List ℕ
 uncommented text = uncommented_after 32 text
 

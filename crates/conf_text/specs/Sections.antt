@@ -14,23 +14,23 @@ pub data Section : Type 0 where
   other : Section
 
 -- where a line stands: outside of sections, after the head of one before its `{`, or inside
-pub data Place : Type 0 where
-  outside : Place
-  headed : Section → Place
-  inside : Section → Place
+pub data LinePlace : Type 0 where
+  outside : LinePlace
+  headed : Section → LinePlace
+  inside : Section → LinePlace
 
 -- after the head of a section
-abbrev pub after_head : Section → Bool → Place
+abbrev pub after_head : Section → Bool → LinePlace
 after_head section opens = if opens then inside section else headed section
 
 -- after `{`
-abbrev pub after_opening : Place → Place
+abbrev pub after_opening : LinePlace → LinePlace
 after_opening outside = outside
 after_opening (headed section) = inside section
 after_opening (inside section) = inside section
 
 -- where the line after a line stands
-abbrev pub place_after : Place → Shape → Place
+abbrev pub place_after : LinePlace → Shape → LinePlace
 place_after place blank = place
 place_after place (index_head name opens) = after_head (index name) opens
 place_after place (other_head opens) = after_head other opens
@@ -41,7 +41,7 @@ place_after place (entry key value) = place
 place_after place misformed = place
 
 -- where the line after these lines stands
-abbrev pub place_in : List Shape → Place
+abbrev pub place_in : List Shape → LinePlace
 place_in [] = outside
 place_in (line ∷ before) = place_after (place_in before) line
 
@@ -77,14 +77,14 @@ pub record IndexText : Type 0 where
   pub entries : List Entry
 
 -- the index that `}` ends, where it ends one
-abbrev pub ended : Place → List Entry → List IndexText
+abbrev pub ended : LinePlace → List Entry → List IndexText
 ended outside entries = []
 ended (headed section) entries = []
 ended (inside (index name)) entries = record { name = name; entries = entries } ∷ []
 ended (inside other) entries = []
 
 -- the indexes with the one that a line ends
-abbrev pub indexes_after : List IndexText → Place → List Entry → Shape → List IndexText
+abbrev pub indexes_after : List IndexText → LinePlace → List Entry → Shape → List IndexText
 indexes_after indexes place entries blank = indexes
 indexes_after indexes place entries (index_head name opens) = indexes
 indexes_after indexes place entries (other_head opens) = indexes
@@ -103,9 +103,9 @@ indexes_in (line ∷ before) = indexes_after (indexes_in before) (place_in befor
 pub record Spot : Type 0 where
   pub indexes : List IndexText
   pub entries : List Entry
-  pub place : Place
+  pub place : LinePlace
 
-abbrev pub spot_at : List IndexText → List Entry → Place → Spot
+abbrev pub spot_at : List IndexText → List Entry → LinePlace → Spot
 spot_at indexes entries place = record { indexes = indexes; entries = entries; place = place }
 
 -- what these lines are before the line after them

@@ -1,7 +1,7 @@
 //! The lines of a text.
 //!
 //! The text is cut after each LF; a CR before it goes too. A part that ends in a backslash is joined with the next one,
-//! and the line has the number of its first part. A comment begins with `#` at the front of the line, or after a space
+//! and the line has the number of its first part. A comment begins with `#` at the start of the line, or after a space
 //! or a tab, and ends with the line. One buffer holds the line that is being read.
 ghost use Rattle.std.specs.Prelude.{◌≡◌, ◌==◌, ◌<◌, ◌≤◌, ◌+◌, ◌^◌, ◌∷◌, length, IfOk};
 ghost use Rattle.std.specs.Str.Lines.{lines, strip_carriage_return};
@@ -99,7 +99,7 @@ fn opens_comment(before: u8, byte: u8) -> bool
     byte == b'#' && (before == b' ' || before == b'\t')
 }
 
-/// What stands before a line's comment.
+/// What is before a line's comment.
 fn before_comment(line: &[u8]) -> &[u8]
     ensures { result.now ≡ uncommented line.now }
 {

@@ -11,7 +11,7 @@
 //! at its place, then what it does to the index that is being read. The first fault ends the reading; of two at one
 //! line the first in the order of `ConfKind` is given.
 ghost use Rattle.std.specs.Prelude.{◌≡◌, ◌||◌, nat_le, ◌<◌, ◌≤◌, ◌^◌, List, ℕ, IfOk, length, if◌then◌else◌};
-ghost use Rattle.conf_text.specs.declared.reading.Place.TheVariants.{Headed, Inside};
+ghost use Rattle.conf_text.specs.declared.reading.LinePlace.TheVariants.{Headed, Inside};
 ghost use Rattle.conf_text.specs.Confs.{ReadsConf};
 ghost use Rattle.index_conf.specs.Soundness.{IsSound};
 ghost use Rattle.conf_text.specs.steps.Drafts.{AreIndexes, IsDraft};
@@ -45,7 +45,7 @@ enum Section {
 
 /// Where a line stands.
 #[derive(Drop)]
-enum Place {
+enum LinePlace {
     Outside,
     /// Behind the head of a section, before its `{`.
     Headed(Section),
@@ -109,7 +109,7 @@ fn read_indexes(alloc: Global, text: &[u8]) -> Result<Items<IndexConf>, Or<ConfF
     let mut lines = Lines::of(text);
     let mut buffer = Vec::new(alloc);
     let mut indexes = Vec::new(alloc);
-    let mut place = Place::Outside;
+    let mut place = LinePlace::Outside;
     'lines: loop {
         match lines.next_line(&mut buffer)? {
             None => return Ok(Items::new(indexes)),
@@ -129,10 +129,10 @@ fn read_indexes(alloc: Global, text: &[u8]) -> Result<Items<IndexConf>, Or<ConfF
 fn take_line(
     alloc: Global,
     indexes: &mut Vec<IndexConf>,
-    place: Place,
+    place: LinePlace,
     line: Shape<'_>,
     last: bool,
-) -> Result<Place, Or<ConfKind>>
+) -> Result<LinePlace, Or<ConfKind>>
     requires { value_length (seen line) < 2 ^ 32 }
     ensures { (texts : List IndexText) (entries : List Entry) → AreIndexes texts indexes.old.items → PlaceHas entries place
         → TakesLine (spot_at texts entries (place_of place)) (seen line.entry) last indexes.new.items result }
@@ -153,56 +153,56 @@ fn take_line(
 }
 
 /// Whether the grammar can't have a line at the place, or it is the last one and leaves a section open.
-fn misplaced(place: &Place, line: &Shape<'_>, last: bool) -> bool
+fn misplaced(place: &LinePlace, line: &Shape<'_>, last: bool) -> bool
     ensures { result ≡ is_syntax (place_of place.now) (seen line.now) last }
 {
     !fitting(place, line) || (last && !ends_outside(place, line))
 }
 
 /// Whether the grammar can have a line of this shape at the place.
-fn fitting(place: &Place, line: &Shape<'_>) -> bool
+fn fitting(place: &LinePlace, line: &Shape<'_>) -> bool
     ensures { result ≡ fits (place_of place.now) (seen line.now) }
 {
     match place {
-        Place::Outside => matches!(
+        LinePlace::Outside => matches!(
             line,
             Shape::Blank | Shape::IndexHead(..) | Shape::OtherHead(_) | Shape::UnknownHead
         ),
-        Place::Headed(_) => matches!(line, Shape::Blank | Shape::Opening),
-        Place::Inside(_) => matches!(line, Shape::Blank | Shape::Entry(..) | Shape::Closing),
+        LinePlace::Headed(_) => matches!(line, Shape::Blank | Shape::Opening),
+        LinePlace::Inside(_) => matches!(line, Shape::Blank | Shape::Entry(..) | Shape::Closing),
     }
 }
 
 /// Whether the line after this one stands outside of sections.
-fn ends_outside(place: &Place, line: &Shape<'_>) -> bool
+fn ends_outside(place: &LinePlace, line: &Shape<'_>) -> bool
     ensures { result ≡ is_outside (place_after (place_of place.now) (seen line.now)) }
 {
     match line {
         Shape::IndexHead(..) | Shape::OtherHead(_) => false,
         Shape::Closing => true,
-        _ => matches!(place, Place::Outside),
+        _ => matches!(place, LinePlace::Outside),
     }
 }
 
 /// The place after a head.
-fn after_head(section: Section, opens: bool) -> Place
+fn after_head(section: Section, opens: bool) -> LinePlace
     ensures { result ≡ (if opens then Inside section else Headed section) }
 {
     if opens {
-        Place::Inside(section)
+        LinePlace::Inside(section)
     } else {
-        Place::Headed(section)
+        LinePlace::Headed(section)
     }
 }
 
 /// The place after `{`.
-fn after_opening(place: Place) -> Place
+fn after_opening(place: LinePlace) -> LinePlace
     ensures { (entries : List Entry) → PlaceHas entries place → Leads (after_opening (place_of place)) entries result }
 {
     match place {
-        Place::Outside => Place::Outside,
-        Place::Headed(section) => Place::Inside(section),
-        Place::Inside(section) => Place::Inside(section),
+        LinePlace::Outside => LinePlace::Outside,
+        LinePlace::Headed(section) => LinePlace::Inside(section),
+        LinePlace::Inside(section) => LinePlace::Inside(section),
     }
 }
 
@@ -219,7 +219,7 @@ fn start_index(
     indexes: &[IndexConf],
     name: &[u8],
     opens: bool,
-) -> Result<Place, Or<ConfKind>>
+) -> Result<LinePlace, Or<ConfKind>>
     ensures { (texts : List IndexText) → AreIndexes texts indexes.now → Begins texts (small name.now) opens result }
 {
     let name = small_name(alloc, name)?;
@@ -236,22 +236,22 @@ fn start_index(
 fn take_entry(
     alloc: Global,
     indexes: &[IndexConf],
-    place: Place,
+    place: LinePlace,
     key: Option<Key>,
     value: &[u8],
-) -> Result<Place, Or<ConfKind>>
+) -> Result<LinePlace, Or<ConfKind>>
     requires { length value.now < 2 ^ 32 }
     ensures { (texts : List IndexText) (entries : List Entry) → AreIndexes texts indexes.now → PlaceHas entries place
         → Enters texts entries (place_of place) key value.now result }
 {
     match place {
-        Place::Inside(Section::Index(draft)) => {
+        LinePlace::Inside(Section::Index(draft)) => {
             let draft = take_index_entry(alloc, indexes, draft, key, value)?;
-            Ok(Place::Inside(Section::Index(draft)))
+            Ok(LinePlace::Inside(Section::Index(draft)))
         }
-        Place::Inside(Section::Other) => Ok(Place::Inside(Section::Other)),
-        Place::Headed(section) => Ok(Place::Headed(section)),
-        Place::Outside => Ok(Place::Outside),
+        LinePlace::Inside(Section::Other) => Ok(LinePlace::Inside(Section::Other)),
+        LinePlace::Headed(section) => Ok(LinePlace::Headed(section)),
+        LinePlace::Outside => Ok(LinePlace::Outside),
     }
 }
 
@@ -281,16 +281,16 @@ fn take_index_entry(
 fn close_section(
     alloc: Global,
     indexes: &mut Vec<IndexConf>,
-    place: Place,
-) -> Result<Place, Or<ConfKind>>
+    place: LinePlace,
+) -> Result<LinePlace, Or<ConfKind>>
     ensures { (texts : List IndexText) (entries : List Entry) → AreIndexes texts indexes.old.items → PlaceHas entries place
         → Closes texts entries (place_of place) indexes.new.items result }
 {
     match place {
-        Place::Inside(Section::Index(draft)) => {
+        LinePlace::Inside(Section::Index(draft)) => {
             indexes.push(draft.end(alloc)?)?;
-            Ok(Place::Outside)
+            Ok(LinePlace::Outside)
         }
-        _ => Ok(Place::Outside),
+        _ => Ok(LinePlace::Outside),
     }
 }

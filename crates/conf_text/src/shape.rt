@@ -95,7 +95,7 @@ fn head<'a>(word: &[u8], rest: &'a [u8], opens: bool) -> Shape<'a>
     }
 }
 
-/// How many bytes of a text stand before its first blank, or in all of it.
+/// How many bytes of a text are before its first blank, or in all of it.
 fn word_len(text: &[u8]) -> usize
     ensures { result ≡ position_or_len is_blank text.now }
 {
@@ -122,7 +122,7 @@ fn head_line(text: &[u8]) -> Shape<'_>
     }
 }
 
-/// A line with `=`, by what stands before and after the first one.
+/// A line with `=`, by what is before and after the first one.
 fn entry_line<'a>(key: &[u8], value: &'a [u8]) -> Shape<'a>
     ensures { seen result ≡ entry_shape key.now value.now }
 {

@@ -20,7 +20,7 @@ pub fn blank(byte: u8) -> bool
     matches!(byte, b' ' | b'\t' | b'\r' | b'\n')
 }
 
-/// How many bytes of a text stand before the first of these, or in all of it.
+/// How many bytes of a text are before the first of these, or in all of it.
 pub fn place_of(byte: u8, text: &[u8]) -> usize
     ensures { result ≡ position_or_len (λ b. b == byte) text.now }
 {

@@ -1,4 +1,4 @@
--- The front of a byte list, read as a packet.
+-- The first bytes of a list, read as a packet.
 use Rattle.std.proofs.Common.{◌≡◌, ℕ, ◌+◌, ◌*◌, ◌-◌, ◌/◌, ◌%◌, ◌<◌, ◌≤◌, List, ◌∷◌, ◌++◌, Some, length, get_or, take, drop, refl, sym, ap, ◌∙◌, arith}
 use Rattle.std.proofs.lemmas.List.{take-append-drop, length-take, length-take-le, drop-drop}
 use Rattle.std.proofs.lemmas.Option.{some_pair_parts}

@@ -76,7 +76,7 @@ or_cases (Err d) f other z e = inr e
 
 -- ---- what is found is spelled so
 
-record Found {A : Type 0} (layout : Layout A) (bytes : List ℕ) (a : A) : Type 0 where
+record ScannedTo {A : Type 0} (layout : Layout A) (bytes : List ℕ) (a : A) : Type 0 where
   fields : List Field
   path : Path layout fields a
   fills : Fills fields bytes
@@ -85,7 +85,7 @@ one_more : (field : Field) (fields : List Field) (bytes rest : List ℕ) → Beg
 unfolding Fills
 one_more field fields bytes rest b f = (b.part, rest, b.is, b.spelled, f)
 
-found : {A : Type 0} (layout : Layout A) (bytes : List ℕ) (a : A) → scan layout bytes ≡ Ok a → Found layout bytes a
+found : {A : Type 0} (layout : Layout A) (bytes : List ℕ) (a : A) → scan layout bytes ≡ Ok a → ScannedTo layout bytes a
 unfolding Fills
 found (Done value) bytes a e =
     let h = ended_ok value bytes a e in record { fields = []; path = (refl, h.1); fills = h.0 }

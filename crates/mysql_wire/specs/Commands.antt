@@ -3,16 +3,16 @@ use Rattle.std.specs.Prelude.{ℕ, List, [], ◌∷◌, Option, Some, None, ◌=
 use Rattle.srch_base.specs.Numbers.{number_of}
 
 -- a command
-pub data Asked : Type 0 where
-  Quit : Asked
-  InitDb : (name : List ℕ) → Asked
-  Query : (text : List ℕ) → Asked
-  Ping : Asked
-  SetOption : (option : ℕ) → Asked
-  Unknown : (code : Option ℕ) → Asked
+pub data ClientCommand : Type 0 where
+  Quit : ClientCommand
+  InitDb : (name : List ℕ) → ClientCommand
+  Query : (text : List ℕ) → ClientCommand
+  Ping : ClientCommand
+  SetOption : (option : ℕ) → ClientCommand
+  Unknown : (code : Option ℕ) → ClientCommand
 
 -- the command of a first byte and of what follows it: only COM_SET_OPTION has a stated length
-abbrev pub command_by : ℕ → List ℕ → Asked
+abbrev pub command_by : ℕ → List ℕ → ClientCommand
 command_by code rest =
     if code == 0x01 then Quit
     else (if code == 0x02 then InitDb rest
@@ -22,6 +22,6 @@ command_by code rest =
     else Unknown (Some code)))))
 
 -- the command of a payload
-abbrev pub command_of : List ℕ → Asked
+abbrev pub command_of : List ℕ → ClientCommand
 command_of [] = Unknown None
 command_of (code ∷ rest) = command_by code rest

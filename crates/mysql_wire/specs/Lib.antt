@@ -8,7 +8,7 @@ pub mod Rows
 pub mod Handshake
 pub mod Answered
 pub mod Commands
-pub mod Asked
+pub mod CommandValues
 -- a stream of packets in any pieces
 pub mod Framing
 pub mod Lending

@@ -1,7 +1,7 @@
 //! What a command packet asks for: its first byte is the command, the rest its argument. "Command Phase" of the protocol.
 ghost use Rattle.std.specs.Prelude.{◌≡◌, ◌∷◌};
 ghost use Rattle.mysql_wire.specs.Commands.{command_of};
-ghost use Rattle.mysql_wire.specs.Asked.{asked_by};
+ghost use Rattle.mysql_wire.specs.CommandValues.{command_value};
 
 /// What a command packet asks for. Of the commands with no stated length, bytes that follow are not looked at.
 #[derive(Clone, Copy, PartialEq, Eq)]
@@ -17,7 +17,7 @@ pub enum Command<'a> {
 
 /// The command of a packet's payload ("Command Phase" of the protocol). Every payload has one.
 pub fn read_command(payload: &[u8]) -> Command<'_>
-    ensures { asked_by result ≡ command_of payload.now }
+    ensures { command_value result ≡ command_of payload.now }
 {
     let Some((&code, rest)) = payload.split_first() else {
         return Command::Unknown(None);
@@ -33,7 +33,7 @@ pub fn read_command(payload: &[u8]) -> Command<'_>
 }
 
 fn set_option(rest: &[u8]) -> Command<'_>
-    ensures { asked_by result ≡ command_of (27 ∷ rest.now) }
+    ensures { command_value result ≡ command_of (27 ∷ rest.now) }
 {
     match rest {
         [low, high] => Command::SetOption(u16::from_le_bytes([*low, *high])),

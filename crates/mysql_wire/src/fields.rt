@@ -131,7 +131,7 @@ pub(crate) fn text_that_is<'a>(want: &[u8], bytes: &'a [u8]) -> Result<&'a [u8],
     }
 }
 
-/// A value of a row, or None where the mark of NULL stands in its place.
+/// A value of a row, or None where the mark of NULL is in its place.
 pub(crate) fn cell(bytes: &[u8]) -> Result<(Option<&[u8]>, &[u8]), Stop>
     ensures { Gives (λ x. (option_copied x.0, x.1.now)) result (at bytes.now (cell_at bytes.now)) }
 {

@@ -32,7 +32,7 @@ impl<const N: usize> Model for NameTable<N> {
 }
 
 impl<const N: usize> NameTable<N> {
-    /// The table of these words, in any order; `check` tells whether `find` may look them up.
+    /// The table of these words, in any order; `check` says whether `find` may look them up.
     pub fn new(words: &'static [&'static str]) -> Self
         requires { length words.now ≡ N }
         ensures { result ≡ map (λ word. word.now) words.now }

@@ -1,3 +1,4 @@
+-- The place of an index by its name: found here, or looked for further on.
 use Rattle.std.proofs.Common.{◌≡◌, ℕ, ◌+◌, ◌<◌, List, [], ◌∷◌, ◌++◌, Some, true, false, length, take, drop, map, drop-cons, sym, ◌∙◌, ap, refl, add-one}
 use Rattle.std.proofs.lemmas.List.{take_more, map-append}
 use Rattle.std.specs.Prelude.{slice_get}

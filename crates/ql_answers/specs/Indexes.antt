@@ -22,7 +22,7 @@ place_fault (Some (suc place)) name = Some not_offered
 abbrev pub index_fault : List IndexConf → List ℕ → Option Refused
 index_fault confs name = place_fault (place_of confs name) name
 
--- Statements of this name are run over this index, which stands at this place.
+-- Statements of this name are run over this index, which is at this place.
 pub record Serves (confs : List IndexConf) (name : List ℕ) (place : ℕ) (conf : IndexConf) : Type 0 where
   pub good : index_fault confs name ≡ None
   pub place_is : place_of confs name ≡ Some place

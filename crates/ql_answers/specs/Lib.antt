@@ -12,4 +12,9 @@ pub mod Showing
 pub mod Plans
 -- sessions, and what is replied
 pub mod Sessions
+-- what clauses cite of lower crates, passed on
+pub use Rattle.doc_search.specs.Searches
+pub use Rattle.ql_refusals.specs.Refusals
+pub use Rattle.ql_select.specs.declared.selection.Selection
+pub use Rattle.reply_rows.specs.declared.result_set.ResultSet
 pub mod steps

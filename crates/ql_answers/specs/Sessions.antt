@@ -72,7 +72,7 @@ abbrev pub HasLayers : Happened → Type 0
 HasLayers (Read front) = AreLayers front.layers
 HasLayers happened = Unit {0}
 
--- what a call is told of it
+-- what a call learns of it
 abbrev pub happened_by : {C : Type 0} → Event C → Happened
 happened_by events.Nothing = Nothing
 happened_by events.NoMemory = NoMemory

@@ -22,6 +22,6 @@ pub enum Need {
     Nothing,
     /// The index at this place.
     Read(u16),
-    /// A commit of `Session::pending` to the index at this place.
+    /// A commit of `StatementMachine::pending` to the index at this place.
     Commit(u16),
 }

@@ -13,12 +13,12 @@ use srch_base::NoMemory;
 
 /// The rows that are shown, and what is shown of each.
 #[derive(Drop)]
-pub(crate) struct Found<'a> {
+pub(crate) struct FoundRows<'a> {
     pub shown: &'a [Shown],
     pub rows: &'a [Row],
 }
 
-impl<'a> Table for Found<'a> {
+impl<'a> Table for FoundRows<'a> {
     ghost set = { λ found. set_of found.shown.now found.rows.now };
 
     fn columns(&self) -> usize {

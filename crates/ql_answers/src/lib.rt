@@ -1,7 +1,6 @@
 //! Statements: what each wants, and what is replied to it.
 #![tactic(auto)]
 
-mod documents;
 mod event;
 mod found;
 mod indexes;
@@ -9,13 +8,12 @@ mod laws;
 mod plan;
 mod planning;
 mod saying;
-mod session;
 mod showing;
+mod statement_machine;
 mod text_sets;
-mod writing;
 
 pub use event::{Event, Need};
 pub use indexes::Catalog;
 pub use laws::{a_plan_has_one_reply, a_statement_has_one_plan};
 pub use plan::Plan;
-pub use session::Session;
+pub use statement_machine::StatementMachine;

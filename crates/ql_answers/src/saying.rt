@@ -10,7 +10,7 @@ ghost use Rattle.ql_answers.specs.Sessions.{CanHave, Committed, Duplicate, NoMem
 ghost use Rattle.ql_answers.specs.steps.Answering.{Says, SaysReply};
 
 use crate::event::Event;
-use crate::found::Found;
+use crate::found::FoundRows;
 use crate::plan::Plan;
 use doc_search::search;
 use doc_types::{Chunk, Snapshot};
@@ -81,7 +81,7 @@ fn say_read<C: Chunk>(
     match plan {
         Plan::Search { selection, .. } => {
             let rows = search(alloc, &selection.question, snapshot)?;
-            let found = Found {
+            let found = FoundRows {
                 shown: selection.shown.as_slice(),
                 rows: rows.as_slice(),
             };
@@ -173,7 +173,7 @@ fn show(
 /// What a SELECT found.
 fn show_found(
     alloc: Global,
-    found: &Found<'_>,
+    found: &FoundRows<'_>,
     status: u16,
     seq: u8,
     out: &mut Vec<u8>,

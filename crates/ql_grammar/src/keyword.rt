@@ -1,5 +1,5 @@
 //! The keywords, and what the grammar has to know of each: whether it is a name nowhere, whether a statement begins with it,
-//! whether SET has a form of its own for it. A keyword is found in a sorted table, in letters of either case, by bisection.
+//! whether SET has a form of its own for it. A keyword is found in a sorted table, in letters of either case, by binary search.
 //! A new keyword has one row in the enum, one in the table here, and rows of its own in `specs/Keywords`.
 
 ghost use Rattle.std.specs.Prelude.{◌≡◌, slice_get};

@@ -1,4 +1,4 @@
-//! The grammar of SphinxQL, and the statements that its texts stand for.
+//! The grammar of SphinxQL, and the statements that its texts mean.
 #![tactic(auto)]
 
 mod fault;

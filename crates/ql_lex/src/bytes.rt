@@ -1,4 +1,4 @@
-//! The classes of bytes by which the readers tell what may begin or go on at a place: blanks, letters, digits, quotes.
+//! The classes of bytes by which the readers know what may begin or go on at an offset: blanks, letters, digits, quotes.
 //! Each is a test of one byte; `byte_at` gives 0 past the end, which is in no class, so no reader looks at the length first.
 
 ghost use Rattle.std.specs.Prelude.{◌≡◌, ◌≢◌, ◌<◌, ◌≤◌, ℕ, IfSome, IfNone, length, slice_index};
@@ -6,7 +6,7 @@ ghost use Rattle.std.specs.Char.{is_ascii_digit as is_digit_byte};
 ghost use Rattle.std.specs.List.{list_all, prefix_len};
 ghost use Rattle.ql_lex.specs.Shapes.{is_blank as is_blank_byte, is_letter as is_letter_byte, is_name_byte, is_variable_byte, is_quote as is_quote_byte, is_word};
 
-/// The byte at a place, or 0 past the end.
+/// The byte at an offset, or 0 past the end.
 pub(crate) fn byte_at(text: &[u8], place: usize) -> u8
     ensures { result ≡ slice_index text.now place }
 {
@@ -47,21 +47,21 @@ fn in_variable(byte: u8) -> bool
     in_name(byte) || byte == b'.'
 }
 
-/// How many bytes of a name stand at the front.
+/// The length of the longest prefix whose bytes are those of a name.
 pub(crate) fn name_len(bytes: &[u8]) -> usize
     ensures { result ≡ prefix_len is_name_byte bytes.now }
 {
     bytes.iter().take_while(|b| in_name(**b)).count()
 }
 
-/// How many bytes of the name of a system variable stand at the front.
+/// The length of the longest prefix whose bytes are those of a system variable's name.
 pub(crate) fn variable_len(bytes: &[u8]) -> usize
     ensures { result ≡ prefix_len is_variable_byte bytes.now }
 {
     bytes.iter().take_while(|b| in_variable(**b)).count()
 }
 
-/// How many digits stand at the front.
+/// The length of the longest prefix of digits.
 pub(crate) fn digits_len(bytes: &[u8]) -> usize
     ensures len { result ≡ prefix_len is_digit_byte bytes.now }
     ensures within { result ≤ length bytes.now }
@@ -83,7 +83,7 @@ pub(crate) fn is_name(bytes: &[u8]) -> bool
     is_letter(byte_at(bytes, 0)) && all_in_name(bytes)
 }
 
-/// The place of the next backquote from a place on.
+/// The offset of the next backquote, looked for from an offset on.
 pub(crate) fn next_backquote(text: &[u8], from: usize) -> Option<usize>
     ensures found { IfSome result (λ last. (from ≤ last) × (last < length text.now) × (slice_index text.now last ≡ 96)) }
     ensures next { IfSome result (λ last. (k : ℕ) → from ≤ k → k < last → slice_index text.now k ≢ 96) }

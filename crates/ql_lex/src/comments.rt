@@ -9,7 +9,7 @@ use crate::bytes::byte_at;
 use crate::fault::LexKind;
 use crate::part::Part;
 
-/// Whether `*/` stands at a place.
+/// Whether `*/` is at an offset.
 fn closes_comment(text: &[u8], place: usize) -> bool
     requires { place < length text.now }
     ensures yes { result ≡ true → ClosesComment text.now place }
@@ -18,7 +18,7 @@ fn closes_comment(text: &[u8], place: usize) -> bool
     text[place] == b'*' && byte_at(text, place + 1) == b'/'
 }
 
-/// The place of the next `*/` from a place on.
+/// The offset of the next `*/`, looked for from an offset on.
 fn comment_end(text: &[u8], from: usize) -> Option<usize>
     ensures found { IfSome result (λ last. (from ≤ last) × ClosesComment text.now last) }
     ensures next { IfSome result (λ last. (k : ℕ) → from ≤ k → k < last → ClosesComment text.now k → ⊥) }
@@ -32,7 +32,7 @@ fn comment_end(text: &[u8], from: usize) -> Option<usize>
     None
 }
 
-/// Reads the comment whose `/` stands at a place.
+/// Reads the comment whose `/` is at an offset.
 pub(crate) fn comment_at(text: &[u8], at: usize) -> Result<Part, LexKind>
     requires size { length text.now < 2 ^ 32 }
     requires within { at < length text.now }

@@ -1,30 +1,31 @@
-//! What is wrong with a text: the place of the first fault from the left, in bytes, and its kind, and what it prints.
+//! What is wrong with a text: the offset of the first fault from the left, in bytes, and its kind, and what it prints.
 
+ghost use Rattle.std.specs.Prelude.{◌≡◌, ◌≤◌, length};
 ghost use Rattle.ql_lex.specs.Faults.{fault_text, kind_text};
 
 use std::error::Error;
 use std::fmt;
 
-/// Why no token can be read at a place of a text.
+/// Why no token can be read at an offset of a text.
 #[derive(Clone, Copy, Debug, PartialEq, Eq)]
 pub enum LexKind {
-    /// The bytes between the quotes of a text are not UTF-8. The place is that of the first quote.
+    /// The bytes between the quotes of a text are not UTF-8. The offset is that of the first quote.
     NotUtf8,
-    /// A text, or a name in backquotes, doesn't end. The place is that of its quote.
+    /// A text, or a name in backquotes, doesn't end. The offset is that of its quote.
     UnclosedQuote,
-    /// A comment doesn't end. The place is that of its `/*`.
+    /// A comment doesn't end. The offset is that of its `/*`.
     UnclosedComment,
-    /// No token begins with the byte at the place.
+    /// No token begins with the byte at the offset.
     BadCharacter,
-    /// The number at the place is above 18446744073709551615.
+    /// The number at the offset is above 18446744073709551615.
     NumberTooLarge,
-    /// A `.` follows the number at the place.
+    /// A `.` follows the number at the offset.
     NumberWithPoint,
-    /// The name at the place has more than 64 bytes, not counting `@@` and backquotes.
+    /// The name at the offset has more than 64 bytes, not counting `@@` and backquotes.
     NameTooLong,
 }
 
-/// The first place of a text at which no token can be read.
+/// The first offset of a text at which no token can be read.
 #[derive(Clone, Copy, Debug, PartialEq, Eq)]
 pub struct LexFault {
     /// An offset in the text, in bytes.
@@ -32,13 +33,13 @@ pub struct LexFault {
     pub kind: LexKind,
 }
 
-impl fmt::Display for LexKind {
-    ghost use Rattle.std.specs.Prelude.{Some};
-
-    ghost output = { λ kind. Some (kind_text kind) };
-
-    fn fmt<W: fmt::Write>(&self, f: &mut fmt::Formatter<W>) -> fmt::Result {
-        f.write_str(match self {
+impl LexKind {
+    /// The kind in words.
+    pub fn text(self) -> &'static str
+        ensures words { result.now ≡ kind_text self }
+        ensures short { length result.now ≤ 24 }
+    {
+        match self {
             LexKind::NotUtf8 => "text is not UTF-8",
             LexKind::UnclosedQuote => "unclosed quote",
             LexKind::UnclosedComment => "unclosed comment",
@@ -46,7 +47,18 @@ impl fmt::Display for LexKind {
             LexKind::NumberTooLarge => "number too large",
             LexKind::NumberWithPoint => "number with a point",
             LexKind::NameTooLong => "name too long",
-        })
+        }
+    }
+}
+
+impl fmt::Display for LexKind {
+    ghost use Rattle.std.specs.Prelude.{Some};
+    ghost use Rattle.ql_lex.specs.Faults.{kind_text};
+
+    ghost output = { λ kind. Some (kind_text kind) };
+
+    fn fmt<W: fmt::Write>(&self, f: &mut fmt::Formatter<W>) -> fmt::Result {
+        f.write_str(self.text())
     }
 }
 

@@ -1,4 +1,4 @@
-//! From a text to its tokens. At each place the first byte tells which reader is asked: a name, a number, a text between
+//! From a text to its tokens. At each offset the first byte decides which reader goes on: a name, a number, a text between
 //! quotes, a name between backquotes, a system variable, a comment or a sign. What it finds ends where the next one begins.
 //! The first reader that finds a fault ends the whole: a text has all its tokens or its first fault.
 
@@ -18,7 +18,7 @@ use crate::token::{Token, TokenKind};
 use srch_base::Or;
 use std::alloc::Global;
 
-/// Reads the part of a text at a place.
+/// Reads the part of a text at an offset.
 fn part_at(text: &[u8], at: usize) -> Result<Part, LexKind>
     requires size { length text.now < 2 ^ 32 }
     requires within { at < length text.now }

@@ -13,7 +13,7 @@ use crate::token::TokenKind;
 /// The most bytes of a name.
 const MAX_NAME_BYTES: usize = 64;
 
-/// Reads the name that begins at a place.
+/// Reads the name that begins at an offset.
 pub(crate) fn name_at(text: &[u8], at: usize) -> Result<Part, LexKind>
     requires size { length text.now < 2 ^ 32 }
     requires within { at < length text.now }
@@ -28,7 +28,7 @@ pub(crate) fn name_at(text: &[u8], at: usize) -> Result<Part, LexKind>
     }
 }
 
-/// Reads the name in backquotes whose first backquote stands at a place.
+/// Reads the name in backquotes whose first backquote is at an offset.
 pub(crate) fn quoted_at(text: &[u8], at: usize) -> Result<Part, LexKind>
     requires size { length text.now < 2 ^ 32 }
     requires within { at < length text.now }
@@ -48,7 +48,7 @@ pub(crate) fn quoted_at(text: &[u8], at: usize) -> Result<Part, LexKind>
     }
 }
 
-/// Reads the system variable whose first `@` stands at a place.
+/// Reads the system variable whose first `@` is at an offset.
 pub(crate) fn variable_at(text: &[u8], at: usize) -> Result<Part, LexKind>
     requires size { length text.now < 2 ^ 32 }
     requires within { at < length text.now }

@@ -25,7 +25,7 @@ pub(crate) fn value_of(digits: &[u8]) -> Option<u64>
     Some(value)
 }
 
-/// Reads the number whose first digit stands at a place.
+/// Reads the number whose first digit is at an offset.
 pub(crate) fn number_at(text: &[u8], at: usize) -> Result<Part, LexKind>
     requires size { length text.now < 2 ^ 32 }
     requires within { at < length text.now }

@@ -1,6 +1,6 @@
 use crate::token::TokenKind;
 
-/// A part of a text: a blank, a comment, or a token, with the place after it.
+/// A part of a text: a blank, a comment, or a token, with the offset after it.
 #[derive(Clone, Copy)]
 pub(crate) enum Part {
     /// One blank byte.

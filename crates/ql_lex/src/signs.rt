@@ -51,7 +51,7 @@ pub fn sign_of(bytes: &[u8]) -> Option<Sign>
     }
 }
 
-/// Reads the sign at a place, the longest one.
+/// Reads the sign at an offset, the longest one.
 pub(crate) fn sign_at(text: &[u8], at: usize) -> Result<Part, LexKind>
     requires size { length text.now < 2 ^ 32 }
     requires within { at < length text.now }

@@ -9,7 +9,7 @@ use crate::fault::LexKind;
 use crate::part::Part;
 use crate::token::TokenKind;
 
-/// The place of the next quote from a place on that isn't escaped.
+/// The offset of the next quote that isn't escaped, looked for from an offset on.
 fn text_end(text: &[u8], from: usize, quote: u8) -> Option<usize>
     requires within { from ≤ length text.now }
     requires quote { IsTrue (is_quote_byte quote) }
@@ -30,7 +30,7 @@ fn text_end(text: &[u8], from: usize, quote: u8) -> Option<usize>
     None
 }
 
-/// Reads the text whose first quote stands at a place.
+/// Reads the text whose first quote is at an offset.
 pub(crate) fn text_at(text: &[u8], at: usize) -> Result<Part, LexKind>
     requires size { length text.now < 2 ^ 32 }
     requires within { at < length text.now }

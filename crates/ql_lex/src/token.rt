@@ -1,4 +1,4 @@
-//! The tokens of a text: a kind, the bytes as they stand there, and their place. A token borrows the text and copies nothing.
+//! The tokens of a text: a kind, the bytes as the text has them, and their offset. A token borrows the text and copies nothing.
 
 /// What a token is.
 #[derive(Clone, Copy, PartialEq, Eq)]

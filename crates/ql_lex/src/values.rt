@@ -1,4 +1,4 @@
-//! What a token stands for: the name without its backquotes or `@@`, the number, and the text with its escapes resolved
+//! What a token means: the name without its backquotes or `@@`, the number, and the text with its escapes resolved
 //! (`\n`, `\r`, `\t`, `\0`, and any other byte for itself). Only a text is copied, into a buffer that the caller hands in.
 
 ghost use Rattle.std.specs.Prelude.{◌≡◌, ◌++◌, ℕ, List, OnOk, OnErr};
@@ -32,7 +32,7 @@ pub fn number_of(digits: &[u8]) -> u64
     value_of(digits).unwrap()
 }
 
-/// What `\` and this byte stand for.
+/// The byte that `\` and this byte mean.
 fn escaped(byte: u8) -> u8
     ensures { result ≡ escaped_byte byte }
 {

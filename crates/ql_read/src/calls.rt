@@ -15,7 +15,7 @@ ghost use Rattle.token_grammar.specs.Reading.{ReadsPart};
 ghost use Rattle.ql_grammar.specs.Selects.{IsCount, IsExpr};
 ghost use Rattle.ql_grammar.specs.steps.Selecting.{IsCounted, count_expr};
 
-use crate::cursor::Cursor;
+use crate::cursor::TokenCursor;
 use ql_grammar::Keyword;
 use ql_lex::Sign;
 use ql_tree::SelectExpr;
@@ -23,7 +23,7 @@ use srch_base::{Name, Or};
 use std::alloc::Global;
 
 /// Reads a function's keyword and a name in parentheses.
-fn argument(alloc: Global, input: &mut Cursor<'_>, of: Keyword) -> Result<Name, Or<u32>>
+fn argument(alloc: Global, input: &mut TokenCursor<'_>, of: Keyword) -> Result<Name, Or<u32>>
     ensures { ReadsPart sphinxql (keyword of ⨾ enclosed name) [] (λ name. IsKeyword of then IsEnclosed (IsName name)) input.old result input.new }
 {
     input.keyword(of)?;
@@ -34,7 +34,7 @@ fn argument(alloc: Global, input: &mut Cursor<'_>, of: Keyword) -> Result<Name, 
 }
 
 /// Reads a function's keyword and empty parentheses.
-pub(crate) fn no_argument(input: &mut Cursor<'_>, of: Keyword) -> Result<(), Or<u32>>
+pub(crate) fn no_argument(input: &mut TokenCursor<'_>, of: Keyword) -> Result<(), Or<u32>>
     ensures { ReadsPart sphinxql (keyword of ⨾ parens) [] (λ _. IsKeyword of then AreParens) input.old result input.new }
 {
     input.keyword(of)?;
@@ -44,7 +44,7 @@ pub(crate) fn no_argument(input: &mut Cursor<'_>, of: Keyword) -> Result<(), Or<
 }
 
 /// Reads `COUNT(*)`.
-pub(crate) fn count_all(input: &mut Cursor<'_>) -> Result<(), Or<u32>>
+pub(crate) fn count_all(input: &mut TokenCursor<'_>) -> Result<(), Or<u32>>
     ensures { ReadsPart sphinxql count [] (λ _. IsCount) input.old result input.new }
 {
     input.keyword(Keyword::Count)?;
@@ -55,7 +55,7 @@ pub(crate) fn count_all(input: &mut Cursor<'_>) -> Result<(), Or<u32>>
 }
 
 /// Reads `*`, or `DISTINCT` and a name.
-fn counted(alloc: Global, input: &mut Cursor<'_>) -> Result<Option<Name>, Or<u32>>
+fn counted(alloc: Global, input: &mut TokenCursor<'_>) -> Result<Option<Name>, Or<u32>>
     ensures { ReadsPart sphinxql counted [] IsCounted input.old result input.new }
 {
     if input.takes_sign(Sign::Star) {
@@ -76,7 +76,7 @@ fn count_expr(name: Option<Name>) -> SelectExpr
 }
 
 /// Reads a count.
-fn counting(alloc: Global, input: &mut Cursor<'_>) -> Result<Option<Name>, Or<u32>>
+fn counting(alloc: Global, input: &mut TokenCursor<'_>) -> Result<Option<Name>, Or<u32>>
     ensures { ReadsPart sphinxql (keyword keywords.Count ⨾ enclosed counted) [] (λ name. IsKeyword keywords.Count then IsEnclosed (IsCounted name)) input.old result input.new }
 {
     input.keyword(Keyword::Count)?;
@@ -87,7 +87,7 @@ fn counting(alloc: Global, input: &mut Cursor<'_>) -> Result<Option<Name>, Or<u3
 }
 
 /// Reads a call of a function, or a name.
-pub(crate) fn expr(alloc: Global, input: &mut Cursor<'_>) -> Result<SelectExpr, Or<u32>>
+pub(crate) fn expr(alloc: Global, input: &mut TokenCursor<'_>) -> Result<SelectExpr, Or<u32>>
     ensures { ReadsPart sphinxql expr (the_sign signs.OpenParen ∷ []) IsExpr input.old result input.new }
 {
     if input.is_followed(Keyword::Count, Sign::OpenParen) {

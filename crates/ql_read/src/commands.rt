@@ -10,14 +10,14 @@ ghost use Rattle.token_grammar.specs.Reading.{ReadsPart};
 ghost use Rattle.ql_grammar.specs.Statements.{IsStatement};
 ghost use Rattle.ql_grammar.specs.steps.Stating.{IsShown};
 
-use crate::cursor::Cursor;
+use crate::cursor::TokenCursor;
 use ql_grammar::Keyword;
 use ql_tree::Statement;
 use srch_base::Or;
 use std::alloc::Global;
 
 /// Reads a FLUSH.
-pub(crate) fn flush(alloc: Global, input: &mut Cursor<'_>) -> Result<Statement, Or<u32>>
+pub(crate) fn flush(alloc: Global, input: &mut TokenCursor<'_>) -> Result<Statement, Or<u32>>
     ensures { ReadsPart sphinxql flush [] IsStatement input.old result input.new }
 {
     input.keyword(Keyword::Flush)?;
@@ -29,7 +29,7 @@ pub(crate) fn flush(alloc: Global, input: &mut Cursor<'_>) -> Result<Statement, 
 }
 
 /// Reads what follows the keyword SHOW.
-fn shown(alloc: Global, input: &mut Cursor<'_>) -> Result<Statement, Or<u32>>
+fn shown(alloc: Global, input: &mut TokenCursor<'_>) -> Result<Statement, Or<u32>>
     ensures { ReadsPart sphinxql shown [] IsShown input.old result input.new }
 {
     if input.takes_keyword(Keyword::Index) {
@@ -54,7 +54,7 @@ fn shown(alloc: Global, input: &mut Cursor<'_>) -> Result<Statement, Or<u32>>
 }
 
 /// Reads a SHOW.
-pub(crate) fn show(alloc: Global, input: &mut Cursor<'_>) -> Result<Statement, Or<u32>>
+pub(crate) fn show(alloc: Global, input: &mut TokenCursor<'_>) -> Result<Statement, Or<u32>>
     ensures { ReadsPart sphinxql show [] IsStatement input.old result input.new }
 {
     input.keyword(Keyword::Show)?;
@@ -63,7 +63,7 @@ pub(crate) fn show(alloc: Global, input: &mut Cursor<'_>) -> Result<Statement, O
 }
 
 /// Reads a BEGIN.
-pub(crate) fn begin(input: &mut Cursor<'_>) -> Result<Statement, Or<u32>>
+pub(crate) fn begin(input: &mut TokenCursor<'_>) -> Result<Statement, Or<u32>>
     ensures { ReadsPart sphinxql (keyword keywords.Begin) [] IsStatement input.old result input.new }
 {
     input.keyword(Keyword::Begin)?;
@@ -71,7 +71,7 @@ pub(crate) fn begin(input: &mut Cursor<'_>) -> Result<Statement, Or<u32>>
 }
 
 /// Reads a START TRANSACTION.
-pub(crate) fn start_transaction(input: &mut Cursor<'_>) -> Result<Statement, Or<u32>>
+pub(crate) fn start_transaction(input: &mut TokenCursor<'_>) -> Result<Statement, Or<u32>>
     ensures { ReadsPart sphinxql (two_keywords keywords.Start keywords.Transaction) [] IsStatement input.old result input.new }
 {
     input.two_keywords(Keyword::Start, Keyword::Transaction)?;
@@ -79,7 +79,7 @@ pub(crate) fn start_transaction(input: &mut Cursor<'_>) -> Result<Statement, Or<
 }
 
 /// Reads a COMMIT.
-pub(crate) fn commit(input: &mut Cursor<'_>) -> Result<Statement, Or<u32>>
+pub(crate) fn commit(input: &mut TokenCursor<'_>) -> Result<Statement, Or<u32>>
     ensures { ReadsPart sphinxql (keyword keywords.Commit) [] IsStatement input.old result input.new }
 {
     input.keyword(Keyword::Commit)?;
@@ -87,7 +87,7 @@ pub(crate) fn commit(input: &mut Cursor<'_>) -> Result<Statement, Or<u32>>
 }
 
 /// Reads a ROLLBACK.
-pub(crate) fn rollback(input: &mut Cursor<'_>) -> Result<Statement, Or<u32>>
+pub(crate) fn rollback(input: &mut TokenCursor<'_>) -> Result<Statement, Or<u32>>
     ensures { ReadsPart sphinxql (keyword keywords.Rollback) [] IsStatement input.old result input.new }
 {
     input.keyword(Keyword::Rollback)?;
@@ -95,7 +95,7 @@ pub(crate) fn rollback(input: &mut Cursor<'_>) -> Result<Statement, Or<u32>>
 }
 
 /// Reads an OPTIMIZE INDEX.
-pub(crate) fn optimize(alloc: Global, input: &mut Cursor<'_>) -> Result<Statement, Or<u32>>
+pub(crate) fn optimize(alloc: Global, input: &mut TokenCursor<'_>) -> Result<Statement, Or<u32>>
     ensures { ReadsPart sphinxql (two_keywords keywords.Optimize keywords.Index ⨾ name) [] IsStatement input.old result input.new }
 {
     input.two_keywords(Keyword::Optimize, Keyword::Index)?;
@@ -103,7 +103,7 @@ pub(crate) fn optimize(alloc: Global, input: &mut Cursor<'_>) -> Result<Statemen
 }
 
 /// Reads a TRUNCATE RTINDEX.
-pub(crate) fn truncate(alloc: Global, input: &mut Cursor<'_>) -> Result<Statement, Or<u32>>
+pub(crate) fn truncate(alloc: Global, input: &mut TokenCursor<'_>) -> Result<Statement, Or<u32>>
     ensures { ReadsPart sphinxql (two_keywords keywords.Truncate keywords.RtIndex ⨾ name) [] IsStatement input.old result input.new }
 {
     input.two_keywords(Keyword::Truncate, Keyword::RtIndex)?;
@@ -111,7 +111,7 @@ pub(crate) fn truncate(alloc: Global, input: &mut Cursor<'_>) -> Result<Statemen
 }
 
 /// Reads a DESCRIBE.
-pub(crate) fn describe(alloc: Global, input: &mut Cursor<'_>) -> Result<Statement, Or<u32>>
+pub(crate) fn describe(alloc: Global, input: &mut TokenCursor<'_>) -> Result<Statement, Or<u32>>
     ensures { ReadsPart sphinxql (keyword keywords.Describe ⨾ name) [] IsStatement input.old result input.new }
 {
     input.keyword(Keyword::Describe)?;

@@ -7,14 +7,14 @@ ghost use Rattle.token_grammar.specs.Reading.{ReadsPart};
 ghost use Rattle.ql_read.specs.steps.Selecting.{IsNextComparison};
 ghost use Rattle.ql_grammar.specs.Selects.{IsComparison};
 
-use crate::cursor::Cursor;
+use crate::cursor::TokenCursor;
 use ql_grammar::Kind;
 use ql_lex::Sign;
 use ql_tree::Comparison;
 use srch_base::Or;
 
 /// The comparison that is next.
-fn next_comparison(input: &Cursor<'_>) -> Option<Comparison>
+fn next_comparison(input: &TokenCursor<'_>) -> Option<Comparison>
     ensures { IsNextComparison result input.now }
 {
     match input.kind() {
@@ -29,7 +29,7 @@ fn next_comparison(input: &Cursor<'_>) -> Option<Comparison>
 }
 
 /// Reads a comparison.
-pub(crate) fn comparison(input: &mut Cursor<'_>) -> Result<Comparison, Or<u32>>
+pub(crate) fn comparison(input: &mut TokenCursor<'_>) -> Result<Comparison, Or<u32>>
     ensures { ReadsPart sphinxql comparison [] IsComparison input.old result input.new }
 {
     match next_comparison(input) {

@@ -13,7 +13,7 @@ ghost use Rattle.token_grammar.specs.Reading.{ReadsPart};
 ghost use Rattle.ql_grammar.specs.Selects.{IsCond, AreConds};
 
 use crate::comparisons::comparison;
-use crate::cursor::Cursor;
+use crate::cursor::TokenCursor;
 use crate::part::{Part, Whole, enclosed};
 use ql_grammar::Keyword;
 use ql_lex::Sign;
@@ -22,7 +22,7 @@ use srch_base::{Items, Or, Text};
 use std::alloc::Global;
 
 /// Reads `MATCH(text)`.
-fn matched(alloc: Global, input: &mut Cursor<'_>) -> Result<Text, Or<u32>>
+fn matched(alloc: Global, input: &mut TokenCursor<'_>) -> Result<Text, Or<u32>>
     ensures { ReadsPart sphinxql (keyword keywords.Match ⨾ enclosed text) [] (λ query. IsKeyword keywords.Match then IsEnclosed (IsText query)) input.old result input.new }
 {
     input.keyword(Keyword::Match)?;
@@ -33,7 +33,7 @@ fn matched(alloc: Global, input: &mut Cursor<'_>) -> Result<Text, Or<u32>>
 }
 
 /// Reads `BETWEEN num AND num`.
-fn between(alloc: Global, input: &mut Cursor<'_>) -> Result<(i128, i128), Or<u32>>
+fn between(alloc: Global, input: &mut TokenCursor<'_>) -> Result<(i128, i128), Or<u32>>
     ensures { ReadsPart sphinxql (keyword keywords.Between ⨾ whole ⨾ keyword keywords.And ⨾ whole) [] (λ pair. IsKeyword keywords.Between then IsWhole pair.0 then IsKeyword keywords.And then IsWhole pair.1) input.old result input.new }
 {
     input.keyword(Keyword::Between)?;
@@ -44,7 +44,7 @@ fn between(alloc: Global, input: &mut Cursor<'_>) -> Result<(i128, i128), Or<u32
 }
 
 /// Reads `IN (num, ..)`.
-fn among(alloc: Global, input: &mut Cursor<'_>) -> Result<Items<i128>, Or<u32>>
+fn among(alloc: Global, input: &mut TokenCursor<'_>) -> Result<Items<i128>, Or<u32>>
     ensures { ReadsPart sphinxql (keyword keywords.In ⨾ wholes) [] (λ values. IsKeyword keywords.In then IsEnclosed (AreListed IsComma IsWhole values)) input.old result input.new }
 {
     input.keyword(Keyword::In)?;
@@ -52,7 +52,7 @@ fn among(alloc: Global, input: &mut Cursor<'_>) -> Result<Items<i128>, Or<u32>>
     Ok(values)
 }
 
-fn cond(alloc: Global, input: &mut Cursor<'_>) -> Result<Cond, Or<u32>>
+fn cond(alloc: Global, input: &mut TokenCursor<'_>) -> Result<Cond, Or<u32>>
     ensures { ReadsPart sphinxql cond [] IsCond input.old result input.new }
 {
     if input.is_keyword(Keyword::Match) {
@@ -85,7 +85,7 @@ fn cond(alloc: Global, input: &mut Cursor<'_>) -> Result<Cond, Or<u32>>
 }
 
 /// Reads one condition or more, with `AND` between them.
-fn all_conds(alloc: Global, input: &mut Cursor<'_>) -> Result<Items<Cond>, Or<u32>>
+fn all_conds(alloc: Global, input: &mut TokenCursor<'_>) -> Result<Items<Cond>, Or<u32>>
     ensures { ReadsPart sphinxql (listed (the_keyword keywords.And) cond) (the_keyword keywords.And ∷ []) (AreListed (IsKeyword keywords.And) IsCond) input.old result input.new }
 {
     let mut conds = Vec::new(alloc);
@@ -97,7 +97,7 @@ fn all_conds(alloc: Global, input: &mut Cursor<'_>) -> Result<Items<Cond>, Or<u3
 }
 
 /// Reads WHERE, if it is there.
-pub(crate) fn conds(alloc: Global, input: &mut Cursor<'_>) -> Result<Items<Cond>, Or<u32>>
+pub(crate) fn conds(alloc: Global, input: &mut TokenCursor<'_>) -> Result<Items<Cond>, Or<u32>>
     ensures { ReadsPart sphinxql conds (the_keyword keywords.Where ∷ the_keyword keywords.And ∷ []) (AreGiven AreConds) input.old result input.new }
 {
     if input.takes_keyword(Keyword::Where) {

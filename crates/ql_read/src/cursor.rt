@@ -1,5 +1,5 @@
 //! A cursor over the tokens of a text, of which the last is the end. Tests look at the next token, or at two; takers go on
-//! after it. A taker that doesn't find its token answers the place of the next one and takes nothing.
+//! after it. A taker that doesn't find its token answers the offset of the next one and takes nothing.
 //! No token but a name or a text is copied.
 
 ghost use Rattle.std.specs.Prelude.{◌≡◌, ◌≢◌, [], ◌∷◌, IsTrue, length};
@@ -23,13 +23,13 @@ use srch_base::{Name, Or, Text};
 use std::alloc::Global;
 use std::marker::Model;
 
-/// The tokens of a text from a place on, of which the last is the end.
+/// The tokens of a text that are left, of which the last is the end.
 #[derive(Drop)]
-pub struct Cursor<'a> {
+pub(crate) struct TokenCursor<'a> {
     rest: &'a [Token<'a>],
 }
 
-impl<'a> Model for Cursor<'a> {
+impl<'a> Model for TokenCursor<'a> {
     ghost use Rattle.std.specs.Prelude.{List};
     ghost use Rattle.ql_lex.specs.Tokens.{Lexeme, AreLexemes};
     ghost use Rattle.ql_grammar.specs.Tokens.{lexemes};
@@ -73,23 +73,23 @@ fn is_the_sign(kind: Kind, sign: Sign) -> bool
     }
 }
 
-impl<'a> Cursor<'a> {
-    pub fn new(tokens: &'a [Token<'a>]) -> Self
+impl<'a> TokenCursor<'a> {
+    pub(crate) fn new(tokens: &'a [Token<'a>]) -> Self
         requires { AreLexemes (lexemes tokens.now) }
         ensures { result ≡ lexemes tokens.now }
     {
-        Cursor { rest: tokens }
+        TokenCursor { rest: tokens }
     }
 
     /// What the next token is. At the end it is the end.
-    pub fn kind(&self) -> Kind
+    pub(crate) fn kind(&self) -> Kind
         ensures { IsNext result self.now }
     {
         kind_of(&self.rest[0])
     }
 
     /// Goes on after the next token.
-    pub fn skip(&mut self) -> &'a Token<'a>
+    pub(crate) fn skip(&mut self) -> &'a Token<'a>
         requires { first_kind self.old ≢ kinds.End }
         ensures next { self.old ≡ lexeme_of result.now ∷ self.new }
         ensures lexeme { IsLexeme result.now.kind result.now.text.now }
@@ -99,15 +99,15 @@ impl<'a> Cursor<'a> {
         &rest[0]
     }
 
-    /// The place of the next token.
-    pub fn place(&self) -> u32
+    /// The offset of the next token.
+    pub(crate) fn place(&self) -> u32
         ensures { result ≡ first_place sphinxql self.now }
     {
         self.rest[0].at
     }
 
     /// Whether a keyword is next.
-    pub fn is_keyword(&self, keyword: Keyword) -> bool
+    pub(crate) fn is_keyword(&self, keyword: Keyword) -> bool
         ensures { IsNextOf sphinxql (the_keyword keyword) self.now result }
     {
         match self.kind() {
@@ -117,14 +117,14 @@ impl<'a> Cursor<'a> {
     }
 
     /// Whether a sign is next.
-    pub fn is_sign(&self, sign: Sign) -> bool
+    pub(crate) fn is_sign(&self, sign: Sign) -> bool
         ensures { IsNextOf sphinxql (the_sign sign) self.now result }
     {
         is_the_sign(self.kind(), sign)
     }
 
     /// Takes a keyword.
-    pub fn keyword(&mut self, keyword: Keyword) -> Result<(), Or<u32>>
+    pub(crate) fn keyword(&mut self, keyword: Keyword) -> Result<(), Or<u32>>
         ensures { ReadsPart sphinxql (one (the_keyword keyword)) [] (λ _. IsKeyword keyword) self.old result self.new }
     {
         if self.is_keyword(keyword) {
@@ -136,7 +136,7 @@ impl<'a> Cursor<'a> {
     }
 
     /// Takes a sign.
-    pub fn sign(&mut self, sign: Sign) -> Result<(), Or<u32>>
+    pub(crate) fn sign(&mut self, sign: Sign) -> Result<(), Or<u32>>
         ensures { ReadsPart sphinxql (one (the_sign sign)) [] (λ _. IsSign sign) self.old result self.new }
     {
         if self.is_sign(sign) {
@@ -148,7 +148,7 @@ impl<'a> Cursor<'a> {
     }
 
     /// Takes a sign, if it is the next token.
-    pub fn takes_sign(&mut self, sign: Sign) -> bool
+    pub(crate) fn takes_sign(&mut self, sign: Sign) -> bool
         ensures { TakesIf sphinxql (the_sign sign) (IsSign sign) self.old result self.new }
     {
         let found = self.is_sign(sign);
@@ -159,7 +159,7 @@ impl<'a> Cursor<'a> {
     }
 
     /// Takes two keywords in a row.
-    pub fn two_keywords(&mut self, first: Keyword, second: Keyword) -> Result<(), Or<u32>>
+    pub(crate) fn two_keywords(&mut self, first: Keyword, second: Keyword) -> Result<(), Or<u32>>
         ensures { ReadsPart sphinxql (two_keywords first second) [] (λ _. AreKeywords first second) self.old result self.new }
     {
         self.keyword(first)?;
@@ -168,7 +168,7 @@ impl<'a> Cursor<'a> {
     }
 
     /// Takes a keyword, if it is the next token.
-    pub fn takes_keyword(&mut self, keyword: Keyword) -> bool
+    pub(crate) fn takes_keyword(&mut self, keyword: Keyword) -> bool
         ensures { TakesIf sphinxql (the_keyword keyword) (IsKeyword keyword) self.old result self.new }
     {
         let found = self.is_keyword(keyword);
@@ -190,7 +190,7 @@ impl<'a> Cursor<'a> {
     }
 
     /// Whether a keyword is next, and a sign after it.
-    pub fn is_followed(&self, keyword: Keyword, sign: Sign) -> bool
+    pub(crate) fn is_followed(&self, keyword: Keyword, sign: Sign) -> bool
         ensures { IsFollowed sphinxql (the_keyword keyword) (the_sign sign) self.now result }
     {
         if self.is_keyword(keyword) {
@@ -201,7 +201,7 @@ impl<'a> Cursor<'a> {
     }
 
     /// Whether a name is next. A keyword that isn't reserved is one.
-    pub fn is_name(&self) -> bool
+    pub(crate) fn is_name(&self) -> bool
         ensures { IsNextOf sphinxql any_name self.now result }
     {
         match self.kind() {
@@ -223,7 +223,7 @@ impl<'a> Cursor<'a> {
     }
 
     /// Whether the end is next. Nothing stands after it.
-    pub fn is_end(&self) -> bool
+    pub(crate) fn is_end(&self) -> bool
         ensures end { IsNextOf sphinxql the_end self.now result }
         ensures last { IsTrue result → length self.now ≡ 1 }
     {
@@ -234,7 +234,7 @@ impl<'a> Cursor<'a> {
     }
 
     /// Whether a token is next with which a statement begins.
-    pub fn begins_statement(&self) -> bool
+    pub(crate) fn begins_statement(&self) -> bool
         ensures { IsStart self.now result }
     {
         match self.kind() {
@@ -244,7 +244,7 @@ impl<'a> Cursor<'a> {
     }
 
     /// Whether a number is next.
-    pub fn is_number(&self) -> bool
+    pub(crate) fn is_number(&self) -> bool
         ensures { IsNextOf sphinxql a_number self.now result }
     {
         match self.kind() {
@@ -254,7 +254,7 @@ impl<'a> Cursor<'a> {
     }
 
     /// Whether a text is next.
-    pub fn is_text(&self) -> bool
+    pub(crate) fn is_text(&self) -> bool
         ensures { IsNextOf sphinxql a_text self.now result }
     {
         match self.kind() {
@@ -264,7 +264,7 @@ impl<'a> Cursor<'a> {
     }
 
     /// Whether a system variable is next.
-    pub fn is_variable(&self) -> bool
+    pub(crate) fn is_variable(&self) -> bool
         ensures { IsNextOf sphinxql a_sysvar self.now result }
     {
         match self.kind() {
@@ -274,7 +274,7 @@ impl<'a> Cursor<'a> {
     }
 
     /// Takes a name.
-    pub fn name(&mut self, alloc: Global) -> Result<Name, Or<u32>>
+    pub(crate) fn name(&mut self, alloc: Global) -> Result<Name, Or<u32>>
         ensures { ReadsPart sphinxql name [] IsName self.old result self.new }
     {
         if self.is_name() {
@@ -286,7 +286,7 @@ impl<'a> Cursor<'a> {
     }
 
     /// Takes a name with which no other form of SET begins.
-    pub fn target_name(&mut self, alloc: Global) -> Result<Name, Or<u32>>
+    pub(crate) fn target_name(&mut self, alloc: Global) -> Result<Name, Or<u32>>
         ensures { ReadsPart sphinxql target_name [] IsTargetName self.old result self.new }
     {
         if self.is_target_name() {
@@ -298,7 +298,7 @@ impl<'a> Cursor<'a> {
     }
 
     /// Takes a system variable, by its name.
-    pub fn variable(&mut self, alloc: Global) -> Result<Name, Or<u32>>
+    pub(crate) fn variable(&mut self, alloc: Global) -> Result<Name, Or<u32>>
         ensures { ReadsPart sphinxql sysvar [] IsVariable self.old result self.new }
     {
         if self.is_variable() {
@@ -310,7 +310,7 @@ impl<'a> Cursor<'a> {
     }
 
     /// Takes a number.
-    pub fn number(&mut self) -> Result<u64, Or<u32>>
+    pub(crate) fn number(&mut self) -> Result<u64, Or<u32>>
         ensures { ReadsPart sphinxql number [] IsNumber self.old result self.new }
     {
         if self.is_number() {
@@ -322,7 +322,7 @@ impl<'a> Cursor<'a> {
     }
 
     /// Takes a text, with its escapes resolved.
-    pub fn text(&mut self, alloc: Global) -> Result<Text, Or<u32>>
+    pub(crate) fn text(&mut self, alloc: Global) -> Result<Text, Or<u32>>
         ensures { ReadsPart sphinxql text [] IsText self.old result self.new }
     {
         if self.is_text() {

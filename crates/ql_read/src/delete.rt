@@ -6,7 +6,7 @@ ghost use Rattle.ql_grammar.specs.steps.Grammar.{ids, delete};
 ghost use Rattle.token_grammar.specs.Reading.{ReadsPart};
 ghost use Rattle.ql_grammar.specs.Statements.{AreIds, IsStatement};
 
-use crate::cursor::Cursor;
+use crate::cursor::TokenCursor;
 use crate::part::{Number, enclosed};
 use ql_grammar::Keyword;
 use ql_lex::Sign;
@@ -14,7 +14,7 @@ use ql_tree::{Ids, Statement};
 use srch_base::Or;
 use std::alloc::Global;
 
-fn ids(alloc: Global, input: &mut Cursor<'_>) -> Result<Ids, Or<u32>>
+fn ids(alloc: Global, input: &mut TokenCursor<'_>) -> Result<Ids, Or<u32>>
     ensures { ReadsPart sphinxql ids [] AreIds input.old result input.new }
 {
     if input.takes_sign(Sign::Equal) {
@@ -25,7 +25,7 @@ fn ids(alloc: Global, input: &mut Cursor<'_>) -> Result<Ids, Or<u32>>
 }
 
 /// Reads a DELETE.
-pub(crate) fn delete(alloc: Global, input: &mut Cursor<'_>) -> Result<Statement, Or<u32>>
+pub(crate) fn delete(alloc: Global, input: &mut TokenCursor<'_>) -> Result<Statement, Or<u32>>
     ensures { ReadsPart sphinxql delete [] IsStatement input.old result input.new }
 {
     input.two_keywords(Keyword::Delete, Keyword::From)?;

@@ -12,7 +12,7 @@ ghost use Rattle.token_grammar.specs.Values.{IsGiven};
 ghost use Rattle.token_grammar.specs.Reading.{ReadsPart};
 ghost use Rattle.ql_grammar.specs.Statements.{AreColumns, IsPut, IsRow, IsStatement, IsVal};
 
-use crate::cursor::Cursor;
+use crate::cursor::TokenCursor;
 use crate::part::{AnyName, Part, Whole, enclosed, listed};
 use ql_grammar::Keyword;
 use ql_lex::Sign;
@@ -32,7 +32,7 @@ impl Part for Value {
 
     ghost is = { IsVal };
 
-    fn read(alloc: Global, input: &mut Cursor<'_>) -> Result<Val, Or<u32>> {
+    fn read(alloc: Global, input: &mut TokenCursor<'_>) -> Result<Val, Or<u32>> {
         if input.is_text() {
             return Ok(Val::Text(input.text(alloc)?));
         }
@@ -53,13 +53,13 @@ impl Part for Row {
 
     ghost is = { IsRow };
 
-    fn read(alloc: Global, input: &mut Cursor<'_>) -> Result<Items<Val>, Or<u32>> {
+    fn read(alloc: Global, input: &mut TokenCursor<'_>) -> Result<Items<Val>, Or<u32>> {
         enclosed::<Value>(alloc, input)
     }
 }
 
-/// Reads `INSERT` or `REPLACE`, and tells whether it is the second.
-fn replaces(input: &mut Cursor<'_>) -> Result<bool, Or<u32>>
+/// Reads `INSERT` or `REPLACE`, and answers whether it is the second.
+fn replaces(input: &mut TokenCursor<'_>) -> Result<bool, Or<u32>>
     ensures { ReadsPart sphinxql (keyword keywords.Replace ∣ keyword keywords.Insert) [] IsPut input.old result input.new }
 {
     if input.takes_keyword(Keyword::Replace) {
@@ -70,7 +70,7 @@ fn replaces(input: &mut Cursor<'_>) -> Result<bool, Or<u32>>
 }
 
 /// Reads the names of the columns, if they are given.
-fn columns(alloc: Global, input: &mut Cursor<'_>) -> Result<Option<Items<Name>>, Or<u32>>
+fn columns(alloc: Global, input: &mut TokenCursor<'_>) -> Result<Option<Items<Name>>, Or<u32>>
     ensures { ReadsPart sphinxql (optional (enclosed (listed comma name))) (the_sign signs.OpenParen ∷ []) (IsGiven AreColumns) input.old result input.new }
 {
     if input.is_sign(Sign::OpenParen) {
@@ -81,7 +81,7 @@ fn columns(alloc: Global, input: &mut Cursor<'_>) -> Result<Option<Items<Name>>,
 }
 
 /// Reads an INSERT or a REPLACE.
-pub(crate) fn insert(alloc: Global, input: &mut Cursor<'_>) -> Result<Statement, Or<u32>>
+pub(crate) fn insert(alloc: Global, input: &mut TokenCursor<'_>) -> Result<Statement, Or<u32>>
     ensures { ReadsPart sphinxql insert (the_sign signs.Comma ∷ []) IsStatement input.old result input.new }
 {
     let replace = replaces(input)?;

@@ -7,7 +7,7 @@ ghost use Rattle.ql_grammar.specs.Packets.{Parses};
 ghost use Rattle.ql_read.specs.steps.PacketReading.{ReadsPacket, syntax_error};
 ghost use Rattle.ql_grammar.specs.Tokens.{lexemes};
 
-use crate::cursor::Cursor;
+use crate::cursor::TokenCursor;
 use crate::statements::statement;
 use ql_grammar::{ParseFault, ParseKind};
 use ql_lex::{Sign, Token};
@@ -16,7 +16,7 @@ use srch_base::{Items, Or};
 use std::alloc::Global;
 
 /// Reads statements with `;` between them up to the end; none, where one more begins than are allowed.
-fn packet(alloc: Global, input: &mut Cursor<'_>) -> Result<Option<Items<Statement>>, Or<u32>>
+fn packet(alloc: Global, input: &mut TokenCursor<'_>) -> Result<Option<Items<Statement>>, Or<u32>>
     ensures { ReadsPacket input.old result input.new }
 {
     let mut list = Vec::new(alloc);
@@ -39,7 +39,7 @@ fn packet(alloc: Global, input: &mut Cursor<'_>) -> Result<Option<Items<Statemen
     Err(Or::Fault(input.place()))
 }
 
-/// The fault of a syntax error's place.
+/// The fault of a syntax error's offset.
 fn syntax(error: Or<u32>) -> Or<ParseFault>
     ensures { result ≡ syntax_error error }
 {
@@ -60,7 +60,7 @@ pub fn parse(alloc: Global, tokens: &[Token<'_>]) -> Result<Vec<Statement>, Or<P
     requires { AreLexemes (lexemes tokens.now) }
     ensures { Parses (lexemes tokens.now) result }
 {
-    let mut input = Cursor::new(tokens);
+    let mut input = TokenCursor::new(tokens);
     match packet(alloc, &mut input) {
         Ok(Some(list)) => {
             let statements = list.into_vec();

@@ -13,13 +13,13 @@ ghost use Rattle.token_grammar.specs.Values.{AreListed};
 ghost use Rattle.token_grammar.specs.Reading.{ReadsPart};
 ghost use Rattle.token_grammar.specs.Firsts.{may_follow};
 
-use crate::cursor::Cursor;
+use crate::cursor::TokenCursor;
 use ql_lex::Sign;
 use srch_base::{Items, Name, Or};
 use std::alloc::Global;
 
 /// A part of the grammar whose texts stand for values.
-pub trait Part {
+pub(crate) trait Part {
     ghost use Rattle.std.specs.Prelude.{List};
     ghost use Rattle.ql_lex.specs.Tokens.{Lexeme};
     ghost use Rattle.ql_grammar.specs.Classes.{Class};
@@ -38,12 +38,12 @@ pub trait Part {
     ghost is: { Self.Value → List Lexeme → Type 0 };
 
     /// Reads the part, as far as it goes.
-    fn read(alloc: Global, input: &mut Cursor<'_>) -> Result<Self::Value, Or<u32>>
+    fn read(alloc: Global, input: &mut TokenCursor<'_>) -> Result<Self::Value, Or<u32>>
         ensures { ReadsPart sphinxql grammar goes_on is input.old result input.new };
 }
 
 /// `n`
-pub struct Number;
+pub(crate) struct Number;
 
 impl Part for Number {
     type Value = u64;
@@ -54,7 +54,7 @@ impl Part for Number {
 
     ghost is = { IsNumber };
 
-    fn read(_: Global, input: &mut Cursor<'_>) -> Result<u64, Or<u32>> {
+    fn read(_: Global, input: &mut TokenCursor<'_>) -> Result<u64, Or<u32>> {
         input.number()
     }
 }
@@ -74,7 +74,7 @@ fn negative(n: u64) -> i128
 }
 
 /// A number, maybe after a `-`
-pub struct Whole;
+pub(crate) struct Whole;
 
 impl Part for Whole {
     type Value = i128;
@@ -85,7 +85,7 @@ impl Part for Whole {
 
     ghost is = { IsWhole };
 
-    fn read(_: Global, input: &mut Cursor<'_>) -> Result<i128, Or<u32>> {
+    fn read(_: Global, input: &mut TokenCursor<'_>) -> Result<i128, Or<u32>> {
         if input.takes_sign(Sign::Minus) {
             return Ok(negative(input.number()?));
         }
@@ -94,7 +94,7 @@ impl Part for Whole {
 }
 
 /// A name
-pub struct AnyName;
+pub(crate) struct AnyName;
 
 impl Part for AnyName {
     type Value = Name;
@@ -105,15 +105,15 @@ impl Part for AnyName {
 
     ghost is = { IsName };
 
-    fn read(alloc: Global, input: &mut Cursor<'_>) -> Result<Name, Or<u32>> {
+    fn read(alloc: Global, input: &mut TokenCursor<'_>) -> Result<Name, Or<u32>> {
         input.name(alloc)
     }
 }
 
 /// Reads one part or more, with a sign between them.
-pub fn listed<P: Part>(
+pub(crate) fn listed<P: Part>(
     alloc: Global,
-    input: &mut Cursor<'_>,
+    input: &mut TokenCursor<'_>,
     sign: Sign,
 ) -> Result<Items<P::Value>, Or<u32>>
     requires { may_follow sphinxql P.goes_on (repeated (the_sign sign) P.grammar) (the_sign sign ∷ P.goes_on) ≡ true }
@@ -128,7 +128,10 @@ pub fn listed<P: Part>(
 }
 
 /// Reads one part or more in parentheses, with commas between them.
-pub fn enclosed<P: Part>(alloc: Global, input: &mut Cursor<'_>) -> Result<Items<P::Value>, Or<u32>>
+pub(crate) fn enclosed<P: Part>(
+    alloc: Global,
+    input: &mut TokenCursor<'_>,
+) -> Result<Items<P::Value>, Or<u32>>
     requires more { may_follow sphinxql P.goes_on (repeated comma P.grammar) (comma ∷ P.goes_on) ≡ true }
     requires closes { may_follow sphinxql (comma ∷ P.goes_on) (sign signs.CloseParen) [] ≡ true }
     ensures { ReadsPart sphinxql (enclosed (listed comma P.grammar)) [] (λ v. IsEnclosed (AreListed IsComma P.is v)) input.old result input.new }

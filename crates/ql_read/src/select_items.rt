@@ -13,7 +13,7 @@ ghost use Rattle.ql_grammar.specs.steps.GoingOn.{item_goes_on};
 ghost use Rattle.ql_grammar.specs.Selects.{IsAlias, IsItem};
 
 use crate::calls::expr;
-use crate::cursor::Cursor;
+use crate::cursor::TokenCursor;
 use crate::part::Part;
 use ql_grammar::Keyword;
 use ql_lex::Sign;
@@ -22,7 +22,7 @@ use srch_base::{Name, Or};
 use std::alloc::Global;
 
 /// Reads an item's name in the answer, if it is there.
-fn alias(alloc: Global, input: &mut Cursor<'_>) -> Result<Option<Name>, Or<u32>>
+fn alias(alloc: Global, input: &mut TokenCursor<'_>) -> Result<Option<Name>, Or<u32>>
     ensures { ReadsPart sphinxql (optional alias) (the_keyword keywords.As ∷ any_name ∷ []) (IsGiven IsAlias) input.old result input.new }
 {
     if input.takes_keyword(Keyword::As) {
@@ -46,7 +46,7 @@ impl Part for Item {
 
     ghost is = { IsItem };
 
-    fn read(alloc: Global, input: &mut Cursor<'_>) -> Result<SelectItem, Or<u32>> {
+    fn read(alloc: Global, input: &mut TokenCursor<'_>) -> Result<SelectItem, Or<u32>> {
         if input.takes_sign(Sign::Star) {
             return Ok(SelectItem::All);
         }

@@ -15,7 +15,7 @@ ghost use Rattle.ql_grammar.specs.steps.GoingOn.{key_goes_on, limit_goes_on, fac
 ghost use Rattle.ql_grammar.specs.Selects.{IsHaving, IsHavingPart, IsSecond, IsLimit, IsFieldWeight, IsOptionValue, IsOption, AreOptions, IsFacetOrder, IsFacet, IsFaceted};
 
 use crate::comparisons::comparison;
-use crate::cursor::Cursor;
+use crate::cursor::TokenCursor;
 use crate::part::{Part, Whole, enclosed, listed};
 use crate::sorting::{group_key, group_sort};
 use ql_grammar::Keyword;
@@ -24,7 +24,7 @@ use ql_tree::{FacetPart, Having, LimitPart, OptionValue, SelectOption, SortKey};
 use srch_base::{Items, Name, Or};
 use std::alloc::Global;
 
-fn having_cond(alloc: Global, input: &mut Cursor<'_>) -> Result<Having, Or<u32>>
+fn having_cond(alloc: Global, input: &mut TokenCursor<'_>) -> Result<Having, Or<u32>>
     ensures { ReadsPart sphinxql having [] IsHaving input.old result input.new }
 {
     let left = group_sort(alloc, input)?;
@@ -34,7 +34,7 @@ fn having_cond(alloc: Global, input: &mut Cursor<'_>) -> Result<Having, Or<u32>>
 }
 
 /// Reads HAVING, if it is there.
-pub(crate) fn having(alloc: Global, input: &mut Cursor<'_>) -> Result<Option<Having>, Or<u32>>
+pub(crate) fn having(alloc: Global, input: &mut TokenCursor<'_>) -> Result<Option<Having>, Or<u32>>
     ensures { ReadsPart sphinxql having_part (the_keyword keywords.Having ∷ []) (IsGiven IsHavingPart) input.old result input.new }
 {
     if input.takes_keyword(Keyword::Having) {
@@ -43,7 +43,7 @@ pub(crate) fn having(alloc: Global, input: &mut Cursor<'_>) -> Result<Option<Hav
     Ok(None)
 }
 
-fn second_number(input: &mut Cursor<'_>) -> Result<Option<u64>, Or<u32>>
+fn second_number(input: &mut TokenCursor<'_>) -> Result<Option<u64>, Or<u32>>
     ensures { ReadsPart sphinxql (optional (one comma ⨾ number)) (comma ∷ []) (IsGiven IsSecond) input.old result input.new }
 {
     if input.takes_sign(Sign::Comma) {
@@ -53,7 +53,7 @@ fn second_number(input: &mut Cursor<'_>) -> Result<Option<u64>, Or<u32>>
 }
 
 /// Reads LIMIT, if it is there.
-pub(crate) fn limit(input: &mut Cursor<'_>) -> Result<Option<LimitPart>, Or<u32>>
+pub(crate) fn limit(input: &mut TokenCursor<'_>) -> Result<Option<LimitPart>, Or<u32>>
     ensures { ReadsPart sphinxql (optional limit) limit_goes_on (IsGiven IsLimit) input.old result input.new }
 {
     if input.takes_keyword(Keyword::Limit) {
@@ -76,7 +76,7 @@ impl Part for FieldWeight {
 
     ghost is = { IsFieldWeight };
 
-    fn read(alloc: Global, input: &mut Cursor<'_>) -> Result<(Name, u64), Or<u32>> {
+    fn read(alloc: Global, input: &mut TokenCursor<'_>) -> Result<(Name, u64), Or<u32>> {
         let field = input.name(alloc)?;
         input.sign(Sign::Equal)?;
         let weight = input.number()?;
@@ -84,7 +84,7 @@ impl Part for FieldWeight {
     }
 }
 
-fn option_value(alloc: Global, input: &mut Cursor<'_>) -> Result<OptionValue, Or<u32>>
+fn option_value(alloc: Global, input: &mut TokenCursor<'_>) -> Result<OptionValue, Or<u32>>
     ensures { ReadsPart sphinxql option_value [] IsOptionValue input.old result input.new }
 {
     if input.is_name() {
@@ -111,7 +111,7 @@ impl Part for OptionPart {
 
     ghost is = { IsOption };
 
-    fn read(alloc: Global, input: &mut Cursor<'_>) -> Result<SelectOption, Or<u32>> {
+    fn read(alloc: Global, input: &mut TokenCursor<'_>) -> Result<SelectOption, Or<u32>> {
         let name = input.name(alloc)?;
         input.sign(Sign::Equal)?;
         let value = option_value(alloc, input)?;
@@ -120,7 +120,10 @@ impl Part for OptionPart {
 }
 
 /// Reads OPTION, if it is there.
-pub(crate) fn options(alloc: Global, input: &mut Cursor<'_>) -> Result<Items<SelectOption>, Or<u32>>
+pub(crate) fn options(
+    alloc: Global,
+    input: &mut TokenCursor<'_>,
+) -> Result<Items<SelectOption>, Or<u32>>
     ensures { ReadsPart sphinxql options (the_keyword keywords.Option ∷ comma ∷ []) (AreGiven AreOptions) input.old result input.new }
 {
     if input.takes_keyword(Keyword::Option) {
@@ -130,7 +133,7 @@ pub(crate) fn options(alloc: Global, input: &mut Cursor<'_>) -> Result<Items<Sel
     Ok(Items::new(Vec::new(alloc)))
 }
 
-fn facet_order(alloc: Global, input: &mut Cursor<'_>) -> Result<Option<SortKey>, Or<u32>>
+fn facet_order(alloc: Global, input: &mut TokenCursor<'_>) -> Result<Option<SortKey>, Or<u32>>
     ensures { ReadsPart sphinxql (optional (two_keywords keywords.Order keywords.By ⨾ group_key)) (the_keyword keywords.Order ∷ key_goes_on) (IsGiven IsFacetOrder) input.old result input.new }
 {
     if input.is_keyword(Keyword::Order) {
@@ -141,7 +144,7 @@ fn facet_order(alloc: Global, input: &mut Cursor<'_>) -> Result<Option<SortKey>,
 }
 
 /// Reads what follows the keyword FACET.
-fn facet_parts(alloc: Global, input: &mut Cursor<'_>) -> Result<FacetPart, Or<u32>>
+fn facet_parts(alloc: Global, input: &mut TokenCursor<'_>) -> Result<FacetPart, Or<u32>>
     ensures { ReadsPart sphinxql facet_parts facet_goes_on IsFaceted input.old result input.new }
 {
     let column = input.name(alloc)?;
@@ -155,7 +158,10 @@ fn facet_parts(alloc: Global, input: &mut Cursor<'_>) -> Result<FacetPart, Or<u3
 }
 
 /// Reads the facets.
-pub(crate) fn facets(alloc: Global, input: &mut Cursor<'_>) -> Result<Items<FacetPart>, Or<u32>>
+pub(crate) fn facets(
+    alloc: Global,
+    input: &mut TokenCursor<'_>,
+) -> Result<Items<FacetPart>, Or<u32>>
     ensures { ReadsPart sphinxql (many facet) (the_keyword keywords.Facet ∷ facet_goes_on) (AreInRow IsFacet) input.old result input.new }
 {
     let mut facets = Vec::new(alloc);

@@ -7,7 +7,7 @@ ghost use Rattle.ql_grammar.specs.steps.GoingOn.{select_goes_on};
 ghost use Rattle.ql_grammar.specs.Selects.{IsSelected};
 
 use crate::conditions::conds;
-use crate::cursor::Cursor;
+use crate::cursor::TokenCursor;
 use crate::part::listed;
 use crate::select_items::Item;
 use crate::select_parts::{facets, having, limit, options};
@@ -19,7 +19,7 @@ use srch_base::Or;
 use std::alloc::Global;
 
 /// Reads what follows the keyword SELECT of a SELECT from an index.
-pub(crate) fn select(alloc: Global, input: &mut Cursor<'_>) -> Result<Select, Or<u32>>
+pub(crate) fn select(alloc: Global, input: &mut TokenCursor<'_>) -> Result<Select, Or<u32>>
     ensures { ReadsPart sphinxql select select_goes_on IsSelected input.old result input.new }
 {
     let items = listed::<Item>(alloc, input, Sign::Comma)?;

@@ -14,7 +14,7 @@ ghost use Rattle.ql_grammar.specs.steps.GoingOn.{select_goes_on};
 ghost use Rattle.ql_grammar.specs.Statements.{IsRowLimit, IsStatement};
 ghost use Rattle.ql_grammar.specs.steps.Stating.{IsSelection};
 
-use crate::cursor::Cursor;
+use crate::cursor::TokenCursor;
 use crate::selecting::select;
 use ql_grammar::Keyword;
 use ql_lex::Sign;
@@ -23,7 +23,7 @@ use srch_base::Or;
 use std::alloc::Global;
 
 /// Reads `LIMIT n`, if it is there.
-fn row_limit(input: &mut Cursor<'_>) -> Result<Option<u64>, Or<u32>>
+fn row_limit(input: &mut TokenCursor<'_>) -> Result<Option<u64>, Or<u32>>
     ensures { ReadsPart sphinxql (optional (keyword keywords.Limit ⨾ number)) (the_keyword keywords.Limit ∷ []) (IsGiven IsRowLimit) input.old result input.new }
 {
     if input.is_keyword(Keyword::Limit) {
@@ -34,7 +34,7 @@ fn row_limit(input: &mut Cursor<'_>) -> Result<Option<u64>, Or<u32>>
 }
 
 /// Reads what follows the keyword SELECT.
-fn selection(alloc: Global, input: &mut Cursor<'_>) -> Result<Statement, Or<u32>>
+fn selection(alloc: Global, input: &mut TokenCursor<'_>) -> Result<Statement, Or<u32>>
     ensures { ReadsPart sphinxql (select_variable ∣ select_database ∣ select) select_goes_on IsSelection input.old result input.new }
 {
     if input.is_variable() {
@@ -53,7 +53,7 @@ fn selection(alloc: Global, input: &mut Cursor<'_>) -> Result<Statement, Or<u32>
 }
 
 /// Reads a SELECT.
-pub(crate) fn selects(alloc: Global, input: &mut Cursor<'_>) -> Result<Statement, Or<u32>>
+pub(crate) fn selects(alloc: Global, input: &mut TokenCursor<'_>) -> Result<Statement, Or<u32>>
     ensures { ReadsPart sphinxql selects select_goes_on IsStatement input.old result input.new }
 {
     input.keyword(Keyword::Select)?;

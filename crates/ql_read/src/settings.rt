@@ -12,7 +12,7 @@ ghost use Rattle.token_grammar.specs.steps.Progress.{IsLeading};
 ghost use Rattle.ql_grammar.specs.Statements.{IsPlain, IsSetting, IsStatement, IsTarget};
 ghost use Rattle.ql_grammar.specs.steps.Stating.{IsAssignment, IsSetRest};
 
-use crate::cursor::Cursor;
+use crate::cursor::TokenCursor;
 use crate::part::{Part, Whole};
 use ql_grammar::Keyword;
 use ql_lex::Sign;
@@ -21,7 +21,7 @@ use srch_base::Or;
 use std::alloc::Global;
 
 /// Reads a name or a text.
-fn plain(alloc: Global, input: &mut Cursor<'_>) -> Result<Plain, Or<u32>>
+fn plain(alloc: Global, input: &mut TokenCursor<'_>) -> Result<Plain, Or<u32>>
     ensures { ReadsPart sphinxql plain [] IsPlain input.old result input.new }
 {
     if input.is_text() {
@@ -31,7 +31,7 @@ fn plain(alloc: Global, input: &mut Cursor<'_>) -> Result<Plain, Or<u32>>
 }
 
 /// Reads the variable that is set.
-fn target(alloc: Global, input: &mut Cursor<'_>) -> Result<Target, Or<u32>>
+fn target(alloc: Global, input: &mut TokenCursor<'_>) -> Result<Target, Or<u32>>
     ensures { ReadsPart sphinxql (sysvar ∣ target_name) [] IsTarget input.old result input.new }
 {
     if input.is_variable() {
@@ -41,7 +41,7 @@ fn target(alloc: Global, input: &mut Cursor<'_>) -> Result<Target, Or<u32>>
 }
 
 /// Reads what a variable is set to.
-fn setting(alloc: Global, input: &mut Cursor<'_>) -> Result<SetValue, Or<u32>>
+fn setting(alloc: Global, input: &mut TokenCursor<'_>) -> Result<SetValue, Or<u32>>
     ensures { ReadsPart sphinxql setting [] IsSetting input.old result input.new }
 {
     if input.takes_keyword(Keyword::Null) {
@@ -58,7 +58,7 @@ fn setting(alloc: Global, input: &mut Cursor<'_>) -> Result<SetValue, Or<u32>>
 }
 
 /// Reads a variable and what it is set to.
-fn assignment(alloc: Global, input: &mut Cursor<'_>) -> Result<(Target, SetValue), Or<u32>>
+fn assignment(alloc: Global, input: &mut TokenCursor<'_>) -> Result<(Target, SetValue), Or<u32>>
     ensures { ReadsPart sphinxql assignment [] IsAssignment input.old result input.new }
 {
     let target = target(alloc, input)?;
@@ -68,7 +68,7 @@ fn assignment(alloc: Global, input: &mut Cursor<'_>) -> Result<(Target, SetValue
 }
 
 /// Whether a keyword is next, and is not itself the name that is set.
-fn leads(input: &Cursor<'_>, keyword: Keyword) -> bool
+fn leads(input: &TokenCursor<'_>, keyword: Keyword) -> bool
     ensures { IsLeading sphinxql (the_keyword keyword) (the_sign signs.Equal) input.now result }
 {
     if input.is_keyword(keyword) {
@@ -79,7 +79,7 @@ fn leads(input: &Cursor<'_>, keyword: Keyword) -> bool
 }
 
 /// Reads a scope, if there is one, and an assignment.
-fn scoped(alloc: Global, input: &mut Cursor<'_>) -> Result<Statement, Or<u32>>
+fn scoped(alloc: Global, input: &mut TokenCursor<'_>) -> Result<Statement, Or<u32>>
     ensures { ReadsPart sphinxql scoped [] IsSetRest input.old result input.new }
 {
     if leads(input, Keyword::Global) {
@@ -109,7 +109,7 @@ fn scoped(alloc: Global, input: &mut Cursor<'_>) -> Result<Statement, Or<u32>>
 }
 
 /// Reads what follows the keyword SET.
-fn set_rest(alloc: Global, input: &mut Cursor<'_>) -> Result<Statement, Or<u32>>
+fn set_rest(alloc: Global, input: &mut TokenCursor<'_>) -> Result<Statement, Or<u32>>
     ensures { ReadsPart sphinxql set_rest [] IsSetRest input.old result input.new }
 {
     if input.takes_keyword(Keyword::Autocommit) {
@@ -124,7 +124,7 @@ fn set_rest(alloc: Global, input: &mut Cursor<'_>) -> Result<Statement, Or<u32>>
 }
 
 /// Reads a SET.
-pub(crate) fn set(alloc: Global, input: &mut Cursor<'_>) -> Result<Statement, Or<u32>>
+pub(crate) fn set(alloc: Global, input: &mut TokenCursor<'_>) -> Result<Statement, Or<u32>>
     ensures { ReadsPart sphinxql set [] IsStatement input.old result input.new }
 {
     input.keyword(Keyword::Set)?;

@@ -14,7 +14,7 @@ ghost use Rattle.ql_grammar.specs.steps.GoingOn.{key_goes_on};
 ghost use Rattle.ql_grammar.specs.Selects.{IsSort, IsInnerSort, IsGroupSort, IsDirection, IsKeyBy, IsGroup, AreInnerKeys, AreKeys};
 
 use crate::calls::{count_all, no_argument};
-use crate::cursor::Cursor;
+use crate::cursor::TokenCursor;
 use crate::part::{Part, listed};
 use ql_grammar::Keyword;
 use ql_lex::Sign;
@@ -23,7 +23,7 @@ use srch_base::{Items, Name, Or};
 use std::alloc::Global;
 
 /// Reads what rows are sorted by.
-fn sort(alloc: Global, input: &mut Cursor<'_>) -> Result<SortName, Or<u32>>
+fn sort(alloc: Global, input: &mut TokenCursor<'_>) -> Result<SortName, Or<u32>>
     ensures { ReadsPart sphinxql (weight ∣ count ∣ name) (the_sign signs.OpenParen ∷ []) IsSort input.old result input.new }
 {
     if input.is_followed(Keyword::Weight, Sign::OpenParen) {
@@ -38,7 +38,7 @@ fn sort(alloc: Global, input: &mut Cursor<'_>) -> Result<SortName, Or<u32>>
 }
 
 /// Reads what the rows of a group are sorted by.
-fn inner_sort(alloc: Global, input: &mut Cursor<'_>) -> Result<SortName, Or<u32>>
+fn inner_sort(alloc: Global, input: &mut TokenCursor<'_>) -> Result<SortName, Or<u32>>
     ensures { ReadsPart sphinxql (weight ∣ name) (the_sign signs.OpenParen ∷ []) IsInnerSort input.old result input.new }
 {
     if input.is_followed(Keyword::Weight, Sign::OpenParen) {
@@ -49,7 +49,7 @@ fn inner_sort(alloc: Global, input: &mut Cursor<'_>) -> Result<SortName, Or<u32>
 }
 
 /// Reads what groups are sorted by.
-pub(crate) fn group_sort(alloc: Global, input: &mut Cursor<'_>) -> Result<SortName, Or<u32>>
+pub(crate) fn group_sort(alloc: Global, input: &mut TokenCursor<'_>) -> Result<SortName, Or<u32>>
     ensures { ReadsPart sphinxql (count ∣ name) (the_sign signs.OpenParen ∷ []) IsGroupSort input.old result input.new }
 {
     if input.is_followed(Keyword::Count, Sign::OpenParen) {
@@ -60,7 +60,7 @@ pub(crate) fn group_sort(alloc: Global, input: &mut Cursor<'_>) -> Result<SortNa
 }
 
 /// Reads a direction, if it is there.
-fn direction(input: &mut Cursor<'_>) -> Option<bool>
+fn direction(input: &mut TokenCursor<'_>) -> Option<bool>
     ensures { TakesPart sphinxql direction (the_keyword keywords.Asc ∷ the_keyword keywords.Desc ∷ []) (IsGiven IsDirection result) input.old input.new }
 {
     if input.takes_keyword(Keyword::Asc) {
@@ -84,7 +84,7 @@ impl Part for Key {
 
     ghost is = { IsKeyBy IsSort };
 
-    fn read(alloc: Global, input: &mut Cursor<'_>) -> Result<SortKey, Or<u32>> {
+    fn read(alloc: Global, input: &mut TokenCursor<'_>) -> Result<SortKey, Or<u32>> {
         let by = sort(alloc, input)?;
         let descending = direction(input);
         Ok(SortKey { by, descending })
@@ -103,7 +103,7 @@ impl Part for InnerKey {
 
     ghost is = { IsKeyBy IsInnerSort };
 
-    fn read(alloc: Global, input: &mut Cursor<'_>) -> Result<SortKey, Or<u32>> {
+    fn read(alloc: Global, input: &mut TokenCursor<'_>) -> Result<SortKey, Or<u32>> {
         let by = inner_sort(alloc, input)?;
         let descending = direction(input);
         Ok(SortKey { by, descending })
@@ -111,7 +111,7 @@ impl Part for InnerKey {
 }
 
 /// Reads what the groups of a facet are sorted by.
-pub(crate) fn group_key(alloc: Global, input: &mut Cursor<'_>) -> Result<SortKey, Or<u32>>
+pub(crate) fn group_key(alloc: Global, input: &mut TokenCursor<'_>) -> Result<SortKey, Or<u32>>
     ensures { ReadsPart sphinxql group_key key_goes_on (IsKeyBy IsGroupSort) input.old result input.new }
 {
     let by = group_sort(alloc, input)?;
@@ -120,7 +120,7 @@ pub(crate) fn group_key(alloc: Global, input: &mut Cursor<'_>) -> Result<SortKey
 }
 
 /// Reads GROUP BY, if it is there.
-pub(crate) fn group(alloc: Global, input: &mut Cursor<'_>) -> Result<Option<Name>, Or<u32>>
+pub(crate) fn group(alloc: Global, input: &mut TokenCursor<'_>) -> Result<Option<Name>, Or<u32>>
     ensures { ReadsPart sphinxql group (the_keyword keywords.Group ∷ []) (IsGiven IsGroup) input.old result input.new }
 {
     if input.is_keyword(Keyword::Group) {
@@ -131,7 +131,7 @@ pub(crate) fn group(alloc: Global, input: &mut Cursor<'_>) -> Result<Option<Name
 }
 
 /// Reads WITHIN GROUP ORDER BY, if it is there.
-pub(crate) fn within(alloc: Global, input: &mut Cursor<'_>) -> Result<Items<SortKey>, Or<u32>>
+pub(crate) fn within(alloc: Global, input: &mut TokenCursor<'_>) -> Result<Items<SortKey>, Or<u32>>
     ensures { ReadsPart sphinxql within (the_keyword keywords.Within ∷ comma ∷ key_goes_on) (AreGiven AreInnerKeys) input.old result input.new }
 {
     if input.is_keyword(Keyword::Within) {
@@ -144,7 +144,7 @@ pub(crate) fn within(alloc: Global, input: &mut Cursor<'_>) -> Result<Items<Sort
 }
 
 /// Reads ORDER BY, if it is there.
-pub(crate) fn order(alloc: Global, input: &mut Cursor<'_>) -> Result<Items<SortKey>, Or<u32>>
+pub(crate) fn order(alloc: Global, input: &mut TokenCursor<'_>) -> Result<Items<SortKey>, Or<u32>>
     ensures { ReadsPart sphinxql order (the_keyword keywords.Order ∷ comma ∷ key_goes_on) (AreGiven AreKeys) input.old result input.new }
 {
     if input.is_keyword(Keyword::Order) {

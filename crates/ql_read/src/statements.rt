@@ -9,7 +9,7 @@ ghost use Rattle.ql_grammar.specs.Statements.{IsStatement};
 use crate::commands::{
     begin, commit, describe, flush, optimize, rollback, show, start_transaction, truncate,
 };
-use crate::cursor::Cursor;
+use crate::cursor::TokenCursor;
 use crate::delete::delete;
 use crate::insert::insert;
 use crate::selects::selects;
@@ -20,7 +20,7 @@ use srch_base::Or;
 use std::alloc::Global;
 
 /// Reads a statement, by its first keyword.
-pub(crate) fn statement(alloc: Global, input: &mut Cursor<'_>) -> Result<Statement, Or<u32>>
+pub(crate) fn statement(alloc: Global, input: &mut TokenCursor<'_>) -> Result<Statement, Or<u32>>
     ensures { ReadsPart sphinxql statement select_goes_on IsStatement input.old result input.new }
 {
     if input.is_keyword(Keyword::Select) {

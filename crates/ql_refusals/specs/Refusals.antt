@@ -1,4 +1,4 @@
--- Refusals: the code and the text that a client is told.
+-- Refusals: the code and the text that a client is sent.
 use Rattle.std.specs.Prelude.{ℕ, List, [], ◌∷◌, ◌++◌, ◌==◌, Bool, take, codes, if◌then◌else◌, Option, Some, None}
 use Rattle.std.specs.Fmt.{decimal}
 use Rattle.ql_lex.specs.declared.fault.LexFault.{LexFault}

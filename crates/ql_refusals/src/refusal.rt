@@ -1,14 +1,13 @@
 //! Why a statement is refused: a code of the protocol and a text, made by one named function for each text of the manual's
 //! table.
-ghost use Rattle.std.specs.Prelude.{◌≡◌, ◌+◌, ◌≤◌, ◌++◌, [], length, decimal};
+ghost use Rattle.std.specs.Prelude.{◌≡◌, ◌+◌, ◌≤◌, ◌++◌, [], codes, length, decimal};
 ghost use Rattle.query_grammar.specs.FaultTexts.{name_text};
-ghost use Rattle.query_marks.specs.KindTexts.{kind_text};
 ghost use Rattle.ql_refusals.specs.Refusals.{bad_query as bad_query_row, bad_syntax as bad_syntax_row, bad_token as bad_token_row, column_is_field as column_is_field_row, column_is_no_field as column_is_no_field_row, column_twice as column_twice_row, duplicate_id as duplicate_id_row, id_missing as id_missing_row, id_out_of_range as id_out_of_range_row, max_matches_out_of_range as max_matches_out_of_range_row, no_memory as no_memory_row, not_offered as not_offered_row, offset_not_below as offset_not_below_row, ranker_not_offered as ranker_not_offered_row, refused, second_match as second_match_row, shown, state_of, too_many_columns as too_many_columns_row, too_many_positions as too_many_positions_row, too_many_sort_keys as too_many_sort_keys_row, unknown_column as unknown_column_row, unknown_index as unknown_index_row, unknown_option as unknown_option_row, value_out_of_range as value_out_of_range_row, wrong_kind as wrong_kind_row, wrong_number as wrong_number_row};
 
 use arrayvec::ArrayVec;
 use itoa::Buffer;
 use ql_grammar::{ParseFault, ParseKind};
-use ql_lex::{LexFault, LexKind};
+use ql_lex::LexFault;
 use query_grammar::QueryFault;
 use query_marks::QueryKind;
 use srch_base::Or;
@@ -81,19 +80,29 @@ impl Refusal {
     }
 
     /// A text with a name in it.
-    fn named(front: &[u8], name: &[u8], back: &[u8]) -> Refusal
-        requires { length front.now + length back.now ≤ 136 }
-        ensures { result ≡ refused (front.now ++ shown name.now ++ back.now) }
+    fn named(prefix: &[u8], name: &[u8], suffix: &[u8]) -> Refusal
+        requires { length prefix.now + length suffix.now ≤ 136 }
+        ensures { result ≡ refused (prefix.now ++ shown name.now ++ suffix.now) }
     {
-        Refusal::plain(WRONG, front).then(cut(name)).then(back)
+        Refusal::plain(WRONG, prefix).then(cut(name)).then(suffix)
     }
 
     /// A text with a number at its end.
-    fn numbered(front: &[u8], number: u64) -> Refusal
-        requires { length front.now ≤ 136 }
-        ensures { result ≡ refused (front.now ++ decimal number) }
+    fn numbered(prefix: &[u8], number: u64) -> Refusal
+        requires { length prefix.now ≤ 136 }
+        ensures { result ≡ refused (prefix.now ++ decimal number) }
     {
-        Refusal::plain(WRONG, front).then_number(number)
+        Refusal::plain(WRONG, prefix).then_number(number)
+    }
+
+    /// The kind of a fault, and its place.
+    fn placed(kind: &str, place: u32) -> Refusal
+        requires { length kind.now ≤ 136 }
+        ensures { result ≡ refused (kind.now ++ codes " at " ++ decimal place) }
+    {
+        Refusal::plain(WRONG, kind.as_bytes())
+            .then(b" at ")
+            .then_number(u64::from(place))
     }
 
     /// The text goes on with a part.
@@ -162,16 +171,7 @@ pub fn no_memory() -> Refusal
 pub fn bad_token(fault: LexFault) -> Refusal
     ensures { result ≡ bad_token_row fault }
 {
-    let place = u64::from(fault.place);
-    match fault.kind {
-        LexKind::NotUtf8 => Refusal::numbered(b"text is not UTF-8 at ", place),
-        LexKind::UnclosedQuote => Refusal::numbered(b"unclosed quote at ", place),
-        LexKind::UnclosedComment => Refusal::numbered(b"unclosed comment at ", place),
-        LexKind::BadCharacter => Refusal::numbered(b"bad character at ", place),
-        LexKind::NumberTooLarge => Refusal::numbered(b"number too large at ", place),
-        LexKind::NumberWithPoint => Refusal::numbered(b"number with a point at ", place),
-        LexKind::NameTooLong => Refusal::numbered(b"name too long at ", place),
-    }
+    Refusal::placed(fault.kind.text(), fault.place)
 }
 
 /// The tokens are no packet of statements.
@@ -179,8 +179,8 @@ pub fn bad_syntax(fault: ParseFault) -> Refusal
     ensures { result ≡ bad_syntax_row fault }
 {
     match fault.kind {
-        ParseKind::Syntax => Refusal::numbered(b"syntax error at ", u64::from(fault.place)),
-        ParseKind::TooMany => Refusal::plain(WRONG, b"too many statements"),
+        ParseKind::Syntax => Refusal::placed(fault.kind.text(), fault.place),
+        ParseKind::TooMany => Refusal::plain(WRONG, fault.kind.text().as_bytes()),
     }
 }
 
@@ -318,29 +318,10 @@ pub fn bad_query(fault: &QueryFault) -> Refusal
     ensures { result ≡ bad_query_row fault.now }
 {
     Refusal::plain(WRONG, b"query: ")
-        .then(kind_bytes(fault.kind))
+        .then(fault.kind.text().as_bytes())
         .then_unknown(fault.kind, fault.name.as_bytes())
         .then(b" at ")
         .then_number(u64::from(fault.place))
-}
-
-/// What is wrong with a query, in words.
-fn kind_bytes(kind: QueryKind) -> &'static [u8]
-    ensures value { result.now ≡ kind_text kind }
-    ensures short { length result.now ≤ 24 }
-{
-    match kind {
-        QueryKind::UnclosedQuote => b"unclosed quote",
-        QueryKind::Syntax => b"syntax error",
-        QueryKind::OnlyNot => b"only NOT",
-        QueryKind::UnknownField => b"unknown field",
-        QueryKind::UnknownZone => b"unknown zone",
-        QueryKind::NameTooLong => b"name too long",
-        QueryKind::NumberOutOfRange => b"number out of range",
-        QueryKind::Nesting => b"nesting above 32",
-        QueryKind::TooManyKeywords => b"too many keywords",
-        QueryKind::ZoneSpanBeforeOperator => b"ZONESPAN before operator",
-    }
 }
 
 /// A word of the field would stand above the last position.

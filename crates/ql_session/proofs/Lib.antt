@@ -7,4 +7,5 @@ pub mod Several
 pub mod Committing
 pub mod OneReply
 pub mod SoundFronts
+pub mod SameReplies
 pub mod OneCommand

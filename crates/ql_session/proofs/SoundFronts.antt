@@ -1,12 +1,11 @@
 -- The documents of each index keep layers as a snapshot has them, whatever happens to them.
 use Rattle.std.proofs.Common.{◌≡◌, ◌≢◌, ◌<◌, ◌^◌, ℕ, List, [], ◌∷◌, sym, subst, arith}
-use Rattle.std.specs.Prelude.{All, Some, slice_get}
+use Rattle.std.specs.Prelude.{All, AllPairs, Some, slice_get}
 use Rattle.std.proofs.lemmas.List.Elements.{All-cons, All-map, All-nil, All-set}
 use Rattle.std.proofs.lemmas.Option.{get_or_from_slice_get, slice_get_within}
 use Rattle.index_conf.specs.declared.conf.IndexConf.{IndexConf}
 use Rattle.doc_types.specs.declared.documents.DocRow.{DocRow}
 use Rattle.doc_types.specs.Snapshots.{AreLayers, IsLayer, SnapshotValue}
-use Rattle.op_eval.proofs.Lists.{pairs_nil}
 use Rattle.plain_store.specs.Commits.{empty_snapshot}
 use Rattle.serve_line.specs.Machines.{FollowAll}
 use Rattle.ql_answers.specs.Sessions.{HasLayers}
@@ -19,23 +18,26 @@ IsSound front = AreLayers front.layers
 abbrev Apart : DocRow → DocRow → Type 0
 Apart row other = row.doc.id ≢ other.doc.id
 
+no_pairs : AllPairs Apart []
+no_pairs i j d order within = absurd (omega arith)
+
 no_layers : AreLayers []
 no_layers =
     let few_layers : 0 < 2 ^ 16 = omega arith in
     let few_rows : 0 < 2 ^ 32 = omega arith in
-    record { each = All-nil IsLayer; distinct = pairs_nil Apart; few_layers = few_layers; few_rows = few_rows }
+    record { each = All-nil IsLayer; distinct = no_pairs; few_layers = few_layers; few_rows = few_rows }
 
 pub empty_sound : (confs : List IndexConf) → AreSound (empty_tables confs)
 empty_sound confs = All-map IsSound (λ (conf : IndexConf). empty_snapshot) confs (λ place other within. no_layers)
 
-sound_at : (fronts : List SnapshotValue) (place : ℕ) (front : SnapshotValue) → All IsSound fronts → slice_get fronts place ≡ Some front → IsSound front
+pub sound_at : (fronts : List SnapshotValue) (place : ℕ) (front : SnapshotValue) → All IsSound fronts → slice_get fronts place ≡ Some front → IsSound front
 sound_at fronts place front sound is =
     subst IsSound (get_or_from_slice_get fronts place front front is) (sound place front (slice_get_within fronts place front is))
 
 sound_as : (old new : Tables) → new ≡ old → AreSound old → AreSound new
 sound_as old new same sound = subst AreSound (sym same) sound
 
-one_event : (old : Tables) (event : Event) (new : Tables) → AreSound old → Follows old event new → HasLayers (told event) × AreSound new
+pub one_event : (old : Tables) (event : Event) (new : Tables) → AreSound old → Follows old event new → HasLayers (told event) × AreSound new
 one_event old (Configured confs) new sound (is, same) = (tt, sound_as old new same sound)
 one_event old Nothing new sound same = (tt, sound_as old new same sound)
 one_event old NoMemory new sound same = (tt, sound_as old new same sound)

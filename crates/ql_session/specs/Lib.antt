@@ -2,6 +2,9 @@
 pub mod Tables
 -- what is replied to a text of statements
 pub mod Statements
--- a session over a line
+-- a session over a connection
 pub mod Session
+-- what clauses cite of lower crates, passed on
+pub use Rattle.serve_line.specs.Machines
+pub use Rattle.serve_line.specs.declared.line.LinkEnd
 pub mod steps

@@ -49,7 +49,7 @@ Meets (Insert place txn) (Committed at ops removed) = (at ≡ place) × (ops ≡
 Meets (Insert place txn) (Duplicate at ops id) = (at ≡ place) × (ops ≡ txn.ops)
 Meets plan event = ⊥
 
--- what a session is told of an event
+-- what a session learns of an event
 abbrev pub told : Event → Happened
 told (Configured confs) = happenings.Nothing
 told Nothing = happenings.Nothing

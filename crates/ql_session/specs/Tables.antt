@@ -1,5 +1,6 @@
 -- The indexes and their documents, and what the outside does to them about a statement.
 use Rattle.std.specs.Prelude.{◌≡◌, ℕ, List, All, map, Some, slice_get, slice_set}
+use Rattle.std.specs.List.{AllZip}
 use Rattle.doc_types.specs.Commits.{verdict}
 use Rattle.doc_types.specs.Commits as verdicts
 use Rattle.doc_types.specs.Snapshots.{AreLayers, SnapshotValue, live}
@@ -19,6 +20,16 @@ empty_tables confs = record { confs = confs; fronts = map (λ conf. empty_snapsh
 -- The documents of each index have layers as a snapshot has them: no id lives twice.
 abbrev pub AreSound : Tables → Type 0
 AreSound tables = All (λ front. AreLayers front.layers) tables.fronts
+
+-- The same documents by the same commits, however layers hold them.
+pub record SameRows (a b : SnapshotValue) : Type 0 where
+  pub number : a.number ≡ b.number
+  pub rows : live a ≡ live b
+
+-- The same indexes with the same documents.
+pub record HaveSameRows (a b : Tables) : Type 0 where
+  pub confs : a.confs ≡ b.confs
+  pub rows : AllZip SameRows a.fronts b.fronts
 
 -- What the outside did about a text or a statement, with the place of the index that it was done to.
 pub data Event : Type 0 where

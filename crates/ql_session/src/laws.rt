@@ -5,12 +5,13 @@ ghost use Rattle.ql_tree.specs.declared.statement.Statement.{Statement as Statem
 ghost use Rattle.ql_refusals.specs.Refusals.{Refused};
 ghost use Rattle.ql_answers.specs.Replies.{Reply};
 ghost use Rattle.ql_answers.specs.Sessions.{HasLayers, State};
-ghost use Rattle.mysql_wire.specs.Commands.{Asked};
-ghost use Rattle.ql_session.specs.Session.{Answers};
+ghost use Rattle.mysql_wire.specs.Commands.{ClientCommand};
+ghost use Rattle.ql_session.specs.Session.{Answers, IsUndisturbed};
 ghost use Rattle.ql_session.specs.Statements.{AnswersText, HaveLayers, RefusesText, Replies, States, told};
-ghost use Rattle.ql_session.specs.Tables.{AreSound, Event, Follows, Tables, empty_tables};
+ghost use Rattle.ql_session.specs.Tables.{AreSound, Event, Follows, HaveSameRows, Tables, empty_tables};
 ghost use Rattle.serve_line.specs.Machines.{FollowAll};
 
+use mysql_wire::{bytes_begin_in_one_way, payload_is_one_response_or_bad};
 use ql_answers::{a_plan_has_one_reply, a_statement_has_one_plan};
 use ql_laws::{packets_have_no_fault, tokens_have_one_fault, tokens_have_one_value};
 use ql_lex::one_reading;
@@ -45,9 +46,22 @@ pub fn a_text_has_one_reply()
 
 /// What came of a command has one reply, byte for byte, and leaves the session in one state.
 pub fn a_command_has_one_reply()
-    ensures { (old : State) (asked : Asked) (events : List Event) (a b : List ℕ) (x y : State) → HaveLayers events → Answers old asked events a x → Answers old asked events b y → (a ≡ b) × (x ≡ y) }
+    ensures { (old : State) (asked : ClientCommand) (events : List Event) (a b : List ℕ) (x y : State) → HaveLayers events → Answers old asked events a x → Answers old asked events b y → (a ≡ b) × (x ≡ y) }
 {
     a_text_has_one_reply();
+}
+
+/// Equal bytes have equal replies: two sessions of one connection over the same documents that read the same bytes wrote the same bytes,
+/// and left the same documents, where their clients ended them and no memory was refused.
+pub fn a_line_has_one_reply()
+    ensures { (connection : ℕ) (old other left leaves : Tables) (read written replies : List ℕ) → AreSound old → AreSound other → HaveSameRows old other
+        → IsUndisturbed connection old read written left → IsUndisturbed connection other read replies leaves → (written ≡ replies) × HaveSameRows left leaves }
+{
+    bytes_begin_in_one_way();
+    payload_is_one_response_or_bad();
+    a_statement_has_one_plan();
+    a_plan_has_one_reply();
+    a_text_is_read_in_one_way();
 }
 
 /// Documents that begin with none keep layers as a snapshot has them, whatever follows, and so has what is read of them.

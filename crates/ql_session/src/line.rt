@@ -1,4 +1,4 @@
-//! A session over a line: `serve_line` reads and writes, and the session answers.
+//! A session over a connection: `serve_line` reads and writes, and the session answers.
 ghost use Rattle.std.specs.Prelude.{List};
 ghost use Rattle.srch_base.specs.Moves.{Moves};
 ghost use Rattle.serve_line.specs.Machines.{FollowAll};
@@ -10,9 +10,9 @@ use serve_line::{LinkEnd, serve};
 use srch_base::Link;
 use std::alloc::Global;
 
-/// Serves one line from the greeting to its end. `connection` is the number that the greeting shows.
+/// Serves one connection from the greeting to its end. `connection` is the number that the greeting shows.
 ///
-/// The packets before a read that failed are answered. Documents that were committed stay, however the line ends.
+/// The packets before a read that failed are answered. Documents that were committed stay, however the connection ends.
 pub fn serve_link<K: Link>(
     alloc: Global,
     tables: &mut PlainTables,

@@ -1,4 +1,4 @@
-//! Running statements: what each wants is asked of the tables, and the reply to what came of it is appended.
+//! Running statements: what each needs is taken from the tables, and the reply to what came of it is appended.
 //!
 //! OK and ERR take no memory: 1,024 bytes have room for an ERR of 256 bytes after 32 OK of 24 bytes at most, and rows leave
 //! as much spare room as they found.
@@ -16,7 +16,7 @@ use crate::PlainTables;
 use crate::refusing::put_refusal;
 use doc_types::PlainChunk;
 use plain_store::Duplicate;
-use ql_answers::{Event, Need, Session};
+use ql_answers::{Event, Need, StatementMachine};
 use ql_refusals::{Refusal, no_memory};
 use ql_tree::Statement;
 use srch_base::{NoMemory, Or};
@@ -25,7 +25,7 @@ use std::alloc::Global;
 /// Runs statements one after another, up to the first that is refused.
 pub(crate) fn run_all(
     alloc: Global,
-    session: &mut Session,
+    session: &mut StatementMachine,
     tables: &mut PlainTables,
     statements: &[Statement],
     seq: u8,
@@ -49,10 +49,10 @@ pub(crate) fn run_all(
     }
 }
 
-/// Runs a statement, and tells the number of the packet after its reply and whether it was refused.
+/// Runs a statement, and gives the number of the packet after its reply and whether it was refused.
 fn run(
     alloc: Global,
-    session: &mut Session,
+    session: &mut StatementMachine,
     tables: &mut PlainTables,
     statement: &Statement,
     seq: u8,
@@ -75,7 +75,7 @@ fn run(
 /// Asks the tables for what a statement needs, and replies to what came of it.
 fn meet(
     alloc: Global,
-    session: &mut Session,
+    session: &mut StatementMachine,
     tables: &mut PlainTables,
     statement: &Statement,
     need: Need,
@@ -103,10 +103,10 @@ fn meet(
     }
 }
 
-/// Commits what a statement wants to be committed, and tells what came of it.
+/// Commits what a statement wants to be committed, and says what came of it.
 fn commit(
     alloc: Global,
-    session: &Session,
+    session: &StatementMachine,
     tables: &mut PlainTables,
     statement: &Statement,
     place: u16,
@@ -124,7 +124,7 @@ fn commit(
 /// Appends the reply to what came of a statement; where memory for it is refused, that is the reply.
 fn reply(
     alloc: Global,
-    session: &mut Session,
+    session: &mut StatementMachine,
     statement: &Statement,
     event: &Event<'_, PlainChunk>,
     seq: u8,

@@ -1,6 +1,6 @@
-//! A session: it answers the commands of a line, and a command's text is read and its statements run.
+//! A session: it answers the commands of a connection, and a command's text is read and its statements run.
 ghost use Rattle.std.specs.Prelude.{◌≡◌, ◌≤◌, [], vec_capacity};
-ghost use Rattle.mysql_wire.specs.Asked.{asked_by};
+ghost use Rattle.mysql_wire.specs.CommandValues.{command_value};
 ghost use Rattle.ql_session.specs.steps.Running.{RepliesText};
 
 use crate::PlainTables;
@@ -8,7 +8,7 @@ use crate::refusing::{put, put_refusal};
 use crate::running::run_all;
 use crate::texts::statements;
 use mysql_wire::{Command, eof_packet, err_packet, ok_packet};
-use ql_answers::Session as Standing;
+use ql_answers::StatementMachine;
 use ql_refusals::no_memory;
 use serve_line::Answerer;
 use srch_base::Or;
@@ -20,14 +20,14 @@ use std::marker::Model;
 pub enum StepEnd {
     /// A reply was appended.
     Reply,
-    /// COM_QUIT: nothing is replied, and the line ends.
+    /// COM_QUIT: nothing is replied, and the connection ends.
     Quit,
 }
 
 /// One client's session: what is kept between its statements. Contracts see it as a `State`.
 #[derive(Drop)]
 pub struct Session {
-    standing: Standing,
+    machine: StatementMachine,
 }
 
 impl Model for Session {
@@ -35,7 +35,7 @@ impl Model for Session {
 
     ghost Value = { State };
 
-    ghost view = { λ session. session.standing.state };
+    ghost view = { λ session. session.machine.state };
 }
 
 impl Session {
@@ -47,7 +47,7 @@ impl Session {
         ensures { result ≡ new_state }
     {
         Session {
-            standing: Standing::new(),
+            machine: StatementMachine::new(),
         }
     }
 
@@ -62,7 +62,7 @@ impl Session {
     ) -> StepEnd
         requires empty { out.old.items ≡ [] }
         requires room { 1024 ≤ vec_capacity out.old }
-        ensures steps { TakesStep result self.old (asked_by command.entry) tables.old tables.new out.new.items self.new }
+        ensures steps { TakesStep result self.old (command_value command.entry) tables.old tables.new out.new.items self.new }
         ensures room { 1024 ≤ vec_capacity out.new }
     {
         match command {
@@ -83,7 +83,7 @@ impl Session {
         ensures room { 1024 ≤ vec_capacity out.new }
     {
         match statements(alloc, text) {
-            Ok(list) => run_all(alloc, &mut self.standing, tables, &list, 1, out),
+            Ok(list) => run_all(alloc, &mut self.machine, tables, &list, 1, out),
             Err(Or::NoMemory) => put_refusal(&no_memory(), 1, out),
             Err(Or::Fault(refusal)) => put_refusal(&refusal, 1, out),
         }
@@ -103,7 +103,7 @@ impl Answerer for Session {
     ghost follows = { Follows };
 
     fn status(&self) -> u16 {
-        self.standing.status(false)
+        self.machine.status(false)
     }
 
     fn answer(

@@ -1,6 +1,6 @@
 //! The indexes of a configuration with their documents, which are held in memory from the start of a run to its end.
 //!
-//! A statement finds an index by its place among the others, by `Catalog`; what it wants of the documents is asked here.
+//! A statement finds an index by its place among the others, by `Catalog`; what it needs of the documents is found here.
 ghost use Rattle.std.specs.Prelude.{◌≡◌, ◌<◌, ◌^◌, ◌≤◌, All, IfOk, OnOk, Some, length, map, slice_get};
 ghost use Rattle.doc_types.specs.Documents.{AreRowsOf};
 ghost use Rattle.doc_types.specs.Schemas.{AreZones, IsSchema};

@@ -1,4 +1,4 @@
-//! The types of SphinxQL's statements. No grammar stands here, so whoever runs a statement needs none.
+//! The types of SphinxQL's statements. No grammar is here, so whoever runs a statement needs none.
 #![tactic(auto)]
 
 mod select;

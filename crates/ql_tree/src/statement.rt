@@ -1,5 +1,5 @@
 //! The statements of SphinxQL, one variant a form. What a variant holds is what the text says, before anybody looks at an
-//! index: whether names exist, and whether numbers are in range, is asked later.
+//! index: whether names exist, and whether numbers are in range, is found out later.
 
 use crate::select::Select;
 use srch_base::{Items, Name, Text};

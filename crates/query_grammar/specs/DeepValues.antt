@@ -1,5 +1,5 @@
 -- Queries without the limit on nesting, and the tables by which a written query is read back.
-use Rattle.std.specs.Prelude.{◌≡◌, ◌≤◌, ℕ, List, [], ◌∷◌, ◌++◌, Option, Some, None, Contains, length}
+use Rattle.std.specs.Prelude.{◌≡◌, ◌≤◌, ℕ, List, ◌++◌, Option, Some, None, Contains, length}
 use Rattle.std.specs.List.{flat_map}
 use Rattle.std.specs.Str.{chars}
 use Rattle.std.specs.Char.{IsScalar}
@@ -8,9 +8,8 @@ use Rattle.query_marks.specs.declared.mark.Mark.{Mark}
 use Rattle.query_marks.specs.declared.mark.Sign.TheVariants as signs
 use Rattle.query_marks.specs.Enough.{depth_after}
 use Rattle.query_tree.specs.declared.query.Node.{Node}
-use Rattle.query_tree.specs.declared.query.Node.TheOpen.{Node-F, Item-F}
-use Rattle.query_tree.specs.declared.query.Node.TheFolds.{fold-Node}
 use Rattle.query_tree.specs.declared.query.Query.{Query}
+use Rattle.query_tree.specs.TreeKeys.{query_keys}
 use Rattle.query_grammar.specs.Grammar.{Is, IsOpenAnd, IsQuery}
 use Rattle.query_grammar.specs.Queries.{keys_of}
 

@@ -1,28 +1,20 @@
 -- What the reader of a text answers: its query, exactly where nothing is left but the end, or the text is in the grammar and
 -- nothing is wrong with it; and else its first fault.
-use Rattle.std.specs.Prelude.{◌≡◌, ℕ, List, [], ◌∷◌, Option, Some, None, Result, Ok, Err, length}
+use Rattle.std.specs.Prelude.{◌≡◌, ℕ, List, Option, Some, None, Result, Ok, Err, length}
 use Rattle.std.specs.List.{flat_map}
 use Rattle.srch_base.specs.declared.faults.Or.{Or}
 use Rattle.srch_base.specs.declared.faults.Or.TheVariants.{NoMemory, Fault}
 use Rattle.query_pieces.specs.declared.piece.Piece.{Piece}
 use Rattle.query_pieces.specs.Pieces.{ArePieces}
-use Rattle.query_tree.specs.declared.key.Key.{Key}
 use Rattle.query_tree.specs.declared.query.Node.{Node}
 use Rattle.query_tree.specs.declared.query.Query.{Query}
 use Rattle.query_grammar.specs.declared.fault.QueryFault.{QueryFault}
 use Rattle.query_marks.specs.declared.mark.Mark.{Mark}
-use Rattle.query_marks.specs.declared.mark.Sign.{Sign}
 use Rattle.query_marks.specs.declared.mark.Sign.TheVariants as signs
+pub use Rattle.query_marks.specs.LimitsOver.{keys_of_sign as keys_of}
 use Rattle.query_marks.specs.Marks.{Setting, marks_of}
 use Rattle.query_grammar.specs.Grammar.{Is, IsQuery}
 use Rattle.query_grammar.specs.QueryFaults.{Any, Told, IsFirstFault, IsCandidate}
-
--- the keywords of a mark
-abbrev pub keys_of : Sign → List Key
-keys_of (signs.Bare key) = key ∷ []
-keys_of (signs.Phrase keys) = keys
-keys_of (signs.Loose keys how) = keys
-keys_of _ = []
 
 -- The marks have this query as their value: it has no root where nothing is left but the end, and where it has one the marks
 -- are in the grammar, with groups nested at most 32 deep, and nothing is wrong with them.

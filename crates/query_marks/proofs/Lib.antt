@@ -6,3 +6,5 @@ pub mod GroupLimits
 pub mod WholeSlices
 pub mod MarkSteps
 mod Worked
+pub mod LastLimits
+pub mod PieceMarks

@@ -1,3 +1,4 @@
+-- Worked examples: words, faults and signs of small texts, computed by the definitions. The check that they compute is their proof.
 use Rattle.std.proofs.Common.{◌≡◌, ℕ, List, [], ◌∷◌, false, refl, ◌&&◌}
 use Rattle.std.specs.Prelude.{Option, Some, None, codes, if◌then◌else◌, nat_le, map}
 use Rattle.std.specs.List.{filter_map}

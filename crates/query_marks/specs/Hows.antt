@@ -10,7 +10,7 @@ use Rattle.query_marks.specs.LimitNames.{bytes_of, number_of}
 abbrev pub share_of : List ℕ → How
 share_of digits = if nat_le (length digits) 4 then hows.Share (number_of digits) (length digits) else hows.Share 0 0
 
--- how the words of a quoted piece are asked for, where a number out of range counts as 0
+-- how the words of a quoted piece are looked for, where a number out of range counts as 0
 abbrev pub how_of : List ℕ → Number → How
 how_of text numbers.Phrase = hows.Phrase
 how_of text (numbers.Within s) = hows.Within (number_of (bytes_of text s))

@@ -10,6 +10,8 @@ pub mod Hows
 pub mod Limits
 -- what each piece means by those before it, and what is wrong with it by itself
 pub mod Marks
+-- which limits stand over a keyword
+pub mod LimitsOver
 -- how far the marks of a text are given
 pub mod Enough
 -- what serves proofs and private functions alone

@@ -38,7 +38,7 @@ pub record Setting : Type 0 where
 abbrev pub setting_of : (ℕ → Option ℕ) → Schema → Setting
 setting_of fold schema = record { fold = fold; fields = schema.fields; zones = schema.zones }
 
--- a fault without a name, and one that tells the name in small letters
+-- a fault without a name, and one with the name in small letters
 abbrev pub nameless : QueryKind → Option Wrong
 nameless kind = Some (record { kind = kind; name = [] })
 

@@ -1,17 +1,20 @@
+//! Why a text is no extended query: the kinds of faults, in the order in which they are looked for at one offset, and each
+//! in words.
+ghost use Rattle.std.specs.Prelude.{◌≡◌, ◌≤◌, length};
 ghost use Rattle.query_marks.specs.KindTexts.{kind_text};
 
 use srch_base::Name;
 use std::error::Error;
 use std::fmt;
 
-/// Why a text is no extended query. At one place the order is that of the list.
+/// Why a text is no extended query. At one offset the order is that of the list.
 #[derive(Clone, Copy, Debug, PartialEq, Eq)]
 pub enum QueryKind {
-    /// A `"` after which no other stands.
+    /// A `"` that no other follows.
     UnclosedQuote,
     /// The first piece with which no query goes on, or the text's end.
     Syntax,
-    /// An AND, or what a ZONESPAN stands over, has negated items alone. The place is that of its first item.
+    /// An AND, or what a ZONESPAN stands over, has negated items alone. The offset is that of its first item.
     OnlyNot,
     /// A field limit names what is no field. The fault has the name.
     UnknownField,
@@ -37,13 +40,13 @@ pub struct Wrong {
     pub name: Name,
 }
 
-impl fmt::Display for QueryKind {
-    ghost use Rattle.std.specs.Prelude.{Some};
-
-    ghost output = { λ kind. Some (kind_text kind) };
-
-    fn fmt<W: fmt::Write>(&self, f: &mut fmt::Formatter<W>) -> fmt::Result {
-        f.write_str(match self {
+impl QueryKind {
+    /// The kind in words.
+    pub fn text(self) -> &'static str
+        ensures words { result.now ≡ kind_text self }
+        ensures short { length result.now ≤ 24 }
+    {
+        match self {
             QueryKind::UnclosedQuote => "unclosed quote",
             QueryKind::Syntax => "syntax error",
             QueryKind::OnlyNot => "only NOT",
@@ -54,7 +57,18 @@ impl fmt::Display for QueryKind {
             QueryKind::Nesting => "nesting above 32",
             QueryKind::TooManyKeywords => "too many keywords",
             QueryKind::ZoneSpanBeforeOperator => "ZONESPAN before operator",
-        })
+        }
+    }
+}
+
+impl fmt::Display for QueryKind {
+    ghost use Rattle.std.specs.Prelude.{Some};
+    ghost use Rattle.query_marks.specs.KindTexts.{kind_text};
+
+    ghost output = { λ kind. Some (kind_text kind) };
+
+    fn fmt<W: fmt::Write>(&self, f: &mut fmt::Formatter<W>) -> fmt::Result {
+        f.write_str(self.text())
     }
 }
 

@@ -15,7 +15,7 @@ use sqlite_items::Items;
 use srch_base::{Name, NoMemory, Word};
 use std::alloc::Global;
 
-/// The numbers of the zones whose names stand at a place, if it is one.
+/// The numbers of the zones whose names a slice has, if there is one.
 fn zones_of(
     alloc: Global,
     zones: &[Name],
@@ -54,7 +54,7 @@ fn copy_limit(alloc: Global, limit: &Limit) -> Result<Limit, NoMemory>
     })
 }
 
-/// What stands for a keyword above the 255th.
+/// What is in the place of a keyword above the 255th.
 fn nobody(alloc: Global) -> Key
     ensures { result ≡ nobody_key }
 {
@@ -93,7 +93,7 @@ struct Standing {
     limit: Limit,
     start: bool,
     end: bool,
-    /// How many keywords stand before the piece.
+    /// How many keywords are before the piece.
     before: u16,
 }
 

@@ -4,6 +4,7 @@
 mod fault;
 mod faulty;
 mod keys;
+mod laws;
 mod limits;
 mod mark;
 mod marking;
@@ -17,6 +18,7 @@ mod steps;
 mod words;
 
 pub use fault::{QueryKind, Wrong};
+pub use laws::a_keyword_is_under_the_last_limit;
 pub use limits::Limits;
 pub use mark::{Mark, Sign};
 pub use reading::marks;

@@ -1,4 +1,4 @@
-//! Limits in force. The zones are kept by the place of their names, so that a group costs no copy of them.
+//! Limits in force. The zones are kept by the offsets of their names, so that a group costs no copy of them.
 ghost use Rattle.std.specs.Prelude.{◌≡◌, ◌≤◌, true, false, None, length};
 ghost use Rattle.query_marks.specs.Limits.{keeps as keeps_field, mask as mask_of, positions_of as positions_in, field_limits as field_limits_of, zone_limits as zone_limits_of};
 

@@ -28,7 +28,7 @@ pub enum Sign {
     Spans(Items<u16>),
     /// `@@relaxed`.
     Relaxed,
-    /// A `"` after which no other stands.
+    /// A `"` that no other follows.
     Unclosed,
     /// The text's end.
     End,
@@ -37,7 +37,7 @@ pub enum Sign {
 /// A piece as the grammar sees it.
 #[derive(Drop)]
 pub struct Mark {
-    /// The place of its first byte.
+    /// The offset of its first byte.
     pub at: u32,
     pub sign: Sign,
     /// What is wrong with it by itself, the first by the order of the kinds.

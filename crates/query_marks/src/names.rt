@@ -58,7 +58,7 @@ pub(crate) fn is_listed(names: &[u8], known: &[u8]) -> bool
     names.split(|b| *b == b',').any(|name| is_same(name, known))
 }
 
-/// How many names stand before this one in the list.
+/// How many names are before this one in the list.
 fn place_of(list: &[Name], name: &[u8]) -> usize
     ensures is { result ≡ place_in list.now name.now }
     ensures within { result ≤ length list.now }

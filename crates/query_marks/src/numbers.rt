@@ -59,7 +59,7 @@ fn share_of(digits: &[u8]) -> How
     }
 }
 
-/// How the keywords of a quoted piece are asked for. A number out of range counts as 0.
+/// How the keywords of a quoted piece are looked for. A number out of range counts as 0.
 pub(crate) fn how_of(text: &[u8], number: Number) -> How
     ensures { result ≡ how_in text.now number }
 {

@@ -1,3 +1,4 @@
+//! The bytes of a slice, also of one that ends after the text: none of its readers needs to know that it lies in the text.
 ghost use Rattle.std.specs.Prelude.{◌≡◌};
 ghost use Rattle.query_marks.specs.LimitNames.{bytes_of as bytes_in};
 

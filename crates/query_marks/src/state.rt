@@ -7,7 +7,7 @@ use sqlite_items::Items;
 pub(crate) struct State {
     /// The keywords, up to the 256th.
     pub keywords: u16,
-    /// `@@relaxed` stands before.
+    /// `@@relaxed` is among them.
     pub relaxed: bool,
     pub here: Limits,
     /// The limits of the groups around, the innermost last.

@@ -57,7 +57,7 @@ pub(crate) fn letters(
     Ok(letters)
 }
 
-/// How many letters stand at the front.
+/// The length of the longest prefix of letters.
 pub(crate) fn run_len(letters: &[Option<char>]) -> usize
     ensures len { result ≡ prefix_len is_some letters.now }
     ensures within { result ≤ length letters.now }

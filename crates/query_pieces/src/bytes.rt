@@ -7,7 +7,7 @@ ghost use Rattle.std.specs.List.{prefix_len};
 ghost use Rattle.query_pieces.specs.Operators.{is_listed, is_inside, are_names, quote_end};
 ghost use Rattle.query_pieces.specs.steps.Names.{begins_of, further_of};
 
-/// The byte at a place.
+/// The byte at an offset.
 #[tactic(auto, unfolding(crate::specs::QueryBytes::byte))]
 pub(crate) fn byte_at(text: &[u8], place: usize) -> u8
     ensures is { result ≡ byte text.now place }
@@ -20,7 +20,7 @@ pub(crate) fn byte_at(text: &[u8], place: usize) -> u8
     }
 }
 
-/// The byte before a place.
+/// The byte before an offset.
 #[tactic(auto, unfolding(crate::specs::QueryBytes::byte_before))]
 pub(crate) fn before(text: &[u8], place: usize) -> u8
     ensures { result ≡ byte_before text.now place }
@@ -46,7 +46,7 @@ pub(crate) fn bounds(b: u8) -> bool
     blank(b) || b == b'(' || b == b')' || b == b'"'
 }
 
-/// What stands before a NOT.
+/// What may come directly before a NOT.
 pub(crate) fn may_open_not(b: u8) -> bool
     ensures { result ≡ opens_not b }
 {
@@ -93,7 +93,7 @@ pub(crate) fn in_field(b: u8) -> bool
     b.is_ascii_alphanumeric() || b == b'_'
 }
 
-/// Whether the bytes of a word stand at a place.
+/// Whether the bytes of a word are at an offset.
 pub(crate) fn has(text: &[u8], place: usize, word: &[u8]) -> bool
     requires size { place + length word.now < 2 ^ 64 }
     requires plain { (k : ℕ) → k < length word.now → slice_index word.now k ≢ 32 }
@@ -108,7 +108,7 @@ pub(crate) fn has(text: &[u8], place: usize, word: &[u8]) -> bool
     true
 }
 
-/// How many digits stand at the front.
+/// The length of the longest prefix of digits.
 fn digits_len(bytes: &[u8]) -> usize
     ensures len { result ≡ prefix_len is_digit bytes.now }
     ensures within { result ≤ length bytes.now }
@@ -116,7 +116,7 @@ fn digits_len(bytes: &[u8]) -> usize
     bytes.iter().take_while(|b| b.is_ascii_digit()).count()
 }
 
-/// How many bytes of a name stand at the front.
+/// The length of the longest prefix whose bytes are those of a name.
 fn name_len(kind: NameKind, bytes: &[u8]) -> usize
     ensures len { result ≡ prefix_len (further_of kind) bytes.now }
     ensures within { result ≤ length bytes.now }
@@ -124,7 +124,7 @@ fn name_len(kind: NameKind, bytes: &[u8]) -> usize
     bytes.iter().take_while(|b| kind.goes_on(**b)).count()
 }
 
-/// How many bytes of a list of names stand at the front.
+/// The length of the longest prefix whose bytes are those of a list of names.
 fn list_len(kind: NameKind, bytes: &[u8]) -> usize
     ensures len { result ≡ prefix_len (is_listed (further_of kind)) bytes.now }
     ensures within { result ≤ length bytes.now }
@@ -143,7 +143,7 @@ fn quoted_len(bytes: &[u8]) -> usize
     bytes.iter().take_while(|b| **b != b'"').count()
 }
 
-/// The place after the digits that stand at a place.
+/// The offset after the digits at an offset.
 #[tactic(auto, unfolding(crate::specs::QueryBytes::run_end))]
 pub(crate) fn after_digits(text: &[u8], place: usize) -> usize
     requires { place < 2 ^ 33 }
@@ -160,7 +160,7 @@ pub(crate) fn after_digits(text: &[u8], place: usize) -> usize
     }
 }
 
-/// The place after the bytes of a name that stand at a place.
+/// The offset after the bytes of a name at an offset.
 #[tactic(auto, unfolding(crate::specs::QueryBytes::run_end))]
 pub(crate) fn after_name(kind: NameKind, text: &[u8], place: usize) -> usize
     requires { place < 2 ^ 33 }
@@ -177,7 +177,7 @@ pub(crate) fn after_name(kind: NameKind, text: &[u8], place: usize) -> usize
     }
 }
 
-/// The place after the bytes of a list of names that stand at a place.
+/// The offset after the bytes of a list of names at an offset.
 #[tactic(auto, unfolding(crate::specs::QueryBytes::run_end))]
 pub(crate) fn after_list(kind: NameKind, text: &[u8], place: usize) -> usize
     requires { place < 2 ^ 33 }
@@ -194,7 +194,7 @@ pub(crate) fn after_list(kind: NameKind, text: &[u8], place: usize) -> usize
     }
 }
 
-/// The next quote from a place on, or the text's end.
+/// The next quote from an offset on, or the text's end.
 #[tactic(auto, unfolding(crate::specs::QueryBytes::run_end))]
 pub(crate) fn next_quote(text: &[u8], place: usize) -> usize
     requires { place < 2 ^ 33 }

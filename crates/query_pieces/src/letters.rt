@@ -18,7 +18,7 @@ use crate::operators::read_operator;
 use crate::piece::Piece;
 use charset_map::Charset;
 
-/// A letter as it is folded, and the place after it.
+/// A letter as it is folded, and the offset after it.
 #[derive(Clone, Copy)]
 pub(crate) struct Folded {
     pub letter: char,
@@ -37,7 +37,7 @@ fn first_char(text: &str) -> Option<(char, &str)>
     }
 }
 
-/// The character at a place.
+/// The character at an offset.
 fn character(text: &str, at: usize) -> Option<char>
     requires { IsCharBoundary text.now at }
     ensures is { result ≡ char_at text.now at }
@@ -49,7 +49,7 @@ fn character(text: &str, at: usize) -> Option<char>
     }
 }
 
-/// The place after the character at a place, if one stands there.
+/// The offset after the character at an offset, if there is one.
 pub(crate) fn after_character(text: &str, at: usize) -> usize
     requires { IsCharBoundary text.now at }
     ensures is { result ≡ char_end at (char_at text.now at) }
@@ -62,7 +62,7 @@ pub(crate) fn after_character(text: &str, at: usize) -> usize
     }
 }
 
-/// The letter that the character at a place is by the table.
+/// The letter that the character at an offset is by the table.
 fn by_charset(charset: &Charset, text: &str, at: usize) -> Option<Folded>
     requires { IsCharBoundary text.now at }
     ensures is { option_map letter_is result ≡ by_table (folded charset.now) at (char_at text.now at) }
@@ -89,14 +89,14 @@ fn escaped(charset: &Charset, text: &str, at: usize) -> Option<Folded>
     by_charset(charset, text, at + 1)
 }
 
-/// The byte at a place of a text.
+/// The byte at an offset of a text.
 pub(crate) fn text_byte(text: &str, at: usize) -> u8
     ensures { result ≡ byte text.now at }
 {
     byte_at(text.as_bytes(), at)
 }
 
-/// What begins at a place of a text besides words.
+/// What begins at an offset of a text besides words.
 pub(crate) fn operator(text: &str, inside: bool, at: usize) -> Option<Piece>
     requires within { at ≤ length text.now }
     requires size { length text.now < 2 ^ 32 }
@@ -106,7 +106,7 @@ pub(crate) fn operator(text: &str, inside: bool, at: usize) -> Option<Piece>
     read_operator(text.as_bytes(), inside, at)
 }
 
-/// The letter at a place. The flag says that a letter of the same word stands directly before it.
+/// The letter at an offset. The flag says that a letter of the same word stands directly before it.
 #[tactic(auto, unfolding(crate::specs::Letters::letter_at))]
 pub(crate) fn letter(charset: &Charset, text: &str, inside: bool, at: usize) -> Option<Folded>
     requires seam { IsCharBoundary text.now at }
@@ -127,7 +127,7 @@ pub(crate) fn letter(charset: &Charset, text: &str, inside: bool, at: usize) -> 
     }
 }
 
-/// The place after the letters that stand at a place.
+/// The offset after the letters at an offset.
 pub(crate) fn after_letters(charset: &Charset, text: &str, from: usize) -> usize
     requires seam { IsCharBoundary text.now from }
     requires size { length text.now < 2 ^ 32 }

@@ -1,4 +1,4 @@
-//! The pieces of an extended query: words, quoted pieces, operators and limits, with their places.
+//! The pieces of an extended query: words, quoted pieces, operators and limits, with their offsets.
 #![tactic(auto)]
 
 mod bytes;

@@ -1,5 +1,5 @@
-//! Operators, limits and quoted pieces. What begins at a place is told by the byte there; each reader answers the piece, with
-//! the place after it, or nothing where the byte makes no operator: then the character table decides.
+//! Operators, limits and quoted pieces. The byte at an offset decides which of them may begin there; each reader answers the
+//! piece, with the offset after it, or nothing where the byte makes no operator: then the character table decides.
 //!
 //! A list of names is read up to the first byte that can't stand in it, so that no text is read twice: each `@` and each
 //! `ZONE` looks ahead over bytes among which no further one makes a limit.
@@ -16,14 +16,14 @@ use crate::bytes::{
 };
 use crate::piece::{FieldLimit, Form, Names, Number, Piece, Quotation, Slice, ZoneLimit};
 
-/// Names, with the place after them.
+/// Names, with the offset after them.
 #[derive(Clone, Copy)]
 pub(crate) struct Named {
     pub names: Slice,
     pub to: usize,
 }
 
-/// The number of a quoted piece, with the place after it.
+/// The number of a quoted piece, with the offset after it.
 #[derive(Clone, Copy)]
 pub(crate) struct Numbered {
     pub number: Number,
@@ -302,7 +302,7 @@ fn read_quoted(text: &[u8], at: usize) -> Piece
     }
 }
 
-/// Whether `@@relaxed` stands at a place, which is the text's start.
+/// Whether `@@relaxed` is at an offset, which is the text's start.
 fn relaxes(text: &[u8], at: usize) -> bool
     ensures is { result ≡ relaxed_at text.now at }
     ensures within { result ≡ true → (at ≡ 0) × (9 ≤ length text.now) × (spells text.now 0 (codes "@@relaxed") ≡ true) }
@@ -327,7 +327,7 @@ fn read_at_sign(text: &[u8], at: usize) -> Option<Piece>
     }
 }
 
-/// Reads what begins at a place besides words. The flag says that a letter of a word stands directly before it.
+/// Reads what begins at an offset besides words. The flag says that a letter of a word stands directly before it.
 #[tactic(auto, unfolding(crate::specs::Operators::operator_at))]
 pub(crate) fn read_operator(text: &[u8], inside: bool, at: usize) -> Option<Piece>
     requires within { at ≤ length text.now }

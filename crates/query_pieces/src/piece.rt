@@ -1,13 +1,13 @@
-//! What a piece is: plain data, in which words, names and numbers are places of the text, to be read by who needs them. A
-//! piece begins where the one before it ends, so it has only the place after it. The forms are those of "Extended query
+//! What a piece is: plain data, in which words, names and numbers are parts of the text, by their offsets, to be read by who needs them. A
+//! piece begins where the one before it ends, so it has only the offset after it. The forms are those of "Extended query
 //! syntax" and "Field-start and field-end modifiers" in the Sphinx manual.
 
-/// A part of a text, from one place up to another.
+/// A part of a text, from one offset up to another.
 #[derive(Clone, Copy, PartialEq, Eq)]
 pub struct Slice {
-    /// The place of its first byte.
+    /// The offset of its first byte.
     pub from: usize,
-    /// The place after its last byte.
+    /// The offset after its last byte.
     pub to: usize,
 }
 
@@ -105,6 +105,6 @@ pub enum Form {
 #[derive(Clone, Copy, PartialEq, Eq)]
 pub struct Piece {
     pub form: Form,
-    /// The place after it.
+    /// The offset after it.
     pub to: usize,
 }

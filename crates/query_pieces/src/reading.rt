@@ -1,7 +1,7 @@
-//! The pieces of a text, read from left to right: at each place an operator or a limit where one begins, else a word,
-//! else one character that separates. Each piece begins where the one before it ended. What a place begins is told by the
-//! byte before it, by whether a letter of a word stands there, and by the bytes from it on; the time is linear in the
-//! text.
+//! The pieces of a text, read from left to right: at each offset an operator or a limit where one begins, else a word,
+//! else one character that separates. Each piece begins where the one before it ended. What begins at an offset
+//! depends on the byte before it, on whether that is a letter of a word, and on the bytes from it on; the time is linear in
+//! the text.
 ghost use Rattle.std.specs.Prelude.{◌≡◌, ◌<◌, ◌≤◌, ◌^◌, ℕ, false, None, IfOk, length};
 ghost use Rattle.std.specs.Str.{IsCharBoundary};
 ghost use Rattle.charset_map.specs.Spans.{folded};
@@ -35,7 +35,7 @@ fn read_separator(text: &str, at: usize) -> Piece
     }
 }
 
-/// Reads a word, whose first letter stands at the place `from`.
+/// Reads a word, whose first letter is at the offset `from`.
 fn read_word(charset: &Charset, text: &str, at: usize, from: usize) -> Piece
     requires from { from ≡ after_start text.now at }
     requires ahead { at ≤ from }
@@ -57,7 +57,7 @@ fn read_word(charset: &Charset, text: &str, at: usize, from: usize) -> Piece
     }
 }
 
-/// The place after a `^`, where one stands.
+/// The offset after a `^`, where there is one.
 fn after_caret(text: &str, at: usize) -> usize
     requires seam { IsCharBoundary text.now at }
     requires size { length text.now < 2 ^ 32 }
@@ -97,7 +97,7 @@ fn leaves_letter(form: Form) -> bool
     }
 }
 
-/// The piece at a place of a text. The flag says that a letter of a word stands directly before it.
+/// The piece at an offset of a text. The flag says that a letter of a word stands directly before it.
 ///
 /// The time is linear in what the piece takes, and it takes no memory.
 pub fn piece_at(charset: &Charset, text: &str, inside: bool, at: usize) -> Piece

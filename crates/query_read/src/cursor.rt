@@ -37,7 +37,7 @@ pub(crate) fn class_of(sign: &Sign) -> Class
     }
 }
 
-/// The number by which a class is told apart.
+/// A number for each class.
 fn number_of(class: Class) -> u8
     ensures { result ≡ class_number class }
 {
@@ -67,13 +67,13 @@ pub(crate) fn begins_item(class: Class) -> bool
     matches!(class, Class::Leaf | Class::Loose | Class::Open | Class::Not)
 }
 
-/// The marks of a text from a place on, of which the last is the end.
+/// The marks of a text that are left, of which the last is the end.
 #[derive(Drop)]
-pub(crate) struct Cursor<'a> {
+pub(crate) struct MarkCursor<'a> {
     rest: &'a [Mark],
 }
 
-impl<'a> Model for Cursor<'a> {
+impl<'a> Model for MarkCursor<'a> {
     ghost use Rattle.std.specs.Prelude.{◌≡◌, true, List};
     ghost use Rattle.query_marks.specs.declared.mark.Mark.{Mark};
     ghost use Rattle.query_grammar.specs.steps.Classes.{is_ended};
@@ -85,12 +85,12 @@ impl<'a> Model for Cursor<'a> {
     ghost invariant = { λ a. is_ended a.rest.now ≡ true };
 }
 
-impl<'a> Cursor<'a> {
+impl<'a> MarkCursor<'a> {
     pub fn new(marks: &'a [Mark]) -> Self
         requires { is_ended marks.now ≡ true }
         ensures { result ≡ marks.now }
     {
-        Cursor { rest: marks }
+        MarkCursor { rest: marks }
     }
 
     /// What the next mark is.
@@ -108,7 +108,7 @@ impl<'a> Cursor<'a> {
         &self.rest[0].sign
     }
 
-    /// The place of the next mark.
+    /// The offset of the next mark.
     pub fn place(&self) -> u32
         ensures { result ≡ first_place query_marks self.now }
     {

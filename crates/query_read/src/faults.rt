@@ -1,4 +1,4 @@
-//! The first fault of a text, among the place where its reading stopped, what is wrong with a mark before it, and what ended
+//! The first fault of a text, among the offset where its reading stopped, what is wrong with a mark before it, and what ended
 //! before it with negated items alone.
 ghost use Rattle.std.specs.Prelude.{◌≡◌, nat_lt, IfOk};
 ghost use Rattle.std.specs.List.{prefix_len};
@@ -14,7 +14,7 @@ use query_marks::{Mark, QueryKind, Sign};
 use srch_base::{Name, NoMemory};
 use std::alloc::Global;
 
-/// How many marks stand before a place.
+/// How many marks are before an offset.
 fn marks_before(marks: &[Mark], place: u32) -> usize
     ensures { result ≡ prefix_len (λ m. nat_lt m.at place) marks.now }
 {
@@ -111,7 +111,7 @@ fn stop_kind(front: &[Mark], stop: &Mark) -> QueryKind
     }
 }
 
-/// The first fault, where there is one. The reading stopped at a place, or not at all.
+/// The first fault, where there is one. The reading stopped at an offset, or not at all.
 pub(crate) fn first_fault(
     alloc: Global,
     marks: &[Mark],

@@ -11,7 +11,7 @@ ghost use Rattle.query_grammar.specs.steps.QueryGrammar.{leaf, leaves};
 ghost use Rattle.query_read.specs.steps.Parts.{join_goes_on, AreAdded, IsLeaves};
 
 use crate::copies::{copy_key, copy_keys};
-use crate::cursor::Cursor;
+use crate::cursor::MarkCursor;
 use crate::operators::{Operator, join_next};
 use query_grammar::Class;
 use query_marks::Sign;
@@ -20,7 +20,7 @@ use srch_base::Or;
 use std::alloc::Global;
 
 /// Reads a word or a phrase.
-fn leaf(alloc: Global, input: &mut Cursor<'_>) -> Result<Node, Or<u32>>
+fn leaf(alloc: Global, input: &mut MarkCursor<'_>) -> Result<Node, Or<u32>>
     ensures { ReadsPart query_marks leaf [] IsLeaf input.old result input.new }
 {
     match input.sign() {
@@ -40,7 +40,7 @@ fn leaf(alloc: Global, input: &mut Cursor<'_>) -> Result<Node, Or<u32>>
 }
 
 /// Reads a quoted piece with a number.
-pub(crate) fn loose(alloc: Global, input: &mut Cursor<'_>) -> Result<Node, Or<u32>>
+pub(crate) fn loose(alloc: Global, input: &mut MarkCursor<'_>) -> Result<Node, Or<u32>>
     ensures { ReadsPart query_marks (one classes.Loose) [] IsLoose input.old result input.new }
 {
     match input.sign() {
@@ -56,7 +56,7 @@ pub(crate) fn loose(alloc: Global, input: &mut Cursor<'_>) -> Result<Node, Or<u3
 }
 
 /// Reads the leaves that SENTENCE joins to the first.
-fn sentences(alloc: Global, first: Node, input: &mut Cursor<'_>) -> Result<Node, Or<u32>>
+fn sentences(alloc: Global, first: Node, input: &mut MarkCursor<'_>) -> Result<Node, Or<u32>>
     requires { IsNextOf query_marks classes.Sentence input.old true }
     ensures { ReadsPart query_marks (repeated classes.Sentence leaf) (classes.Sentence ∷ []) (AreAdded signs.Sentence nodes.Sentence first) input.old result input.new }
 {
@@ -68,7 +68,7 @@ fn sentences(alloc: Global, first: Node, input: &mut Cursor<'_>) -> Result<Node,
 }
 
 /// Reads the leaves that PARAGRAPH joins to the first.
-fn paragraphs(alloc: Global, first: Node, input: &mut Cursor<'_>) -> Result<Node, Or<u32>>
+fn paragraphs(alloc: Global, first: Node, input: &mut MarkCursor<'_>) -> Result<Node, Or<u32>>
     requires { IsNextOf query_marks classes.Paragraph input.old true }
     ensures { ReadsPart query_marks (repeated classes.Paragraph leaf) (classes.Paragraph ∷ []) (AreAdded signs.Paragraph nodes.Paragraph first) input.old result input.new }
 {
@@ -80,7 +80,7 @@ fn paragraphs(alloc: Global, first: Node, input: &mut Cursor<'_>) -> Result<Node
 }
 
 /// Reads a leaf, or leaves that are joined.
-pub(crate) fn leaves(alloc: Global, input: &mut Cursor<'_>) -> Result<Node, Or<u32>>
+pub(crate) fn leaves(alloc: Global, input: &mut MarkCursor<'_>) -> Result<Node, Or<u32>>
     ensures { ReadsPart query_marks leaves join_goes_on IsLeaves input.old result input.new }
 {
     let first = leaf(alloc, input)?;

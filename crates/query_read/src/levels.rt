@@ -12,7 +12,7 @@ use std::alloc::Global;
 /// Items that stand side by side: those of an AND, or those of a ZONESPAN.
 #[derive(Clone, Copy)]
 pub(crate) struct Row {
-    /// The place of the first item.
+    /// The offset of the first item.
     first: Option<u32>,
     /// One item isn't negated.
     wanted: bool,
@@ -35,7 +35,7 @@ pub(crate) struct Scan {
     goes: bool,
 }
 
-/// The earlier of two places.
+/// The earlier of two offsets.
 fn earlier(a: Option<u32>, b: Option<u32>) -> Option<u32>
     ensures { result ≡ earlier_of a b }
 {
@@ -77,7 +77,7 @@ impl Row {
         }
     }
 
-    /// The place of the first item, where all are negated.
+    /// The offset of the first item, where all are negated.
     fn refused(self) -> Option<u32>
         ensures { result ≡ refused_row self }
     {
@@ -175,7 +175,7 @@ impl Scan {
         }
     }
 
-    /// The place that is refused where this mark comes next: of an AND that ends before it, or of a ZONESPAN.
+    /// The offset that is refused where this mark comes next: of an AND that ends before it, or of a ZONESPAN.
     fn refused(&self, mark: &Mark) -> Option<u32>
         ensures { result ≡ refused_at self.now mark.now }
     {
@@ -209,7 +209,7 @@ impl Scan {
     }
 }
 
-/// The place of the first AND or ZONESPAN among the marks that ended with negated items alone.
+/// The offset of the first AND or ZONESPAN among the marks that ended with negated items alone.
 pub(crate) fn only_not(alloc: Global, marks: &[Mark]) -> Result<Option<u32>, NoMemory>
     ensures { IfOk result (λ found. IsLeast (Refuses scan_at_start marks.now) found) }
 {

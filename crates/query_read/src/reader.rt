@@ -15,7 +15,7 @@ ghost use Rattle.query_read.specs.steps.Parts.{join_goes_on, alternatives_go_on,
 ghost use Rattle.query_grammar.specs.steps.QueryGrammar.{others, join_of, alternatives_of, item_of, items_of, section_of, and_of, expr_of};
 
 use crate::copies::copy_numbers;
-use crate::cursor::{Cursor, begins_item};
+use crate::cursor::{MarkCursor, begins_item};
 use crate::joins::{leaves, loose};
 use crate::operators::{Operator, join_next};
 use query_grammar::Class;
@@ -26,7 +26,7 @@ use srch_base::{NoMemory, Or};
 use std::alloc::Global;
 
 /// Reads the end of a group.
-fn closed(node: Node, input: &mut Cursor<'_>) -> Result<Node, Or<u32>>
+fn closed(node: Node, input: &mut MarkCursor<'_>) -> Result<Node, Or<u32>>
     ensures { ReadsPart query_marks (one classes.Close) [] (λ closed u. (closed ≡ node) × Is signs.Close u) input.old result input.new }
 {
     if input.takes(Class::Close) {
@@ -38,7 +38,7 @@ fn closed(node: Node, input: &mut Cursor<'_>) -> Result<Node, Or<u32>>
 
 /// Reads a group, with groups in it nested one less deep.
 #[cycle(readers)]
-fn group(alloc: Global, depth: u32, input: &mut Cursor<'_>) -> Result<Node, Or<u32>>
+fn group(alloc: Global, depth: u32, input: &mut MarkCursor<'_>) -> Result<Node, Or<u32>>
     requires { IsNextOf query_marks classes.Open input.old true }
     ensures { ReadsPart query_marks (others depth) [] (IsGroup Any depth) input.old result input.new }
 {
@@ -52,7 +52,7 @@ fn group(alloc: Global, depth: u32, input: &mut Cursor<'_>) -> Result<Node, Or<u
 
 /// Reads what SENTENCE and PARAGRAPH join, or an atom.
 #[cycle(readers)]
-fn join(alloc: Global, depth: u32, input: &mut Cursor<'_>) -> Result<Node, Or<u32>>
+fn join(alloc: Global, depth: u32, input: &mut MarkCursor<'_>) -> Result<Node, Or<u32>>
     ensures { ReadsPart query_marks (join_of (others depth)) join_goes_on (IsJoin (IsGroup Any depth)) input.old result input.new }
 {
     match input.class() {
@@ -65,7 +65,7 @@ fn join(alloc: Global, depth: u32, input: &mut Cursor<'_>) -> Result<Node, Or<u3
 
 /// Reads joins with `|` and MAYBE between them.
 #[cycle(readers)]
-fn alternatives(alloc: Global, depth: u32, input: &mut Cursor<'_>) -> Result<Node, Or<u32>>
+fn alternatives(alloc: Global, depth: u32, input: &mut MarkCursor<'_>) -> Result<Node, Or<u32>>
     ensures { ReadsPart query_marks (alternatives_of (others depth)) alternatives_go_on (IsAlt (IsGroup Any depth)) input.old result input.new }
 {
     let mut node = join(alloc, depth, input)?;
@@ -82,7 +82,7 @@ fn alternatives(alloc: Global, depth: u32, input: &mut Cursor<'_>) -> Result<Nod
 
 /// Reads an item of an AND.
 #[cycle(readers)]
-fn item(alloc: Global, depth: u32, input: &mut Cursor<'_>) -> Result<Item, Or<u32>>
+fn item(alloc: Global, depth: u32, input: &mut MarkCursor<'_>) -> Result<Item, Or<u32>>
     ensures { ReadsPart query_marks (item_of (others depth)) alternatives_go_on (IsItem (IsGroup Any depth)) input.old result input.new }
 {
     if input.takes(Class::Not) {
@@ -102,7 +102,7 @@ fn item(alloc: Global, depth: u32, input: &mut Cursor<'_>) -> Result<Item, Or<u3
 
 /// Reads one item or more.
 #[cycle(readers)]
-fn items(alloc: Global, depth: u32, input: &mut Cursor<'_>) -> Result<Items<Item>, Or<u32>>
+fn items(alloc: Global, depth: u32, input: &mut MarkCursor<'_>) -> Result<Items<Item>, Or<u32>>
     ensures { ReadsPart query_marks (items_of (others depth)) items_go_on (AreItems (IsGroup Any depth)) input.old result input.new }
 {
     let mut items = Items::new(alloc);
@@ -114,7 +114,7 @@ fn items(alloc: Global, depth: u32, input: &mut Cursor<'_>) -> Result<Items<Item
 }
 
 /// Reads limits. The last one counts: its zones are given where it makes a node.
-fn limits(alloc: Global, input: &mut Cursor<'_>) -> Result<Option<Items<u16>>, Or<u32>>
+fn limits(alloc: Global, input: &mut MarkCursor<'_>) -> Result<Option<Items<u16>>, Or<u32>>
     ensures { ReadsPart query_marks (many (one classes.Limit)) (classes.Limit ∷ []) (AreLimits (is_first input.old)) input.old result input.new }
 {
     let mut span = None;
@@ -179,7 +179,7 @@ fn given(
 
 /// Reads items after limits, and answers what they give to their AND.
 #[cycle(readers)]
-fn section(alloc: Global, depth: u32, input: &mut Cursor<'_>) -> Result<Items<Item>, Or<u32>>
+fn section(alloc: Global, depth: u32, input: &mut MarkCursor<'_>) -> Result<Items<Item>, Or<u32>>
     ensures { ReadsPart query_marks (section_of (others depth)) items_go_on (IsGiven (IsGroup Any depth) (is_first input.old)) input.old result input.new }
 {
     let span = limits(alloc, input)?;
@@ -189,7 +189,7 @@ fn section(alloc: Global, depth: u32, input: &mut Cursor<'_>) -> Result<Items<It
 
 /// Reads an AND.
 #[cycle(readers)]
-fn and(alloc: Global, depth: u32, input: &mut Cursor<'_>) -> Result<Node, Or<u32>>
+fn and(alloc: Global, depth: u32, input: &mut MarkCursor<'_>) -> Result<Node, Or<u32>>
     ensures { ReadsPart query_marks (and_of (others depth)) and_goes_on (IsAndNode Any (IsGroup Any depth)) input.old result input.new }
 {
     let mut all = section(alloc, depth, input)?;
@@ -201,7 +201,7 @@ fn and(alloc: Global, depth: u32, input: &mut Cursor<'_>) -> Result<Node, Or<u32
 
 /// Reads ANDs with `<<` and NEAR between them.
 #[cycle(readers)]
-fn expr(alloc: Global, depth: u32, input: &mut Cursor<'_>) -> Result<Node, Or<u32>>
+fn expr(alloc: Global, depth: u32, input: &mut MarkCursor<'_>) -> Result<Node, Or<u32>>
     ensures { ReadsPart query_marks (expr_of (others depth)) expr_goes_on (IsExpr Any (IsGroup Any depth)) input.old result input.new }
 {
     let mut node = and(alloc, depth, input)?;
@@ -226,7 +226,7 @@ fn expr(alloc: Global, depth: u32, input: &mut Cursor<'_>) -> Result<Node, Or<u3
 }
 
 /// Reads a query, to the text's end.
-pub(crate) fn query(alloc: Global, input: &mut Cursor<'_>) -> Result<Node, Or<u32>>
+pub(crate) fn query(alloc: Global, input: &mut MarkCursor<'_>) -> Result<Node, Or<u32>>
     ensures { ReadsWhole input.old result }
 {
     input.takes(Class::Relaxed);

@@ -11,7 +11,7 @@ ghost use Rattle.doc_types.specs.Schemas.{IsSchema};
 ghost use Rattle.query_marks.specs.Marks.{setting_of};
 ghost use Rattle.query_grammar.specs.Queries.{ReadsQuery, keys_of};
 
-use crate::cursor::Cursor;
+use crate::cursor::MarkCursor;
 use crate::faults::first_fault;
 use crate::reader::query;
 use crate::recognizer::recognize;
@@ -62,7 +62,7 @@ pub fn read_query(
     ensures { ReadsQuery (setting_of (folded charset.now) schema.now) text.now result }
 {
     let marks = marks(alloc, charset, schema, text)?;
-    let mut input = Cursor::new(marks.as_slice());
+    let mut input = MarkCursor::new(marks.as_slice());
     if input.is_next(Class::End) {
         return Ok(Query {
             root: None,
@@ -73,7 +73,7 @@ pub fn read_query(
     if let Some(fault) = first_fault(alloc, marks.as_slice(), stop)? {
         return Err(Or::Fault(fault));
     }
-    match query(alloc, &mut Cursor::new(marks.as_slice())) {
+    match query(alloc, &mut MarkCursor::new(marks.as_slice())) {
         Ok(root) => {
             let keywords = count_keywords(marks.as_slice());
             let root = Some(root);

@@ -1,5 +1,5 @@
-//! The recognizers of the grammar: whether marks are a query, and the place where reading stops if they aren't. They go over the
-//! marks as the readers do, but build nothing and take no memory, so that they may be asked of any text. A recognizer calls
+//! The recognizers of the grammar: whether marks are a query, and the offset where reading stops if they aren't. They go over the
+//! marks as the readers do, but build nothing and take no memory, so that any text may be given to them. A recognizer calls
 //! itself only through a group, so that the recursion is no deeper than groups may nest.
 ghost use Rattle.std.specs.Prelude.{◌≢◌, ◌∷◌, [], true};
 ghost use Rattle.token_grammar.specs.Language.{one, repeated};
@@ -11,11 +11,11 @@ ghost use Rattle.query_grammar.specs.steps.QueryGrammar.{leaf, leaves, others, j
 ghost use Rattle.query_read.specs.steps.Parts.{join_goes_on, alternatives_go_on, items_go_on, and_goes_on, expr_goes_on};
 ghost use Rattle.query_read.specs.steps.Recognizing.{Recognizes, TakesEither};
 
-use crate::cursor::{Cursor, begins_item};
+use crate::cursor::{MarkCursor, begins_item};
 use query_grammar::Class;
 
 /// Takes a mark of a class, which has to be the next one.
-fn expect(input: &mut Cursor<'_>, class: Class) -> Result<(), u32>
+fn expect(input: &mut MarkCursor<'_>, class: Class) -> Result<(), u32>
     requires { class ≢ classes.End }
     ensures { Recognizes (one class) [] input.old result input.new }
 {
@@ -27,7 +27,7 @@ fn expect(input: &mut Cursor<'_>, class: Class) -> Result<(), u32>
 }
 
 /// Takes a mark of one of two classes, if it is the next one.
-fn takes_either(input: &mut Cursor<'_>, first: Class, second: Class) -> bool
+fn takes_either(input: &mut MarkCursor<'_>, first: Class, second: Class) -> bool
     requires first { first ≢ classes.End }
     requires second { second ≢ classes.End }
     ensures { TakesEither first second input.old result input.new }
@@ -36,7 +36,7 @@ fn takes_either(input: &mut Cursor<'_>, first: Class, second: Class) -> bool
 }
 
 /// Leaves, each after a mark of the class.
-fn joined(input: &mut Cursor<'_>, class: Class) -> Result<(), u32>
+fn joined(input: &mut MarkCursor<'_>, class: Class) -> Result<(), u32>
     requires { class ≢ classes.End }
     ensures { Recognizes (repeated class leaf) (class ∷ []) input.old result input.new }
 {
@@ -47,7 +47,7 @@ fn joined(input: &mut Cursor<'_>, class: Class) -> Result<(), u32>
 }
 
 /// A leaf, or leaves that SENTENCE or PARAGRAPH joins.
-fn leaves(input: &mut Cursor<'_>) -> Result<(), u32>
+fn leaves(input: &mut MarkCursor<'_>) -> Result<(), u32>
     ensures { Recognizes leaves join_goes_on input.old result input.new }
 {
     expect(input, Class::Leaf)?;
@@ -60,7 +60,7 @@ fn leaves(input: &mut Cursor<'_>) -> Result<(), u32>
 
 /// A group, with groups in it nested one less deep.
 #[cycle(recognizers)]
-fn group(depth: u32, input: &mut Cursor<'_>) -> Result<(), u32>
+fn group(depth: u32, input: &mut MarkCursor<'_>) -> Result<(), u32>
     requires { IsNextOf query_marks classes.Open input.old true }
     ensures { Recognizes (others depth) [] input.old result input.new }
 {
@@ -74,7 +74,7 @@ fn group(depth: u32, input: &mut Cursor<'_>) -> Result<(), u32>
 
 /// What SENTENCE and PARAGRAPH join, or an atom.
 #[cycle(recognizers)]
-fn join(depth: u32, input: &mut Cursor<'_>) -> Result<(), u32>
+fn join(depth: u32, input: &mut MarkCursor<'_>) -> Result<(), u32>
     ensures { Recognizes (join_of (others depth)) join_goes_on input.old result input.new }
 {
     match input.class() {
@@ -87,7 +87,7 @@ fn join(depth: u32, input: &mut Cursor<'_>) -> Result<(), u32>
 
 /// Joins with `|` and MAYBE between them.
 #[cycle(recognizers)]
-fn alternatives(depth: u32, input: &mut Cursor<'_>) -> Result<(), u32>
+fn alternatives(depth: u32, input: &mut MarkCursor<'_>) -> Result<(), u32>
     ensures { Recognizes (alternatives_of (others depth)) alternatives_go_on input.old result input.new }
 {
     join(depth, input)?;
@@ -99,7 +99,7 @@ fn alternatives(depth: u32, input: &mut Cursor<'_>) -> Result<(), u32>
 
 /// An item of an AND.
 #[cycle(recognizers)]
-fn item(depth: u32, input: &mut Cursor<'_>) -> Result<(), u32>
+fn item(depth: u32, input: &mut MarkCursor<'_>) -> Result<(), u32>
     ensures { Recognizes (item_of (others depth)) alternatives_go_on input.old result input.new }
 {
     if input.takes(Class::Not) {
@@ -111,7 +111,7 @@ fn item(depth: u32, input: &mut Cursor<'_>) -> Result<(), u32>
 
 /// Limits, and then one item or more.
 #[cycle(recognizers)]
-fn section(depth: u32, input: &mut Cursor<'_>) -> Result<(), u32>
+fn section(depth: u32, input: &mut MarkCursor<'_>) -> Result<(), u32>
     ensures { Recognizes (section_of (others depth)) items_go_on input.old result input.new }
 {
     'limits: while input.takes(Class::Limit) {}
@@ -124,7 +124,7 @@ fn section(depth: u32, input: &mut Cursor<'_>) -> Result<(), u32>
 
 /// An AND: sections, each after the first with a limit.
 #[cycle(recognizers)]
-fn and(depth: u32, input: &mut Cursor<'_>) -> Result<(), u32>
+fn and(depth: u32, input: &mut MarkCursor<'_>) -> Result<(), u32>
     ensures { Recognizes (and_of (others depth)) and_goes_on input.old result input.new }
 {
     section(depth, input)?;
@@ -136,7 +136,7 @@ fn and(depth: u32, input: &mut Cursor<'_>) -> Result<(), u32>
 
 /// ANDs with `<<` and NEAR between them.
 #[cycle(recognizers)]
-fn expr(depth: u32, input: &mut Cursor<'_>) -> Result<(), u32>
+fn expr(depth: u32, input: &mut MarkCursor<'_>) -> Result<(), u32>
     ensures { Recognizes (expr_of (others depth)) expr_goes_on input.old result input.new }
 {
     and(depth, input)?;
@@ -146,8 +146,8 @@ fn expr(depth: u32, input: &mut Cursor<'_>) -> Result<(), u32>
     Ok(())
 }
 
-/// The place where reading a query stops, or none: then the marks are a query, to the text's end.
-pub(crate) fn recognize(input: &mut Cursor<'_>) -> Option<u32>
+/// The offset where reading a query stops, or none: then the marks are a query, to the text's end.
+pub(crate) fn recognize(input: &mut MarkCursor<'_>) -> Option<u32>
     ensures { StopsAt input.old result }
 {
     input.takes(Class::Relaxed);

@@ -27,7 +27,7 @@ pub struct Key {
     pub end: bool,
 }
 
-/// How the keywords of a quoted piece are asked for.
+/// How the keywords of a quoted piece are looked for.
 #[derive(Clone, Copy, PartialEq, Eq)]
 pub enum How {
     /// One after the other.

@@ -1,5 +1,5 @@
-//! The types of an extended query: its tree, its keywords with their limits, and how quoted keywords are asked for. No grammar
-//! stands here, so whoever evaluates a query needs none.
+//! The types of an extended query: its tree, its keywords with their limits, and how quoted keywords are looked for. No grammar is
+//! here, so whoever evaluates a query needs none.
 #![tactic(auto)]
 
 mod key;

@@ -1,5 +1,5 @@
 -- The marks of a text with which nothing is wrong carry their keywords one after the other.
-use Rattle.std.proofs.Common.{arith, ◌≡◌, ◌≢◌, ◌≤◌, ◌+◌, ◌*◌, ℕ, Bool, true, false, List, [], ◌∷◌, ◌++◌, length, refl, sym, ◌∙◌, ap, subst}
+use Rattle.std.proofs.Common.{arith, ◌≡◌, ◌≢◌, ◌≤◌, ◌+◌, ◌*◌, ℕ, Bool, true, false, List, [], ◌∷◌, ◌++◌, refl, sym, ◌∙◌, subst}
 use Rattle.std.specs.Prelude.{Option, Some, None, All, if◌then◌else◌, ◌==◌}
 use Rattle.std.specs.Option.{option_map}
 use Rattle.std.proofs.lemmas.List.Elements.{All-nil, All-head}
@@ -24,11 +24,11 @@ use Rattle.query_marks.specs.QueryWords.{words_in}
 use Rattle.query_marks.specs.LimitNames.{bytes_of, first_unknown, has_long, numbers_of, number_of}
 use Rattle.query_marks.specs.Hows.{how_of}
 use Rattle.query_marks.specs.Limits.{mask, keeps, field_limits, zone_limits}
-use Rattle.query_marks.specs.Marks.{Setting, setting_of, nameless, naming, limit_of, sign_of, wrong_of, wrong_near, wrong_span, wrong_positions, unknown_or, wrong_fields, wrong_zones, zone_sign, mark_at, last_of, but_last, after, before_marks, marks_from, marks_of, at_start}
+use Rattle.query_marks.specs.Marks.{Setting, setting_of, nameless, limit_of, sign_of, wrong_of, wrong_near, wrong_span, wrong_positions, unknown_or, wrong_fields, wrong_zones, zone_sign, mark_at, last_of, but_last, after, before_marks, marks_from, marks_of, at_start}
 use Rattle.query_write.specs.Written.{all_fields}
 use Rattle.query_grammar.specs.DeepValues.{GivesChars}
 use Rattle.query_write.specs.steps.Signs.{IsPlainWord}
-use Rattle.query_write.specs.steps.TokenRun.{IsInRange, AreRightZones}
+use Rattle.query_write.specs.steps.TokenRun.{AreRightZones}
 use Rattle.query_write.specs.steps.Writable.{IsRightLimit}
 use Rattle.query_write.specs.steps.Carried.{every, Carries}
 use Rattle.query_write.proofs.ReadWords.{words_plain}

@@ -1,7 +1,7 @@
 -- A query whose marks carry its keywords one after the other can be written: sections, ANDs, groups, and the whole.
-use Rattle.std.proofs.Common.{arith, ◌≡◌, ◌≤◌, ◌+◌, ℕ, zero, suc, List, [], ◌∷◌, ◌++◌, Bool, true, false, ◌||◌, not, Option, Some, None, length, inl, inr, refl, sym, ◌∙◌, ap, subst, append_assoc}
-use Rattle.std.specs.Prelude.{◌≢◌, ◌⊎◌, IsTrue}
-use Rattle.token_grammar.specs.Values.{◌then◌, IsOne, AreInRow}
+use Rattle.std.proofs.Common.{arith, ◌≡◌, ℕ, zero, suc, List, [], ◌∷◌, ◌++◌, Bool, true, false, ◌||◌, not, Option, Some, None, inl, inr, refl, sym, ◌∙◌, ap, subst, append_assoc}
+use Rattle.std.specs.Prelude.{◌⊎◌, IsTrue}
+use Rattle.token_grammar.specs.Values.{◌then◌, AreInRow}
 use Rattle.doc_types.specs.declared.schema.Schema.{Schema}
 use Rattle.query_tree.specs.declared.key.Limit.{Limit}
 use Rattle.query_marks.specs.declared.mark.Mark.{Mark}
@@ -9,7 +9,7 @@ use Rattle.query_marks.specs.declared.mark.Sign.TheVariants as signs
 use Rattle.query_tree.specs.declared.query.Item.{Item}
 use Rattle.query_tree.specs.declared.query.Node.{Node}
 use Rattle.query_tree.specs.declared.query.Node.TheVariants as nodes
-use Rattle.query_grammar.specs.Grammar.{Is, IsItem, Section, IsLimit, last_of, IsSection, node_of, items_of, all_items, IsAnd, has_item, IsOpenAnd, IsOrder, ordered, IsAndNode, IsExpr, IsGroup, IsQuery}
+use Rattle.query_grammar.specs.Grammar.{Is, Section, IsLimit, last_of, IsSection, node_of, items_of, all_items, IsAnd, has_item, IsOpenAnd, IsOrder, ordered, IsAndNode, IsExpr, IsGroup, IsQuery}
 use Rattle.query_write.specs.steps.TokenRun.{AreRightZones}
 use Rattle.query_write.specs.steps.Writable.{IsRightLimit, IsWritable, AreWritable, of_items, of_before, of_near, of_span, no_items, more_items}
 use Rattle.query_write.specs.steps.Carried.{Carries}

@@ -1,11 +1,8 @@
 -- A tree whose marks carry its keywords one after the other can be written.
-use Rattle.std.proofs.Common.{arith, ◌≡◌, ◌≤◌, ◌+◌, ℕ, zero, suc, List, [], ◌∷◌, ◌++◌, Bool, true, false, ◌||◌, not, Option, Some, None, length, inl, inr, refl, sym, ◌∙◌, ap, subst, append_assoc}
-use Rattle.std.specs.Prelude.{◌≢◌, IsTrue}
-use Rattle.token_grammar.specs.Values.{◌then◌, IsOne, AreInRow}
+use Rattle.std.proofs.Common.{◌≡◌, ℕ, List, [], ◌∷◌, ◌++◌, Bool, true, false, Option, inl, inr, refl, sym, subst}
+use Rattle.token_grammar.specs.Values.{◌then◌, AreInRow}
 use Rattle.doc_types.specs.declared.schema.Schema.{Schema}
-use Rattle.query_tree.specs.declared.key.Key.{Key}
 use Rattle.query_tree.specs.declared.key.Limit.{Limit}
-use Rattle.query_tree.specs.declared.key.How.{How}
 use Rattle.query_tree.specs.declared.key.How.TheVariants as hows
 use Rattle.query_marks.specs.declared.mark.Mark.{Mark}
 use Rattle.query_marks.specs.declared.mark.Sign.{Sign}
@@ -13,9 +10,8 @@ use Rattle.query_marks.specs.declared.mark.Sign.TheVariants as signs
 use Rattle.query_tree.specs.declared.query.Item.{Item}
 use Rattle.query_tree.specs.declared.query.Node.{Node}
 use Rattle.query_tree.specs.declared.query.Node.TheVariants as nodes
-use Rattle.query_grammar.specs.Grammar.{Is, IsLeaf, IsLoose, joined, AreJoined, IsJoin, IsChoice, chosen, IsAlt, IsItem, Section, IsLimit, last_of, IsSection, node_of, items_of, all_items, IsAnd, has_item, IsOpenAnd, IsOrder, ordered, IsAndNode, IsExpr, IsGroup, IsQuery}
-use Rattle.query_write.specs.steps.TokenRun.{AreRightZones}
-use Rattle.query_write.specs.steps.Writable.{IsRightLimit, IsLeafOf, of_word, of_phrase, AreLeavesOf, one_leaf, more_leaves, IsWritable, AreWritable, of_leaf, of_loose, of_sentences, of_paragraphs, of_items, of_or, of_maybe, of_before, of_near, of_span, no_items, more_items}
+use Rattle.query_grammar.specs.Grammar.{Is, IsLeaf, IsLoose, joined, AreJoined, IsJoin, IsChoice, chosen, IsAlt, IsItem}
+use Rattle.query_write.specs.steps.Writable.{IsRightLimit, IsLeafOf, of_word, of_phrase, AreLeavesOf, one_leaf, more_leaves, IsWritable, AreWritable, of_leaf, of_loose, of_sentences, of_paragraphs, of_or, of_maybe, no_items, more_items}
 use Rattle.query_write.specs.steps.Carried.{IsStep, Carries}
 
 module _ (fold : ℕ → Option ℕ) (schema : Schema) where

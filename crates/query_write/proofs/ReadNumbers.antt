@@ -1,7 +1,7 @@
 -- The numbers of quoted pieces, of NEAR and of limits, where nothing is wrong with them.
-use Rattle.std.proofs.Common.{arith, ◌≡◌, ◌≢◌, ◌≤◌, ◌<◌, ◌+◌, ◌*◌, ◌^◌, ℕ, zero, suc, Bool, true, false, List, [], ◌∷◌, length, refl, sym, ◌∙◌, ap, subst}
+use Rattle.std.proofs.Common.{arith, ◌≡◌, ◌≤◌, ◌<◌, ◌^◌, ℕ, Bool, true, false, List, [], ◌∷◌, length, refl}
 use Rattle.std.specs.Prelude.{Option, Some, None, if◌then◌else◌, ◌==◌, nat_le}
-use Rattle.std.specs.Char.{is_ascii_digit, digit_value}
+use Rattle.std.specs.Char.{is_ascii_digit}
 use Rattle.std.specs.List.{list_all}
 use Rattle.std.specs.Str.Parse.{digits_value, AllDigits}
 use Rattle.std.proofs.lemmas.Bool.{and_parts, leb-true}
@@ -11,11 +11,10 @@ use Rattle.std.proofs.lemmas.Str.{digit_value_digit}
 use Rattle.query_pieces.specs.declared.piece.Slice.{Slice}
 use Rattle.query_pieces.specs.declared.piece.Number.{Number}
 use Rattle.query_pieces.specs.declared.piece.Number.TheVariants as numbers
-use Rattle.query_tree.specs.declared.key.How.{How}
 use Rattle.query_tree.specs.declared.key.How.TheVariants as hows
 use Rattle.query_marks.specs.declared.fault.QueryKind.TheVariants as kinds
-use Rattle.query_marks.specs.LimitNames.{bytes_of, number_of, small_value}
-use Rattle.query_marks.specs.Hows.{share_of, how_of, is_out}
+use Rattle.query_marks.specs.LimitNames.{bytes_of, number_of}
+use Rattle.query_marks.specs.Hows.{how_of, is_out}
 use Rattle.query_marks.specs.Limits.{positions_of}
 use Rattle.query_marks.specs.Marks.{nameless, wrong_positions}
 use Rattle.query_write.specs.steps.TokenRun.{IsInRange, IsRightHow}

@@ -1,9 +1,9 @@
 -- The words that are read of a slice have 1 to 42 characters each.
-use Rattle.std.proofs.Common.{arith, ◌≡◌, ◌≢◌, ◌≤◌, ◌+◌, ℕ, zero, suc, Bool, true, false, cond, List, [], ◌∷◌, ◌++◌, Option, Some, None, length, take, map, refl, sym, ◌∙◌, ap, subst, chars}
-use Rattle.std.specs.Prelude.{All, Contains, filter, encode_utf8_all, if◌then◌else◌, ◌==◌, ◌||◌}
+use Rattle.std.proofs.Common.{arith, ◌≡◌, ◌≤◌, ℕ, zero, suc, Bool, true, false, List, [], ◌∷◌, Option, Some, None, length, take, map, refl, subst, chars}
+use Rattle.std.specs.Prelude.{All, Contains, filter, if◌then◌else◌, ◌==◌, ◌||◌}
 use Rattle.std.specs.List.{filter_map, slice_split, onto_first}
 use Rattle.std.proofs.Math.Utf8.{scalar}
-use Rattle.std.proofs.lemmas.List.Elements.{All-nil, All-cons, All-map}
+use Rattle.std.proofs.lemmas.List.Elements.{All-nil, All-cons}
 use Rattle.doc_types.specs.declared.tokens.TheConstants.{MAX_WORD_CHARS}
 use Rattle.query_marks.specs.QueryWords.{plain_letter, letters_from, letters_in, separates, has_letters, runs_in, word_of, words_in}
 use Rattle.query_grammar.specs.DeepValues.{GivesChars}

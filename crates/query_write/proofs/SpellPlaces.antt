@@ -67,7 +67,7 @@ slice_at text place to front rest e r =
     let n : length front ≡ to - place = omega (arith, e) in
     ap (take (to - place)) r.is ∙ take_at front rest (to - place) n
 
--- some bytes stand at the front of others, after which there are blanks
+-- some bytes are a prefix of others, after which there are blanks
 abbrev pub begins : List ℕ → List ℕ → Bool
 begins [] rest = true
 begins (b ∷ bytes) [] = eqb 32 b && begins bytes []

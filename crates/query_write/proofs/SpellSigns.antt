@@ -39,7 +39,7 @@ plain_no_bound b plain = or_from _ (b == 34) (or_from _ (b == 41) (or_from _ (b 
     at : (k : ℕ) → is_plain k ≡ false → eqb b k ≡ false
     at k other = apart is_plain b k plain other
 
--- ---- what stands at the front of a word
+-- ---- what a word begins with
 -- a sign after plain bytes
 pub no_sign : (front : List ℕ) (sign : ℕ) (bounded : Bool) (bytes rest : List ℕ) → list_all is_plain front ≡ true → is_plain sign ≡ false → ends_word sign ≡ false → eqb 92 sign ≡ false → IsEnd rest → begins (front ++ sign ∷ []) (spelled_from bounded bytes ++ rest) ≡ false
 no_sign [] sign bounded [] rest plain other no_end no_escape end = begins_apart sign [] rest (apart ends_word (get_or rest 0 32) sign end.is no_end)

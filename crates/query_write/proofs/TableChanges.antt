@@ -1,6 +1,6 @@
 -- A tree that can be written where a table has all characters can be written where it keeps those of the tree's words.
-use Rattle.std.proofs.Common.{arith, ◌≡◌, ◌≢◌, ◌≤◌, ◌+◌, ℕ, zero, suc, Bool, true, List, [], ◌∷◌, ◌++◌, Some, length, refl, sym, ◌∙◌, ap, subst, chars}
-use Rattle.std.specs.Prelude.{Option, All, Contains, encode_utf8_all}
+use Rattle.std.proofs.Common.{arith, ◌≡◌, ℕ, zero, suc, true, List, [], ◌∷◌, ◌++◌, Some, refl, sym, ◌∙◌, ap, subst, chars}
+use Rattle.std.specs.Prelude.{Option, All, Contains}
 use Rattle.std.specs.List.{flat_map}
 use Rattle.std.proofs.Math.Utf8.{scalar, scalars}
 use Rattle.std.proofs.lemmas.Bool.{and_from}

@@ -1,6 +1,6 @@
 -- The fields and the zones of a limit are read back from their names.
 use Rattle.std.proofs.Common.{◌≡◌, ◌≢◌, ℕ, zero, suc, ◌+◌, ◌*◌, ◌/◌, ◌%◌, ◌<◌, ◌≤◌, Bool, true, false, cond, List, [], ◌∷◌, ◌||◌, not, length, map, refl, sym, ap, ap₂, ◌∙◌, subst, arith, append-nil, All}
-use Rattle.std.specs.Prelude.{Option, Some, None, AllPairs, Contains, ◌==◌, if◌then◌else◌, find}
+use Rattle.std.specs.Prelude.{Option, None, AllPairs, Contains, ◌==◌, if◌then◌else◌, find}
 use Rattle.std.specs.List.{list_any, prefix_len}
 use Rattle.std.proofs.lemmas.Bool.{both_ways, or_left, eqb-true}
 use Rattle.std.proofs.lemmas.List.Elements.{All-head, All-tail, Contains-append_left}
@@ -11,13 +11,12 @@ use Rattle.query_pieces.specs.declared.piece.Slice.{Slice}
 use Rattle.query_pieces.specs.declared.piece.Names.{Names}
 use Rattle.query_pieces.specs.declared.piece.Names.TheVariants as names
 use Rattle.query_marks.specs.declared.fault.QueryKind.TheVariants as kinds
-use Rattle.query_marks.specs.declared.fault.Wrong.{Wrong}
 use Rattle.query_marks.specs.LimitNames.{bytes_of, names_in, is_same, is_long, is_unknown, first_unknown, has_long, place_of, numbers_of}
 use Rattle.query_marks.specs.Limits.{mask, keeps}
 use Rattle.query_marks.specs.Marks.{nameless, unknown_or, wrong_positions, wrong_fields, wrong_zones}
 use Rattle.query_write.specs.Written.{parted, named, all_fields, name_of}
 use Rattle.query_write.specs.steps.Signs.{AreFields}
-use Rattle.query_write.specs.steps.TokenRun.{IsRightZone, AreRightZones}
+use Rattle.query_write.specs.steps.TokenRun.{AreRightZones}
 use Rattle.query_write.proofs.TokenNames.{has_first, has_later, has_each, has_mapped, any_none, AreApart, apart_names, same_self, column_no_comma, zone_no_comma, HasNoComma, names_back, none_unknown, none_long}
 
 -- ---- bits

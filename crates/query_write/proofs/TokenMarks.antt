@@ -1,6 +1,6 @@
 -- The marks of the pieces of written tokens: their signs are those that the tokens have by themselves, and nothing is wrong
 -- with them.
-use Rattle.std.proofs.Common.{◌≡◌, ◌≢◌, ◌⊎◌, inl, inr, ℕ, ◌+◌, ◌<◌, ◌≤◌, Bool, true, false, List, [], ◌∷◌, ◌++◌, length, map, refl, sym, ap, ap₂, ◌∙◌, subst, arith, All}
+use Rattle.std.proofs.Common.{◌≡◌, ◌⊎◌, inl, inr, ℕ, ◌+◌, ◌<◌, ◌≤◌, Bool, true, false, List, [], ◌∷◌, ◌++◌, length, map, refl, sym, ap, ap₂, ◌∙◌, subst, arith}
 use Rattle.std.specs.Prelude.{Option, Some, None, Contains, if◌then◌else◌, nat_le, ◌==◌}
 use Rattle.std.specs.Option.{option_map}
 use Rattle.std.proofs.lemmas.Bool.{le-leb}
@@ -9,7 +9,6 @@ use Rattle.std.proofs.lemmas.List.{length-map}
 use Rattle.std.proofs.lemmas.List.Elements.{All-head}
 use Rattle.doc_types.specs.declared.schema.Schema.{Schema}
 use Rattle.doc_types.specs.Schemas.{IsSchema}
-use Rattle.query_pieces.specs.declared.piece.Slice.{Slice}
 use Rattle.query_pieces.specs.declared.piece.ZoneLimit.{ZoneLimit}
 use Rattle.query_pieces.specs.declared.piece.Form.{Form}
 use Rattle.query_pieces.specs.declared.piece.Form.TheVariants as forms

@@ -1,6 +1,6 @@
 -- Names as they are written between commas are read back, and are none that is unknown or too long.
-use Rattle.std.proofs.Common.{◌≡◌, ◌≢◌, ℕ, zero, suc, ◌+◌, ◌<◌, ◌≤◌, Bool, true, false, cond, List, [], ◌∷◌, ◌++◌, ◌&&◌, ◌||◌, not, length, map, bytes_eq, slice_index_or, refl, sym, ap, ap₂, ◌∙◌, subst, arith, append-nil, All}
-use Rattle.std.specs.Prelude.{Option, Some, None, Contains, ◌==◌, nat_le, nat_lt, find}
+use Rattle.std.proofs.Common.{◌≡◌, ◌≢◌, ℕ, zero, suc, ◌≤◌, Bool, true, false, cond, List, [], ◌∷◌, ◌++◌, not, length, map, slice_index_or, refl, sym, ap, ap₂, ◌∙◌, subst, arith, append-nil, All}
+use Rattle.std.specs.Prelude.{Some, None, Contains, ◌==◌, nat_le, nat_lt, find}
 use Rattle.std.specs.List.{list_all, list_any, slice_split}
 use Rattle.std.specs.Char.{to_ascii_lowercase}
 use Rattle.std.specs.Str.{str_to_ascii_lowercase}

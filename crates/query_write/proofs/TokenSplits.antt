@@ -4,7 +4,7 @@ use Rattle.std.specs.Prelude.{Option, Some, None}
 use Rattle.doc_types.specs.declared.schema.Schema.{Schema}
 use Rattle.query_marks.specs.declared.mark.Sign.{Sign}
 use Rattle.query_write.specs.Written.{WrittenToken}
-use Rattle.query_write.specs.steps.TokenRun.{Standing, token_sign, token_after, before_signs, signs_of, after_tokens, IsRight, AreRight}
+use Rattle.query_write.specs.steps.TokenRun.{Standing, token_sign, token_after, before_signs, signs_of, after_tokens, AreRight}
 
 pub before_append : (o : Option Sign) (first second : List Sign) → before_signs o (first ++ second) ≡ before_signs o first ++ second
 before_append None first second = refl

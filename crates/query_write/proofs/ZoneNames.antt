@@ -1,5 +1,5 @@
 -- The names of a zone limit of a text are of the form of zones' names.
-use Rattle.std.proofs.Common.{◌≡◌, ℕ, zero, suc, ◌+◌, ◌-◌, ◌<◌, Bool, true, false, cond, List, [], ◌∷◌, ◌&&◌, ◌||◌, length, get_or, take, drop, refl, sym, ap, ◌∙◌, subst, arith}
+use Rattle.std.proofs.Common.{◌≡◌, ℕ, zero, suc, ◌+◌, ◌-◌, Bool, true, false, cond, List, [], ◌∷◌, ◌&&◌, ◌||◌, length, get_or, take, drop, refl, sym, ap, ◌∙◌, subst, arith}
 use Rattle.std.specs.Prelude.{Option, Some, None, MatchOption, Contains, ◌==◌, if◌then◌else◌, codes, nat_lt, slice_range}
 use Rattle.std.specs.List.{list_all, prefix_len, slice_split, onto_first}
 use Rattle.std.specs.Option.{option_map}
@@ -11,7 +11,7 @@ use Rattle.query_pieces.specs.declared.piece.ZoneLimit.{ZoneLimit}
 use Rattle.query_pieces.specs.declared.piece.Form.{Form}
 use Rattle.query_pieces.specs.declared.piece.Form.TheVariants as forms
 use Rattle.query_pieces.specs.declared.piece.Piece.{Piece}
-use Rattle.query_pieces.specs.QueryBytes.{byte, byte_before, is_bound, begins_field, is_field_byte, begins_zone, is_zone_byte, spells, run_end, digits_end}
+use Rattle.query_pieces.specs.QueryBytes.{byte, byte_before, begins_field, is_field_byte, begins_zone, is_zone_byte, spells, run_end, digits_end}
 use Rattle.query_pieces.specs.Operators.{piece, slice, NamesAt, operator_at, limit_with, limit_of, fields_from, fields_at, names_at, list_at, name_at, is_listed, are_names, relaxed_at, at_sign_at, zones_of, zones_at, quoted_at, quote_end, number_at}
 use Rattle.query_pieces.specs.Letters.{Letter, letter_at}
 use Rattle.query_pieces.specs.Pieces.{IsWord, IsPlain, Stands, after_start, separator_at}

@@ -1,4 +1,4 @@
-//! How a word is written: a `\` stands before each byte that could be read as anything but a letter.
+//! How a word is written: with a `\` before each byte that could be read as anything but a letter.
 ghost use Rattle.std.specs.Prelude.{◌≡◌, ◌≢◌, ℕ, List, [], ◌∷◌, ◌++◌, OnErr};
 ghost use Rattle.query_pieces.specs.QueryBytes.{is_bound as is_bound_byte};
 ghost use Rattle.query_write.specs.Spelling.{is_plain as is_plain_byte, is_lettered as is_lettered_word, stays as stays_as, escape, spelled};
@@ -31,7 +31,7 @@ fn is_lettered(bytes: &[u8]) -> bool
         || bytes == b"PARAGRAPH".as_slice()
 }
 
-/// Whether the first of the bytes stands without a `\` before it.
+/// Whether the first of the bytes needs no `\` before it.
 fn stays(bounded: bool, bytes: &[u8]) -> bool
     requires { bytes.now ≢ [] }
     ensures { (byte : ℕ) → (rest : List ℕ) → bytes.now ≡ byte ∷ rest → result ≡ stays_as bounded byte rest }

@@ -1,3 +1,4 @@
+-- Packets that are appended after others: one list, numbered through.
 use Rattle.std.proofs.Common.{◌≡◌, ℕ, ◌+◌, ◌<◌, ◌≤◌, List, [], ◌∷◌, ◌++◌, Result, Ok, Err, append_assoc, ◌∙◌, sym, ap, length, take, map, get_or, subst, length-append, arith}
 use Rattle.std.proofs.lemmas.List.{map_more, take-take}
 use Rattle.std.proofs.Math.Seq.{take-append_seam}

@@ -25,7 +25,7 @@ pub trait Table {
     fn rows(&self) -> usize
         ensures { result ≡ length (set self.now).rows };
 
-    /// Appends the payload of the row at a place below `rows`; after an `Err` a front of it may be there.
+    /// Appends the payload of the row at a place below `rows`; after an `Err` a prefix of it may be there.
     fn put_row(&self, at: usize, payload: &mut Vec<u8>) -> Result<(), NoMemory>
         requires { at < length (set self.now).rows }
         ensures { OnOk result (payload.new.items ≡ payload.old.items ++ row_payload (slice_index_or (set self.now).rows at [])) };

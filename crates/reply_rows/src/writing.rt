@@ -12,8 +12,8 @@ use mysql_wire::{Small, eof_packet, put_column, put_lenenc, put_packet};
 use srch_base::NoMemory;
 use std::alloc::Global;
 
-/// The length that no packet's payload reaches.
-const MAX_PAYLOAD: usize = 16_777_215;
+/// A payload of this many bytes would go on in another packet, so none reaches it ("Sending More Than 16Mb").
+const SPLIT_LENGTH: usize = 16_777_215;
 
 /// Appends a result set whose packets begin at `seq`, and gives the sequence number of the packet after it. After an `Err` the
 /// bytes are as they were; the spare room afterwards is at least what it was before.
@@ -73,7 +73,7 @@ fn write_and_reserve<T: Table>(
     Ok(next)
 }
 
-/// Appends a result set, or a front of its packets.
+/// Appends a result set, or a prefix of its packets.
 fn write_set<T: Table>(
     alloc: Global,
     table: &T,
@@ -148,7 +148,7 @@ fn write_payload(seq: u8, payload: &[u8], out: &mut Vec<u8>) -> Result<u8, NoMem
     ensures appends { Appends result seq (payload.now ∷ []) out.old.items out.new.items }
     ensures capacity { vec_capacity out.old ≤ vec_capacity out.new }
 {
-    if payload.len() >= MAX_PAYLOAD {
+    if payload.len() >= SPLIT_LENGTH {
         return Err(NoMemory);
     }
     put_packet(seq, payload, out)

@@ -9,3 +9,5 @@ mod lines;
 mod program;
 #[cfg(test)]
 mod ranked;
+#[cfg(test)]
+mod requests;

@@ -1,17 +1,18 @@
 //! The host of the program: files, the standard streams, and one door over them. What a file holds and where a print goes
-//! is trusted; what is proved is the count of faults, what is given and handed back, and how much of a file is read.
-ghost use Rattle.std.specs.Prelude.{◌≡◌, ◌≤◌, ◌+◌, ◌++◌, [], length, take, option_to_list, IfOk, IfSome};
+//! is trusted; what is proved is the count of faults, what is requested, given and handed back, and how much of a file is
+//! read.
+ghost use Rattle.std.specs.Prelude.{◌≡◌, ◌≤◌, ◌+◌, ◌++◌, [], Some, length, take, option_to_list, IfOk, IfSome};
 
 use crate::std_door::StdDoor;
-use searchd_top::{Host, Stream};
+use searchd_top::{Host, Requests, Stream};
 use srch_base::{Failed, OpenFault};
 use std::alloc::Global;
 use std::fs;
 use std::io::{self, ErrorKind, Read, Stderr, Stdin, Stdout, Write};
 use std::rt::Files;
 
-/// The host of the program: files, the standard streams, and one door over them. It tells nothing of texts or of what was
-/// printed.
+/// The host of the program: files, the standard streams, and one door over them. It knows no text beforehand and
+/// doesn't record what is printed, but it records what is requested.
 #[derive(Drop)]
 pub struct RealHost<R> {
     files: R,
@@ -19,6 +20,7 @@ pub struct RealHost<R> {
     input: Stdin,
     output: Stdout,
     errors: Stderr,
+    requests: Requests,
     gave: Option<StdDoor>,
     back: Option<StdDoor>,
     faults: u64,
@@ -30,6 +32,7 @@ impl<R> RealHost<R> {
     pub fn new(files: R, alloc: Global, input: Stdin, output: Stdout, errors: Stderr) -> RealHost<R>
         ensures gave { option_to_list result.gave ≡ [] }
         ensures back { option_to_list result.back ≡ [] }
+        ensures requests { result.requests ≡ Some [] }
     {
         RealHost {
             files,
@@ -37,6 +40,7 @@ impl<R> RealHost<R> {
             input,
             output,
             errors,
+            requests: Requests::new(alloc),
             gave: None,
             back: None,
             faults: 0,
@@ -64,7 +68,10 @@ impl<R: Files> Host for RealHost<R> {
 
     ghost print_faults = { λ host to. of_stream to host.out_faults host.error_faults };
 
+    ghost requests = { λ host. host.requests };
+
     fn read_text(&mut self, path: &str, limit: u32) -> Result<Vec<u8>, OpenFault> {
+        self.requests.add_text(path);
         match read_file(self.alloc, &self.files, path, limit) {
             Ok(bytes) => Ok(bytes),
             Err(error) if error.kind() == ErrorKind::OutOfMemory => Err(OpenFault::NoMemory),
@@ -95,6 +102,7 @@ impl<R: Files> Host for RealHost<R> {
 
     /// Fails but for one door over the standard streams, once.
     fn doors(&mut self, listen: Option<&str>, n: u32) -> Result<Vec<StdDoor>, OpenFault> {
+        self.requests.add_doors(listen, n);
         if listen.is_some() || n != 1 || self.gave.is_some() {
             self.faults = self.faults.saturating_add(1);
             return Err(OpenFault::Failed);

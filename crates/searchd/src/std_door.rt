@@ -1,11 +1,11 @@
-//! The door of the standard streams: it gives one line, and has then ended.
+//! The door of the standard streams: it gives one connection, and has then ended.
 ghost use Rattle.std.specs.Prelude.{◌≡◌, [], option_to_list, IsTrue, IsSome};
 
 use crate::std_line::StdLine;
 use srch_base::{Door, Failed};
 use std::io::{Stdin, Stdout};
 
-/// The door of the standard streams: it gives the one line over them, and has then ended.
+/// The door of the standard streams: it gives the one connection over them, and has then ended.
 #[derive(Clone, Copy)]
 pub struct StdDoor {
     input: Stdin,

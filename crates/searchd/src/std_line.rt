@@ -1,13 +1,13 @@
-//! The line over the standard streams, neither through a buffer: a reply is on its way when its write returns.
+//! The connection over the standard streams, neither through a buffer: a reply is on its way when its write returns.
 ghost use Rattle.std.specs.Prelude.{◌≡◌, false};
 
 use crate::retrying;
 use srch_base::{Failed, Link};
 use std::io::{Stdin, Stdout};
 
-/// The line over the standard streams: it reads standard input and writes standard output, neither through a buffer.
+/// The connection over the standard streams: it reads standard input and writes standard output, neither through a buffer.
 ///
-/// A read takes what is there. A read or a write that a signal interrupts is made again. The line tells nothing of the bytes.
+/// A read takes what is there. A read or a write that a signal interrupts is made again. The connection records no bytes.
 #[derive(Clone, Copy)]
 pub struct StdLine {
     input: Stdin,
@@ -18,7 +18,7 @@ pub struct StdLine {
 }
 
 impl StdLine {
-    /// The line from its beginning: nothing was read or written over it.
+    /// The connection from its beginning: nothing was read or written over it.
     pub fn new(input: Stdin, output: Stdout) -> StdLine
         ensures open { result.ended ≡ false }
         ensures reads { result.read_faults ≡ 0 }

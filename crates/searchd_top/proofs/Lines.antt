@@ -1,18 +1,18 @@
--- A line that was served, a fault that was read, and lists of one.
-use Rattle.std.proofs.Common.{◌≡◌, ℕ, List, [], ◌∷◌, length, get_or, set, ap, arith, refl, subst, Err}
+-- A connection that was served, a fault that was read, and lists of one.
+use Rattle.std.proofs.Common.{◌≡◌, ℕ, List, [], ◌∷◌, length, get_or, set, arith, refl, subst, Err}
 use Rattle.srch_base.specs.declared.link.Link.{Ghosts as LinkWords}
 use Rattle.srch_base.specs.declared.faults.Or.{Or}
 use Rattle.srch_base.specs.declared.faults.Or.TheVariants as causes
 use Rattle.conf_text.specs.Confs.{IsFaultOf, ReadsConf}
 use Rattle.conf_text.specs.declared.fault.ConfFault.{ConfFault}
 use Rattle.ql_session.specs.Tables.{Event, Follows, Tables, empty_tables}
-use Rattle.serve_line.specs.Machines.{FollowAll}
+use Rattle.ql_session.specs.Machines.{FollowAll}
 use Rattle.ql_session.specs.Session.{Session}
 use Rattle.srch_base.specs.Moves.{Moves}
-use Rattle.serve_line.specs.declared.line.LinkEnd.{LinkEnd}
+use Rattle.ql_session.specs.LinkEnd.{LinkEnd}
 use Rattle.searchd_top.specs.Sessions.{Serves}
 
--- a line was served over tables without documents
+-- a connection was served over tables without documents
 pub serves_line : {K : Type 0} (link : LinkWords K) (tables left : Tables) (end : LinkEnd) (line served : K) → tables ≡ empty_tables tables.confs
     → Moves link line served (λ before now read written. (events : List Event) × Session 1 before now read written end events × FollowAll Follows tables events left)
     → Serves link 1 tables.confs line served

@@ -1,5 +1,5 @@
 -- The configuration of a run: what is read of its file, and what that says.
-use Rattle.std.specs.Prelude.{◌≡◌, ⊤, ℕ, ◌+◌, List, Option, Some, None, slice_get, take}
+use Rattle.std.specs.Prelude.{◌≡◌, ⊤, ℕ, ◌+◌, List, Option, Some, None, take}
 use Rattle.conf_text.specs.Confs.{IsConfOf, IsFaultOf}
 use Rattle.index_conf.specs.declared.conf.Conf.{Conf}
 use Rattle.index_conf.specs.declared.conf.IndexConf.{IndexConf}
@@ -7,11 +7,11 @@ use Rattle.conf_text.specs.declared.size.TheConstants.{MAX_CONF_BYTES}
 use Rattle.conf_text.specs.declared.fault.ConfFault.{ConfFault}
 use Rattle.searchd_top.specs.CommandLine.{session}
 
--- what a host tells of the texts of its files
+-- what is known of the texts of a host's files
 abbrev pub Texts : Type 0
 Texts = List ℕ → Option (List ℕ)
 
--- These bytes were read of a text, up to a limit: all of it, or the limit and one byte more. Where the text isn't told they
+-- These bytes were read of a text, up to a limit: all of it, or the limit and one byte more. Where the text isn't known they
 -- may be any.
 abbrev pub AreReadOf : Option (List ℕ) → ℕ → List ℕ → Type 0
 AreReadOf None limit bytes = ⊤

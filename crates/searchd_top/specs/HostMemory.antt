@@ -6,6 +6,7 @@ use Rattle.srch_base.specs.Memory.{Lines, one_more}
 use Rattle.srch_base.specs.declared.faults.OpenFault.{OpenFault}
 use Rattle.srch_base.specs.declared.faults.OpenFault.TheVariants as opening
 use Rattle.searchd_top.specs.Printing.{of_stream}
+use Rattle.searchd_top.specs.declared.requests.Request.{Request}
 use Rattle.searchd_top.specs.declared.host.Stream.{Stream}
 use Rattle.searchd_top.specs.declared.host.Stream.TheVariants as streams
 
@@ -20,6 +21,8 @@ pub record HostMemory : Type 0 where
   -- the numbers of the calls that fail, the first call being 1, and the number of calls so far
   pub failing : List ℕ
   pub calls : ℕ
+  -- the requests, until memory was refused for the record
+  pub requests : Option (List Request)
   -- what was printed to each stream
   pub out : List ℕ
   pub errors : List ℕ
@@ -31,7 +34,7 @@ pub record HostMemory : Type 0 where
 -- the host over these files and doors before its first call
 abbrev pub host_over : List (List ℕ × List ℕ) → List Lines → List ℕ → HostMemory
 host_over texts doors failing =
-    record { texts = texts; doors = doors; at = 0; back = []; failing = failing; calls = 0; out = []; errors = []; faults = 0; out_faults = 0; error_faults = 0 }
+    record { texts = texts; doors = doors; at = 0; back = []; failing = failing; calls = 0; requests = Some []; out = []; errors = []; faults = 0; out_faults = 0; error_faults = 0 }
 
 -- the text of the first file with this path
 abbrev pub text_at : List (List ℕ × List ℕ) → List ℕ → Option (List ℕ)
@@ -89,13 +92,13 @@ abbrev pub after_print : {T E : Type 0} → HostMemory → Stream → List ℕ �
 after_print h to line (Err e) = with_print_fault (record h { calls = one_more h.calls }) to
 after_print h to line (Ok x) = with_printed (record h { calls = one_more h.calls }) to line
 
--- the host after a call that failed, was refused memory, or read a text
+-- the host after a call that failed, was refused memory, or read a text, but for the record of requests
 abbrev pub after_read : {T : Type 0} → HostMemory → Result T OpenFault → HostMemory
 after_read h (Err opening.Failed) = after_fault h
 after_read h (Err opening.NoMemory) = record h { calls = one_more h.calls }
 after_read h (Ok x) = record h { calls = one_more h.calls }
 
--- the host after a call that failed, was refused memory, or gave so many doors
+-- the host after a call that failed, was refused memory, or gave so many doors, but for the record of requests
 abbrev pub after_doors : {T : Type 0} → HostMemory → ℕ → Result T OpenFault → HostMemory
 after_doors h n (Err opening.Failed) = after_fault h
 after_doors h n (Err opening.NoMemory) = record h { calls = one_more h.calls }

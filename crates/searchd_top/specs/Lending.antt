@@ -1,5 +1,5 @@
--- Things that are given out and handed back: the doors of a host, the lines of a door.
-use Rattle.std.specs.Prelude.{◌≡◌, ◌⊎◌, ℕ, ◌≤◌, List, ◌∷◌, ◌++◌, Result, Ok, Err, length}
+-- Things that are given out and handed back: the doors of a host, the connections of a door.
+use Rattle.std.specs.Prelude.{◌≡◌, ◌⊎◌, ℕ, ◌≤◌, List, ◌∷◌, ◌++◌, Bool, true, false, Result, Ok, Err, length}
 use Rattle.srch_base.specs.Counts.{Rose}
 use Rattle.srch_base.specs.declared.faults.OpenFault.{OpenFault}
 use Rattle.srch_base.specs.declared.faults.OpenFault.TheVariants.{Failed, NoMemory}
@@ -26,3 +26,9 @@ abbrev pub CountsOpening : {T : Type 0} → Result T OpenFault → ℕ → ℕ �
 CountsOpening (Err Failed) before now = (before ≤ now) × Rose before now
 CountsOpening (Err NoMemory) before now = now ≡ before
 CountsOpening (Ok x) before now = now ≡ before
+
+-- the answer that the host failed, and not that memory was refused
+abbrev pub says_failed : {T : Type 0} → Result T OpenFault → Bool
+says_failed (Err Failed) = true
+says_failed (Err NoMemory) = false
+says_failed (Ok x) = false

@@ -8,7 +8,9 @@ pub mod Statuses
 pub mod Printing
 -- things that are given out and handed back
 pub mod Lending
--- what a run does with its doors and lines
+-- what a host is asked for
+pub mod Requests
+-- what a run does with its doors and connections
 pub mod Sessions
 -- a host over memory
 pub mod HostMemory

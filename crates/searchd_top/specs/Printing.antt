@@ -1,4 +1,4 @@
--- What is printed on the two standard streams, where a host tells it.
+-- What is printed on the two standard streams, where a host records it.
 use Rattle.std.specs.Prelude.{◌≡◌, ◌⊎◌, ℕ, ◌≤◌, List, [], Option, Result, Ok, Err}
 use Rattle.std.specs.Io.{StartsWith}
 use Rattle.srch_base.specs.Counts.{Rose}
@@ -17,7 +17,7 @@ pub record Prints (to : Stream) (bytes : List ℕ) (old new : Stream → Option 
   pub out : new Out ≡ then_bytes (old Out) (bytes_on to bytes Out)
   pub errors : new Errors ≡ then_bytes (old Errors) (bytes_on to bytes Errors)
 
--- The line was printed, or a front of it where printing failed.
+-- The line was printed, or a prefix of it where printing failed.
 abbrev pub PrintsLine : {T E : Type 0} → Result T E → Stream → List ℕ → (Stream → Option (List ℕ)) → (Stream → Option (List ℕ)) → Type 0
 PrintsLine (Ok x) to line old new = Prints to line old new
 PrintsLine (Err e) to line old new = (front : List ℕ) × StartsWith line front × Prints to front old new
@@ -37,7 +37,7 @@ abbrev pub CountsPrint : {T E : Type 0} → Result T E → Stream → (Stream �
 CountsPrint (Ok x) to before now = (now to ≡ before to) × (now (other to) ≡ before (other to))
 CountsPrint (Err e) to before now = (before to ≤ now to) × Rose (before to) (now to) × (now (other to) ≡ before (other to))
 
--- The line was printed to the errors, or a front of it and the count of failed prints to the errors rose. Nothing was printed to the output.
+-- The line was printed to the errors, or a prefix of it and the count of failed prints to the errors rose. Nothing was printed to the output.
 abbrev pub Reports : List ℕ → (Stream → Option (List ℕ)) → (Stream → Option (List ℕ)) → ℕ → ℕ → Type 0
 Reports line old new before now =
     (front : List ℕ) × ((front ≡ line) ⊎ (StartsWith line front × Rose before now)) × Prints Errors front old new

@@ -1,33 +1,35 @@
--- What a run does with its doors and lines, and why it ends so.
-use Rattle.std.specs.Prelude.{◌≡◌, ◌⊎◌, ⊤, ℕ, ◌≤◌, List, [], ◌∷◌, ◌++◌, true, length}
+-- What a run does with its doors and connections, and why it ends so.
+use Rattle.std.specs.Prelude.{◌≡◌, ◌⊎◌, ℕ, ◌≤◌, List, [], ◌∷◌, ◌++◌, true, length, take}
 use Rattle.std.specs.List.{AllZip}
 use Rattle.srch_base.specs.Counts.{Rose}
 use Rattle.srch_base.specs.declared.link.Link.{Ghosts as LinkWords}
 use Rattle.srch_base.specs.declared.door.Door.{Ghosts as DoorWords}
 use Rattle.index_conf.specs.declared.conf.IndexConf.{IndexConf}
 use Rattle.ql_session.specs.Tables.{Tables, Event, Follows, empty_tables}
-use Rattle.serve_line.specs.Machines.{FollowAll}
+use Rattle.ql_session.specs.Machines.{FollowAll}
 use Rattle.ql_session.specs.Session.{Session}
 use Rattle.srch_base.specs.Moves.{Moves}
-use Rattle.serve_line.specs.declared.line.LinkEnd.{LinkEnd}
+use Rattle.ql_session.specs.LinkEnd.{LinkEnd}
 use Rattle.searchd_top.specs.Configuring.{Texts, IsConfigured, IsMisconfigured}
 use Rattle.searchd_top.specs.Lending.{HandsBack, SomeZip}
+use Rattle.searchd_top.specs.Requests.{Requested, requests_of}
 use Rattle.searchd_top.specs.declared.host.Host.{Ghosts as HostWords}
+use Rattle.searchd_top.specs.declared.requests.Request.{Request}
 use Rattle.searchd_top.specs.declared.status.Status.{Status}
 use Rattle.searchd_top.specs.declared.status.Status.TheVariants.{Done, Usage, Config, HostFault, NoMemory}
 
--- One whole session of this connection went over the line, by these indexes, which had no documents at its beginning.
+-- One whole session of this number went over the connection, by these indexes, which had no documents at its beginning.
 abbrev pub Serves : {K : Type 0} → LinkWords K → ℕ → List IndexConf → K → K → Type 0
 Serves link connection indexes line served =
     (end : LinkEnd) × (tables : Tables) × Moves link line served (λ before now read written.
     (events : List Event) × Session connection before now read written end events × FollowAll Follows (empty_tables indexes) events tables)
 
--- The door gave at most one line, and it was handed back, served as connection 1.
+-- The door gave at most one connection, and it was handed back, served as number 1.
 abbrev pub ServesOne : {D K : Type 0} → DoorWords D K → LinkWords K → List IndexConf → D → D → Type 0
 ServesOne door link indexes old new =
     HandsBack (door.given old) (door.given new) (door.returned old) (door.returned new) (λ lines served. (length lines ≤ 1) × AllZip (Serves link 1 indexes) lines served)
 
--- The door did its work: its count stands still, and it gave a line or has ended.
+-- The door did its work: its count is as it was, and it gave a connection or has ended.
 abbrev pub DidWork : {D K : Type 0} → DoorWords D K → D → D → Type 0
 DidWork {D} {K} door old new =
     (door.faults new ≡ door.faults old) × (((line : K) × (door.given new ≡ door.given old ++ line ∷ [])) ⊎ (door.ended new ≡ true))
@@ -40,22 +42,35 @@ DoorFailed door old new = Rose (door.faults old) (door.faults new)
 abbrev pub WorkedOrFailed : {D K : Type 0} → DoorWords D K → D → D → Type 0
 WorkedOrFailed door old new = DidWork door old new ⊎ DoorFailed door old new
 
--- What a status says of the words and the host's texts, of the host's count, and of its doors before and after.
-abbrev pub Says : {D K : Type 0} → Status → Texts → List (List ℕ) → DoorWords D K → ℕ → ℕ → List D → List D → Type 0
-Says Done texts words door before now doors after = (now ≡ before) × (length doors ≡ 1) × AllZip (DidWork door) doors after
-Says Usage texts words door before now doors after = doors ≡ []
-Says (Config line kind) texts words door before now doors after = (doors ≡ []) × IsMisconfigured texts words (record { line = line; kind = kind })
-Says HostFault texts words door before now doors after = Rose before now ⊎ SomeZip (DoorFailed door) doors after
-Says NoMemory texts words door before now doors after = ⊤
+-- The text of the file couldn't be read: the host's count rose, and nothing else was asked for.
+abbrev pub TextFailed : List (List ℕ) → List Request → ℕ → ℕ → Type 0
+TextFailed words requests before now = (requests ≡ take 1 (requests_of words)) × Rose before now
+
+-- The file is a configuration, and then the host opened no door, or the door failed.
+abbrev pub ServingFailed : {D K : Type 0} → Texts → List (List ℕ) → DoorWords D K → List Request → ℕ → ℕ → List D → List D → Type 0
+ServingFailed texts words door requests before now doors after =
+    (indexes : List IndexConf) × IsConfigured texts words indexes × (requests ≡ requests_of words) × (Rose before now ⊎ SomeZip (DoorFailed door) doors after)
+
+-- What a status says of the words and the host's texts, of the requests that were made of the host and its count of faults, and of its doors before and after.
+abbrev pub Says : {D K : Type 0} → Status → Texts → List (List ℕ) → DoorWords D K → List Request → ℕ → ℕ → List D → List D → Type 0
+Says Done texts words door requests before now doors after =
+    (requests ≡ requests_of words) × (now ≡ before) × (length doors ≡ 1) × AllZip (DidWork door) doors after
+Says Usage texts words door requests before now doors after = (requests ≡ []) × (now ≡ before) × (doors ≡ [])
+Says (Config line kind) texts words door requests before now doors after =
+    (requests ≡ take 1 (requests_of words)) × (now ≡ before) × (doors ≡ []) × IsMisconfigured texts words (record { line = line; kind = kind })
+Says HostFault texts words door requests before now doors after =
+    ((doors ≡ []) × TextFailed words requests before now) ⊎ ServingFailed texts words door requests before now doors after
+Says NoMemory texts words door requests before now doors after = (count : ℕ) × (requests ≡ take count (requests_of words))
 
 -- No door was taken, or the words' file is a configuration, by whose indexes each door was served.
 abbrev pub ServesAll : {D K : Type 0} → Texts → List (List ℕ) → DoorWords D K → LinkWords K → List D → List D → Type 0
 ServesAll texts words door link doors after =
     ((doors ≡ []) × (after ≡ [])) ⊎ ((indexes : List IndexConf) × IsConfigured texts words indexes × AllZip (ServesOne door link indexes) doors after)
 
--- A run: the host gave one door at most, which was served and handed back with its work done or its count risen, and the status says how it went.
+-- A run: the host gave one door at most, which was served and handed back with its work done or its count risen, and the status says how it went and what the host was asked for.
 abbrev pub Runs : {H D K : Type 0} → HostWords H D K → DoorWords D K → LinkWords K → List (List ℕ) → Status → H → H → Type 0
 Runs host door link words status old new =
-    HandsBack (host.doors_given old) (host.doors_given new) (host.doors_back old) (host.doors_back new) (λ doors after.
+    (requests : List Request) × Requested (host.requests old) (host.requests new) requests
+    × HandsBack (host.doors_given old) (host.doors_given new) (host.doors_back old) (host.doors_back new) (λ doors after.
     ServesAll (host.text old) words door link doors after × (length doors ≤ 1) × AllZip (WorkedOrFailed door) doors after
-    × Says status (host.text old) words door (host.faults old) (host.faults new) doors after)
+    × Says status (host.text old) words door requests (host.faults old) (host.faults new) doors after)

@@ -1,12 +1,15 @@
 //! All that the program needs of the outside, as a trait: the texts of files, the two standard streams, and doors to clients.
-//! The real one is a thin adapter in the program; the one over memory tells everything, for tests.
-ghost use Rattle.std.specs.Prelude.{◌≡◌, ◌+◌, ◌≤◌, ◌++◌, ℕ, List, Option, length, IfOk, MatchResult};
+//! The real one is a thin adapter in the program; the one over memory records everything, for tests.
+ghost use Rattle.std.specs.Prelude.{◌≡◌, ◌+◌, ◌≤◌, ◌++◌, [], ◌∷◌, ℕ, List, Option, length, option_copied, IfOk, MatchResult};
 ghost use Rattle.std.specs.List.{All};
 ghost use Rattle.searchd_top.specs.declared.host.Stream.{Stream};
+ghost use Rattle.searchd_top.specs.declared.requests.Request.{Request};
 ghost use Rattle.searchd_top.specs.Configuring.{AreReadOf};
 ghost use Rattle.searchd_top.specs.Printing.{PrintsLine, CountsPrint};
 ghost use Rattle.searchd_top.specs.Lending.{IsWithin, CountsOpening};
+ghost use Rattle.searchd_top.specs.Requests.{Requested};
 
+use crate::Request;
 use srch_base::{Door, Failed, OpenFault};
 
 /// The standard streams that are printed to.
@@ -16,13 +19,13 @@ pub enum Stream {
     Err,
 }
 
-/// All that the program needs of the outside: its texts, where it prints, and where its lines come from.
+/// All that the program needs of the outside: its texts, where it prints, and where its connections come from.
 ///
-/// A host may tell its texts and what was printed; the real one tells nothing.
+/// A host may know its texts, and record what was printed and requested; the real one records requests alone.
 pub trait Host {
     type Entry: Door + Send;
 
-    /// What was printed so far to each stream, where it is told.
+    /// What was printed so far to each stream, where it is recorded.
     ghost printed: { Self → Stream → Option (List ℕ) };
 
     /// The doors given so far, as they were when they were given.
@@ -37,7 +40,10 @@ pub trait Host {
     /// How often printing to each stream has failed.
     ghost print_faults: { Self → Stream → ℕ };
 
-    /// The text of each file, as a path names it, where it is told.
+    /// The requests for texts and doors so far, where they are recorded.
+    ghost requests: { Self → Option (List Request) };
+
+    /// The text of each file, as a path names it, where it is known.
     ghost text: { Self → List ℕ → Option (List ℕ) };
 
     /// Reads the text that a path names: all of it, or its first `limit + 1` bytes where it is longer.
@@ -45,6 +51,7 @@ pub trait Host {
         ensures reads { IfOk result (λ bytes. AreReadOf (text self.old path.now) limit bytes.items) }
         ensures short { IfOk result (λ bytes. length bytes.items ≤ limit + 1) }
         ensures cause { CountsOpening result (faults self.old) (faults self.new) }
+        ensures asks { Requested (requests self.old) (requests self.new) (Request.ReadText path.now ∷ []) }
         ensures print_count { print_faults self.new ≡ print_faults self.old }
         ensures tells { text self.new ≡ text self.old }
         ensures gives { doors_given self.new ≡ doors_given self.old }
@@ -56,6 +63,7 @@ pub trait Host {
         ensures prints { PrintsLine result to line.now (printed self.old) (printed self.new) }
         ensures cause { CountsPrint result to (print_faults self.old) (print_faults self.new) }
         ensures count { faults self.new ≡ faults self.old }
+        ensures asks { requests self.new ≡ requests self.old }
         ensures gives { doors_given self.new ≡ doors_given self.old }
         ensures back { doors_back self.new ≡ doors_back self.old };
 
@@ -65,6 +73,7 @@ pub trait Host {
         ensures within { IfOk result (λ doors. All (IsWithin Self.Entry.returned Self.Entry.given) doors.items) }
         ensures gives { MatchResult result (λ doors. doors_given self.new ≡ doors_given self.old ++ doors.items) (λ fault. doors_given self.new ≡ doors_given self.old) }
         ensures cause { CountsOpening result (faults self.old) (faults self.new) }
+        ensures asks { Requested (requests self.old) (requests self.new) (Request.OpenDoors (option_copied listen.entry) n ∷ []) }
         ensures print_count { print_faults self.new ≡ print_faults self.old }
         ensures back { doors_back self.new ≡ doors_back self.old }
         ensures prints { printed self.new ≡ printed self.old };
@@ -74,6 +83,7 @@ pub trait Host {
         requires { length (doors_back self.old) + length doors.items ≤ length (doors_given self.old) }
         ensures back { doors_back self.new ≡ doors_back self.old ++ doors.items }
         ensures gives { doors_given self.new ≡ doors_given self.old }
+        ensures asks { requests self.new ≡ requests self.old }
         ensures count { faults self.new ≡ faults self.old }
         ensures print_count { print_faults self.new ≡ print_faults self.old }
         ensures prints { printed self.new ≡ printed self.old };

@@ -5,10 +5,12 @@ mod command_line;
 mod host;
 mod memory_host;
 mod program;
+mod requests;
 mod serving;
 mod status;
 
 pub use host::{Host, Stream};
 pub use memory_host::MemoryHost;
 pub use program::searchd;
+pub use requests::{Request, Requests};
 pub use status::Status;

@@ -1,19 +1,20 @@
-//! A host over memory, which tells its texts and all that was printed, and fails the calls that it is told to.
-ghost use Rattle.std.specs.Prelude.{◌≡◌, ◌+◌, ◌≤◌, ◌++◌, ◌==◌, length, map, take, drop, is_err, option_copied, IfOk, OnOk, OnErr, IsTrue, IsErr, MatchResult};
+//! A host over memory, which records all that was printed and requested, and fails the calls whose numbers it was given.
+ghost use Rattle.std.specs.Prelude.{◌≡◌, ◌+◌, ◌≤◌, ◌++◌, ◌==◌, [], ◌∷◌, length, map, take, drop, is_err, option_copied, IfOk, OnOk, OnErr, IsTrue, IsErr, MatchResult};
 ghost use Rattle.std.specs.List.{All, list_any};
 ghost use Rattle.srch_base.specs.Counts.{Rose};
 ghost use Rattle.srch_base.specs.Memory.{one_more, lines_given};
 ghost use Rattle.searchd_top.specs.Configuring.{AreReadOf};
 ghost use Rattle.searchd_top.specs.Printing.{PrintsLine, CountsPrint, other};
-ghost use Rattle.searchd_top.specs.Lending.{IsWithin, CountsOpening};
+ghost use Rattle.searchd_top.specs.Lending.{IsWithin, CountsOpening, says_failed};
+ghost use Rattle.searchd_top.specs.Requests.{Requested};
 ghost use Rattle.searchd_top.specs.HostMemory.{host_over, text_of, printed_to, with_printed, with_print_fault, print_faults_of, printed_of, doors_of, fails_next, opens_none, reads_none, after_print, after_doors, after_read};
 
-use crate::{Host, Stream};
+use crate::{Host, Request, Requests, Stream};
 use srch_base::{Failed, ListDoor, NoMemory, OpenFault, Text};
 use std::alloc::Global;
 use std::marker::Model;
 
-/// A host over memory, which tells its texts and all that was printed. It is for tests and for trying things out.
+/// A host over memory, which records all that was printed and requested. It is for tests and for trying things out.
 ///
 /// Its calls for texts and doors and its prints are counted together from 1, and those whose numbers it was given fail:
 /// they give and print nothing, and raise the count. A call for a text that isn't there or for more doors than are left
@@ -29,6 +30,7 @@ pub struct MemoryHost {
     back: Vec<ListDoor>,
     failing: Vec<u32>,
     calls: u64,
+    requests: Requests,
     out: Vec<u8>,
     errors: Vec<u8>,
     faults: u64,
@@ -49,6 +51,7 @@ impl Model for MemoryHost {
       back = a.back.items;
       failing = a.failing.items;
       calls = a.calls;
+      requests = a.requests;
       out = a.out.items;
       errors = a.errors.items;
       faults = a.faults;
@@ -78,6 +81,7 @@ impl MemoryHost {
             at: 0,
             failing,
             calls: 0,
+            requests: Requests::new(alloc),
             out: Vec::new(alloc),
             errors: Vec::new(alloc),
             faults: 0,
@@ -101,6 +105,29 @@ impl MemoryHost {
         ensures { result.now ≡ self.now.back }
     {
         self.back.as_slice()
+    }
+
+    /// The requests so far, or none once memory was refused for the record.
+    pub fn requests(&self) -> Option<&[Request]>
+        ensures { option_copied result ≡ self.now.requests }
+    {
+        self.requests.list()
+    }
+
+    /// Records a request for the text of a path.
+    fn keep_text_request(&mut self, path: &str)
+        ensures asks { Requested self.old.requests self.new.requests (Request.ReadText path.now ∷ []) }
+        ensures rest { self.new ≡ record self.old { requests = self.new.requests } }
+    {
+        self.requests.add_text(path);
+    }
+
+    /// Records a request for doors.
+    fn keep_door_request(&mut self, listen: Option<&str>, n: u32)
+        ensures asks { Requested self.old.requests self.new.requests (Request.OpenDoors (option_copied listen.entry) n ∷ []) }
+        ensures rest { self.new ≡ record self.old { requests = self.new.requests } }
+    {
+        self.requests.add_doors(listen, n);
     }
 
     /// Counts one more call, and says whether it is one of those that fail.
@@ -177,14 +204,18 @@ impl Host for MemoryHost {
 
     ghost print_faults = { print_faults_of };
 
+    ghost requests = { λ h. h.requests };
+
     /// Fails exactly where this call's number is one of those, or no file has this path.
     fn read_text(&mut self, path: &str, limit: u32) -> Result<Vec<u8>, OpenFault>
-        ensures fails { IsTrue (reads_none self.old path.now) → result ≡ Err OpenFault.Failed }
-        ensures after { self.new ≡ after_read self.old result }
+        ensures fails { says_failed result ≡ reads_none self.old path.now }
+        ensures asks { Requested self.old.requests self.new.requests (Request.ReadText path.now ∷ []) }
+        ensures after { self.new ≡ record (after_read self.old result) { requests = self.new.requests } }
         ensures reads { IfOk result (λ bytes. AreReadOf (text_of self.old path.now) limit bytes.items) }
         ensures short { IfOk result (λ bytes. length bytes.items ≤ limit + 1) }
         ensures cause { CountsOpening result self.old.faults self.new.faults }
     {
+        self.keep_text_request(path);
         if self.next_fails() {
             return Err(OpenFault::from(self.fail()));
         }
@@ -211,15 +242,17 @@ impl Host for MemoryHost {
     }
 
     /// Fails exactly where this call's number is one of those, or fewer doors are left.
-    fn doors(&mut self, _listen: Option<&str>, n: u32) -> Result<Vec<ListDoor>, OpenFault>
-        ensures fails { IsTrue (opens_none self.old n) → result ≡ Err OpenFault.Failed }
+    fn doors(&mut self, listen: Option<&str>, n: u32) -> Result<Vec<ListDoor>, OpenFault>
+        ensures fails { says_failed result ≡ opens_none self.old n }
+        ensures asks { Requested self.old.requests self.new.requests (Request.OpenDoors (option_copied listen.entry) n ∷ []) }
         ensures opens { IfOk result (λ doors. doors.items ≡ take n (drop self.old.at self.old.doors)) }
-        ensures after { self.new ≡ after_doors self.old n result }
+        ensures after { self.new ≡ record (after_doors self.old n result) { requests = self.new.requests } }
         ensures count { IfOk result (λ doors. length doors.items ≡ n) }
         ensures within { IfOk result (λ doors. All (IsWithin (λ door. door.returned) lines_given) doors.items) }
         ensures gives { MatchResult result (λ doors. doors_of self.new ≡ doors_of self.old ++ doors.items) (λ fault. doors_of self.new ≡ doors_of self.old) }
         ensures cause { CountsOpening result self.old.faults self.new.faults }
     {
+        self.keep_door_request(listen, n);
         if self.next_fails() || self.doors.len() - self.at < n as usize {
             return Err(OpenFault::from(self.fail()));
         }

@@ -1,16 +1,17 @@
 //! The top call: the words of the command line are looked at first, then the configuration is read, then a door is asked
-//! for and its line served. The first refusal decides the status, and its line is printed to the errors.
-ghost use Rattle.std.specs.Prelude.{◌≡◌, ◌↔◌, ◌≤◌, length, map, string_bytes};
+//! for and its connection served. The first refusal decides the status, and its line is printed to the errors.
+ghost use Rattle.std.specs.Prelude.{◌≡◌, ◌↔◌, ◌≤◌, [], ◌∷◌, length, map, string_bytes};
 ghost use Rattle.index_conf.specs.Soundness.{IsSound};
 ghost use Rattle.searchd_top.specs.CommandLine.{AsksSession, session};
 ghost use Rattle.searchd_top.specs.Statuses.{line_of};
 ghost use Rattle.searchd_top.specs.Printing.{Reports};
+ghost use Rattle.searchd_top.specs.Requests.{Requested};
 ghost use Rattle.searchd_top.specs.Sessions.{Runs};
 ghost use Rattle.searchd_top.specs.steps.Halves.{Configures, ServesBy};
 
 use crate::command_line::session_file;
 use crate::serving::serve_one;
-use crate::{Host, Status, Stream};
+use crate::{Host, Request, Status, Stream};
 use conf_text::{ConfFault, MAX_CONF_BYTES, read_conf};
 use index_conf::Conf;
 use ql_session::PlainTables;
@@ -19,14 +20,15 @@ use std::alloc::Global;
 
 /// Does what the words ask. `words` are those after the program's name.
 ///
-/// `session --config F` reads the configuration in the file F and serves one line by its indexes, from no documents; the
-/// documents that it commits are gone with the call. A line may end in any way: the status tells of the configuration, the
+/// `session --config F` reads the configuration in the file F and serves one connection by its indexes, from no documents; the
+/// documents that it commits are gone with the call. A connection may end in any way: the status is about the configuration, the
 /// host and its door alone.
 pub fn searchd<H: Host>(alloc: Global, words: &[String], host: &mut H) -> Status
     requires { length (H.doors_back host.old) ≤ length (H.doors_given host.old) }
     ensures usage { (result ≡ Status.Usage) ↔ ¬ AsksSession (map string_bytes words.now) }
     ensures runs { Runs H.Host H.Entry.Door H.Entry.Line.Link (map string_bytes words.now) result host.old host.new }
     ensures prints { Reports (line_of result) (H.printed host.old) (H.printed host.new) (H.print_faults host.old Stream.Err) (H.print_faults host.new Stream.Err) }
+    ensures quiet { H.print_faults host.new Stream.Out ≡ H.print_faults host.old Stream.Out }
 {
     let status = match session_file(words) {
         Some(file) => run_session(alloc, file, host),
@@ -36,7 +38,7 @@ pub fn searchd<H: Host>(alloc: Global, words: &[String], host: &mut H) -> Status
     status
 }
 
-/// Reads the configuration, and serves one line of one door by it.
+/// Reads the configuration, and serves one connection of one door by it.
 fn run_session<H: Host>(alloc: Global, file: &str, host: &mut H) -> Status
     requires { length (H.doors_back host.old) ≤ length (H.doors_given host.old) }
     ensures runs { Runs H.Host H.Entry.Door H.Entry.Line.Link (session file.now) result host.old host.new }
@@ -53,6 +55,7 @@ fn run_session<H: Host>(alloc: Global, file: &str, host: &mut H) -> Status
 /// The configuration in a file.
 fn configure<H: Host>(alloc: Global, file: &str, host: &mut H) -> Result<Conf, Status>
     ensures configures { Configures (H.text host.old file.now) result (H.faults host.old) (H.faults host.new) }
+    ensures asks { Requested (H.requests host.old) (H.requests host.new) (Request.ReadText file.now ∷ []) }
     ensures print_count { H.print_faults host.new ≡ H.print_faults host.old }
     ensures gives { H.doors_given host.new ≡ H.doors_given host.old }
     ensures back { H.doors_back host.new ≡ H.doors_back host.old }
@@ -69,7 +72,7 @@ fn configure<H: Host>(alloc: Global, file: &str, host: &mut H) -> Result<Conf, S
     }
 }
 
-/// Serves one line of one door by these indexes.
+/// Serves one connection of one door by these indexes.
 fn serve<H: Host>(alloc: Global, conf: Conf, host: &mut H) -> Status
     requires sound { IsSound conf }
     requires back { length (H.doors_back host.old) ≤ length (H.doors_given host.old) }
@@ -93,6 +96,8 @@ fn serve<H: Host>(alloc: Global, conf: Conf, host: &mut H) -> Status
 /// Prints the status's line to the errors. A print that fails changes nothing else.
 fn report<H: Host>(status: Status, host: &mut H)
     ensures prints { Reports (line_of status) (H.printed host.old) (H.printed host.new) (H.print_faults host.old Stream.Err) (H.print_faults host.new Stream.Err) }
+    ensures quiet { H.print_faults host.new Stream.Out ≡ H.print_faults host.old Stream.Out }
+    ensures asks { H.requests host.new ≡ H.requests host.old }
     ensures gives { H.doors_given host.new ≡ H.doors_given host.old }
     ensures back { H.doors_back host.new ≡ H.doors_back host.old }
     ensures count { H.faults host.new ≡ H.faults host.old }

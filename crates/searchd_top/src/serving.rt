@@ -1,4 +1,4 @@
-//! Serving one line of a door. However the line ends, it is handed back.
+//! Serving one connection of a door. However the connection ends, it is handed back.
 ghost use Rattle.std.specs.Prelude.{◌≡◌};
 ghost use Rattle.ql_session.specs.Tables.{empty_tables};
 ghost use Rattle.searchd_top.specs.Lending.{IsWithin};
@@ -10,10 +10,10 @@ use ql_session::{PlainTables, serve_link};
 use srch_base::{Door, Failed};
 use std::alloc::Global;
 
-/// The number that the greeting of the one line shows.
+/// The number that the greeting of the one connection shows.
 const CONNECTION: u32 = 1;
 
-/// Takes one line from the door, serves it to its end and hands it back.
+/// Takes one connection from the door, serves it to its end and hands it back.
 pub(crate) fn serve_one<D: Door>(alloc: Global, tables: &mut PlainTables, door: &mut D) -> Status
     requires empty { tables.old ≡ empty_tables tables.old.confs }
     requires within { IsWithin D.returned D.given door.old }

@@ -1,5 +1,5 @@
-//! How a run ended, with its exit status and its line, in one table (docs/MANUAL.md). The line lies in place: want of
-//! memory can be told without memory.
+//! How a run ended, with its exit status and its line, in one table (docs/MANUAL.md). The line is in place: want of
+//! memory can be reported without memory.
 ghost use Rattle.std.specs.Prelude.{◌≡◌, ◌+◌, ◌≤◌, ◌++◌, length};
 ghost use Rattle.searchd_top.specs.Statuses.{code_of, line_of};
 ghost use Rattle.searchd_top.specs.steps.Lines.{beginning_of};
@@ -15,7 +15,7 @@ const MAX_LINE_BYTES: usize = 64;
 /// How a run ended.
 #[derive(Clone, Copy, PartialEq, Eq)]
 pub enum Status {
-    /// The work was done. Each line that was served may have ended in any way.
+    /// The work was done. Each connection that was served may have ended in any way.
     Done,
     /// The words aren't those that the program knows.
     Usage,

@@ -8,7 +8,7 @@ use Rattle.serve_line.specs.declared.line.LinkEnd.{LinkEnd}
 use Rattle.serve_line.specs.declared.line.LinkEnd.TheVariants.{Quit, End, Truncated, BadHandshake, TooLarge, OutOfOrder, ReadFault, WriteFault, Worn, NoMemory}
 
 module _ {S E : Type 0} (machine : Machine S E) (before now : Meters) (phase : Phase S) (listens : Listens phase) (held read kept : List ℕ) where
-  -- the line ends with nothing answered
+  -- the connection ends with nothing answered
   pub ends_here : (end : LinkEnd) (written : List ℕ) → Stops machine before now end (record { phase = phase; rest = held ++ read; last = written; events = [] })
       → Ends machine before now end phase held read written []
   ends_here end written stops = record {
@@ -21,7 +21,7 @@ module _ {S E : Type 0} (machine : Machine S E) (before now : Meters) (phase : P
     happened = refl;
   }
 
-  -- Reading ended the line.
+  -- Reading ended the connection.
   pub filled : (end : LinkEnd) (written : List ℕ) → Fills {T = Unit {0}} (Err end) (expected phase) held kept before now read written
       → Ends machine before now end phase held read written []
   filled End written fills = ends_here End written (listens, fills.2, fills.1, (fills.0, refl))

@@ -1,3 +1,4 @@
 pub mod Filling
 pub mod Turning
 pub mod OneReading
+pub mod SameReplies

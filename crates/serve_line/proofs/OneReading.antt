@@ -1,4 +1,4 @@
--- A line is read in one way.
+-- A connection is read in one way.
 use Rattle.std.proofs.Common.{◌≡◌, ℕ, zero, suc, ◌≤◌, List, [], ◌∷◌, ◌++◌, length, take, map, refl, sym, ◌∙◌, ap, subst, arith, append_assoc}
 use Rattle.std.specs.List.{flat_map}
 use Rattle.mysql_wire.specs.Packets.{packet, max_payload, BeginsWith}

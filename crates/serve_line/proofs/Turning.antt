@@ -1,4 +1,4 @@
--- How turns join into a line.
+-- How turns join into a connection.
 use Rattle.std.proofs.Common.{◌≡◌, ◌≢◌, ℕ, suc, ◌<◌, ◌≤◌, List, [], ◌∷◌, ◌++◌, Result, Ok, Err, length, refl, sym, ◌∙◌, ap, subst, arith, append_assoc, inl, inr, ⊎_elim}
 use Rattle.std.proofs.lemmas.List.{append-nil}
 use Rattle.std.proofs.lemmas.List.Concat.{flat_map-append}
@@ -44,7 +44,7 @@ module _ {S E : Type 0} (machine : Machine S E) where
   Run-append [] more old mid new first then = subst (λ (p : Phase S). Run machine p more new) first then
   Run-append (turn ∷ turns) more old mid new first then = (first.0, first.1, Run-append turns more first.0 mid new first.2 then)
 
-  -- a line that ends so since a moment ends so since an earlier one
+  -- a connection that ends so since a moment ends so since an earlier one
   Stops-earlier : (first before now : Meters) (end : LinkEnd) (at : Finish S E) → Later first before → Stops machine before now end at → Stops machine first now end at
   Stops-earlier first before now Quit at later stops = stops
   Stops-earlier first before now End at later stops = stops
@@ -58,7 +58,7 @@ module _ {S E : Type 0} (machine : Machine S E) where
   Stops-earlier first before now NoMemory at later stops =
       (stops.0, stops.1, (⊎_elim (λ whole. inl whole) (λ cut. inr (Rose-earlier _ _ _ later.writes cut.0, cut.1)) stops.2.0, stops.2.1))
 
-  -- the line went on, and then it went on or ended
+  -- the connection went on, and then it went on or ended
   pub goes_then : (first before now : Meters) (result : Result (Unit {0}) LinkEnd) (old mid new : Phase S) (held read written kept read' written' left : List ℕ) (events events' : List E)
       → Later first before
       → GoesOn machine old held read written events mid kept
@@ -92,7 +92,7 @@ module _ {S E : Type 0} (machine : Machine S E) where
     happened = sym (append-nil turn.events);
   }
 
-  -- the line ends with nothing more read
+  -- the connection ends with nothing more read
   ends_at : (before now : Meters) (end : LinkEnd) (at : Finish S E) → Stops machine before now end at → Ends machine before now end at.phase at.rest [] at.last at.events
   ends_at before now end at stops = record {
     turns = [];
@@ -118,7 +118,7 @@ module _ {S E : Type 0} (machine : Machine S E) where
   refusal_stops before now Worn phase held refusal refuses = absurd refuses
   refusal_stops before now NoMemory phase held refusal refuses = absurd refuses
 
-  -- a refusal was written, or a front of it
+  -- a refusal was written, or a prefix of it
   refused : (before now : Meters) (result end : LinkEnd) (phase : Phase S) (held refusal read written : List ℕ)
       → Refuses phase held refusal end → RefusesWith result refusal end before now read written
       → Ends machine before now result phase held read written []
@@ -135,7 +135,7 @@ module _ {S E : Type 0} (machine : Machine S E) where
   cut_short before now old new turn held kept written step whole cut rose =
       ends_at before now WriteFault (record { phase = old; rest = held; last = written; events = turn.events }) (rose, inl (turn, new, kept, step, whole, cut, refl))
 
-  -- A turn was written, or a front of it.
+  -- A turn was written, or a prefix of it.
   pub turned : (first before now : Meters) (result : Result (Unit {0}) LinkEnd) (old new : Phase S) (turn : Turn E) (held read written mid kept read' written' bytes : List ℕ) → Later first before
       → GoesOn machine old held read written [] old mid → Step machine old turn new → mid ≡ turn.read ++ kept → bytes ≡ turn.written
       → Sends result bytes before now read' written'
@@ -165,7 +165,7 @@ module _ {S E : Type 0} (machine : Machine S E) where
       (record { reads = omega arith; writes = omega arith }) goes
       (ends_at first now Quit (record { phase = Talking state answered; rest = mid; last = []; events = [] }) (payload, kept, few, refl, begins, is, (refl, refl)))))
 
-  -- As many commands were answered as a line may send.
+  -- As many commands were answered as a connection may send.
   pub worn : (first now : Meters) (state : S) (old : Phase S) (count : ℕ) (held read written kept : List ℕ) (events : List E) → count ≡ most_commands
       → GoesOn machine old held read written events (Talking state count) kept → Ends machine first now Worn old held read written events
   worn first now state old count held read written kept events all goes = record {
@@ -178,7 +178,7 @@ module _ {S E : Type 0} (machine : Machine S E) where
     happened = goes.happened ∙ sym (append-nil (flat_map (λ t. t.events) goes.turns));
   }
 
-  -- The greeting was written, or a front of it.
+  -- The greeting was written, or a prefix of it.
   pub greeted : (connection : ℕ) (start : S) (before now : Meters) (result : Result (Unit {0}) LinkEnd) (read written bytes : List ℕ) → bytes ≡ greeting connection
       → Sends result bytes before now read written
       → Goes machine before now result (Opened connection start) [] read written [] (Greeted start) []

@@ -1,5 +1,5 @@
--- what answers the commands of a line
+-- what answers the commands of a connection
 pub mod Machines
--- a line from its greeting to its end
+-- a connection from its greeting to its end
 pub mod Line
 pub mod steps

@@ -1,4 +1,4 @@
--- A line from its greeting to its end: what was read, what was written, and how it ended. It knows nothing of how the
+-- A connection from its greeting to its end: what was read, what was written, and how it ended. It knows nothing of how the
 -- bytes were cut into reads. "Connection Lifecycle" of the protocol: the greeting, the client's response, a packet a command.
 use Rattle.std.specs.Prelude.{◌≡◌, ◌≢◌, ◌⊎◌, ⊤, ℕ, suc, ◌+◌, ◌%◌, ◌^◌, ◌≤◌, ◌<◌, List, [], ◌∷◌, ◌++◌, true, length, codes, decimal}
 use Rattle.std.specs.List.{flat_map}
@@ -12,11 +12,11 @@ use Rattle.serve_line.specs.Machines.{Machine}
 use Rattle.serve_line.specs.declared.line.LinkEnd.{LinkEnd}
 use Rattle.serve_line.specs.declared.line.LinkEnd.TheVariants.{Quit, End, Truncated, BadHandshake, TooLarge, OutOfOrder, ReadFault, WriteFault, Worn, NoMemory}
 
--- how many commands a line may send
+-- how many commands a connection may send
 abbrev pub most_commands : ℕ
 most_commands = 2 ^ 32
 
--- How far a line is: nothing was written of the line with this number, or the greeting was, and a session begins in this state
+-- How far a connection is: nothing was written of the connection with this number, or the greeting was, and a session begins in this state
 -- once the response is accepted; or it was, so many commands were answered, and the session is in this state.
 pub data Phase (S : Type 0) : Type 0 where
   Opened : (connection : ℕ) (start : S) → Phase S
@@ -75,7 +75,7 @@ out_of_order_packet seq = err_packet ((seq + 1) % 256) 1156 (codes "08S01") (cod
 abbrev pub no_room : ℕ → List ℕ
 no_room seq = err_packet seq 1037 (codes "HY001") (codes "out of memory")
 
--- The bytes begin with a packet that is refused so, and the line ends.
+-- The bytes begin with a packet that is refused so, and the connection ends.
 abbrev pub Refuses : {S : Type 0} → Phase S → List ℕ → List ℕ → LinkEnd → Type 0
 Refuses {S} phase rest refusal (BadHandshake place) =
     (payload after : List ℕ) × (start : S) × (phase ≡ Greeted start) × BeginsWith 1 rest payload after × IsBadResponse payload place
@@ -86,7 +86,7 @@ Refuses phase rest refusal (OutOfOrder seq) =
     IsOutOfOrder (expected phase) rest seq × Listens phase × (refusal ≡ out_of_order_packet seq)
 Refuses phase rest refusal end = ⊥
 
--- where a line ends: the phase after its last turn that was written whole, what was read and written after that turn, and
+-- where a connection ends: the phase after its last turn that was written whole, what was read and written after that turn, and
 -- the events of a turn that was written in part
 pub record Finish (S E : Type 0) : Type 0 where
   pub phase : Phase S
@@ -98,7 +98,7 @@ pub record Finish (S E : Type 0) : Type 0 where
 abbrev pub IsSilent : {S E : Type 0} → Finish S E → Type 0
 IsSilent at = (at.last ≡ []) × (at.events ≡ [])
 
--- The packet was written, or a front of it and the count of writes rose.
+-- The packet was written, or a prefix of it and the count of writes rose.
 abbrev pub WritesOrFails : {S E : Type 0} → Finish S E → List ℕ → Meters → Meters → Type 0
 WritesOrFails at bytes before now =
     ((at.last ≡ bytes) ⊎ (Rose before.write_faults now.write_faults × IsCut at.last bytes)) × (at.events ≡ [])
@@ -113,7 +113,7 @@ CutsTurn {S} {E} machine at =
 abbrev pub CutsRefusal : {S E : Type 0} → Finish S E → Type 0
 CutsRefusal at = (refusal : List ℕ) × (end : LinkEnd) × Refuses at.phase at.rest refusal end × IsCut at.last refusal × (at.events ≡ [])
 
--- The line ends here, by what was read and by the link's meters before and after.
+-- The connection ends here, by what was read and by the link's meters before and after.
 abbrev pub Stops : {S E : Type 0} → Machine S E → Meters → Meters → LinkEnd → Finish S E → Type 0
 Stops machine before now Quit at =
     (payload after : List ℕ) × Listens at.phase × (expected at.phase ≡ 0) × BeginsWith 0 at.rest payload after × (command_of payload ≡ asks_quit) × IsSilent at
@@ -128,7 +128,7 @@ Stops machine before now NoMemory at =
     Listens at.phase × IsPartial (expected at.phase) at.rest × WritesOrFails at (no_room (expected at.phase + 1)) before now
 Stops machine before now end at = Refuses at.phase at.rest at.last end × (at.events ≡ [])
 
--- From a phase, with bytes held back from earlier reads: what was read and written until the line's end, and the events.
+-- From a phase, with bytes held back from earlier reads: what was read and written until the connection's end, and the events.
 pub record Ends {S E : Type 0} (machine : Machine S E) (before now : Meters) (end : LinkEnd) (old : Phase S) (held read written : List ℕ) (events : List E) : Type 0 where
   pub turns : List (Turn E)
   pub at : Finish S E
@@ -138,6 +138,13 @@ pub record Ends {S E : Type 0} (machine : Machine S E) (before now : Meters) (en
   pub is_written : written ≡ flat_map (λ t. t.written) turns ++ at.last
   pub happened : events ≡ flat_map (λ t. t.events) turns ++ at.events
 
--- A whole line, with its number and the state in which its session begins: at first nothing was read and nothing written.
+-- A whole connection, with its number and the state in which its session begins: at first nothing was read and nothing written.
 abbrev pub IsLine : {S E : Type 0} → Machine S E → ℕ → S → Meters → Meters → List ℕ → List ℕ → LinkEnd → List E → Type 0
 IsLine machine connection start before now read written end events = Ends machine before now end (Opened connection start) [] read written events
+
+-- The connection ended by what its client sent: neither reading nor writing failed, and memory wasn't refused.
+abbrev pub EndsByClient : LinkEnd → Type 0
+EndsByClient ReadFault = ⊥
+EndsByClient WriteFault = ⊥
+EndsByClient NoMemory = ⊥
+EndsByClient end = ⊤

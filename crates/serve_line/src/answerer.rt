@@ -1,15 +1,15 @@
-//! What answers the commands of a line. The line reads whole packets, writes whole replies and knows when to stop; what a
+//! What answers the commands of a connection. The connection reads whole packets, writes whole replies and knows when to stop; what a
 //! command asks for, COM_QUIT aside, it hands on. So a server of other commands or statements writes an `Answerer`, and
-//! the loops that serve a line stay as they are.
+//! the loops that serve a connection stay as they are.
 ghost use Rattle.std.specs.Prelude.{◌≡◌, ◌≢◌, ◌≤◌, [], vec_capacity};
-ghost use Rattle.mysql_wire.specs.Asked.{asked_by};
+ghost use Rattle.mysql_wire.specs.CommandValues.{command_value};
 ghost use Rattle.mysql_wire.specs.Commands.{Quit as asks_quit};
 ghost use Rattle.serve_line.specs.Machines.{Answered};
 
 use mysql_wire::Command;
 use std::alloc::Global;
 
-/// One client's session: it answers the commands of one line, and keeps what must be kept between them.
+/// One client's session: it answers the commands of one connection, and keeps what must be kept between them.
 pub trait Answerer {
     ghost use Rattle.std.specs.Prelude.{◌≡◌};
     ghost use Rattle.serve_line.specs.Machines.{Machine};
@@ -17,7 +17,7 @@ pub trait Answerer {
     /// What the answers come from and change, beside the session: the documents.
     type Store;
 
-    /// What the store decided about a command, as contracts tell it.
+    /// What the store decided about a command, as contracts see it.
     ghost Event: { Type 0 };
 
     /// How commands are answered.
@@ -38,9 +38,9 @@ pub trait Answerer {
         command: Command<'_>,
         out: &mut Vec<u8>,
     )
-        requires other { asked_by command ≢ asks_quit }
+        requires other { command_value command ≢ asks_quit }
         requires empty { out.old.items ≡ [] }
         requires room { 1024 ≤ vec_capacity out.old }
-        ensures answers { Answered machine follows self.old (asked_by command.entry) store.old store.new out.new.items self.new }
+        ensures answers { Answered machine follows self.old (command_value command.entry) store.old store.new out.new.items self.new }
         ensures room { 1024 ≤ vec_capacity out.new };
 }

@@ -5,7 +5,7 @@ ghost use Rattle.serve_line.specs.Line.{Opened, Phase, Run, Turn};
 
 use crate::Answerer;
 
-/// The bytes of a line are read in one way: two runs of turns over the same bytes read the same packets, as far as both go.
+/// The bytes of a connection are read in one way: two runs of turns over the same bytes read the same packets, as far as both go.
 pub fn a_line_is_read_in_one_way<A: Answerer>()
     ensures { (connection : ℕ) (start : A) (turns more : List (Turn A.Event)) (new other : Phase A) (rest left : List ℕ)
         → Run A.machine (Opened connection start) turns new → Run A.machine (Opened connection start) more other

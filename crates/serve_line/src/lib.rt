@@ -1,4 +1,4 @@
-//! One line of the MySQL protocol, from its greeting to its end, whatever answers its commands.
+//! One connection of the MySQL protocol, from its greeting to its end, whatever answers its commands.
 #![tactic(auto)]
 
 mod answerer;

@@ -1,8 +1,8 @@
-//! A line: the greeting, the client's response, and then one command a packet and its reply, until the line ends.
+//! A connection: the greeting, the client's response, and then one command a packet and its reply, until the connection ends.
 //!
 //! A command's bytes are copied twice at most: from the buffer that is read into to the framer, and once more where a part
 //! of a packet moves to the front. A command takes no memory here, whatever its answer takes. After a packet or a reply of
-//! more than 65,536 bytes the line gives its memory back. "Connection Lifecycle" of the protocol.
+//! more than 65,536 bytes the connection gives its memory back. "Connection Lifecycle" of the protocol.
 ghost use Rattle.std.specs.Prelude.{◌≡◌, ◌<◌, suc, ℕ, List, [], None, IfOk, OnOk, vec_len, vec_capacity, ◌≤◌};
 ghost use Rattle.srch_base.specs.Moves.{Moves};
 ghost use Rattle.mysql_wire.specs.Framing.{IsFresh};
@@ -19,7 +19,7 @@ use mysql_wire::{Framer, greeting, ok_packet};
 use srch_base::{Link, NoMemory};
 use std::alloc::Global;
 
-/// How many commands one line may send.
+/// How many commands one connection may send.
 const COMMANDS: u64 = 1 << 32;
 
 /// The size of the buffer that is read into, in bytes.
@@ -28,10 +28,10 @@ const READING: usize = 16_384;
 /// The room that a reply begins with, in bytes: replies of one packet then take no more memory.
 const WRITING: usize = 1024;
 
-/// The room for replies that a line keeps once a larger one is written, in bytes.
+/// The room for replies that a connection keeps once a larger one is written, in bytes.
 const KEPT: usize = 65_536;
 
-/// How a line ended.
+/// How a connection ended.
 #[derive(Clone, Copy, PartialEq, Eq)]
 pub enum LinkEnd {
     /// COM_QUIT.
@@ -56,7 +56,7 @@ pub enum LinkEnd {
     NoMemory,
 }
 
-/// What serving one line needs beside the session and the documents.
+/// What serving one connection needs beside the session and the documents.
 #[derive(Drop)]
 struct Room {
     framer: Framer,
@@ -78,9 +78,9 @@ impl Room {
     }
 }
 
-/// Serves one line from the greeting to its end. `connection` is the number that the greeting shows.
+/// Serves one connection from the greeting to its end. `connection` is the number that the greeting shows.
 ///
-/// The packets before a read that failed are answered. What the store took stays, however the line ends.
+/// The packets before a read that failed are answered. What the store took stays, however the connection ends.
 pub fn serve<A: Answerer, K: Link>(
     alloc: Global,
     answerer: &mut A,
@@ -109,7 +109,7 @@ fn greet<A: Answerer, K: Link>(answerer: &A, connection: u32, link: &mut K) -> R
     send(link, greeting(connection).bytes())
 }
 
-/// Goes from the greeting to the end of the line.
+/// Goes from the greeting to the end of the connection.
 fn converse<A: Answerer, K: Link>(
     alloc: Global,
     answerer: &mut A,

@@ -1,4 +1,4 @@
-//! The packets that refuse what a client sent, after which the line ends.
+//! The packets that refuse what a client sent, after which the connection ends.
 ghost use Rattle.std.specs.Prelude.{◌≡◌};
 ghost use Rattle.serve_line.specs.Line.{bad_handshake_packet, too_large_packet, out_of_order_packet};
 

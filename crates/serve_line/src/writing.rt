@@ -1,4 +1,4 @@
-//! Writing whole packets over a link, and the packets with which a line ends. A link may take a part of what it is given:
+//! Writing whole packets over a link, and the packets with which a connection ends. A link may take a part of what it is given:
 //! the rest is then written next, until all of it is, and a write that takes nothing counts as one that failed. No memory
 //! is taken.
 ghost use Rattle.std.specs.Prelude.{◌≡◌, ◌⊎◌, []};
@@ -27,7 +27,7 @@ pub(crate) fn write_all<K: Link>(link: &mut K, bytes: &[u8]) -> Result<(), Faile
     Ok(())
 }
 
-/// Writes all the bytes. The line ends where that fails.
+/// Writes all the bytes. The connection ends where that fails.
 pub(crate) fn send<K: Link>(link: &mut K, bytes: &[u8]) -> Result<(), LinkEnd>
     ensures { Moves K.Link link.old link.new (Sends result bytes.now) }
 {
@@ -37,7 +37,7 @@ pub(crate) fn send<K: Link>(link: &mut K, bytes: &[u8]) -> Result<(), LinkEnd>
     }
 }
 
-/// Writes the packet of a refusal, with which the line ends.
+/// Writes the packet of a refusal, with which the connection ends.
 pub(crate) fn refuse<K: Link>(link: &mut K, refusal: &Small, end: LinkEnd) -> LinkEnd
     ensures { Moves K.Link link.old link.new (RefusesWith result refusal.now end) }
 {

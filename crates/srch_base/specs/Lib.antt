@@ -2,7 +2,7 @@
 pub mod Faults
 -- counts of faults, and what a rise says
 pub mod Counts
--- what a link tells of the bytes that went over it
+-- what a link records of the bytes that went over it
 pub mod Told
 -- what moved over a link, and its meters
 pub mod Moves

@@ -35,7 +35,7 @@ memory_over input cuts failing =
       write_faults = 0;
     }
 
--- what such a link tells: everything
+-- what such a link records: everything
 abbrev pub memory_read : Memory → Option (List ℕ)
 memory_read m = Some (take m.at m.input)
 

@@ -13,7 +13,7 @@ pub record Meters : Type 0 where
 abbrev pub meters_of : {L : Type 0} → LinkWords L → L → Meters
 meters_of words link = record { read_faults = words.read_faults link; write_faults = words.write_faults link; input_ended = words.input_ended link }
 
--- Some bytes were read and written over a link, which tells them where it tells bytes; the link's meters before and after, and these bytes, have P.
+-- Some bytes were read and written over a link, which records them where it records bytes; the link's meters before and after, and these bytes, have P.
 pub record Moves {L : Type 0} (words : LinkWords L) (old new : L) (P : Meters → Meters → List ℕ → List ℕ → Type 0) : Type 0 where
   pub read : List ℕ
   pub written : List ℕ
@@ -23,6 +23,6 @@ pub record Moves {L : Type 0} (words : LinkWords L) (old new : L) (P : Meters �
   pub writes_later : words.write_faults old ≤ words.write_faults new
   pub holds : P (meters_of words old) (meters_of words new) read written
 
--- a front of the bytes that isn't all of them
+-- a prefix of the bytes that isn't all of them
 abbrev pub IsCut : List ℕ → List ℕ → Type 0
 IsCut front bytes = (missing : List ℕ) × (missing ≢ []) × (bytes ≡ front ++ missing)

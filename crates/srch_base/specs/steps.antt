@@ -1,6 +1,6 @@
 -- rises and causes over calls in a row
 pub mod Counting
--- what is told over calls in a row
+-- what is recorded over calls in a row
 pub mod Telling
 -- what moved over calls in a row
 pub mod Moving

@@ -1,3 +1,5 @@
+//! Where connections come from. What a door gives it gets back: both lists are meanings of the door, so that a contract can
+//! say that each connection was served and handed back.
 ghost use Rattle.std.specs.Prelude.{◌≡◌, ◌<◌, ℕ, List, ◌∷◌, [], ◌++◌, Bool, true, ◌||◌, length, OnOk};
 ghost use Rattle.srch_base.specs.Counts.{HasCause};
 ghost use Rattle.srch_base.specs.Doors.{lines_in, says_end};

@@ -1,4 +1,4 @@
-//! What every crate of the daemon stands on: faults, links and doors to the outside, small lists of bytes, number fields.
+//! What every crate of the daemon rests on: faults, links and doors to the outside, small lists of bytes, number fields.
 #![tactic(auto)]
 
 mod door;

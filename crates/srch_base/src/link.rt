@@ -1,3 +1,5 @@
+//! A connection as the daemon sees it: reads and writes that may move less than was asked for, an end of the input, and
+//! failures that are counted, so that a contract can say "a read failed" of what no list of bytes shows.
 ghost use Rattle.std.specs.Prelude.{◌≡◌, ◌≤◌, ℕ, List, Option, Bool, ◌||◌, length, IfOk};
 ghost use Rattle.std.specs.Bool.{OnTrue};
 ghost use Rattle.srch_base.specs.Counts.{HasCause, Rose};
@@ -7,12 +9,12 @@ use crate::Failed;
 
 /// A line to one peer: a connection, the standard streams, or a list of bytes in memory.
 ///
-/// A link may tell the bytes that it has moved; the real ones tell nothing.
+/// A link may record the bytes that it has moved; the real ones record nothing.
 pub trait Link {
-    /// The bytes read so far, where they are told.
+    /// The bytes read so far, where they are recorded.
     ghost read_bytes: { Self → Option (List ℕ) };
 
-    /// The bytes written so far, where they are told.
+    /// The bytes written so far, where they are recorded.
     ghost written_bytes: { Self → Option (List ℕ) };
 
     /// The input has ended.
@@ -24,7 +26,7 @@ pub trait Link {
     /// How often writing has failed.
     ghost write_faults: { Self → ℕ };
 
-    /// Reads some bytes into the front of `into`, and says how many. It may wait for the peer.
+    /// Reads some bytes into a prefix of `into`, and says how many. It may wait for the peer.
     ///
     /// None, where `into` has room, is the end of the input, and nothing else ends it.
     fn read(&mut self, into: &mut [u8]) -> Result<usize, Failed>
@@ -35,7 +37,7 @@ pub trait Link {
         ensures writes { written_bytes self.new ≡ written_bytes self.old }
         ensures write_count { write_faults self.new ≡ write_faults self.old };
 
-    /// Writes a front of `piece`, and says how many bytes. It may wait for the peer.
+    /// Writes a prefix of `piece`, and says how many bytes. It may wait for the peer.
     ///
     /// A write that takes nothing of bytes that are there counts as a fault.
     fn write(&mut self, piece: &[u8]) -> Result<usize, Failed>

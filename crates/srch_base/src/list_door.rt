@@ -1,3 +1,4 @@
+//! A door over a list of connections in memory, which gives a copy of each in turn.
 ghost use Rattle.std.specs.Prelude.{◌≡◌, ◌<◌, ◌==◌, [], ◌∷◌, ◌++◌, length, IfOk, IsTrue};
 ghost use Rattle.srch_base.specs.Counts.{HasCause};
 ghost use Rattle.srch_base.specs.Doors.{lines_in, says_end};
@@ -7,7 +8,7 @@ use crate::{Door, Failed, MemoryLink, NoMemory};
 use std::alloc::{AllocError, Global};
 use std::marker::Model;
 
-/// A door that gives the links of a list, each as it stands there. It is for tests and for trying things out.
+/// A door that gives the links of a list, each as it is there. It is for tests and for trying things out.
 ///
 /// Contracts see it as a `Lines`.
 #[derive(Debug, Drop)]
@@ -104,7 +105,7 @@ impl Door for ListDoor {
     }
 }
 
-/// A copy stands as the door does. A door has no more lines back than it gave, and so has its copy.
+/// A copy is as far as the door is. A door has no more lines back than it gave, and so has its copy.
 impl Clone for ListDoor {
     ghost use Rattle.std.specs.Prelude.{◌≤◌};
 

@@ -1,3 +1,5 @@
+//! A connection of which everything is known beforehand: the bytes that it gives, how they are cut into reads, and which of
+//! its calls fail. So a test can cut a session after each byte, and let each call fail in turn.
 ghost use Rattle.std.specs.Prelude.{◌≡◌, ◌≤◌, ◌+◌, ◌==◌, length, IsErr, IsTrue, IfOk, is_err};
 ghost use Rattle.std.specs.Bool.{OnTrue};
 ghost use Rattle.std.specs.List.{list_any};
@@ -10,7 +12,7 @@ use crate::{Failed, Link};
 use std::alloc::{AllocError, Global};
 use std::marker::Model;
 
-/// A link over bytes in memory, which tells all that went over it. It is for tests and for trying things out.
+/// A link over bytes in memory, which records all that went over it. It is for tests and for trying things out.
 ///
 /// Its reads and writes are counted together from 1, and those whose numbers it was given fail: they move nothing, and
 /// raise the count of their direction. A write takes all of its bytes. It fails as well where no memory is left for them.

@@ -1,6 +1,6 @@
 //! Where the bytes of a word, a name or a text lie: few of them in the value itself, more in a `Vec`.
 //!
-//! A `Place` has the size of a `Vec` and eight bytes more; 30 is how many bytes that leaves for those inside, beside their
+//! A `Storage` has the size of a `Vec` and eight bytes more; 30 is how many bytes that leaves for those inside, beside their
 //! number and the tag that tells the two places apart.
 ghost use Rattle.std.specs.Prelude.{◌≡◌, ◌≤◌, IfOk, length};
 ghost use Rattle.srch_base.specs.Places.{bytes_in};
@@ -13,7 +13,7 @@ const INSIDE: usize = 30;
 
 /// Bytes, where they lie.
 #[derive(Drop)]
-pub(crate) enum Place {
+pub(crate) enum Storage {
     Inside(Inside),
     Outside(Vec<u8>),
 }
@@ -37,15 +37,15 @@ impl Model for Inside {
     ghost invariant = { λ inside. inside.count ≤ INSIDE };
 }
 
-impl Place {
+impl Storage {
     /// Moves few bytes inside, and frees their `Vec`.
     pub(crate) fn new(bytes: Vec<u8>) -> Self
         ensures { bytes_in result ≡ bytes.items }
     {
         if bytes.len() <= INSIDE {
-            Place::Inside(Inside::new(*bytes.allocator(), bytes.as_slice()))
+            Storage::Inside(Inside::new(*bytes.allocator(), bytes.as_slice()))
         } else {
-            Place::Outside(bytes)
+            Storage::Outside(bytes)
         }
     }
 
@@ -53,9 +53,9 @@ impl Place {
         ensures { IfOk result (λ copy. bytes_in copy ≡ bytes.now) }
     {
         if bytes.len() <= INSIDE {
-            Ok(Place::Inside(Inside::new(alloc, bytes)))
+            Ok(Storage::Inside(Inside::new(alloc, bytes)))
         } else {
-            Ok(Place::Outside(Vec::from_slice(alloc, bytes)?))
+            Ok(Storage::Outside(Vec::from_slice(alloc, bytes)?))
         }
     }
 
@@ -63,8 +63,8 @@ impl Place {
         ensures { result.now ≡ bytes_in self.now }
     {
         match self {
-            Place::Inside(inside) => inside.as_slice(),
-            Place::Outside(bytes) => bytes.as_slice(),
+            Storage::Inside(inside) => inside.as_slice(),
+            Storage::Outside(bytes) => bytes.as_slice(),
         }
     }
 
@@ -72,8 +72,8 @@ impl Place {
         ensures { IfOk result (λ copy. bytes_in copy ≡ bytes_in self.now) }
     {
         match self {
-            Place::Inside(inside) => Ok(Place::Inside(inside.copied())),
-            Place::Outside(bytes) => Ok(Place::Outside(bytes.clone()?)),
+            Storage::Inside(inside) => Ok(Storage::Inside(inside.copied())),
+            Storage::Outside(bytes) => Ok(Storage::Outside(bytes.clone()?)),
         }
     }
 
@@ -82,8 +82,8 @@ impl Place {
         ensures { IfOk result (λ bytes. bytes.items ≡ bytes_in self) }
     {
         match self {
-            Place::Inside(inside) => Vec::from_slice(inside.alloc, inside.as_slice()),
-            Place::Outside(bytes) => Ok(bytes),
+            Storage::Inside(inside) => Vec::from_slice(inside.alloc, inside.as_slice()),
+            Storage::Outside(bytes) => Ok(bytes),
         }
     }
 }

@@ -1,3 +1,4 @@
+//! Counting steps without counting at run time: a bound on work is a clause about this count.
 ghost use Rattle.std.specs.Prelude.{◌≡◌, ◌+◌, ◌<◌};
 
 use std::marker::Model;
@@ -6,7 +7,7 @@ use std::sync::ledger::{Blank, Book, Ledger, Share};
 /// How many steps were taken, for bounds on work: clauses speak of it, and only `tick` moves it.
 ///
 /// It takes no bytes, and its calls do nothing at run time. What a step is, the call that ticks says. `L` is the ledger
-/// that the count stands in; callers that hand a counter on are generic in it.
+/// that the count is kept in; callers that hand a counter on are generic in it.
 #[derive(Drop)]
 pub struct Steps<L: Ledger> {
     book: Book<L>,

@@ -9,7 +9,7 @@ ghost use Rattle.std.specs.Cmp.Lexicographic.{pointwise, slice_cmp, nat_list_eq_
 ghost use Rattle.std.specs.Ordering.{nat_cmp};
 
 use crate::NoMemory;
-use crate::places::Place;
+use crate::places::Storage;
 use std::alloc::{AllocError, Global};
 use std::cmp::Ordering;
 use std::fmt;
@@ -28,7 +28,7 @@ const _: () = prove!(size_of::<Word>() == 32);
 
 /// Bytes of a kind. Contracts see them as the list of the bytes, and they are ordered by it.
 pub struct Held<Mark> {
-    place: Place,
+    place: Storage,
     mark: PhantomData<Mark>,
 }
 
@@ -60,7 +60,7 @@ impl<Mark> Held<Mark> {
         ensures { result ≡ bytes.items }
     {
         Held {
-            place: Place::new(bytes),
+            place: Storage::new(bytes),
             mark: PhantomData,
         }
     }
@@ -70,7 +70,7 @@ impl<Mark> Held<Mark> {
         ensures { IfOk result (λ copy. copy ≡ bytes.now) }
     {
         Ok(Held {
-            place: Place::from_slice(alloc, bytes)?,
+            place: Storage::from_slice(alloc, bytes)?,
             mark: PhantomData,
         })
     }

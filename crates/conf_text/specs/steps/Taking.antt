@@ -9,13 +9,13 @@ use Rattle.conf_text.specs.declared.draft.Draft.{Draft}
 use Rattle.conf_text.specs.declared.fault.ConfKind.{ConfKind}
 use Rattle.conf_text.specs.declared.fault.ConfKind.TheVariants as kinds
 use Rattle.conf_text.specs.declared.keys.Key.{Key}
-use Rattle.conf_text.specs.declared.reading.Place.{Place as CodePlace}
-use Rattle.conf_text.specs.declared.reading.Place.TheVariants as places
+use Rattle.conf_text.specs.declared.reading.LinePlace.{LinePlace as CodePlace}
+use Rattle.conf_text.specs.declared.reading.LinePlace.TheVariants as places
 use Rattle.conf_text.specs.declared.reading.Section.{Section as CodeSection}
 use Rattle.conf_text.specs.declared.reading.Section.TheVariants as sections
 use Rattle.conf_text.specs.steps.Drafts.{AreIndexes, IsDraft, IsEndFault, IsEntryFault, IsGoodEnd, IsGoodEntry, entry_with}
 use Rattle.conf_text.specs.Faults.{IsFaultAt, IsGoodAt, has_name, is_long}
-use Rattle.conf_text.specs.Sections.{Entry, IndexText, Place, Section, Spot, after_head, entries_after, headed, index, indexes_after, inside, other, outside, place_after}
+use Rattle.conf_text.specs.Sections.{Entry, IndexText, LinePlace, Section, Spot, after_head, entries_after, headed, index, indexes_after, inside, other, outside, place_after}
 use Rattle.conf_text.specs.Shapes.{Shape}
 
 -- a section, and a place, without what is read of an index
@@ -23,7 +23,7 @@ abbrev pub section_of : CodeSection → Section
 section_of (sections.Index draft) = index draft.name
 section_of sections.Other = other
 
-abbrev pub place_of : CodePlace → Place
+abbrev pub place_of : CodePlace → LinePlace
 place_of places.Outside = outside
 place_of (places.Headed section) = headed (section_of section)
 place_of (places.Inside section) = inside (section_of section)
@@ -49,7 +49,7 @@ IsHeadFault kinds.Limit texts name = (list_any (has_name name) texts ≡ false) 
 IsHeadFault _ texts name = ⊥
 
 -- the place after a line, and what is read there
-pub record Leads (place : Place) (entries : List Entry) (next : CodePlace) : Type 0 where
+pub record Leads (place : LinePlace) (entries : List Entry) (next : CodePlace) : Type 0 where
   pub place_is : place_of next ≡ place
   pub has : PlaceHas entries next
 
@@ -68,7 +68,7 @@ EntersIndex texts entries name (Some key) value (Ok new) = IsGoodEntry texts ent
 EntersIndex texts entries name (Some key) value (Err (causes.Fault kind)) = IsEntryFault kind texts entries key value
 
 -- A section took an entry, or the entry is faulty. A section that is no index takes every entry.
-abbrev pub Enters : List IndexText → List Entry → Place → Option Key → List ℕ → Result CodePlace (Or ConfKind) → Type 0
+abbrev pub Enters : List IndexText → List Entry → LinePlace → Option Key → List ℕ → Result CodePlace (Or ConfKind) → Type 0
 Enters texts entries place key value (Err causes.NoMemory) = Unit {0}
 Enters texts entries (inside (index name)) None value (Ok next) = ⊥
 Enters texts entries (inside (index name)) None value (Err (causes.Fault kind)) = kind ≡ kinds.UnknownKey
@@ -80,7 +80,7 @@ Enters texts entries outside key value result = Unit {0}
 Enters texts entries (headed section) key value result = Unit {0}
 
 -- A section ended, or an index ends with a fault.
-abbrev pub Closes : List IndexText → List Entry → Place → List IndexConf → Result CodePlace (Or ConfKind) → Type 0
+abbrev pub Closes : List IndexText → List Entry → LinePlace → List IndexConf → Result CodePlace (Or ConfKind) → Type 0
 Closes texts entries place new (Err causes.NoMemory) = Unit {0}
 Closes texts entries (inside (index name)) new (Ok next) = IsGoodEnd entries × AreIndexes (texts ++ record { name = name; entries = entries } ∷ []) new × (next ≡ places.Outside)
 Closes texts entries (inside (index name)) new (Err (causes.Fault kind)) = IsEndFault kind entries

@@ -1,4 +1,4 @@
--- What the code sees at the front of the bytes held.
+-- What the code sees in the first bytes that are held.
 use Rattle.std.specs.Prelude.{◌≡◌, ℕ, ◌≤◌, ◌+◌, length, take, drop, List, Some}
 use Rattle.mysql_wire.specs.Packets.{header_of, IsPartial, BeginsWith}
 use Rattle.mysql_wire.specs.Framing.{IsRefused}

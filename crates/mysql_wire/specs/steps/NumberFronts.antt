@@ -1,4 +1,4 @@
--- Numbers at the front of bytes, with what follows them: "Protocol::FixedLengthInteger" and "Protocol::LengthEncodedInteger".
+-- Numbers that bytes begin with, and what follows them: "Protocol::FixedLengthInteger" and "Protocol::LengthEncodedInteger".
 use Rattle.std.specs.Prelude.{ℕ, List, [], ◌∷◌, Option, Some, None, ◌==◌, drop, nat_lt, option_map, if◌then◌else◌}
 use Rattle.srch_base.specs.Numbers.{field_at}
 

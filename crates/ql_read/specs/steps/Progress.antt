@@ -1,5 +1,5 @@
 -- What the cursor says of the next tokens.
-use Rattle.std.specs.Prelude.{◌≡◌, List, [], ◌∷◌, Bool, false}
+use Rattle.std.specs.Prelude.{◌≡◌, List, ◌∷◌, Bool, false}
 use Rattle.ql_lex.specs.Tokens.{Lexeme}
 use Rattle.ql_grammar.specs.declared.kind.Kind.{Kind}
 use Rattle.ql_grammar.specs.declared.kind.Kind.TheVariants as kinds

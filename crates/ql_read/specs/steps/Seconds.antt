@@ -1,11 +1,9 @@
 -- The token after the next one.
-use Rattle.std.specs.Prelude.{◌≡◌, List, [], ◌∷◌, Bool, false}
+use Rattle.std.specs.Prelude.{List, [], ◌∷◌}
 use Rattle.ql_lex.specs.Tokens.{Lexeme}
 use Rattle.ql_grammar.specs.declared.kind.Kind.{Kind}
 use Rattle.ql_grammar.specs.declared.kind.Kind.TheVariants as kinds
-use Rattle.ql_grammar.specs.Keywords.{begins_statement}
 use Rattle.ql_grammar.specs.Tokens.{kind}
-use Rattle.ql_read.specs.steps.Progress.{IsNext, is_start, IsStart}
 
 -- the kind of the token after the next one
 abbrev pub second_kind : List Lexeme → Kind

@@ -5,7 +5,7 @@ use Rattle.doc_types.specs.Schemas.{IsSchema}
 use Rattle.doc_types.specs.Transactions.{IsTxnOf}
 use Rattle.plain_store.specs.Commits.{AreInsertions}
 use Rattle.index_conf.specs.declared.conf.IndexConf.{IndexConf}
-use Rattle.doc_search.specs.Searches.{IsAskedOf}
+use Rattle.ql_answers.specs.Searches.{IsAskedOf}
 use Rattle.ql_answers.specs.declared.plan.Plan.{Plan}
 use Rattle.ql_answers.specs.declared.plan.Plan.TheVariants.{Search, Insert}
 
@@ -16,7 +16,7 @@ pub record CanCommit (confs : List IndexConf) (place : ℕ) (txn : Txn) : Type 0
   pub of : IsTxnOf conf.schema txn
   pub insertions : AreInsertions txn.ops
 
--- What the plan wants of an index can be had: the index is there, and what is asked is asked of its columns.
+-- What the plan wants of an index can be had: the index is there, and the question is about its columns.
 abbrev pub IsSoundPlan : List IndexConf → Plan → Type 0
 IsSoundPlan confs (Search place selection) =
     (conf : IndexConf) × (slice_get confs place ≡ Some conf) × (IsSchema conf.schema → IsAskedOf conf.schema selection.question)

@@ -1,5 +1,5 @@
 -- The tokens of a written query beside the pieces of its text: what the piece of a token is, and what tokens stand side by side.
-use Rattle.std.specs.Prelude.{◌≡◌, ◌≢◌, ◌≤◌, ◌<◌, ◌^◌, ℕ, List, [], ◌∷◌, Bool, true, false, ◌||◌, Option, Some, None, Contains, All, decimal, length, map, encode_utf8_all}
+use Rattle.std.specs.Prelude.{◌≡◌, ◌≢◌, ◌≤◌, ◌<◌, ◌^◌, ℕ, List, [], ◌∷◌, Bool, true, false, Option, Some, None, Contains, All, decimal, length, map, encode_utf8_all}
 use Rattle.std.specs.List.{list_all}
 use Rattle.std.proofs.Math.Utf8.{scalar}
 use Rattle.doc_types.specs.declared.tokens.TheConstants.{MAX_WORD_CHARS}

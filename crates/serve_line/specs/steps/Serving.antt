@@ -1,4 +1,4 @@
--- What the functions that serve a line make of it.
+-- What the functions that serve a connection make of it.
 use Rattle.std.specs.Prelude.{◌≡◌, ◌≢◌, ◌⊎◌, ℕ, ◌+◌, List, [], ◌++◌, true, None, Result, Ok, Err}
 use Rattle.std.specs.List.{flat_map}
 use Rattle.srch_base.specs.Counts.{Rose}
@@ -24,27 +24,27 @@ pub record GoesOn {S E : Type 0} (machine : Machine S E) (old : Phase S) (held r
   pub is_written : written ≡ flat_map (λ t. t.written) turns
   pub happened : events ≡ flat_map (λ t. t.events) turns
 
--- The line goes on, or has ended.
+-- The connection goes on, or has ended.
 abbrev pub Goes : {T S E : Type 0} → Machine S E → Meters → Meters → Result T LinkEnd → Phase S → List ℕ → List ℕ → List ℕ → List E → Phase S → List ℕ → Type 0
 Goes machine before now (Ok x) old held read written events new kept = GoesOn machine old held read written events new kept
 Goes machine before now (Err end) old held read written events new kept = Ends machine before now end old held read written events
 
--- All the bytes were written, or a front of them was and writing failed.
+-- All the bytes were written, or a prefix of them was and writing failed.
 abbrev pub Sends : {T : Type 0} → Result T LinkEnd → List ℕ → Meters → Meters → List ℕ → List ℕ → Type 0
 Sends (Ok x) bytes before now read written = (read ≡ []) × (written ≡ bytes)
 Sends (Err end) bytes before now read written = (end ≡ ends.WriteFault) × (read ≡ []) × IsCut written bytes × Rose before.write_faults now.write_faults
 
--- The refusal was written and the line ends so, or a front of it was and writing failed.
+-- The refusal was written and the connection ends so, or a prefix of it was and writing failed.
 abbrev pub RefusesWith : LinkEnd → List ℕ → LinkEnd → Meters → Meters → List ℕ → List ℕ → Type 0
 RefusesWith result refusal end before now read written =
     (read ≡ []) × (((result ≡ end) × (written ≡ refusal)) ⊎ ((result ≡ ends.WriteFault) × IsCut written refusal × Rose before.write_faults now.write_faults))
 
--- ERR 1037 was written, or a front of it and writing failed.
+-- ERR 1037 was written, or a prefix of it and writing failed.
 abbrev pub SaysNoRoom : ℕ → Meters → Meters → List ℕ → List ℕ → Type 0
 SaysNoRoom seq before now read written =
     (read ≡ []) × ((written ≡ no_room seq) ⊎ (Rose before.write_faults now.write_faults × IsCut written (no_room seq)))
 
--- Bytes were read and held, or there are none and the line ends so.
+-- Bytes were read and held, or there are none and the connection ends so.
 abbrev pub Feeds : {T : Type 0} → Result T LinkEnd → List ℕ → List ℕ → Meters → Meters → List ℕ → List ℕ → Type 0
 Feeds (Ok x) held kept before now read written = (written ≡ []) × (read ≢ []) × (kept ≡ held ++ read)
 Feeds (Err ends.End) held kept before now read written = (written ≡ []) × (read ≡ []) × (held ≡ []) × (now.input_ended ≡ true)
@@ -52,7 +52,7 @@ Feeds (Err ends.Truncated) held kept before now read written = (written ≡ []) 
 Feeds (Err ends.ReadFault) held kept before now read written = (written ≡ []) × (read ≡ []) × Rose before.read_faults now.read_faults
 Feeds (Err end) held kept before now read written = ⊥
 
--- Bytes were read and held until a packet was whole or to be refused, or the line ended before.
+-- Bytes were read and held until a packet was whole or to be refused, or the connection ended before.
 abbrev pub Fills : {T : Type 0} → Result T LinkEnd → ℕ → List ℕ → List ℕ → Meters → Meters → List ℕ → List ℕ → Type 0
 Fills (Ok x) expect held kept before now read written = (written ≡ []) × (kept ≡ held ++ read)
 Fills (Err ends.End) expect held kept before now read written = (written ≡ []) × (held ++ read ≡ []) × (now.input_ended ≡ true)

@@ -16,12 +16,12 @@ pub record Later (old new : Meters) : Type 0 where
   pub reads : old.read_faults ≤ new.read_faults
   pub writes : old.write_faults ≤ new.write_faults
 
--- a front of bytes before their end is a cut
+-- a prefix of bytes before their end is a cut
 pub cut_at : (bytes : List ℕ) (done : ℕ) → done < length bytes → IsCut (take done bytes) bytes
 cut_at bytes done within =
     (drop done bytes, (λ none. absurd (omega (arith, length-drop done bytes, ap length none))), sym (take-append-drop done bytes))
 
--- a front of bytes, and the next ones of the rest
+-- a prefix of bytes, and the next ones of the rest
 pub take_next : (bytes : List ℕ) (done count : ℕ) → done ≤ length bytes → take done bytes ++ take count (take (length bytes - done) (drop done bytes)) ≡ take (done + count) bytes
 take_next bytes done count within =
     ap (λ (rest : List ℕ). take done bytes ++ take count rest) (take_all (length bytes - done) (drop done bytes) (omega (arith, length-drop done bytes)))
@@ -69,7 +69,7 @@ module _ {L : Type 0} (words : LinkWords L) where
     holds = join first.read first.written then.read then.written first.reads_later first.writes_later then.reads_later then.writes_later first.holds then.holds;
   }
 
-  -- A front was written before, and a write moved more.
+  -- A prefix was written before, and a write moved more.
   pub Moves-more : (first link new : L) (bytes : List ℕ) (front moved : List ℕ) (P : Meters → Meters → List ℕ → List ℕ → Type 0)
       → Moves words first link (λ before now read written. (read ≡ []) × (written ≡ front))
       → words.written_bytes new ≡ then_bytes (words.written_bytes link) moved → words.read_bytes new ≡ words.read_bytes link

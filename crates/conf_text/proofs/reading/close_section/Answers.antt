@@ -1,5 +1,5 @@
 use Rattle.std.proofs.Common.{◌∙◌, ap}
-use Rattle.conf_text.specs.declared.reading.Place.TheVariants.{Inside}
+use Rattle.conf_text.specs.declared.reading.LinePlace.TheVariants.{Inside}
 use Rattle.conf_text.proofs.TakenLines.{closes_index}
 use Rattle.conf_text.proofs.reading.close_section.Goals as goal
 

@@ -1,4 +1,4 @@
-use Rattle.std.proofs.Common.{◌≡◌, ◌∙◌, List, Bool, false, sym, ap, subst, refl, is_ok}
+use Rattle.std.proofs.Common.{◌∙◌, List, Bool, false, sym, ap, subst, refl, is_ok}
 use Rattle.std.proofs.ResultArms.{chosen}
 use Rattle.std.proofs.lemmas.Str.{IsCharBoundary-start}
 use Rattle.charset_map.specs.Spans.{folded}

@@ -18,4 +18,5 @@ returns-clause-configures g c = (
   c.in-Ok.ensures.reads,
   subst (λ (bytes : List ℕ). IsFaultOf bytes c.in-Err-Fault.field-0-0) c.as_slice.ensures.value
       (fault_read c.as_slice.result.now c.in-Err-Fault.field-0 c.in-Err-Fault.field-0-0 c.in-Err-Fault.field-0-is c.in-Err-Fault.ensures.reads),
+  c.in-Ok.ensures.cause,
 )

@@ -2,7 +2,7 @@ use Rattle.std.proofs.Common.{◌≡◌, ◌-◌, ◌≤◌, [], length, take}
 use Rattle.srch_base.specs.Moves.{Moves}
 use Rattle.serve_line.proofs.writing.write_all.Given as goal
 
--- a front of the bytes was written
+-- a prefix of the bytes was written
 abbrev pub invariant-pieces : goal.invariant-pieces
 invariant-pieces g l =
     let K = g.K.Link in

@@ -21,6 +21,6 @@ returns-clause-gives c =
     let count : (at + c.args.n) - at ≡ c.args.n = omega arith in
     let items : c.extend_from_slice.new.self.items ≡ take c.args.n (drop at doors) =
     rw (← count, ← all) (cc (e.1, copies_same _ e.0 e.2)) in
-    let same_at : at ≡ c.args.self.now.at = ap (λ (h : HostMemory). h.at) (c.self-2.view_is ∙ c.next_fails.ensures.count) in
-    let same_doors : doors ≡ c.args.self.now.doors = ap (λ (h : HostMemory). h.doors) (c.self-2.view_is ∙ c.next_fails.ensures.count) in
+    let same_at : at ≡ c.args.self.now.at = ap (λ (h : HostMemory). h.at) (c.self-2.view_is ∙ c.next_fails.ensures.count) ∙ ap (λ (h : HostMemory). h.at) c.keep_door_request.ensures.rest in
+    let same_doors : doors ≡ c.args.self.now.doors = ap (λ (h : HostMemory). h.doors) (c.self-2.view_is ∙ c.next_fails.ensures.count) ∙ ap (λ (h : HostMemory). h.doors) c.keep_door_request.ensures.rest in
     rw (← same_at, ← same_doors, items) (take-add at c.args.n doors)

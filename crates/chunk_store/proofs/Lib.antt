@@ -1,0 +1,5 @@
+pub mod Told
+pub mod Parts
+pub mod Weaker
+pub mod Outcomes
+pub mod WholeFiles

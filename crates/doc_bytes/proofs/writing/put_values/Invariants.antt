@@ -1,0 +1,7 @@
+use Rattle.std.proofs.Common.{◌≡◌, ◌++◌, take}
+use Rattle.std.specs.List.{flat_map}
+use Rattle.doc_bytes.specs.Payload.{value_bytes}
+use Rattle.doc_bytes.proofs.writing.put_values.Given as goal
+
+abbrev pub invariant-loop-value : goal.invariant-loop-value
+invariant-loop-value l = l.out.items ≡ l.fn.out.items ++ flat_map value_bytes (take l.value-index l.values)

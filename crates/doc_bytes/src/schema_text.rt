@@ -1,0 +1,46 @@
+//! The text of a schema: a line for each column, as `field title` or `uint gid`.
+ghost use Rattle.std.specs.Prelude.{◌≡◌, ◌++◌, [], ◌∷◌, OnOk};
+ghost use Rattle.std.specs.List.{flat_map};
+ghost use Rattle.doc_bytes.specs.SchemaText.{attr_line, field_line, kind_text, schema_text};
+
+use doc_types::{AttrKind, Schema};
+use srch_base::{Name, NoMemory};
+
+/// Appends the text of a schema.
+pub fn put_schema(schema: &Schema, out: &mut Vec<u8>) -> Result<(), NoMemory>
+    ensures { OnOk result (out.new.items ≡ out.old.items ++ schema_text schema.now) }
+{
+    for name in schema.fields.as_slice() {
+        put_line(b"field ", name, out)?;
+    }
+    put_attrs(schema.attrs.as_slice(), out)
+}
+
+fn put_attrs(attrs: &[(Name, AttrKind)], out: &mut Vec<u8>) -> Result<(), NoMemory>
+    ensures { OnOk result (out.new.items ≡ out.old.items ++ flat_map attr_line attrs.now) }
+{
+    for (name, kind) in attrs {
+        put_line(kind_word(*kind), name, out)?;
+    }
+    Ok(())
+}
+
+fn put_line(kind: &[u8], name: &Name, out: &mut Vec<u8>) -> Result<(), NoMemory>
+    ensures { OnOk result (out.new.items ≡ out.old.items ++ (kind.now ++ name.now ++ 10 ∷ [])) }
+{
+    out.extend_from_slice(kind)?;
+    out.extend_from_slice(name.as_bytes())?;
+    out.push(b'\n')?;
+    Ok(())
+}
+
+fn kind_word(kind: AttrKind) -> &'static [u8]
+    ensures { result.now ≡ kind_text kind }
+{
+    match kind {
+        AttrKind::Uint => b"uint ",
+        AttrKind::Bool => b"bool ",
+        AttrKind::Bigint => b"bigint ",
+        AttrKind::Timestamp => b"timestamp ",
+    }
+}

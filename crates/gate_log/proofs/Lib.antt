@@ -1,0 +1,5 @@
+pub mod Fronts
+pub mod OneMore
+pub mod Standing
+pub mod Spelled
+pub mod Steps

@@ -1,0 +1,21 @@
+use Rattle.std.proofs.Common.{refl, ap, ◌∙◌}
+use Rattle.std.specs.Str.{str_to_ascii_lowercase}
+use Rattle.ql_lex.specs.Tokens.{lexeme_of}
+use Rattle.ql_grammar.specs.declared.keyword.Keyword.TheVariants as keywords
+use Rattle.ql_grammar.specs.Tokens.{kind}
+use Rattle.ql_read.proofs.Cursors.{named}
+use Rattle.ql_grammar.proofs.ClassKinds.{but_name}
+use Rattle.token_grammar.proofs.Rows.{takes_next, fails_at, fits_next}
+use Rattle.ql_read.proofs.cursor.TokenCursor.target_name.Goals as goal
+
+pub token_name-requires : goal.token_name-requires
+token_name-requires c =
+    let token = c.skip-token.result.now in
+    named token.kind token.text.now (but_name keywords.Autocommit keywords.Names (kind (lexeme_of token)) (fits_next c.if-is_target_name.ensures c.skip-token.ensures.next)) c.skip-token.ensures.lexeme
+
+pub returns-in_ok-to_ascii_lowercase : goal.returns-in_ok-to_ascii_lowercase
+returns-in_ok-to_ascii_lowercase c =
+    takes_next c.if-is_target_name.ensures c.skip-token.ensures.next (λ fit. (lexeme_of c.skip-token.result.now, refl, (fit, c.new.ensures ∙ c.in_ok-to_ascii_lowercase.ensures.ok ∙ ap str_to_ascii_lowercase c.token_name.ensures)))
+
+pub returns-else-is_target_name : goal.returns-else-is_target_name
+returns-else-is_target_name c = fails_at c.if-is_target_name.ensures c.place.ensures

@@ -1,0 +1,2 @@
+-- rows of which a chunk answers alike
+pub mod AlikeRows
