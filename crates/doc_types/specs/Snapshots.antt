@@ -11,7 +11,7 @@ pub record LayerValue : Type 0 where
   pub disk : Bool
   pub dead : List ℕ
 
--- A snapshot: the number of its last commit, how often its layers were reshaped, and the layers.
+-- A snapshot: the number of its last commit, how often layers were flushed to a disk or merged there, and the layers.
 pub record SnapshotValue : Type 0 where
   pub number : ℕ
   pub shape : ℕ

@@ -47,7 +47,7 @@ impl<C: Chunk> Layer<C> {
 pub struct Snapshot<C: Chunk> {
     /// The number of the last commit.
     pub number: u64,
-    /// How often the layers were put together anew.
+    /// How often layers were flushed to a disk or merged there; what a commit does in memory leaves it.
     pub shape: u64,
     pub layers: Items<Layer<C>>,
 }

@@ -11,7 +11,7 @@ use srch_base::{Items, Name, Or};
 use std::alloc::Global;
 use std::test::Fail;
 
-/// Ids that are inserted one by one. A commit is told by its number, how often layers were put together, and how many there
+/// Ids that are inserted one by one. A commit is told by its number, the shape, which stays in memory, and how many layers there
 /// are: fifteen layers behind one of their size make one of them all.
 const INSERTED: [(u64, &str); 19] = [
     (5, "1 0 1"),
@@ -30,9 +30,9 @@ const INSERTED: [(u64, &str); 19] = [
     (17, "13 0 13"),
     (16, "14 0 14"),
     (15, "15 0 15"),
-    (14, "16 1 1"),
+    (14, "16 0 1"),
     (9, "9 is there"),
-    (30, "17 1 2"),
+    (30, "17 0 2"),
 ];
 
 /// The columns of an index that has none.

@@ -1,9 +1,9 @@
 -- What a commit makes of a snapshot: a layer more, and maybe some layers put together.
-use Rattle.std.proofs.Common.{◌≡◌, ◌⊎◌, ℕ, ◌+◌, ◌<◌, List, [], ◌∷◌, ◌++◌, map, length, get_or, sym, ap, subst, ◌∙◌, arith, All, inl, inr}
+use Rattle.std.proofs.Common.{◌≡◌, ℕ, ◌+◌, ◌<◌, ◌≤◌, List, [], ◌∷◌, ◌++◌, map, length, take, length-append, get_or, sym, ap, subst, ◌∙◌, arith, All, inl, inr}
 use Rattle.std.specs.List.{fold}
 use Rattle.std.specs.List.Sorted.{IsPermutation}
 use Rattle.std.proofs.Math.ListN.{get_or-map}
-use Rattle.std.proofs.lemmas.List.{length-map}
+use Rattle.std.proofs.lemmas.List.{length-map, take-append-le, take_all}
 use Rattle.std.proofs.lemmas.List.Sorted.{IsPermutation-append_right}
 use Rattle.doc_types.specs.declared.documents.DocRow.{DocRow}
 use Rattle.doc_types.specs.declared.schema.Schema.{Schema}
@@ -14,7 +14,7 @@ use Rattle.doc_types.specs.Documents.{IsDocOf}
 use Rattle.doc_types.specs.Rows.{rows_of}
 use Rattle.doc_types.specs.Snapshots.{LayerValue, SnapshotValue, all_living, live}
 use Rattle.doc_types.specs.Transactions.{IsOpOf, IsTxnOf}
-use Rattle.plain_store.specs.Commits.{Accepts, GrowsByOne}
+use Rattle.plain_store.specs.Commits.{Accepts, KeepsPrefix}
 use Rattle.plain_store.specs.Stores.{StoreValue}
 use Rattle.plain_store.specs.steps.Adding.{AreAdded, insertion_of, change_to}
 use Rattle.plain_store.specs.steps.Layering.{AreApart, AreOfOne, IsLayerOf, IsStore, MayMerge}
@@ -70,9 +70,26 @@ number_after : (old : SnapshotValue) (layer : LayerValue) (new : SnapshotValue) 
 number_after old layer new (inl same) = ap (λ snapshot. snapshot.number) same
 number_after old layer new (inr merges) = merges.number
 
-layers_after : (old : SnapshotValue) (layer : LayerValue) (new : SnapshotValue) → MayMerge (next old layer) new → ((new.shape ≡ old.shape) × GrowsByOne old.layers new.layers) ⊎ (new.shape ≡ old.shape + 1)
-layers_after old layer new (inl same) = inl (ap (λ snapshot. snapshot.shape) same, (layer, ap (λ snapshot. snapshot.layers) same))
-layers_after old layer new (inr merges) = inr merges.shape
+shape_after : (old : SnapshotValue) (layer : LayerValue) (new : SnapshotValue) → MayMerge (next old layer) new → new.shape ≡ old.shape
+shape_after old layer new (inl same) = ap (λ snapshot. snapshot.shape) same
+shape_after old layer new (inr merges) = merges.shape
+
+layers_after : (old : SnapshotValue) (layer : LayerValue) (new : SnapshotValue) → MayMerge (next old layer) new → KeepsPrefix old.layers new.layers
+layers_after old layer new (inl same) = record {
+  kept = length old.layers;
+  layer = layer;
+  within = omega arith;
+  are = ap (λ snapshot. snapshot.layers) same ∙ ap (λ layers. layers ++ layer ∷ []) (sym (take_all (length old.layers) old.layers (omega arith)));
+}
+layers_after old layer new (inr merges) =
+    let long = length-append old.layers (layer ∷ []) in
+    let within : merges.start ≤ length old.layers = omega (arith, merges.within, long) in
+    record {
+      kept = merges.start;
+      layer = merges.layer;
+      within = within;
+      are = merges.layers ∙ ap (λ layers. layers ++ merges.layer ∷ []) (take-append-le merges.start old.layers (layer ∷ []) within);
+    }
 
 by_entry : (number : ℕ) (changes : List Change) (old : SnapshotValue) (entry : Entry) → entry.number ≡ number → entry.changes ≡ changes → fold (after_change number) (live old) changes ≡ after_entry (live old) entry
 by_entry number changes old entry n c =
@@ -91,5 +108,6 @@ accepts ops old rows layer new added is may =
           live_merged (next old layer) new may apart
           ∙ live_next ops old rows layer added is
           ∙ by_entry (old.number + 1) (map change_to rows) old entry (n ∙ number_after old layer new may) c;
+      shape = shape_after old layer new may;
       layers = layers_after old layer new may;
     }

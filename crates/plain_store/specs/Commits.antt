@@ -1,5 +1,5 @@
 -- Commits: what a store answers to a transaction, and the snapshots before and after.
-use Rattle.std.specs.Prelude.{◌≡◌, ◌⊎◌, ℕ, ◌+◌, List, [], ◌∷◌, ◌++◌, Bool, true, false, IsTrue, All, Result, Ok, Err}
+use Rattle.std.specs.Prelude.{◌≡◌, ◌≤◌, ℕ, ◌+◌, List, [], ◌∷◌, ◌++◌, Bool, true, false, IsTrue, All, Result, Ok, Err, length, take}
 use Rattle.srch_base.specs.declared.faults.Or.{Or}
 use Rattle.srch_base.specs.declared.faults.Or.TheVariants as causes
 use Rattle.doc_types.specs.declared.transactions.TxnOp.{TxnOp}
@@ -23,18 +23,22 @@ is_insertion operations.Clear = false
 abbrev pub AreInsertions : List TxnOp → Type 0
 AreInsertions ops = All (λ op. IsTrue (is_insertion op)) ops
 
--- the same layers, and one more behind them
-abbrev pub GrowsByOne : List LayerValue → List LayerValue → Type 0
-GrowsByOne old new = (layer : LayerValue) × (new ≡ old ++ layer ∷ [])
+-- the first layers are as they were, maybe all of them, and one layer is behind them
+pub record KeepsPrefix (old new : List LayerValue) : Type 0 where
+  pub kept : ℕ
+  pub layer : LayerValue
+  pub within : kept ≤ length old
+  pub are : new ≡ take kept old ++ layer ∷ []
 
 -- These operations were committed: they were accepted, an entry of the history with the next number and their changes makes
--- the rows of the rows before, and the layers stay, unless it is counted that they were reshaped.
+-- the rows of the rows before, and the shape stays, since layers in memory alone may have been joined.
 pub record Accepts (ops : List TxnOp) (old : SnapshotValue) (removed : ℕ) (new : SnapshotValue) : Type 0 where
   pub changes : List commits.Change
   pub verdict : commits.verdict ops (live old) ≡ commits.Accepted changes removed
   pub number : new.number ≡ old.number + 1
   pub rows : (entry : commits.Entry) → entry.number ≡ new.number → entry.changes ≡ changes → live new ≡ commits.after_entry (live old) entry
-  pub layers : ((new.shape ≡ old.shape) × GrowsByOne old.layers new.layers) ⊎ (new.shape ≡ old.shape + 1)
+  pub shape : new.shape ≡ old.shape
+  pub layers : KeepsPrefix old.layers new.layers
 
 -- These operations were refused at an id that is there.
 pub record Refuses (ops : List TxnOp) (old : SnapshotValue) (id : ℕ) (new : SnapshotValue) : Type 0 where

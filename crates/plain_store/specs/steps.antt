@@ -1,2 +1,4 @@
+-- layers, and how they are put together
 pub mod Layering
+-- how rows are added
 pub mod Adding

@@ -97,7 +97,7 @@ fn merged(alloc: Global, layers: &[Layer<PlainChunk>]) -> Result<Layer<PlainChun
     layer_of(alloc, rows)
 }
 
-/// Puts the layers from this one on together, and counts that. After an error all is as before.
+/// Puts the layers from this one on together. After an error all is as before.
 fn merge_from(
     alloc: Global,
     snapshot: &mut Snapshot<PlainChunk>,
@@ -110,13 +110,11 @@ fn merge_from(
     ensures err { OnErr result (snapshot.new ≡ snapshot.old) }
     ensures sound { OnOk result (AreLayers snapshot.new.layers) }
 {
-    let shape = snapshot.shape.checked_add(1).ok_or(NoMemory)?;
     let layer = merged(alloc, &snapshot.layers.as_slice()[start..])?;
     let mut layers = mem::replace(&mut snapshot.layers, Items::new(Vec::new(alloc))).into_vec();
     layers[start] = layer;
     layers.truncate(start + 1);
     snapshot.layers = Items::new(layers);
-    snapshot.shape = shape;
     Ok(())
 }
 

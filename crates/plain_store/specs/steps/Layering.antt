@@ -43,14 +43,14 @@ pub record IsLayerOf (rows : List DocRow) (layer : LayerValue) : Type 0 where
   pub memory : layer.disk ≡ false
   pub whole : layer.dead ≡ []
 
--- some of the last layers were put together, which is counted
+-- some of the last layers were put together
 pub record Merges (old new : SnapshotValue) : Type 0 where
   pub start : ℕ
   pub layer : LayerValue
   pub is : IsLayerOf (all_living (drop start old.layers)) layer
   pub within : start < length old.layers
   pub number : new.number ≡ old.number
-  pub shape : new.shape ≡ old.shape + 1
+  pub shape : new.shape ≡ old.shape
   pub layers : new.layers ≡ take start old.layers ++ layer ∷ []
 
 -- all is as before, or some of the last layers were put together
