@@ -1,4 +1,4 @@
--- The page of rows in order, by the least front of them that has it.
+-- The page of rows in order, by the shortest prefix of them that has it.
 use Rattle.std.proofs.Common.{◌≡◌, ℕ, ◌+◌, ◌-◌, List, length, take, drop, min, sym, ap, subst, ◌∙◌, arith, inl, inr}
 use Rattle.std.proofs.lemmas.Bool.{cases_lt}
 use Rattle.std.proofs.lemmas.List.{take-take, take_all, drop-take, drop_all, length-drop, length-take}

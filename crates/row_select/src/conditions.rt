@@ -13,7 +13,7 @@ use std::marker::Model;
 
 /// The conditions of a search, ready to be asked of many rows.
 ///
-/// They keep the numbers of each list in order, so that a row's number is looked up by halving: the time that a list of n
+/// They keep the numbers of each list in order, so that a row's number is looked up by binary search: the time that a list of n
 /// numbers takes for a row grows with the logarithm of n. To ask takes no memory.
 #[derive(Drop)]
 pub struct Conditions<'a> {
