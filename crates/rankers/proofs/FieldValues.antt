@@ -10,6 +10,7 @@ use Rattle.std.proofs.lemmas.Nat.{mul-le}
 use Rattle.doc_types.specs.declared.hits.Hit.{Hit}
 use Rattle.doc_types.specs.declared.hits.Hits.{Hits}
 use Rattle.rankers.specs.declared.ranker.Ranker.{Ranker}
+use Rattle.rankers.specs.declared.ranker.TheConstants.{MAX_FIELD_WEIGHT}
 use Rattle.rankers.specs.declared.ranker.Ranker.TheVariants as rankers
 use Rattle.rankers.specs.Weight.{in_field, same_offset, lcs, word_count, max_lcs, ranked, weight}
 use Rattle.rankers.specs.steps.FieldValue.{AreWithin, own_value, field_value, fields_value}
@@ -59,14 +60,14 @@ words_few field hits within =
     omega (arith, distinct_count-le nat_eq words, length-map own (λ (hit : Hit). hit.word), few_in_field field hits within)
 
 -- the numbers of `matchany`
-module _ (words together most weight : ℕ) (few : words ≤ 16777216) (short : together ≤ 255) (bound : most < 2 ^ 30) (light : weight ≤ 65535) where
+module _ (words together most weight : ℕ) (few : words ≤ 16777216) (short : together ≤ 255) (bound : most < 2 ^ 30) (light : weight ≤ MAX_FIELD_WEIGHT) where
   pub apart_small : (together - 1) * most ≤ 272730423042
   apart_small = mul-le (together - 1) most 254 1073741823 (omega arith) (omega arith)
 
   pub any_small : (words + (together - 1) * most) * weight ≤ 2 ^ 54
   any_small =
       let apart = apart_small in
-      let whole = mul-le (words + (together - 1) * most) weight 272747200258 65535 (omega arith) light in
+      let whole = mul-le (words + (together - 1) * most) weight 272747200258 MAX_FIELD_WEIGHT (omega arith) light in
       omega arith
 
 -- the sum of what so many fields give
@@ -112,10 +113,10 @@ weight_is ranker hits list weights total some not same is =
     ∙ sym (ap (λ b. cond b 1 (ranked ranker hits.keywords weights hits.list)) (ne_eqb hits.keywords 0 some))))
 
 -- the number of keywords times the sum of all weights
-pub max_lcs_small : (keywords : ℕ) (weights : List ℕ) → keywords ≤ 255 → length weights ≤ 32 → All (λ weight. (1 ≤ weight) × (weight ≤ 65535)) weights → max_lcs keywords weights < 2 ^ 30
+pub max_lcs_small : (keywords : ℕ) (weights : List ℕ) → keywords ≤ 255 → length weights ≤ 32 → All (λ weight. (1 ≤ weight) × (weight ≤ MAX_FIELD_WEIGHT)) weights → max_lcs keywords weights < 2 ^ 30
 max_lcs_small keywords weights few short each =
-    let each_small : All (λ weight. weight ≤ 65535) weights = λ k d h. (each k d h).1 in
-    let whole = sum_by-le (λ weight. weight) 65535 weights each_small in
+    let each_small : All (λ weight. weight ≤ MAX_FIELD_WEIGHT) weights = λ k d h. (each k d h).1 in
+    let whole = sum_by-le (λ weight. weight) MAX_FIELD_WEIGHT weights each_small in
     let product = mul-le keywords (sum weights) 255 2097120 few (omega arith) in
     omega arith
 

@@ -1,5 +1,5 @@
 -- The greatest of some numbers.
-use Rattle.std.proofs.Common.{◌≡◌, ℕ, zero, suc, ◌<◌, ◌≤◌, ◌⊎◌, inl, inr, List, [], ◌∷◌, map, length, get_or, refl, arith}
+use Rattle.std.proofs.Common.{◌≡◌, ℕ, zero, suc, ◌<◌, ◌≤◌, ◌⊎◌, inl, inr, List, [], ◌∷◌, ◌++◌, map, max, length, get_or, refl, arith}
 use Rattle.std.specs.List.{All}
 use Rattle.std.proofs.lemmas.Bool.{cases_lt}
 use Rattle.std.proofs.lemmas.List.Elements.{All-head, All-tail}
@@ -22,3 +22,8 @@ greatest_met P f (x ∷ xs) h =
       ]
       | inr more ↦ inr (x, All-head P x xs h, omega arith)
     ]
+
+-- with one number more
+pub greatest_push : (numbers : List ℕ) (number : ℕ) → greatest (numbers ++ number ∷ []) ≡ max (greatest numbers) number
+greatest_push [] number = omega arith
+greatest_push (n ∷ ns) number = let rest = greatest_push ns number in omega arith

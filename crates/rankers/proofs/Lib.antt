@@ -6,11 +6,13 @@ pub mod Greatest
 pub mod FewHits
 -- hits at one offset
 pub mod AtOffset
--- the table of the counts of all offsets
-pub mod OffsetTable
+-- the ring of the counts of the last offsets
+pub mod OffsetRing
 -- the table of the words that were met
 pub mod WordTable
 -- what a field gives
 pub mod FieldValues
 -- offsets as whole numbers
 pub mod WholeOffsets
+-- the greatest of what hits give, one hit more at a time
+pub mod AnyOrder

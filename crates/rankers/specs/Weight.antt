@@ -7,6 +7,7 @@ use Rattle.doc_types.specs.declared.hits.Hit.{Hit}
 use Rattle.doc_types.specs.declared.hits.Hits.{Hits}
 use Rattle.doc_types.specs.declared.tokens.TheConstants.{MAX_POSITION}
 use Rattle.rankers.specs.declared.ranker.Ranker.{Ranker}
+use Rattle.rankers.specs.declared.ranker.TheConstants.{MAX_FIELD_WEIGHT}
 use Rattle.rankers.specs.declared.ranker.Ranker.TheVariants as rankers
 
 -- the hits in a field
@@ -81,6 +82,6 @@ Differ hit other = hit.field ≡ other.field → hit.position ≡ other.position
 pub record AreRanked (hits : Hits) (weights : List ℕ) : Type 0 where
   pub keywords : hits.keywords ≤ 255
   pub fields : length weights ≤ 32
-  pub each_weight : All (λ weight. (1 ≤ weight) × (weight ≤ 65535)) weights
+  pub each_weight : All (λ weight. (1 ≤ weight) × (weight ≤ MAX_FIELD_WEIGHT)) weights
   pub each_hit : All (IsRanked hits.keywords (length weights)) hits.list
   pub apart : AllPairs Differ hits.list

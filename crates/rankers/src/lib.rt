@@ -7,5 +7,5 @@ mod ranker;
 mod weighing;
 mod words;
 
-pub use ranker::{Ranker, Weights};
+pub use ranker::{MAX_FIELD_WEIGHT, Ranker, Weights};
 pub use weighing::weight;

@@ -1,4 +1,8 @@
+//! The rankers, and the weights of fields by which they go.
 use srch_base::Items;
+
+/// The greatest weight of a field.
+pub const MAX_FIELD_WEIGHT: u32 = 65_535;
 
 /// How documents that match are weighed. All but the first sum up what each field that has a hit gives.
 #[derive(Clone, Copy)]
@@ -16,7 +20,7 @@ pub enum Ranker {
     FieldMask,
 }
 
-/// The weights of fields: one for each field, from 1 to 65,535.
+/// The weights of fields: one for each field, from 1 to [`MAX_FIELD_WEIGHT`].
 #[derive(Drop)]
 pub struct Weights {
     /// By the fields' numbers.

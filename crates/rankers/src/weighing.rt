@@ -5,7 +5,7 @@ ghost use Rattle.rankers.specs.Weight.{AreRanked, hit_count, in_field, max_lcs, 
 ghost use Rattle.rankers.specs.steps.FieldValue.{AreWithin, field_value, fields_value};
 
 use crate::offsets::longest;
-use crate::ranker::{Ranker, Weights};
+use crate::ranker::{MAX_FIELD_WEIGHT, Ranker, Weights};
 use crate::words::distinct_words;
 use doc_types::{Hit, Hits};
 
@@ -55,7 +55,7 @@ fn count_in(hits: &[Hit], field: u16) -> u64
 fn field_value(ranker: Ranker, hits: &[Hit], field: u16, weight: u32, most: u64) -> u64
     requires within { AreWithin hits.now }
     requires field { field < 32 }
-    requires weight { weight ≤ 65535 }
+    requires weight { weight ≤ MAX_FIELD_WEIGHT }
     requires most { most < 2 ^ 30 }
     ensures value { result ≡ field_value ranker most field weight hits.now }
     ensures bound { result ≤ 2 ^ 54 }

@@ -1,9 +1,10 @@
 use Rattle.std.proofs.Common.{◌+◌, ◌-◌, ◌*◌, ◌^◌, ◌≤◌, arith}
 use Rattle.std.proofs.lemmas.Nat.{mul-le, one_shl}
 use Rattle.rankers.specs.declared.ranker.Ranker.TheVariants as rankers
+use Rattle.rankers.specs.declared.ranker.TheConstants.{MAX_FIELD_WEIGHT}
 use Rattle.rankers.specs.Weight.{in_field}
 use Rattle.rankers.proofs.FewHits.{few_in_field}
-use Rattle.rankers.proofs.OffsetTable.{lcs_few}
+use Rattle.rankers.proofs.OffsetRing.{lcs_few}
 use Rattle.rankers.proofs.FieldValues.{value_without, value_with, lcs_from_one, words_few, apart_small, any_small}
 use Rattle.rankers.proofs.weighing.field_value.Goals as goal
 use Rattle.rankers.proofs.weighing.field_value.Goals.{In-WordCount, After-longest, After-longest-in-MatchAny}
@@ -12,7 +13,7 @@ pub returns-then-count-eq0-clause-value : goal.returns-then-count-eq0-clause-val
 returns-then-count-eq0-clause-value c = value_without c.args.ranker c.args.most c.args.field c.args.weight c.args.hits.now (omega arith)
 
 count_small : (c : In-WordCount) → c.count_in-count.result * c.from-weight.result ≤ 1099494850560
-count_small c = mul-le c.count_in-count.result c.from-weight.result 16777216 65535 (omega (arith, few_in_field c.args.field c.args.hits.now c.requires.within)) (omega arith)
+count_small c = mul-le c.count_in-count.result c.from-weight.result 16777216 MAX_FIELD_WEIGHT (omega (arith, few_in_field c.args.field c.args.hits.now c.requires.within)) (omega arith)
 
 pub overflow_mul-result : goal.overflow_mul-result
 overflow_mul-result c = omega (arith, count_small c)
@@ -25,7 +26,7 @@ pub returns-in-WordCount-clause-bound : goal.returns-in-WordCount-clause-bound
 returns-in-WordCount-clause-bound c = omega (arith, count_small c)
 
 longest_small : (c : After-longest) → c.longest.result * c.from-weight.result ≤ 16711425
-longest_small c = mul-le c.longest.result c.from-weight.result 255 65535 (omega (arith, lcs_few c.args.field c.args.hits.now c.requires.within)) (omega arith)
+longest_small c = mul-le c.longest.result c.from-weight.result 255 MAX_FIELD_WEIGHT (omega (arith, lcs_few c.args.field c.args.hits.now c.requires.within)) (omega arith)
 
 pub overflow_mul-result-in-Proximity : goal.overflow_mul-result-in-Proximity
 overflow_mul-result-in-Proximity c = omega (arith, longest_small c)
