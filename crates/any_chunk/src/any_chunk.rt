@@ -2,7 +2,7 @@
 //! variant, and every call is that of the chunk inside. A new way of keeping rows is a new variant here, and nothing above
 //! changes, since all that evaluates queries is written against `Chunk`.
 ghost use Rattle.any_chunk.specs.declared.any_chunk.AnyChunk.TheVariants.{Ram};
-ghost use Rattle.doc_types.specs.steps.PlainIndex.{place_in-IsPlace, words-AreWordsOf};
+ghost use Rattle.doc_types.specs.steps.PlainIndex.{place_in-IsCursorPlace, words-AreWordsOf};
 
 use doc_types::{Chunk, Cursor, Gap, PlainChunk, Value, ZoneSpan};
 use srch_base::{NoMemory, Steps};
@@ -123,5 +123,5 @@ impl Chunk for AnyChunk {
 
     ghost all_words = { elim [ Ram inner ↦ words-AreWordsOf inner.rows inner.index inner.indexed ] };
 
-    ghost places = { elim [ Ram inner ↦ λ cursor stands. place_in-IsPlace inner.rows inner.index cursor inner.indexed stands ] };
+    ghost places = { elim [ Ram inner ↦ λ cursor stands. place_in-IsCursorPlace inner.rows inner.index cursor inner.indexed stands ] };
 }

@@ -11,8 +11,8 @@ use Rattle.doc_types.specs.Snapshots.{LayerValue, all_living, living}
 use Rattle.op_eval.specs.Matching.{matches, matching}
 use Rattle.op_eval.specs.Streams.{GoesTo, Stream, ahead}
 use Rattle.op_eval.proofs.NextMatches.{ahead_here}
-use Rattle.op_eval.proofs.Opening.{row_there}
-use Rattle.op_eval.proofs.Zipped.{zip_push}
+use Rattle.word_rows.proofs.Opening.{row_there}
+use Rattle.word_rows.proofs.Zipped.{zip_push}
 use Rattle.rankers.specs.Weight.{weight}
 use Rattle.row_select.specs.Collecting.{Collection, Keeps}
 use Rattle.row_select.specs.Filters.{hold_unweighed, hold_weighed}

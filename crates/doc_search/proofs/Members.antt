@@ -9,7 +9,7 @@ use Rattle.std.proofs.lemmas.Cmp.{eq_by_cmp_equiv, nat_cmp_total}
 use Rattle.std.proofs.lemmas.List.Elements.{All-contains, All-contains_itself, All-filter, filter_passes}
 use Rattle.doc_types.specs.declared.documents.DocRow.{DocRow}
 use Rattle.doc_types.specs.Rows.{rows_of}
-use Rattle.op_eval.proofs.Lists.{pairs_head, pairs_tail}
+use Rattle.word_rows.proofs.Lists.{pairs_head, pairs_tail}
 
 in_tail : {X : Type 0} (y : X) (ys : List X) (x : X) → Contains ys x → Contains (y ∷ ys) x
 in_tail y ys x (k, low, is) = (suc k, omega (arith, low), is)

@@ -8,7 +8,7 @@ use Rattle.doc_types.specs.declared.documents.DocRow.{DocRow}
 use Rattle.doc_types.specs.Snapshots.{LayerValue, is_dead, living}
 use Rattle.query_tree.specs.declared.query.Query.{Query}
 use Rattle.op_eval.specs.Matching.{matches, matching}
-use Rattle.op_eval.proofs.Lists.{filter_twice}
+use Rattle.word_rows.proofs.Lists.{filter_twice}
 
 module _ {X : Type 0} (passes : ℕ × X → Bool) (at : ℕ → Option X) where
   -- the numbers of the elements that pass stand beside these elements

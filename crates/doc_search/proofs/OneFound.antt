@@ -7,7 +7,7 @@ use Rattle.std.proofs.lemmas.List.Kept.{AllPairs-cons, AllPairs-filter}
 use Rattle.doc_types.specs.declared.documents.DocRow.{DocRow}
 use Rattle.doc_types.specs.Rows.{rows_of}
 use Rattle.op_eval.specs.Matching.{matches}
-use Rattle.op_eval.proofs.Lists.{pairs_head, pairs_nil, pairs_tail}
+use Rattle.word_rows.proofs.Lists.{pairs_head, pairs_nil, pairs_tail}
 use Rattle.rankers.specs.Weight.{weight}
 use Rattle.row_select.specs.Pages.{IsTop}
 use Rattle.row_select.specs.declared.order.Order.{Order}

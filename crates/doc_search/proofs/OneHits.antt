@@ -9,7 +9,7 @@ use Rattle.std.proofs.lemmas.List.Elements.{All-head, All-tail}
 use Rattle.doc_types.specs.declared.hits.Hit.{Hit}
 use Rattle.occ_lists.specs.OccLists.{SameMembers}
 use Rattle.op_eval.specs.Hits.{comes_before}
-use Rattle.op_eval.proofs.Lists.{pairs_head, pairs_tail}
+use Rattle.word_rows.proofs.Lists.{pairs_head, pairs_tail}
 
 abbrev Before : Hit → Hit → Type 0
 Before hit later = IsTrue (comes_before hit later)

@@ -12,7 +12,7 @@ use Rattle.query_tree.specs.declared.query.Query.{Query}
 use Rattle.occ_lists.specs.OccLists.{SameMembers}
 use Rattle.op_eval.specs.Hits.{AreHits, comes_before}
 use Rattle.op_eval.specs.Matching.{query_finds}
-use Rattle.op_eval.proofs.Lists.{pairs_head, pairs_nil, pairs_tail}
+use Rattle.word_rows.proofs.Lists.{pairs_head, pairs_nil, pairs_tail}
 use Rattle.doc_search.proofs.OneHits.{Rises}
 
 abbrev Before : Hit → Hit → Type 0

@@ -14,7 +14,7 @@ use Rattle.op_eval.specs.Matching.{matches}
 use Rattle.op_eval.specs.Numbered.{AreHitsWithin, IsHitWithin}
 use Rattle.op_eval.specs.Streams.{Stream, Takes}
 use Rattle.op_eval.proofs.NumberedHits.{can_be_weighed}
-use Rattle.op_eval.proofs.Opening.{row_there}
+use Rattle.word_rows.proofs.Opening.{row_there}
 use Rattle.rankers.specs.declared.ranker.Ranker.{Ranker}
 use Rattle.rankers.specs.declared.ranker.Ranker.TheVariants as rankers
 use Rattle.rankers.specs.Weight.{AreRanked, IsRanked, weight}

@@ -1,9 +1,9 @@
 //! What a search finds among the documents of an index, and the page of it that is shown.
 #![tactic(auto)]
 
-mod asked;
 mod laws;
 mod question;
+mod ready;
 mod rows;
 mod searching;
 

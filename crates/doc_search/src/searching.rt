@@ -16,8 +16,8 @@ ghost use Rattle.doc_search.specs.Searches.{AreShown, IsAskedOf};
 ghost use Rattle.doc_search.specs.declared.question.Question.{Question as QuestionValue};
 ghost use Rattle.doc_search.specs.steps.Gathering.{Gathers, HasRead, IsAskedOfDocs, IsWeighed, StandsAt};
 
-use crate::asked::Asked;
 use crate::question::Question;
+use crate::ready::ReadyQuestion;
 use crate::rows::{Scratch, read_row};
 use doc_types::{Chunk, Hits, Layer, Snapshot};
 use op_eval::Matches;
@@ -53,7 +53,7 @@ fn search_layers<L: Ledger, C: Chunk>(
     requires some { 0 < blank.parts }
     ensures { IfOk result (λ shown. AreShown question.now (all_living layers.now) shown.items) }
 {
-    let asked = Asked::over(alloc, question)?;
+    let asked = ReadyQuestion::over(alloc, question)?;
     let mut steps = Steps::<L>::new(blank);
     let mut scratch = Scratch::new(alloc);
     let mut collector = Collector::new(alloc, &question.order, question.page);
@@ -65,7 +65,7 @@ fn search_layers<L: Ledger, C: Chunk>(
 
 /// Offers what is found in a layer.
 fn collect_layer<L: Ledger, C: Chunk>(
-    asked: &Asked<'_>,
+    asked: &ReadyQuestion<'_>,
     layer: &Layer<C>,
     scratch: &mut Scratch,
     collector: &mut Collector<'_>,
@@ -85,7 +85,7 @@ fn collect_layer<L: Ledger, C: Chunk>(
 
 /// Goes on behind a row, and offers its document if it matches and passes the conditions.
 fn collect_row<L: Ledger, C: Chunk>(
-    asked: &Asked<'_>,
+    asked: &ReadyQuestion<'_>,
     chunk: &C,
     number: u32,
     stream: &mut Matches<'_, C>,
@@ -112,7 +112,7 @@ fn collect_row<L: Ledger, C: Chunk>(
 
 /// Goes on behind a row, and weighs its document if it matches.
 fn weight_of<L: Ledger, C: Chunk>(
-    asked: &Asked<'_>,
+    asked: &ReadyQuestion<'_>,
     stream: &mut Matches<'_, C>,
     hits: &mut Hits,
     steps: &mut Steps<L>,
@@ -144,7 +144,7 @@ fn weight_unranked<L: Ledger, C: Chunk>(
 
 /// The same by the hits.
 fn weight_ranked<L: Ledger, C: Chunk>(
-    asked: &Asked<'_>,
+    asked: &ReadyQuestion<'_>,
     stream: &mut Matches<'_, C>,
     hits: &mut Hits,
     steps: &mut Steps<L>,
@@ -165,7 +165,7 @@ fn weight_ranked<L: Ledger, C: Chunk>(
 
 /// Offers a document that matches and passed the conditions that look at no weight, if it passes the others too.
 fn offer(
-    asked: &Asked<'_>,
+    asked: &ReadyQuestion<'_>,
     weight: u64,
     row: &mut Row,
     collector: &mut Collector<'_>,

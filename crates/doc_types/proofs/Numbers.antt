@@ -55,8 +55,8 @@ pub doc_fits : (schema : Schema) → IsSchema schema → (doc : Doc) → IsDocOf
 doc_fits schema limits doc is = record {
   fields = omega (arith, is.fields, limits.few_fields);
   values = omega (arith, is.values, limits.few_attrs);
-  words = λ j t l. omega (arith, few_words _ (is.tokens j t l));
-  positions = λ j t l i w m. (from_one _ (is.tokens j t l) i w m, omega (arith, (is.tokens j t l).within i w m));
+  words = λ j t l. few_words _ (is.tokens j t l);
+  positions = λ j t l i w m. (from_one _ (is.tokens j t l) i w m, (is.tokens j t l).within i w m);
   bytes = λ j t l i w m. let word = (is.tokens j t l).words i w m in (omega (arith, word.some), omega (arith, word.short));
   spans = is.few_spans;
 }

@@ -1,6 +1,6 @@
 -- How the place of a cursor of a plain chunk moves.
-use Rattle.std.proofs.Common.{◌≡◌, ℕ, ◌+◌, ◌<◌, ◌≤◌, List, [], Option, Some, None, length, refl, sym, ap, subst, ◌∙◌, arith, IsSomeAnd, slice_get, get_or}
-use Rattle.std.proofs.lemmas.List.{drop-drop}
+use Rattle.std.proofs.Common.{◌≡◌, ℕ, ◌+◌, ◌<◌, ◌≤◌, List, [], Option, Some, None, length, refl, sym, ap, subst, ◌∙◌, arith, IsSomeAnd, slice_get, get_or, drop}
+use Rattle.std.proofs.lemmas.List.{drop-drop, length-drop}
 use Rattle.std.proofs.Math.ListN.{drop_of_length-le}
 use Rattle.std.specs.List.{position}
 use Rattle.std.specs.Str.{bytes_eq}
@@ -17,6 +17,12 @@ moved_on found entry n e = rw e (ap (λ rows. record { word = entry.word; ahead 
 
 pub stays_at_end : (found : Option WordRows) (entry : WordRows) (n : ℕ) → found ≡ Some entry → length entry.rows ≤ n → place_of found n ≡ next_place (place_of found n)
 stays_at_end found entry n e past = rw e (ap (λ rows. record { word = entry.word; ahead = rows }) (rw (drop_of_length-le entry.rows {i = n} past) refl))
+
+-- a row is left as long as the count is below that of the rows
+pub some_left : (found : Option WordRows) (entry : WordRows) (n : ℕ) → found ≡ Some entry → n < length entry.rows → (place_of found n).ahead ≡ [] → ⊥
+some_left found entry n e below none =
+    let left : length (drop n entry.rows) ≡ 0 = ap length (rw e at none) in
+    omega (arith, below, left, length-drop n entry.rows)
 
 pub still_stands : (found : Option WordRows) (entry : WordRows) (n : ℕ) → found ≡ Some entry → n < length entry.rows → IsSomeAnd found (λ its. n + 1 ≤ length its.rows)
 still_stands found entry n e below = rw e (omega arith)

@@ -84,28 +84,28 @@ abbrev pub spans_of : DocRow → List (ℕ × ZoneSpan)
 spans_of row = by_field (λ field. field.spans) row
 
 -- Where a cursor stands: on its way over the rows that have a word, with these still ahead of it.
-pub record Place : Type 0 where
+pub record CursorPlace : Type 0 where
   pub word : List ℕ
   pub ahead : List ℕ
 
 -- a place among these rows: some have the word, and the rows ahead are the last ones of those that have it
-pub record IsPlace (rows : List DocRow) (place : Place) : Type 0 where
+pub record IsCursorPlace (rows : List DocRow) (place : CursorPlace) : Type 0 where
   pub some : 0 < length (rows_with place.word rows)
   pub behind : List ℕ
   pub both : behind ++ place.ahead ≡ rows_with place.word rows
 
 -- the place before all rows that have the word
-abbrev pub first_place : List ℕ → List DocRow → Place
+abbrev pub first_place : List ℕ → List DocRow → CursorPlace
 first_place word rows = record { word = word; ahead = rows_with word rows }
 
 -- the first row ahead, if there is one
-abbrev pub next_row : Place → Option ℕ
+abbrev pub next_row : CursorPlace → Option ℕ
 next_row place = slice_get place.ahead 0
 
 -- the place after the first row ahead, or the same where there is none
-abbrev pub next_place : Place → Place
+abbrev pub next_place : CursorPlace → CursorPlace
 next_place place = record place { ahead = drop 1 place.ahead }
 
 -- the places of the word in the first row ahead
-abbrev pub hits_ahead : List DocRow → Place → List (ℕ × ℕ)
+abbrev pub hits_ahead : List DocRow → CursorPlace → List (ℕ × ℕ)
 hits_ahead rows place = option_map_or (hits_of place.word) (option_and_then (slice_get rows) (next_row place)) []

@@ -1,16 +1,17 @@
 -- Numbers: what the numbers of a document fit in.
-use Rattle.std.specs.Prelude.{◌<◌, ◌^◌, All, length, sum_by}
+use Rattle.std.specs.Prelude.{◌<◌, ◌≤◌, ◌^◌, All, length, sum_by}
 use Rattle.doc_types.specs.declared.documents.Doc.{Doc}
+use Rattle.doc_types.specs.declared.tokens.TheConstants.{MAX_POSITION}
 use Rattle.doc_types.specs.declared.transactions.TxnOp.{TxnOp}
 use Rattle.doc_types.specs.declared.transactions.TxnOp.TheVariants as operations
 
--- columns, the words of a field and their positions, which count from 1, fit in 16 bits, the bytes of a word in 8, and the spans
--- of a document in 32
+-- columns fit in 16 bits, the bytes of a word in 8, and the spans of a document in 32; a field's words have positions from 1 to the
+-- greatest one, and are no more than these
 pub record FitsNumbers (doc : Doc) : Type 0 where
   pub fields : length doc.fields < 2 ^ 16
   pub values : length doc.values < 2 ^ 16
-  pub words : All (λ tokens. length tokens.words < 2 ^ 16) doc.fields
-  pub positions : All (λ tokens. All (λ word. (0 < word.position) × (word.position < 2 ^ 16)) tokens.words) doc.fields
+  pub words : All (λ tokens. length tokens.words ≤ MAX_POSITION) doc.fields
+  pub positions : All (λ tokens. All (λ word. (0 < word.position) × (word.position ≤ MAX_POSITION)) tokens.words) doc.fields
   pub bytes : All (λ tokens. All (λ word. (0 < length word.word) × (length word.word < 2 ^ 8)) tokens.words) doc.fields
   pub spans : sum_by (λ tokens. length tokens.spans) doc.fields < 2 ^ 32
 

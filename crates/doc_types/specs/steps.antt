@@ -1,2 +1,4 @@
+-- the index of a plain chunk
 pub mod PlainIndex
+-- how it is collected
 pub mod Collecting

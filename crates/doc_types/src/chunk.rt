@@ -12,8 +12,8 @@ ghost use Rattle.doc_types.specs.Chunks.{
   last_position,
   gaps_of,
   spans_of,
-  Place,
-  IsPlace,
+  CursorPlace,
+  IsCursorPlace,
   first_place,
   next_row,
   next_place,
@@ -43,7 +43,7 @@ pub trait Chunk: Drop {
     ghost belongs: { Self → Cursor → Type 0 };
 
     /// Where a cursor of the chunk stands.
-    ghost place: { Self → Cursor → Place };
+    ghost place: { Self → Cursor → CursorPlace };
 
     /// How many rows there are.
     fn rows(&self) -> u32
@@ -98,11 +98,12 @@ pub trait Chunk: Drop {
         ensures next { result ≡ next_row (place self.now cursor.now) }
         ensures none { IfNone result ((place self.now cursor.now).ahead ≡ []) };
 
-    /// Goes over the next row that has the word, if one is left.
+    /// Goes over the next row that has the word. A cursor whose rows have ended is left as it is.
     fn advance(&self, cursor: &mut Cursor)
         requires { belongs self.now cursor.old }
         ensures stays { belongs self.now cursor.new }
-        ensures next { place self.now cursor.new ≡ next_place (place self.now cursor.old) };
+        ensures next { place self.now cursor.new ≡ next_place (place self.now cursor.old) }
+        ensures ended { (place self.now cursor.old).ahead ≡ [] → cursor.new ≡ cursor.old };
 
     /// Appends the word's places in the next row that has it, by field and position, ascending. It counts one step.
     fn open<L: Ledger>(
@@ -136,5 +137,5 @@ pub trait Chunk: Drop {
     ghost all_words: { (chunk : Self) → AreWordsOf (content chunk) (words_of chunk) };
 
     /// Its cursors stand at rows of it.
-    ghost places: { (chunk : Self) (cursor : Cursor) → belongs chunk cursor → IsPlace (content chunk) (place chunk cursor) };
+    ghost places: { (chunk : Self) (cursor : Cursor) → belongs chunk cursor → IsCursorPlace (content chunk) (place chunk cursor) };
 }

@@ -1,3 +1,5 @@
+//! How far a reader of a chunk has come in the rows of a word.
+
 /// A place among the rows of a chunk that have a word. It is plain data, and means something to its chunk alone: how, each
 /// kind of chunk says.
 #[derive(Clone, Copy, Debug, PartialEq, Eq)]

@@ -1,3 +1,4 @@
+//! Hits: where the keywords of a query are in a document. Rankers weigh a document by them.
 use srch_base::Items;
 
 /// A place of a document at which a keyword of a query matches.

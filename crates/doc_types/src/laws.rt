@@ -74,8 +74,8 @@ pub fn an_example_of_commits()
     ensures eighth { (has : Contents) → finite.get (after (three has) (seventh has ∷ [])) 8 ≡ Some (put_by 7 (document has 8)) }
 {}
 
-/// The numbers of a chunk's rows fit: columns, the words of a field and their positions in 16 bits, the bytes of a word in 8, the
-/// spans of a row in 32.
+/// The numbers of a chunk's rows fit: columns in 16 bits, the bytes of a word in 8, the spans of a row in 32. The words of a field
+/// have positions from 1 to `MAX_POSITION`, and are no more than these.
 pub fn numbers_of_rows_fit<C: Chunk>(chunk: &C)
     ensures { All (λ row. FitsNumbers row.doc) (C.content chunk.now) }
 {}

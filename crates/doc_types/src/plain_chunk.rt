@@ -1,11 +1,11 @@
 //! A chunk over a plain list of rows. It costs what its rows and their words take: making it is n log n in the words, a
-//! word or an id is found by bisection, and what a row has is read off its document. It stands for chunks that pack their
+//! word or an id is found by binary search, and what a row has is read off its document. It stands for chunks that pack their
 //! rows, and its contract, that of `Chunk`, is theirs as well.
 ghost use Rattle.std.specs.Prelude.{◌≡◌, ◌+◌, ◌<◌, ◌==◌, ◌++◌, ◌↔◌, List, [], length, map, IsSome, IfSome, IfNone, IfOk, OnOk, OnErr, slice_get};
 ghost use Rattle.std.specs.Option.{option_map, option_map_or};
 ghost use Rattle.std.specs.List.{position};
 ghost use Rattle.doc_types.specs.Chunks.{IsContent};
-ghost use Rattle.doc_types.specs.steps.PlainIndex.{IsIndex, StandsIn, place_in, place_in-IsPlace, words-AreWordsOf};
+ghost use Rattle.doc_types.specs.steps.PlainIndex.{IsIndex, StandsIn, place_in, place_in-IsCursorPlace, words-AreWordsOf};
 
 use crate::chunk::Chunk;
 use crate::cursor::Cursor;
@@ -20,7 +20,7 @@ use std::sync::ledger::Ledger;
 
 /// A chunk over a plain list: its rows, and its words with the rows of each.
 ///
-/// `start` and `find` bisect; what a row has is looked up in its document.
+/// `start` and `find` are binary searches; what a row has is looked up in its document.
 #[derive(Drop)]
 pub struct PlainChunk {
     rows: Items<DocRow>,
@@ -155,5 +155,5 @@ impl Chunk for PlainChunk {
 
     ghost all_words = { λ chunk. words-AreWordsOf chunk.rows chunk.index chunk.indexed };
 
-    ghost places = { λ chunk cursor stands. place_in-IsPlace chunk.rows chunk.index cursor chunk.indexed stands };
+    ghost places = { λ chunk cursor stands. place_in-IsCursorPlace chunk.rows chunk.index cursor chunk.indexed stands };
 }

@@ -1,5 +1,5 @@
 //! The words of a plain chunk: a sorted list of words, each with the numbers of the rows that have it, ascending. It is made
-//! once, by one pass over the rows into a map; a word or an id is then found by bisection.
+//! once, by one pass over the rows into a map; a word or an id is then found by binary search.
 ghost use Rattle.std.specs.Prelude.{◌≡◌, ◌<◌, ◌≤◌, ◌==◌, AllPairs, IfOk, length, slice_get};
 ghost use Rattle.std.specs.List.{position};
 ghost use Rattle.std.specs.Str.{bytes_eq};

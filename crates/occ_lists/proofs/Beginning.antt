@@ -1,4 +1,4 @@
--- Occurrences of a field that begin within bounds, found by halving.
+-- Occurrences of a field that begin within bounds, found by binary search.
 use Rattle.std.proofs.Common.{◌≡◌, ℕ, ◌-◌, Bool, true, false, List, Option, Some, None, arith}
 use Rattle.std.specs.Prelude.{◌&&◌, ◌||◌, ◌==◌, not, nat_lt, nat_le, IsTrue}
 use Rattle.std.specs.List.Sorted.{IsPartitionedBy}

@@ -1,4 +1,4 @@
--- Parts of lists in order, found by halving: what passes one test and not yet another stands side by side.
+-- Parts of lists in order, found by binary search: what passes one test and not yet another stands side by side.
 use Rattle.std.proofs.Common.{◌≡◌, ℕ, zero, suc, ◌+◌, ◌-◌, ◌<◌, ◌≤◌, Bool, true, false, cond, List, [], ◌∷◌, length, take, drop, get_or, Option, Some, None, Bor, refl, sym, ◌∙◌, ap, arith, inl, inr}
 use Rattle.std.specs.Prelude.{◌&&◌, ◌⊎◌, not, AllPairs, MatchOption}
 use Rattle.std.specs.List.{filter, slice_range}

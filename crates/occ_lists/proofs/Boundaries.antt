@@ -1,4 +1,4 @@
--- The boundaries next to a position, found by halving.
+-- The boundaries next to a position, found by binary search.
 use Rattle.std.proofs.Common.{◌≡◌, ◌≢◌, ℕ, ◌+◌, ◌-◌, ◌<◌, ◌≤◌, Bool, true, false, List, length, take, get_or, get_or-take, length-take, sym, ◌∙◌, ap, subst, arith, inl, inr}
 use Rattle.std.specs.Prelude.{◌&&◌, ◌||◌, ◌==◌, nat_lt, nat_le, IsTrue}
 use Rattle.std.specs.List.Sorted.{IsPartitionedBy}

@@ -13,6 +13,7 @@ use Rattle.std.proofs.lemmas.Bool.Decides.{nat_tests}
 use Rattle.std.proofs.lemmas.List.{drop_all, drop_more, get_or-map, length-map, map-id}
 use Rattle.std.proofs.lemmas.List.Elements.{All-head, All-tail, All-filter, All-map, All-weaker, filter_passes}
 use Rattle.std.proofs.lemmas.List.Folds.{list_any_at, list_any_none}
+use Rattle.doc_types.specs.declared.tokens.TheConstants.{MAX_POSITION}
 use Rattle.doc_types.specs.declared.tokens.ZoneSpan.{ZoneSpan}
 use Rattle.occ_lists.specs.declared.term.Term.{Term}
 use Rattle.occ_lists.specs.Places.{ArePlaces, has_place, is_before, occ, within_all}
@@ -132,37 +133,37 @@ runs_end first lists =
 -- The places that are left after some of the keywords lead to where the runs end. Each is far enough from the field's beginning.
 pub record Followed (first : List (ℕ × ℕ)) (lists : List (List (ℕ × ℕ))) (i : ℕ) (ends : List (ℕ × ℕ)) : Type 0 where
   pub leads : run_ends ends (drop i lists) ≡ run_ends first lists
-  pub bounds : All (λ end. (i < end.1) × (end.1 ≤ 65535)) ends
+  pub bounds : All (λ end. (i < end.1) × (end.1 ≤ MAX_POSITION)) ends
 
 abbrev pub Small : List (ℕ × ℕ) → Type 0
-Small places = All (λ place. (1 ≤ place.1) × (place.1 ≤ 65535)) places
+Small places = All (λ place. (1 ≤ place.1) × (place.1 ≤ MAX_POSITION)) places
 
 pub followed_none : (first : List (ℕ × ℕ)) (lists : List (List (ℕ × ℕ))) → Small first → Followed first lists 0 first
 followed_none first lists small = record {
   leads = refl;
-  bounds = All-weaker (λ place. (1 ≤ place.1) × (place.1 ≤ 65535)) (λ end. (0 < end.1) × (end.1 ≤ 65535)) (λ place said. (omega arith, said.1)) first small;
+  bounds = All-weaker (λ place. (1 ≤ place.1) × (place.1 ≤ MAX_POSITION)) (λ end. (0 < end.1) × (end.1 ≤ MAX_POSITION)) (λ place said. (omega arith, said.1)) first small;
 }
 
 -- a place that is one of the places is as small as they are
-small_place : (places : List (ℕ × ℕ)) (end : ℕ × ℕ) → Small places → has_place places end ≡ true → end.1 ≤ 65535
+small_place : (places : List (ℕ × ℕ)) (end : ℕ × ℕ) → Small places → has_place places end ≡ true → end.1 ≤ MAX_POSITION
 small_place [] end small has = absurd (true≢false (sym has))
 small_place (place ∷ places) end small has =
-    let here = All-head (λ p. (1 ≤ p.1) × (p.1 ≤ 65535)) place places small in
+    let here = All-head (λ p. (1 ≤ p.1) × (p.1 ≤ MAX_POSITION)) place places small in
     elim (or_cases ((place.0 == end.0) && (place.1 == end.1)) (has_place places end) has) [
       | inl same ↦ grind (arith, nat_tests)
-      | inr later ↦ small_place places end (All-tail (λ p. (1 ≤ p.1) × (p.1 ≤ 65535)) place places small) later
+      | inr later ↦ small_place places end (All-tail (λ p. (1 ≤ p.1) × (p.1 ≤ MAX_POSITION)) place places small) later
     ]
 
 pub followed_more : (first : List (ℕ × ℕ)) (lists : List (List (ℕ × ℕ))) (i : ℕ) (ends places : List (ℕ × ℕ)) → i < length lists → places ≡ get_or lists i [] → Small places → Followed first lists i ends → Followed first lists (i + 1) (filter (has_place places) (map next_place ends))
 followed_more first lists i ends places within is small so_far =
     let moved = map next_place ends in
-    let up : All (λ end. i + 1 < end.1) moved = All-map (λ end. i + 1 < end.1) next_place ends (All-weaker (λ end. (i < end.1) × (end.1 ≤ 65535)) (λ end. i + 1 < end.1 + 1) (λ end said. omega arith) ends so_far.bounds) in
+    let up : All (λ end. i + 1 < end.1) moved = All-map (λ end. i + 1 < end.1) next_place ends (All-weaker (λ end. (i < end.1) × (end.1 ≤ MAX_POSITION)) (λ end. i + 1 < end.1 + 1) (λ end said. omega arith) ends so_far.bounds) in
     let split : drop i lists ≡ places ∷ drop (i + 1) lists = drop_more lists i [] within ∙ ap (λ ps. ps ∷ drop (i + 1) lists) (sym is) in
     record {
       leads = sym (ap (run_ends ends) split) ∙ so_far.leads;
       bounds = λ k d h.
           let one : i + 1 < (get_or (filter (has_place places) moved) k d).1 = All-filter (has_place places) (λ end. i + 1 < end.1) moved up k d h in
-          let other : (get_or (filter (has_place places) moved) k d).1 ≤ 65535 = small_place places (get_or (filter (has_place places) moved) k d) small (filter_passes (has_place places) moved k d h) in
+          let other : (get_or (filter (has_place places) moved) k d).1 ≤ MAX_POSITION = small_place places (get_or (filter (has_place places) moved) k d) small (filter_passes (has_place places) moved k d h) in
           (one, other);
     }
 
@@ -177,7 +178,7 @@ abbrev pub spots : List (ℕ × ZoneSpan) → Term → List (ℕ × ℕ)
 spots spans term = filter (within_all spans) term.places.items
 
 pub spots_small : (spans : List (ℕ × ZoneSpan)) (term : Term) → IsPlaced term → Small (spots spans term)
-spots_small spans term placed = All-filter (within_all spans) (λ place. (1 ≤ place.1) × (place.1 ≤ 65535)) term.places.items placed.small
+spots_small spans term placed = All-filter (within_all spans) (λ place. (1 ≤ place.1) × (place.1 ≤ MAX_POSITION)) term.places.items placed.small
 
 -- the keywords of a phrase, the first and the rest
 pub first_placed : (terms rest : List Term) (first : Term) → terms ≡ first ∷ rest → All IsPlaced terms → IsPlaced first

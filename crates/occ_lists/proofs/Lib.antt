@@ -2,7 +2,7 @@
 pub mod Members
 -- occurrences in order
 pub mod Ordered
--- parts of lists in order, found by halving
+-- parts of lists in order, found by binary search
 pub mod Between
 -- occurrences that begin within bounds
 pub mod Beginning
@@ -27,7 +27,7 @@ pub mod Counts
 -- at how many positions places stand
 pub mod PlaceCounts
 -- places in order, cut in two
-pub mod Halves
+pub mod CutPlaces
 -- places put in order
 pub mod PlaceSorting
 -- by which position words are held

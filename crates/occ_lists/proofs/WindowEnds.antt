@@ -5,6 +5,7 @@ use Rattle.std.proofs.lemmas.Bool.Decides.{nat_tests}
 use Rattle.std.proofs.lemmas.Bool.{and_from, and_parts, and_right, le-leb, leb-true}
 use Rattle.std.proofs.lemmas.List.Elements.{All-append, All-filter, All-nil, All-tail, All-head}
 use Rattle.std.proofs.lemmas.List.Sums.{AllPass-from_list_all, list_all-from_AllPass}
+use Rattle.doc_types.specs.declared.tokens.TheConstants.{MAX_POSITION}
 use Rattle.doc_types.specs.declared.tokens.ZoneSpan.{ZoneSpan}
 use Rattle.occ_lists.specs.declared.term.Term.{Term}
 use Rattle.occ_lists.specs.declared.windows.Proximity.{Proximity}
@@ -26,10 +27,10 @@ filter_alike p q (x ∷ xs) alike =
 
 -- ---- positions as documents have them
 abbrev pub IsSmall : ℕ × ℕ → Type 0
-IsSmall place = (1 ≤ place.1) × (place.1 ≤ 65535)
+IsSmall place = (1 ≤ place.1) × (place.1 ≤ MAX_POSITION)
 
 abbrev is_small : ℕ × ℕ → Bool
-is_small place = nat_le 1 place.1 && nat_le place.1 65535
+is_small place = nat_le 1 place.1 && nat_le place.1 MAX_POSITION
 
 small_listed : (spans : List (ℕ × ZoneSpan)) (terms : List Term) → All IsPlaced terms → All IsSmall (all_places (listed_in spans terms))
 small_listed spans [] placed = All-nil IsSmall
@@ -39,12 +40,12 @@ small_listed spans (term ∷ terms) placed =
     (small_listed spans terms (All-tail IsPlaced term terms placed))
 
 test_small : (place : ℕ × ℕ) → IsSmall place → is_small place ≡ true
-test_small place small = and_from (nat_le 1 place.1) (nat_le place.1 65535) (le-leb 1 place.1 small.0) (le-leb place.1 65535 small.1)
+test_small place small = and_from (nat_le 1 place.1) (nat_le place.1 MAX_POSITION) (le-leb 1 place.1 small.0) (le-leb place.1 MAX_POSITION small.1)
 
 small_test : (place : ℕ × ℕ) → is_small place ≡ true → IsSmall place
 small_test place passes =
-    let parts = and_parts (nat_le 1 place.1) (nat_le place.1 65535) passes in
-    (leb-true 1 place.1 parts.0, leb-true place.1 65535 parts.1)
+    let parts = and_parts (nat_le 1 place.1) (nat_le place.1 MAX_POSITION) passes in
+    (leb-true 1 place.1 parts.0, leb-true place.1 MAX_POSITION parts.1)
 
 pub small_same : (spans : List (ℕ × ZoneSpan)) (terms : List Term) (all : List (ℕ × ℕ)) → All IsPlaced terms → SameMembers all (all_places (listed_in spans terms)) → All IsSmall all
 small_same spans terms all placed same =

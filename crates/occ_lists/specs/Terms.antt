@@ -1,6 +1,7 @@
--- keywords with their places
+-- Keywords with their places.
 use Rattle.std.specs.Prelude.{◌≡◌, ℕ, ◌≤◌, List, ◌++◌, map, All, true}
 use Rattle.std.specs.List.{filter, list_any}
+use Rattle.doc_types.specs.declared.tokens.TheConstants.{MAX_POSITION}
 use Rattle.occ_lists.specs.declared.occ.Occ.{Occ}
 use Rattle.doc_types.specs.declared.tokens.ZoneSpan.{ZoneSpan}
 use Rattle.occ_lists.specs.declared.term.Term.{Term}
@@ -10,7 +11,7 @@ use Rattle.occ_lists.specs.Windows.{Listed}
 -- The places ascend, and no position is above the limit.
 pub record IsPlaced (term : Term) : Type 0 where
   pub ascend : ArePlaces term.places.items
-  pub small : All (λ place. (1 ≤ place.1) × (place.1 ≤ 65535)) term.places.items
+  pub small : All (λ place. (1 ≤ place.1) × (place.1 ≤ MAX_POSITION)) term.places.items
 
 -- the keywords as listed ones, with their places inside the spans
 abbrev pub listed_in : List (ℕ × ZoneSpan) → List Term → List Listed

@@ -1,5 +1,5 @@
 //! Two lists of occurrences joined by `<<`, NEAR, SENTENCE or PARAGRAPH. The lists are in order, so that those which can go with
-//! an occurrence stand side by side and are found by halving; the work is in proportion to what is found.
+//! an occurrence stand side by side and are found by binary search; the work is in proportion to what is found.
 ghost use Rattle.std.specs.Prelude.{◌≡◌, ℕ, ◌≤◌, ◌++◌, length, nat_lt, All, OnOk, true, false};
 ghost use Rattle.std.specs.List.{filter};
 ghost use Rattle.std.specs.List.Sorted.{IsPartitionPoint};

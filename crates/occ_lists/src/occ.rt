@@ -1,3 +1,5 @@
+//! Occurrences: where a part of a query is found.
+
 /// An occurrence of a part of a query in a document: a field, and the positions from the first to the last one.
 #[derive(Clone, Copy, Debug, PartialEq, Eq)]
 pub struct Occ {

@@ -1,5 +1,5 @@
 //! Places of a keyword inside spans of zones. Places ascend, so that those inside a span stand side by side and are found by
-//! halving.
+//! binary search.
 ghost use Rattle.std.specs.Prelude.{◌≡◌, IsTrue, not};
 ghost use Rattle.std.specs.List.{filter};
 ghost use Rattle.occ_lists.specs.Places.{ArePlaces, is_before, is_within, within_all};

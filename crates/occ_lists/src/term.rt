@@ -1,3 +1,5 @@
+//! Terms: keywords as they are in a row.
+
 /// A keyword of a query, with its places in the row at hand.
 #[derive(Drop)]
 pub struct Term {

@@ -1,5 +1,5 @@
 //! The listed words of a proximity: how often each is listed, and where its keywords stand. From each place on, the position by
-//! which a word has come often enough is found by halving in its places.
+//! which a word has come often enough is found by binary search in its places.
 ghost use Rattle.std.specs.Prelude.{◌≡◌, ◌==◌, ℕ, nat_le, ◌&&◌, All, IfOk};
 ghost use Rattle.std.specs.List.{list_any};
 ghost use Rattle.occ_lists.specs.OccLists.{SameMembers};

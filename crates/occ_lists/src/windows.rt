@@ -1,5 +1,5 @@
 //! The windows of a proximity. From each place of a listed keyword, the window has to reach so far that each word is in it as
-//! often as it is listed; the places at which one ends are then found by halving.
+//! often as it is listed; the places at which one ends are then found by binary search.
 ghost use Rattle.std.specs.Prelude.{◌≡◌, ℕ, ◌+◌, ◌-◌, ◌≤◌, ◌<◌, ◌^◌, ◌++◌, nat_le, nat_lt, All, IfOk, OnOk};
 ghost use Rattle.std.specs.List.{filter};
 ghost use Rattle.occ_lists.specs.OccLists.{SameMembers};

@@ -14,9 +14,8 @@ use Rattle.occ_lists.specs.declared.term.Term.{Term}
 use Rattle.occ_lists.specs.Places.{occ, has_place}
 use Rattle.occ_lists.specs.Runs.{follow, runs}
 use Rattle.occ_lists.specs.Windows.{Listed, times, stands, held, holds_all, windows}
-use Rattle.op_eval.specs.Keywords.{places_within}
-use Rattle.op_eval.specs.Finding.{Spans}
-use Rattle.op_eval.specs.steps.Terms.{AreSeenIn}
+use Rattle.word_rows.specs.Keywords.{places_within, Spans}
+use Rattle.word_rows.specs.Terms.{AreSeenIn}
 use Rattle.op_eval.specs.steps.Verdicts.{AreApart}
 use Rattle.op_eval.proofs.Standing.{places_absent}
 

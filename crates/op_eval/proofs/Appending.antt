@@ -17,7 +17,7 @@ use Rattle.occ_lists.proofs.Members.{same_refl, same_is, same_trans, same_append
 use Rattle.op_eval.specs.declared.finding.Finding.{Finding}
 use Rattle.op_eval.specs.declared.joining.Join.{Join}
 use Rattle.op_eval.specs.declared.joining.Join.TheVariants as joins
-use Rattle.op_eval.specs.declared.marks.Marks.{Marks}
+use Rattle.word_rows.specs.declared.marks.RowMarks.{RowMarks}
 use Rattle.op_eval.specs.Finding.{Found, Part, nothing, is_some, is_inside, made, joined, either, perhaps, passes, all_of, any_of}
 use Rattle.op_eval.specs.steps.Evaluating.{Appends, Finds, Holds, join_by, part_occs, part_hits, part_finds}
 
@@ -91,14 +91,14 @@ made_same occs other hits more old new told same hit f = record {
       (same_filter (is_inside other) hits more (hit short)));
 }
 
-pub join_same : (marks : Marks) (join : Join) (xs xs' ys ys' : List Occ) → SameMembers xs xs' → SameMembers ys ys' → SameMembers (join_by marks join xs ys) (join_by marks join xs' ys')
+pub join_same : (marks : RowMarks) (join : Join) (xs xs' ys ys' : List Occ) → SameMembers xs xs' → SameMembers ys ys' → SameMembers (join_by marks join xs ys) (join_by marks join xs' ys')
 join_same marks joins.Before xs xs' ys ys' first second = same_pairs (λ x y. same_field x y && ends_before x y) (λ x y. record { field = x.field; first = x.first; last = y.last }) xs xs' ys ys' first second
 join_same marks (joins.Near n) xs xs' ys ys' first second = same_pairs (λ x y. same_field x y && (is_near n x y || is_near n y x)) hull xs xs' ys ys' first second
 join_same marks joins.Sentence xs xs' ys ys' first second = same_pairs (λ x y. same_field x y && not (crosses marks.sentences.items (hull x y))) hull xs xs' ys ys' first second
 join_same marks joins.Paragraph xs xs' ys ys' first second = same_pairs (λ x y. same_field x y && not (crosses marks.paragraphs.items (hull x y))) hull xs xs' ys ys' first second
 
 -- by lists that hold what two nodes find
-pub finds_joined : {short : Type 0} (marks : Marks) (join : Join) (first second : Finding) (a b : Found) (old new : Finding) (told : Bool)
+pub finds_joined : {short : Type 0} (marks : RowMarks) (join : Join) (first second : Finding) (a b : Found) (old new : Finding) (told : Bool)
     → Finds (Unit {0}) (made (join_by marks join first.occs.items second.occs.items) (first.hits.items ++ second.hits.items)) old new told → Holds short a first → Holds short b second → Finds short (joined (join_by marks join) a b) old new told
 finds_joined marks join first second a b old new told f left right =
     made_same (join_by marks join first.occs.items second.occs.items) (join_by marks join a.occurrences b.occurrences) (first.hits.items ++ second.hits.items) (a.hits ++ b.hits) old new told

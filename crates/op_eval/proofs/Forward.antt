@@ -16,12 +16,13 @@ use Rattle.occ_lists.specs.Windows.{Listed, windows, holds_all, all_places, may_
 use Rattle.occ_lists.specs.Sound.{IsForward}
 use Rattle.occ_lists.specs.Terms.{listed_in}
 use Rattle.occ_lists.proofs.Members.{same_all}
-use Rattle.op_eval.proofs.Lists.{all_flat_map}
+use Rattle.word_rows.proofs.Lists.{all_flat_map}
 use Rattle.op_eval.specs.declared.joining.Join.{Join}
 use Rattle.op_eval.specs.declared.joining.Join.TheVariants as joins
-use Rattle.op_eval.specs.declared.marks.Marks.{Marks}
+use Rattle.word_rows.specs.declared.marks.RowMarks.{RowMarks}
 use Rattle.op_eval.specs.declared.finding.Finding.{Finding}
-use Rattle.op_eval.specs.Finding.{Found, Spans, is_enough, nothing}
+use Rattle.word_rows.specs.Keywords.{Spans}
+use Rattle.op_eval.specs.Finding.{Found, is_enough, nothing}
 use Rattle.op_eval.specs.steps.Worded.{at_each, how_many, quoted_by, term_places}
 use Rattle.op_eval.specs.steps.Evaluating.{Finds, join_by}
 
@@ -80,7 +81,7 @@ forward_windows n listed =
 forward_hull : (x y : Occ) → IsForward x → IsForward y → IsForward (hull x y)
 forward_hull x y left right = omega arith
 
-pub forward_joined : (marks : Marks) (join : Join) (xs ys : List Occ) → All IsForward xs → All IsForward ys → All IsForward (join_by marks join xs ys)
+pub forward_joined : (marks : RowMarks) (join : Join) (xs ys : List Occ) → All IsForward xs → All IsForward ys → All IsForward (join_by marks join xs ys)
 forward_joined marks joins.Before xs ys left right =
     all_pairs (λ x y. same_field x y && ends_before x y) (λ x y. occ x.field x.first y.last)
     (λ x y a b h. let between : x.last < y.first = ltb-true x.last y.first (and_parts (same_field x y) (ends_before x y) h).1 in omega (arith, a, b)) xs ys left right

@@ -23,13 +23,13 @@ use Rattle.occ_lists.specs.declared.occ.Occ.{Occ}
 use Rattle.occ_lists.specs.OccLists.{SameMembers}
 use Rattle.occ_lists.specs.Joined.{before, near, together}
 use Rattle.occ_lists.specs.Places.{within_all}
-use Rattle.op_eval.specs.Keywords.{key_places, places_within, sentence_ends, paragraph_ends}
-use Rattle.op_eval.specs.Finding.{Found, Part, Spans, hits_at, made, quoted, all_of, either, perhaps, joined, any_of, nothing, is_inside, passes, spans_in, node_finds}
+use Rattle.word_rows.specs.Keywords.{key_places, places_within, sentence_ends, paragraph_ends, Spans}
+use Rattle.op_eval.specs.Finding.{Found, Part, hits_at, made, quoted, all_of, either, perhaps, joined, any_of, nothing, is_inside, passes, spans_in, node_finds}
 use Rattle.op_eval.specs.Matching.{number_in, query_finds}
 use Rattle.op_eval.specs.Hits.{AreHits}
 use Rattle.op_eval.specs.Numbered.{IsHitOf}
 use Rattle.op_eval.proofs.HitOrder.{is_same, is_same_equal, is_same_equiv}
-use Rattle.op_eval.proofs.Lists.{all_flat_map}
+use Rattle.word_rows.proofs.Lists.{all_flat_map}
 use Rattle.op_eval.proofs.Nodes.{part_within, finds_word, finds_quoted, finds_and, finds_or, finds_maybe, finds_before, finds_near, finds_sentence, finds_paragraph, finds_span}
 
 -- ---- what holds of each hit of what is joined

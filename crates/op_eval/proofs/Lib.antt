@@ -1,6 +1,5 @@
 pub mod AbsentWords
 pub mod AndNodes
-pub mod JoinedNodes
 pub mod NodeVerdicts
 pub mod Nodes
 pub mod QuotedVerdicts
@@ -20,31 +19,7 @@ pub mod TermPlaces
 pub mod NodeParts
 -- turns of loops over items and over spans
 pub mod Turns
--- cursors that go over rows
-pub mod Passing
--- two lists side by side
-pub mod Zipped
--- the words of keywords, each once
-pub mod FirstUses
--- lists in order, and tests that agree on a list
-pub mod Lists
--- the places of words in rows
-pub mod PlacedRows
--- the places that a keyword's limits and marks allow
-pub mod Allowed
--- the next row that has a word
-pub mod NextRows
--- terms that are told whether a row has their words
-pub mod Marking
 pub mod AndKeys
--- what is opened of a word in a row
-pub mod Opening
--- terms that have read their places in a row
-pub mod Loaded
--- the ends of sentences and paragraphs, field by field
-pub mod Ends
--- whether spans are asked for
-pub mod ZonesAsked
 -- a search's keywords and terms, as those of its node
 pub mod Searched
 -- the numbers of rows that pass, and whether a row is dead

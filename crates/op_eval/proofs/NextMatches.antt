@@ -1,5 +1,5 @@
 -- The next row that may match a query: what a search that goes from row to row leaves behind, and that a tree finds what its query does.
-use Rattle.std.proofs.Common.{◌≡◌, ℕ, ◌+◌, ◌<◌, ◌≤◌, false, true, cond, List, [], ◌∷◌, ◌++◌, length, get_or, Option, Some, None, Bor, sym, ap, ◌∙◌, subst, arith, ◌^◌}
+use Rattle.std.proofs.Common.{◌≡◌, ℕ, ◌+◌, ◌<◌, ◌≤◌, false, true, cond, List, [], ◌∷◌, ◌++◌, length, get_or, Option, Some, None, Bor, refl, sym, ap, ◌∙◌, subst, arith, ◌^◌}
 use Rattle.std.specs.Prelude.{slice_get, ◌&&◌, ◌==◌, not, unwrap_or, AllPairs}
 use Rattle.std.specs.List.{list_any}
 use Rattle.std.proofs.Math.Bool.{and-true}
@@ -7,7 +7,7 @@ use Rattle.std.proofs.lemmas.Bool.{and_right}
 use Rattle.std.proofs.lemmas.Option.{get_or_from_slice_get, slice_get-get_or, slice_get_within}
 use Rattle.doc_types.specs.declared.cursor.Cursor.{Cursor}
 use Rattle.doc_types.specs.declared.documents.DocRow.{DocRow}
-use Rattle.doc_types.specs.Chunks.{Place}
+use Rattle.doc_types.specs.Chunks.{CursorPlace}
 use Rattle.query_tree.specs.declared.query.Node.{Node}
 use Rattle.query_tree.specs.declared.query.Query.{Query}
 use Rattle.op_eval.specs.declared.search.Search.{Search}
@@ -21,7 +21,7 @@ use Rattle.op_eval.proofs.RowsAhead.{end_ahead, none_ahead, row_ahead}
 use Rattle.op_eval.proofs.Searches.{own_search, search_from, search_of}
 
 -- the search at a later row, under another name of its tree
-pub search_at : (belongs : Cursor → Type 0) (place : Cursor → Place) (rows : List DocRow) (from row : ℕ) (other root : Node) (search : Search) → from ≤ row → other ≡ root → IsSearch belongs place rows from other search → IsSearch belongs place rows row root search
+pub search_at : (belongs : Cursor → Type 0) (place : Cursor → CursorPlace) (rows : List DocRow) (from row : ℕ) (other root : Node) (search : Search) → from ≤ row → other ≡ root → IsSearch belongs place rows from other search → IsSearch belongs place rows row root search
 search_at belongs place rows from row other root search up same at =
     subst (λ tree. IsSearch belongs place rows row tree search) same (search_from belongs place rows from row other search up at)
 
@@ -39,7 +39,7 @@ module _ (root : Node) (dead : List ℕ) where
   not_this [] row within is = absurd (omega arith)
   not_this (r ∷ rows) row within is = row_ahead (is_wanted root dead) (r ∷ rows) row r false within (is (get_or (r ∷ rows) row r) (slice_get-get_or (r ∷ rows) row r within))
 
-module _ (belongs : Cursor → Type 0) (place : Cursor → Place) (rows : List DocRow) (root : Node) (dead : List ℕ) (start from : ℕ) (before : Search) (looks : LooksFrom belongs place rows root dead start from before) where
+module _ (belongs : Cursor → Type 0) (place : Cursor → CursorPlace) (rows : List DocRow) (root : Node) (dead : List ℕ) (start from : ℕ) (before : Search) (looks : LooksFrom belongs place rows root dead start from before) where
   -- nothing is lost up to the next row that may match
   to_row : (row : ℕ) → IsFirstOf rows before.root.now from (Some row) → numbers_from (is_wanted root dead) start rows ≡ numbers_from (is_wanted root dead) row rows
   to_row row first =
@@ -95,9 +95,23 @@ finds_root (Some node) keywords root is = let same : root ≡ node = cc in ap no
 pub tree_finds : (query : Query) (root : Node) → query.root ≡ Some root → node_found root ≡ query_finds query
 tree_finds query root is = finds_root query.root query.keywords root is
 
+none_finds_root : (tree : Option Node) (keywords : ℕ) (row : DocRow) → tree ≡ None → query_finds (record { root = tree; keywords = keywords }) row ≡ record { matches = true; occurrences = []; hits = [] }
+none_finds_root None keywords row is = refl
+none_finds_root (Some node) keywords row is = cc
+
+-- a query without a tree finds nothing, and matches
+pub none_finds : (query : Query) (row : DocRow) → query.root ≡ None → query_finds query row ≡ record { matches = true; occurrences = []; hits = [] }
+none_finds query row is = none_finds_root query.root query.keywords row is
+
 -- ---- where a stream stands
-module _ (belongs : Cursor → Type 0) (place : Cursor → Place) (rows : List DocRow) (query : Query) where
-  tree_of : (from : ℕ) (search : Option Search) (old : Search) → search ≡ Some old → StandsAt belongs place rows from query search → query.root ≡ Some old.root.now
+module _ (belongs : Cursor → Type 0) (place : Cursor → CursorPlace) (rows : List DocRow) (query : Query) where
+  -- where there is no search the query has no tree
+  pub no_tree : (from : ℕ) (search : Option Search) → search ≡ None → StandsAt belongs place rows from query search → query.root ≡ None
+  no_tree from None is stands = stands
+  no_tree from (Some its) is stands = cc
+
+  -- where there is one, it is of the query's tree
+  pub tree_of : (from : ℕ) (search : Option Search) (old : Search) → search ≡ Some old → StandsAt belongs place rows from query search → query.root ≡ Some old.root.now
   tree_of from None old is stands = cc
   tree_of from (Some its) old is stands = let same : its ≡ old = cc in stands.0 ∙ ap (λ (search : Search). Some search.root.now) same
 
@@ -109,9 +123,14 @@ module _ (belongs : Cursor → Type 0) (place : Cursor → Place) (rows : List D
   pub stands_now : (from to : ℕ) (search : Option Search) (old new : Search) → search ≡ Some old → IsSearch belongs place rows to old.root.now new → StandsAt belongs place rows from query search → StandsAt belongs place rows to query (Some new)
   stands_now from to search old new is at stands = (tree_of from search old is stands ∙ ap Some (sym at.root), own_search belongs place rows to to old.root.now new (omega arith) at)
 
+  -- the search that is there
+  pub search_there : (from : ℕ) (search : Option Search) (old : Search) → search ≡ Some old → StandsAt belongs place rows from query search → IsSearch belongs place rows from old.root.now old
+  search_there from None old is stands = cc
+  search_there from (Some its) old is stands = let same : its ≡ old = cc in subst (λ (search : Search). IsSearch belongs place rows from search.root.now search) same stands.1
+
   -- what has gone over no row from one on has gone over none from a later one on
   pub stands_later : (from row : ℕ) (search : Option Search) → from ≤ row → StandsAt belongs place rows from query search → StandsAt belongs place rows row query search
-  stands_later from row None up stands = tt
+  stands_later from row None up stands = stands
   stands_later from row (Some search) up stands = (stands.0, search_from belongs place rows from row search.root.now search up stands.1)
 
   -- it is behind the row at which it stood

@@ -21,15 +21,17 @@ use Rattle.occ_lists.specs.Terms.{IsPlaced}
 use Rattle.op_eval.specs.declared.finding.Finding.{Finding}
 use Rattle.op_eval.specs.declared.joining.Join.{Join}
 use Rattle.op_eval.specs.declared.joining.Join.TheVariants as joins
-use Rattle.op_eval.specs.declared.marks.Marks.{Marks}
-use Rattle.op_eval.specs.Finding.{Found, Part, Spans, either, made, nothing, passes, perhaps, joined, all_of, any_of, node_finds}
-use Rattle.op_eval.specs.steps.Asking.{Knows, asks_boundaries, asks_spans}
+use Rattle.word_rows.specs.declared.marks.RowMarks.{RowMarks}
+use Rattle.word_rows.specs.Keywords.{Spans}
+use Rattle.op_eval.specs.Finding.{Found, Part, either, made, nothing, passes, perhaps, joined, all_of, any_of, node_finds}
+use Rattle.word_rows.specs.RowMarks.{Knows, asks_boundaries, asks_spans}
 use Rattle.op_eval.specs.steps.Evaluating.{Finds, Holds, founds_in, join_by, items_keys, part_in}
-use Rattle.op_eval.specs.steps.Terms.{AreTermsOf}
+use Rattle.word_rows.specs.Terms.{AreTermsOf}
 use Rattle.op_eval.proofs.Appending.{chosen, finds_joined, finds_when}
 use Rattle.op_eval.proofs.Forward.{finds_forward}
-use Rattle.op_eval.proofs.JoinedNodes.{IsBounded, IsJoint, IsPlain, keys_joint, bounds_plain, bounds_bounded, zones_plain, zones_bounded}
-use Rattle.op_eval.proofs.Nodes.{finds_and, finds_or, finds_maybe, finds_before, finds_near, finds_sentence, finds_paragraph, finds_span, bounds_and, bounds_span, zones_and, zones_span}
+use Rattle.word_rows.proofs.JoinedNodes.{IsBounded, IsJoint, IsPlain, keys_joint, bounds_plain, bounds_bounded, zones_plain, zones_bounded}
+use Rattle.word_rows.proofs.MarkedNodes.{bounds_and, bounds_span, zones_and, zones_span}
+use Rattle.op_eval.proofs.Nodes.{finds_and, finds_or, finds_maybe, finds_before, finds_near, finds_sentence, finds_paragraph, finds_span}
 
 -- ---- terms
 
@@ -44,7 +46,7 @@ placed_parts terms left right whole all = placed_cut IsPlaced left right (subst 
 
 -- ---- what is known of a row's marks
 
-module _ (row : DocRow) (marks : Marks) where
+module _ (row : DocRow) (marks : RowMarks) where
   -- what asks for less
   knows_less : (node part : Node) → (asks_boundaries part ≡ true → asks_boundaries node ≡ true) → (asks_spans part ≡ true → asks_spans node ≡ true) → Knows row node marks → Knows row part marks
   knows_less node part bounds zones knows = record {
@@ -89,7 +91,7 @@ module _ (row : DocRow) (marks : Marks) where
 
 -- ---- what is found
 
-module _ (row : DocRow) (number : List ℕ → ℕ) (marks : Marks) (spans : Spans) (terms : List Term) where
+module _ (row : DocRow) (number : List ℕ → ℕ) (marks : RowMarks) (spans : Spans) (terms : List Term) where
   -- two nodes that are joined, which are read behind references
   pub pair_found : (P : Found → Type 0) (join : Found → Found → Found) (node a b first second : Node) → IsJoint node a b → first ≡ a → second ≡ b
       → node_finds row number node spans ≡ join (node_finds row number a spans) (node_finds row number b spans)
@@ -178,7 +180,7 @@ pub told_when : {short other : Type 0} (found : Found) (old new : Finding) (r : 
 told_when found old new (Ok told) so f = finds_when found old new told so f
 told_when found old new (Err e) so f = tt
 
-pub told_joined : {short : Type 0} (marks : Marks) (join : Join) (first second : Finding) (a b : Found) (old new : Finding) (r : Result Bool NoMemory)
+pub told_joined : {short : Type 0} (marks : RowMarks) (join : Join) (first second : Finding) (a b : Found) (old new : Finding) (r : Result Bool NoMemory)
     → IfOk r (λ told. Finds (Unit {0}) (made (join_by marks join first.occs.items second.occs.items) (first.hits.items ++ second.hits.items)) old new told) → Holds short a first → Holds short b second
     → IfOk r (λ told. Finds short (joined (join_by marks join) a b) old new told)
 told_joined marks join first second a b old new (Ok told) f left right = finds_joined marks join first second a b old new told f left right

@@ -17,13 +17,13 @@ use Rattle.query_tree.proofs.NodeKeys.{keys_word, keys_quoted, keys_and, keys_sp
 use Rattle.occ_lists.specs.declared.occ.Occ.{Occ}
 use Rattle.occ_lists.specs.declared.term.Term.{Term}
 use Rattle.occ_lists.specs.Joined.{before, near, together}
-use Rattle.op_eval.specs.Keywords.{sentence_ends, paragraph_ends}
-use Rattle.op_eval.specs.Finding.{Found, Spans, is_some, either, perhaps, joined, any_of, nothing, passes, spans_in, node_finds}
+use Rattle.word_rows.specs.Keywords.{sentence_ends, paragraph_ends, Spans}
+use Rattle.op_eval.specs.Finding.{Found, is_some, either, perhaps, joined, any_of, nothing, passes, spans_in, node_finds}
 use Rattle.op_eval.specs.declared.verdict.Verdict.{Verdict}
 use Rattle.op_eval.specs.declared.verdict.Verdict.TheVariants as verdicts
-use Rattle.op_eval.specs.steps.Terms.{AreSeenIn, IsSeenIn}
+use Rattle.word_rows.specs.Terms.{AreSeenIn, IsSeenIn}
 use Rattle.op_eval.specs.steps.Verdicts.{AreApart, Tells, negation, conjunction, doubt, stands_in, quoted_matches, item_passes}
-use Rattle.op_eval.proofs.JoinedNodes.{IsJoint, IsOrdered, keys_joint}
+use Rattle.word_rows.proofs.JoinedNodes.{IsJoint, IsOrdered, keys_joint}
 use Rattle.op_eval.proofs.Nodes.{part_within, finds_word, finds_quoted, finds_and, finds_or, finds_maybe, finds_before, finds_near, finds_sentence, finds_paragraph, finds_span}
 use Rattle.op_eval.proofs.QuotedVerdicts.{guard_matches}
 use Rattle.op_eval.proofs.SoundFindings.{sound}

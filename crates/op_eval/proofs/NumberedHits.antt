@@ -19,14 +19,14 @@ use Rattle.query_tree.specs.declared.key.Key.{Key}
 use Rattle.query_tree.specs.declared.query.Node.{Node}
 use Rattle.query_tree.specs.declared.query.Query.{Query}
 use Rattle.query_tree.specs.TreeKeys.{query_keys}
-use Rattle.op_eval.specs.Keywords.{allows, key_places}
+use Rattle.word_rows.specs.Keywords.{allows, key_places}
 use Rattle.op_eval.specs.Matching.{number_in}
 use Rattle.op_eval.specs.Hits.{AreHits, comes_before}
 use Rattle.op_eval.specs.Numbered.{IsNumbered, IsWordAt, IsHitOf, IsHitWithin, AreTwoHits, AreHitsWithin}
 use Rattle.op_eval.specs.Sentences.{joined_by_and, query_for}
 use Rattle.op_eval.proofs.AndKeys.{node_keeps}
 use Rattle.op_eval.proofs.KeywordHits.{IsKeyHit, hits_keyed}
-use Rattle.op_eval.proofs.PlacedRows.{IsHit, IsPlacedField, IsPlacedRow, placed_field, all_parts, are_hits}
+use Rattle.word_rows.proofs.PlacedRows.{IsHit, IsPlacedField, IsPlacedRow, placed_field, all_parts, are_hits}
 
 -- ---- an index's queries
 keys_kept : (root : Option Node) (keywords : ℕ) → query_keys (record { root = option_map joined_by_and root; keywords = keywords }) ≡ query_keys (record { root = root; keywords = keywords })

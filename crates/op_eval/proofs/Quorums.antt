@@ -11,8 +11,9 @@ use Rattle.query_tree.specs.declared.key.Key.{Key}
 use Rattle.query_tree.specs.declared.key.How.{How}
 use Rattle.query_tree.specs.declared.key.How.TheVariants as hows
 use Rattle.occ_lists.specs.declared.term.Term.{Term}
-use Rattle.op_eval.specs.Finding.{Spans, is_enough}
-use Rattle.op_eval.specs.steps.Terms.{AreSeenIn, IsSeenIn}
+use Rattle.word_rows.specs.Keywords.{Spans}
+use Rattle.op_eval.specs.Finding.{is_enough}
+use Rattle.word_rows.specs.Terms.{AreSeenIn, IsSeenIn}
 use Rattle.op_eval.specs.steps.Verdicts.{Concerns, stands_in}
 use Rattle.op_eval.proofs.Standing.{seen_absent, seen_sure}
 

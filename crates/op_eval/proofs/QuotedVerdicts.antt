@@ -8,10 +8,11 @@ use Rattle.query_tree.specs.declared.key.Key.{Key}
 use Rattle.query_tree.specs.declared.key.How.{How}
 use Rattle.query_tree.specs.declared.key.How.TheVariants as hows
 use Rattle.occ_lists.specs.declared.term.Term.{Term}
-use Rattle.op_eval.specs.Finding.{Found, Spans, is_some, is_enough, nothing}
+use Rattle.word_rows.specs.Keywords.{Spans}
+use Rattle.op_eval.specs.Finding.{Found, is_some, is_enough, nothing}
 use Rattle.op_eval.specs.declared.verdict.Verdict.{Verdict}
 use Rattle.op_eval.specs.declared.verdict.Verdict.TheVariants as verdicts
-use Rattle.op_eval.specs.steps.Terms.{AreSeenIn}
+use Rattle.word_rows.specs.Terms.{AreSeenIn}
 use Rattle.op_eval.specs.steps.Verdicts.{AreApart, Tells, stands_in, quoted_matches}
 use Rattle.op_eval.proofs.AbsentWords.{HasAbsent, absent_seen, no_runs, no_windows}
 use Rattle.op_eval.proofs.Standing.{none_there}

@@ -11,16 +11,16 @@ use Rattle.query_tree.specs.TreeKeys.{node_keys}
 use Rattle.occ_lists.specs.declared.term.Term.{Term}
 use Rattle.occ_lists.specs.OccLists.{SameMembers}
 use Rattle.op_eval.specs.declared.finding.Finding.{Finding}
-use Rattle.op_eval.specs.declared.marks.Marks.{Marks}
-use Rattle.op_eval.specs.Finding.{Found, Spans, node_finds, nothing}
-use Rattle.op_eval.specs.Keywords.{allows}
-use Rattle.op_eval.specs.steps.Asking.{Knows}
+use Rattle.word_rows.specs.declared.marks.RowMarks.{RowMarks}
+use Rattle.word_rows.specs.Keywords.{Spans, allows}
+use Rattle.op_eval.specs.Finding.{Found, node_finds, nothing}
+use Rattle.word_rows.specs.RowMarks.{Knows}
 use Rattle.op_eval.specs.steps.Evaluating.{Appends, Finds}
 use Rattle.op_eval.specs.steps.Searching.{node_found}
-use Rattle.op_eval.specs.steps.Slots.{IsTermFor, number_among}
-use Rattle.op_eval.specs.steps.Terms.{AreSeenIn, AreTermsOf, IsSeenIn}
+use Rattle.word_rows.specs.Slots.{IsTermFor, number_among}
+use Rattle.word_rows.specs.Terms.{AreSeenIn, AreTermsOf, IsSeenIn}
 use Rattle.op_eval.specs.steps.Verdicts.{AreApart}
-use Rattle.op_eval.proofs.PlacedRows.{at_one}
+use Rattle.word_rows.proofs.PlacedRows.{at_one}
 use Rattle.op_eval.proofs.SoundFindings.{sound}
 use Rattle.op_eval.proofs.WordNumbers.{numbers_apart}
 
@@ -63,7 +63,7 @@ module _ (row : DocRow) (node other : Node) (same : other ≡ node) where
   pub terms_as : (items terms : List Term) → terms ≡ items → AreTermsOf row (number_among (node_keys node)) (node_keys node) items → AreTermsOf row (number_among (node_keys node)) (node_keys other) terms
   terms_as items terms are of = subst (λ n. AreTermsOf row (number_among (node_keys node)) (node_keys n) terms) (sym same) (subst (AreTermsOf row (number_among (node_keys node)) (node_keys node)) (sym are) of)
 
-  pub knows_as : (marks : Marks) → Knows row node marks → Knows row other marks
+  pub knows_as : (marks : RowMarks) → Knows row node marks → Knows row other marks
   knows_as marks knows = subst (λ n. Knows row n marks) (sym same) knows
 
   pub finds_as : {E : Type 0} (short : Type 0) (spans : Spans) (old new : Finding) (result : Result Bool E) → spans ≡ [] → IfOk result (Finds short (node_finds row (number_among (node_keys node)) other spans) old new) → IfOk result (Finds short (node_found node row) old new)

@@ -7,7 +7,7 @@ use Rattle.std.proofs.Math.Logic.{∥∥₁_elim}
 use Rattle.std.proofs.lemmas.Option.{slice_get-get_or}
 use Rattle.doc_types.specs.declared.cursor.Cursor.{Cursor}
 use Rattle.doc_types.specs.declared.documents.DocRow.{DocRow}
-use Rattle.doc_types.specs.Chunks.{IsContent, Place}
+use Rattle.doc_types.specs.Chunks.{IsContent, CursorPlace}
 use Rattle.query_tree.specs.declared.query.Node.{Node}
 use Rattle.query_tree.specs.declared.query.Query.{Query}
 use Rattle.query_tree.specs.TreeKeys.{node_keys, query_keys}
@@ -16,19 +16,20 @@ use Rattle.doc_types.specs.declared.hits.Hit.{Hit}
 use Rattle.occ_lists.specs.declared.occ.Occ.{Occ}
 use Rattle.occ_lists.specs.OccLists.{Ascend, SameMembers}
 use Rattle.occ_lists.proofs.Members.{same_trans}
+use Rattle.word_rows.specs.Keywords.{present_in}
 use Rattle.op_eval.specs.Finding.{Found}
 use Rattle.op_eval.specs.Hits.{AreHits, comes_before}
 use Rattle.op_eval.specs.Matching.{matching, query_finds}
 use Rattle.op_eval.specs.Occurrences.{AreOccurrences}
 use Rattle.op_eval.specs.steps.Searching.{IsFirstOf, IsSearch, node_found}
-use Rattle.op_eval.specs.steps.Slots.{words_of}
+use Rattle.word_rows.specs.Slots.{words_of}
 use Rattle.op_eval.specs.steps.Wanted.{HasVisited, is_wanted, lives, numbers_before, numbers_of}
-use Rattle.op_eval.proofs.Passing.{all_weaken}
+use Rattle.word_rows.proofs.Passing.{all_weaken}
 use Rattle.op_eval.proofs.RowNumbers.{all_before, next_passes, passed_to}
 
 -- ---- where a search stands
 -- the search that has gone over no row from one on has gone over none from a later one on
-pub search_from : (belongs : Cursor → Type 0) (place : Cursor → Place) (rows : List DocRow) (from row : ℕ) (root : Node) (search : Search) → from ≤ row → IsSearch belongs place rows from root search → IsSearch belongs place rows row root search
+pub search_from : (belongs : Cursor → Type 0) (place : Cursor → CursorPlace) (rows : List DocRow) (from row : ℕ) (root : Node) (search : Search) → from ≤ row → IsSearch belongs place rows from root search → IsSearch belongs place rows row root search
 search_from belongs place rows from row root search up at = record {
   root = at.root;
   keys = at.keys;
@@ -44,12 +45,12 @@ search_from belongs place rows from row root search up at = record {
 }
 
 -- under another name of the tree
-pub search_of : (belongs : Cursor → Type 0) (place : Cursor → Place) (rows : List DocRow) (from row : ℕ) (before there : Search) → from ≤ row → there.root ≡ before.root → IsSearch belongs place rows from before.root.now there → IsSearch belongs place rows row there.root.now there
+pub search_of : (belongs : Cursor → Type 0) (place : Cursor → CursorPlace) (rows : List DocRow) (from row : ℕ) (before there : Search) → from ≤ row → there.root ≡ before.root → IsSearch belongs place rows from before.root.now there → IsSearch belongs place rows row there.root.now there
 search_of belongs place rows from row before there up same at =
     subst (λ root. IsSearch belongs place rows row root there) (sym at.root) (search_from belongs place rows from row before.root.now there up at)
 
 -- as its own tree has it
-pub own_search : (belongs : Cursor → Type 0) (place : Cursor → Place) (rows : List DocRow) (from row : ℕ) (root : Node) (search : Search) → from ≤ row → IsSearch belongs place rows from root search → IsSearch belongs place rows row search.root.now search
+pub own_search : (belongs : Cursor → Type 0) (place : Cursor → CursorPlace) (rows : List DocRow) (from row : ℕ) (root : Node) (search : Search) → from ≤ row → IsSearch belongs place rows from root search → IsSearch belongs place rows row search.root.now search
 own_search belongs place rows from row root search up at =
     subst (λ tree. IsSearch belongs place rows row tree search) (sym at.root) (search_from belongs place rows from row root search up at)
 
@@ -74,7 +75,7 @@ all_passed (r ∷ rows) root dead low next up within first =
     (λ row above below. ap (λ b. b && lives dead row) (first.between row (get_or (r ∷ rows) row r) above below (slice_get-get_or (r ∷ rows) row r (omega (arith, below, within)))))
 
 -- one row more is visited
-pub visited_next : (belongs : Cursor → Type 0) (place : Cursor → Place) (rows : List DocRow) (root : Node) (dead : List ℕ) (from row : ℕ) (before there after : Search) (old new : List ℕ) → HasVisited belongs place rows root dead from before old → IsFirstOf rows before.root.now from (Some row) → there.root ≡ before.root → after.root ≡ there.root → IsSearch belongs place rows row there.root.now after → ((r : DocRow) → slice_get rows row ≡ Some r → new ≡ old ++ (if is_wanted there.root.now dead (row, r) then row ∷ [] else [])) → HasVisited belongs place rows root dead (row + 1) after new
+pub visited_next : (belongs : Cursor → Type 0) (place : Cursor → CursorPlace) (rows : List DocRow) (root : Node) (dead : List ℕ) (from row : ℕ) (before there after : Search) (old new : List ℕ) → HasVisited belongs place rows root dead from before old → IsFirstOf rows before.root.now from (Some row) → there.root ≡ before.root → after.root ≡ there.root → IsSearch belongs place rows row there.root.now after → ((r : DocRow) → slice_get rows row ≡ Some r → new ≡ old ++ (if is_wanted there.root.now dead (row, r) then row ∷ [] else [])) → HasVisited belongs place rows root dead (row + 1) after new
 visited_next belongs place rows root dead from row before there after old new visited first same_first same_second at is =
     let within : row < length rows = first.within.1 in
     let some : DocRow = some_row rows row within in
@@ -94,7 +95,7 @@ visited_next belongs place rows root dead from row before there after old new vi
     }
 
 -- no row is left
-pub visited_all : (belongs : Cursor → Type 0) (place : Cursor → Place) (rows : List DocRow) (root : Node) (dead : List ℕ) (from : ℕ) (search : Search) (found : List ℕ) → HasVisited belongs place rows root dead from search found → IsFirstOf rows search.root.now from None → found ≡ numbers_of (is_wanted root dead) rows
+pub visited_all : (belongs : Cursor → Type 0) (place : Cursor → CursorPlace) (rows : List DocRow) (root : Node) (dead : List ℕ) (from : ℕ) (search : Search) (found : List ℕ) → HasVisited belongs place rows root dead from search found → IsFirstOf rows search.root.now from None → found ≡ numbers_of (is_wanted root dead) rows
 visited_all belongs place rows root dead from search found visited first =
     visited.all
     ∙ sym (all_passed rows root dead from None visited.within (omega arith) (subst (λ tree. IsFirstOf rows tree from None) visited.tree first))
@@ -130,6 +131,15 @@ few_of (Some node) keywords root is few = let same : node ≡ root = cc in subst
 -- a query's tree has its keywords
 pub few_keys : (query : Query) (root tree : Node) → query.root ≡ Some root → tree ≡ root → length (query_keys query) < 2 ^ 16 → length (node_keys tree) < 2 ^ 16
 few_keys query root tree is same few = subst (λ (n : Node). length (node_keys n) < 2 ^ 16) (sym same) (few_of query.root query.keywords root is few)
+
+keys_root : (tree : Option Node) (keywords : ℕ) (root : Node) → tree ≡ Some root → query_keys (record { root = tree; keywords = keywords }) ≡ node_keys root
+keys_root None keywords root is = cc
+keys_root (Some node) keywords root is = let same : node ≡ root = cc in ap node_keys same
+
+-- what a query's tree opens, as what the query does
+pub opened_by : (query : Query) (root tree : Node) (row : DocRow) (old new : ℕ) → query.root ≡ Some root → tree ≡ root → new ≤ old + present_in row (node_keys tree) → new ≤ old + present_in row (query_keys query)
+opened_by query root tree row old new is same low =
+    subst (λ keys. new ≤ old + present_in row keys) (ap node_keys same ∙ sym (keys_root query.root query.keywords root is)) low
 
 -- what stands in order, each once, is what the query finds
 pub are_occurrences : (query : Query) (root tree : Node) (row : DocRow) (occs found : List Occ) → query.root ≡ Some root → tree ≡ root → Ascend occs → SameMembers occs found → SameMembers found (node_found tree row).occurrences → AreOccurrences query row occs

@@ -17,8 +17,8 @@ use Rattle.query_tree.specs.declared.query.Node.TheViews.{roll-Node}
 use Rattle.query_tree.specs.declared.query.Node.TheFolds.{map-Node, ind-Node}
 use Rattle.occ_lists.specs.declared.occ.Occ.{Occ}
 use Rattle.occ_lists.specs.Joined.{before, near, together}
-use Rattle.op_eval.specs.Keywords.{places_within, sentence_ends, paragraph_ends}
-use Rattle.op_eval.specs.Finding.{Found, Part, Spans, keyword, made, quoted, all_of, either, perhaps, joined, any_of, nothing, is_inside, passes, spans_in, node_finds}
+use Rattle.word_rows.specs.Keywords.{places_within, sentence_ends, paragraph_ends, Spans}
+use Rattle.op_eval.specs.Finding.{Found, Part, keyword, made, quoted, all_of, either, perhaps, joined, any_of, nothing, is_inside, passes, spans_in, node_finds}
 use Rattle.op_eval.proofs.Nodes.{part_within, finds_word, finds_quoted, finds_and, finds_or, finds_maybe, finds_before, finds_near, finds_sentence, finds_paragraph, finds_span}
 
 -- ---- what is found

@@ -9,9 +9,9 @@ use Rattle.doc_types.specs.Chunks.{is_word, has_word, positions_of, hits_of}
 use Rattle.query_tree.specs.declared.key.Key.{Key}
 use Rattle.occ_lists.specs.declared.term.Term.{Term}
 use Rattle.occ_lists.specs.Places.{within_all}
-use Rattle.op_eval.specs.Keywords.{allows, key_places, places_within}
-use Rattle.op_eval.specs.Finding.{Spans, is_some}
-use Rattle.op_eval.specs.steps.Terms.{IsSeenIn}
+use Rattle.word_rows.specs.Keywords.{allows, key_places, places_within, Spans}
+use Rattle.op_eval.specs.Finding.{is_some}
+use Rattle.word_rows.specs.Terms.{IsSeenIn}
 use Rattle.op_eval.specs.steps.Verdicts.{Concerns, stands_in}
 
 -- ---- lists

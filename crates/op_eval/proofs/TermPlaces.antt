@@ -18,9 +18,9 @@ use Rattle.occ_lists.specs.Places.{at_place, within_all}
 use Rattle.occ_lists.specs.Runs.{runs}
 use Rattle.occ_lists.specs.Windows.{Listed, windows}
 use Rattle.occ_lists.specs.Terms.{listed_in}
-use Rattle.op_eval.specs.Keywords.{places_within}
-use Rattle.op_eval.specs.Finding.{Found, Spans, nothing, is_some, is_enough, keyword, hits_at, made, quoted, quorum, node_finds}
-use Rattle.op_eval.specs.steps.Terms.{IsTermOf, AreTermsOf, AreShort, IsShort}
+use Rattle.word_rows.specs.Keywords.{places_within, Spans}
+use Rattle.op_eval.specs.Finding.{Found, nothing, is_some, is_enough, keyword, hits_at, made, quoted, quorum, node_finds}
+use Rattle.word_rows.specs.Terms.{IsTermOf, AreTermsOf, AreShort, IsShort}
 use Rattle.op_eval.specs.steps.Worded.{term_places, term_hits, how_many, at_each, worded, quoted_by}
 use Rattle.op_eval.proofs.Appending.{chosen}
 use Rattle.op_eval.proofs.Nodes.{finds_word, finds_quoted}

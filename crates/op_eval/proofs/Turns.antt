@@ -14,12 +14,12 @@ use Rattle.query_tree.specs.declared.query.Node.{Node}
 use Rattle.query_tree.specs.TreeKeys.{node_keys}
 use Rattle.occ_lists.specs.declared.term.Term.{Term}
 use Rattle.op_eval.specs.declared.finding.Finding.{Finding}
-use Rattle.op_eval.specs.declared.marks.Marks.{Marks}
-use Rattle.op_eval.specs.Finding.{Found, Part, Spans, all_of, any_of, node_finds, passes}
-use Rattle.op_eval.specs.Keywords.{is_among}
-use Rattle.op_eval.specs.steps.Asking.{Knows}
+use Rattle.word_rows.specs.declared.marks.RowMarks.{RowMarks}
+use Rattle.word_rows.specs.Keywords.{Spans, is_among}
+use Rattle.op_eval.specs.Finding.{Found, Part, all_of, any_of, node_finds, passes}
+use Rattle.word_rows.specs.RowMarks.{Knows}
 use Rattle.op_eval.specs.steps.Evaluating.{Finds, founds_in, items_keys, part_finds, part_in}
-use Rattle.op_eval.specs.steps.Terms.{AreTermsOf, IsShort, IsTermOf}
+use Rattle.word_rows.specs.Terms.{AreTermsOf, IsShort, IsTermOf}
 use Rattle.op_eval.proofs.Appending.{Passed, finds_both, passed_fails, passed_more}
 use Rattle.op_eval.proofs.TermParts.{item_parts}
 
@@ -31,7 +31,7 @@ passes_alike true false = refl
 passes_alike false true = refl
 passes_alike false false = refl
 
-module _ (row : DocRow) (number : List ℕ → ℕ) (marks : Marks) (spans : Spans) (items : List Item) (at : ℕ) (item : Item) (within : at < length items) (is : item ≡ get_or items at item) where
+module _ (row : DocRow) (number : List ℕ → ℕ) (marks : RowMarks) (spans : Spans) (items : List Item) (at : ℕ) (item : Item) (within : at < length items) (is : item ≡ get_or items at item) where
   abbrev parts : List Item → List Part
   parts list = map (part_in row number spans) list
 

@@ -10,7 +10,8 @@ use Rattle.std.proofs.lemmas.Slice.Eq.{bytes_eq-Decides}
 use Rattle.query_tree.specs.declared.key.Key.{Key}
 use Rattle.query_tree.specs.declared.query.Query.{Query}
 use Rattle.query_tree.specs.TreeKeys.{query_keys}
-use Rattle.op_eval.specs.Matching.{first_uses, number_in}
+use Rattle.word_rows.specs.Keywords.{first_uses}
+use Rattle.op_eval.specs.Matching.{number_in}
 use Rattle.op_eval.specs.steps.Verdicts.{AreApart}
 
 -- ---- words among the first uses

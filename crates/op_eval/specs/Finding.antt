@@ -5,7 +5,6 @@ use Rattle.std.specs.Prelude.{ℕ, ◌*◌, ◌^◌, List, [], ◌∷◌, ◌++�
 use Rattle.std.specs.List.{filter, flat_map, list_any, list_all, count_by}
 use Rattle.doc_types.specs.declared.documents.DocRow.{DocRow}
 use Rattle.doc_types.specs.declared.hits.Hit.{Hit}
-use Rattle.doc_types.specs.declared.tokens.ZoneSpan.{ZoneSpan}
 use Rattle.doc_types.specs.Chunks.{spans_of}
 use Rattle.query_tree.specs.declared.key.Key.{Key}
 use Rattle.query_tree.specs.declared.key.How.{How}
@@ -18,7 +17,7 @@ use Rattle.occ_lists.specs.Places.{at_place, holds}
 use Rattle.occ_lists.specs.Joined.{before, near, together}
 use Rattle.occ_lists.specs.Runs.{runs}
 use Rattle.occ_lists.specs.Windows.{windows}
-use Rattle.op_eval.specs.Keywords.{places_within, sentence_ends, paragraph_ends, is_among}
+use Rattle.word_rows.specs.Keywords.{Spans, places_within, sentence_ends, paragraph_ends, is_among}
 
 pub record Found : Type 0 where
   pub matches : Bool
@@ -115,10 +114,6 @@ any_of founds = record {
 }
 
 -- ---- the tree
-
--- spans of zones, each with its field's number
-abbrev pub Spans : Type 0
-Spans = List (ℕ × ZoneSpan)
 
 -- an item of an AND, before it is told which spans are in force
 pub record SpannedPart : Type 0 where

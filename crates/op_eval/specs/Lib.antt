@@ -1,5 +1,3 @@
--- where a keyword stands
-pub mod Keywords
 -- what the nodes of a query find in a row
 pub mod Finding
 -- SENTENCE and PARAGRAPH where sentences are not read

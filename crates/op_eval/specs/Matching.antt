@@ -1,17 +1,13 @@
 -- Which rows match a query.
-use Rattle.std.specs.Prelude.{ℕ, List, [], ◌∷◌, map, Bool, true, ◌&&◌, ◌==◌, not, Option, Some, None, unwrap_or}
+use Rattle.std.specs.Prelude.{ℕ, List, [], map, Bool, true, ◌&&◌, ◌==◌, not, Option, Some, None, unwrap_or}
 use Rattle.std.specs.List.{filter, list_any, enumerate_from, position}
 use Rattle.std.specs.Str.{bytes_eq}
 use Rattle.doc_types.specs.declared.documents.DocRow.{DocRow}
 use Rattle.query_tree.specs.declared.query.Node.{Node}
 use Rattle.query_tree.specs.declared.query.Query.{Query}
 use Rattle.query_tree.specs.TreeKeys.{query_keys}
+use Rattle.word_rows.specs.Keywords.{first_uses}
 use Rattle.op_eval.specs.Finding.{Found, node_finds}
-
--- each word once, in the order of first use
-abbrev pub first_uses : List (List ℕ) → List (List ℕ)
-first_uses [] = []
-first_uses (word ∷ words) = word ∷ filter (λ other. not (bytes_eq other word)) (first_uses words)
 
 -- the number of a word of the query, from 0: its place among the distinct words of the query, by first use from left to right
 abbrev pub number_in : Query → List ℕ → ℕ

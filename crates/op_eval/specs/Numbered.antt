@@ -8,7 +8,7 @@ use Rattle.doc_types.specs.declared.tokens.TheConstants.{MAX_POSITION}
 use Rattle.query_tree.specs.declared.key.Key.{Key}
 use Rattle.query_tree.specs.declared.query.Query.{Query}
 use Rattle.query_tree.specs.TreeKeys.{query_keys}
-use Rattle.op_eval.specs.Keywords.{key_places}
+use Rattle.word_rows.specs.Keywords.{key_places}
 use Rattle.op_eval.specs.Matching.{number_in}
 
 -- The keywords of the query are numbered 1, 2, 3 and so on in the order of its tree, and are 255 at most. So are those of each query

@@ -4,6 +4,7 @@ ghost use Rattle.std.specs.List.{list_any};
 ghost use Rattle.doc_types.specs.declared.documents.DocRow.{DocRow};
 ghost use Rattle.query_tree.specs.TreeKeys.{query_keys};
 ghost use Rattle.occ_lists.specs.OccLists.{SameMembers};
+ghost use Rattle.word_rows.specs.Keywords.{present_in};
 ghost use Rattle.op_eval.specs.Hits.{AreHits, comes_before};
 ghost use Rattle.op_eval.specs.Matching.{matching};
 ghost use Rattle.op_eval.specs.Occurrences.{AreOccurrences};
@@ -110,7 +111,7 @@ pub fn occurrences<C: Chunk, L: Ledger>(
     steps: &mut Steps<L>,
 ) -> Result<Vec<Occ>, NoMemory>
     requires row { row < length (C.content chunk.now) }
-    ensures count { steps.new ≤ steps.old + length (query_keys query.now) }
+    ensures count { (found : DocRow) → slice_get (C.content chunk.now) row ≡ Some found → steps.new ≤ steps.old + present_in found (query_keys query.now) }
     ensures list { (found : DocRow) → slice_get (C.content chunk.now) row ≡ Some found → IfOk result (λ occs. AreOccurrences query.now found occs.items) }
 {
     match &query.root {
@@ -135,7 +136,7 @@ pub fn hits<C: Chunk, L: Ledger>(
 ) -> Result<Hits, NoMemory>
     requires row { row < length (C.content chunk.now) }
     requires keys { length (query_keys query.now) < 2 ^ 16 }
-    ensures count { steps.new ≤ steps.old + length (query_keys query.now) }
+    ensures count { (found : DocRow) → slice_get (C.content chunk.now) row ≡ Some found → steps.new ≤ steps.old + present_in found (query_keys query.now) }
     ensures keywords { IfOk result (λ hits. hits.keywords ≡ query.now.keywords) }
     ensures list { (found : DocRow) → slice_get (C.content chunk.now) row ≡ Some found → IfOk result (λ hits. AreHits query.now found hits.list) }
 {
@@ -156,7 +157,7 @@ fn hits_in<C: Chunk, L: Ledger>(
 ) -> Result<Vec<Hit>, NoMemory>
     requires row { row < length (C.content chunk.now) }
     requires keys { length (query_keys query.now) < 2 ^ 16 }
-    ensures count { steps.new ≤ steps.old + length (query_keys query.now) }
+    ensures count { (found : DocRow) → slice_get (C.content chunk.now) row ≡ Some found → steps.new ≤ steps.old + present_in found (query_keys query.now) }
     ensures list { (found : DocRow) → slice_get (C.content chunk.now) row ≡ Some found → IfOk result (λ hits. AreHits query.now found hits.items) }
 {
     match &query.root {

@@ -7,12 +7,11 @@ ghost use Rattle.occ_lists.specs.OccLists.{Ascend};
 ghost use Rattle.occ_lists.specs.Sound.{IsForward};
 ghost use Rattle.occ_lists.specs.Terms.{IsPlaced};
 ghost use Rattle.op_eval.specs.Finding.{all_of, any_of, either, joined, node_finds, perhaps};
-ghost use Rattle.op_eval.specs.steps.Asking.{AreMarks};
+ghost use Rattle.word_rows.specs.RowMarks.{AreMarks};
 ghost use Rattle.op_eval.specs.steps.Evaluating.{Finds, Holds, OfEachItem, OfEachPair, OfEachRow, founds_in, join_by, part_finds, part_in};
-ghost use Rattle.op_eval.specs.steps.Terms.{IsShort};
+ghost use Rattle.word_rows.specs.Terms.{IsShort};
 
 use crate::joining::{Join, put_made};
-use crate::marks::Marks;
 use crate::matching::{Work, is_among, terms_first, terms_last};
 use crate::quoting::{find_quoted, find_words};
 use doc_types::{Hit, ZoneSpan};
@@ -20,6 +19,7 @@ use occ_lists::{Buffers, Occ, Term, sort_distinct};
 use query_tree::{Item, Node};
 use srch_base::NoMemory;
 use std::alloc::Global;
+use word_rows::RowMarks;
 
 /// Occurrences and hits.
 #[derive(Drop)]
@@ -73,7 +73,7 @@ impl Finding {
 pub(crate) fn find(
     node: &Node,
     terms: &[Term],
-    marks: &Marks,
+    marks: &RowMarks,
     work: &mut Work,
     out: &mut Finding,
 ) -> Result<bool, NoMemory>
@@ -110,7 +110,7 @@ fn find_either(
     a: &Node,
     b: &Node,
     terms: &[Term],
-    marks: &Marks,
+    marks: &RowMarks,
     work: &mut Work,
     out: &mut Finding,
 ) -> Result<bool, NoMemory>
@@ -133,7 +133,7 @@ fn find_perhaps(
     a: &Node,
     b: &Node,
     terms: &[Term],
-    marks: &Marks,
+    marks: &RowMarks,
     work: &mut Work,
     out: &mut Finding,
 ) -> Result<bool, NoMemory>
@@ -157,7 +157,7 @@ fn find_perhaps(
 fn find_all(
     items: &[Item],
     terms: &[Term],
-    marks: &Marks,
+    marks: &RowMarks,
     work: &mut Work,
     out: &mut Finding,
 ) -> Result<bool, NoMemory>
@@ -189,7 +189,7 @@ fn find_all(
 fn find_item(
     item: &Item,
     terms: &[Term],
-    marks: &Marks,
+    marks: &RowMarks,
     work: &mut Work,
     out: &mut Finding,
 ) -> Result<bool, NoMemory>
@@ -216,7 +216,7 @@ fn find_joined(
     a: &Node,
     b: &Node,
     terms: &[Term],
-    marks: &Marks,
+    marks: &RowMarks,
     work: &mut Work,
     out: &mut Finding,
 ) -> Result<bool, NoMemory>
@@ -238,7 +238,7 @@ fn find_joined(
 fn find_apart(
     node: &Node,
     terms: &[Term],
-    marks: &Marks,
+    marks: &RowMarks,
     work: &mut Work,
 ) -> Result<Finding, NoMemory>
     requires placed { All IsPlaced terms.now }
@@ -260,7 +260,7 @@ fn find_span(
     zones: &[u16],
     node: &Node,
     terms: &[Term],
-    marks: &Marks,
+    marks: &RowMarks,
     work: &mut Work,
     out: &mut Finding,
 ) -> Result<bool, NoMemory>
@@ -286,7 +286,7 @@ fn find_within(
     span: (u16, ZoneSpan),
     node: &Node,
     terms: &[Term],
-    marks: &Marks,
+    marks: &RowMarks,
     work: &mut Work,
     out: &mut Finding,
 ) -> Result<bool, NoMemory>

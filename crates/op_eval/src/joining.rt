@@ -4,14 +4,14 @@ ghost use Rattle.std.specs.List.{filter};
 ghost use Rattle.occ_lists.specs.OccLists.{Ascend, SameMembers};
 ghost use Rattle.occ_lists.specs.Sound.{IsForward};
 ghost use Rattle.op_eval.specs.Finding.{is_inside, is_some, made};
-ghost use Rattle.op_eval.specs.steps.Asking.{AreMarks};
+ghost use Rattle.word_rows.specs.RowMarks.{AreMarks};
 ghost use Rattle.op_eval.specs.steps.Evaluating.{Finds, join_by};
 
 use crate::finding::Finding;
-use crate::marks::Marks;
 use doc_types::Hit;
 use occ_lists::{Buffers, Cover, Occ, put_before, put_near, put_together};
 use srch_base::NoMemory;
+use word_rows::RowMarks;
 
 /// An operator on occurrences.
 #[derive(Clone, Copy)]
@@ -56,7 +56,7 @@ fn put_joined(
     join: Join,
     xs: &[Occ],
     ys: &[Occ],
-    marks: &Marks,
+    marks: &RowMarks,
     out: &mut Vec<Occ>,
 ) -> Result<(), NoMemory>
     requires marks { AreMarks marks.now }
@@ -80,7 +80,7 @@ pub(crate) fn put_made(
     join: Join,
     first: Finding,
     second: Finding,
-    marks: &Marks,
+    marks: &RowMarks,
     buffers: &mut Buffers,
     out: &mut Finding,
 ) -> Result<bool, NoMemory>

@@ -8,7 +8,7 @@ ghost use Rattle.query_tree.specs.declared.key.Key.{Key};
 ghost use Rattle.query_tree.specs.declared.query.Query.{Query as QueryValue};
 ghost use Rattle.query_tree.specs.TreeKeys.{query_keys};
 ghost use Rattle.op_eval.specs.Hits.{AreHits};
-ghost use Rattle.op_eval.specs.Keywords.{key_places};
+ghost use Rattle.word_rows.specs.Keywords.{key_places};
 ghost use Rattle.op_eval.specs.Numbered.{AreHitsWithin, IsHitOf, IsNumbered, IsWordAt};
 ghost use Rattle.op_eval.specs.Sentences.{query_for};
 

@@ -1,21 +1,15 @@
 //! Which rows of a chunk match a query, and where.
 #![tactic(auto)]
 
-mod asking;
 mod calls;
-mod counting;
 mod finding;
 mod joining;
-mod keys;
 mod laws;
-mod loading;
-mod marks;
 mod matching;
 mod quorum;
 mod quoting;
 mod search;
 mod sentences;
-mod slots;
 mod streams;
 mod verdict;
 mod wanted;

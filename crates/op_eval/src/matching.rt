@@ -4,20 +4,19 @@ ghost use Rattle.std.specs.List.{list_all};
 ghost use Rattle.occ_lists.specs.Terms.{IsPlaced};
 ghost use Rattle.query_tree.specs.TreeKeys.{node_keys};
 ghost use Rattle.op_eval.specs.Finding.{any_of, either, node_finds, passes, perhaps};
-ghost use Rattle.op_eval.specs.Keywords.{is_among};
-ghost use Rattle.op_eval.specs.steps.Asking.{AreMarks};
+ghost use Rattle.word_rows.specs.Keywords.{is_among};
+ghost use Rattle.word_rows.specs.RowMarks.{AreMarks};
 ghost use Rattle.op_eval.specs.steps.Evaluating.{OfEachItem, OfEachPair, OfEachRow, founds_in, part_in};
 ghost use Rattle.op_eval.specs.steps.Worded.{quoted_by};
 
-use crate::counting::{part_first, part_last};
 use crate::finding::{Finding, find};
-use crate::marks::Marks;
 use crate::quorum::is_enough;
 use crate::quoting::standing;
 use doc_types::ZoneSpan;
 use occ_lists::{Buffers, Term, put_runs, put_widest};
 use query_tree::{How, Item, Node};
 use srch_base::NoMemory;
+use word_rows::{RowMarks, part_first, part_last};
 
 /// What evaluation works with: the spans in force, and lists to use again.
 #[derive(Drop)]
@@ -53,7 +52,7 @@ pub(crate) fn terms_last<'t>(node: &Node, terms: &'t [Term]) -> (&'t [Term], &'t
 pub(crate) fn matches(
     node: &Node,
     terms: &[Term],
-    marks: &Marks,
+    marks: &RowMarks,
     work: &mut Work,
 ) -> Result<bool, NoMemory>
     requires placed { All IsPlaced terms.now }
@@ -81,7 +80,7 @@ fn matches_either(
     a: &Node,
     b: &Node,
     terms: &[Term],
-    marks: &Marks,
+    marks: &RowMarks,
     work: &mut Work,
 ) -> Result<bool, NoMemory>
     requires placed { All IsPlaced terms.now }
@@ -103,7 +102,7 @@ fn matches_perhaps(
     a: &Node,
     b: &Node,
     terms: &[Term],
-    marks: &Marks,
+    marks: &RowMarks,
     work: &mut Work,
 ) -> Result<bool, NoMemory>
     requires placed { All IsPlaced terms.now }
@@ -116,7 +115,7 @@ fn matches_perhaps(
 }
 
 /// Whether the node matches, by what it finds.
-fn finds(node: &Node, terms: &[Term], marks: &Marks, work: &mut Work) -> Result<bool, NoMemory>
+fn finds(node: &Node, terms: &[Term], marks: &RowMarks, work: &mut Work) -> Result<bool, NoMemory>
     requires placed { All IsPlaced terms.now }
     requires marks { AreMarks marks.now }
     ensures spans { OnOk result (work.new.spans.items ≡ work.old.spans.items) }
@@ -161,7 +160,7 @@ fn matches_quoted(how: How, terms: &[Term], work: &mut Work) -> Result<bool, NoM
 fn matches_all(
     items: &[Item],
     terms: &[Term],
-    marks: &Marks,
+    marks: &RowMarks,
     work: &mut Work,
 ) -> Result<bool, NoMemory>
     requires placed { All IsPlaced terms.now }
@@ -194,7 +193,7 @@ fn matches_span(
     zones: &[u16],
     node: &Node,
     terms: &[Term],
-    marks: &Marks,
+    marks: &RowMarks,
     work: &mut Work,
 ) -> Result<bool, NoMemory>
     requires placed { All IsPlaced terms.now }
@@ -218,7 +217,7 @@ fn matches_within(
     span: (u16, ZoneSpan),
     node: &Node,
     terms: &[Term],
-    marks: &Marks,
+    marks: &RowMarks,
     work: &mut Work,
 ) -> Result<bool, NoMemory>
     requires placed { All IsPlaced terms.now }

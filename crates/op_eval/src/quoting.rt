@@ -9,7 +9,7 @@ ghost use Rattle.occ_lists.specs.Terms.{IsPlaced, listed_in};
 ghost use Rattle.op_eval.specs.Finding as form;
 ghost use Rattle.op_eval.specs.Finding.{is_some, made, nothing};
 ghost use Rattle.op_eval.specs.steps.Evaluating.{Finds};
-ghost use Rattle.op_eval.specs.steps.Terms.{AreShort};
+ghost use Rattle.word_rows.specs.Terms.{AreShort};
 ghost use Rattle.op_eval.specs.steps.Worded.{at_each, how_many, quoted_by, term_hits, term_places, worded};
 
 use crate::finding::Finding;

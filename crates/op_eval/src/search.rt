@@ -2,21 +2,19 @@
 //! words that are there decide where they can, and only else are lists of places opened, each keyword's once.
 ghost use Rattle.std.specs.Prelude.{◌≡◌, ◌+◌, ◌<◌, ◌≤◌, ◌^◌, ℕ, List, [], false, Some, All, IfOk, OnOk, length, slice_get};
 ghost use Rattle.occ_lists.specs.Terms.{IsPlaced};
-ghost use Rattle.op_eval.specs.steps.Asking.{Knows};
-ghost use Rattle.op_eval.specs.steps.Slots.{AreAt, keys_of, number_among};
+ghost use Rattle.word_rows.specs.RowMarks.{Knows};
+ghost use Rattle.word_rows.specs.Slots.{AreAt, keys_of, number_among};
 ghost use Rattle.doc_types.specs.declared.documents.DocRow.{DocRow};
 ghost use Rattle.query_tree.specs.TreeKeys.{node_keys};
+ghost use Rattle.word_rows.specs.Keywords.{present_in};
 ghost use Rattle.op_eval.specs.Finding.{node_finds};
 ghost use Rattle.occ_lists.specs.OccLists.{SameMembers};
 ghost use Rattle.op_eval.specs.steps.Searching.{IsFirstOf, IsSearch, node_found};
-ghost use Rattle.op_eval.specs.steps.Terms.{AreSeenIn, AreTermsOf};
+ghost use Rattle.word_rows.specs.Terms.{AreSeenIn, AreTermsOf};
 ghost use Rattle.op_eval.specs.steps.Verdicts.{AreApart};
 
-use crate::asking::{Asked, asks_for};
 use crate::finding::{Finding, find};
-use crate::marks::Marks;
 use crate::matching::{Work, matches};
-use crate::slots::Slots;
 use crate::verdict::{Verdict, judge};
 use doc_types::{Chunk, Gap};
 use occ_lists::{Buffers, Term};
@@ -24,16 +22,17 @@ use query_tree::Node;
 use srch_base::{NoMemory, Steps};
 use std::alloc::Global;
 use std::sync::ledger::Ledger;
+use word_rows::{AskedMarks, RowMarks, Slots, asks_for};
 
 /// A query's tree over a chunk.
 #[derive(Drop)]
 pub(crate) struct Search<'q> {
     pub root: &'q Node,
     pub slots: Slots<'q>,
-    pub asked: Asked,
+    pub asked: AskedMarks,
     /// A row that has none of the words may match.
     pub every: bool,
-    pub marks: Marks,
+    pub marks: RowMarks,
     pub work: Work,
     gaps: Vec<(u32, Gap)>,
 }
@@ -53,7 +52,7 @@ impl<'q> Search<'q> {
             slots,
             asked: asks_for(root),
             every,
-            marks: Marks::new(alloc),
+            marks: RowMarks::new(alloc),
             work: Work {
                 spans: Vec::new(alloc),
                 buffers: Buffers::new(alloc),
@@ -90,7 +89,7 @@ impl<'q> Search<'q> {
         may_match(self.root, &self.slots.terms)
     }
 
-    /// Whether the row matches.
+    /// Whether the row matches. After want of memory the row can be asked again.
     pub(crate) fn matches<C: Chunk, L: Ledger>(
         &mut self,
         chunk: &C,
@@ -99,9 +98,9 @@ impl<'q> Search<'q> {
     ) -> Result<bool, NoMemory>
         requires row { row < length (C.content chunk.now) }
         requires search { IsSearch (C.belongs chunk.now) (C.place chunk.now) (C.content chunk.now) row self.old.root.now self.old }
-        ensures count { steps.new ≤ steps.old + length (node_keys self.old.root.now) }
+        ensures count { (its : DocRow) → slice_get (C.content chunk.now) row ≡ Some its → steps.new ≤ steps.old + present_in its (node_keys self.old.root.now) }
         ensures root { self.new.root ≡ self.old.root }
-        ensures search { OnOk result (IsSearch (C.belongs chunk.now) (C.place chunk.now) (C.content chunk.now) row self.old.root.now self.new) }
+        ensures search { IsSearch (C.belongs chunk.now) (C.place chunk.now) (C.content chunk.now) row self.old.root.now self.new }
         ensures told { (found : DocRow) → slice_get (C.content chunk.now) row ≡ Some found → IfOk result (λ told. told ≡ (node_found self.old.root.now found).matches) }
     {
         self.slots.seek(chunk, row);
@@ -110,7 +109,10 @@ impl<'q> Search<'q> {
             Verdict::Yes => Ok(true),
             Verdict::Open => {
                 self.load(chunk, row, steps)?;
-                matches(self.root, &self.slots.terms, &self.marks, &mut self.work)
+                let told = matches(self.root, &self.slots.terms, &self.marks, &mut self.work);
+                // Want of memory may have left some in force.
+                self.work.spans.clear();
+                told
             }
         }
     }
@@ -125,9 +127,9 @@ impl<'q> Search<'q> {
     ) -> Result<bool, NoMemory>
         requires row { row < length (C.content chunk.now) }
         requires search { IsSearch (C.belongs chunk.now) (C.place chunk.now) (C.content chunk.now) row self.old.root.now self.old }
-        ensures count { steps.new ≤ steps.old + length (node_keys self.old.root.now) }
+        ensures count { (its : DocRow) → slice_get (C.content chunk.now) row ≡ Some its → steps.new ≤ steps.old + present_in its (node_keys self.old.root.now) }
         ensures root { self.new.root ≡ self.old.root }
-        ensures search { OnOk result (IsSearch (C.belongs chunk.now) (C.place chunk.now) (C.content chunk.now) row self.old.root.now self.new) }
+        ensures search { IsSearch (C.belongs chunk.now) (C.place chunk.now) (C.content chunk.now) row self.old.root.now self.new }
         ensures told { (its : DocRow) → slice_get (C.content chunk.now) row ≡ Some its → IfOk result (λ told. told ≡ (node_found self.old.root.now its).matches) }
         ensures occs { (its : DocRow) → slice_get (C.content chunk.now) row ≡ Some its → OnOk result (SameMembers found.new.occs.items (node_found self.old.root.now its).occurrences) }
         ensures hits { (its : DocRow) → slice_get (C.content chunk.now) row ≡ Some its → length (node_keys self.old.root.now) < 2 ^ 16 → OnOk result (SameMembers found.new.hits.items (node_found self.old.root.now its).hits) }
@@ -138,13 +140,16 @@ impl<'q> Search<'q> {
             return Ok(false);
         }
         self.load(chunk, row, steps)?;
-        find(
+        let told = find(
             self.root,
             &self.slots.terms,
             &self.marks,
             &mut self.work,
             found,
-        )
+        );
+        // Want of memory may have left some in force.
+        self.work.spans.clear();
+        told
     }
 
     /// Reads what the query asks of the row.
@@ -158,9 +163,9 @@ impl<'q> Search<'q> {
         requires search { IsSearch (C.belongs chunk.now) (C.place chunk.now) (C.content chunk.now) row self.old.root.now self.old }
         requires at { AreAt (C.place chunk.now) (C.content chunk.now) row self.old.slots }
         requires seen { (found : DocRow) → slice_get (C.content chunk.now) row ≡ Some found → AreSeenIn found (keys_of self.old.slots) self.old.slots.terms.items }
-        ensures count { steps.new ≤ steps.old + length (node_keys self.old.root.now) }
+        ensures count { (its : DocRow) → slice_get (C.content chunk.now) row ≡ Some its → steps.new ≤ steps.old + present_in its (node_keys self.old.root.now) }
         ensures root { self.new.root ≡ self.old.root }
-        ensures search { OnOk result (IsSearch (C.belongs chunk.now) (C.place chunk.now) (C.content chunk.now) row self.old.root.now self.new) }
+        ensures search { IsSearch (C.belongs chunk.now) (C.place chunk.now) (C.content chunk.now) row self.old.root.now self.new }
         ensures terms { (found : DocRow) → slice_get (C.content chunk.now) row ≡ Some found → OnOk result (AreTermsOf found (number_among (node_keys self.old.root.now)) (node_keys self.old.root.now) self.new.slots.terms.items) }
         ensures marks { (found : DocRow) → slice_get (C.content chunk.now) row ≡ Some found → OnOk result (Knows found self.old.root.now self.new.marks) }
         ensures placed { OnOk result (All IsPlaced self.new.slots.terms.items) }

@@ -1,9 +1,10 @@
 //! The rows that may match a query one after another, for a caller that looks at each of them once: one row is taken, with its hits
 //! where it matches, and another one is passed over, so that no list of its places is opened.
-ghost use Rattle.std.specs.Prelude.{◌≡◌, ◌+◌, ◌<◌, ◌^◌, Some, length, slice_get, AllPairs, IsTrue, IfOk, OnErr, OnOk};
+ghost use Rattle.std.specs.Prelude.{◌≡◌, ◌+◌, ◌<◌, ◌≤◌, ◌^◌, Some, length, slice_get, AllPairs, IsTrue, IfOk, OnErr, OnOk};
 ghost use Rattle.doc_types.specs.declared.documents.DocRow.{DocRow};
 ghost use Rattle.occ_lists.specs.OccLists.{SameMembers};
 ghost use Rattle.query_tree.specs.TreeKeys.{query_keys};
+ghost use Rattle.word_rows.specs.Keywords.{present_in};
 ghost use Rattle.op_eval.specs.Hits.{comes_before};
 ghost use Rattle.op_eval.specs.Matching.{matches};
 ghost use Rattle.op_eval.specs.Streams.{GoesOn, Takes};
@@ -24,8 +25,7 @@ use std::sync::ledger::Ledger;
 /// A query on its way over the rows of a chunk.
 ///
 /// `row` goes on to the next row that isn't dead and may match, as far as its words tell. That one is taken, told of without its
-/// hits, or skipped. After want of memory `take` and `matches` answer that again where the query has a keyword. Contracts see it
-/// as a `Stream`.
+/// hits, or skipped. After want of memory all is as before, so that the row can be taken then. Contracts see it as a `Stream`.
 #[derive(Drop)]
 pub struct Matches<'a, C: Chunk> {
     query: &'a Query,
@@ -33,7 +33,7 @@ pub struct Matches<'a, C: Chunk> {
     dead: &'a [u32],
     /// The rows before this one went by.
     from: u32,
-    /// None where the query has no keyword, and after want of memory.
+    /// None exactly where the query has no keyword.
     search: Option<Search<'a>>,
     found: Finding,
     alloc: Global,
@@ -90,7 +90,8 @@ impl<'a, C: Chunk> Matches<'a, C> {
         next
     }
 
-    /// Whether the row at which it stands matches, and goes on behind it. The hits come in the place of those that are handed in.
+    /// Whether the row at which it stands matches, and goes on behind it. The hits come in the place of those that are handed in. A
+    /// list of places is opened for each keyword whose word the row has, at most.
     pub fn take<L: Ledger>(
         &mut self,
         hits: &mut Hits,
@@ -98,6 +99,7 @@ impl<'a, C: Chunk> Matches<'a, C> {
     ) -> Result<bool, NoMemory>
         requires { self.old.at < length self.old.rows }
         ensures takes { IfOk result (λ told. Takes self.old told hits.old hits.new self.new) }
+        ensures count { (doc : DocRow) → slice_get self.old.rows self.old.at ≡ Some doc → steps.new ≤ steps.old + present_in doc (query_keys self.old.query) }
         ensures same { OnErr result (self.new ≡ self.old) }
         ensures kept { OnErr result (hits.new ≡ hits.old) }
     {
@@ -123,6 +125,7 @@ impl<'a, C: Chunk> Matches<'a, C> {
         requires { self.old.at < length self.old.rows }
         ensures stands { OnOk result (self.new ≡ record self.old { at = self.old.at + 1 }) }
         ensures told { (doc : DocRow) → slice_get self.old.rows self.old.at ≡ Some doc → IfOk result (λ told. told ≡ matches self.old.query doc) }
+        ensures count { (doc : DocRow) → slice_get self.old.rows self.old.at ≡ Some doc → steps.new ≤ steps.old + present_in doc (query_keys self.old.query) }
         ensures same { OnErr result (self.new ≡ self.old) }
     {
         let told = row_matches(self.query, self.chunk, self.from, &mut self.search, steps)?;

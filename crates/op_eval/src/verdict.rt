@@ -8,13 +8,13 @@ ghost use Rattle.query_tree.specs.declared.key.Key.{Key as KeyValue};
 ghost use Rattle.query_tree.specs.TreeKeys.{node_keys};
 ghost use Rattle.op_eval.specs.Finding as finding;
 ghost use Rattle.op_eval.specs.Finding.{node_finds};
-ghost use Rattle.op_eval.specs.steps.Terms.{AreSeenIn, IsSeenIn};
+ghost use Rattle.word_rows.specs.Terms.{AreSeenIn, IsSeenIn};
 ghost use Rattle.op_eval.specs.steps.Verdicts.{AreApart, Tells, negation, conjunction, doubt, stands_in, quoted_matches, item_passes};
 
-use crate::counting::{part_first, part_last};
 use crate::quorum::is_enough;
 use occ_lists::Term;
 use query_tree::{How, Item, Node};
+use word_rows::{part_first, part_last};
 
 /// Whether a row matches, as far as its words tell.
 #[derive(Clone, Copy, Debug, PartialEq, Eq)]

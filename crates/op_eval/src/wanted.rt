@@ -1,10 +1,11 @@
 //! The next row that isn't dead and may match a query, and what is found in one.
-ghost use Rattle.std.specs.Prelude.{◌≡◌, ◌<◌, ◌≤◌, ◌^◌, ◌==◌, true, false, Some, length, slice_get, unwrap_or, AllPairs, IfSome, IfOk, OnOk};
+ghost use Rattle.std.specs.Prelude.{◌≡◌, ◌+◌, ◌<◌, ◌≤◌, ◌^◌, ◌==◌, true, false, Some, length, slice_get, unwrap_or, AllPairs, IfSome, IfOk, OnOk};
 ghost use Rattle.std.specs.List.{list_any};
 ghost use Rattle.doc_types.specs.declared.documents.DocRow.{DocRow};
 ghost use Rattle.occ_lists.specs.OccLists.{SameMembers};
 ghost use Rattle.query_tree.specs.TreeKeys.{query_keys};
 ghost use Rattle.query_tree.specs.declared.query.Query.{Query as QueryValue};
+ghost use Rattle.word_rows.specs.Keywords.{present_in};
 ghost use Rattle.op_eval.specs.Matching.{query_finds};
 ghost use Rattle.op_eval.specs.steps.Searching.{IsSearch};
 ghost use Rattle.op_eval.specs.steps.Streaming.{IsFirstOpen, StandsAt, is_matching};
@@ -81,7 +82,8 @@ fn is_open<C: Chunk>(search: &mut Search, chunk: &C, dead: &[u32], row: u32) -> 
     !is_dead(dead, row) && search.may_match(chunk, row)
 }
 
-/// Whether the row matches, and what is found in it, in the place of what was found before. The search is gone after want of memory.
+/// Whether the row matches, and what is found in it, in the place of what was found before. A list of places is opened for each
+/// keyword whose word the row has, at most, and after want of memory the row can be asked again.
 pub(crate) fn find_row<C: Chunk, L: Ledger>(
     query: &Query,
     chunk: &C,
@@ -94,20 +96,20 @@ pub(crate) fn find_row<C: Chunk, L: Ledger>(
     requires few { length (query_keys query.now) < 2 ^ 16 }
     requires stands { StandsAt (C.belongs chunk.now) (C.place chunk.now) (C.content chunk.now) row query.now search.old }
     ensures stands { StandsAt (C.belongs chunk.now) (C.place chunk.now) (C.content chunk.now) row query.now search.new }
+    ensures count { (its : DocRow) → slice_get (C.content chunk.now) row ≡ Some its → steps.new ≤ steps.old + present_in its (query_keys query.now) }
     ensures told { (its : DocRow) → slice_get (C.content chunk.now) row ≡ Some its → IfOk result (λ told. told ≡ (query_finds query.now its).matches) }
     ensures hits { (its : DocRow) → slice_get (C.content chunk.now) row ≡ Some its → OnOk result (SameMembers found.new.hits.items (query_finds query.now its).hits) }
 {
-    if query.root.is_none() {
-        found.clear();
-        return Ok(true);
+    match search {
+        None => {
+            found.clear();
+            Ok(true)
+        }
+        Some(search) => search.find(chunk, row, found, steps),
     }
-    let mut taken = search.take().ok_or(NoMemory)?;
-    let told = taken.find(chunk, row, found, steps)?;
-    *search = Some(taken);
-    Ok(told)
 }
 
-/// Whether the row matches. The search is gone after want of memory.
+/// Whether the row matches, by no more lists, and again after want of memory.
 pub(crate) fn row_matches<C: Chunk, L: Ledger>(
     query: &Query,
     chunk: &C,
@@ -118,13 +120,11 @@ pub(crate) fn row_matches<C: Chunk, L: Ledger>(
     requires row { row < length (C.content chunk.now) }
     requires stands { StandsAt (C.belongs chunk.now) (C.place chunk.now) (C.content chunk.now) row query.now search.old }
     ensures stands { StandsAt (C.belongs chunk.now) (C.place chunk.now) (C.content chunk.now) row query.now search.new }
+    ensures count { (its : DocRow) → slice_get (C.content chunk.now) row ≡ Some its → steps.new ≤ steps.old + present_in its (query_keys query.now) }
     ensures told { (its : DocRow) → slice_get (C.content chunk.now) row ≡ Some its → IfOk result (λ told. told ≡ (query_finds query.now its).matches) }
 {
-    if query.root.is_none() {
-        return Ok(true);
+    match search {
+        None => Ok(true),
+        Some(search) => search.matches(chunk, row, steps),
     }
-    let mut taken = search.take().ok_or(NoMemory)?;
-    let told = taken.matches(chunk, row, steps)?;
-    *search = Some(taken);
-    Ok(told)
 }

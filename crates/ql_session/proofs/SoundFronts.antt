@@ -1,12 +1,11 @@
 -- The documents of each index keep layers as a snapshot has them, whatever happens to them.
 use Rattle.std.proofs.Common.{◌≡◌, ◌≢◌, ◌<◌, ◌^◌, ℕ, List, [], ◌∷◌, sym, subst, arith}
-use Rattle.std.specs.Prelude.{All, Some, slice_get}
+use Rattle.std.specs.Prelude.{All, AllPairs, Some, slice_get}
 use Rattle.std.proofs.lemmas.List.Elements.{All-cons, All-map, All-nil, All-set}
 use Rattle.std.proofs.lemmas.Option.{get_or_from_slice_get, slice_get_within}
 use Rattle.index_conf.specs.declared.conf.IndexConf.{IndexConf}
 use Rattle.doc_types.specs.declared.documents.DocRow.{DocRow}
 use Rattle.doc_types.specs.Snapshots.{AreLayers, IsLayer, SnapshotValue}
-use Rattle.op_eval.proofs.Lists.{pairs_nil}
 use Rattle.plain_store.specs.Commits.{empty_snapshot}
 use Rattle.serve_line.specs.Machines.{FollowAll}
 use Rattle.ql_answers.specs.Sessions.{HasLayers}
@@ -18,6 +17,9 @@ IsSound front = AreLayers front.layers
 
 abbrev Apart : DocRow → DocRow → Type 0
 Apart row other = row.doc.id ≢ other.doc.id
+
+pairs_nil : {X : Type 0} (R : X → X → Type 0) → AllPairs R []
+pairs_nil R i j d order within = absurd (omega arith)
 
 no_layers : AreLayers []
 no_layers =

@@ -15,7 +15,7 @@ use Rattle.std.proofs.lemmas.Option.{get_or_from_slice_get, slice_get_within}
 use Rattle.doc_types.specs.declared.cursor.Cursor.{Cursor}
 use Rattle.doc_types.specs.declared.documents.DocRow.{DocRow}
 use Rattle.doc_types.specs.declared.plain_index.WordRows.{WordRows}
-use Rattle.doc_types.specs.Chunks.{rows_with, AreWordsOf, Place, IsPlace}
+use Rattle.doc_types.specs.Chunks.{rows_with, AreWordsOf, CursorPlace, IsCursorPlace}
 
 -- a word with the rows that have it, of which there are some
 pub record IsEntryOf (rows : List DocRow) (entry : WordRows) : Type 0 where
@@ -39,24 +39,24 @@ abbrev pub StandsIn : List WordRows → Cursor → Type 0
 StandsIn index cursor = IsSomeAnd (slice_get index cursor.word) (λ entry. cursor.index ≤ length entry.rows)
 
 -- the place after so many rows of an entry
-abbrev pub place_of : Option WordRows → ℕ → Place
+abbrev pub place_of : Option WordRows → ℕ → CursorPlace
 place_of None count = record { word = []; ahead = [] }
 place_of (Some entry) count = record { word = entry.word; ahead = drop count entry.rows }
 
 -- the place that the cursor stands for
-abbrev pub place_in : List WordRows → Cursor → Place
+abbrev pub place_in : List WordRows → Cursor → CursorPlace
 place_in index cursor = place_of (slice_get index cursor.word) cursor.index
 
-place_of-IsPlace : (rows : List DocRow) (index : List WordRows) (word count : ℕ) → IsIndex rows index → (found : Option WordRows) → slice_get index word ≡ found → IsSomeAnd found (λ entry. count ≤ length entry.rows) → IsPlace rows (place_of found count)
-place_of-IsPlace rows index word count is None e stands = absurd stands
-place_of-IsPlace rows index word count is (Some entry) e stands =
+place_of-IsCursorPlace : (rows : List DocRow) (index : List WordRows) (word count : ℕ) → IsIndex rows index → (found : Option WordRows) → slice_get index word ≡ found → IsSomeAnd found (λ entry. count ≤ length entry.rows) → IsCursorPlace rows (place_of found count)
+place_of-IsCursorPlace rows index word count is None e stands = absurd stands
+place_of-IsCursorPlace rows index word count is (Some entry) e stands =
     let here : get_or index word entry ≡ entry = get_or_from_slice_get index word entry entry e in
     let its : IsEntryOf rows entry = subst (IsEntryOf rows) here (is.each word entry (slice_get_within index word entry e)) in
     record { some = subst (λ xs. 0 < length xs) its.is its.some; behind = take count entry.rows; both = take-append-drop count entry.rows ∙ its.is }
 
 -- a cursor that stands in the index has a place among the rows
-pub place_in-IsPlace : (rows : List DocRow) (index : List WordRows) (cursor : Cursor) → IsIndex rows index → StandsIn index cursor → IsPlace rows (place_in index cursor)
-place_in-IsPlace rows index cursor is stands = place_of-IsPlace rows index cursor.word cursor.index is (slice_get index cursor.word) refl stands
+pub place_in-IsCursorPlace : (rows : List DocRow) (index : List WordRows) (cursor : Cursor) → IsIndex rows index → StandsIn index cursor → IsCursorPlace rows (place_in index cursor)
+place_in-IsCursorPlace rows index cursor is stands = place_of-IsCursorPlace rows index cursor.word cursor.index is (slice_get index cursor.word) refl stands
 
 word_at : (index : List WordRows) (k : ℕ) (d : List ℕ) → get_or (map (λ entry. entry.word) index) k d ≡ (get_or index k (record { word = d; rows = [] })).word
 word_at index k d = get_or-map (λ (entry : WordRows). entry.word) index k (record { word = d; rows = [] })

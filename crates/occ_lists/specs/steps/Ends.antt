@@ -1,6 +1,7 @@
 -- From place to place of a proximity: where its windows may end.
 use Rattle.std.specs.Prelude.{◌≡◌, ℕ, ◌+◌, ◌-◌, ◌≤◌, List, length, drop, map, Bool, ◌&&◌, ◌==◌, All, nat_le, nat_lt}
 use Rattle.std.specs.List.{filter, flat_map}
+use Rattle.doc_types.specs.declared.tokens.TheConstants.{MAX_POSITION}
 use Rattle.occ_lists.specs.declared.occ.Occ.{Occ}
 use Rattle.occ_lists.specs.declared.windows.Proximity.{Proximity}
 use Rattle.occ_lists.specs.OccLists.{SameMembers}
@@ -34,7 +35,7 @@ widest proximity = flat_map (λ from. to_each from (last_of (filter (ends_at pro
 pub record IsSorted (proximity : Proximity) : Type 0 where
   pub words : All IsReady proximity.words.items
   pub ascend : ArePlaces proximity.all.items
-  pub small : All (λ place. (1 ≤ place.1) × (place.1 ≤ 65535)) proximity.all.items
+  pub small : All (λ place. (1 ≤ place.1) × (place.1 ≤ MAX_POSITION)) proximity.all.items
 
 -- It is made of these listed keywords.
 pub record IsProximity (n : ℕ) (listed : List Listed) (proximity : Proximity) : Type 0 where

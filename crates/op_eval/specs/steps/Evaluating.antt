@@ -15,11 +15,11 @@ use Rattle.occ_lists.specs.OccLists.{SameMembers}
 use Rattle.op_eval.specs.declared.finding.Finding.{Finding}
 use Rattle.op_eval.specs.declared.joining.Join.{Join}
 use Rattle.op_eval.specs.declared.joining.Join.TheVariants as joins
-use Rattle.op_eval.specs.declared.marks.Marks.{Marks}
-use Rattle.op_eval.specs.Finding.{Found, Part, node_finds, passes, Spans}
-use Rattle.op_eval.specs.Keywords.{is_among}
-use Rattle.op_eval.specs.steps.Terms.{AreTermsOf}
-use Rattle.op_eval.specs.steps.Asking.{Knows}
+use Rattle.word_rows.specs.declared.marks.RowMarks.{RowMarks}
+use Rattle.word_rows.specs.Keywords.{Spans, is_among}
+use Rattle.op_eval.specs.Finding.{Found, Part, node_finds, passes}
+use Rattle.word_rows.specs.Terms.{AreTermsOf}
+use Rattle.word_rows.specs.RowMarks.{Knows}
 
 -- members of a list, in any order, were appended
 pub record Appends {X : Type 0} (old new found : List X) : Type 0 where
@@ -35,7 +35,7 @@ pub record Finds (short : Type 0) (found : Found) (old new : Finding) (result : 
   pub hits : short → Appends old.hits.items new.hits.items found.hits
 
 -- this is so of each row whose terms and marks these are
-abbrev pub OfEachRow : Node → List Term → Marks → ((DocRow → (List ℕ → ℕ) → Type 0) → Type 0)
+abbrev pub OfEachRow : Node → List Term → RowMarks → ((DocRow → (List ℕ → ℕ) → Type 0) → Type 0)
 OfEachRow node terms marks holds = (row : DocRow) (number : List ℕ → ℕ) → AreTermsOf row number (node_keys node) terms → Knows row node marks → holds row number
 
 -- ---- items of an AND
@@ -59,13 +59,13 @@ abbrev pub part_finds : Part → Found
 part_finds part = record { matches = passes part; occurrences = part_occs part; hits = part_hits part }
 
 -- this is so of each row whose terms these are, and whose marks they are for each item
-abbrev pub OfEachItem : List Item → List Term → Marks → ((DocRow → (List ℕ → ℕ) → Type 0) → Type 0)
+abbrev pub OfEachItem : List Item → List Term → RowMarks → ((DocRow → (List ℕ → ℕ) → Type 0) → Type 0)
 OfEachItem items terms marks holds = (row : DocRow) (number : List ℕ → ℕ) → AreTermsOf row number (items_keys items) terms → All (λ (item : Item). Knows row item.node marks) items → holds row number
 
 -- ---- operators on occurrences
 
 -- what the operator makes of two lists, by the marks
-abbrev pub join_by : Marks → Join → List Occ → List Occ → List Occ
+abbrev pub join_by : RowMarks → Join → List Occ → List Occ → List Occ
 join_by marks joins.Before = before
 join_by marks (joins.Near n) = near n
 join_by marks joins.Sentence = together marks.sentences.items
@@ -77,7 +77,7 @@ pub record Holds (short : Type 0) (found : Found) (finding : Finding) : Type 0 w
   pub hits : short → SameMembers finding.hits.items found.hits
 
 -- this is so of each row whose terms are those of the two, and whose marks they are for both
-abbrev pub OfEachPair : Node → Node → List Term → Marks → ((DocRow → (List ℕ → ℕ) → Type 0) → Type 0)
+abbrev pub OfEachPair : Node → Node → List Term → RowMarks → ((DocRow → (List ℕ → ℕ) → Type 0) → Type 0)
 OfEachPair a b terms marks holds = (row : DocRow) (number : List ℕ → ℕ) → AreTermsOf row number (node_keys a ++ node_keys b) terms → Knows row a marks → Knows row b marks → holds row number
 
 -- ---- single spans

@@ -1,9 +1,9 @@
 -- a query's tree on its way over the rows of a chunk, from one that may match to the next
-use Rattle.std.specs.Prelude.{◌≡◌, ◌<◌, ◌≤◌, ◌^◌, ◌==◌, ◌&&◌, ℕ, List, [], map, length, drop, Bool, not, Option, Some, None, false, IfSome, AllPairs}
+use Rattle.std.specs.Prelude.{◌≡◌, ◌<◌, ◌≤◌, ◌^◌, ◌==◌, ◌&&◌, ℕ, List, [], map, length, drop, Bool, not, Option, Some, None, false, AllPairs}
 use Rattle.std.specs.List.{filter, list_any, enumerate_from}
 use Rattle.doc_types.specs.declared.cursor.Cursor.{Cursor}
 use Rattle.doc_types.specs.declared.documents.DocRow.{DocRow}
-use Rattle.doc_types.specs.Chunks.{Place}
+use Rattle.doc_types.specs.Chunks.{CursorPlace}
 use Rattle.query_tree.specs.declared.query.Node.{Node}
 use Rattle.query_tree.specs.declared.query.Query.{Query}
 use Rattle.query_tree.specs.TreeKeys.{query_keys}
@@ -33,19 +33,20 @@ IsFirstOpen passes dead rows from None = numbers_from passes from rows ≡ []
 IsFirstOpen passes dead rows from (Some row) = IsOpen passes dead rows from row
 
 -- The search has gone over no row from this one on, and none from the start up to it passes.
-pub record LooksFrom (belongs : Cursor → Type 0) (place : Cursor → Place) (rows : List DocRow) (root : Node) (dead : List ℕ) (start from : ℕ) (search : Search) : Type 0 where
+pub record LooksFrom (belongs : Cursor → Type 0) (place : Cursor → CursorPlace) (rows : List DocRow) (root : Node) (dead : List ℕ) (start from : ℕ) (search : Search) : Type 0 where
   pub on : start ≤ from
   pub within : from ≤ length rows
   pub tree : search.root.now ≡ root
   pub at : IsSearch belongs place rows from search.root.now search
   pub ahead : numbers_from (is_wanted root dead) start rows ≡ numbers_from (is_wanted root dead) from rows
 
--- The search, where there is one, is of the query's tree, and has gone over no row from this one on.
-abbrev pub StandsAt : (Cursor → Type 0) → (Cursor → Place) → List DocRow → ℕ → Query → Option Search → Type 0
-StandsAt belongs place rows from query search = IfSome search (λ its. (query.root ≡ Some its.root.now) × IsSearch belongs place rows from its.root.now its)
+-- There is a search where the query has a tree: it is of that one, and has gone over no row from this one on.
+abbrev pub StandsAt : (Cursor → Type 0) → (Cursor → CursorPlace) → List DocRow → ℕ → Query → Option Search → Type 0
+StandsAt belongs place rows from query None = query.root ≡ None
+StandsAt belongs place rows from query (Some its) = (query.root ≡ Some its.root.now) × IsSearch belongs place rows from its.root.now its
 
 -- What is so between two rows: so far all rows before this one went by.
-pub record IsStream (belongs : Cursor → Type 0) (place : Cursor → Place) (rows : List DocRow) (from : ℕ) (query : Query) (dead : List ℕ) (search : Option Search) : Type 0 where
+pub record IsStream (belongs : Cursor → Type 0) (place : Cursor → CursorPlace) (rows : List DocRow) (from : ℕ) (query : Query) (dead : List ℕ) (search : Option Search) : Type 0 where
   pub within : from ≤ length rows
   pub few : length (query_keys query) < 2 ^ 16
   pub ascend : AllPairs (λ row later. row < later) dead

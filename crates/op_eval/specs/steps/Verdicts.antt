@@ -5,8 +5,8 @@ use Rattle.query_tree.specs.declared.key.Key.{Key}
 use Rattle.query_tree.specs.declared.key.How.{How}
 use Rattle.query_tree.specs.declared.query.Item.{Item}
 use Rattle.std.specs.List.{flat_map}
-use Rattle.op_eval.specs.Keywords.{places_within}
-use Rattle.op_eval.specs.Finding.{Spans, is_some, hits_at, quoted, passes, node_finds}
+use Rattle.word_rows.specs.Keywords.{places_within, Spans}
+use Rattle.op_eval.specs.Finding.{is_some, hits_at, quoted, passes, node_finds}
 use Rattle.op_eval.specs.declared.verdict.Verdict.{Verdict}
 use Rattle.op_eval.specs.declared.verdict.Verdict.TheVariants as verdicts
 

@@ -3,7 +3,7 @@ use Rattle.std.specs.Prelude.{◌≡◌, ◌≤◌, ℕ, List, map, length, Bool
 use Rattle.std.specs.List.{filter, list_any, enumerate_from}
 use Rattle.doc_types.specs.declared.cursor.Cursor.{Cursor}
 use Rattle.doc_types.specs.declared.documents.DocRow.{DocRow}
-use Rattle.doc_types.specs.Chunks.{Place}
+use Rattle.doc_types.specs.Chunks.{CursorPlace}
 use Rattle.query_tree.specs.declared.query.Node.{Node}
 use Rattle.op_eval.specs.declared.search.Search.{Search}
 use Rattle.op_eval.specs.steps.Searching.{IsSearch, node_found}
@@ -25,7 +25,7 @@ abbrev pub is_wanted : Node → List ℕ → ℕ × DocRow → Bool
 is_wanted root dead e = (node_found root e.1).matches && lives dead e.0
 
 -- The wanted rows before this one were found, and the search has gone over no row from it on.
-pub record HasVisited (belongs : Cursor → Type 0) (place : Cursor → Place) (rows : List DocRow) (root : Node) (dead : List ℕ) (from : ℕ) (search : Search) (found : List ℕ) : Type 0 where
+pub record HasVisited (belongs : Cursor → Type 0) (place : Cursor → CursorPlace) (rows : List DocRow) (root : Node) (dead : List ℕ) (from : ℕ) (search : Search) (found : List ℕ) : Type 0 where
   pub within : from ≤ length rows
   pub tree : search.root.now ≡ root
   pub at : IsSearch belongs place rows from search.root.now search

@@ -9,7 +9,8 @@ use Rattle.occ_lists.specs.Places.{at_place, within_all}
 use Rattle.occ_lists.specs.Runs.{runs}
 use Rattle.occ_lists.specs.Windows.{windows}
 use Rattle.occ_lists.specs.Terms.{listed_in}
-use Rattle.op_eval.specs.Finding.{Found, Spans, nothing, is_some, is_enough, made}
+use Rattle.word_rows.specs.Keywords.{Spans}
+use Rattle.op_eval.specs.Finding.{Found, nothing, is_some, is_enough, made}
 
 -- the places of a keyword inside the spans, and its hits there
 abbrev pub term_places : Spans → Term → List (ℕ × ℕ)

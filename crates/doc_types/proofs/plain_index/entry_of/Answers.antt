@@ -6,7 +6,7 @@ use Rattle.std.specs.Ordering.{nat_cmp}
 use Rattle.std.specs.Str.{bytes_eq}
 use Rattle.std.proofs.lemmas.Fn.{always_returns_same}
 use Rattle.doc_types.specs.declared.plain_index.WordRows.{WordRows}
-use Rattle.doc_types.proofs.Bisecting.{found_place}
+use Rattle.doc_types.proofs.BinarySearches.{found_place}
 use Rattle.doc_types.proofs.plain_index.entry_of.Goals as goal
 
 pub returns : goal.returns

@@ -6,7 +6,7 @@ use Rattle.std.specs.Ordering.{nat_cmp, is_eq}
 use Rattle.doc_types.specs.declared.documents.DocRow.{DocRow}
 use Rattle.std.specs.declared.cmp.Ordering.TheVariants.{Less}
 use Rattle.std.proofs.lemmas.Fn.{always_returns_same}
-use Rattle.doc_types.proofs.Bisecting.{found_place}
+use Rattle.doc_types.proofs.BinarySearches.{found_place}
 use Rattle.doc_types.proofs.plain_index.row_of.Goals as goal
 
 same : (a b : ℕ) → (a == b) ≡ is_eq (nat_cmp a b)

@@ -1,7 +1,7 @@
 use Rattle.std.proofs.Common.{ℕ, rules, ◌∙◌}
 use Rattle.std.proofs.lemmas.List.Sorted.{IsPartitionPoint-from_clause}
 use Rattle.occ_lists.specs.Places.{is_before}
-use Rattle.occ_lists.proofs.Halves.{back_is}
+use Rattle.occ_lists.proofs.CutPlaces.{back_is}
 use Rattle.occ_lists.proofs.PlaceOrder.{begun_parted}
 use Rattle.occ_lists.proofs.places.from_on.Goals as goal
 

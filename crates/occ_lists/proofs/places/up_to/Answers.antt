@@ -1,7 +1,7 @@
 use Rattle.std.proofs.Common.{ℕ, rules, ◌∙◌, not}
 use Rattle.std.proofs.lemmas.List.Sorted.{IsPartitionPoint-from_clause}
 use Rattle.occ_lists.specs.Places.{is_before}
-use Rattle.occ_lists.proofs.Halves.{front_is}
+use Rattle.occ_lists.proofs.CutPlaces.{front_is}
 use Rattle.occ_lists.proofs.PlaceOrder.{ended_parted}
 use Rattle.occ_lists.proofs.places.up_to.Goals as goal
 

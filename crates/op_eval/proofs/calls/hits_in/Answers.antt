@@ -1,5 +1,5 @@
 use Rattle.std.proofs.Common.{arith}
-use Rattle.op_eval.proofs.Searches.{are_hits, few_keys, own_search}
+use Rattle.op_eval.proofs.Searches.{are_hits, few_keys, opened_by, own_search}
 use Rattle.op_eval.proofs.calls.hits_in.Goals as goal
 
 pub find-requires-clause-search : goal.find-requires-clause-search
@@ -12,3 +12,11 @@ returns-in_ok-find-in-Some-clause-list g c = λ found here.
     are_hits c.args.query.now c.in-Some.root c.in_ok-search-in-Some.search.root.now found c.sort_hits.new.list.items c.find.new.found.hits.items
     c.in-Some.is c.in_ok-search-in-Some.ensures.root c.sort_hits.ensures.ascend c.sort_hits.ensures.same
     (c.in_ok-find-in-Some.ensures.hits found here (few_keys c.args.query.now c.in-Some.root c.in_ok-search-in-Some.search.root.now c.in-Some.is c.in_ok-search-in-Some.ensures.root c.requires.keys))
+
+pub returns-in_err-find-in-Some-clause-count : goal.returns-in_err-find-in-Some-clause-count
+returns-in_err-find-in-Some-clause-count g c = λ found here.
+    opened_by c.args.query.now c.in-Some.root c.in_ok-search-in-Some.search.root.now found c.args.steps.now c.find.new.steps c.in-Some.is c.in_ok-search-in-Some.ensures.root (c.find.ensures.count found here)
+
+pub returns-in_ok-find-in-Some-clause-count : goal.returns-in_ok-find-in-Some-clause-count
+returns-in_ok-find-in-Some-clause-count g c = λ found here.
+    opened_by c.args.query.now c.in-Some.root c.in_ok-search-in-Some.search.root.now found c.args.steps.now c.find.new.steps c.in-Some.is c.in_ok-search-in-Some.ensures.root (c.find.ensures.count found here)

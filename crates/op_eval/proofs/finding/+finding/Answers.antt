@@ -4,9 +4,10 @@ use Rattle.std.proofs.lemmas.List.{take_all}
 use Rattle.query_tree.specs.declared.query.Item.{Item}
 use Rattle.query_tree.specs.TreeKeys.{node_keys}
 use Rattle.op_eval.specs.declared.joining.Join.TheVariants as joins
-use Rattle.op_eval.specs.Finding.{Found, Spans, all_of, any_of, node_finds}
+use Rattle.word_rows.specs.Keywords.{Spans}
+use Rattle.op_eval.specs.Finding.{Found, all_of, any_of, node_finds}
 use Rattle.op_eval.specs.steps.Evaluating.{Finds, Holds, founds_in, part_finds, part_in}
-use Rattle.op_eval.specs.steps.Terms.{IsShort, IsTermOf}
+use Rattle.word_rows.specs.Terms.{IsShort, IsTermOf}
 use Rattle.op_eval.specs.steps.Worded.{quoted_by, term_places, worded}
 use Rattle.op_eval.proofs.Appending.{finds_either, finds_hardly, finds_perhaps, passed_all}
 use Rattle.op_eval.proofs.Forward.{forward_places, forward_quoted, forward_same}

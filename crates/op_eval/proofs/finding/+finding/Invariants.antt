@@ -7,9 +7,9 @@ use Rattle.query_tree.specs.TreeKeys.{node_keys}
 use Rattle.occ_lists.specs.Sound.{IsForward}
 use Rattle.occ_lists.specs.Terms.{IsPlaced}
 use Rattle.op_eval.specs.Finding.{any_of}
-use Rattle.op_eval.specs.steps.Asking.{Knows}
+use Rattle.word_rows.specs.RowMarks.{Knows}
 use Rattle.op_eval.specs.steps.Evaluating.{Finds, founds_in, items_keys, part_in}
-use Rattle.op_eval.specs.steps.Terms.{AreTermsOf, IsShort}
+use Rattle.word_rows.specs.Terms.{AreTermsOf, IsShort}
 use Rattle.op_eval.proofs.Appending.{Passed}
 use Rattle.op_eval.proofs.finding.+finding.Given as goal
 

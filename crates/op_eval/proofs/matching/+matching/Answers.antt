@@ -2,9 +2,10 @@ use Rattle.std.proofs.Common.{◌≡◌, Bool, [], ◌∷◌, get_or, map, nat_l
 use Rattle.std.specs.Prelude.{◌||◌}
 use Rattle.std.proofs.lemmas.Bool.{or_left}
 use Rattle.query_tree.specs.TreeKeys.{node_keys}
-use Rattle.op_eval.specs.Finding.{Found, Spans, any_of, node_finds}
+use Rattle.word_rows.specs.Keywords.{Spans}
+use Rattle.op_eval.specs.Finding.{Found, any_of, node_finds}
 use Rattle.op_eval.specs.steps.Evaluating.{founds_in, part_in}
-use Rattle.op_eval.specs.steps.Terms.{IsTermOf}
+use Rattle.word_rows.specs.Terms.{IsTermOf}
 use Rattle.op_eval.specs.steps.Worded.{how_many}
 use Rattle.op_eval.proofs.NodeParts.{all_matches, either_found, items_found, perhaps_found, perhaps_matches, span_found, told_is}
 use Rattle.op_eval.proofs.TermParts.{zip_last}

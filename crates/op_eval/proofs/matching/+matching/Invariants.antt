@@ -6,9 +6,9 @@ use Rattle.query_tree.specs.declared.query.Node.{size-Node}
 use Rattle.query_tree.specs.TreeKeys.{node_keys}
 use Rattle.occ_lists.specs.Terms.{IsPlaced}
 use Rattle.op_eval.specs.Finding.{any_of, passes}
-use Rattle.op_eval.specs.steps.Asking.{Knows}
+use Rattle.word_rows.specs.RowMarks.{Knows}
 use Rattle.op_eval.specs.steps.Evaluating.{founds_in, items_keys, part_in}
-use Rattle.op_eval.specs.steps.Terms.{AreTermsOf}
+use Rattle.word_rows.specs.Terms.{AreTermsOf}
 use Rattle.op_eval.proofs.matching.+matching.Given as goal
 
 abbrev pub decreases-matches : goal.decreases-matches

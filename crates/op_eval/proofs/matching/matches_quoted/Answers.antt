@@ -3,7 +3,8 @@ use Rattle.query_tree.specs.declared.key.How.{How}
 use Rattle.occ_lists.specs.Runs.{runs}
 use Rattle.occ_lists.specs.Windows.{windows}
 use Rattle.occ_lists.specs.Terms.{listed_in}
-use Rattle.op_eval.specs.Finding.{Spans, is_some, is_enough}
+use Rattle.word_rows.specs.Keywords.{Spans}
+use Rattle.op_eval.specs.Finding.{is_some, is_enough}
 use Rattle.op_eval.specs.steps.Worded.{how_many, quoted_by, term_places}
 use Rattle.op_eval.proofs.Appending.{cover_alike, is_some_any, not_empty}
 use Rattle.op_eval.proofs.TermPlaces.{quorum_told}

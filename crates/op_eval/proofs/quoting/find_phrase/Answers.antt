@@ -4,8 +4,9 @@ use Rattle.occ_lists.specs.declared.occ.Occ.{Occ}
 use Rattle.occ_lists.specs.Places.{holds}
 use Rattle.occ_lists.specs.Runs.{runs}
 use Rattle.occ_lists.proofs.Members.{same_is}
-use Rattle.op_eval.specs.Finding.{is_inside, Spans}
-use Rattle.op_eval.specs.steps.Terms.{AreShort}
+use Rattle.word_rows.specs.Keywords.{Spans}
+use Rattle.op_eval.specs.Finding.{is_inside}
+use Rattle.word_rows.specs.Terms.{AreShort}
 use Rattle.op_eval.specs.steps.Worded.{term_hits, term_places}
 use Rattle.op_eval.proofs.Appending.{made_found}
 use Rattle.op_eval.proofs.quoting.find_phrase.Goals as goal

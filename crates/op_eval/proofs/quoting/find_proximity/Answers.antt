@@ -4,8 +4,9 @@ use Rattle.occ_lists.specs.OccLists.{SameMembers}
 use Rattle.occ_lists.specs.Windows.{windows}
 use Rattle.occ_lists.specs.Terms.{listed_in, CoverAlike}
 use Rattle.occ_lists.proofs.Members.{same_is, same_trans}
-use Rattle.op_eval.specs.Finding.{is_inside, Spans}
-use Rattle.op_eval.specs.steps.Terms.{AreShort}
+use Rattle.word_rows.specs.Keywords.{Spans}
+use Rattle.op_eval.specs.Finding.{is_inside}
+use Rattle.word_rows.specs.Terms.{AreShort}
 use Rattle.op_eval.specs.steps.Worded.{term_hits}
 use Rattle.op_eval.proofs.Appending.{made_found, cover_alike}
 use Rattle.op_eval.proofs.quoting.find_proximity.Goals as goal

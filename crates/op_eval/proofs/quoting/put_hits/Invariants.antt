@@ -1,6 +1,6 @@
 use Rattle.std.proofs.Common.{◌≡◌, ◌++◌, take}
 use Rattle.std.specs.List.{flat_map}
-use Rattle.op_eval.specs.steps.Terms.{AreShort}
+use Rattle.word_rows.specs.Terms.{AreShort}
 use Rattle.op_eval.specs.steps.Worded.{term_hits}
 use Rattle.op_eval.proofs.quoting.put_hits.Given as goal
 

@@ -1,7 +1,7 @@
 use Rattle.std.proofs.Common.{subst, List}
 use Rattle.std.specs.List.{list_all}
 use Rattle.query_tree.specs.declared.query.Item.{Item}
-use Rattle.op_eval.specs.steps.Terms.{AreSeenIn}
+use Rattle.word_rows.specs.Terms.{AreSeenIn}
 use Rattle.op_eval.specs.steps.Verdicts.{AreApart, Tells, item_passes}
 use Rattle.op_eval.proofs.NodeVerdicts.{word_told, quoted_told, and_told, or_judged, maybe_judged, ordered_judged, span_told, item_told, items_told}
 use Rattle.op_eval.proofs.TermParts.{items_keys}

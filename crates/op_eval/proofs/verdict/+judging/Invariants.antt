@@ -1,6 +1,6 @@
 use Rattle.std.proofs.Common.{ℕ, List}
 use Rattle.doc_types.specs.declared.documents.DocRow.{DocRow}
-use Rattle.op_eval.specs.steps.Terms.{AreSeenIn}
+use Rattle.word_rows.specs.Terms.{AreSeenIn}
 use Rattle.op_eval.specs.steps.Verdicts.{AreApart}
 use Rattle.op_eval.proofs.NodeVerdicts.{ToldSo}
 use Rattle.op_eval.proofs.TermParts.{items_keys}

@@ -6,14 +6,14 @@ use Rattle.occ_lists.specs.Terms.{IsPlaced}
 use Rattle.op_eval.specs.Finding.{Found}
 use Rattle.op_eval.specs.steps.Evaluating.{Finds}
 use Rattle.op_eval.specs.steps.Searching.{node_found}
-use Rattle.op_eval.specs.steps.Slots.{keys_of, number_among}
-use Rattle.op_eval.specs.steps.Terms.{IsShort}
-use Rattle.op_eval.proofs.FirstUses.{number_short}
+use Rattle.word_rows.specs.Slots.{keys_of, number_among}
+use Rattle.word_rows.specs.Terms.{IsShort}
+use Rattle.word_rows.proofs.FirstUses.{number_short}
 use Rattle.op_eval.proofs.Searched.{finds_as, hits_are, knows_as, node_apart, nothing_found, occs_are, seen_as, terms_as, told_is}
 use Rattle.op_eval.proofs.search.Search.find.Goals as goal
 
-pub find-requires-clause-placed : goal.find-requires-clause-placed
-find-requires-clause-placed g c = subst (All IsPlaced) (sym c.deref-2.ensures.value) c.in_ok-load.ensures.placed
+pub find-told-requires-clause-placed : goal.find-told-requires-clause-placed
+find-told-requires-clause-placed g c = subst (All IsPlaced) (sym c.deref-2.ensures.value) c.in_ok-load.ensures.placed
 
 pub returns-then-not-may_match-clause-told : goal.returns-then-not-may_match-clause-told
 returns-then-not-may_match-clause-told g c = λ found here.
@@ -45,31 +45,31 @@ pub returns-clause-told : goal.returns-clause-told
 returns-clause-told g c = λ found here.
     let node = c.args.self.now.root.now in
     let same = ap (λ root. root.now) c.in_ok-load.ensures.root in
-    let finds : IfOk c.find.result (Finds (IsShort (number_among (node_keys node))) (node_found node found) c.clear.new.self c.find.new.out) =
-    finds_as found node c.load.new.self.root.now same (IsShort (number_among (node_keys node))) c.load.new.self.work.spans.items c.clear.new.self c.find.new.out c.find.result c.in_ok-load.ensures.search.none
-    (c.find.ensures.found found (number_among (node_keys node))
+    let finds : IfOk c.find-told.result (Finds (IsShort (number_among (node_keys node))) (node_found node found) c.clear.new.self c.find-told.new.out) =
+    finds_as found node c.load.new.self.root.now same (IsShort (number_among (node_keys node))) c.load.new.self.work.spans.items c.clear.new.self c.find-told.new.out c.find-told.result c.in_ok-load.ensures.search.none
+    (c.find-told.ensures.found found (number_among (node_keys node))
     (terms_as found node c.load.new.self.root.now same c.load.new.self.slots.terms.items c.deref-2.result.now c.deref-2.ensures.value (c.in_ok-load.ensures.terms found here))
     (knows_as found node c.load.new.self.root.now same c.load.new.self.marks (c.in_ok-load.ensures.marks found here))) in
-    told_is (IsShort (number_among (node_keys node))) (node_found node found) c.clear.new.self c.find.new.out c.find.result finds
+    told_is (IsShort (number_among (node_keys node))) (node_found node found) c.clear.new.self c.find-told.new.out c.find-told.result finds
 
 pub returns-clause-occs : goal.returns-clause-occs
 returns-clause-occs g c = λ found here.
     let node = c.args.self.now.root.now in
     let same = ap (λ root. root.now) c.in_ok-load.ensures.root in
-    let finds : IfOk c.find.result (Finds (IsShort (number_among (node_keys node))) (node_found node found) c.clear.new.self c.find.new.out) =
-    finds_as found node c.load.new.self.root.now same (IsShort (number_among (node_keys node))) c.load.new.self.work.spans.items c.clear.new.self c.find.new.out c.find.result c.in_ok-load.ensures.search.none
-    (c.find.ensures.found found (number_among (node_keys node))
+    let finds : IfOk c.find-told.result (Finds (IsShort (number_among (node_keys node))) (node_found node found) c.clear.new.self c.find-told.new.out) =
+    finds_as found node c.load.new.self.root.now same (IsShort (number_among (node_keys node))) c.load.new.self.work.spans.items c.clear.new.self c.find-told.new.out c.find-told.result c.in_ok-load.ensures.search.none
+    (c.find-told.ensures.found found (number_among (node_keys node))
     (terms_as found node c.load.new.self.root.now same c.load.new.self.slots.terms.items c.deref-2.result.now c.deref-2.ensures.value (c.in_ok-load.ensures.terms found here))
     (knows_as found node c.load.new.self.root.now same c.load.new.self.marks (c.in_ok-load.ensures.marks found here))) in
-    occs_are (IsShort (number_among (node_keys node))) (node_found node found) c.clear.new.self c.find.new.out c.find.result finds c.clear.ensures.occs
+    occs_are (IsShort (number_among (node_keys node))) (node_found node found) c.clear.new.self c.find-told.new.out c.find-told.result finds c.clear.ensures.occs
 
 pub returns-clause-hits : goal.returns-clause-hits
 returns-clause-hits g c = λ found here few.
     let node = c.args.self.now.root.now in
     let same = ap (λ root. root.now) c.in_ok-load.ensures.root in
-    let finds : IfOk c.find.result (Finds (IsShort (number_among (node_keys node))) (node_found node found) c.clear.new.self c.find.new.out) =
-    finds_as found node c.load.new.self.root.now same (IsShort (number_among (node_keys node))) c.load.new.self.work.spans.items c.clear.new.self c.find.new.out c.find.result c.in_ok-load.ensures.search.none
-    (c.find.ensures.found found (number_among (node_keys node))
+    let finds : IfOk c.find-told.result (Finds (IsShort (number_among (node_keys node))) (node_found node found) c.clear.new.self c.find-told.new.out) =
+    finds_as found node c.load.new.self.root.now same (IsShort (number_among (node_keys node))) c.load.new.self.work.spans.items c.clear.new.self c.find-told.new.out c.find-told.result c.in_ok-load.ensures.search.none
+    (c.find-told.ensures.found found (number_among (node_keys node))
     (terms_as found node c.load.new.self.root.now same c.load.new.self.slots.terms.items c.deref-2.result.now c.deref-2.ensures.value (c.in_ok-load.ensures.terms found here))
     (knows_as found node c.load.new.self.root.now same c.load.new.self.marks (c.in_ok-load.ensures.marks found here))) in
-    hits_are (IsShort (number_among (node_keys node))) (node_found node found) c.clear.new.self c.find.new.out c.find.result (number_short (node_keys node) few) finds c.clear.ensures.hits
+    hits_are (IsShort (number_among (node_keys node))) (node_found node found) c.clear.new.self c.find-told.new.out c.find-told.result (number_short (node_keys node) few) finds c.clear.ensures.hits

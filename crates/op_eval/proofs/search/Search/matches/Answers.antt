@@ -1,7 +1,7 @@
 use Rattle.std.proofs.Common.{[], Bor, map, refl, sym, ap, ◌∙◌}
 use Rattle.query_tree.specs.declared.key.Key.{Key}
 use Rattle.query_tree.specs.TreeKeys.{node_keys}
-use Rattle.op_eval.specs.steps.Slots.{keys_of, number_among}
+use Rattle.word_rows.specs.Slots.{keys_of, number_among}
 use Rattle.op_eval.proofs.Searched.{node_apart, seen_as}
 use Rattle.op_eval.proofs.search.Search.matches.Goals as goal
 

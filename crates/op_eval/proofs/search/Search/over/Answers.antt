@@ -1,7 +1,7 @@
 use Rattle.std.proofs.Common.{subst, rules}
 use Rattle.std.specs.List.{AllZip}
 use Rattle.query_tree.specs.TreeKeys.{node_keys}
-use Rattle.op_eval.specs.steps.Slots.{IsTermFor, number_among}
+use Rattle.word_rows.specs.Slots.{IsTermFor, number_among}
 use Rattle.op_eval.proofs.Searched.{all_absent, node_apart, seen_as}
 use Rattle.op_eval.proofs.search.Search.over.Goals as goal
 

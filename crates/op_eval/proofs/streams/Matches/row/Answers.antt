@@ -1,0 +1,32 @@
+use Rattle.std.proofs.Common.{ℕ, refl, sym, subst, arith}
+use Rattle.op_eval.specs.Streams.{GoesTo, Stream}
+use Rattle.op_eval.specs.steps.Streaming.{StandsAt}
+use Rattle.op_eval.proofs.streams.Matches.row.Goals as goal
+
+pub invariant_of-self : goal.invariant_of-self
+invariant_of-self g c =
+    let first = c.in-Some.ensures.first c.self.inside.query.now c.self.invariant.stands in
+    record {
+      within = omega (arith, first.within);
+      few = c.self.invariant.few;
+      ascend = c.self.invariant.ascend;
+      stands = c.in-Some.ensures.stands c.self.inside.query.now c.self.invariant.stands;
+    }
+
+pub invariant_of-self-in-None : goal.invariant_of-self-in-None
+invariant_of-self-in-None g c = record {
+  within = omega (arith, c.rows-self-inside.ensures);
+  few = c.self.invariant.few;
+  ascend = c.self.invariant.ascend;
+  stands =
+      subst (λ (n : ℕ). StandsAt (g.C.Chunk.belongs c.self.inside.chunk.now) (g.C.Chunk.place c.self.inside.chunk.now) (g.C.Chunk.content c.self.inside.chunk.now) n c.self.inside.query.now c.first_open-next.new.search)
+      (sym c.rows-self-inside.ensures)
+      (c.in-None.ensures.stands c.self.inside.query.now c.self.invariant.stands);
+}
+
+pub returns-in-Some : goal.returns-in-Some
+returns-in-Some g c =
+    let first = c.in-Some.ensures.first c.self.inside.query.now c.self.invariant.stands in
+    let new : Stream = record { query = c.self.inside.query.now; rows = g.C.Chunk.content c.self.inside.chunk.now; dead = c.self.inside.dead.now; at = c.in-Some.row } in
+    subst (λ (old : Stream). GoesTo old c.in-Some.row new) c.self.view_is
+    (record { stands = refl; on = first.on; within = first.within; living = first.living; kept = first.passed })
