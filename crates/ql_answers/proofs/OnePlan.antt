@@ -1,31 +1,25 @@
 -- A statement wants one thing or is refused for one reason, and never both: by cases on the statement, since a SELECT and an
 -- INSERT are read in one way.
 use Rattle.std.proofs.Common.{◌≡◌, ℕ, List, Option, false, sym, ap, ◌∙◌, inl, inr}
-use Rattle.std.specs.Str.{IsUtf8}
 use Rattle.index_conf.specs.declared.conf.IndexConf.{IndexConf}
-use Rattle.doc_tokens.specs.Tokens.{IsTooLong, TokensOf}
-use Rattle.doc_types.specs.declared.tokens.FieldTokens.{FieldTokens}
 use Rattle.doc_types.specs.declared.transactions.Txn.{Txn}
-use Rattle.doc_types.specs.Documents.{IsField}
-use Rattle.mark_scan.specs.declared.mark.MarkRules.{MarkRules}
+use Rattle.ql_tree.specs.declared.select.Select.{Select}
 use Rattle.ql_tree.specs.declared.statement.Statement.{Statement}
+use Rattle.ql_tree.specs.declared.statement.Val.{Val}
 use Rattle.ql_tree.specs.declared.statement.Statement.TheVariants as statements
 use Rattle.ql_refusals.specs.Refusals.{Refused}
-use Rattle.query_grammar.specs.declared.fault.QueryFault.{QueryFault}
-use Rattle.query_tree.specs.declared.query.Query.{Query}
-use Rattle.query_grammar.specs.Queries.{IsRefused, IsValue}
-use Rattle.query_marks.specs.Marks.{Setting, marks_of}
-use Rattle.query_pieces.specs.declared.piece.Piece.{Piece}
-use Rattle.query_pieces.specs.Pieces.{ArePieces}
+use Rattle.ql_refusals.proofs.Options.{not_both, one_value}
+use Rattle.ql_insert.specs.Insertions.{Makes, RefusesValues}
 use Rattle.ql_select.specs.declared.selection.Selection.{Selection}
+use Rattle.ql_select.specs.Selections.{RefusesSelection, Selects}
 use Rattle.ql_answers.specs.declared.plan.Plan.{Plan}
 use Rattle.ql_answers.specs.declared.plan.Plan.TheVariants.{Insert, Search, Show}
 use Rattle.ql_answers.specs.Indexes.{index_fault}
 use Rattle.ql_answers.specs.Plans.{Refuses, RefusesJob, Wants}
 use Rattle.ql_answers.specs.Showing.{description}
-use Rattle.ql_answers.proofs.OneInsertion.{not_insertion, one_insertion, one_refused_insert}
+use Rattle.ql_answers.proofs.OneInsert.{not_refused_insert, one_insert, one_refused_insert}
 use Rattle.ql_answers.proofs.OneSearch.{not_searched, one_refused_select, one_search}
-use Rattle.ql_answers.proofs.OneServed.{not_both, not_served, one_conf, one_value}
+use Rattle.ql_answers.proofs.OneServed.{not_served, one_conf}
 
 -- a job on an index has one refusal
 one_job : (confs : List IndexConf) (index : List ℕ) (a b : Refused) → RefusesJob confs index a → RefusesJob confs index b → a ≡ b
@@ -35,20 +29,20 @@ one_job confs index a b (inr (good, says)) (inl fault) = absurd (not_both (index
 one_job confs index a b (inr (good, says)) (inr (good', says')) = says ∙ sym says'
 
 module _
-    (has_pieces : (fold : ℕ → Option ℕ) (text : List ℕ) → IsUtf8 text → (pieces : List Piece) × ArePieces fold text pieces)
-    (one_query : (setting : Setting) (text : List ℕ) (pieces : List Piece) (a b : Query) → IsValue a (marks_of setting text pieces) → IsValue b (marks_of setting text pieces) → a ≡ b)
-    (no_fault : (setting : Setting) (text : List ℕ) (pieces : List Piece) (query : Query) (fault : QueryFault) → IsValue query (marks_of setting text pieces) → IsRefused fault (marks_of setting text pieces) → ⊥)
-    (one_fault : (setting : Setting) (text : List ℕ) (pieces : List Piece) (a b : QueryFault) → IsUtf8 text → ArePieces setting.fold text pieces → IsRefused a (marks_of setting text pieces) → IsRefused b (marks_of setting text pieces) → a ≡ b)
-    (one_tokens : (fold : ℕ → Option ℕ) (rules : MarkRules) (text : List ℕ) (a b : FieldTokens) → TokensOf fold rules text a → TokensOf fold rules text b → a ≡ b)
-    (not_too_long : (fold : ℕ → Option ℕ) (rules : MarkRules) (text : List ℕ) (tokens : FieldTokens) (position : ℕ) → TokensOf fold rules text tokens → IsField tokens → IsTooLong fold rules text position → ⊥) where
+    (one_selection : (conf : IndexConf) (select : Select) (a b : Selection) → Selects conf select a → Selects conf select b → a ≡ b)
+    (one_selection_fault : (conf : IndexConf) (select : Select) (a b : Refused) → RefusesSelection conf select a → RefusesSelection conf select b → a ≡ b)
+    (not_refused_selection : (conf : IndexConf) (select : Select) (selection : Selection) (refusal : Refused) → Selects conf select selection → RefusesSelection conf select refusal → ⊥)
+    (one_txn : (conf : IndexConf) (columns : Option (List (List ℕ))) (rows : List (List Val)) (a b : Txn) → Makes conf columns rows a → Makes conf columns rows b → a ≡ b)
+    (one_values_fault : (conf : IndexConf) (columns : Option (List (List ℕ))) (rows : List (List Val)) (a b : Refused) → RefusesValues conf columns rows a → RefusesValues conf columns rows b → a ≡ b)
+    (not_refused_values : (conf : IndexConf) (columns : Option (List (List ℕ))) (rows : List (List Val)) (txn : Txn) (refusal : Refused) → Makes conf columns rows txn → RefusesValues conf columns rows refusal → ⊥) where
   pub one_plan : (confs : List IndexConf) (statement : Statement) (a b : Plan) → Wants confs statement a → Wants confs statement b → a ≡ b
   one_plan confs (statements.Select select) a b (p, selection, wants, is) (q, other, wants', is') =
-      let same = one_search has_pieces one_query no_fault one_fault confs select p q selection other wants wants' in
+      let same = one_search one_selection one_selection_fault not_refused_selection confs select p q selection other wants wants' in
       is ∙ (ap (λ (place : ℕ). Search place selection) same.0 ∙ ap (λ (s : Selection). Search q s) same.1) ∙ sym is'
   one_plan confs (statements.SelectVar name limit) a b is is' = is ∙ sym is'
   one_plan confs statements.SelectDatabase a b is is' = is ∙ sym is'
   one_plan confs (statements.Insert false index columns rows) a b (p, txn, wants, is) (q, other, wants', is') =
-      let same = one_insertion one_tokens not_too_long confs index columns rows p q txn other wants wants' in
+      let same = one_insert one_txn one_values_fault not_refused_values confs index columns rows p q txn other wants wants' in
       is ∙ (ap (λ (place : ℕ). Insert place txn) same.0 ∙ ap (λ (t : Txn). Insert q t) same.1) ∙ sym is'
   one_plan confs (statements.SetNames names) a b is is' = is ∙ sym is'
   one_plan confs (statements.SetOther scope target value) a b is is' = is ∙ sym is'
@@ -60,10 +54,10 @@ module _
   one_plan confs statement a b wants wants' = absurd wants
 
   pub one_refusal : (confs : List IndexConf) (statement : Statement) (a b : Refused) → Refuses confs statement a → Refuses confs statement b → a ≡ b
-  one_refusal confs (statements.Select select) a b refuses refuses' = one_refused_select has_pieces one_query no_fault one_fault confs select a b refuses refuses'
+  one_refusal confs (statements.Select select) a b refuses refuses' = one_refused_select one_selection one_selection_fault not_refused_selection confs select a b refuses refuses'
   one_refusal confs (statements.SelectVar name limit) a b refuses refuses' = absurd refuses
   one_refusal confs statements.SelectDatabase a b refuses refuses' = absurd refuses
-  one_refusal confs (statements.Insert false index columns rows) a b refuses refuses' = one_refused_insert one_tokens not_too_long confs index columns rows a b refuses refuses'
+  one_refusal confs (statements.Insert false index columns rows) a b refuses refuses' = one_refused_insert one_txn one_values_fault not_refused_values confs index columns rows a b refuses refuses'
   one_refusal confs (statements.SetNames names) a b refuses refuses' = absurd refuses
   one_refusal confs (statements.SetOther scope target value) a b refuses refuses' = absurd refuses
   one_refusal confs (statements.Describe index) a b fault fault' = one_value (index_fault confs index) a b fault fault'
@@ -76,10 +70,10 @@ module _
   one_refusal confs statement a b says says' = says ∙ sym says'
 
   pub never_both : (confs : List IndexConf) (statement : Statement) (plan : Plan) (refusal : Refused) → Wants confs statement plan → Refuses confs statement refusal → ⊥
-  never_both confs (statements.Select select) plan refusal (place, selection, wants, is) refuses = not_searched has_pieces one_query no_fault one_fault confs select place selection refusal wants refuses
+  never_both confs (statements.Select select) plan refusal (place, selection, wants, is) refuses = not_searched one_selection one_selection_fault not_refused_selection confs select place selection refusal wants refuses
   never_both confs (statements.SelectVar name limit) plan refusal wants refuses = refuses
   never_both confs statements.SelectDatabase plan refusal wants refuses = refuses
-  never_both confs (statements.Insert false index columns rows) plan refusal (place, txn, wants, is) refuses = not_insertion one_tokens not_too_long confs index columns rows place txn refusal wants refuses
+  never_both confs (statements.Insert false index columns rows) plan refusal (place, txn, wants, is) refuses = not_refused_insert one_txn one_values_fault not_refused_values confs index columns rows place txn refusal wants refuses
   never_both confs (statements.SetNames names) plan refusal wants refuses = refuses
   never_both confs (statements.SetOther scope target value) plan refusal wants refuses = refuses
   never_both confs (statements.Describe index) plan refusal (place, conf, serves, is) fault = not_served confs index place conf refusal serves fault

@@ -1,17 +1,11 @@
 -- A name of an index is served in one way: by one index, or for one reason by none.
-use Rattle.std.proofs.Common.{◌≡◌, ℕ, List, Option, None, Some, sym, ap, ◌∙◌}
+use Rattle.std.proofs.Common.{◌≡◌, ℕ, List, Some, sym, ap, ◌∙◌}
 use Rattle.std.specs.Prelude.{slice_get}
-use Rattle.std.proofs.lemmas.Option.{none-some, same_Some}
+use Rattle.std.proofs.lemmas.Option.{same_Some}
 use Rattle.index_conf.specs.declared.conf.IndexConf.{IndexConf}
 use Rattle.ql_refusals.specs.Refusals.{Refused}
+use Rattle.ql_refusals.proofs.Options.{not_both}
 use Rattle.ql_answers.specs.Indexes.{Serves, index_fault}
-
--- what a value of an option is, is one
-pub one_value : {X : Type 0} (option : Option X) (a b : X) → option ≡ Some a → option ≡ Some b → a ≡ b
-one_value option a b one two = same_Some a b (sym one ∙ two)
-
-pub not_both : {X : Type 0} (option : Option X) (a : X) → option ≡ None → option ≡ Some a → ⊥
-not_both option a none some = none-some a (sym none ∙ some)
 
 pub one_place : (confs : List IndexConf) (name : List ℕ) (p q : ℕ) (a b : IndexConf) → Serves confs name p a → Serves confs name q b → p ≡ q
 one_place confs name p q a b one two = same_Some p q (sym one.place_is ∙ two.place_is)

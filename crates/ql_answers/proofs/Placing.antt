@@ -1,3 +1,4 @@
+-- Places of a list as a loop goes over it: the index of a name, and the values of rows so far.
 use Rattle.std.proofs.Common.{◌≡◌, ℕ, ◌+◌, ◌<◌, List, [], ◌∷◌, ◌++◌, Some, true, false, length, take, drop, map, drop-cons, sym, ◌∙◌, ap, refl, add-one}
 use Rattle.std.proofs.lemmas.List.{take_more, map-append}
 use Rattle.std.specs.Prelude.{slice_get}

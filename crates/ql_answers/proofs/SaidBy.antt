@@ -1,3 +1,4 @@
+-- A reply that a plan has is one that it is answered by.
 use Rattle.std.proofs.Common.{◌≡◌, ℕ, List, Bool, length, Result, Ok, Err, sym, subst, refl, ap, ◌∙◌}
 use Rattle.mysql_wire.specs.Packets.{packet}
 use Rattle.mysql_wire.specs.Replies.{err_packet, err_payload}

@@ -7,7 +7,7 @@ use Rattle.doc_types.specs.declared.schema.AttrKind.{AttrKind}
 use Rattle.doc_types.specs.declared.schema.AttrKind.TheVariants.{Uint, Bool as Flag, Bigint, Timestamp}
 use Rattle.index_conf.specs.declared.conf.IndexConf.{IndexConf}
 use Rattle.reply_rows.specs.declared.result_set.ResultSet.{ResultSet}
-use Rattle.ql_refusals.specs.Columns.{id_name}
+use Rattle.ql_columns.specs.Columns.{id_name}
 use Rattle.ql_answers.specs.Replies.{texts, single, pair}
 use Rattle.mysql_wire.specs.declared.rows.Cell.{Cell}
 

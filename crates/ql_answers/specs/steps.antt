@@ -1,4 +1,3 @@
-pub mod Documents
 pub mod Serving
 pub mod Planning
 pub mod Answering

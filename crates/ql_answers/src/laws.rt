@@ -1,4 +1,4 @@
-//! Laws of the definitions. Each function does nothing but call the laws on texts, queries and searches that it rests on; its
+//! Laws of the definitions. Each function does nothing but call the laws on SELECT, INSERT and searches that it rests on; its
 //! contract is the law.
 ghost use Rattle.std.specs.Prelude.{◌≡◌, List};
 ghost use Rattle.doc_types.specs.Snapshots.{AreLayers, SnapshotValue, live};
@@ -11,9 +11,8 @@ ghost use Rattle.ql_answers.specs.Replies.{Reply};
 ghost use Rattle.ql_answers.specs.Sessions.{Decides, Happened, HasLayers, Read};
 
 use doc_search::a_search_shows_one_list;
-use doc_tokens::a_text_has_one_answer;
-use query_grammar::{a_query_has_no_fault, a_text_has_one_first_fault, a_text_is_one_query};
-use query_pieces::each_text_has_pieces;
+use ql_insert::an_insert_has_one_answer;
+use ql_select::a_select_has_one_answer;
 
 /// A statement wants one thing or is refused for one reason, and never both.
 pub fn a_statement_has_one_plan()
@@ -21,11 +20,8 @@ pub fn a_statement_has_one_plan()
     ensures refusal { (confs : List IndexConf) (statement : Statement) (a b : Refused) → Refuses confs statement a → Refuses confs statement b → a ≡ b }
     ensures not_both { (confs : List IndexConf) (statement : Statement) (plan : Plan) (refusal : Refused) → Wants confs statement plan → Refuses confs statement refusal → ⊥ }
 {
-    each_text_has_pieces();
-    a_text_is_one_query();
-    a_query_has_no_fault();
-    a_text_has_one_first_fault();
-    a_text_has_one_answer();
+    a_select_has_one_answer();
+    an_insert_has_one_answer();
 }
 
 /// What came of a plan has one reply, where what was read has layers as a snapshot has them. What is replied to a search depends

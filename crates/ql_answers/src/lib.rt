@@ -1,7 +1,6 @@
 //! Statements: what each wants, and what is replied to it.
 #![tactic(auto)]
 
-mod documents;
 mod event;
 mod found;
 mod indexes;
@@ -12,7 +11,6 @@ mod saying;
 mod session;
 mod showing;
 mod text_sets;
-mod writing;
 
 pub use event::{Event, Need};
 pub use indexes::Catalog;

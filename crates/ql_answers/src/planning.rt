@@ -2,11 +2,10 @@
 ghost use Rattle.std.specs.Prelude.{◌≡◌, option_copied};
 ghost use Rattle.ql_answers.specs.steps.Planning.{PlansInsert, PlansSelect, PlansDescribe, PlansJob, ShowsOr, Planned};
 
-use crate::documents::insertions;
 use crate::indexes::{Catalog, served};
 use crate::plan::Plan;
 use crate::showing::{current_database, databases, description, tables, variable, warnings};
-use crate::writing::{columns_fault, rows_fault, targets};
+use ql_insert::insertion;
 use ql_refusals::{Refusal, not_offered};
 use ql_select::is_grouped;
 use ql_tree::{Select, Statement, Val};
@@ -98,15 +97,7 @@ fn plan_insert<T: Catalog>(
     ensures { PlansInsert (T.confs catalog.now) name.now (option_copied columns.entry) rows.now result }
 {
     let index = served(catalog, name)?;
-    let conf = catalog.conf(index);
-    if let Some(refusal) = columns_fault(&conf.schema, columns) {
-        return Err(Or::Fault(refusal));
-    }
-    let targets = targets(alloc, &conf.schema, columns)?;
-    if let Some(refusal) = rows_fault(&conf.schema, targets.as_slice(), rows) {
-        return Err(Or::Fault(refusal));
-    }
-    let txn = insertions(alloc, conf, targets.as_slice(), rows)?;
+    let txn = insertion(alloc, catalog.conf(index), columns, rows)?;
     Ok(Plan::Insert { index, txn })
 }
 

@@ -9,7 +9,7 @@ use crate::indexes::Catalog;
 use crate::text_sets::{pair, single, text_columns};
 use doc_types::{AttrKind, Schema};
 use mysql_wire::Cell;
-use ql_refusals::ID;
+use ql_columns::ID;
 use reply_rows::ResultSet;
 use srch_base::{Items, NoMemory};
 use std::alloc::Global;

@@ -1,10 +1,8 @@
-//! Why a statement is refused, and the columns of an index as statements name them.
+//! Why a statement is refused: a code of the protocol and a text for each reason.
 #![tactic(auto)]
 
-mod columns;
 mod refusal;
 
-pub use columns::{ID, Target, all_targets, kind_of, name_fault, name_of, target_of};
 pub use refusal::{
     MAX_REFUSAL_BYTES, Refusal, bad_query, bad_syntax, bad_token, column_is_field,
     column_is_no_field, column_twice, duplicate_id, id_missing, id_out_of_range,

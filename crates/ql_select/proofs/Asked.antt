@@ -1,3 +1,4 @@
+-- What a SELECT means is asked of its index: the keywords of the query that was read are numbered.
 use Rattle.std.proofs.Common.{sym, subst}
 use Rattle.std.proofs.lemmas.Str.{IsUtf8-from_is_utf8}
 use Rattle.index_conf.specs.declared.conf.IndexConf.{IndexConf}

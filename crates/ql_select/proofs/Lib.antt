@@ -9,3 +9,5 @@ pub mod Questions
 pub mod Asked
 -- what the answers to a SELECT mean
 pub mod Meaning
+-- a SELECT means one thing, or is refused for one reason
+pub mod OneSelection

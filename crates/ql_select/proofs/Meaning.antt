@@ -1,3 +1,4 @@
+-- What the answers to a SELECT mean, by its text: it is read as a query, or refused.
 use Rattle.std.proofs.Common.{◌≡◌, ℕ, List, Bool, true, false, None, Ok, Err, inr, refl, subst}
 use Rattle.std.specs.Str.{IsUtf8, is_utf8}
 use Rattle.std.proofs.lemmas.Str.{IsUtf8-from_is_utf8, is_utf8-from_IsUtf8}
@@ -6,9 +7,9 @@ use Rattle.srch_base.specs.declared.faults.Or.TheVariants.{NoMemory, Fault}
 use Rattle.index_conf.specs.declared.conf.IndexConf.{IndexConf}
 use Rattle.ql_tree.specs.declared.select.Select.{Select}
 use Rattle.ql_refusals.specs.Refusals.{Refused, bad_query}
-use Rattle.query_grammar.specs.declared.fault.QueryFault.{QueryFault}
+use Rattle.query_read.specs.QueryFault.{QueryFault}
 use Rattle.query_tree.specs.declared.query.Query.{Query}
-use Rattle.query_grammar.specs.Queries.{ReadsQuery}
+use Rattle.query_read.specs.Queries.{ReadsQuery}
 use Rattle.ql_select.specs.declared.selection.Selection.{Selection}
 use Rattle.ql_select.specs.Columns.{columns_shown}
 use Rattle.ql_select.specs.Faults.{select_fault}

@@ -1,3 +1,4 @@
+-- What holds of a SELECT with no fault: its page, its options and the names in it are within their limits.
 use Rattle.std.proofs.Common.{◌≡◌, ℕ, ◌<◌, ◌≤◌, List, [], ◌∷◌, ◌-◌, Bool, true, false, cond, Option, Some, None, reverse, length, unwrap_or, sym, refl, ap, subst, arith}
 use Rattle.std.specs.Prelude.{All, nat_le, nat_lt, ◌&&◌}
 use Rattle.std.specs.List.{find, count_by, sum_by}
@@ -13,9 +14,9 @@ use Rattle.ql_tree.specs.declared.select.OptionValue.{OptionValue}
 use Rattle.ql_tree.specs.declared.select.OptionValue.TheVariants as values
 use Rattle.ql_tree.specs.declared.select.Select.{Select}
 use Rattle.ql_tree.specs.declared.select.SelectOption.{SelectOption}
-use Rattle.ql_refusals.specs.declared.columns.Target.{Target}
-use Rattle.ql_refusals.specs.declared.columns.Target.TheVariants as targets
-use Rattle.ql_refusals.specs.Columns.{target_of}
+use Rattle.ql_columns.specs.declared.columns.IndexColumn.{IndexColumn}
+use Rattle.ql_columns.specs.declared.columns.IndexColumn.TheVariants as targets
+use Rattle.ql_columns.specs.Columns.{column_named}
 use Rattle.ql_refusals.specs.Refusals.{first_of, unless, column_is_no_field, value_out_of_range, second_match, too_many_columns, too_many_sort_keys, max_matches_out_of_range, offset_not_below}
 use Rattle.ql_refusals.proofs.FirstFault.{first_none, first_of_none, unless_none}
 use Rattle.ql_select.specs.declared.faults.Pass.TheVariants.{Names, Kinds}
@@ -87,7 +88,7 @@ found_has P test (y ∷ ys) x all e = found_first P test y ys x all (test y) ref
 abbrev pub IsWeight : List ℕ × ℕ → Type 0
 IsWeight given = (1 ≤ given.1) × (given.1 ≤ 65535)
 
-target_weight : (name : List ℕ) (weight : ℕ) (target : Option Target) → target_weight_fault name weight target ≡ None → (1 ≤ weight) × (weight ≤ 65535)
+target_weight : (name : List ℕ) (weight : ℕ) (target : Option IndexColumn) → target_weight_fault name weight target ≡ None → (1 ≤ weight) × (weight ≤ 65535)
 target_weight name weight None e = absurd (none-some (column_is_no_field name) (sym e))
 target_weight name weight (Some targets.Id) e = absurd (none-some (column_is_no_field name) (sym e))
 target_weight name weight (Some (targets.Attr attr)) e = absurd (none-some (column_is_no_field name) (sym e))
@@ -97,7 +98,7 @@ target_weight name weight (Some (targets.Field field)) e =
 
 value_weights : (schema : Schema) (value : OptionValue) → option_fault Kinds schema (record { name = field_weights_option; value = value }) ≡ None → All IsWeight (weights_in (Some value))
 value_weights schema (values.List list) e =
-    All-weaker (λ given. weight_fault schema given ≡ None) IsWeight (λ given none. target_weight given.0 given.1 (target_of schema given.0) none) list
+    All-weaker (λ given. weight_fault schema given ≡ None) IsWeight (λ given none. target_weight given.0 given.1 (column_named schema given.0) none) list
     (first_of_none (weight_fault schema) list e)
 value_weights schema (values.Name name) e = All-nil IsWeight
 value_weights schema (values.Number number) e = All-nil IsWeight

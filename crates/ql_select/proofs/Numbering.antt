@@ -1,10 +1,11 @@
+-- What `*` shows, attribute by attribute, with their places in the schema.
 use Rattle.std.proofs.Common.{◌≡◌, ℕ, ◌+◌, ◌<◌, List, [], ◌∷◌, ◌++◌, length, get_or, take, map, sym, ap, ◌∙◌, append_assoc, arith}
 use Rattle.std.specs.List.{enumerate_from}
 use Rattle.std.proofs.lemmas.List.{take_more, length-take}
 use Rattle.doc_types.specs.declared.schema.Schema.{Schema}
 use Rattle.doc_types.specs.declared.schema.AttrKind.{AttrKind}
 use Rattle.row_select.specs.declared.row.ColumnRef.TheVariants.{Id}
-use Rattle.ql_refusals.specs.Columns.{id_name}
+use Rattle.ql_columns.specs.Columns.{id_name}
 use Rattle.ql_select.specs.declared.selection.Shown.{Shown}
 use Rattle.ql_select.specs.Columns.{attr_shown, shown_as}
 

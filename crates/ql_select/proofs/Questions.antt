@@ -1,3 +1,4 @@
+-- The question of a SELECT with no fault is one of its index: as many weights as fields, each in its range.
 use Rattle.std.proofs.Common.{◌≡◌, ℕ, ◌≤◌, List, Option, Some, None, unwrap_or, refl, arith}
 use Rattle.std.specs.Prelude.{All}
 use Rattle.std.specs.List.{find}

@@ -11,7 +11,7 @@ use Rattle.ql_tree.specs.declared.select.SelectExpr.{SelectExpr}
 use Rattle.ql_tree.specs.declared.select.SelectExpr.TheVariants as exprs
 use Rattle.ql_tree.specs.declared.select.SelectItem.{SelectItem}
 use Rattle.ql_tree.specs.declared.select.SelectItem.TheVariants as items
-use Rattle.ql_refusals.specs.Columns.{id_name, kind_of}
+use Rattle.ql_columns.specs.Columns.{id_name, kind_of}
 use Rattle.row_select.specs.declared.row.ColumnRef.{ColumnRef}
 use Rattle.row_select.specs.declared.row.ColumnRef.TheVariants as columns
 use Rattle.ql_select.specs.declared.selection.Shown.{Shown}

@@ -1,4 +1,4 @@
--- What is wrong with a SELECT, told by its text and the columns of its index: the names of its options; the other names, from left
+-- What is wrong with a SELECT, by its text and the columns of its index: the names of its options; the other names, from left
 -- to right; kinds and ranges, from left to right; and then the limits, in this order.
 use Rattle.std.specs.Prelude.{ℕ, ◌+◌, List, [], ◌∷◌, ◌++◌, length, Bool, true, false, nat_le, nat_lt, ◌&&◌, is_some, Option, Some, None, if◌then◌else◌}
 use Rattle.std.specs.List.{list_any, count_by, sum_by}
@@ -15,9 +15,9 @@ use Rattle.ql_tree.specs.declared.select.SelectItem.TheVariants as items
 use Rattle.ql_tree.specs.declared.select.SelectOption.{SelectOption}
 use Rattle.ql_tree.specs.declared.select.SortName.{SortName}
 use Rattle.ql_tree.specs.declared.select.SortName.TheVariants as keys
-use Rattle.ql_refusals.specs.declared.columns.Target.{Target}
-use Rattle.ql_refusals.specs.declared.columns.Target.TheVariants as targets
-use Rattle.ql_refusals.specs.Columns.{name_fault, target_of}
+use Rattle.ql_columns.specs.declared.columns.IndexColumn.{IndexColumn}
+use Rattle.ql_columns.specs.declared.columns.IndexColumn.TheVariants as targets
+use Rattle.ql_columns.specs.Columns.{name_fault, column_named}
 use Rattle.ql_refusals.specs.Refusals.{Refused, first, first_of, unless, unknown_column, unknown_option, ranker_not_offered, column_is_field, column_is_no_field, wrong_kind, value_out_of_range, second_match, too_many_columns, too_many_sort_keys, max_matches_out_of_range, offset_not_below}
 use Rattle.ql_select.specs.declared.faults.Pass.{Pass}
 use Rattle.ql_select.specs.declared.faults.Pass.TheVariants.{Names, Kinds}
@@ -29,7 +29,7 @@ use Rattle.ql_select.specs.Parts.{limits}
 -- ---- names of columns, and their kinds
 
 -- what is wrong with a column that is named: it isn't there; or, looked at after all names, it is a field
-abbrev pub target_fault : Pass → List ℕ → Option Target → Option Refused
+abbrev pub target_fault : Pass → List ℕ → Option IndexColumn → Option Refused
 target_fault Names name None = Some (unknown_column name)
 target_fault Names name (Some target) = None
 target_fault Kinds name (Some (targets.Field field)) = Some (column_is_field name)
@@ -37,7 +37,7 @@ target_fault Kinds name target = None
 
 -- what is wrong with a name of a column
 abbrev pub column_fault : Pass → Schema → List ℕ → Option Refused
-column_fault pass schema name = target_fault pass name (target_of schema name)
+column_fault pass schema name = target_fault pass name (column_named schema name)
 
 -- what is wrong with an item of the list
 abbrev pub item_fault : Pass → Schema → SelectItem → Option Refused
@@ -77,14 +77,14 @@ weight_names_fault schema before (given ∷ list) =
     first (name_fault schema (is_weighed before given.0) given.0) (weight_names_fault schema (before ++ given ∷ []) list)
 
 -- a weight is given to a field, and is 1 to 65,535
-abbrev pub target_weight_fault : List ℕ → ℕ → Option Target → Option Refused
+abbrev pub target_weight_fault : List ℕ → ℕ → Option IndexColumn → Option Refused
 target_weight_fault name weight (Some (targets.Field field)) =
     unless (nat_le 1 weight && nat_le weight 65535) (value_out_of_range name)
 target_weight_fault name weight target = Some (column_is_no_field name)
 
 -- what is wrong with a weight that is given
 abbrev pub weight_fault : Schema → List ℕ × ℕ → Option Refused
-weight_fault schema given = target_weight_fault given.0 given.1 (target_of schema given.0)
+weight_fault schema given = target_weight_fault given.0 given.1 (column_named schema given.0)
 
 -- what is wrong with the value of `ranker`
 abbrev pub ranker_fault : Pass → OptionValue → Option Refused

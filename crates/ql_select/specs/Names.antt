@@ -11,14 +11,14 @@ use Rattle.ql_tree.specs.declared.select.SelectExpr.{SelectExpr}
 use Rattle.ql_tree.specs.declared.select.SelectExpr.TheVariants as exprs
 use Rattle.ql_tree.specs.declared.select.SortName.{SortName}
 use Rattle.ql_tree.specs.declared.select.SortName.TheVariants as keys
-use Rattle.ql_refusals.specs.declared.columns.Target.{Target}
-use Rattle.ql_refusals.specs.declared.columns.Target.TheVariants as targets
-use Rattle.ql_refusals.specs.Columns.{target_of}
+use Rattle.ql_columns.specs.declared.columns.IndexColumn.{IndexColumn}
+use Rattle.ql_columns.specs.declared.columns.IndexColumn.TheVariants as targets
+use Rattle.ql_columns.specs.Columns.{column_named}
 use Rattle.row_select.specs.declared.row.ColumnRef.{ColumnRef}
 use Rattle.row_select.specs.declared.row.ColumnRef.TheVariants as columns
 
 -- a column of numbers: the id or an attribute
-abbrev pub numbers_in : Option Target → Option ColumnRef
+abbrev pub numbers_in : Option IndexColumn → Option ColumnRef
 numbers_in (Some targets.Id) = Some columns.Id
 numbers_in (Some (targets.Field field)) = None
 numbers_in (Some (targets.Attr attr)) = Some (columns.Attr attr)
@@ -26,7 +26,7 @@ numbers_in None = None
 
 -- the column of numbers of this name
 abbrev pub column_of : Schema → List ℕ → Option ColumnRef
-column_of schema name = numbers_in (target_of schema name)
+column_of schema name = numbers_in (column_named schema name)
 
 -- what an expression is the value of
 abbrev pub expr_column : Schema → SelectExpr → Option ColumnRef

@@ -3,16 +3,16 @@ use Rattle.std.specs.Prelude.{◌≡◌, ◌⊎◌, ℕ, List, true, false, code
 use Rattle.std.specs.Str.{is_utf8}
 use Rattle.srch_base.specs.declared.faults.Or.{Or}
 use Rattle.srch_base.specs.declared.faults.Or.TheVariants.{NoMemory, Fault}
-use Rattle.charset_map.specs.Spans.{folded}
+use Rattle.query_read.specs.Spans.{folded}
 use Rattle.index_conf.specs.declared.conf.IndexConf.{IndexConf}
 use Rattle.doc_search.specs.declared.question.Question.{Question}
 use Rattle.op_eval.specs.Sentences.{query_for}
 use Rattle.ql_tree.specs.declared.select.Select.{Select}
 use Rattle.ql_refusals.specs.Refusals.{Refused, bad_query, wrong_kind}
-use Rattle.query_grammar.specs.declared.fault.QueryFault.{QueryFault}
+use Rattle.query_read.specs.QueryFault.{QueryFault}
 use Rattle.query_tree.specs.declared.query.Query.{Query}
-use Rattle.query_grammar.specs.Queries.{ReadsQuery}
-use Rattle.query_marks.specs.Marks.{Setting, setting_of}
+use Rattle.query_read.specs.Queries.{ReadsQuery}
+use Rattle.query_read.specs.Marks.{Setting, setting_of}
 use Rattle.ql_select.specs.declared.selection.Selection.{Selection}
 use Rattle.ql_select.specs.Columns.{columns_shown}
 use Rattle.ql_select.specs.Faults.{select_fault}

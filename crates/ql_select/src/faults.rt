@@ -9,9 +9,10 @@ use crate::options::{
     FIELD_WEIGHTS_OPTION, MAX_MATCHES_OPTION, RANKER_OPTION, is_option, ranker_named,
 };
 use doc_types::Schema;
+use ql_columns::{IndexColumn, column_named, name_fault};
 use ql_refusals::{
-    Refusal, Target, column_is_field, column_is_no_field, name_fault, ranker_not_offered,
-    target_of, unknown_column, unknown_option, value_out_of_range, wrong_kind,
+    Refusal, column_is_field, column_is_no_field, ranker_not_offered, unknown_column,
+    unknown_option, value_out_of_range, wrong_kind,
 };
 use ql_tree::{Cond, OptionValue, Select, SelectExpr, SelectItem, SelectOption, SortKey, SortName};
 use srch_base::{Name, NoMemory};
@@ -97,9 +98,9 @@ fn parts_fault(
 fn column_fault(pass: Pass, schema: &Schema, name: &[u8]) -> Option<Refusal>
     ensures { result ≡ column_fault pass schema.now name.now }
 {
-    match (pass, target_of(schema, name)) {
+    match (pass, column_named(schema, name)) {
         (Pass::Names, None) => Some(unknown_column(name)),
-        (Pass::Kinds, Some(Target::Field(_))) => Some(column_is_field(name)),
+        (Pass::Kinds, Some(IndexColumn::Field(_))) => Some(column_is_field(name)),
         _ => None,
     }
 }
@@ -263,9 +264,9 @@ fn weight_fault(schema: &Schema, given: &(Name, u64)) -> Option<Refusal>
 {
     let name = given.0.as_bytes();
     let weight = given.1;
-    match target_of(schema, name) {
-        Some(Target::Field(_)) if 1 <= weight && weight <= 65_535 => None,
-        Some(Target::Field(_)) => Some(value_out_of_range(name)),
+    match column_named(schema, name) {
+        Some(IndexColumn::Field(_)) if 1 <= weight && weight <= 65_535 => None,
+        Some(IndexColumn::Field(_)) => Some(value_out_of_range(name)),
         _ => Some(column_is_no_field(name)),
     }
 }

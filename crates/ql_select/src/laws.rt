@@ -1,12 +1,30 @@
-//! A law of what a SELECT means. The function does nothing: its contract is the law.
+//! Laws of what a SELECT means. Each function does nothing but call the laws on texts that it rests on; its contract is the law.
+ghost use Rattle.std.specs.Prelude.{◌≡◌};
 ghost use Rattle.doc_types.specs.Schemas.{IsSchema};
 ghost use Rattle.index_conf.specs.declared.conf.IndexConf.{IndexConf};
 ghost use Rattle.doc_search.specs.Searches.{IsAskedOf};
 ghost use Rattle.ql_tree.specs.declared.select.Select.{Select};
 ghost use Rattle.ql_select.specs.declared.selection.Selection.{Selection};
-ghost use Rattle.ql_select.specs.Selections.{Selects};
+ghost use Rattle.ql_refusals.specs.Refusals.{Refused};
+ghost use Rattle.ql_select.specs.Selections.{RefusesSelection, Selects};
 
-/// What a SELECT means is asked of the index that it names: a search over rows of its columns answers it.
+use query_read::{
+    a_query_has_no_fault, a_text_has_one_first_fault, a_text_is_one_query, each_text_has_pieces,
+};
+
+/// What a SELECT means is a question to the index that it names: a search over rows of its columns answers it.
 pub fn a_selection_is_asked_of_its_index()
     ensures { (conf : IndexConf) (select : Select) (selection : Selection) → IsSchema conf.schema → Selects conf select selection → IsAskedOf conf.schema selection.question }
 {}
+
+/// A SELECT means one thing or is refused for one reason, and never both.
+pub fn a_select_has_one_answer()
+    ensures selection { (conf : IndexConf) (select : Select) (a b : Selection) → Selects conf select a → Selects conf select b → a ≡ b }
+    ensures refusal { (conf : IndexConf) (select : Select) (a b : Refused) → RefusesSelection conf select a → RefusesSelection conf select b → a ≡ b }
+    ensures apart { (conf : IndexConf) (select : Select) (selection : Selection) (refusal : Refused) → Selects conf select selection → RefusesSelection conf select refusal → ⊥ }
+{
+    each_text_has_pieces();
+    a_text_is_one_query();
+    a_query_has_no_fault();
+    a_text_has_one_first_fault();
+}

@@ -4,7 +4,7 @@ ghost use Rattle.std.specs.List.{find, list_any};
 ghost use Rattle.ql_select.specs.Names.{column_of, expr_column, has_alias, has_group_parts, is_count, is_grouped, is_of_groups, item_column, item_is_of_groups, key_column, names_groups, order_column};
 
 use doc_types::Schema;
-use ql_refusals::{Target, target_of};
+use ql_columns::{IndexColumn, column_named};
 use ql_tree::{Select, SelectExpr, SelectItem, SortKey, SortName};
 use row_select::ColumnRef;
 
@@ -13,10 +13,10 @@ pub(crate) fn column_of(schema: &Schema, name: &[u8]) -> Option<ColumnRef>
     requires few { length schema.now.attrs < 2 ^ 16 }
     ensures { result ≡ column_of schema.now name.now }
 {
-    match target_of(schema, name) {
-        Some(Target::Id) => Some(ColumnRef::Id),
-        Some(Target::Attr(attr)) => Some(ColumnRef::Attr(attr as u16)),
-        Some(Target::Field(_)) | None => None,
+    match column_named(schema, name) {
+        Some(IndexColumn::Id) => Some(ColumnRef::Id),
+        Some(IndexColumn::Attr(attr)) => Some(ColumnRef::Attr(attr as u16)),
+        Some(IndexColumn::Field(_)) | None => None,
     }
 }
 

@@ -6,7 +6,7 @@ use crate::names::expr_column;
 use crate::selection::Shown;
 use doc_types::{AttrKind, Schema};
 use mysql_wire::{Column, ColumnKind};
-use ql_refusals::{ID, kind_of};
+use ql_columns::{ID, kind_of};
 use ql_tree::{SelectExpr, SelectItem};
 use row_select::ColumnRef;
 use srch_base::{Items, Name, NoMemory};

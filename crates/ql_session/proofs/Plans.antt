@@ -14,7 +14,7 @@ use Rattle.ql_answers.specs.declared.plan.Plan.{Plan}
 use Rattle.ql_answers.specs.declared.plan.Plan.TheVariants.{Agree, Show, Search, Insert}
 use Rattle.ql_select.proofs.Asked.{selection_is_asked}
 use Rattle.ql_answers.specs.Plans.{Wants, TakesMemory}
-use Rattle.ql_answers.specs.Writing.{Inserts, targets}
+use Rattle.ql_insert.specs.Insertions.{Inserts, targets}
 use Rattle.ql_session.specs.steps.Wanting.{IsSoundPlan}
 
 is_insert : (F : TxnOp → Type 0) → ((doc : Doc) → F (operations.Put doc) → ⊥) → ((id : ℕ) → F (operations.Kill id) → ⊥) → (F operations.Clear → ⊥)
@@ -50,9 +50,9 @@ good confs (statements.Insert false index columns rows) plan wants =
       sound_as confs plan (Insert wants.0 wants.1) wants.3 (record {
         conf = wants.2.conf;
         is = wants.2.serves.is;
-        of = wants.2.of;
+        of = wants.2.makes.of;
         insertions = are_insertions (Inserts wants.2.conf (targets wants.2.conf.schema columns)) rows wants.1.ops (λ row op h.
-            is_insert (Inserts wants.2.conf (targets wants.2.conf.schema columns) row) (λ doc h. h) (λ id h. h) (λ h. h) op h) wants.2.inserts;
+            is_insert (Inserts wants.2.conf (targets wants.2.conf.schema columns) row) (λ doc h. h) (λ id h. h) (λ h. h) op h) wants.2.makes.inserts;
       }),
     )
 good confs (statements.Insert true index columns rows) plan wants = absurd wants

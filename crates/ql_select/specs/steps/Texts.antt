@@ -6,7 +6,7 @@ use Rattle.srch_base.specs.declared.faults.Or.TheVariants.{NoMemory, Fault}
 use Rattle.index_conf.specs.declared.conf.IndexConf.{IndexConf}
 use Rattle.ql_refusals.specs.Refusals.{Refused}
 use Rattle.query_tree.specs.declared.query.Query.{Query}
-use Rattle.query_grammar.specs.Queries.{ReadsQuery}
+use Rattle.query_read.specs.Queries.{ReadsQuery}
 use Rattle.ql_select.specs.Selections.{RefusesText, setting}
 
 -- the text is the query; without memory nothing is said

@@ -3,12 +3,12 @@ use Rattle.ql_answers.proofs.laws.a_statement_has_one_plan.Goals as goal
 
 pub returns-clause-plan : goal.returns-clause-plan
 returns-clause-plan c =
-    one_plan c.each_text_has_pieces.ensures c.a_text_is_one_query.ensures c.a_query_has_no_fault.ensures c.a_text_has_one_first_fault.ensures c.a_text_has_one_answer.ensures.same c.a_text_has_one_answer.ensures.apart
+    one_plan c.a_select_has_one_answer.ensures.selection c.a_select_has_one_answer.ensures.refusal c.a_select_has_one_answer.ensures.apart c.an_insert_has_one_answer.ensures.txn c.an_insert_has_one_answer.ensures.refusal c.an_insert_has_one_answer.ensures.apart
 
 pub returns-clause-refusal : goal.returns-clause-refusal
 returns-clause-refusal c =
-    one_refusal c.each_text_has_pieces.ensures c.a_text_is_one_query.ensures c.a_query_has_no_fault.ensures c.a_text_has_one_first_fault.ensures c.a_text_has_one_answer.ensures.same c.a_text_has_one_answer.ensures.apart
+    one_refusal c.a_select_has_one_answer.ensures.selection c.a_select_has_one_answer.ensures.refusal c.a_select_has_one_answer.ensures.apart c.an_insert_has_one_answer.ensures.txn c.an_insert_has_one_answer.ensures.refusal c.an_insert_has_one_answer.ensures.apart
 
 pub returns-clause-not_both : goal.returns-clause-not_both
 returns-clause-not_both c =
-    never_both c.each_text_has_pieces.ensures c.a_text_is_one_query.ensures c.a_query_has_no_fault.ensures c.a_text_has_one_first_fault.ensures c.a_text_has_one_answer.ensures.same c.a_text_has_one_answer.ensures.apart
+    never_both c.a_select_has_one_answer.ensures.selection c.a_select_has_one_answer.ensures.refusal c.a_select_has_one_answer.ensures.apart c.an_insert_has_one_answer.ensures.txn c.an_insert_has_one_answer.ensures.refusal c.an_insert_has_one_answer.ensures.apart

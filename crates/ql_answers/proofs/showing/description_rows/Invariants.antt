@@ -1,5 +1,5 @@
 use Rattle.std.proofs.Common.{◌≡◌, ◌∷◌, ◌++◌, take, map, codes}
-use Rattle.ql_refusals.specs.Columns.{id_name}
+use Rattle.ql_columns.specs.Columns.{id_name}
 use Rattle.ql_answers.specs.Replies.{pair}
 use Rattle.ql_answers.specs.Showing.{kind_text}
 use Rattle.ql_answers.proofs.showing.description_rows.Given as goal

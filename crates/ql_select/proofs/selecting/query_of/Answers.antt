@@ -1,7 +1,7 @@
 use Rattle.std.proofs.Common.{Err, inl, rules, subst}
 use Rattle.srch_base.specs.declared.faults.Or.{Or}
-use Rattle.query_grammar.specs.declared.fault.QueryFault.{QueryFault}
-use Rattle.query_grammar.specs.Queries.{ReadsQuery}
+use Rattle.query_read.specs.QueryFault.{QueryFault}
+use Rattle.query_read.specs.Queries.{ReadsQuery}
 use Rattle.ql_select.specs.Selections.{setting}
 use Rattle.ql_select.proofs.Meaning.{no_text, reads_text, refuses_text}
 use Rattle.ql_select.proofs.selecting.query_of.Goals as goal

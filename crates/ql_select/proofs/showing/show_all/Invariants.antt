@@ -1,7 +1,7 @@
 use Rattle.std.proofs.Common.{◌≡◌, ◌∷◌, ◌++◌, take, map}
 use Rattle.std.specs.List.{enumerate_from}
 use Rattle.row_select.specs.declared.row.ColumnRef.TheVariants.{Id}
-use Rattle.ql_refusals.specs.Columns.{id_name}
+use Rattle.ql_columns.specs.Columns.{id_name}
 use Rattle.ql_select.specs.Columns.{attr_shown, shown_as}
 use Rattle.ql_select.proofs.showing.show_all.Given as goal
 

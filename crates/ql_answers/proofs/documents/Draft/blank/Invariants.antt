@@ -1,7 +1,0 @@
-use Rattle.std.proofs.Common.{◌≡◌}
-use Rattle.std.proofs.Math.ListN.{replicate}
-use Rattle.ql_answers.specs.Writing.{no_tokens}
-use Rattle.ql_answers.proofs.documents.Draft.blank.Given as goal
-
-abbrev pub invariant-fields : goal.invariant-fields
-invariant-fields l = l.fields.items ≡ replicate l.counter no_tokens

@@ -1,6 +1,0 @@
-use Rattle.std.proofs.Common.{◌≡◌, [], take, drop}
-use Rattle.ql_answers.specs.Writing.{names_fault}
-use Rattle.ql_answers.proofs.writing.names_fault.Given as goal
-
-abbrev pub invariant-names : goal.invariant-names
-invariant-names l = names_fault l.schema [] l.names ≡ names_fault l.schema (take l.place l.names) (drop l.place l.names)

@@ -1,0 +1,2 @@
+-- as many columns of one kind
+pub mod Lists

@@ -1,0 +1,2 @@
+-- the columns of an index, as statements name them
+pub mod Columns

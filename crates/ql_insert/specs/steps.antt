@@ -1,0 +1,2 @@
+-- how the documents of an INSERT are built
+pub mod Documents

@@ -1,0 +1,72 @@
+-- A SELECT means one thing or is refused for one reason, since the text of its MATCH is one query or has one first fault.
+use Rattle.std.proofs.Common.{◌≡◌, ℕ, List, Option, true, sym, ap, ◌∙◌, inl, inr}
+use Rattle.std.specs.Prelude.{Ok, Err}
+use Rattle.std.specs.Str.{IsUtf8, is_utf8}
+use Rattle.std.proofs.lemmas.Bool.{false≢true}
+use Rattle.std.proofs.lemmas.Str.{IsUtf8-from_is_utf8}
+use Rattle.srch_base.specs.declared.faults.Or.TheVariants.{Fault}
+use Rattle.index_conf.specs.declared.conf.IndexConf.{IndexConf}
+use Rattle.ql_tree.specs.declared.select.Select.{Select}
+use Rattle.ql_refusals.specs.Refusals.{Refused, bad_query}
+use Rattle.ql_refusals.proofs.Options.{not_both, one_value}
+use Rattle.query_read.specs.QueryFault.{QueryFault}
+use Rattle.query_tree.specs.declared.query.Query.{Query}
+use Rattle.query_read.specs.Queries.{IsRefused, IsValue, ReadsQuery}
+use Rattle.query_read.specs.Marks.{Setting, marks_of}
+use Rattle.query_read.specs.Piece.{Piece}
+use Rattle.query_read.specs.Pieces.{ArePieces}
+use Rattle.ql_select.specs.declared.selection.Selection.{Selection}
+use Rattle.ql_select.specs.Faults.{select_fault}
+use Rattle.ql_select.specs.Parts.{match_text}
+use Rattle.ql_select.specs.Selections.{RefusesSelection, RefusesText, Selects, question_of, setting}
+
+module _
+    (has_pieces : (fold : ℕ → Option ℕ) (text : List ℕ) → IsUtf8 text → (pieces : List Piece) × ArePieces fold text pieces)
+    (one_query : (setting : Setting) (text : List ℕ) (pieces : List Piece) (a b : Query) → IsValue a (marks_of setting text pieces) → IsValue b (marks_of setting text pieces) → a ≡ b)
+    (no_fault : (setting : Setting) (text : List ℕ) (pieces : List Piece) (query : Query) (fault : QueryFault) → IsValue query (marks_of setting text pieces) → IsRefused fault (marks_of setting text pieces) → ⊥)
+    (one_fault : (setting : Setting) (text : List ℕ) (pieces : List Piece) (a b : QueryFault) → IsUtf8 text → ArePieces setting.fold text pieces → IsRefused a (marks_of setting text pieces) → IsRefused b (marks_of setting text pieces) → a ≡ b) where
+  -- ---- a text
+  one_read : (setting : Setting) (text : List ℕ) (a b : Query) → is_utf8 text ≡ true → ReadsQuery setting text (Ok a) → ReadsQuery setting text (Ok b) → a ≡ b
+  one_read setting text a b utf8 one two =
+      let (pieces, are) = has_pieces setting.fold text (IsUtf8-from_is_utf8 text utf8) in
+      one_query setting text pieces a b (one pieces are) (two pieces are)
+
+  not_read : (setting : Setting) (text : List ℕ) (query : Query) (fault : QueryFault) → is_utf8 text ≡ true → ReadsQuery setting text (Ok query) → ReadsQuery setting text (Err (Fault fault)) → ⊥
+  not_read setting text query fault utf8 one two =
+      let (pieces, are) = has_pieces setting.fold text (IsUtf8-from_is_utf8 text utf8) in
+      no_fault setting text pieces query fault (one pieces are) (two pieces are)
+
+  one_first : (setting : Setting) (text : List ℕ) (a b : QueryFault) → is_utf8 text ≡ true → ReadsQuery setting text (Err (Fault a)) → ReadsQuery setting text (Err (Fault b)) → a ≡ b
+  one_first setting text a b utf8 one two =
+      let read = IsUtf8-from_is_utf8 text utf8 in
+      let (pieces, are) = has_pieces setting.fold text read in
+      one_fault setting text pieces a b read are (one pieces are) (two pieces are)
+
+  one_refused_text : (conf : IndexConf) (text : List ℕ) (a b : Refused) → RefusesText conf text a → RefusesText conf text b → a ≡ b
+  one_refused_text conf text a b (inl (bytes, says)) (inl (bytes', says')) = says ∙ sym says'
+  one_refused_text conf text a b (inl (bytes, says)) (inr (utf8, refused)) = absurd (false≢true (sym bytes ∙ utf8))
+  one_refused_text conf text a b (inr (utf8, refused)) (inl (bytes, says)) = absurd (false≢true (sym bytes ∙ utf8))
+  one_refused_text conf text a b (inr (utf8, (f, reads, says))) (inr (utf8', (g, reads', says'))) =
+      says ∙ ap bad_query (one_first (setting conf) text f g utf8 reads reads') ∙ sym says'
+
+  not_refused_text : (conf : IndexConf) (text : List ℕ) (query : Query) (refusal : Refused) → is_utf8 text ≡ true → ReadsQuery (setting conf) text (Ok query) → RefusesText conf text refusal → ⊥
+  not_refused_text conf text query refusal utf8 reads (inl (bytes, says)) = false≢true (sym bytes ∙ utf8)
+  not_refused_text conf text query refusal utf8 reads (inr (utf8', (fault, refuses, says))) = not_read (setting conf) text query fault utf8 reads refuses
+
+  -- ---- a SELECT
+  pub one_selection : (conf : IndexConf) (select : Select) (a b : Selection) → Selects conf select a → Selects conf select b → a ≡ b
+  one_selection conf select a b one two =
+      let query : one.query ≡ two.query = one_read (setting conf) (match_text select.conds) one.query two.query one.text one.reads two.reads in
+      let questions : a.question ≡ b.question = one.question ∙ ap (question_of conf select) query ∙ sym two.question in
+      let columns : a.shown ≡ b.shown = one.shown ∙ sym two.shown in
+      λ i. record { question = questions i; shown = columns i }
+
+  pub one_selection_fault : (conf : IndexConf) (select : Select) (a b : Refused) → RefusesSelection conf select a → RefusesSelection conf select b → a ≡ b
+  one_selection_fault conf select a b (inl fault) (inl fault') = one_value (select_fault conf.schema select) a b fault fault'
+  one_selection_fault conf select a b (inl fault) (inr (good, text)) = absurd (not_both (select_fault conf.schema select) a good fault)
+  one_selection_fault conf select a b (inr (good, text)) (inl fault) = absurd (not_both (select_fault conf.schema select) b good fault)
+  one_selection_fault conf select a b (inr (good, text)) (inr (good', text')) = one_refused_text conf (match_text select.conds) a b text text'
+
+  pub not_refused_selection : (conf : IndexConf) (select : Select) (selection : Selection) (refusal : Refused) → Selects conf select selection → RefusesSelection conf select refusal → ⊥
+  not_refused_selection conf select selection refusal selects (inl fault) = not_both (select_fault conf.schema select) refusal selects.good fault
+  not_refused_selection conf select selection refusal selects (inr (good, text)) = not_refused_text conf (match_text select.conds) selects.query refusal selects.text selects.reads text
