@@ -87,7 +87,7 @@ def functions_of(crate):
 
 
 def table(spent, refused):
-    crates = [line.split(":")[0].split()[0] for line in (ROOT / "crates.txt").read_text().splitlines() if ":" in line]
+    crates = [line.split(":")[0].split()[0] for line in (ROOT / "crates.txt").read_text().splitlines() if ":" in line.split("#")[0]]
     print("\n| crate | functions | proof | tests | edits | number of edits |\n|---|---|---|---|---|---|")
     sums = defaultdict(float)
     for crate in crates:
