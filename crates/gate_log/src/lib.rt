@@ -4,10 +4,12 @@
 
 mod fault;
 mod frame;
+mod laws;
 mod log;
 mod reading;
 mod records;
 
 pub use fault::{LogFault, LogKind};
+pub use laws::{a_log_gives_its_records, a_log_gives_its_records_or_one_more};
 pub use log::GateLog;
 pub use records::{LogRecord, Staged};

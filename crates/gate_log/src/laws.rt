@@ -1,0 +1,16 @@
+//! What the file of a log stands for, by where the log stands in it: the meaning of its clauses on crashes.
+ghost use Rattle.std.specs.Prelude.{◌≡◌, ◌⊎◌, ℕ, List, [], ◌∷◌, ◌++◌, Option, Some, None, false};
+ghost use Rattle.chunk_store.specs.Images.{contents};
+ghost use Rattle.gate_log.specs.Logs.{Stands, IsLogOf};
+ghost use Rattle.gate_log.specs.declared.log.GateLog.{GateLog as TheLog};
+ghost use Rattle.gate_log.specs.declared.records.LogRecord.{LogRecord};
+
+/// While no gate may be open that isn't known to be, a log's file is read as its records.
+pub fn a_log_gives_its_records()
+    ensures { (log : TheLog) (records : List LogRecord) (file : Option (List ℕ)) → log.pending ≡ false → Stands log records None file → IsLogOf records (contents file) }
+{}
+
+/// While the gate of a staged record is opened, a log's file is read as its records, or as these and the staged one.
+pub fn a_log_gives_its_records_or_one_more()
+    ensures { (log : TheLog) (records : List LogRecord) (r : LogRecord) (file : Option (List ℕ)) → Stands log records (Some r) file → IsLogOf records (contents file) ⊎ IsLogOf (records ++ r ∷ []) (contents file) }
+{}
