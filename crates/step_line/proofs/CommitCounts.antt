@@ -1,12 +1,12 @@
 -- The counts of workers' commits.
-use Rattle.std.proofs.Common.{◌≡◌, ℕ, ◌+◌, ◌-◌, ◌≤◌, ◌<◌, ◌^◌, ◌==◌, Bool, true, false, cond, length, List, [], ◌∷◌, ◌++◌, refl, sym, ap, ◌∙◌, arith, slice_index_or, append-nil, append_assoc, set, length-set, ◌⊎◌, inl, inr, ⊎_elim, Option, None, Some}
+use Rattle.std.proofs.Common.{◌≡◌, ℕ, ◌+◌, ◌-◌, ◌≤◌, ◌<◌, ◌^◌, ◌==◌, true, false, cond, length, List, [], ◌∷◌, ◌++◌, refl, sym, ap, ◌∙◌, arith, slice_index_or, set, length-set, ◌⊎◌, inl, inr, ⊎_elim, Option, None, Some}
 use Rattle.std.proofs.lemmas.Bool.Decides.{nat_tests}
 use Rattle.std.proofs.lemmas.List.{get_or-set_same, get_or-set_other}
-use Rattle.step_history.specs.History.{Step, Commit, Reshape, commits, made_by}
+use Rattle.step_history.specs.History.{Step, Commit, Reshape, made_by}
 use Rattle.step_history.proofs.Counts.{add_up}
 use Rattle.step_book.specs.Tellings.{worker_of}
 use Rattle.step_line.specs.Lines.{IsBy}
-use Rattle.step_line.specs.steps.Queues.{AreCounts, one_more}
+use Rattle.step_line.specs.steps.Queues.{one_more}
 
 -- no worker has made more commits than there are steps
 pub at_most : (worker : ℕ) (steps : List Step) → made_by worker steps ≤ length steps

@@ -1,5 +1,5 @@
 -- The last one of what is shown, and of steps.
-use Rattle.std.proofs.Common.{◌≡◌, List, [], ◌∷◌, ◌++◌, refl}
+use Rattle.std.proofs.Common.{◌≡◌, List, [], ◌∷◌, ◌++◌}
 use Rattle.std.proofs.lemmas.List.Sums.{fold-append}
 use Rattle.step_history.specs.History.{Base, Step, last_snapshot, snapshot_of}
 use Rattle.step_history.proofs.Steps.{steps_then}

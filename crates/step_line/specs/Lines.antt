@@ -1,5 +1,5 @@
 -- Lines: the writing end of an index.
-use Rattle.std.specs.Prelude.{◌≡◌, ℕ, ◌+◌, ◌<◌, ◌≤◌, ◌^◌, List, [], ◌∷◌, ◌++◌, length, Option, None, Some}
+use Rattle.std.specs.Prelude.{ℕ, ◌+◌, ◌<◌, ◌≤◌, ◌^◌, List, [], ◌∷◌, ◌++◌, length, Option, None, Some}
 use Rattle.doc_types.specs.declared.schema.Schema.{Schema}
 use Rattle.step_history.specs.History.{Base, Step, Commit, Reshape, AreOf, Follows, made_by, snapshot_of}
 use Rattle.step_book.specs.Fronts.{FrontValue}

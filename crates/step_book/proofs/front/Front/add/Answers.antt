@@ -1,6 +1,6 @@
-use Rattle.std.proofs.Common.{◌≡◌, ◌+◌, ◌==◌, ◌++◌, ◌∷◌, [], ℕ, true, List, MatchBool, length, sym, ap, subst, ◌∙◌, arith}
+use Rattle.std.proofs.Common.{◌≡◌, ◌==◌, ◌++◌, ◌∷◌, [], ℕ, true, length, sym, ap, subst, ◌∙◌, arith}
 use Rattle.std.proofs.lemmas.Bool.Decides.{nat_tests}
-use Rattle.step_history.specs.History.{IsGood, Step, Follows, AreOf, snapshot_of}
+use Rattle.step_history.specs.History.{IsGood, Follows, AreOf, snapshot_of}
 use Rattle.step_history.proofs.Steps.{grows}
 use Rattle.step_book.specs.Fronts.{FrontValue}
 use Rattle.step_book.specs.Rules.{head_of}

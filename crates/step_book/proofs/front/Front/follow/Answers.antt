@@ -1,4 +1,4 @@
-use Rattle.std.proofs.Common.{◌≡◌, ◌≤◌, ◌<◌, ◌∙◌, refl, ap, sym, subst, arith, length, List}
+use Rattle.std.proofs.Common.{◌≤◌, ◌<◌, ◌∙◌, refl, ap, subst, arith, length, List}
 use mathlib.Core.List.{IsPrefix}
 use Rattle.step_history.specs.History.{Step}
 use Rattle.step_book.specs.Fronts.{FrontValue}

@@ -1,4 +1,4 @@
-use Rattle.std.proofs.Common.{◌≡◌, ◌≤◌, ◌<◌, ◌^◌, ◌+◌, ◌-◌, ◌++◌, ◌∙◌, ℕ, [], sym, ap, subst, arith, length, slice_index_or}
+use Rattle.std.proofs.Common.{◌≡◌, ◌<◌, ◌^◌, ◌+◌, ◌-◌, ◌∙◌, sym, ap, subst, arith, length}
 use Rattle.step_history.specs.History.{made_by}
 use Rattle.step_line.specs.Lines.{LineValue, IsBy, with_waiting}
 use Rattle.step_line.proofs.CommitCounts.{counts_with, has_room, is_among}

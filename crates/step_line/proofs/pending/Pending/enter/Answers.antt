@@ -1,4 +1,4 @@
-use Rattle.std.proofs.Common.{sym, ap, subst}
+use Rattle.std.proofs.Common.{sym, subst}
 use Rattle.step_history.specs.History.{AreOf, snapshot_of}
 use Rattle.step_book.specs.Fronts.{FrontValue}
 use Rattle.step_line.proofs.pending.Pending.enter.Goals as goal
