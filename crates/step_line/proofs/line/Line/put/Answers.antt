@@ -1,0 +1,34 @@
+use Rattle.std.proofs.Common.{◌≡◌, ◌<◌, ◌^◌, ◌+◌, ◌-◌, ◌∙◌, sym, ap, subst, arith, length}
+use Rattle.step_history.specs.History.{made_by}
+use Rattle.step_line.specs.Lines.{LineValue, IsBy, with_waiting}
+use Rattle.step_line.proofs.CommitCounts.{counts_with, has_room, is_among}
+use Rattle.step_line.proofs.line.Line.put.Goals as goal
+
+pub count_step-requires-clause-among : goal.count_step-requires-clause-among
+count_step-requires-clause-among g c worker is =
+    is_among (length c.self.inside.counts.items) worker c.args.pending.step (subst (λ (v : LineValue). IsBy v.workers c.args.pending.step) (sym c.self.view_is) c.requires.by) (sym c.worker-worker.ensures.worker ∙ is)
+
+pub count_step-requires-clause-room : goal.count_step-requires-clause-room
+count_step-requires-clause-room g c worker is =
+    let steps = c.self.inside.front.steps in
+    let counts = c.self.inside.counts.items in
+    let none = ap (λ (v : LineValue). v.waiting) c.self.view_is ∙ c.requires.none in
+    let among = is_among (length counts) worker c.args.pending.step (subst (λ (v : LineValue). IsBy v.workers c.args.pending.step) (sym c.self.view_is) c.requires.by) (sym c.worker-worker.ensures.worker ∙ is) in
+    let from : c.args.pending.from ≡ c.self.inside.front = c.requires.from ∙ ap (λ (v : LineValue). record { index = v.index; steps = v.history }) (sym c.self.view_is) in
+    let few : length steps + 1 < 2 ^ 63 = rw from at c.worker-worker.ensures.room in
+    let some = among.0 in
+    let most = among.1 in
+    has_room counts steps (worker - 1) few (omega (arith, some, most)) (λ k h. c.self.invariant.4 k h ∙ ap (λ w. made_by (k + 1) (with_waiting steps w)) none)
+
+pub invariant_of-self : goal.invariant_of-self
+invariant_of-self g c =
+    let steps = c.self.inside.front.steps in
+    let none = ap (λ (v : LineValue). v.waiting) c.self.view_is ∙ c.requires.none in (
+      c.self.invariant.0,
+      c.self.invariant.1,
+      c.self.invariant.2,
+      c.requires.from ∙ ap (λ (v : LineValue). record { index = v.index; steps = v.history }) (sym c.self.view_is),
+      counts_with c.self.inside.counts.items c.count_step.new.counts.items steps c.args.pending.step c.worker-worker.result c.count_step.ensures c.worker-worker.ensures.worker
+          (subst (λ (v : LineValue). IsBy v.workers c.args.pending.step) (sym c.self.view_is) c.requires.by)
+          (λ k h. c.self.invariant.4 k h ∙ ap (λ w. made_by (k + 1) (with_waiting steps w)) none),
+    )

@@ -1,0 +1,4 @@
+-- the writing end of an index, and the step that waits
+pub mod Lines
+-- what serves proofs alone
+pub mod steps

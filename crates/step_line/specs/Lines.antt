@@ -1,0 +1,48 @@
+-- Lines: the writing end of an index.
+use Rattle.std.specs.Prelude.{ℕ, ◌+◌, ◌<◌, ◌≤◌, ◌^◌, List, [], ◌∷◌, ◌++◌, length, Option, None, Some}
+use Rattle.doc_types.specs.declared.schema.Schema.{Schema}
+use Rattle.step_history.specs.History.{Base, Step, Commit, Reshape, AreOf, Follows, made_by, snapshot_of}
+use Rattle.step_book.specs.Fronts.{FrontValue}
+
+-- Of which index it is, how many workers commit, the published steps, and the step that waits to be published, if one does.
+pub record LineValue : Type 0 where
+  pub index : ℕ
+  pub workers : ℕ
+  pub history : List Step
+  pub waiting : Option Step
+
+-- a line over a snapshot at opening, of so many workers
+abbrev pub new_line : ℕ → ℕ → LineValue
+new_line index workers = record { index = index; workers = workers; history = []; waiting = None }
+
+-- some steps, and then the one that waits
+abbrev pub with_waiting : List Step → Option Step → List Step
+with_waiting steps None = steps
+with_waiting steps (Some step) = steps ++ step ∷ []
+
+abbrev pub entered : LineValue → List Step
+entered line = with_waiting line.history line.waiting
+
+-- the line once what waits is published
+abbrev pub settled : LineValue → LineValue
+settled line = record line { history = entered line; waiting = None }
+
+-- how many commits are a worker's, the one that waits included
+abbrev pub kept_by : ℕ → LineValue → ℕ
+kept_by worker line = made_by worker (entered line)
+
+-- a step that may be published next
+pub record MayFollow (schema : Schema) (base : Base) (history : List Step) (step : Step) : Type 0 where
+  pub room : length history + 1 < 2 ^ 63
+  pub follows : Follows base history step
+  pub of : AreOf schema (snapshot_of step)
+
+-- A step that is to be published, and the front that it follows.
+pub record PendingValue : Type 0 where
+  pub from : FrontValue
+  pub step : Step
+
+-- a commit is by one of so many workers
+abbrev pub IsBy : ℕ → Step → Type 0
+IsBy workers (Commit entry snapshot) = (0 < entry.worker) × (entry.worker ≤ workers)
+IsBy workers (Reshape job through snapshot) = Unit {0}

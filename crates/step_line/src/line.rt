@@ -1,0 +1,160 @@
+//! The line of an index: what is published of it, and the step that waits. A commit or the end of a job is put here once the disk
+//! has it; publishing it is the one thing that may still find no memory, and is then tried again before anything else is done.
+ghost use Rattle.std.specs.Prelude.{◌≡◌, ◌<◌, ◌≤◌, [], None, Some, OnErr, OnOk, IfOk};
+ghost use Rattle.std.specs.Arc.{arc_value};
+ghost use Rattle.step_history.specs.History.{last_snapshot};
+ghost use Rattle.step_line.specs.Lines.{IsBy, kept_by, new_line, settled};
+
+use crate::counting::count_step;
+use crate::pending::Pending;
+use crate::showing::{WritingEnd, show_next};
+use any_chunk::AnyChunk;
+use doc_types::Snapshot;
+use left_right::writer::Writer;
+use srch_base::NoMemory;
+use std::alloc::Global;
+use std::marker::Model;
+use std::sync::{Arc, Wait};
+use step_book::{Book, Front, Naming};
+use step_tokens::{Note, Shown, Token};
+
+/// The published history of an index with its last snapshot, and the step that waits. It isn't let go of: end it by `close`.
+pub struct Line<J: Naming> {
+    end: WritingEnd<J>,
+    book: Book<J>,
+    front: Front<J>,
+    snapshot: Arc<Snapshot<AnyChunk>, Global>,
+    waiting: Option<Pending<J>>,
+    /// How many commits each worker has made, the one that waits included, from worker 1 on.
+    counts: Vec<u64>,
+}
+
+impl<J: Naming> Model for Line<J> {
+    ghost use Rattle.std.specs.Prelude.{◌≡◌, length};
+    ghost use Rattle.std.specs.Arc.{arc_value};
+    ghost use Rattle.step_history.specs.History.{last_snapshot};
+    ghost use Rattle.step_line.specs.Lines.{LineValue};
+    ghost use Rattle.step_line.specs.steps.Queues.{AreCounts, Waits, step_in};
+
+    ghost Value = { LineValue };
+
+    ghost view = { λ l. record { index = l.front.index; workers = length l.counts.items; history = l.front.steps; waiting = step_in l.waiting } };
+
+    ghost invariant = { λ l. (l.end.desk.shown.value ≡ record { index = l.front.index; snapshot = last_snapshot (J.base l.front.index) l.front.steps; book = J.book l.front.index; steps = l.front.steps }) × (arc_value l.snapshot ≡ last_snapshot (J.base l.front.index) l.front.steps) × (l.book.index ≡ l.front.index) × Waits l.front l.waiting × AreCounts l.counts.items (record { index = l.front.index; workers = length l.counts.items; history = l.front.steps; waiting = step_in l.waiting }) };
+}
+
+impl<J: Naming> Line<J> {
+    /// A line over the snapshot at opening, for so many workers.
+    pub fn open(
+        alloc: Global,
+        book: Book<J>,
+        front: Front<J>,
+        snapshot: Arc<Snapshot<AnyChunk>, Global>,
+        workers: u32,
+    ) -> Result<Line<J>, NoMemory>
+        requires workers { 0 < workers }
+        requires empty { front ≡ record { index = book.index; steps = [] } }
+        requires base { arc_value snapshot ≡ (J.base book.index).opening }
+        ensures { IfOk result (λ line. line ≡ new_line book.index workers) }
+    {
+        let counts = vec![in alloc; 0; workers as usize]?;
+        let first = Shown::new(Arc::try_clone(&snapshot)?, &front);
+        let second = first.again()?;
+        let end = Writer::new(alloc, first, second, workers as usize)?;
+        Ok(Line {
+            end,
+            book,
+            front,
+            snapshot,
+            waiting: None,
+            counts,
+        })
+    }
+
+    /// A token of a worker, which has seen what is published. There is room for as many tokens as there are workers.
+    pub fn token(&self, worker: u32) -> Result<Token<J>, NoMemory>
+        requires { (0 < worker) × (worker ≤ self.now.workers) }
+        ensures { IfOk result (λ token. token ≡ record { index = self.now.index; worker = worker; seen = self.now.history; made = 0 }) }
+    {
+        let end = self.end.factory().reader()?;
+        Ok(Token::new(end, worker, self.front.again()))
+    }
+
+    /// The published history.
+    pub fn front(&self) -> &Front<J>
+        ensures { result.now ≡ record { index = self.now.index; steps = self.now.history } }
+    {
+        &self.front
+    }
+
+    /// A note of it.
+    pub fn note(&self) -> Note<J>
+        ensures { result ≡ record { index = self.now.index; steps = self.now.history } }
+    {
+        Note::of(&self.front)
+    }
+
+    /// Its last snapshot.
+    pub fn snapshot(&self) -> &Arc<Snapshot<AnyChunk>, Global>
+        ensures { arc_value result.now ≡ last_snapshot (J.base self.now.index) self.now.history }
+    {
+        &self.snapshot
+    }
+
+    /// How many workers there are, with the numbers from 1 on.
+    pub fn workers(&self) -> usize
+        ensures { result ≡ self.now.workers }
+    {
+        self.counts.len()
+    }
+
+    /// How many commits a worker has made, the one that waits included.
+    pub fn count(&self, worker: u32) -> u64
+        requires { (0 < worker) × (worker ≤ self.now.workers) }
+        ensures { result ≡ kept_by worker self.now }
+    {
+        self.counts[worker as usize - 1]
+    }
+
+    /// A step waits from now on. A commit is counted as its worker's.
+    pub fn put(&mut self, pending: Pending<J>)
+        requires none { self.old.waiting ≡ None }
+        requires from { pending.from ≡ record { index = self.old.index; steps = self.old.history } }
+        requires by { IsBy self.old.workers pending.step }
+        ensures { self.new ≡ record self.old { waiting = Some pending.step } }
+    {
+        let worker = pending.worker();
+        count_step(&mut self.counts, worker);
+        self.waiting = Some(pending);
+    }
+
+    /// Publishes the step that waits, if one does. Otherwise all is as before.
+    pub fn settle<R: Wait>(&mut self, rt: &R) -> Result<(), NoMemory>
+        ensures ok { OnOk result (self.new ≡ settled self.old) }
+        ensures err { OnErr result (self.new ≡ self.old) }
+    {
+        match &mut self.waiting {
+            None => {}
+            Some(pending) => {
+                let (next, last) = show_next(&mut self.end, rt, &self.book, pending)?;
+                self.front = next;
+                self.snapshot = last;
+                self.waiting = None;
+            }
+        }
+        Ok(())
+    }
+
+    /// Ends the line. It waits for those who still read, and readers find nothing more.
+    pub fn close<R: Wait>(self, rt: &R) {
+        let Line {
+            end,
+            book: _book,
+            front: _front,
+            snapshot: _snapshot,
+            waiting: _waiting,
+            counts: _counts,
+        } = self;
+        let _last = end.take(rt);
+    }
+}

@@ -1,0 +1,72 @@
+//! How a value is shown to readers. `left_right` keeps two copies: what is appended is taken into the one that no reader reads,
+//! and then the copies change places.
+ghost use Rattle.std.specs.Prelude.{◌≡◌, MatchResult, OnErr, OnOk, IfOk, drop};
+ghost use Rattle.std.specs.Arc.{arc_value};
+ghost use Rattle.step_history.specs.History.{last_snapshot};
+ghost use Rattle.step_tokens.specs.Shows.{IsShown};
+ghost use Rattle.step_line.specs.steps.Queues.{longer, queued};
+
+use crate::pending::Pending;
+use any_chunk::AnyChunk;
+use core::mem::replace_with;
+use doc_types::Snapshot;
+use left_right::writer::Writer;
+use srch_base::NoMemory;
+use std::alloc::{AllocError, Global};
+use std::sync::{Arc, Wait};
+use step_book::{Book, Front, Naming};
+use step_tokens::{Idle, Rises, Shown, Shows};
+
+/// The writing end of an index.
+pub type WritingEnd<J> = Writer<Shown, Shown, Idle, Rises<J>>;
+
+/// Shows readers what was appended.
+fn show<J: Naming, R: Wait>(end: WritingEnd<J>, rt: &R) -> (WritingEnd<J>, Result<(), AllocError>)
+    requires { IsShown J.book J.schema J.base (queued end.desk.shown.value (drop end.behind end.log.items)) }
+    ensures { MatchResult result.1 (λ _. result.0.desk.shown.value ≡ queued end.desk.shown.value (drop end.behind end.log.items)) (λ _. result.0.desk.shown.value ≡ end.desk.shown.value) }
+{
+    end.publish_as::<Shows, R>(rt)
+}
+
+/// Publishes a value. Where an earlier one was appended and not shown, it is passed over.
+#[tactic(auto, using(crate::proofs::Lasts::queued_one))]
+fn send<J: Naming, R: Wait>(end: &mut WritingEnd<J>, rt: &R, next: Shown) -> Result<(), NoMemory>
+    requires { IsShown J.book J.schema J.base next }
+    ensures ok { OnOk result (end.new.desk.shown.value ≡ next) }
+    ensures err { OnErr result (end.new.desk.shown.value ≡ end.old.desk.shown.value) }
+{
+    match end.append(next) {
+        Ok(()) => {}
+        Err(_) => return Err(NoMemory),
+    }
+    replace_with(
+        end,
+        rt,
+        |end: WritingEnd<J>, rt: &R| -> (WritingEnd<J>, Result<(), AllocError>)
+            requires { IsShown J.book J.schema J.base (queued end.desk.shown.value (drop end.behind end.log.items)) }
+        { show(end, rt) },
+    )?;
+    Ok(())
+}
+
+/// Publishes a step: the front with it, and the snapshot after it.
+#[tactic(auto, using(crate::proofs::Lasts::last_one))]
+pub(crate) fn show_next<J: Naming, R: Wait>(
+    end: &mut WritingEnd<J>,
+    rt: &R,
+    book: &Book<J>,
+    pending: &mut Pending<J>,
+) -> Result<(Front<J>, Arc<Snapshot<AnyChunk>, Global>), NoMemory>
+    requires { book.now.index ≡ pending.old.from.index }
+    ensures next { IfOk result (λ r. r.0 ≡ longer pending.old.from pending.old.step) }
+    ensures last { IfOk result (λ r. arc_value r.1 ≡ last_snapshot (J.base r.0.index) r.0.steps) }
+    ensures shown { IfOk result (λ r. end.new.desk.shown.value ≡ record { index = r.0.index; snapshot = last_snapshot (J.base r.0.index) r.0.steps; book = J.book r.0.index; steps = r.0.steps }) }
+    ensures err { OnErr result (end.new.desk.shown.value ≡ end.old.desk.shown.value) }
+    ensures same { pending.new ≡ pending.old }
+{
+    let next = pending.enter(book)?;
+    let last = pending.snapshot()?;
+    let again = Arc::try_clone(&last)?;
+    send(end, rt, Shown::new(again, &next))?;
+    Ok((next, last))
+}
