@@ -1,0 +1,4 @@
+pub mod Spellings
+pub mod HitSteps
+pub mod Writing
+pub mod Reading

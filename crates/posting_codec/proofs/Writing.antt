@@ -1,0 +1,44 @@
+-- A hit list while it is written.
+use Rattle.std.proofs.Common.{◌≡◌, ℕ, suc, ◌+◌, ◌-◌, ◌<◌, List, [], ◌∷◌, ◌++◌, length, drop, take, get_or, refl, sym, ap, subst, ◌∙◌, append_assoc, append-nil, add-one}
+use Rattle.std.proofs.Math.Seq.{drop-cons, drop-length}
+use Rattle.std.proofs.lemmas.List.{take_at}
+use Rattle.posting_codec.specs.HitLists.{IsHit, key, Ascend, AreHits, differences, hit_list}
+use Rattle.posting_codec.specs.Numbers.{number}
+
+-- what was appended to the list at the start, and the differences of the hits from this one on, are the spelling
+pub record Written (hits : List (ℕ × ℕ)) (start out : List ℕ) (i last : ℕ) : Type 0 where
+  pub ascend : Ascend last (drop i hits)
+  pub bytes : List ℕ
+  pub grown : out ≡ start ++ bytes
+  pub all : bytes ++ differences last (drop i hits) ≡ hit_list hits
+
+pub written_none : (hits : List (ℕ × ℕ)) (start out : List ℕ) → AreHits hits → out ≡ start ++ number (length hits) → Written hits start out 0 0
+unfolding hit_list
+written_none hits start out are e = record { ascend = are.ascend; bytes = number (length hits); grown = e; all = refl }
+
+-- the hit at a place is one, and behind those before
+pub hit_here : (hits : List (ℕ × ℕ)) (start out : List ℕ) (i last : ℕ) (hit : ℕ × ℕ) → Written hits start out i last → i < length hits → hit ≡ get_or hits i hit → IsHit hit × (last < key hit) × Ascend (key hit) (drop (i + 1) hits)
+hit_here hits start out i last hit w h e =
+    let here : drop i hits ≡ hit ∷ drop (i + 1) hits = rw (add-one i) (drop-cons hits i hit h ∙ ap (λ x. x ∷ drop (suc i) hits) (sym e)) in
+    let its : Ascend last (hit ∷ drop (i + 1) hits) = subst (Ascend last) here w.ascend in
+    (its.0, its.1, its.2)
+
+pub written_more : (hits : List (ℕ × ℕ)) (start out after : List ℕ) (i last next : ℕ) (hit : ℕ × ℕ) → Written hits start out i last → i < length hits → hit ≡ get_or hits i hit → next ≡ key hit → after ≡ out ++ number (next - last) → Written hits start after (i + 1) next
+written_more hits start out after i last next hit w h e k a =
+    let here : drop i hits ≡ hit ∷ drop (i + 1) hits = rw (add-one i) (drop-cons hits i hit h ∙ ap (λ x. x ∷ drop (suc i) hits) (sym e)) in
+    let piece = number (key hit - last) in
+    subst (Written hits start after (i + 1)) (sym k) (record {
+      ascend = (hit_here hits start out i last hit w h e).2;
+      bytes = w.bytes ++ piece;
+      grown = a ∙ ap (λ n. out ++ number (n - last)) k ∙ ap (λ l. l ++ piece) w.grown ∙ append_assoc start w.bytes piece;
+      all = append_assoc w.bytes piece (differences (key hit) (drop (i + 1) hits)) ∙ ap (λ l. w.bytes ++ differences last l) (sym here) ∙ w.all;
+    })
+
+pub written_all : (hits : List (ℕ × ℕ)) (start out : List ℕ) (i last : ℕ) → Written hits start out i last → i ≡ length hits → out ≡ start ++ hit_list hits
+written_all hits start out i last w e =
+    let none : drop i hits ≡ [] = ap (λ n. drop n hits) e ∙ drop-length hits in
+    let all : w.bytes ≡ hit_list hits = sym (append-nil w.bytes) ∙ ap (λ l. w.bytes ++ differences last l) (sym none) ∙ w.all in
+    w.grown ∙ ap (λ l. start ++ l) all
+
+pub written_front : (hits : List (ℕ × ℕ)) (start out : List ℕ) (i last : ℕ) → Written hits start out i last → take (length start) out ≡ start
+written_front hits start out i last w = rw w.grown (take_at start w.bytes (length start) refl)

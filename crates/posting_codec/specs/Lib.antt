@@ -1,0 +1,6 @@
+-- short numbers, and where one stands
+pub mod Numbers
+-- hits, their lists, and where one stands
+pub mod HitLists
+-- what serves proofs alone
+pub mod steps

@@ -1,0 +1,4 @@
+-- parts of a short number's spelling
+pub mod Parts
+-- a hit list while it is read
+pub mod Differences
