@@ -8,7 +8,8 @@ It refuses, by file and line,
                   one, that isn't there
     dependencies  a library in a crate's line of crates.txt that neither its src/ nor its specs/ nor its proofs/ name; one
                   of the repository's that they name and the line has not. The toolchain wants no more: what a crate
-                  below passes on, by `pub use`, in a type or in a clause, it finds by itself
+                  below passes on, by `pub use`, in a type or in a clause, it finds by itself. What it does want beside a
+                  library of the kit (`BESIDE`) may be listed
     tables        tables of tests that differ from what the scripts `*_cases.py` make of docs/cases
 
 and ends with the number of each that it looked at. The status is 1 where it refused something.
@@ -29,6 +30,8 @@ LINK = re.compile(r"\]\(([^)\s]+)\)")
 CODE = re.compile(r"(`+)(?!`).*?(?<!`)\1(?!`)")
 FENCE = re.compile(r"\s*```")
 NAMED = re.compile(r"\b(?:Rattle\.(\w+)\.|(\w+)::|use (\w+)[;\s])")
+# what the kit asks of whoever names a library: the ruled ends of left_right are made of the other two
+BESIDE = {"left_right": {"crossbeam_utils", "atomic_table"}}
 OWN_MODULE = re.compile(r"^\s*(?:pub(?:\(crate\))? )?mod (\w+)", re.M)
 
 
@@ -129,8 +132,9 @@ def wrong_dependencies(lines):
     crates = {crate for _, crate, _ in lines}
     for number, crate, listed in lines:
         named, own = names_of(crate)
+        beside = set().union(*(BESIDE.get(library, set()) for library in listed))
         for library in listed:
-            if library not in named:
+            if library not in named | beside:
                 yield "crates.txt", number, f"{crate} lists {library}, which nothing in it names"
         for library in sorted(named & crates - own - {crate} - set(listed)):
             yield "crates.txt", number, f"{crate} names {library}, which its line has not"
