@@ -1,5 +1,5 @@
 -- The layers of a store in memory, and how they are put together.
-use Rattle.std.specs.Prelude.{◌≡◌, ◌≢◌, ◌⊎◌, ℕ, ◌<◌, List, [], ◌∷◌, ◌++◌, false, All, AllPairs, length, take, drop}
+use Rattle.std.specs.Prelude.{◌≡◌, ◌≢◌, ◌⊎◌, ℕ, ◌+◌, ◌<◌, List, [], ◌∷◌, ◌++◌, false, All, AllPairs, length, take, drop}
 use Rattle.std.specs.List.Sorted.{IsPermutation}
 use Rattle.doc_types.specs.declared.documents.DocRow.{DocRow}
 use Rattle.doc_types.specs.declared.schema.Schema.{Schema}

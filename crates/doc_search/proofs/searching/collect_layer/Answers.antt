@@ -1,5 +1,6 @@
-use Rattle.std.proofs.Common.{◌≡◌, ◌∙◌, ap}
+use Rattle.std.proofs.Common.{◌≡◌, ◌∙◌, ℕ, [], Option, None, ap, rules, subst, arith}
 use Rattle.doc_types.specs.Snapshots.{LayerValue}
+use Rattle.op_eval.specs.Streams.{GoesOn, GoesTo, ahead}
 use Rattle.doc_search.specs.declared.question.Question.{Question}
 use Rattle.doc_search.proofs.Gathering.{on_way_first, on_way_last, on_way_next, stands_at}
 use Rattle.doc_search.proofs.searching.collect_layer.Goals as goal

@@ -1,4 +1,4 @@
-use Rattle.std.proofs.Common.{◌∙◌, ap, sym, refl}
+use Rattle.std.proofs.Common.{◌≡◌, ◌∙◌, ap, sym, refl, true, false, rules}
 use Rattle.row_select.specs.Filters.{hold_weighed}
 use Rattle.row_select.specs.declared.row.Row.{Row}
 use Rattle.doc_search.specs.declared.question.Question.{Question}
