@@ -42,6 +42,11 @@ pub record PendingValue : Type 0 where
   pub from : FrontValue
   pub step : Step
 
+-- the step that waits, if one does
+abbrev pub step_in : Option PendingValue → Option Step
+step_in None = None
+step_in (Some pending) = Some pending.step
+
 -- a commit is by one of so many workers
 abbrev pub IsBy : ℕ → Step → Type 0
 IsBy workers (Commit entry snapshot) = (0 < entry.worker) × (entry.worker ≤ workers)

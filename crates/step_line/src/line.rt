@@ -33,8 +33,8 @@ impl<J: Naming> Model for Line<J> {
     ghost use Rattle.std.specs.Prelude.{◌≡◌, length};
     ghost use Rattle.std.specs.Arc.{arc_value};
     ghost use Rattle.step_history.specs.History.{last_snapshot};
-    ghost use Rattle.step_line.specs.Lines.{LineValue};
-    ghost use Rattle.step_line.specs.steps.Queues.{AreCounts, Waits, step_in};
+    ghost use Rattle.step_line.specs.Lines.{LineValue, step_in};
+    ghost use Rattle.step_line.specs.steps.Queues.{AreCounts, Waits};
 
     ghost Value = { LineValue };
 

@@ -11,10 +11,6 @@ abbrev pub Waits : FrontValue → Option PendingValue → Type 0
 Waits front None = Unit {0}
 Waits front (Some pending) = pending.from ≡ front
 
-abbrev pub step_in : Option PendingValue → Option Step
-step_in None = None
-step_in (Some pending) = Some pending.step
-
 -- the front with one more step
 abbrev pub longer : FrontValue → Step → FrontValue
 longer front step = record front { steps = front.steps ++ step ∷ [] }
