@@ -1,0 +1,85 @@
+//! Numbers with their spellings, and bytes with which no number is spelled.
+use crate::hexadecimal::bytes_of;
+use posting_codec::{number_at, put_number, read_number};
+use std::alloc::Global;
+use std::test::Fail;
+
+/// Each number with its spelling, worked out by hand at the edges of one to five bytes. 150 and 300 are the examples of the
+/// encoding of Protocol Buffers, 624,485 is Wikipedia's of LEB128.
+const SPELLINGS: &str = "\
+0 00
+1 01
+127 7f
+128 8001
+150 9601
+300 ac02
+16383 ff7f
+16384 808001
+624485 e58e26
+2097151 ffff7f
+2097152 80808001
+268435455 ffffff7f
+268435456 8080808001
+4294967295 ffffffff0f";
+
+/// Bytes that begin with no number: none, cut ones, longer spellings, a fifth byte too large, and more than five bytes.
+const NO_NUMBERS: &str =
+    "-,80,ff,ffff,80808080,8000,ff00,818000,8080808000,ffffffff10,ffffffff7f,808080808001";
+
+/// The number is spelled so: it is written so behind other bytes, and read before others, by both readers.
+fn is_spelled(alloc: Global, value: u32, spelling: &[u8]) -> Result<bool, Fail> {
+    let mut bytes = Vec::new(alloc);
+    bytes.push(0xff)?;
+    put_number(value, &mut bytes)?;
+    if bytes.get(1..) != Some(spelling) {
+        return Ok(false);
+    }
+    bytes.push(0xff)?;
+    match read_number(&bytes, 1) {
+        Some(read) => Ok(read == (value, 1 + spelling.len()) && number_at(&bytes, 1) == read),
+        None => Ok(false),
+    }
+}
+
+/// The first line of the table that is wrong, from 1, or 0.
+fn first_wrong(alloc: Global) -> Result<usize, Fail> {
+    for (line, row) in SPELLINGS.split('\n').enumerate() {
+        let (value, digits) = row.split_once(' ').ok_or("no spelling")?;
+        let spelling = bytes_of(alloc, digits)?;
+        if !is_spelled(alloc, value.parse::<u32>()?, &spelling)? {
+            return Ok(line.saturating_add(1));
+        }
+    }
+    Ok(0)
+}
+
+/// The first bytes that a number is read from though none is spelled, from 1, or 0.
+fn first_read(alloc: Global) -> Result<usize, Fail> {
+    for (entry, digits) in NO_NUMBERS.split(',').enumerate() {
+        let bytes = bytes_of(alloc, digits.trim_matches('-'))?;
+        if read_number(&bytes, 0).is_some() {
+            return Ok(entry.saturating_add(1));
+        }
+    }
+    Ok(0)
+}
+
+#[test]
+fn numbers_have_these_spellings(rt: HostRuntime) -> Result<(), Fail> {
+    let wrong = first_wrong(rt.alloc())?;
+    assert_eq!(rt; wrong, 0);
+    Ok(())
+}
+
+#[test]
+fn no_number_is_read_from_other_bytes(rt: HostRuntime) -> Result<(), Fail> {
+    let read = first_read(rt.alloc())?;
+    assert_eq!(rt; read, 0);
+    Ok(())
+}
+
+#[test]
+fn no_number_is_read_behind_the_end(rt: HostRuntime) {
+    assert!(rt; read_number(&[1], 1).is_none());
+    assert!(rt; read_number(&[1], usize::MAX).is_none());
+}
