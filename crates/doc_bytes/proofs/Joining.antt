@@ -1,8 +1,8 @@
 -- Writes in a row, and one more element.
-use Rattle.std.proofs.Common.{◌≡◌, ◌<◌, ℕ, ◌+◌, List, [], ◌∷◌, ◌++◌, Result, Ok, Err, refl, sym, ◌∙◌, ap, take, length, get_or, arith, append_assoc}
+use Rattle.std.proofs.Common.{◌≡◌, ◌<◌, ℕ, ◌+◌, List, [], ◌∷◌, ◌++◌, Result, Ok, Err, refl, sym, ◌∙◌, ap, take, drop, length, get_or, arith, append_assoc}
 use Rattle.std.specs.Prelude.{OnOk}
 use Rattle.std.specs.List.{flat_map}
-use Rattle.std.proofs.lemmas.List.{append-nil, take_more}
+use Rattle.std.proofs.lemmas.List.{append-nil, take_at, take-append-drop, take_more}
 use Rattle.doc_types.specs.declared.tokens.FieldTokens.{FieldTokens}
 use Rattle.doc_bytes.specs.Payload.{span_bytes, spans_bytes}
 
@@ -26,3 +26,9 @@ pub spans_more : (fields : List FieldTokens) (i : ℕ) (field : FieldTokens) →
 spans_more fields i field within is size =
     ap (spans_bytes 0) (take_more fields i field within ∙ ap (λ (f : FieldTokens). take i fields ++ f ∷ []) (sym is))
     ∙ spans_push 0 (take i fields) field ∙ ap (λ (m : ℕ). spans_bytes 0 (take i fields) ++ flat_map (span_bytes m) field.spans) (omega (arith, size))
+
+-- a prefix of a prefix is a prefix
+pub front_stays : (old more mid new : List ℕ) (n m : ℕ) → length old ≡ n → mid ≡ old ++ more → take m new ≡ mid → take n new ≡ old
+front_stays old more mid new n m len behind kept =
+    let parts : new ≡ old ++ (more ++ drop m new) = sym (take-append-drop m new) ∙ ap (λ (front : List ℕ). front ++ drop m new) (kept ∙ behind) ∙ append_assoc old more (drop m new) in
+    ap (take n) parts ∙ take_at old (more ++ drop m new) n len

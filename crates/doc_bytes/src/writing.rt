@@ -9,7 +9,7 @@
 //!   2, an id removed      id (8)
 //!   3, all removed
 //! ```
-ghost use Rattle.std.specs.Prelude.{◌≡◌, ◌++◌, ◌≤◌, ◌<◌, ◌^◌, All, length, OnOk};
+ghost use Rattle.std.specs.Prelude.{◌≡◌, ◌++◌, ◌≤◌, ◌<◌, ◌^◌, All, length, take, vec_len, OnOk, OnErr};
 ghost use Rattle.std.specs.List.{flat_map};
 ghost use Rattle.doc_types.specs.Documents.{IsDocOf, IsField, IsWord};
 ghost use Rattle.doc_types.specs.Schemas.{IsSchema};
@@ -20,10 +20,25 @@ ghost use Rattle.doc_bytes.specs.Payload.{all_spans_bytes, doc_bytes, field_byte
 use doc_types::{Doc, FieldTokens, Gap, TokenWord, Txn, TxnOp, Value, ZoneSpan};
 use srch_base::{NoMemory, put_u16, put_u32, put_u64};
 
-/// Appends the one spelling of a transaction.
+/// Appends the one spelling of a transaction. After want of memory what was there is as before.
 pub fn put_txn(txn: &Txn, out: &mut Vec<u8>) -> Result<(), NoMemory>
     requires { (schema : Schema) × IsSchema schema × IsTxnOf schema txn.now }
-    ensures { OnOk result (out.new.items ≡ out.old.items ++ payload txn.now) }
+    ensures ok { OnOk result (out.new.items ≡ out.old.items ++ payload txn.now) }
+    ensures err { OnErr result (out.new.items ≡ out.old.items) }
+{
+    let before = out.len();
+    let written = write_txn(txn, out);
+    if written.is_err() {
+        out.truncate(before);
+    }
+    written
+}
+
+/// Appends the spelling of a transaction; after want of memory, a part of it at most.
+fn write_txn(txn: &Txn, out: &mut Vec<u8>) -> Result<(), NoMemory>
+    requires { (schema : Schema) × IsSchema schema × IsTxnOf schema txn.now }
+    ensures ok { OnOk result (out.new.items ≡ out.old.items ++ payload txn.now) }
+    ensures front { take (vec_len out.old) out.new.items ≡ out.old.items }
 {
     put_u32(txn.ops.len() as u32, out)?;
     put_ops(txn.ops.as_slice(), out)
@@ -31,7 +46,8 @@ pub fn put_txn(txn: &Txn, out: &mut Vec<u8>) -> Result<(), NoMemory>
 
 fn put_ops(ops: &[TxnOp], out: &mut Vec<u8>) -> Result<(), NoMemory>
     requires { (schema : Schema) × IsSchema schema × All (IsOpOf schema) ops.now }
-    ensures { OnOk result (out.new.items ≡ out.old.items ++ flat_map op_bytes ops.now) }
+    ensures ok { OnOk result (out.new.items ≡ out.old.items ++ flat_map op_bytes ops.now) }
+    ensures front { take (vec_len out.old) out.new.items ≡ out.old.items }
 {
     for op in ops {
         put_op(op, out)?;
@@ -41,7 +57,8 @@ fn put_ops(ops: &[TxnOp], out: &mut Vec<u8>) -> Result<(), NoMemory>
 
 fn put_op(op: &TxnOp, out: &mut Vec<u8>) -> Result<(), NoMemory>
     requires { (schema : Schema) × IsSchema schema × IsOpOf schema op.now }
-    ensures { OnOk result (out.new.items ≡ out.old.items ++ op_bytes op.now) }
+    ensures ok { OnOk result (out.new.items ≡ out.old.items ++ op_bytes op.now) }
+    ensures front { take (vec_len out.old) out.new.items ≡ out.old.items }
 {
     match op {
         TxnOp::Insert(doc) | TxnOp::Put(doc) => {
@@ -58,7 +75,8 @@ fn put_op(op: &TxnOp, out: &mut Vec<u8>) -> Result<(), NoMemory>
 
 fn put_doc(doc: &Doc, out: &mut Vec<u8>) -> Result<(), NoMemory>
     requires { (schema : Schema) × IsSchema schema × IsDocOf schema doc.now }
-    ensures { OnOk result (out.new.items ≡ out.old.items ++ doc_bytes doc.now) }
+    ensures ok { OnOk result (out.new.items ≡ out.old.items ++ doc_bytes doc.now) }
+    ensures front { take (vec_len out.old) out.new.items ≡ out.old.items }
 {
     put_u64(doc.id, out)?;
     put_values(doc.values.as_slice(), out)?;
@@ -67,7 +85,8 @@ fn put_doc(doc: &Doc, out: &mut Vec<u8>) -> Result<(), NoMemory>
 }
 
 fn put_values(values: &[Value], out: &mut Vec<u8>) -> Result<(), NoMemory>
-    ensures { OnOk result (out.new.items ≡ out.old.items ++ flat_map value_bytes values.now) }
+    ensures ok { OnOk result (out.new.items ≡ out.old.items ++ flat_map value_bytes values.now) }
+    ensures front { take (vec_len out.old) out.new.items ≡ out.old.items }
 {
     for value in values {
         put_value(*value, out)?;
@@ -76,7 +95,8 @@ fn put_values(values: &[Value], out: &mut Vec<u8>) -> Result<(), NoMemory>
 }
 
 fn put_value(value: Value, out: &mut Vec<u8>) -> Result<(), NoMemory>
-    ensures { OnOk result (out.new.items ≡ out.old.items ++ value_bytes value) }
+    ensures ok { OnOk result (out.new.items ≡ out.old.items ++ value_bytes value) }
+    ensures front { take (vec_len out.old) out.new.items ≡ out.old.items }
 {
     let Value::Whole(number) = value;
     put_u64(number.cast_unsigned(), out)
@@ -84,7 +104,8 @@ fn put_value(value: Value, out: &mut Vec<u8>) -> Result<(), NoMemory>
 
 fn put_fields(fields: &[FieldTokens], out: &mut Vec<u8>) -> Result<(), NoMemory>
     requires { All IsField fields.now }
-    ensures { OnOk result (out.new.items ≡ out.old.items ++ flat_map field_bytes fields.now) }
+    ensures ok { OnOk result (out.new.items ≡ out.old.items ++ flat_map field_bytes fields.now) }
+    ensures front { take (vec_len out.old) out.new.items ≡ out.old.items }
 {
     for field in fields {
         put_field(field, out)?;
@@ -94,7 +115,8 @@ fn put_fields(fields: &[FieldTokens], out: &mut Vec<u8>) -> Result<(), NoMemory>
 
 fn put_field(field: &FieldTokens, out: &mut Vec<u8>) -> Result<(), NoMemory>
     requires { IsField field.now }
-    ensures { OnOk result (out.new.items ≡ out.old.items ++ field_bytes field.now) }
+    ensures ok { OnOk result (out.new.items ≡ out.old.items ++ field_bytes field.now) }
+    ensures front { take (vec_len out.old) out.new.items ≡ out.old.items }
 {
     put_u32(field.words.len() as u32, out)?;
     put_words(field.words.as_slice(), out)
@@ -102,7 +124,8 @@ fn put_field(field: &FieldTokens, out: &mut Vec<u8>) -> Result<(), NoMemory>
 
 fn put_words(words: &[TokenWord], out: &mut Vec<u8>) -> Result<(), NoMemory>
     requires { All (λ token. IsWord token.word) words.now }
-    ensures { OnOk result (out.new.items ≡ out.old.items ++ flat_map word_bytes words.now) }
+    ensures ok { OnOk result (out.new.items ≡ out.old.items ++ flat_map word_bytes words.now) }
+    ensures front { take (vec_len out.old) out.new.items ≡ out.old.items }
 {
     for word in words {
         put_word(word, out)?;
@@ -112,7 +135,8 @@ fn put_words(words: &[TokenWord], out: &mut Vec<u8>) -> Result<(), NoMemory>
 
 fn put_word(token: &TokenWord, out: &mut Vec<u8>) -> Result<(), NoMemory>
     requires { IsWord token.now.word }
-    ensures { OnOk result (out.new.items ≡ out.old.items ++ word_bytes token.now) }
+    ensures ok { OnOk result (out.new.items ≡ out.old.items ++ word_bytes token.now) }
+    ensures front { take (vec_len out.old) out.new.items ≡ out.old.items }
 {
     out.push(match token.gap {
         Gap::None => 0,
@@ -128,7 +152,8 @@ fn put_word(token: &TokenWord, out: &mut Vec<u8>) -> Result<(), NoMemory>
 fn put_all_spans(fields: &[FieldTokens], out: &mut Vec<u8>) -> Result<(), NoMemory>
     requires few { span_count fields.now < 2 ^ 32 }
     requires numbered { length fields.now ≤ 2 ^ 16 }
-    ensures { OnOk result (out.new.items ≡ out.old.items ++ all_spans_bytes fields.now) }
+    ensures ok { OnOk result (out.new.items ≡ out.old.items ++ all_spans_bytes fields.now) }
+    ensures front { take (vec_len out.old) out.new.items ≡ out.old.items }
 {
     put_u32(count_spans(fields), out)?;
     for (number, field) in fields.iter().enumerate() {
@@ -149,7 +174,8 @@ fn count_spans(fields: &[FieldTokens]) -> u32
 }
 
 fn put_spans(field: u16, spans: &[ZoneSpan], out: &mut Vec<u8>) -> Result<(), NoMemory>
-    ensures { OnOk result (out.new.items ≡ out.old.items ++ flat_map (span_bytes field) spans.now) }
+    ensures ok { OnOk result (out.new.items ≡ out.old.items ++ flat_map (span_bytes field) spans.now) }
+    ensures front { take (vec_len out.old) out.new.items ≡ out.old.items }
 {
     for span in spans {
         put_span(field, span, out)?;
@@ -158,7 +184,8 @@ fn put_spans(field: u16, spans: &[ZoneSpan], out: &mut Vec<u8>) -> Result<(), No
 }
 
 fn put_span(field: u16, span: &ZoneSpan, out: &mut Vec<u8>) -> Result<(), NoMemory>
-    ensures { OnOk result (out.new.items ≡ out.old.items ++ span_bytes field span.now) }
+    ensures ok { OnOk result (out.new.items ≡ out.old.items ++ span_bytes field span.now) }
+    ensures front { take (vec_len out.old) out.new.items ≡ out.old.items }
 {
     put_u16(field, out)?;
     put_u16(span.zone, out)?;

@@ -6,8 +6,8 @@ use Rattle.doc_bytes.specs.Payload.{all_spans_bytes, field_bytes, value_bytes}
 use Rattle.doc_bytes.proofs.Joining.{four}
 use Rattle.doc_bytes.proofs.writing.put_doc.Goals as goal
 
-pub returns : goal.returns
-returns c =
+pub returns-clause-ok : goal.returns-clause-ok
+returns-clause-ok c =
     let doc = c.args.doc.now in
     let values : c.put_values.new.out.items ≡ c.put_u64.new.out.items ++ flat_map value_bytes doc.values = search rules in
     let fields : c.put_fields.new.out.items ≡ c.put_values.new.out.items ++ flat_map field_bytes doc.fields = search rules in
