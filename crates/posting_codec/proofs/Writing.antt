@@ -1,9 +1,10 @@
 -- A hit list while it is written.
-use Rattle.std.proofs.Common.{◌≡◌, ℕ, suc, ◌+◌, ◌-◌, ◌<◌, List, [], ◌∷◌, ◌++◌, length, drop, take, get_or, refl, sym, ap, subst, ◌∙◌, append_assoc, append-nil, add-one}
+use Rattle.std.proofs.Common.{◌≡◌, ℕ, suc, ◌+◌, ◌-◌, List, [], ◌∷◌, ◌++◌, length, drop, take, get_or, refl, sym, ap, subst, ◌∙◌, append_assoc, append-nil, add-one, arith, length-append, ◌<◌, ◌^◌}
 use Rattle.std.proofs.Math.Seq.{drop-cons, drop-length}
 use Rattle.std.proofs.lemmas.List.{take_at}
 use Rattle.posting_codec.specs.HitLists.{IsHit, key, Ascend, AreHits, differences, hit_list}
 use Rattle.posting_codec.specs.Numbers.{number}
+use Rattle.posting_codec.proofs.Entries.{list_short}
 
 -- what was appended to the list at the start, and the differences of the hits from this one on, are the spelling
 pub record Written (hits : List (ℕ × ℕ)) (start out : List ℕ) (i last : ℕ) : Type 0 where
@@ -42,3 +43,44 @@ written_all hits start out i last w e =
 
 pub written_front : (hits : List (ℕ × ℕ)) (start out : List ℕ) (i last : ℕ) → Written hits start out i last → take (length start) out ≡ start
 written_front hits start out i last w = rw w.grown (take_at start w.bytes (length start) refl)
+
+-- so many bytes were counted, and the differences of the hits from this one on are the rest of the spelling
+pub record Counted (hits : List (ℕ × ℕ)) (i last counted : ℕ) : Type 0 where
+  pub ascend : Ascend last (drop i hits)
+  pub all : counted + length (differences last (drop i hits)) ≡ length (hit_list hits)
+  pub short : length (hit_list hits) < 2 ^ 24
+
+pub counted_none : (hits : List (ℕ × ℕ)) (n : ℕ) → AreHits hits → n ≡ length (number (length hits)) → Counted hits 0 0 n
+unfolding hit_list
+counted_none hits n are e = record {
+  ascend = are.ascend;
+  all = ap (λ m. m + length (differences 0 hits)) e ∙ sym (length-append (number (length hits)) (differences 0 hits));
+  short = list_short hits are;
+}
+
+counted_here : (hits : List (ℕ × ℕ)) (i : ℕ) (hit : ℕ × ℕ) → i < length hits → hit ≡ get_or hits i hit → drop i hits ≡ hit ∷ drop (i + 1) hits
+counted_here hits i hit h e = rw (add-one i) (drop-cons hits i hit h ∙ ap (λ x. x ∷ drop (suc i) hits) (sym e))
+
+-- the hit at a place is one, and behind those before
+pub hit_counted : (hits : List (ℕ × ℕ)) (i last counted : ℕ) (hit : ℕ × ℕ) → Counted hits i last counted → i < length hits → hit ≡ get_or hits i hit → IsHit hit × (last < key hit) × (counted + length (number (key hit - last)) < 2 ^ 24)
+hit_counted hits i last counted hit c h e =
+    let here = counted_here hits i hit h e in
+    let its : Ascend last (hit ∷ drop (i + 1) hits) = subst (Ascend last) here c.ascend in
+    let long = ap (λ l. length (differences last l)) here in
+    (its.0, its.1, omega (arith, c.all, c.short, long, length-append (number (key hit - last)) (differences (key hit) (drop (i + 1) hits))))
+
+pub counted_more : (hits : List (ℕ × ℕ)) (i last next counted after : ℕ) (hit : ℕ × ℕ) → Counted hits i last counted → i < length hits → hit ≡ get_or hits i hit → next ≡ key hit → after ≡ counted + length (number (next - last)) → Counted hits (i + 1) next after
+counted_more hits i last next counted after hit c h e k a =
+    let here = counted_here hits i hit h e in
+    let its : Ascend last (hit ∷ drop (i + 1) hits) = subst (Ascend last) here c.ascend in
+    let long = ap (λ l. length (differences last l)) here in
+    subst (λ n. Counted hits (i + 1) n after) (sym k) (record {
+      ascend = its.2;
+      all = omega (arith, c.all, a, ap (λ n. length (number (n - last))) k, long, length-append (number (key hit - last)) (differences (key hit) (drop (i + 1) hits)));
+      short = c.short;
+    })
+
+pub counted_all : (hits : List (ℕ × ℕ)) (i last counted : ℕ) → Counted hits i last counted → i ≡ length hits → counted ≡ length (hit_list hits)
+counted_all hits i last counted c e =
+    let none : drop i hits ≡ [] = ap (λ n. drop n hits) e ∙ drop-length hits in
+    omega (arith, c.all, ap (λ l. length (differences last l)) none)

@@ -15,7 +15,7 @@ ghost use Rattle.posting_codec.specs.Numbers.{number};
 ghost use Rattle.posting_codec.specs.HitLists.{IsHit, key, AreHits, differences, hit_list, AreHitsAt};
 ghost use Rattle.posting_codec.specs.steps.Differences.{IsBehind, AreDifferencesAt};
 
-use crate::numbers::{number_at, put_number, read_number};
+use crate::numbers::{number_at, number_length, put_number, read_number};
 use srch_base::NoMemory;
 use std::alloc::Global;
 
@@ -158,4 +158,20 @@ pub fn hits_at(bytes: &[u8], at: usize, into: &mut Vec<(u16, u32)>) -> Result<()
         }
     }
     Ok(())
+}
+
+/// How many bytes the spelling of a hit list takes.
+#[tactic(auto, using(crate::proofs::Writing::counted_none, crate::proofs::Writing::counted_more, crate::proofs::Writing::counted_all, crate::proofs::Writing::hit_counted))]
+pub fn hits_length(hits: &[(u16, u32)]) -> u32
+    requires { AreHits hits.now }
+    ensures { result ≡ length (hit_list hits.now) }
+{
+    let mut length = number_length(hits.len() as u32);
+    let mut last = 0;
+    for hit in hits {
+        let key = key_of(*hit);
+        length += number_length(key - last);
+        last = key;
+    }
+    length
 }

@@ -106,3 +106,22 @@ fn part_at(bytes: &[u8], at: usize, more: u32) -> (u32, usize)
         ((first - 128) as u32 + 128 * high, end)
     }
 }
+
+/// How many bytes the number's spelling takes: 1 to 5.
+#[inline]
+#[tactic(auto, unfolding(crate::specs::Numbers::number))]
+pub fn number_length(value: u32) -> u32
+    ensures { result ≡ length (number value) }
+{
+    if value < 128 {
+        1
+    } else if value / 128 < 128 {
+        2
+    } else if value / 128 / 128 < 128 {
+        3
+    } else if value / 128 / 128 / 128 < 128 {
+        4
+    } else {
+        5
+    }
+}

@@ -1,0 +1,9 @@
+pub mod Fixed
+pub mod MarksTold
+pub mod PostingsTold
+pub mod RowsPosted
+pub mod WordsTold
+pub mod RowsTold
+pub mod Orderly
+pub mod OneImage
+pub mod OneList

@@ -1,0 +1,6 @@
+-- boundaries and spans of a row
+pub mod Marks
+-- the whole image
+pub mod ChunkImage
+-- an example
+pub mod Example
