@@ -9,7 +9,7 @@ use Rattle.doc_types.specs.declared.tokens.Gap.{Gap}
 use Rattle.doc_types.specs.declared.tokens.Gap.TheVariants as gaps
 use Rattle.doc_types.specs.declared.tokens.TokenWord.{TokenWord}
 
-some_step : (gap : Gap) → 1 ≤ step gap
+pub some_step : (gap : Gap) → 1 ≤ step gap
 some_step gaps.None = omega arith
 some_step gaps.Sentence = omega arith
 some_step gaps.Paragraph = omega arith

@@ -1,3 +1,11 @@
 pub mod Fitting
 pub mod Joining
 pub mod Lengths
+pub mod Searching
+pub mod Words
+pub mod WordForms
+pub mod Spans
+pub mod SpanForms
+pub mod SpanFields
+pub mod Docs
+pub mod Txns

@@ -1,0 +1,2 @@
+-- fields at the front of bytes, one after another
+pub mod Fields

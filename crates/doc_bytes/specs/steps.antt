@@ -1,0 +1,2 @@
+-- words whose positions ascend
+pub mod Sorted
