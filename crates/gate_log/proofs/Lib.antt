@@ -1,3 +1,4 @@
+pub mod FileFronts
 pub mod Fronts
 pub mod OneMore
 pub mod Standing

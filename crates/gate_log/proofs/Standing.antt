@@ -6,15 +6,19 @@ use Rattle.std.specs.List.{All}
 use Rattle.chunk_store.specs.Images.{contents}
 use Rattle.gate_log.specs.declared.records.LogRecord.{LogRecord}
 use Rattle.gate_log.specs.declared.log.GateLog.{GateLog}
-use Rattle.gate_log.specs.Logs.{Stands, IsLogOf, AreRecords, AreConsecutive, Fits, spelled}
+use Rattle.gate_log.specs.Logs.{Stands, IsLogOf, AreRecords, AreConsecutive, Fits, quiet_log, spelled}
 use Rattle.gate_log.proofs.OneMore.{spelled-push}
-use Rattle.std.proofs.Common.{Vec, Err}
+use Rattle.std.proofs.Common.{Vec, Result, Ok, Err, ◌≤◌, length, map, take, drop, append_assoc, arith, take-append-drop}
+use Rattle.std.proofs.lemmas.List.{length-map, take_all}
 use Rattle.std.specs.declared.alloc.Global.{Global}
 use Rattle.chunk_store.specs.Calls.{Finds}
-use Rattle.gate_log.specs.Reading.{IsReadAs, IsBadAt, IsBadFile, Opens, Reads, ReadsFile}
+use Rattle.gate_log.specs.steps.Parts.{IsOfBytes}
+use Rattle.gate_log.specs.Reading.{Ends, HasLogCause, IsBadAt, IsBadFile, IsClosed, IsReadAs, IsWrong, Opens, ReadsFile, behind, record_of}
 use Rattle.gate_log.specs.declared.fault.LogFault.{LogFault}
 use Rattle.gate_log.specs.declared.fault.LogFault.TheVariants as faults
-use Rattle.gate_log.specs.declared.reading.ReadLog.{ReadLog}
+use Rattle.gate_log.specs.declared.reading.Before.{Before}
+use Rattle.gate_log.specs.declared.reading.Before.TheVariants as befores
+use Rattle.gate_log.specs.declared.reading.LogRead.{LogRead}
 use Rattle.gate_log.specs.declared.fault.LogKind.{LogKind}
 use Rattle.gate_log.specs.declared.fault.LogKind.TheVariants as kinds
 
@@ -45,38 +49,61 @@ gives_either log records r file stands = elim (cases_eq stands.gate 1) [
   | inr shut ↦ inl (record { records_are = records-front records r stands.records_are; gate = stands.gate; rest = stands.rest; closed = shut; is = stands.is })
 ]
 
--- a log as it was read stands in its file
-pub opens : (number : ℕ) (read : ReadLog) (bytes : List ℕ) (file : Option (List ℕ)) → file ≡ Some bytes → IsReadAs bytes read
-    → Opens number (record { file = number; end = read.end; last = read.last; staged = None; pending = false }) read.records.items file
-opens number read bytes file is found = record {
-  stands = record {
-    records_are = found.log.records_are;
-    end = found.end;
-    last = found.last;
-    staged = refl;
-    gate = found.log.gate;
-    rest = found.log.rest;
-    is = ap contents is ∙ found.log.is;
-    closed = λ quiet. found.log.closed;
-    behind = tt;
-  };
-  number_is = refl;
-  quiet = refl;
-}
+-- a log as it was read stands in its file, also where only the file's front was read
+pub read_stands : (before : Before) (read : LogRead) (file most : ℕ) (whole : List ℕ) → IsReadAs before (take most whole) read → read.fault ≡ None → Stands (quiet_log file read.end read.last) (map record_of read.records.items) None (Some whole)
+read_stands before read file most whole found none =
+    let records = map record_of read.records.items in
+    let closed : IsClosed found.rest = subst (λ (f : Option LogKind). Ends f (behind before read.last) found.rest) none found.ends in
+    let front : take most whole ≡ spelled records ++ closed.gate ∷ closed.more = found.is ∙ ap (λ (l : List ℕ). spelled records ++ l) closed.is in
+    record {
+      records_are = found.records_are;
+      end = found.end;
+      last = found.last;
+      staged = refl;
+      gate = closed.gate;
+      rest = closed.more ++ drop most whole;
+      is = sym (take-append-drop most whole) ∙ ap (λ (l : List ℕ). l ++ drop most whole) front ∙ append_assoc (spelled records) (closed.gate ∷ closed.more) (drop most whole);
+      closed = λ quiet. closed.closed;
+      behind = tt;
+    }
 
-pub bad_by : (kind : LogKind) (place : ℕ) (bytes : List ℕ) (file : Option (List ℕ)) → file ≡ Some bytes → IsBadAt kind place bytes → IsBadFile kind place file
-bad_by kind place bytes file is bad = subst (λ (f : Option (List ℕ)). IsBadFile kind place f) (sym is) bad
+pub opens : (number : ℕ) (read : LogRead) (bytes : List ℕ) → IsReadAs befores.Anything bytes read → read.fault ≡ None → (log : GateLog) → log ≡ quiet_log number read.end read.last → (records : List LogRecord) → records ≡ map record_of read.records.items
+    → Opens number log records (Some bytes)
+opens number read bytes found none log is records same =
+    let whole : IsReadAs befores.Anything (take (length bytes) bytes) read = subst (λ (l : List ℕ). IsReadAs befores.Anything l read) (sym (take_all (length bytes) bytes (omega arith))) found in
+    let stands : Stands (quiet_log number read.end read.last) (map record_of read.records.items) None (Some bytes) = read_stands befores.Anything read number (length bytes) bytes whole none in
+    record {
+      stands = subst (λ (rs : List LogRecord). Stands log rs None (Some bytes)) (sym same) (subst (λ (l : GateLog). Stands l (map record_of read.records.items) None (Some bytes)) (sym is) stands);
+      number_is = ap (λ (l : GateLog). l.file) is;
+      quiet = ap (λ (l : GateLog). l.pending) is;
+    }
+
+-- what is wrong behind the records
+pub bad_at : (read : LogRead) (kind : LogKind) (bytes : List ℕ) → IsReadAs befores.Anything bytes read → read.fault ≡ Some kind → IsBadAt kind read.end bytes
+bad_at read kind bytes found is = record {
+  records = map record_of read.records.items;
+  rest = found.rest;
+  records_are = found.records_are;
+  is = found.is;
+  gated = λ some. found.gated (omega (arith, some, length-map {B = LogRecord} read.records.items record_of));
+  place_is = found.end;
+  wrong = subst (λ (last : Option ℕ). IsWrong kind (behind befores.Anything last) found.rest) found.last (subst (λ (f : Option LogKind). Ends f (behind befores.Anything read.last) found.rest) is found.ends);
+}
 
 pub missing_by : (file : Option (List ℕ)) → file ≡ None → IsBadFile kinds.Missing 0 file
 missing_by file is = subst (λ (f : Option (List ℕ)). IsBadFile kinds.Missing 0 f) (sym is) (refl, refl)
 
-pub fault_reads : (number : ℕ) (fault : LogFault) (bytes : List ℕ) (file : Option (List ℕ)) → file ≡ Some bytes → Reads bytes (Err fault) → ReadsFile number (Err fault) file
-fault_reads number faults.NoMemory bytes file is reads = tt
-fault_reads number faults.DiskFault bytes file is reads = tt
-fault_reads number (faults.BadLog place kind) bytes file is reads = bad_by kind place bytes file is reads
+pub reads_file : (number : ℕ) (r : Result (GateLog × Vec LogRecord Global) LogFault) (bytes : List ℕ) (file : Option (List ℕ)) → file ≡ Some bytes → ReadsFile number r (Some bytes) → ReadsFile number r file
+reads_file number r bytes file is reads = subst (λ (f : Option (List ℕ)). ReadsFile number r f) (sym is) reads
 
 pub finds_some : (found : Option (Vec ℕ Global)) (v : Vec ℕ Global) (file : Option (List ℕ)) → found ≡ Some v → Finds found file → file ≡ Some v.items
 finds_some found v file is finds = subst (λ (f : Option (Vec ℕ Global)). Finds f file) is finds
 
 pub finds_none : (found : Option (Vec ℕ Global)) (file : Option (List ℕ)) → found ≡ None → Finds found file → file ≡ None
 finds_none found file is finds = subst (λ (f : Option (Vec ℕ Global)). Finds f file) is finds
+
+pub bytes_cause : {T : Type 0} (before now : ℕ) (r : Result T LogFault) → before ≤ now → IsOfBytes r → HasLogCause before now r
+bytes_cause before now (Ok value) later of = later
+bytes_cause before now (Err faults.NoMemory) later of = later
+bytes_cause before now (Err faults.DiskFault) later of = absurd of
+bytes_cause before now (Err (faults.BadLog place kind)) later of = later

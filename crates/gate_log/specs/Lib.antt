@@ -4,3 +4,4 @@ pub mod Frames
 pub mod Logs
 -- what a log is read as
 pub mod Reading
+pub mod steps

@@ -67,6 +67,10 @@ abbrev pub MayFollow : Option ℕ → ℕ → Type 0
 MayFollow None number = Unit {0}
 MayFollow (Some last) number = number ≡ last + 1
 
+-- a log with no record staged
+abbrev pub quiet_log : ℕ → ℕ → Option ℕ → GateLog
+quiet_log file end last = record { file = file; end = end; last = last; staged = None; pending = false }
+
 -- the log once this record is staged
 abbrev pub staging : GateLog → LogRecord → GateLog
 staging log r = record log { staged = Some (r.number, 13 + length r.payload) }

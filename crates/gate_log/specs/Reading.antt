@@ -1,35 +1,89 @@
--- What a log is read as: its records, or the first thing that is wrong with it.
-use Rattle.std.specs.Prelude.{◌≡◌, ◌⊎◌, ℕ, ◌<◌, ◌≤◌, ◌^◌, List, [], ◌∷◌, ◌++◌, length, false, Vec, Option, Some, None, Result, Ok, Err}
+-- What a log is read as: its records, and what is wrong behind them, if anything is.
+use Rattle.std.specs.Prelude.{◌≡◌, ◌≢◌, ◌⊎◌, ℕ, ◌+◌, ◌<◌, ◌≤◌, ◌^◌, List, [], ◌∷◌, ◌++◌, length, map, take, false, Vec, Option, Some, None, Result, Ok, Err}
 use Rattle.std.specs.declared.alloc.Global.{Global}
 use Rattle.srch_base.specs.Counts.{Rose}
 use Rattle.gate_log.specs.Frames.{frame}
-use Rattle.gate_log.specs.Logs.{AreRecords, IsLogOf, MayFollow, Stands, last_number, spelled}
+use Rattle.gate_log.specs.Logs.{AreRecords, Stands, last_number, spelled}
 use Rattle.gate_log.specs.declared.log.GateLog.{GateLog}
-use Rattle.gate_log.specs.declared.reading.ReadLog.{ReadLog}
+use Rattle.gate_log.specs.declared.reading.Before.{Before}
+use Rattle.gate_log.specs.declared.reading.Before.TheVariants as befores
+use Rattle.gate_log.specs.declared.reading.LogRead.{LogRead}
+use Rattle.gate_log.specs.declared.reading.RecordAt.{RecordAt}
 use Rattle.gate_log.specs.declared.records.LogRecord.{LogRecord}
 use Rattle.gate_log.specs.declared.fault.LogFault.{LogFault}
 use Rattle.gate_log.specs.declared.fault.LogFault.TheVariants as faults
 use Rattle.gate_log.specs.declared.fault.LogKind.{LogKind}
 use Rattle.gate_log.specs.declared.fault.LogKind.TheVariants as kinds
 
+-- A record with this number may come next.
+abbrev pub MayCome : Before → ℕ → Type 0
+MayCome befores.Anything number = Unit {0}
+MayCome (befores.Record last) number = number ≡ last + 1
+MayCome (befores.Chunks through) number = number ≤ through + 1
+
+-- what comes before the record behind the last one of these
+abbrev pub behind : Before → Option ℕ → Before
+behind before None = before
+behind before (Some last) = befores.Record last
+
+-- The first record, if there is one, may come next.
+abbrev pub Begins : Before → List LogRecord → Type 0
+Begins before [] = Unit {0}
+Begins before (r ∷ rs) = MayCome before r.number
+
 -- No gate stands here, or an open one behind which no record with its gate stands.
 abbrev pub IsCut : List ℕ → Type 0
 IsCut rest = (rest ≡ []) ⊎ ((more : List ℕ) × (rest ≡ 1 ∷ more) × ((r : LogRecord) (after : List ℕ) → length r.payload < 2 ^ 32 → 0 < length after → more ≡ frame r ++ after → ⊥))
 
--- An open gate stands here, and behind it a record with its gate, whose number may not follow.
-pub record IsMisnumbered (records : List LogRecord) (rest : List ℕ) : Type 0 where
+-- An open gate stands here, and behind it a record with its gate, whose number may not come next.
+pub record IsMisnumbered (before : Before) (rest : List ℕ) : Type 0 where
   pub record_is : LogRecord
   pub after : List ℕ
   pub short : length record_is.payload < 2 ^ 32
+  pub number : record_is.number < 2 ^ 64
   pub gate : 0 < length after
   pub is : rest ≡ 1 ∷ (frame record_is ++ after)
-  pub wrong : record_is.number < 2 ^ 63 → MayFollow (last_number records) record_is.number → ⊥
+  pub wrong : record_is.number < 2 ^ 63 → MayCome before record_is.number → ⊥
 
--- what is wrong behind these records
-abbrev pub IsWrong : LogKind → List LogRecord → List ℕ → Type 0
-IsWrong kinds.Missing records rest = ⊥
-IsWrong kinds.Length records rest = IsCut rest
-IsWrong kinds.Number records rest = IsMisnumbered records rest
+-- what is wrong here
+abbrev pub IsWrong : LogKind → Before → List ℕ → Type 0
+IsWrong kinds.Missing before rest = ⊥
+IsWrong kinds.Length before rest = IsCut rest
+IsWrong kinds.Number before rest = IsMisnumbered before rest
+
+-- A closed gate stands here, and anything behind it.
+pub record IsClosed (rest : List ℕ) : Type 0 where
+  pub gate : ℕ
+  pub more : List ℕ
+  pub closed : gate ≢ 1
+  pub is : rest ≡ gate ∷ more
+
+-- how records end: by a closed gate, or by what is wrong
+abbrev pub Ends : Option LogKind → Before → List ℕ → Type 0
+Ends None before rest = IsClosed rest
+Ends (Some kind) before rest = IsWrong kind before rest
+
+-- a record that was read
+abbrev pub record_of : RecordAt → LogRecord
+record_of r = record { number = r.number; payload = r.payload.now }
+
+-- Each record has the place of its gate, from this one on.
+abbrev pub ArePlaced : ℕ → List RecordAt → Type 0
+ArePlaced at [] = Unit {0}
+ArePlaced at (r ∷ rs) = (r.place ≡ at) × ArePlaced (at + (13 + length r.payload.now)) rs
+
+-- what the bytes of a log are read as
+pub record IsReadAs (before : Before) (bytes : List ℕ) (read : LogRead) : Type 0 where
+  pub records_are : AreRecords (map record_of read.records.items)
+  pub begins : Begins before (map record_of read.records.items)
+  pub placed : ArePlaced 0 read.records.items
+  pub rest : List ℕ
+  pub is : bytes ≡ spelled (map record_of read.records.items) ++ rest
+  -- a gate stands behind each record
+  pub gated : 0 < length read.records.items → 0 < length rest
+  pub end : read.end ≡ length (spelled (map record_of read.records.items))
+  pub last : read.last ≡ last_number (map record_of read.records.items)
+  pub ends : Ends read.fault (behind before read.last) rest
 
 -- The bytes are records as far as this place, and there they are wrong.
 pub record IsBadAt (kind : LogKind) (place : ℕ) (bytes : List ℕ) : Type 0 where
@@ -37,21 +91,15 @@ pub record IsBadAt (kind : LogKind) (place : ℕ) (bytes : List ℕ) : Type 0 wh
   pub rest : List ℕ
   pub records_are : AreRecords records
   pub is : bytes ≡ spelled records ++ rest
+  -- a gate stands behind each record
+  pub gated : 0 < length records → 0 < length rest
   pub place_is : place ≡ length (spelled records)
-  pub wrong : IsWrong kind records rest
+  pub wrong : IsWrong kind (behind befores.Anything (last_number records)) rest
 
--- what the bytes of a log are read as
-pub record IsReadAs (bytes : List ℕ) (read : ReadLog) : Type 0 where
-  pub log : IsLogOf read.records.items bytes
-  pub end : read.end ≡ length (spelled read.records.items)
-  pub last : read.last ≡ last_number read.records.items
-
--- what reading the bytes of a log answers
-abbrev pub Reads : List ℕ → Result ReadLog LogFault → Type 0
-Reads bytes (Ok read) = IsReadAs bytes read
-Reads bytes (Err faults.NoMemory) = Unit {0}
-Reads bytes (Err faults.DiskFault) = ⊥
-Reads bytes (Err (faults.BadLog place kind)) = IsBadAt kind place bytes
+-- The front of a file, or it isn't there.
+abbrev pub FindsFront : ℕ → Option (Vec ℕ Global) → Option (List ℕ) → Type 0
+FindsFront most None file = file ≡ None
+FindsFront most (Some bytes) file = (whole : List ℕ) × (file ≡ Some whole) × (bytes.items ≡ take most whole)
 
 -- The file is a log with these records, none of them staged.
 pub record Opens (number : ℕ) (log : GateLog) (records : List LogRecord) (file : Option (List ℕ)) : Type 0 where

@@ -19,6 +19,7 @@ use srch_base::{u32_at, u64_at};
 pub(crate) fn read_frame(bytes: &[u8]) -> Option<(u64, &[u8], &[u8])>
     ensures found { IfSome result (λ r. (bytes.now ≡ frame (record { number = r.0; payload = r.1.now }) ++ r.2.now)) }
     ensures gate { IfSome result (λ r. 0 < length r.2.now) }
+    ensures number { IfSome result (λ r. r.0 < 2 ^ 64) }
     ensures small { IfSome result (λ r. length r.1.now < 2 ^ 32) }
     ensures none { IfNone result ((r : LogRecord) (rest : List ℕ) → length r.payload < 2 ^ 32 → 0 < length rest → bytes.now ≡ frame r ++ rest → ⊥) }
 {

@@ -2,14 +2,20 @@
 //! behind it, and the closed gate behind that, are on the disk for good.
 #![tactic(auto)]
 
+mod copies;
 mod fault;
 mod frame;
+mod front;
 mod laws;
 mod log;
 mod reading;
 mod records;
 
 pub use fault::{LogFault, LogKind};
-pub use laws::{a_log_gives_its_records, a_log_gives_its_records_or_one_more};
+pub use front::read_front;
+pub use laws::{
+    a_log_gives_its_records, a_log_gives_its_records_or_one_more, a_log_that_is_read_stands,
+};
 pub use log::GateLog;
+pub use reading::{Before, LogRead, RecordAt, read_records};
 pub use records::{LogRecord, Staged};

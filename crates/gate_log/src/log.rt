@@ -5,8 +5,8 @@ ghost use Rattle.chunk_store.specs.Images.{Image, Told, Both, Changes, contents}
 ghost use Rattle.chunk_store.specs.CrashModel.{Makes};
 ghost use Rattle.chunk_store.specs.Calls.{Crashes, IsSynced, OnlyReads};
 
+use crate::copies::log_of;
 use crate::fault::{LogFault, LogKind};
-use crate::reading::read_records;
 use crate::records::{LogRecord, Staged};
 use chunk_store::{Disk, put, read_whole, remake};
 use srch_base::{Failed, OpenFault};
@@ -25,7 +25,7 @@ pub struct GateLog {
 impl GateLog {
     ghost use Rattle.std.specs.Prelude.{[], ◌∷◌, ◌++◌, false, is_some};
     ghost use Rattle.gate_log.specs.declared.records.LogRecord.{LogRecord};
-    ghost use Rattle.gate_log.specs.Logs.{Stands, MayFollow, staging, opening, opened};
+    ghost use Rattle.gate_log.specs.Logs.{Stands, MayFollow, staging, opening, opened, quiet_log};
     ghost use Rattle.gate_log.specs.Reading.{ReadsFile, HasLogCause};
 
     /// Makes the file anew, with no record.
@@ -57,25 +57,26 @@ impl GateLog {
         ensures cause { HasLogCause (D.faults disk.old) (D.faults disk.new) result }
     {
         match read_whole(alloc, disk, file) {
-            Ok(Some(bytes)) => match read_records(alloc, bytes.as_slice()) {
-                Ok(read) => {
-                    let log = GateLog {
-                        file,
-                        end: read.end,
-                        last: read.last,
-                        staged: None,
-                        pending: false,
-                    };
-                    Ok((log, read.records))
-                }
-                Err(fault) => Err(fault),
-            },
+            Ok(Some(bytes)) => log_of(alloc, file, bytes.as_slice()),
             Ok(None) => Err(LogFault::BadLog {
                 place: 0,
                 kind: LogKind::Missing,
             }),
             Err(OpenFault::NoMemory) => Err(LogFault::NoMemory),
             Err(OpenFault::Failed) => Err(LogFault::DiskFault),
+        }
+    }
+
+    /// The log of a file whose records were read, and whose closed gate stands here.
+    pub fn behind(file: u32, end: u64, last: Option<u64>) -> GateLog
+        ensures { result ≡ quiet_log file end last }
+    {
+        GateLog {
+            file,
+            end,
+            last,
+            staged: None,
+            pending: false,
         }
     }
 

@@ -1,0 +1,2 @@
+-- what stands where a gate should
+pub mod Parts
