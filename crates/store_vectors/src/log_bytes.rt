@@ -1,0 +1,176 @@
+//! The bytes of logs, and what is read of logs that are damaged or cut. All bytes and answers are worked out by hand.
+ghost use Rattle.std.specs.Prelude.{◌<◌, ◌^◌, length};
+
+use crate::careful_disk::CarefulDisk;
+use crate::hexadecimal::{bytes_of, put_digits};
+use crate::log_texts::{LOG, put_log};
+use chunk_store::{Disk, MemoryDisk, read_whole, remake};
+use gate_log::{GateLog, Staged};
+use std::alloc::Global;
+use std::test::Fail;
+
+/// The payload of the first record of a log: document 7 with the words `hello world` in its one field is put.
+pub(crate) const PAYLOAD: &str =
+    "01000000 01 0700000000000000 02000000 00 05 68656c6c6f 00 05 776f726c64 00000000";
+
+/// The log once it is made, once the record with this payload and number 1 is staged, and once its gate is open.
+pub(crate) const WORKED: &str = "\
+00
+00 23000000 0100000000000000 01000000 01 0700000000000000 02000000 00 05 68656c6c6f 00 05 776f726c64 00000000 00
+01 23000000 0100000000000000 01000000 01 0700000000000000 02000000 00 05 68656c6c6f 00 05 776f726c64 00000000 00";
+
+/// What stands in that log in place of its last byte once there is a second record, of number 2 and without a payload.
+const SECOND: &str = "01 00000000 0200000000000000 00";
+
+/// The lengths of fronts of the log with both records, from and to, and what is read of them.
+const FRONTS: &str = "\
+0 48 ⇒ record length at 0
+49 61 ⇒ record length at 48
+62 62 ⇒ 1:0100000001070000000000000002000000000568656c6c6f0005776f726c6400000000 2: to 61";
+
+/// Logs, and what is read of them.
+const LOGS: &str = "\
+00 ⇒ to 0
+02 ⇒ to 0
+ff ⇒ to 0
+00 01 01 01 ⇒ to 0
+00 00000000 0900000000000000 01 ⇒ to 0
+01 00000000 0700000000000000 00 ⇒ 7: to 13
+01 01000000 0700000000000000 aa 00 ⇒ 7:aa to 14
+01 00000000 0000000000000000 00 ⇒ 0: to 13
+01 00000000 ffffffffffffff7f 00 ⇒ 9223372036854775807: to 13
+01 01000000 0700000000000000 01 02 00000000 0900000000000000 00 ⇒ 7:01 to 14
+01 00000000 0700000000000000 00 00000000 0900000000000000 00 ⇒ 7: to 13
+01 00000000 0700000000000000 01 01000000 0800000000000000 bb 00 01 ⇒ 7: 8:bb to 27
+- ⇒ record length at 0
+01 ⇒ record length at 0
+01 000000 ⇒ record length at 0
+01 00000000 070000000000 ⇒ record length at 0
+01 00000000 0700000000000000 ⇒ record length at 0
+01 02000000 0700000000000000 aa 00 ⇒ record length at 0
+01 ffffffff 0700000000000000 aa 00 ⇒ record length at 0
+01 00000000 0700000000000000 01 ⇒ record length at 13
+01 00000000 0700000000000000 01 00000000 0800000000000000 ⇒ record length at 13
+01 01000000 0700000000000000 aa 01 05000000 0800000000000000 aa 00 ⇒ record length at 14
+01 00000000 0700000000000000 01 00000000 0800000000000000 01 000000 ⇒ record length at 26
+01 00000000 0000000000000080 00 ⇒ record number at 0
+01 00000000 ffffffffffffffff 00 ⇒ record number at 0
+01 00000000 0700000000000000 01 00000000 0700000000000000 00 ⇒ record number at 13
+01 00000000 0700000000000000 01 00000000 0900000000000000 00 ⇒ record number at 13
+01 00000000 0700000000000000 01 00000000 0600000000000000 00 ⇒ record number at 13
+01 00000000 ffffffffffffff7f 01 00000000 0000000000000080 00 ⇒ record number at 13
+01 00000000 0700000000000000 01 00000000 0800000000000000 01 00000000 0700000000000000 00 ⇒ record number at 26
+01 00000000 0700000000000000 01 05000000 0900000000000000 aa 00 ⇒ record length at 13
+01 00000000 0700000000000000 01 00000000 0900000000000000 01 ⇒ record number at 13";
+
+/// What is read of a log of these bytes.
+fn read_as(alloc: Global, bytes: &[u8]) -> Result<String, Fail> {
+    let mut disk = MemoryDisk::new(alloc, Vec::new(alloc));
+    remake(&mut disk, LOG, bytes)?;
+    let mut text = String::new(alloc);
+    put_log(alloc, &mut disk, &mut text)?;
+    Ok(text)
+}
+
+/// The bytes of the log's file.
+fn digits_of<D: Disk>(alloc: Global, disk: &mut D) -> Result<String, Fail> {
+    let mut text = String::new(alloc);
+    let bytes = read_whole(alloc, disk, LOG)?.ok_or("no log")?;
+    put_digits(&bytes, &mut text)?;
+    Ok(text)
+}
+
+/// The log once it is made in place of an older file, once a record is staged, and once its gate is open, a line each.
+fn written(alloc: Global, number: u64, payload: &[u8]) -> Result<String, Fail>
+    requires number { number < 2 ^ 63 }
+    requires small { length payload.now < 2 ^ 32 }
+{
+    let mut disk = CarefulDisk::new(MemoryDisk::new(alloc, Vec::new(alloc)));
+    remake(&mut disk, LOG, b"an older file")?;
+    let mut log = GateLog::create(&mut disk, LOG)?;
+    let made = digits_of(alloc, &mut disk)?;
+    let record = Staged::new(alloc, number, payload)?;
+    log.stage(&mut disk, &record)?;
+    let staged = digits_of(alloc, &mut disk)?;
+    log.open_gate(&mut disk)?;
+    let opened = digits_of(alloc, &mut disk)?;
+    Ok(format!(in alloc; "{made}\n{staged}\n{opened}")?)
+}
+
+#[test]
+fn the_worked_log_is_written_so(rt: HostRuntime) -> Result<(), Fail> {
+    let alloc = rt.alloc();
+    let payload = bytes_of(alloc, PAYLOAD)?;
+    assert_eq!(rt; payload.len(), 35);
+    let lines = written(alloc, 1, &payload)?;
+    assert_eq!(rt; lines.as_str(), WORKED.replace(alloc, " ", "")?.as_str());
+    Ok(())
+}
+
+#[test]
+fn logs_are_read_so(rt: HostRuntime) -> Result<(), Fail> {
+    let alloc = rt.alloc();
+    for line in LOGS.lines() {
+        let (digits, wanted) = line.split_once(" ⇒ ").ok_or("a line without an arrow")?;
+        let bytes = bytes_of(alloc, digits.trim_matches('-'))?;
+        assert_eq!(rt; read_as(alloc, &bytes)?.as_str(), wanted, "{digits}");
+    }
+    Ok(())
+}
+
+/// The first front of the log with both records of which something else is read, by its length.
+fn first_other(alloc: Global, bytes: &[u8]) -> Result<Option<usize>, Fail> {
+    for line in FRONTS.lines() {
+        let (range, wanted) = line.split_once(" ⇒ ").ok_or("a line without an arrow")?;
+        let (from, to) = range.split_once(' ').ok_or("no range")?;
+        for len in from.parse::<usize>()?..=to.parse::<usize>()? {
+            let front = bytes.get(..len).ok_or("no such front")?;
+            if read_as(alloc, front)?.as_str() != wanted {
+                return Ok(Some(len));
+            }
+        }
+    }
+    Ok(None)
+}
+
+#[test]
+fn each_front_of_a_log_is_read_so(rt: HostRuntime) -> Result<(), Fail> {
+    let alloc = rt.alloc();
+    let last = WORKED.lines().last().ok_or("no log")?;
+    let mut bytes = bytes_of(alloc, last)?;
+    assert_eq!(rt; bytes.pop(), Some(0));
+    bytes.extend_from_slice(&bytes_of(alloc, SECOND)?)?;
+    assert_eq!(rt; bytes.len(), 62);
+    assert_eq!(rt; first_other(alloc, &bytes)?, None);
+    Ok(())
+}
+
+#[test]
+fn a_record_says_what_is_staged(rt: HostRuntime) -> Result<(), Fail> {
+    let alloc = rt.alloc();
+    let mut disk = CarefulDisk::new(MemoryDisk::new(alloc, Vec::new(alloc)));
+    let mut log = GateLog::create(&mut disk, LOG)?;
+    assert_eq!(rt;
+        (log.end(), log.is_staged(), log.pending()),
+        (0, false, false)
+    );
+    let record = Staged::new(alloc, 7, &[0; 70_000])?;
+    assert_eq!(rt; (record.number(), record.len()), (7, 70_013));
+    assert_eq!(rt;
+        record.as_bytes().get(..12),
+        Some([0x70, 0x11, 1, 0, 7, 0, 0, 0, 0, 0, 0, 0].as_slice())
+    );
+    log.stage(&mut disk, &record)?;
+    assert_eq!(rt;
+        (log.end(), log.is_staged(), log.pending()),
+        (0, true, false)
+    );
+    log.open_gate(&mut disk)?;
+    assert_eq!(rt;
+        (log.end(), log.is_staged(), log.pending()),
+        (70_013, false, false)
+    );
+    let (read, records) = GateLog::read(alloc, &mut disk, LOG)?;
+    assert_eq!(rt; (read.end(), records.len()), (70_013, 1));
+    Ok(())
+}
