@@ -1,5 +1,5 @@
 //! Tests by tables of values from outside over documents: what a chunk over them answers, row by row and word by word, how many
-//! rows of a snapshot live, how long a transaction's payload is, and what commits of a store tell.
+//! rows of a snapshot live, and how long a transaction's payload is.
 #![tactic(auto)]
 
 #[cfg(test)]
@@ -12,7 +12,5 @@ mod documents;
 mod row_answers;
 #[cfg(test)]
 mod snapshots;
-#[cfg(test)]
-mod stores;
 #[cfg(test)]
 mod word_answers;

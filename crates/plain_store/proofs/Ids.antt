@@ -1,22 +1,18 @@
 -- Rows of which no two have one id.
-use Rattle.std.proofs.Common.{◌≡◌, ◌≢◌, ℕ, ◌+◌, ◌<◌, ◌≤◌, List, [], ◌∷◌, ◌++◌, Bool, true, false, ◌==◌, ◌||◌, map, length, get_or, refl, sym, subst, ◌∙◌, arith, AllPairs, length-append}
+use Rattle.std.proofs.Common.{◌≡◌, ◌≢◌, ℕ, ◌+◌, ◌<◌, ◌≤◌, List, [], ◌++◌, Bool, true, map, length, get_or, subst, arith, AllPairs, length-append}
 use Rattle.std.specs.Bool.{Decides}
 use Rattle.std.specs.List.{IsDistinct}
 use Rattle.std.specs.List.Sorted.{IsPermutation, IsNonDecreasingBy}
 use Rattle.std.specs.Ordering.{eq_by_cmp, nat_cmp}
-use Rattle.std.specs.Cmp.{unsigned_ties, unsigned_tied}
 use Rattle.std.proofs.Math.ListN.{get_or-map}
-use Rattle.std.proofs.lemmas.Bool.Decides.{nat_tests}
 use Rattle.std.proofs.lemmas.Cmp.{eq_by_cmp_equiv, nat_cmp_total}
-use Rattle.std.proofs.lemmas.List.{length-map, get_or_at, get_or_append_left, get_or-append-add}
-use Rattle.std.proofs.lemmas.List.Folds.{list_any_none, list_any-append}
+use Rattle.std.proofs.lemmas.List.{length-map, get_or_append_left, get_or-append-add}
 use Rattle.std.proofs.lemmas.List.Sorted.{IsPermutation-map}
 use Rattle.std.proofs.lemmas.Map.Keys.{IsDistinct-IsPermutation}
 use Rattle.std.proofs.lemmas.Map.Lookups.{exact_unsigned}
 use Rattle.std.proofs.lemmas.Map.Made.{AllPairs-from_IsDistinct, IsDistinct-from_AllPairs}
 use Rattle.std.proofs.lemmas.Map.Views.{tells_apart}
 use Rattle.doc_types.specs.declared.documents.DocRow.{DocRow}
-use Rattle.plain_store.specs.steps.Adding.{has_row}
 use Rattle.plain_store.specs.steps.Layering.{AreApart}
 
 -- the ids of rows
@@ -56,19 +52,6 @@ pub apart_permutation : (xs ys : List DocRow) → IsPermutation xs ys → AreApa
 apart_permutation xs ys moved apart =
     from_distinct ys (IsDistinct-IsPermutation same_id (eq_by_cmp_equiv nat_cmp_total).symm (ids xs) (ids ys) (IsPermutation-map (λ (row : DocRow). row.doc.id) xs ys moved) (to_distinct xs apart))
 
-differ : (a b : ℕ) → a ≢ b → (a == b) ≡ false
-differ a b h = grind (arith, nat_tests)
-
--- the id of a row that is apart from those before it isn't theirs
-pub apart_here : (old : List DocRow) (row : DocRow) (rows : List DocRow) → AreApart (old ++ row ∷ rows) → has_row old row.doc.id ≡ false
-apart_here old row rows apart =
-    list_any_none (λ other. other.doc.id == row.doc.id) old (λ k d h.
-    let long : length old < length (old ++ row ∷ rows) = omega (arith, length-append old (row ∷ rows)) in
-    let here : get_or (old ++ row ∷ rows) k d ≡ get_or old k d = get_or_append_left old (row ∷ rows) d k h in
-    let there : get_or (old ++ row ∷ rows) (length old) d ≡ row = get_or_at old row rows d (length old) refl in
-    let ne : (get_or old k d).doc.id ≢ row.doc.id = rw (here, there) at (apart k (length old) d h long) in
-    differ (get_or old k d).doc.id row.doc.id ne)
-
 -- the rows before a place stay apart
 pub apart_front : (xs ys : List DocRow) → AreApart (xs ++ ys) → AreApart xs
 apart_front xs ys apart i j d l h =
@@ -90,16 +73,3 @@ ascending rows up apart i j d l h =
     let le : (get_or rows i d).doc.id ≤ (get_or rows j d).doc.id = up i j d below h in
     let ne : (get_or rows i d).doc.id ≢ (get_or rows j d).doc.id = apart i j d l h in
     omega arith
-
-pub flipped : (a b : ℕ) → (a == b) ≡ (b == a)
-flipped a b = unsigned_ties a b ∙ (eq_by_cmp_equiv nat_cmp_total).symm a b ∙ unsigned_tied b a
-
-one_later : (a b c : Bool) → a ≡ b → (a || c) ≡ (c || (b || false))
-one_later true b c e = rw (← e) (elim c as (λ c. true ≡ (c || true)) [ true ↦ refl | false ↦ refl ])
-one_later false b c e = rw (← e) (elim c as (λ c. c ≡ (c || false)) [ true ↦ refl | false ↦ refl ])
-
--- the ids of one row more
-pub has_row_push : (rows : List DocRow) (row : DocRow) (id : ℕ) → ((id == row.doc.id) || has_row rows id) ≡ has_row (rows ++ row ∷ []) id
-has_row_push rows row id =
-    one_later (id == row.doc.id) (row.doc.id == id) (has_row rows id) (flipped id row.doc.id)
-    ∙ sym (list_any-append (λ (other : DocRow). other.doc.id == id) rows (row ∷ []))

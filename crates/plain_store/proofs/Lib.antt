@@ -1,18 +1,12 @@
--- where a layer has an id
-pub mod Places
--- layers without dead rows
-pub mod Wholes
 -- rows of which no two have one id
 pub mod Ids
 -- maps of rows by their ids
 pub mod RowMaps
--- what becomes of insertions
-pub mod Verdicts
--- puts into the map of rows
-pub mod Puts
+-- the rows of layers that live
+pub mod Livings
 -- layers that were put together
 pub mod Upkeep
--- how many layers and rows there are
+-- sorted rows and layers of them
 pub mod Limits
--- what a commit makes of a snapshot
+-- what a commit makes of a store
 pub mod Committed

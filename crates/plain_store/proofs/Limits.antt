@@ -1,18 +1,18 @@
 -- What layers and their rows keep.
-use Rattle.std.proofs.Common.{◌≡◌, ℕ, ◌+◌, ◌<◌, ◌^◌, List, [], ◌∷◌, ◌++◌, Bool, length, take, drop, sym, ap, subst, arith, All, AllPairs, length-append, length-take}
+use Rattle.std.proofs.Common.{◌≡◌, ℕ, ◌+◌, ◌<◌, ◌^◌, ◌≤◌, List, [], ◌++◌, Bool, Option, Some, None, length, take, drop, refl, sym, subst, arith, All, AllPairs, length-append, length-take}
 use Rattle.std.specs.List.{sum_by}
 use Rattle.std.specs.List.Sorted.{IsPermutation, IsNonDecreasingBy}
-use Rattle.std.proofs.lemmas.List.{length_push, get_or-append-add}
-use Rattle.std.proofs.lemmas.List.Elements.{All-push, All-take}
+use Rattle.std.proofs.lemmas.List.{get_or-append-add}
+use Rattle.std.proofs.lemmas.List.Elements.{All-append, All-cons, All-nil, All-take}
 use Rattle.std.proofs.lemmas.List.Sorted.{All-permutation, length_permutation}
 use Rattle.doc_types.specs.declared.documents.DocRow.{DocRow}
 use Rattle.doc_types.specs.Chunks.{IsContent}
 use Rattle.doc_types.specs.Documents.{IsDocOf, word_count}
 use Rattle.doc_types.specs.Snapshots.{LayerValue, IsLayer, AreLayers, all_living}
-use Rattle.plain_store.specs.steps.Layering.{AreApart, AreOfOne, AreSorted, AreWhole, IsLayerOf}
+use Rattle.plain_store.specs.steps.Layering.{AreApart, AreOfOne, AreSorted, IsMerged, option_list}
 use Rattle.plain_store.proofs.Ids.{ascending, apart_permutation}
-use Rattle.plain_store.proofs.Upkeep.{merged_rows}
-use Rattle.plain_store.proofs.Wholes.{all_living_push, all_living_split, length_all_living}
+use Rattle.plain_store.proofs.Upkeep.{joined_by, joined_rows}
+use Rattle.plain_store.proofs.Livings.{all_living_split}
 
 -- sorted rows of one schema are a chunk's, where they are few
 pub sorted_rows : (rows sorted : List DocRow) → AreOfOne rows → AreApart rows → IsPermutation rows sorted → IsNonDecreasingBy (λ row. row.doc.id) sorted → length rows < 2 ^ 32 → sum_by word_count sorted < 2 ^ 32 → AreSorted rows sorted
@@ -37,26 +37,23 @@ layer_is rows content disk dead is same none = record {
   rows = rw none (λ k d h. absurd (omega arith));
 }
 
--- one more layer
-pub layers_push : (layers : List LayerValue) (layer : LayerValue) → AreLayers layers → IsLayer layer → AreWhole layers → layer.dead ≡ [] → AreApart (all_living layers ++ layer.rows) → length layers < 65535 → sum_by (λ layer. length layer.rows) layers + length layer.rows < 2 ^ 32 → AreLayers (layers ++ layer ∷ [])
-layers_push layers layer are is whole alive apart few_layers few_rows =
-    let living : all_living (layers ++ layer ∷ []) ≡ all_living layers ++ layer.rows = all_living_push layers layer alive in
-    record {
-      each = All-push IsLayer layers layer are.each is;
-      distinct = subst AreApart (sym living) apart;
-      few_layers = omega (arith, length_push layers layer, few_layers);
-      few_rows = omega (arith, ap length living, length-append (all_living layers) layer.rows, length_all_living layers whole, few_rows);
-    }
+merged_layers : (rows : List DocRow) (layer : Option LayerValue) → IsMerged rows layer → All IsLayer (option_list layer)
+merged_layers rows None is = All-nil IsLayer
+merged_layers rows (Some layer) is = All-cons IsLayer layer [] is.1.is (All-nil IsLayer)
+
+few_more : (layer : Option LayerValue) → length (option_list layer) ≤ 1
+few_more None = omega arith
+few_more (Some layer) = omega arith
 
 -- the last layers put together
-pub layers_merged : (layers : List LayerValue) (start : ℕ) (layer : LayerValue) → AreLayers layers → IsLayer layer → IsLayerOf (all_living (drop start layers)) layer → start < length layers → AreLayers (take start layers ++ layer ∷ [])
-layers_merged layers start layer are is merged within =
-    let moved : IsPermutation (all_living layers) (all_living (take start layers ++ layer ∷ [])) = merged_rows layers start layer merged in
+pub layers_merged : (layers : List LayerValue) (start : ℕ) (layer : Option LayerValue) → AreLayers layers → IsMerged (all_living (drop start layers)) layer → start < length layers → AreLayers (take start layers ++ option_list layer)
+layers_merged layers start layer are merged within =
+    let moved : IsPermutation (all_living layers) (all_living (take start layers ++ option_list layer)) = joined_rows layers (take start layers ++ option_list layer) (joined_by layers start layer (take start layers ++ option_list layer) merged refl) in
     record {
-      each = All-push IsLayer (take start layers) layer (All-take IsLayer start layers are.each) is;
-      distinct = apart_permutation (all_living layers) (all_living (take start layers ++ layer ∷ [])) moved are.distinct;
-      few_layers = omega (arith, length_push (take start layers) layer, length-take start layers, within, are.few_layers);
-      few_rows = omega (arith, length_permutation (all_living layers) (all_living (take start layers ++ layer ∷ [])) moved, are.few_rows);
+      each = All-append IsLayer (take start layers) (option_list layer) (All-take IsLayer start layers are.each) (merged_layers (all_living (drop start layers)) layer merged);
+      distinct = apart_permutation (all_living layers) (all_living (take start layers ++ option_list layer)) moved are.distinct;
+      few_layers = omega (arith, length-append (take start layers) (option_list layer), few_more layer, length-take start layers, within, are.few_layers);
+      few_rows = omega (arith, length_permutation (all_living layers) (all_living (take start layers ++ option_list layer)) moved, are.few_rows);
     }
 
 all_back : {X : Type 0} (P : X → Type 0) (xs ys : List X) → All P (xs ++ ys) → All P ys

@@ -1,49 +1,13 @@
-//! Layers in memory: how many rows they have, whether they have an id, and how one is made.
-ghost use Rattle.std.specs.Prelude.{◌≡◌, ◌+◌, ◌<◌, ◌^◌, ◌==◌, IfOk, IfSome, IsTrue, length};
-ghost use Rattle.std.specs.List.{list_any, sum_by};
+//! Layers in memory: how one is made of rows.
+ghost use Rattle.std.specs.Prelude.{◌≡◌, ◌+◌, ◌<◌, ◌^◌, IfOk, IfSome, IsTrue};
+ghost use Rattle.std.specs.List.{sum_by};
 ghost use Rattle.doc_types.specs.Documents.{word_count};
-ghost use Rattle.doc_types.specs.Snapshots.{all_living};
-ghost use Rattle.plain_store.specs.steps.Adding.{has_id, has_row};
-ghost use Rattle.plain_store.specs.steps.Layering.{AreApart, AreOfOne, AreSorted, AreWhole, IsLayerOf};
+ghost use Rattle.plain_store.specs.steps.Layering.{AreApart, AreOfOne, AreSorted, IsLayerOf};
 
-use doc_types::{Chunk, DocRow, Layer, PlainChunk};
+use doc_types::{DocRow, Layer, PlainChunk};
 use srch_base::{Items, NoMemory};
 use std::alloc::Global;
 use std::sync::Arc;
-
-/// Whether a row of the layer has the id, dead or not.
-fn layer_has_id(layer: &Layer<PlainChunk>, id: u64) -> bool
-    ensures { result ≡ has_row layer.now.rows id }
-{
-    layer.chunk.find(id).is_some()
-}
-
-/// Whether a row of the layers has the id, dead or not.
-pub fn has_id(layers: &[Layer<PlainChunk>], id: u64) -> bool
-    ensures { result ≡ has_id layers.now id }
-{
-    layers.iter().any(|layer| layer_has_id(layer, id))
-}
-
-/// How many rows the layer has.
-pub fn rows_in(layer: &Layer<PlainChunk>) -> u32
-    ensures { result ≡ length layer.now.rows }
-{
-    layer.chunk.rows()
-}
-
-/// How many rows the layers have.
-pub fn row_count(layers: &[Layer<PlainChunk>]) -> u64
-    requires { length layers.now < 2 ^ 16 }
-    ensures count { result ≡ sum_by (λ layer. length layer.rows) layers.now }
-    ensures small { result < 2 ^ 48 }
-{
-    let mut count = 0;
-    for layer in layers {
-        count += u64::from(rows_in(layer));
-    }
-    count
-}
 
 /// So many words with those of the row, if that is below 2^32.
 fn with_words(words: u32, row: &DocRow) -> Option<u32>

@@ -1,11 +1,11 @@
-use Rattle.std.proofs.Common.{◌≡◌, ◌+◌, ◌++◌, ◌∷◌, [], ◌<◌, length, take, drop, ap, sym, subst, ◌∙◌, rules}
-use Rattle.std.specs.Prelude.{slice_set}
-use Rattle.std.proofs.lemmas.List.{take_rest, take_more_set}
-use Rattle.doc_types.specs.Snapshots.{AreLayers, SnapshotValue, all_living}
-use Rattle.plain_store.specs.steps.Layering.{AreApart, IsLayerOf}
+use Rattle.std.proofs.Common.{◌≡◌, ◌++◌, List, ◌<◌, length, take, drop, refl, ap, sym, subst, ◌∙◌, rules}
+use Rattle.std.proofs.lemmas.List.{take_rest}
+use Rattle.doc_types.specs.Snapshots.{AreLayers, LayerValue, SnapshotValue, all_living}
+use Rattle.plain_store.specs.steps.Layering.{AreApart, IsMerged, MayMerge, option_list}
 use Rattle.plain_store.proofs.Ids.{apart_back}
 use Rattle.plain_store.proofs.Limits.{layers_merged, of_back}
-use Rattle.plain_store.proofs.Wholes.{all_living_split}
+use Rattle.plain_store.proofs.Livings.{all_living_split}
+use Rattle.plain_store.proofs.Upkeep.{joined_by}
 use Rattle.plain_store.proofs.merging.merge_from.Goals as goal
 
 pub merged-requires-clause-of : goal.merged-requires-clause-of
@@ -20,17 +20,24 @@ merged-requires-clause-apart c =
 pub invariant_of-snapshot : goal.invariant_of-snapshot
 invariant_of-snapshot c =
     let within : c.args.start < length c.snapshot.inside.layers = subst (λ (snapshot : SnapshotValue). c.args.start < length snapshot.layers) (sym c.snapshot.view_is) c.requires.start in
-    let are : c.new-3.result ≡ take (c.args.start + 1) (slice_set c.snapshot.inside.layers c.args.start c.in_ok-layer.layer) = search rules in
-    let layers : c.new-3.result ≡ take c.args.start c.snapshot.inside.layers ++ c.in_ok-layer.layer ∷ [] = are ∙ take_more_set c.snapshot.inside.layers c.args.start c.in_ok-layer.layer within in
-    let last : c.as_slice.result.now ≡ c.snapshot.inside.layers = c.as_slice.ensures in
-    let merged : IsLayerOf (all_living (drop c.args.start c.snapshot.inside.layers)) c.in_ok-layer.layer = rw (last, take_rest) at c.in_ok-layer.ensures in
-    subst AreLayers (sym layers) (layers_merged c.snapshot.inside.layers c.args.start c.in_ok-layer.layer c.snapshot.invariant merged.is merged within)
+    let moved : c.into_vec-layers.result.items ≡ c.snapshot.inside.layers = search rules in
+    let layers : c.new-3.result ≡ take c.args.start c.snapshot.inside.layers ++ option_list c.in_ok-layer.layer = c.new-3.ensures ∙ c.replace_from.ensures ∙ ap (λ (ls : List LayerValue). take c.args.start ls ++ option_list c.in_ok-layer.layer) moved in
+    let merged : IsMerged (all_living (drop c.args.start c.snapshot.inside.layers)) c.in_ok-layer.layer = rw (c.as_slice.ensures, take_rest) at c.in_ok-layer.ensures in
+    subst AreLayers (sym layers) (layers_merged c.snapshot.inside.layers c.args.start c.in_ok-layer.layer c.snapshot.invariant merged within)
+
+pub returns-clause-ok : goal.returns-clause-ok
+returns-clause-ok c =
+    let within : c.args.start < length c.snapshot.inside.layers = subst (λ (snapshot : SnapshotValue). c.args.start < length snapshot.layers) (sym c.snapshot.view_is) c.requires.start in
+    let moved : c.into_vec-layers.result.items ≡ c.snapshot.inside.layers = search rules in
+    let layers : c.new-3.result ≡ take c.args.start c.snapshot.inside.layers ++ option_list c.in_ok-layer.layer = c.new-3.ensures ∙ c.replace_from.ensures ∙ ap (λ (ls : List LayerValue). take c.args.start ls ++ option_list c.in_ok-layer.layer) moved in
+    let merged : IsMerged (all_living (drop c.args.start c.snapshot.inside.layers)) c.in_ok-layer.layer = rw (c.as_slice.ensures, take_rest) at c.in_ok-layer.ensures in
+    subst (λ (snapshot : SnapshotValue). MayMerge snapshot (record { number = c.snapshot.inside.number; shape = c.snapshot.inside.shape; layers = c.new-3.result })) c.snapshot.view_is
+    (record { number = refl; shape = refl; joins = joined_by c.snapshot.inside.layers c.args.start c.in_ok-layer.layer c.new-3.result merged layers })
 
 pub returns-clause-sound : goal.returns-clause-sound
 returns-clause-sound c =
     let within : c.args.start < length c.snapshot.inside.layers = subst (λ (snapshot : SnapshotValue). c.args.start < length snapshot.layers) (sym c.snapshot.view_is) c.requires.start in
-    let are : c.new-3.result ≡ take (c.args.start + 1) (slice_set c.snapshot.inside.layers c.args.start c.in_ok-layer.layer) = search rules in
-    let layers : c.new-3.result ≡ take c.args.start c.snapshot.inside.layers ++ c.in_ok-layer.layer ∷ [] = are ∙ take_more_set c.snapshot.inside.layers c.args.start c.in_ok-layer.layer within in
-    let last : c.as_slice.result.now ≡ c.snapshot.inside.layers = c.as_slice.ensures in
-    let merged : IsLayerOf (all_living (drop c.args.start c.snapshot.inside.layers)) c.in_ok-layer.layer = rw (last, take_rest) at c.in_ok-layer.ensures in
-    subst AreLayers (sym layers) (layers_merged c.snapshot.inside.layers c.args.start c.in_ok-layer.layer c.snapshot.invariant merged.is merged within)
+    let moved : c.into_vec-layers.result.items ≡ c.snapshot.inside.layers = search rules in
+    let layers : c.new-3.result ≡ take c.args.start c.snapshot.inside.layers ++ option_list c.in_ok-layer.layer = c.new-3.ensures ∙ c.replace_from.ensures ∙ ap (λ (ls : List LayerValue). take c.args.start ls ++ option_list c.in_ok-layer.layer) moved in
+    let merged : IsMerged (all_living (drop c.args.start c.snapshot.inside.layers)) c.in_ok-layer.layer = rw (c.as_slice.ensures, take_rest) at c.in_ok-layer.ensures in
+    subst AreLayers (sym layers) (layers_merged c.snapshot.inside.layers c.args.start c.in_ok-layer.layer c.snapshot.invariant merged within)

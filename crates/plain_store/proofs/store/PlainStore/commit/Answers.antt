@@ -1,40 +1,37 @@
-use Rattle.std.proofs.Common.{sym, subst}
-use Rattle.doc_types.specs.Snapshots.{SnapshotValue, all_living}
-use Rattle.plain_store.specs.Commits.{Accepts}
+use Rattle.std.proofs.Common.{◌≡◌, All, sym, subst, rules}
+use Rattle.std.specs.Arc.{arc_value}
+use Rattle.doc_types.specs.Snapshots.{AreLayers, SnapshotValue}
+use Rattle.doc_types.specs.Transactions.{IsOpOf}
+use Rattle.commit_outcomes.specs.Outcomes.{Accepts}
+use Rattle.commit_outcomes.specs.declared.outcome.TheConstants.{MAX_DOCUMENTS}
+use Rattle.layer_commit.specs.Commits.{Applies}
 use Rattle.plain_store.specs.Stores.{StoreValue}
-use Rattle.plain_store.specs.steps.Layering.{AreOfOne, AreWhole, IsStore, MayMerge}
-use Rattle.plain_store.proofs.Committed.{accepts, apart_added, apart_layer, of_added, of_store, ops_of, store_next}
-use Rattle.plain_store.proofs.Upkeep.{store_merged}
+use Rattle.plain_store.proofs.Committed.{accepts, of_store, store_committed, store_joined}
 use Rattle.plain_store.proofs.store.PlainStore.commit.Goals as goal
 
-pub layer_of-requires-clause-of : goal.layer_of-requires-clause-of
-layer_of-requires-clause-of c =
-    of_added c.self.inside.schema c.args.txn.now.ops c.self.inside.snapshot c.in_ok-rows.rows.items c.self.invariant (ops_of _ _ _ c.self.view_is c.requires.of) c.in_ok-rows.ensures
+pub upkept-requires : goal.upkept-requires
+upkept-requires c =
+    let same : c.deref.result.now ≡ arc_value c.self.inside.snapshot = search rules in
+    let own : Applies MAX_DOCUMENTS c.args.txn.now.ops c.deref.result.now c.in-Ok.removed c.in-Ok.next = search rules in
+    let applies : Applies MAX_DOCUMENTS c.args.txn.now.ops (arc_value c.self.inside.snapshot) c.in-Ok.removed c.in-Ok.next = subst (λ (old : SnapshotValue). Applies MAX_DOCUMENTS c.args.txn.now.ops old c.in-Ok.removed c.in-Ok.next) same own in
+    let ops : All (IsOpOf c.self.inside.schema) c.args.txn.now.ops = subst (λ (store : StoreValue). All (IsOpOf store.schema) c.args.txn.now.ops) (sym c.self.view_is) c.requires.of.operations in
+    record { of = of_store _ _ (store_committed c.self.inside.schema MAX_DOCUMENTS c.args.txn.now.ops (arc_value c.self.inside.snapshot) c.in-Ok.removed c.in-Ok.next c.self.invariant ops applies) }
 
-pub layer_of-requires-clause-apart : goal.layer_of-requires-clause-apart
-layer_of-requires-clause-apart c = apart_added c.args.txn.now.ops c.self.inside.snapshot c.in_ok-rows.rows.items c.in_ok-rows.ensures
+pub invariant_of-self : goal.invariant_of-self
+invariant_of-self c =
+    let same : c.deref.result.now ≡ arc_value c.self.inside.snapshot = search rules in
+    let own : Applies MAX_DOCUMENTS c.args.txn.now.ops c.deref.result.now c.in-Ok.removed c.in-Ok.next = search rules in
+    let applies : Applies MAX_DOCUMENTS c.args.txn.now.ops (arc_value c.self.inside.snapshot) c.in-Ok.removed c.in-Ok.next = subst (λ (old : SnapshotValue). Applies MAX_DOCUMENTS c.args.txn.now.ops old c.in-Ok.removed c.in-Ok.next) same own in
+    let ops : All (IsOpOf c.self.inside.schema) c.args.txn.now.ops = subst (λ (store : StoreValue). All (IsOpOf store.schema) c.args.txn.now.ops) (sym c.self.view_is) c.requires.of.operations in
+    store_joined c.self.inside.schema c.in-Ok.next.layers (arc_value c.in_ok-self-inside-in-Ok.field-0).layers
+    (store_committed c.self.inside.schema MAX_DOCUMENTS c.args.txn.now.ops (arc_value c.self.inside.snapshot) c.in-Ok.removed c.in-Ok.next c.self.invariant ops applies)
+    c.in_ok-self-inside-in-Ok.ensures.sound c.in_ok-self-inside-in-Ok.ensures.merges.joins
 
-pub add_layer-requires-clause-apart : goal.add_layer-requires-clause-apart
-add_layer-requires-clause-apart c = apart_layer c.args.txn.now.ops c.self.inside.snapshot c.in_ok-rows.rows.items c.in_ok-layer.layer c.in_ok-rows.ensures c.in_ok-layer.ensures
-
-pub merge_last-requires-clause-whole : goal.merge_last-requires-clause-whole
-merge_last-requires-clause-whole c =
-    let store = store_next _ _ _ _ _ c.self.invariant (ops_of _ _ _ c.self.view_is c.requires.of) c.in_ok-rows.ensures c.in_ok-layer.ensures in
-    subst (λ (snapshot : SnapshotValue). AreWhole snapshot.layers) (sym c.in_ok-add_layer.ensures.ok) store.whole
-
-pub merge_last-requires-clause-of : goal.merge_last-requires-clause-of
-merge_last-requires-clause-of c =
-    let store = store_next _ _ _ _ _ c.self.invariant (ops_of _ _ _ c.self.view_is c.requires.of) c.in_ok-rows.ensures c.in_ok-layer.ensures in
-    subst (λ (snapshot : SnapshotValue). AreOfOne (all_living snapshot.layers)) (sym c.in_ok-add_layer.ensures.ok) (of_store _ _ store)
-
-pub invariant_of-self-2 : goal.invariant_of-self-2
-invariant_of-self-2 c =
-    let store = store_next _ _ _ _ _ c.self.invariant (ops_of _ _ _ c.self.view_is c.requires.of) c.in_ok-rows.ensures c.in_ok-layer.ensures in
-    store_merged c.self.inside.schema c.add_layer.new.snapshot c.merge_last.new.snapshot c.merge_last.ensures.merges
-    (subst (λ (snapshot : SnapshotValue). IsStore c.self.inside.schema snapshot.layers) (sym c.in_ok-add_layer.ensures.ok) store)
-
-pub returns-clause-cases : goal.returns-clause-cases
-returns-clause-cases c =
-    subst (λ (store : StoreValue). Accepts c.args.txn.now.ops store.snapshot 0 c.merge_last.new.snapshot) c.self.view_is
-    (accepts c.args.txn.now.ops c.self.inside.snapshot c.in_ok-rows.rows.items c.in_ok-layer.layer c.merge_last.new.snapshot c.in_ok-rows.ensures c.in_ok-layer.ensures
-    (subst (λ (snapshot : SnapshotValue). MayMerge snapshot c.merge_last.new.snapshot) c.in_ok-add_layer.ensures.ok c.merge_last.ensures.merges))
+pub returns-in_ok-self-inside-in-Ok-clause-commits : goal.returns-in_ok-self-inside-in-Ok-clause-commits
+returns-in_ok-self-inside-in-Ok-clause-commits c =
+    let same : c.deref.result.now ≡ arc_value c.self.inside.snapshot = search rules in
+    let own : Applies MAX_DOCUMENTS c.args.txn.now.ops c.deref.result.now c.in-Ok.removed c.in-Ok.next = search rules in
+    let applies : Applies MAX_DOCUMENTS c.args.txn.now.ops (arc_value c.self.inside.snapshot) c.in-Ok.removed c.in-Ok.next = subst (λ (old : SnapshotValue). Applies MAX_DOCUMENTS c.args.txn.now.ops old c.in-Ok.removed c.in-Ok.next) same own in
+    let are : AreLayers c.in-Ok.next.layers = search rules in
+    subst (λ (store : StoreValue). Accepts c.args.txn.now.ops store.snapshot c.in-Ok.removed (arc_value c.in_ok-self-inside-in-Ok.field-0)) c.self.view_is
+    (accepts c.args.txn.now.ops (arc_value c.self.inside.snapshot) c.in-Ok.removed c.in-Ok.next (arc_value c.in_ok-self-inside-in-Ok.field-0) applies are c.in_ok-self-inside-in-Ok.ensures.merges c.in_ok-self-inside-in-Ok.ensures.sound)

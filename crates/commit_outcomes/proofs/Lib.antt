@@ -1,0 +1,2 @@
+-- one outcome of a commit
+pub mod OneOutcome

@@ -1,0 +1,2 @@
+-- what each outcome leaves
+pub mod Outcomes

@@ -1,0 +1,8 @@
+//! What becomes of a commit: its outcomes, and what each leaves of an index.
+#![tactic(auto)]
+
+mod laws;
+mod outcome;
+
+pub use laws::a_commit_has_one_outcome;
+pub use outcome::{CommitOutcome, Full, FullKind, MAX_DOCUMENTS};

@@ -1,0 +1,80 @@
+//! Commits over layers, of which none are put together: what each comes to, and each row of each layer after it.
+ghost use Rattle.std.specs.Prelude.{◌≡◌, [], ◌<◌, ◌^◌};
+
+use crate::scripts::{schema, txn};
+use crate::telling::{duplicate_told, full_told, snapshot_told};
+use doc_types::{PlainChunk, Snapshot};
+use layer_commit::{Refusal, commit};
+use srch_base::{Items, Or};
+use std::alloc::Global;
+use std::test::Fail;
+
+/// The most documents that may be there.
+const LIMIT: u64 = 6;
+
+/// A transaction, and what becomes of it: how many ids it removed, the number of the commit and the layers, where dead rows stand
+/// in parentheses; or why it is refused, so that all is as before.
+const COMMITS: &str = "
++1 +2 +3 ⇒ 0 removed, 1 / 1@1 2@1 3@1
++4 +2 +5 ⇒ 2 is there
++4 +4 ⇒ 4 is there
++5 +1 +2 ⇒ 1 is there
++1 +5 +6 ⇒ 1 is there
++5 +6 +3 ⇒ 3 is there
++4 -4 +4 ⇒ 1 removed, 2 / 1@1 2@1 3@1 / 4@2
+-9 ⇒ 0 removed, 3 / 1@1 2@1 3@1 / 4@2
+-2 -2 ⇒ 1 removed, 4 / 1@1 (2@1) 3@1 / 4@2
+=2 =2 ⇒ 0 removed, 5 / 1@1 (2@1) 3@1 / 4@2 / 2@5
+=1 ⇒ 0 removed, 6 / (1@1) (2@1) 3@1 / 4@2 / 2@5 / 1@6
+-3 +3 ⇒ 1 removed, 7 / 4@2 / 2@5 / 1@6 / 3@7
++5 +1 ⇒ 1 is there
++9 +8 +7 ⇒ full at 4 needs 3
++8 +7 ⇒ 0 removed, 8 / 4@2 / 2@5 / 1@6 / 3@7 / 7@8 8@8
++9 ⇒ full at 6 needs 1
++9 +1 ⇒ 1 is there
+=8 =7 -4 +9 ⇒ 1 removed, 9 / 2@5 / 1@6 / 3@7 / 7@9 8@9 9@9
+-9 -3 -1 ⇒ 3 removed, 10 / 2@5 / 7@9 8@9 (9@9)
+-7 =8 +7 ⇒ 1 removed, 11 / 2@5 / 7@11 8@11
+* ⇒ 0 removed, 12
++1 * +1 ⇒ 0 removed, 13 / 1@13
+-1 * -1 +2 ⇒ 1 removed, 14 / 2@14
+=2 +2 ⇒ 2 is there
+-2 =2 -2 ⇒ 2 removed, 15
+-5 +5 +5 ⇒ 5 is there
++1 +2 +3 +4 +5 +6 +7 ⇒ full at 0 needs 7
++1 +2 +3 +4 +5 +6 * ⇒ 0 removed, 16
+";
+
+/// What becomes of the transaction of a line.
+fn told(alloc: Global, snapshot: &mut Snapshot<PlainChunk>, line: &str) -> Result<String, Fail> {
+    let schema = schema(alloc);
+    let txn = txn(alloc, line)?;
+    match commit(alloc, snapshot, &txn, LIMIT) {
+        Ok((next, removed)) => {
+            let layers = snapshot_told(alloc, &next)?;
+            *snapshot = next;
+            Ok(format!(in alloc; "{removed} removed, {layers}")?)
+        }
+        Err(Or::Fault(Refusal::Duplicate { id })) => duplicate_told(alloc, id),
+        Err(Or::Fault(Refusal::Full(full))) => full_told(alloc, full),
+        Err(Or::NoMemory) => Err(Fail::from("no memory")),
+    }
+}
+
+#[test]
+fn commits_over_layers(rt: HostRuntime) -> Result<(), Fail> {
+    let alloc = rt.alloc();
+    let mut snapshot = Snapshot {
+        number: 0,
+        shape: 0,
+        layers: Items::new(Vec::new(alloc)),
+    };
+    for line in COMMITS.lines().skip(1) {
+        let (text, wanted) = line.split_once(" ⇒ ").ok_or("a line without an arrow")?;
+        let found = told(alloc, &mut snapshot, text)?;
+        if found.as_str() != wanted {
+            return Err(Fail::new(format!(in alloc; "{text} ⇒ {found}")?));
+        }
+    }
+    Ok(())
+}
