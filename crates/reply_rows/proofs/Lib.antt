@@ -1,2 +1,4 @@
 -- payloads that follow others, and the parts of a result set
 pub mod Numbering
+-- how long the shortest replies are
+pub mod Short

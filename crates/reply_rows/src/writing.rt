@@ -6,7 +6,6 @@ ghost use Rattle.mysql_wire.specs.Rows.{column_payload, row_payload};
 ghost use Rattle.reply_rows.specs.ResultSets.{set_payloads};
 ghost use Rattle.reply_rows.specs.steps.Appending.{Appends};
 
-use crate::result_set::ResultSet;
 use crate::table::Table;
 use mysql_wire::{Small, eof_packet, put_column, put_lenenc, put_packet};
 use srch_base::NoMemory;
@@ -15,25 +14,11 @@ use std::alloc::Global;
 /// A payload of this many bytes would go on in another packet, so none reaches it ("Sending More Than 16Mb").
 const SPLIT_LENGTH: usize = 16_777_215;
 
-/// Appends a result set whose packets begin at `seq`, and gives the sequence number of the packet after it. After an `Err` the
-/// bytes are as they were; the spare room afterwards is at least what it was before.
-pub fn put_result(
-    alloc: Global,
-    set: &ResultSet,
-    seq: u8,
-    status: u16,
-    out: &mut Vec<u8>,
-) -> Result<u8, NoMemory>
-    ensures ok { IfOk result (λ next. (next ≡ sequence_after seq (set_payloads status set.now)) × (out.new.items ≡ out.old.items ++ packets_from seq (set_payloads status set.now))) }
-    ensures err { OnErr result (out.new.items ≡ out.old.items) }
-    ensures room { vec_capacity out.old + vec_len out.new ≤ vec_capacity out.new + vec_len out.old }
-    ensures capacity { vec_capacity out.old ≤ vec_capacity out.new }
-{
-    put_table(alloc, set, seq, status, out)
-}
-
-/// `put_result` of a table. One buffer serves all payloads, so that a row takes no memory of its own.
-pub fn put_table<T: Table>(
+/// Appends what is shown as a result set, its packets numbered on from `seq`, and gives the number of the packet after them. After
+/// an `Err` the bytes are as they were; the spare room afterwards is at least what it was before.
+///
+/// One buffer serves all payloads, so that a row takes no memory of its own.
+pub(crate) fn append_table<T: Table>(
     alloc: Global,
     table: &T,
     seq: u8,

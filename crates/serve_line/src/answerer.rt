@@ -1,12 +1,14 @@
 //! What answers the commands of a connection. The connection reads whole packets, writes whole replies and knows when to stop; what a
 //! command asks for, COM_QUIT aside, it hands on. So a server of other commands or statements writes an `Answerer`, and
 //! the loops that serve a connection stay as they are.
-ghost use Rattle.std.specs.Prelude.{◌≡◌, ◌≢◌, ◌≤◌, [], vec_capacity};
+ghost use Rattle.std.specs.Prelude.{◌≡◌, ◌≢◌};
 ghost use Rattle.mysql_wire.specs.CommandValues.{command_value};
 ghost use Rattle.mysql_wire.specs.Commands.{Quit as asks_quit};
+ghost use Rattle.reply_rows.specs.Written.{begun};
 ghost use Rattle.serve_line.specs.Machines.{Answered};
 
 use mysql_wire::Command;
+use reply_rows::Replies;
 use std::alloc::Global;
 
 /// One client's session: it answers the commands of one connection, and keeps what must be kept between them.
@@ -30,17 +32,15 @@ pub trait Answerer {
     fn status(&self) -> u16
         ensures { result ≡ machine.status self.now };
 
-    /// Answers a command. `out` is empty and has 1,024 spare bytes at least, and has as much when the reply is gone.
+    /// Answers a command, by packets from number 1 on.
     fn answer(
         &mut self,
         alloc: Global,
         store: &mut Self::Store,
         command: Command<'_>,
-        out: &mut Vec<u8>,
+        replies: &mut Replies,
     )
         requires other { command_value command ≢ asks_quit }
-        requires empty { out.old.items ≡ [] }
-        requires room { 1024 ≤ vec_capacity out.old }
-        ensures answers { Answered machine follows self.old (command_value command.entry) store.old store.new out.new.items self.new }
-        ensures room { 1024 ≤ vec_capacity out.new };
+        requires begun { replies.old ≡ begun 1 }
+        ensures { Answered machine follows self.old (command_value command.entry) store.old store.new replies.new.bytes self.new };
 }

@@ -3,7 +3,7 @@
 //! A command's bytes are copied twice at most: from the buffer that is read into to the framer, and once more where a part
 //! of a packet moves to the front. A command takes no memory here, whatever its answer takes. After a packet or a reply of
 //! more than 65,536 bytes the connection gives its memory back. "Connection Lifecycle" of the protocol.
-ghost use Rattle.std.specs.Prelude.{◌≡◌, ◌<◌, suc, ℕ, List, [], None, IfOk, OnOk, vec_len, vec_capacity, ◌≤◌};
+ghost use Rattle.std.specs.Prelude.{◌≡◌, ◌<◌, suc, ℕ, List, [], None, IfOk, OnOk, vec_len};
 ghost use Rattle.srch_base.specs.Moves.{Moves};
 ghost use Rattle.mysql_wire.specs.Framing.{IsFresh};
 ghost use Rattle.serve_line.specs.Machines.{FollowAll};
@@ -16,6 +16,7 @@ use crate::reading::fill;
 use crate::refusals::{bad_handshake, out_of_order, too_large};
 use crate::writing::{out_of_memory, refuse, send};
 use mysql_wire::{Framer, greeting, ok_packet};
+use reply_rows::Replies;
 use srch_base::{Link, NoMemory};
 use std::alloc::Global;
 
@@ -24,12 +25,6 @@ const COMMANDS: u64 = 1 << 32;
 
 /// The size of the buffer that is read into, in bytes.
 const READING: usize = 16_384;
-
-/// The room that a reply begins with, in bytes: replies of one packet then take no more memory.
-const WRITING: usize = 1024;
-
-/// The room for replies that a connection keeps once a larger one is written, in bytes.
-const KEPT: usize = 65_536;
 
 /// How a connection ended.
 #[derive(Clone, Copy, PartialEq, Eq)]
@@ -61,9 +56,8 @@ pub enum LinkEnd {
 struct Room {
     framer: Framer,
     buffer: Vec<u8>,
-    out: Vec<u8>,
+    replies: Replies,
     ghost readable: { vec_len buffer ≡ 16384 },
-    ghost writable: { 1024 ≤ vec_capacity out },
 }
 
 impl Room {
@@ -73,7 +67,7 @@ impl Room {
         Ok(Room {
             framer: Framer::new(alloc)?,
             buffer: vec![in alloc; 0; READING]?,
-            out: Vec::with_capacity(alloc, WRITING)?,
+            replies: Replies::new(alloc, 1)?,
         })
     }
 }
@@ -180,10 +174,9 @@ fn turn<A: Answerer, K: Link>(
         Ok(()) => {}
         Err(end) => return Err(end),
     }
-    room.out.clear();
-    room.out.shrink_to(KEPT);
-    match take_command(alloc, answerer, store, &mut room.framer, &mut room.out) {
-        Taken::Reply => send(link, &room.out),
+    room.replies.begin(1);
+    match take_command(alloc, answerer, store, &mut room.framer, &mut room.replies) {
+        Taken::Reply => send(link, room.replies.bytes()),
         Taken::Quit => Err(LinkEnd::Quit),
         Taken::TooLarge { length, seq } => {
             Err(refuse(link, &too_large(seq), LinkEnd::TooLarge { length }))

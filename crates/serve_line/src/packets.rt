@@ -1,10 +1,12 @@
 //! Taking the next packet from the framer: the response to the greeting, or a command.
-ghost use Rattle.std.specs.Prelude.{◌≡◌, ◌≤◌, [], None, vec_capacity};
+ghost use Rattle.std.specs.Prelude.{◌≡◌, None};
 ghost use Rattle.mysql_wire.specs.Framing.{Waits};
+ghost use Rattle.reply_rows.specs.Written.{begun};
 ghost use Rattle.serve_line.specs.steps.Serving.{TakesCommand, TakesResponse};
 
 use crate::Answerer;
 use mysql_wire::{BadHandshake, Command, Framer, Next, read_command, read_response41};
+use reply_rows::Replies;
 use std::alloc::Global;
 
 /// What came of the next command's packet.
@@ -25,20 +27,18 @@ pub(crate) enum Shaken {
     OutOfOrder { seq: u8 },
 }
 
-/// Takes the next command's packet from the framer, and puts its reply into `out`.
+/// Takes the next command's packet from the framer, and has it answered.
 pub(crate) fn take_command<A: Answerer>(
     alloc: Global,
     answerer: &mut A,
     store: &mut A::Store,
     framer: &mut Framer,
-    out: &mut Vec<u8>,
+    replies: &mut Replies,
 ) -> Taken
     requires whole { Waits 0 framer.old → ⊥ }
     requires good { framer.old.refused ≡ None }
-    requires empty { out.old.items ≡ [] }
-    requires room { 1024 ≤ vec_capacity out.old }
-    ensures takes { TakesCommand A.machine A.follows result framer.old.held framer.new answerer.old answerer.new store.old store.new out.new.items }
-    ensures room { 1024 ≤ vec_capacity out.new }
+    requires begun { replies.old ≡ begun 1 }
+    ensures { TakesCommand A.machine A.follows result framer.old.held framer.new answerer.old answerer.new store.old store.new replies.new.bytes }
 {
     match framer.next(0) {
         Next::NeedMore => unreachable!(),
@@ -47,7 +47,7 @@ pub(crate) fn take_command<A: Answerer>(
         Next::Packet { payload, .. } => match read_command(payload) {
             Command::Quit => Taken::Quit,
             command => {
-                answerer.answer(alloc, store, command, out);
+                answerer.answer(alloc, store, command, replies);
                 Taken::Reply
             }
         },

@@ -1,7 +1,7 @@
 //! Result sets packet by packet. The one with rows was recorded; the others are worked out by the protocol's documentation.
 use crate::replies::ROW_SET;
 use mysql_wire::{Cell, Column, ColumnKind};
-use reply_rows::{ResultSet, put_result};
+use reply_rows::{Replies, ResultSet};
 use srch_base::{Items, Name};
 use std::alloc::Global;
 use std::test::Fail;
@@ -13,6 +13,12 @@ const NO_ROWS: &[u8] =
 /// A set of two ids, its packets from 253 on, with another statement after it.
 const WRAPPED: &[u8] =
     b"\x01\0\0\xfd\x01\x1a\0\0\xfe\x03def\0\0\0\x02id\x02id\x0c\x3f\0\x14\0\0\0\x08\x20\0\0\0\0\x05\0\0\xff\xfe\0\0\x0a\0\x02\0\0\0\x017\x02\0\0\x01\x018\x05\0\0\x02\xfe\0\0\x0a\0";
+
+/// OK of three rows and EOF, with another statement after the OK.
+const SHORT: &[u8] = b"\x07\0\0\x01\0\x03\0\x0a\0\0\0\x05\0\0\x02\xfe\0\0\x02\0";
+
+/// OK and a refusal, from 255 on.
+const REFUSED: &[u8] = b"\x07\0\0\xff\0\0\0\x02\0\0\0\x0b\0\0\0\xff\x28\x04#42000no";
 
 fn columns_of(alloc: Global, names: &[&[u8]], kind: ColumnKind) -> Result<Items<Column>, Fail> {
     let mut columns = Vec::new(alloc);
@@ -59,11 +65,16 @@ fn is_written(
     numbers: (u8, u8),
     bytes: &[u8],
 ) -> Result<bool, Fail> {
-    let mut out = Vec::new(alloc);
-    let next = put_result(alloc, set, numbers.0, status, &mut out)
-        .ok()
-        .ok_or("memory")?;
-    Ok(next == numbers.1 && out.as_slice() == bytes)
+    let mut replies = Replies::new(alloc, numbers.0).ok().ok_or("memory")?;
+    replies.put_set(alloc, set, status).ok().ok_or("memory")?;
+    let is_same = replies.bytes() == bytes;
+    replies.put_ok(0, 0);
+    Ok(
+        is_same
+            && replies
+                .bytes()
+                .ends_with(&[7, 0, 0, numbers.1, 0, 0, 0, 0, 0, 0, 0]),
+    )
 }
 
 fn two_columns(alloc: Global) -> Result<bool, Fail> {
@@ -99,5 +110,19 @@ fn a_set_without_rows_has_its_columns(rt: HostRuntime) -> Result<(), Fail> {
 #[test]
 fn numbers_of_packets_go_on_from_0_after_255(rt: HostRuntime) -> Result<(), Fail> {
     assert!(rt; wrapped(rt.alloc())?);
+    Ok(())
+}
+
+#[test]
+fn replies_go_on_from_one_another_and_begin_anew(rt: HostRuntime) -> Result<(), Fail> {
+    let mut replies = Replies::new(rt.alloc(), 1).ok().ok_or("memory")?;
+    replies.put_ok(3, 10);
+    replies.put_eof(2);
+    assert_eq!(rt; replies.bytes(), SHORT);
+    replies.begin(255);
+    replies.put_ok(0, 2);
+    replies.put_error(1064, *b"42000", b"no");
+    assert!(rt; replies.is_refused());
+    assert_eq!(rt; replies.bytes(), REFUSED);
     Ok(())
 }

@@ -30,11 +30,11 @@ returns-in-Reply-clause-moves g c =
     let held = c.args.room.now.framer.held in
     let old = c.args.answerer.now in
     let new = c.take_command.new.answerer in
-    let t = c.in-Reply.ensures.takes in
+    let t = c.in-Reply.ensures in
     let s = t.4 in
     Moves-then K c.args.link.now c.fill.new.link c.send.new.link
     (Fills {T = Unit {0}} (Ok c.in-Ok.field-0) 0 held c.fill.new.framer.held)
-    (Sends c.send.result c.deref.result.now)
+    (Sends c.send.result c.bytes.result.now)
     (λ before now read written. (events : List g.A.Answerer.Event)
     × ((answered : ℕ) → answered < most_commands → Goes g.A.Answerer.machine before now c.send.result (Talking old answered) held read written events (Talking new (suc answered)) c.take_command.new.framer.held)
     × FollowAll g.A.Answerer.follows c.args.store.now events c.take_command.new.store)
@@ -42,10 +42,10 @@ returns-in-Reply-clause-moves g c =
     (λ r w r' w' a b d e p q. (
       s.0,
       (λ answered few. turned g.A.Answerer.machine (m c.args.link.now) (m c.fill.new.link) (m c.send.new.link) c.send.result (Talking old answered) (Talking new (suc answered))
-          (command_turn g.A.Answerer.Event t.0 c.take_command.new.out.items s.0) held r w c.fill.new.framer.held c.take_command.new.framer.held r' w' c.deref.result.now
+          (command_turn g.A.Answerer.Event t.0 c.take_command.new.replies.bytes s.0) held r w c.fill.new.framer.held c.take_command.new.framer.held r' w' c.bytes.result.now
           (record { reads = a; writes = b })
           (only_read g.A.Answerer.machine (m c.args.link.now) (m c.fill.new.link) (Talking old answered) few held r c.fill.new.framer.held w p.0 p.1)
-          (commands g.A.Answerer.machine old new answered few t.0 c.take_command.new.out.items s.0 t.1.0 t.3 s.1) t.1.1 c.deref.ensures.value q),
+          (commands g.A.Answerer.machine old new answered few t.0 c.take_command.new.replies.bytes s.0 t.1.0 t.3 s.1) t.1.1 c.bytes.ensures q),
       s.2,
     ))
 
@@ -55,7 +55,7 @@ returns-in-Quit-clause-moves g c =
     let m = meters_of K in
     let held = c.args.room.now.framer.held in
     let old = c.args.answerer.now in
-    let t = c.in-Quit.ensures.takes in
+    let t = c.in-Quit.ensures in
     Moves-weaker K c.args.link.now c.fill.new.link
     (Fills {T = Unit {0}} (Ok c.in-Ok.field-0) 0 held c.fill.new.framer.held)
     (λ before now read written. (events : List g.A.Answerer.Event)
@@ -75,7 +75,7 @@ returns-in-TooLarge-clause-moves g c =
     let m = meters_of K in
     let held = c.args.room.now.framer.held in
     let old = c.args.answerer.now in
-    let t = c.in-TooLarge.ensures.takes in
+    let t = c.in-TooLarge.ensures in
     Moves-then K c.args.link.now c.fill.new.link c.refuse.new.link
     (Fills {T = Unit {0}} (Ok c.in-Ok.field-0) 0 held c.fill.new.framer.held)
     (RefusesWith c.refuse.result c.too_large.result (TooLarge c.in-TooLarge.length))
@@ -98,7 +98,7 @@ returns-in-OutOfOrder-clause-moves g c =
     let m = meters_of K in
     let held = c.args.room.now.framer.held in
     let old = c.args.answerer.now in
-    let t = c.in-OutOfOrder.ensures.takes in
+    let t = c.in-OutOfOrder.ensures in
     Moves-then K c.args.link.now c.fill.new.link c.refuse-in-OutOfOrder.new.link
     (Fills {T = Unit {0}} (Ok c.in-Ok.field-0) 0 held c.fill.new.framer.held)
     (RefusesWith c.refuse-in-OutOfOrder.result c.out_of_order.result (OutOfOrder c.in-OutOfOrder.seq))
