@@ -1,6 +1,6 @@
 -- places of a list as a loop goes over it
 pub mod Placing
--- a reply that a plan has is one that it is answered by
+-- want of memory is told of whatever a statement wants
 pub mod SaidBy
 -- a row's payload, value by value
 pub mod Cells

@@ -13,6 +13,7 @@ use Rattle.ql_insert.specs.Insertions.{Makes, RefusesValues}
 use Rattle.ql_select.specs.declared.selection.Selection.{Selection}
 use Rattle.ql_select.specs.Selections.{RefusesSelection, Selects}
 use Rattle.ql_answers.specs.declared.plan.Plan.{Plan}
+use Rattle.ql_answers.specs.declared.state.State.{State}
 use Rattle.ql_answers.specs.declared.plan.Plan.TheVariants.{Insert, Search, Show}
 use Rattle.ql_answers.specs.Indexes.{index_fault}
 use Rattle.ql_answers.specs.Plans.{Refuses, RefusesJob, Wants}
@@ -35,49 +36,49 @@ module _
     (one_txn : (conf : IndexConf) (columns : Option (List (List ℕ))) (rows : List (List Val)) (a b : Txn) → Makes conf columns rows a → Makes conf columns rows b → a ≡ b)
     (one_values_fault : (conf : IndexConf) (columns : Option (List (List ℕ))) (rows : List (List Val)) (a b : Refused) → RefusesValues conf columns rows a → RefusesValues conf columns rows b → a ≡ b)
     (not_refused_values : (conf : IndexConf) (columns : Option (List (List ℕ))) (rows : List (List Val)) (txn : Txn) (refusal : Refused) → Makes conf columns rows txn → RefusesValues conf columns rows refusal → ⊥) where
-  pub one_plan : (confs : List IndexConf) (statement : Statement) (a b : Plan) → Wants confs statement a → Wants confs statement b → a ≡ b
-  one_plan confs (statements.Select select) a b (p, selection, wants, is) (q, other, wants', is') =
+  pub one_plan : (confs : List IndexConf) (state : State) (statement : Statement) (a b : Plan) → Wants confs state statement a → Wants confs state statement b → a ≡ b
+  one_plan confs state (statements.Select select) a b (p, selection, wants, is) (q, other, wants', is') =
       let same = one_search one_selection one_selection_fault not_refused_selection confs select p q selection other wants wants' in
       is ∙ (ap (λ (place : ℕ). Search place selection) same.0 ∙ ap (λ (s : Selection). Search q s) same.1) ∙ sym is'
-  one_plan confs (statements.SelectVar name limit) a b is is' = is ∙ sym is'
-  one_plan confs statements.SelectDatabase a b is is' = is ∙ sym is'
-  one_plan confs (statements.Insert false index columns rows) a b (p, txn, wants, is) (q, other, wants', is') =
+  one_plan confs state (statements.SelectVar name limit) a b is is' = is ∙ sym is'
+  one_plan confs state statements.SelectDatabase a b is is' = is ∙ sym is'
+  one_plan confs state (statements.Insert false index columns rows) a b (p, txn, wants, is) (q, other, wants', is') =
       let same = one_insert one_txn one_values_fault not_refused_values confs index columns rows p q txn other wants wants' in
       is ∙ (ap (λ (place : ℕ). Insert place txn) same.0 ∙ ap (λ (t : Txn). Insert q t) same.1) ∙ sym is'
-  one_plan confs (statements.SetNames names) a b is is' = is ∙ sym is'
-  one_plan confs (statements.SetOther scope target value) a b is is' = is ∙ sym is'
-  one_plan confs (statements.Describe index) a b (p, conf, serves, is) (q, other, serves', is') =
+  one_plan confs state (statements.SetNames names) a b is is' = is ∙ sym is'
+  one_plan confs state (statements.SetOther scope target value) a b is is' = is ∙ sym is'
+  one_plan confs state (statements.Describe index) a b (p, conf, serves, is) (q, other, serves', is') =
       is ∙ ap (λ (c : IndexConf). Show (description c.schema)) (one_conf confs index p q conf other serves serves') ∙ sym is'
-  one_plan confs statements.ShowTables a b is is' = is ∙ sym is'
-  one_plan confs statements.ShowWarnings a b is is' = is ∙ sym is'
-  one_plan confs statements.ShowDatabases a b is is' = is ∙ sym is'
-  one_plan confs statement a b wants wants' = absurd wants
+  one_plan confs state statements.ShowTables a b is is' = is ∙ sym is'
+  one_plan confs state statements.ShowWarnings a b is is' = is ∙ sym is'
+  one_plan confs state statements.ShowDatabases a b is is' = is ∙ sym is'
+  one_plan confs state statement a b wants wants' = absurd wants
 
-  pub one_refusal : (confs : List IndexConf) (statement : Statement) (a b : Refused) → Refuses confs statement a → Refuses confs statement b → a ≡ b
-  one_refusal confs (statements.Select select) a b refuses refuses' = one_refused_select one_selection one_selection_fault not_refused_selection confs select a b refuses refuses'
-  one_refusal confs (statements.SelectVar name limit) a b refuses refuses' = absurd refuses
-  one_refusal confs statements.SelectDatabase a b refuses refuses' = absurd refuses
-  one_refusal confs (statements.Insert false index columns rows) a b refuses refuses' = one_refused_insert one_txn one_values_fault not_refused_values confs index columns rows a b refuses refuses'
-  one_refusal confs (statements.SetNames names) a b refuses refuses' = absurd refuses
-  one_refusal confs (statements.SetOther scope target value) a b refuses refuses' = absurd refuses
-  one_refusal confs (statements.Describe index) a b fault fault' = one_value (index_fault confs index) a b fault fault'
-  one_refusal confs statements.ShowTables a b refuses refuses' = absurd refuses
-  one_refusal confs statements.ShowWarnings a b refuses refuses' = absurd refuses
-  one_refusal confs statements.ShowDatabases a b refuses refuses' = absurd refuses
-  one_refusal confs (statements.FlushRamchunk index) a b refuses refuses' = one_job confs index a b refuses refuses'
-  one_refusal confs (statements.FlushRtindex index) a b refuses refuses' = one_job confs index a b refuses refuses'
-  one_refusal confs (statements.OptimizeIndex index) a b refuses refuses' = one_job confs index a b refuses refuses'
-  one_refusal confs statement a b says says' = says ∙ sym says'
+  pub one_refusal : (confs : List IndexConf) (state : State) (statement : Statement) (a b : Refused) → Refuses confs state statement a → Refuses confs state statement b → a ≡ b
+  one_refusal confs state (statements.Select select) a b refuses refuses' = one_refused_select one_selection one_selection_fault not_refused_selection confs select a b refuses refuses'
+  one_refusal confs state (statements.SelectVar name limit) a b refuses refuses' = absurd refuses
+  one_refusal confs state statements.SelectDatabase a b refuses refuses' = absurd refuses
+  one_refusal confs state (statements.Insert false index columns rows) a b refuses refuses' = one_refused_insert one_txn one_values_fault not_refused_values confs index columns rows a b refuses refuses'
+  one_refusal confs state (statements.SetNames names) a b refuses refuses' = absurd refuses
+  one_refusal confs state (statements.SetOther scope target value) a b refuses refuses' = absurd refuses
+  one_refusal confs state (statements.Describe index) a b fault fault' = one_value (index_fault confs index) a b fault fault'
+  one_refusal confs state statements.ShowTables a b refuses refuses' = absurd refuses
+  one_refusal confs state statements.ShowWarnings a b refuses refuses' = absurd refuses
+  one_refusal confs state statements.ShowDatabases a b refuses refuses' = absurd refuses
+  one_refusal confs state (statements.FlushRamchunk index) a b refuses refuses' = one_job confs index a b refuses refuses'
+  one_refusal confs state (statements.FlushRtindex index) a b refuses refuses' = one_job confs index a b refuses refuses'
+  one_refusal confs state (statements.OptimizeIndex index) a b refuses refuses' = one_job confs index a b refuses refuses'
+  one_refusal confs state statement a b says says' = says ∙ sym says'
 
-  pub never_both : (confs : List IndexConf) (statement : Statement) (plan : Plan) (refusal : Refused) → Wants confs statement plan → Refuses confs statement refusal → ⊥
-  never_both confs (statements.Select select) plan refusal (place, selection, wants, is) refuses = not_searched one_selection one_selection_fault not_refused_selection confs select place selection refusal wants refuses
-  never_both confs (statements.SelectVar name limit) plan refusal wants refuses = refuses
-  never_both confs statements.SelectDatabase plan refusal wants refuses = refuses
-  never_both confs (statements.Insert false index columns rows) plan refusal (place, txn, wants, is) refuses = not_refused_insert one_txn one_values_fault not_refused_values confs index columns rows place txn refusal wants refuses
-  never_both confs (statements.SetNames names) plan refusal wants refuses = refuses
-  never_both confs (statements.SetOther scope target value) plan refusal wants refuses = refuses
-  never_both confs (statements.Describe index) plan refusal (place, conf, serves, is) fault = not_served confs index place conf refusal serves fault
-  never_both confs statements.ShowTables plan refusal wants refuses = refuses
-  never_both confs statements.ShowWarnings plan refusal wants refuses = refuses
-  never_both confs statements.ShowDatabases plan refusal wants refuses = refuses
-  never_both confs statement plan refusal wants refuses = wants
+  pub never_both : (confs : List IndexConf) (state : State) (statement : Statement) (plan : Plan) (refusal : Refused) → Wants confs state statement plan → Refuses confs state statement refusal → ⊥
+  never_both confs state (statements.Select select) plan refusal (place, selection, wants, is) refuses = not_searched one_selection one_selection_fault not_refused_selection confs select place selection refusal wants refuses
+  never_both confs state (statements.SelectVar name limit) plan refusal wants refuses = refuses
+  never_both confs state statements.SelectDatabase plan refusal wants refuses = refuses
+  never_both confs state (statements.Insert false index columns rows) plan refusal (place, txn, wants, is) refuses = not_refused_insert one_txn one_values_fault not_refused_values confs index columns rows place txn refusal wants refuses
+  never_both confs state (statements.SetNames names) plan refusal wants refuses = refuses
+  never_both confs state (statements.SetOther scope target value) plan refusal wants refuses = refuses
+  never_both confs state (statements.Describe index) plan refusal (place, conf, serves, is) fault = not_served confs index place conf refusal serves fault
+  never_both confs state statements.ShowTables plan refusal wants refuses = refuses
+  never_both confs state statements.ShowWarnings plan refusal wants refuses = refuses
+  never_both confs state statements.ShowDatabases plan refusal wants refuses = refuses
+  never_both confs state statement plan refusal wants refuses = wants

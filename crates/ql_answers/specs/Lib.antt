@@ -1,5 +1,7 @@
 -- indexes, as statements name them
 pub mod Indexes
+-- the state of a session
+pub mod States
 -- INSERT
 pub mod Writing
 -- replies and their packets
@@ -13,6 +15,7 @@ pub mod Plans
 -- sessions, and what is replied
 pub mod Sessions
 -- what clauses cite of lower crates, passed on
+pub use Rattle.commit_outcomes.specs.declared.outcome.CommitOutcome
 pub use Rattle.doc_search.specs.Searches
 pub use Rattle.ql_refusals.specs.Refusals
 pub use Rattle.ql_select.specs.declared.selection.Selection

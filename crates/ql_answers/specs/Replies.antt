@@ -1,11 +1,12 @@
 -- Replies and their packets: OK, ERR, or a result set. "COM_QUERY Response" of the protocol.
-use Rattle.std.specs.Prelude.{ℕ, List, [], ◌∷◌, map}
+use Rattle.std.specs.Prelude.{ℕ, List, [], ◌∷◌, map, Bool, true, false}
 use Rattle.mysql_wire.specs.Replies.{ok_payload, err_payload}
 use Rattle.mysql_wire.specs.declared.rows.Column.{Column}
 use Rattle.mysql_wire.specs.declared.rows.ColumnKind.TheVariants as kinds
 use Rattle.mysql_wire.specs.declared.rows.Cell.{Cell}
 use Rattle.mysql_wire.specs.declared.rows.Cell.TheVariants as cells
 use Rattle.reply_rows.specs.ResultSets.{set_payloads}
+use Rattle.reply_rows.specs.Written.{Written, then_reply}
 use Rattle.reply_rows.specs.declared.result_set.ResultSet.{ResultSet}
 use Rattle.ql_refusals.specs.Refusals.{Refused, state_of}
 
@@ -20,6 +21,16 @@ abbrev pub payloads : ℕ → Reply → List (List ℕ)
 payloads status (Done affected) = ok_payload affected status ∷ []
 payloads status (Shows set) = set_payloads status set
 payloads status (Fails refusal) = err_payload refusal.code (state_of refusal.code) refusal.text ∷ []
+
+-- a reply is a refusal
+abbrev pub is_refusal : Reply → Bool
+is_refusal (Done affected) = false
+is_refusal (Shows set) = false
+is_refusal (Fails refusal) = true
+
+-- what is written once this reply follows, with this status
+abbrev pub replied : Written → ℕ → Reply → Written
+replied written status reply = then_reply written (payloads status reply) (is_refusal reply)
 
 -- a column of texts
 abbrev pub text_column : List ℕ → Column

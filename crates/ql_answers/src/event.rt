@@ -1,7 +1,8 @@
 //! What the outside did about a statement.
+use commit_outcomes::CommitOutcome;
 use doc_types::{Chunk, Snapshot};
 
-/// What became of what a statement wants.
+/// What became of what a statement wants, by what was asked of the outside.
 #[derive(Drop)]
 pub enum Event<'a, C: Chunk> {
     /// Nothing was asked for.
@@ -10,10 +11,8 @@ pub enum Event<'a, C: Chunk> {
     NoMemory,
     /// The index as the statement finds it.
     Read(&'a Snapshot<C>),
-    /// The transaction was committed; so many ids that it kills were there.
-    Committed { removed: u32 },
-    /// A document with this id was there, and nothing was done.
-    Duplicate { id: u64 },
+    /// What became of the commit.
+    Commit(CommitOutcome),
 }
 
 /// What a statement wants of the outside.

@@ -7,8 +7,10 @@ mod indexes;
 mod laws;
 mod plan;
 mod planning;
+mod refusing;
 mod saying;
 mod showing;
+mod state;
 mod statement_machine;
 mod text_sets;
 
@@ -16,4 +18,6 @@ pub use event::{Event, Need};
 pub use indexes::Catalog;
 pub use laws::{a_plan_has_one_reply, a_statement_has_one_plan};
 pub use plan::Plan;
+pub use refusing::put_refusal;
+pub use state::State;
 pub use statement_machine::StatementMachine;

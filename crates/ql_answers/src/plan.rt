@@ -1,4 +1,4 @@
-//! What a statement wants, by its text and the configuration alone.
+//! What a statement wants, by its text, the configuration and the session's state alone.
 ghost use Rattle.std.specs.Prelude.{◌≡◌};
 ghost use Rattle.ql_answers.specs.Sessions.{need_of};
 

@@ -1,10 +1,11 @@
-//! What a statement wants, or why it is refused: each statement by its text and the configuration alone.
+//! What a statement wants, or why it is refused: each statement by its text, the configuration and the session's state alone.
 ghost use Rattle.std.specs.Prelude.{◌≡◌, option_copied};
 ghost use Rattle.ql_answers.specs.steps.Planning.{PlansInsert, PlansSelect, PlansDescribe, PlansJob, ShowsOr, Planned};
 
 use crate::indexes::{Catalog, served};
 use crate::plan::Plan;
 use crate::showing::{current_database, databases, description, tables, variable, warnings};
+use crate::state::State;
 use ql_insert::insertion;
 use ql_refusals::{Refusal, not_offered};
 use ql_select::is_grouped;
@@ -17,9 +18,10 @@ use std::alloc::Global;
 pub(crate) fn plan<T: Catalog>(
     alloc: Global,
     catalog: &T,
+    _state: &State,
     statement: &Statement,
 ) -> Result<Plan, Or<Refusal>>
-    ensures { Planned (T.confs catalog.now) statement.now result }
+    ensures { Planned (T.confs catalog.now) _state.now statement.now result }
 {
     match statement {
         Statement::Select(select) => plan_select(alloc, catalog, select),

@@ -7,6 +7,9 @@ use Rattle.ql_grammar.specs.FaultTexts.{fault_text as parse_text}
 use Rattle.ql_grammar.specs.declared.fault.ParseFault.{ParseFault}
 use Rattle.query_grammar.specs.FaultTexts.{fault_text as query_text}
 use Rattle.query_grammar.specs.declared.fault.QueryFault.{QueryFault}
+use Rattle.commit_outcomes.specs.declared.outcome.Full.{Full}
+use Rattle.commit_outcomes.specs.declared.outcome.FullKind.{FullKind}
+use Rattle.commit_outcomes.specs.declared.outcome.FullKind.TheVariants.{Documents}
 
 -- why a statement is refused: a code of the protocol, and a text
 pub record Refused : Type 0 where
@@ -117,6 +120,25 @@ bad_query fault = refused (query_text (record fault { name = shown fault.name })
 abbrev pub too_many_positions : List ℕ → Refused
 too_many_positions name = refused (codes "field '" ++ shown name ++ codes "' above 65535 positions")
 
+abbrev pub other_index : Refused
+other_index = refused (codes "transaction is on another index")
+
+abbrev pub transaction_open : Refused
+transaction_open = refused (codes "transaction is open")
+
+abbrev pub too_many_operations : Refused
+too_many_operations = refused (codes "transaction above 10000 operations")
+
+abbrev pub transaction_too_large : Refused
+transaction_too_large = refused (codes "transaction above 8388608 bytes")
+
 -- the store
 abbrev pub duplicate_id : ℕ → Refused
 duplicate_id id = refused (codes "duplicate id " ++ decimal id)
+
+-- what an index is full of
+abbrev pub full_text : FullKind → List ℕ
+full_text Documents = codes "documents"
+
+abbrev pub index_full : Full → Refused
+index_full full = refused (full_text full.what ++ codes " full at " ++ decimal full.at ++ codes " needs " ++ decimal full.need)

@@ -2,9 +2,10 @@
 //! table.
 ghost use Rattle.std.specs.Prelude.{◌≡◌, ◌+◌, ◌≤◌, ◌++◌, [], codes, length, decimal};
 ghost use Rattle.query_grammar.specs.FaultTexts.{name_text};
-ghost use Rattle.ql_refusals.specs.Refusals.{bad_query as bad_query_row, bad_syntax as bad_syntax_row, bad_token as bad_token_row, column_is_field as column_is_field_row, column_is_no_field as column_is_no_field_row, column_twice as column_twice_row, duplicate_id as duplicate_id_row, id_missing as id_missing_row, id_out_of_range as id_out_of_range_row, max_matches_out_of_range as max_matches_out_of_range_row, no_memory as no_memory_row, not_offered as not_offered_row, offset_not_below as offset_not_below_row, ranker_not_offered as ranker_not_offered_row, refused, second_match as second_match_row, shown, state_of, too_many_columns as too_many_columns_row, too_many_positions as too_many_positions_row, too_many_sort_keys as too_many_sort_keys_row, unknown_column as unknown_column_row, unknown_index as unknown_index_row, unknown_option as unknown_option_row, value_out_of_range as value_out_of_range_row, wrong_kind as wrong_kind_row, wrong_number as wrong_number_row};
+ghost use Rattle.ql_refusals.specs.Refusals.{bad_query as bad_query_row, bad_syntax as bad_syntax_row, bad_token as bad_token_row, column_is_field as column_is_field_row, column_is_no_field as column_is_no_field_row, column_twice as column_twice_row, duplicate_id as duplicate_id_row, full_text, id_missing as id_missing_row, id_out_of_range as id_out_of_range_row, index_full as index_full_row, max_matches_out_of_range as max_matches_out_of_range_row, no_memory as no_memory_row, not_offered as not_offered_row, offset_not_below as offset_not_below_row, other_index as other_index_row, ranker_not_offered as ranker_not_offered_row, refused, second_match as second_match_row, shown, state_of, too_many_columns as too_many_columns_row, too_many_operations as too_many_operations_row, too_many_positions as too_many_positions_row, too_many_sort_keys as too_many_sort_keys_row, transaction_open as transaction_open_row, transaction_too_large as transaction_too_large_row, unknown_column as unknown_column_row, unknown_index as unknown_index_row, unknown_option as unknown_option_row, value_out_of_range as value_out_of_range_row, wrong_kind as wrong_kind_row, wrong_number as wrong_number_row};
 
 use arrayvec::ArrayVec;
+use commit_outcomes::{Full, FullKind};
 use itoa::Buffer;
 use ql_grammar::{ParseFault, ParseKind};
 use ql_lex::LexFault;
@@ -331,9 +332,58 @@ pub fn too_many_positions(name: &[u8]) -> Refusal
     Refusal::named(b"field '", name, b"' above 65535 positions")
 }
 
+/// The transaction is about another index.
+pub fn other_index() -> Refusal
+    ensures { result ≡ other_index_row }
+{
+    Refusal::plain(WRONG, b"transaction is on another index")
+}
+
+/// What can't be done inside a transaction.
+pub fn transaction_open() -> Refusal
+    ensures { result ≡ transaction_open_row }
+{
+    Refusal::plain(WRONG, b"transaction is open")
+}
+
+/// The transaction would have more operations than it may.
+pub fn too_many_operations() -> Refusal
+    ensures { result ≡ too_many_operations_row }
+{
+    Refusal::plain(WRONG, b"transaction above 10000 operations")
+}
+
+/// The transaction would have more bytes than it may.
+pub fn transaction_too_large() -> Refusal
+    ensures { result ≡ transaction_too_large_row }
+{
+    Refusal::plain(WRONG, b"transaction above 8388608 bytes")
+}
+
 /// A document with the id is there, or was put by the same statement.
 pub fn duplicate_id(id: u64) -> Refusal
     ensures { result ≡ duplicate_id_row id }
 {
     Refusal::numbered(b"duplicate id ", id)
+}
+
+/// What an index is full of.
+fn full_text(kind: FullKind) -> &'static [u8]
+    ensures value { result.now ≡ full_text kind }
+    ensures short { length result.now ≤ 16 }
+{
+    match kind {
+        FullKind::Documents => b"documents",
+    }
+}
+
+/// A limit of the index would be passed.
+pub fn index_full(full: Full) -> Refusal
+    ensures { result ≡ index_full_row full }
+{
+    Refusal::plain(WRONG, full_text(full.what))
+        .then(b" full at ")
+        .then_number(full.at)
+        .then(b" needs ")
+        .then_number(full.need)
 }

@@ -1,7 +1,7 @@
 pub mod OneReading
 pub mod Plans
 pub mod Replying
-pub mod Answering
+pub mod MemoryWants
 pub mod Reading
 pub mod Several
 pub mod Committing

@@ -11,58 +11,81 @@ use Rattle.doc_types.specs.Documents.{AreRowsOf}
 use Rattle.doc_types.specs.Schemas.{IsSchema}
 use Rattle.doc_types.specs.Snapshots.{SnapshotValue}
 use Rattle.doc_types.specs.declared.transactions.Txn.{Txn}
+use Rattle.commit_outcomes.specs.declared.outcome.CommitOutcome.{CommitOutcome}
+use Rattle.ql_answers.specs.declared.event.Need.{Need}
 use Rattle.ql_answers.specs.declared.event.Need.TheVariants as needs
 use Rattle.ql_answers.specs.declared.plan.Plan.{Plan}
 use Rattle.ql_answers.specs.declared.plan.Plan.TheVariants.{Agree, Show, Search, Insert}
+use Rattle.ql_answers.specs.declared.state.State.{State}
 use Rattle.ql_answers.specs.Plans.{Wants, Refuses, TakesMemory}
 use Rattle.ql_refusals.specs.Refusals.{Refused, no_memory}
-use Rattle.ql_answers.specs.Replies.{Reply, Fails}
-use Rattle.ql_answers.specs.Sessions.{CanHave, State, Standing, Needs, Happened, Decides, is_small, need_of, pending_of}
+use Rattle.reply_rows.specs.Written.{Written}
+use Rattle.ql_answers.specs.Replies.{Reply, Fails, replied}
+use Rattle.ql_answers.specs.States.{status_of}
+use Rattle.ql_answers.specs.Sessions.{CanHave, Standing, Needs, Happened, Decides, at_plan, need_of, next_of, pending_of, reply_takes_memory}
 use Rattle.ql_answers.specs.Sessions as happenings
-use Rattle.ql_session.specs.Tables.{Tables, Event, Nothing, NoMemory, Read, Follows}
+use Rattle.ql_answers.proofs.OneReply.{without_memory}
+use Rattle.ql_session.specs.Events.{Event, Commit, Nothing, NoMemory, Read, StoreWords, Follows}
 use Rattle.ql_session.specs.Statements.{Meets, told}
-use Rattle.ql_session.specs.steps.Running.{CameOf, Runs, Says, SaysReply}
+use Rattle.ql_session.specs.steps.Running.{IsAt, RepliesPlan, Runs, Says}
 use Rattle.ql_session.specs.steps.Wanting.{CanCommit, IsSoundPlan}
-use Rattle.ql_session.proofs.Plans.{good}
+use Rattle.ql_session.proofs.Plans.{good, sound_by_need, takes_by_need, takes_by_room}
 
--- what a plan that needs a commit is
-pub wants_commit : (plan : Plan) (place : ℕ) → need_of plan ≡ needs.Commit place → (txn : Txn) × (plan ≡ Insert place txn)
-wants_commit Agree place e = absurd cc
-wants_commit (Show set) place e = absurd cc
-wants_commit (Search at selection) place e = absurd cc
-wants_commit (Insert at txn) place e = (txn, cc)
+-- ---- what a plan needs
+something_read : (place : ℕ) (plan : Plan) → need_of plan ≡ needs.Read place → need_of plan ≢ needs.Nothing
+something_read place plan is none = let clash : needs.Read place ≡ needs.Nothing = sym is ∙ none in cc
 
--- the plan of a session whose transaction is asked for
-pub commit_plan : (standing : Option Plan) (plan : Plan) (place : ℕ) (pending : Txn) → standing ≡ Some plan → needs.Commit place ≡ need_of plan → pending_of standing ≡ Some pending → plan ≡ Insert place pending
-commit_plan standing plan place pending at need is =
-    let (txn, e) = wants_commit plan place (sym need) in
-    let same : pending_of (Some plan) ≡ Some pending = subst (λ (p : Option Plan). pending_of p ≡ Some pending) at is in
-    let there : pending_of (Some (Insert place txn)) ≡ Some pending = subst (λ (p : Plan). pending_of (Some p) ≡ Some pending) e same in
-    let eq : txn ≡ pending = cc in
-    e ∙ ap (λ (t : Txn). Insert place t) eq
+something_put : (place : ℕ) (plan : Plan) → need_of plan ≡ needs.Commit place → need_of plan ≢ needs.Nothing
+something_put place plan is none = let clash : needs.Commit place ≡ needs.Nothing = sym is ∙ none in cc
 
--- what such a plan wants can be committed
-pub can_commit : (confs : List IndexConf) (statement : Statement) (plan : Plan) (place : ℕ) (pending : Txn) → Wants confs statement plan → plan ≡ Insert place pending → CanCommit confs place pending
-can_commit confs statement plan place pending wants is = elim (good confs statement plan wants) [
-  | inl agreed ↦ absurd (let clash : Insert place pending ≡ Agree = sym is ∙ agreed in cc)
-  | inr h ↦ subst (IsSoundPlan confs) is h.1
-]
+-- a plan that needs a commit has a transaction that can be committed, and its reply takes no memory
+pub has_pending : (state : State) (plan : Plan) (place : ℕ) → need_of plan ≡ needs.Commit place → (txn : Txn) × (pending_of state plan ≡ Some txn)
+has_pending state Agree place e = absurd cc
+has_pending state (Show set) place e = absurd cc
+has_pending state (Search at selection) place e = absurd cc
+has_pending state (Insert at txn) place e = (txn, refl)
 
--- what a plan that needs this meets
-pub meets_nothing : (plan : Plan) → need_of plan ≡ needs.Nothing → Meets plan Nothing
-meets_nothing Agree e = tt
-meets_nothing (Show set) e = tt
-meets_nothing (Search place selection) e = absurd cc
-meets_nothing (Insert place txn) e = absurd cc
+commit_by : (confs : List IndexConf) (state : State) (plan : Plan) (place : ℕ) (txn : Txn) → need_of plan ≡ needs.Commit place → pending_of state plan ≡ Some txn → IsSoundPlan confs plan → CanCommit confs place txn
+commit_by confs state Agree place txn e is sound = absurd cc
+commit_by confs state (Show set) place txn e is sound = absurd cc
+commit_by confs state (Search at selection) place txn e is sound = absurd cc
+commit_by confs state (Insert at pending) place txn e is sound =
+    let here : at ≡ place = cc in
+    let same : pending ≡ txn = cc in
+    subst (λ (p : ℕ). CanCommit confs p txn) here (subst (λ (t : Txn). CanCommit confs at t) same sound)
 
-pub meets_read : (plan : Plan) (place : ℕ) (front : SnapshotValue) → need_of plan ≡ needs.Read place → Meets plan (Read place front)
-meets_read Agree place front e = absurd cc
-meets_read (Show set) place front e = absurd cc
-meets_read (Search at selection) place front e = cc
-meets_read (Insert at txn) place front e = absurd cc
+pub can_commit : (confs : List IndexConf) (state : State) (statement : Statement) (plan : Plan) (place : ℕ) (txn : Txn) → Wants confs state statement plan → need_of plan ≡ needs.Commit place → pending_of state plan ≡ Some txn
+    → CanCommit confs place txn
+can_commit confs state statement plan place txn wants need is =
+    commit_by confs state plan place txn need is (sound_by_need confs state statement plan wants (something_put place plan need))
+
+small_commit : (plan : Plan) (place : ℕ) → need_of plan ≡ needs.Commit place → reply_takes_memory plan ≡ false
+small_commit Agree place e = refl
+small_commit (Show set) place e = absurd cc
+small_commit (Search at selection) place e = absurd cc
+small_commit (Insert at txn) place e = refl
+
+-- what can be told to a plan that needs this
+pub can_nothing : (plan : Plan) → need_of plan ≡ needs.Nothing → CanHave plan happenings.Nothing
+can_nothing Agree e = tt
+can_nothing (Show set) e = tt
+can_nothing (Search place selection) e = absurd cc
+can_nothing (Insert place txn) e = absurd cc
+
+pub can_outcome : (plan : Plan) (place : ℕ) (outcome : CommitOutcome) → need_of plan ≡ needs.Commit place → CanHave plan (happenings.Commit outcome)
+can_outcome Agree place outcome e = absurd cc
+can_outcome (Show set) place outcome e = absurd cc
+can_outcome (Search at selection) place outcome e = absurd cc
+can_outcome (Insert at txn) place outcome e = tt
+
+pub can_want : (plan : Plan) → CanHave plan happenings.NoMemory
+can_want Agree = tt
+can_want (Show set) = tt
+can_want (Search place selection) = tt
+can_want (Insert place txn) = tt
 
 -- the reply to what was read of an index can be asked for: its rows are of the columns that the question was asked for
-pub can_read : (confs : List IndexConf) (plan : Plan) (place : ℕ) (front : SnapshotValue) (conf : IndexConf) → need_of plan ≡ needs.Read place → IsSoundPlan confs plan
+can_read : (confs : List IndexConf) (plan : Plan) (place : ℕ) (front : SnapshotValue) (conf : IndexConf) → need_of plan ≡ needs.Read place → IsSoundPlan confs plan
     → slice_get confs place ≡ Some conf → IsSchema conf.schema → All (λ layer. AreRowsOf conf.schema layer.rows) front.layers
     → CanHave plan (happenings.Read front)
 can_read confs Agree place front conf e sound here schema rows = absurd cc
@@ -74,97 +97,144 @@ can_read confs (Search at selection) place front conf e sound here schema rows =
     (conf.schema, subst (λ (c : IndexConf). IsSchema c.schema → IsAskedOf c.schema selection.question) is sound.2 schema, rows)
 can_read confs (Insert at txn) place front conf e sound here schema rows = absurd cc
 
--- a plan that reads wants what can be had
-reads_soundly : (confs : List IndexConf) (statement : Statement) (plan : Plan) (place : ℕ) → Wants confs statement plan → need_of plan ≡ needs.Read place → IsSoundPlan confs plan
-reads_soundly confs statement plan place wants need = elim (good confs statement plan wants) [
-  | inl agreed ↦ absurd (let clash : needs.Nothing ≡ needs.Read place = sym (ap need_of agreed) ∙ need in cc)
-  | inr h ↦ h.1
-]
+-- ---- what a session at a statement can be told
+at_some : (standing : Standing) (plan : Plan) (happened : Happened) → standing.plan ≡ Some plan → CanHave plan happened → IsSomeAnd standing.plan (λ p. CanHave p happened)
+at_some standing plan happened at can = subst (λ (o : Option Plan). IsSomeAnd o (λ p. CanHave p happened)) (sym at) can
 
--- a session at a statement that reads can be told what was read
-pub can_be_told : (confs : List IndexConf) (statement : Statement) (standing : Option Plan) (plan : Plan) (place : ℕ) (front : SnapshotValue) (conf : IndexConf)
-    → Wants confs statement plan → standing ≡ Some plan → need_of plan ≡ needs.Read place
-    → slice_get confs place ≡ Some conf → IsSchema conf.schema → All (λ layer. AreRowsOf conf.schema layer.rows) front.layers
-    → IsSomeAnd standing (λ p. CanHave p (happenings.Read front))
-can_be_told confs statement standing plan place front conf wants at need here schema rows =
-    subst (λ (o : Option Plan). IsSomeAnd o (λ p. CanHave p (happenings.Read front))) (sym at)
-    (can_read confs plan place front conf need (reads_soundly confs statement plan place wants need) here schema rows)
+pub told_nothing : (confs : List IndexConf) (statement : Statement) (standing : Standing) → IsAt confs statement standing needs.Nothing → IsSomeAnd standing.plan (λ p. CanHave p happenings.Nothing)
+told_nothing confs statement standing at = at_some standing at.plan happenings.Nothing at.at (can_nothing at.plan at.is)
 
--- a plan that is agreed to takes no memory
-not_small : (happened : Happened) (plan : Plan) → is_small happened plan ≡ false → plan ≢ Agree
-not_small happenings.Nothing plan small is = absurd cc
-not_small happenings.NoMemory plan small is = absurd cc
-not_small (happenings.Read front) plan small is = absurd cc
-not_small (happenings.Committed removed) plan small is = absurd cc
-not_small (happenings.Duplicate id) plan small is = absurd cc
+pub told_want : (confs : List IndexConf) (statement : Statement) (standing : Standing) (need : Need) → IsAt confs statement standing need → IsSomeAnd standing.plan (λ p. CanHave p happenings.NoMemory)
+told_want confs statement standing need at = at_some standing at.plan happenings.NoMemory at.at (can_want at.plan)
 
-takes : (confs : List IndexConf) (statement : Statement) (plan : Plan) → Wants confs statement plan → plan ≢ Agree → TakesMemory statement
-takes confs statement plan wants some = elim (good confs statement plan wants) [
-  | inl is ↦ absurd (some is)
-  | inr h ↦ h.0
-]
+pub told_outcome : (confs : List IndexConf) (statement : Statement) (standing : Standing) (place : ℕ) (outcome : CommitOutcome) → IsAt confs statement standing (needs.Commit place)
+    → IsSomeAnd standing.plan (λ p. CanHave p (happenings.Commit outcome))
+told_outcome confs statement standing place outcome at = at_some standing at.plan (happenings.Commit outcome) at.at (can_outcome at.plan place outcome at.is)
 
--- what was said of something that left the tables as they were
-pub runs_still : (tables : Tables) (state : State) (statement : Statement) (plan : Plan) (event : Event) (reply : Reply) (seq : ℕ) (more : Bool) (answer : ℕ × Bool) (old new : List ℕ)
-    → Wants tables.confs statement plan → Meets plan event → Follows tables event tables → Says plan (told event) reply → SaysReply state reply seq more answer old new
-    → Runs tables state statement seq more answer tables old new
-runs_still tables state statement plan event reply seq more answer old new wants meets follows says put = elim says [
-  | inl decides ↦ record { event = event; reply = reply; replies = inr (inl (plan, wants, meets, decides)); follows = follows; says = put }
-  | inr h ↦ record {
+pub told_read : (confs : List IndexConf) (statement : Statement) (standing : Standing) (place : ℕ) (front seen : SnapshotValue) → IsAt confs statement standing (needs.Read place) → seen ≡ front
+    → (conf : IndexConf) × (slice_get confs place ≡ Some conf) × IsSchema conf.schema × All (λ layer. AreRowsOf conf.schema layer.rows) front.layers
+    → IsSomeAnd standing.plan (λ p. CanHave p (happenings.Read seen))
+told_read confs statement standing place front seen at sees (conf, here, schema, rows) =
+    at_some standing at.plan (happenings.Read seen) at.at
+    (can_read confs at.plan place seen conf at.is (sound_by_need confs standing.state statement at.plan at.wants (something_read place at.plan at.is)) here schema
+    (subst (λ (s : SnapshotValue). All (λ layer. AreRowsOf conf.schema layer.rows) s.layers) (sym sees) rows))
+
+-- the transaction of a session that is at a commit
+pub pending_at : (confs : List IndexConf) (statement : Statement) (standing : Standing) (place : ℕ) (txn : Txn) → (at : IsAt confs statement standing (needs.Commit place))
+    → IsSomeAnd standing.plan (λ plan. pending_of standing.state plan ≡ Some txn) → pending_of standing.state at.plan ≡ Some txn
+pending_at confs statement standing place txn at is = subst (λ (o : Option Plan). IsSomeAnd o (λ plan. pending_of standing.state plan ≡ Some txn)) at.at is
+
+pub is_pending : (confs : List IndexConf) (statement : Statement) (standing : Standing) (place : ℕ) → IsAt confs statement standing (needs.Commit place)
+    → IsSomeAnd standing.plan (λ plan. (txn : Txn) × (pending_of standing.state plan ≡ Some txn))
+is_pending confs statement standing place at =
+    subst (λ (o : Option Plan). IsSomeAnd o (λ plan. (txn : Txn) × (pending_of standing.state plan ≡ Some txn))) (sym at.at) (has_pending standing.state at.plan place at.is)
+
+-- ---- what was said
+-- after want of memory the session is as before
+same_after : (plan : Plan) (state : State) → next_of plan happenings.NoMemory state ≡ state
+same_after plan state = refl
+
+module _ {D F : Type 0} (confs : D → List IndexConf) (words : StoreWords D F) where
+  -- a statement whose memory was refused
+  pub runs_want : (before after : D) (old new : State) (statement : Statement) (reply : Reply) (more : Bool) (out longer : Written)
+      → TakesMemory statement → reply ≡ Fails no_memory → new ≡ old → words.settles before after → confs after ≡ confs before → (longer ≡ replied out (status_of new more) reply)
+      → Runs confs words before old statement more after new out longer
+  runs_want before after old new statement reply more out longer takes is stays settles same says = record {
     event = NoMemory;
     reply = reply;
-    replies = inr (inr (takes tables.confs statement plan wants (not_small (told event) plan h.0), refl, h.1));
-    follows = refl;
-    says = put;
+    replies = inr (inr (takes, refl, is, stays));
+    follows = settles;
+    same = same;
+    says = says;
   }
-]
 
-insert_is_small : (happened : Happened) (place : ℕ) (txn : Txn) → is_small happened (Insert place txn) ≡ true
-insert_is_small happenings.Nothing place txn = refl
-insert_is_small happenings.NoMemory place txn = refl
-insert_is_small (happenings.Read front) place txn = refl
-insert_is_small (happenings.Committed removed) place txn = refl
-insert_is_small (happenings.Duplicate id) place txn = refl
+  -- a statement that wanted something, of which the event came
+  runs_by : (before after : D) (old new : State) (statement : Statement) (plan : Plan) (event : Event F) (reply : Reply) (more : Bool) (out longer : Written)
+      → Wants (confs before) old statement plan → Meets (need_of plan) (pending_of old plan) event → Follows confs words before event after → confs after ≡ confs before
+      → (reply_takes_memory plan ≡ true → words.settles before after)
+      → Says plan old (told words.documents event) reply new → (longer ≡ replied out (status_of new more) reply)
+      → Runs confs words before old statement more after new out longer
+  runs_by before after old new statement plan event reply more out longer wants meets follows same settles (inl (decides, next)) says = record {
+    event = event;
+    reply = reply;
+    replies = inr (inl (plan, wants, meets, decides, next));
+    follows = follows;
+    same = same;
+    says = says;
+  }
+  runs_by before after old new statement plan event reply more out longer wants meets follows same settles (inr (takes, is, stays)) says =
+      runs_want before after old new statement reply more out longer (takes_by_room (confs before) old statement plan wants takes) is stays (settles takes) same says
 
-without_memory : (plan : Plan) (reply : Reply) → Decides plan happenings.NoMemory reply → reply ≡ Fails no_memory
-without_memory Agree reply is = is
-without_memory (Show set) reply is = is
-without_memory (Search place selection) reply is = is
-without_memory (Insert place txn) reply is = is
+  -- what was replied to the plan that the session is at
+  said_of : (standing : Standing) (plan : Plan) (happened : Happened) (more : Bool) (new : State) (out longer : Written) → standing.plan ≡ Some plan
+      → RepliesPlan standing happened more new out longer → (reply : Reply) × Says plan standing.state happened reply new × (longer ≡ replied out (status_of new more) reply)
+  said_of standing plan happened more new out longer at (said, reply, is, says, put) =
+      let same : said ≡ plan = ap (λ (o : Option Plan). unwrap_or o plan) (sym is ∙ at) in
+      (reply, subst (λ (p : Plan). Says p standing.state happened reply new) same says, put)
 
--- what was said of a commit
-pub runs_commit : (before after : Tables) (state : State) (statement : Statement) (place : ℕ) (txn : Txn) (happened : Happened) (reply : Reply) (seq : ℕ) (more : Bool) (answer : ℕ × Bool) (old new : List ℕ)
-    → Wants before.confs statement (Insert place txn) → CameOf (Insert place txn) happened before after → Says (Insert place txn) happened reply → SaysReply state reply seq more answer old new
-    → Runs before state statement seq more answer after old new
-runs_commit before after state statement place txn happened reply seq more answer old new wants came says put =
-    let plan : Plan = Insert place txn in
-    let decides : Decides plan (told came.event) reply = elim says [
-      | inl d ↦ subst (λ h. Decides plan h reply) came.is d
-      | inr h ↦ absurd (let small : is_small happened plan ≡ true = insert_is_small happened place txn in let big : is_small happened plan ≡ false = h.0 in cc)
-    ] in
-    elim came.meets [
-      | inl meets ↦ record { event = came.event; reply = reply; replies = inr (inl (plan, wants, meets, decides)); follows = came.follows; says = put }
-      | inr h ↦ record {
-        event = came.event;
-        reply = reply;
-        replies = inr (inr (takes before.confs statement plan wants h.1, h.0, without_memory plan reply (subst (λ (event : Event). Decides plan (told event) reply) h.0 decides)));
-        follows = came.follows;
-        says = put;
-      }
-    ]
+  pub runs_nothing : (tables : D) (standing : Standing) (new : State) (statement : Statement) (more : Bool) (out longer : Written)
+      → words.settles tables tables → IsAt (confs tables) statement standing needs.Nothing → RepliesPlan standing happenings.Nothing more new out longer
+      → Runs confs words tables standing.state statement more tables new out longer
+  runs_nothing tables standing new statement more out longer stays at replies =
+      let (reply, says, put) = said_of standing at.plan happenings.Nothing more new out longer at.at replies in
+      let meets : Meets {F = F} (need_of at.plan) (pending_of standing.state at.plan) Nothing =
+      subst (λ (need : Need). Meets {F = F} need (pending_of standing.state at.plan) Nothing) (sym at.is) tt in
+      runs_by tables tables standing.state new statement at.plan Nothing reply more out longer at.wants meets refl refl (λ takes. stays) says put
 
--- what was said of an index that was read
-pub runs_read : (tables : Tables) (state : State) (statement : Statement) (standing : Option Plan) (plan said : Plan) (place : ℕ) (front : SnapshotValue) (reply : Reply) (seq : ℕ) (more : Bool) (answer : ℕ × Bool) (old new : List ℕ)
-    → Wants tables.confs statement plan → standing ≡ Some plan → standing ≡ Some said → need_of plan ≡ needs.Read place → slice_get tables.fronts place ≡ Some front
-    → Says said (happenings.Read front) reply → SaysReply state reply seq more answer old new → Runs tables state statement seq more answer tables old new
-runs_read tables state statement standing plan said place front reply seq more answer old new wants at is need there says put =
-    let same : said ≡ plan = cc in
-    runs_still tables state statement plan (Read place front) reply seq more answer old new wants (meets_read plan place front need) (there, refl)
-    (subst (λ (p : Plan). Says p (happenings.Read front) reply) same says) put
+  pub runs_read : (before after : D) (standing : Standing) (new : State) (statement : Statement) (place : ℕ) (snapshot seen : SnapshotValue) (more : Bool) (out longer : Written)
+      → IsAt (confs before) statement standing (needs.Read place) → seen ≡ snapshot → (front : F) × (snapshot ≡ words.documents front) × Follows confs words before (Read place front) after → confs after ≡ confs before
+      → RepliesPlan standing (happenings.Read seen) more new out longer → Runs confs words before standing.state statement more after new out longer
+  runs_read before after standing new statement place snapshot seen more out longer at sees (front, is, follows) same replies =
+      let (reply, says, put) = said_of standing at.plan (happenings.Read seen) more new out longer at.at replies in
+      let meets : Meets (need_of at.plan) (pending_of standing.state at.plan) (Read place front) =
+      subst (λ (need : Need). Meets need (pending_of standing.state at.plan) (Read place front)) (sym at.is) refl in
+      runs_by before after standing.state new statement at.plan (Read place front) reply more out longer at.wants meets follows same (λ takes. follows.0)
+      (subst (λ (s : SnapshotValue). Says at.plan standing.state (happenings.Read s) reply new) (sees ∙ is) says) put
 
--- what is said by an answer that nothing is wanted
-pub needs_memory : (confs : List IndexConf) (old : Standing) (statement : Statement) (error : Or Refused) (new : Standing) → error ≡ causes.NoMemory → Needs confs old statement (Err error) new → TakesMemory statement
-needs_memory confs old statement error new is needs = (subst (λ (e : Or Refused). Needs confs old statement (Err e) new) is needs).0
+  pub runs_commit : (before after : D) (standing : Standing) (new : State) (statement : Statement) (place : ℕ) (txn : Txn) (outcome : CommitOutcome) (more : Bool) (out longer : Written)
+      → (at : IsAt (confs before) statement standing (needs.Commit place)) → IsSomeAnd standing.plan (λ plan. pending_of standing.state plan ≡ Some txn)
+      → (front : F) × Follows confs words before (Commit place txn.ops outcome front) after → confs after ≡ confs before
+      → RepliesPlan standing (happenings.Commit outcome) more new out longer → Runs confs words before standing.state statement more after new out longer
+  runs_commit before after standing new statement place txn outcome more out longer at pending (front, follows) same replies =
+      let (reply, says, put) = said_of standing at.plan (happenings.Commit outcome) more new out longer at.at replies in
+      let meets : Meets (need_of at.plan) (pending_of standing.state at.plan) (Commit place txn.ops outcome front) =
+      subst (λ (need : Need). Meets need (pending_of standing.state at.plan) (Commit place txn.ops outcome front)) (sym at.is)
+      (refl, pending_at (confs before) statement standing place txn at pending) in
+      runs_by before after standing.state new statement at.plan (Commit place txn.ops outcome front) reply more out longer at.wants meets follows same
+      (λ takes. absurd (let clash : true ≡ false = sym takes ∙ small_commit at.plan place at.is in cc)) says put
 
-pub needs_none : (confs : List IndexConf) (old : Standing) (statement : Statement) (error : Or Refused) (refusal : Refused) (new : Standing) → error ≡ causes.Fault refusal → Needs confs old statement (Err error) new → Refuses confs statement refusal
-needs_none confs old statement error refusal new is needs = (subst (λ (e : Or Refused). Needs confs old statement (Err e) new) is needs).0
+  -- memory was refused to what a plan needs
+  pub runs_without : (before after : D) (standing : Standing) (new : State) (statement : Statement) (need : Need) (more : Bool) (out longer : Written)
+      → (at : IsAt (confs before) statement standing need) → need ≢ needs.Nothing → words.settles before after → confs after ≡ confs before
+      → RepliesPlan standing happenings.NoMemory more new out longer → Runs confs words before standing.state statement more after new out longer
+  runs_without before after standing new statement need more out longer at some settles same replies =
+      let (reply, says, put) = said_of standing at.plan happenings.NoMemory more new out longer at.at replies in
+      let takes : TakesMemory statement = takes_by_need (confs before) standing.state statement at.plan at.wants (λ none. some (sym at.is ∙ none)) in
+      let told : (reply ≡ Fails no_memory) × (new ≡ standing.state) = elim says [
+        | inl h ↦ (without_memory at.plan reply h.0, h.1 ∙ same_after at.plan standing.state)
+        | inr h ↦ (h.1, h.2)
+      ] in
+      runs_want before after standing.state new statement reply more out longer takes told.0 told.1 settles same put
+
+-- ---- what is said by an answer that nothing is wanted
+pub needs_memory : (confs : List IndexConf) (old : Standing) (statement : Statement) (error : Or Refused) (new : Standing) → error ≡ causes.NoMemory → Needs confs old statement (Err error) new
+    → TakesMemory statement × (new.state ≡ old.state)
+needs_memory confs old statement error new is needs =
+    let both = subst (λ (e : Or Refused). Needs confs old statement (Err e) new) is needs in
+    (both.0, ap (λ (standing : Standing). standing.state) both.1)
+
+pub needs_none : (confs : List IndexConf) (old : Standing) (statement : Statement) (error : Or Refused) (refusal : Refused) (new : Standing) → error ≡ causes.Fault refusal → Needs confs old statement (Err error) new
+    → Refuses confs old.state statement refusal × (new.state ≡ old.state)
+needs_none confs old statement error refusal new is needs =
+    let both = subst (λ (e : Or Refused). Needs confs old statement (Err e) new) is needs in
+    (both.0, ap (λ (standing : Standing). standing.state) both.1)
+
+-- the session is at a statement that needs this
+pub is_at : (confs : List IndexConf) (old new : Standing) (statement : Statement) (need : Need) (plan : Plan) → Wants confs old.state statement plan → need ≡ need_of plan → new ≡ at_plan old.state plan
+    → IsAt confs statement new need
+is_at confs old new statement need plan wants is at = record {
+  plan = plan;
+  wants = subst (λ (s : State). Wants confs s statement plan) (sym (ap (λ (standing : Standing). standing.state) at)) wants;
+  at = ap (λ (standing : Standing). standing.plan) at;
+  is = sym is;
+}

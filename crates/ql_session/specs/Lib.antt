@@ -1,4 +1,6 @@
--- the indexes and their documents, and what happens to them
+-- what the outside does, whatever holds the documents
+pub mod Events
+-- the indexes and their documents in memory, and what happens to them
 pub mod Tables
 -- what is replied to a text of statements
 pub mod Statements

@@ -4,13 +4,17 @@ ghost use Rattle.index_conf.specs.declared.conf.IndexConf.{IndexConf};
 ghost use Rattle.ql_tree.specs.declared.statement.Statement.{Statement as StatementValue};
 ghost use Rattle.ql_refusals.specs.Refusals.{Refused};
 ghost use Rattle.ql_answers.specs.Replies.{Reply};
-ghost use Rattle.ql_answers.specs.Sessions.{HasLayers, State};
+ghost use Rattle.ql_answers.specs.Sessions.{HasLayers};
+ghost use Rattle.ql_answers.specs.declared.state.State.{State};
 ghost use Rattle.mysql_wire.specs.Commands.{ClientCommand};
 ghost use Rattle.ql_session.specs.Session.{Answers, IsUndisturbed};
 ghost use Rattle.ql_session.specs.Statements.{AnswersText, HaveLayers, RefusesText, Replies, States, told};
-ghost use Rattle.ql_session.specs.Tables.{AreSound, Event, Follows, HaveSameRows, Tables, empty_tables};
+ghost use Rattle.ql_session.specs.Events.{Event as EventOf};
+ghost use Rattle.ql_session.specs.Tables.{AreSound, Event, Follows, HaveSameRows, Tables, empty_tables, in_memory};
 ghost use Rattle.serve_line.specs.Machines.{FollowAll};
 
+use crate::TableStore;
+use commit_outcomes::a_commit_has_one_outcome;
 use mysql_wire::{bytes_begin_in_one_way, payload_is_one_response_or_bad};
 use ql_answers::{a_plan_has_one_reply, a_statement_has_one_plan};
 use ql_laws::{packets_have_no_fault, tokens_have_one_fault, tokens_have_one_value};
@@ -28,27 +32,32 @@ pub fn a_text_is_read_in_one_way()
     tokens_have_one_fault();
 }
 
-/// What came of a statement has one reply, where what was read has layers as a snapshot has them.
-pub fn a_statement_has_one_reply()
-    ensures { (confs : List IndexConf) (statement : StatementValue) (event : Event) (a b : Reply) → HasLayers (told event) → Replies confs statement event a → Replies confs statement event b → a ≡ b }
+/// What came of a statement has one reply and leaves the session in one state, where what was read has layers as a snapshot has
+/// them.
+pub fn a_statement_has_one_reply<T: TableStore>()
+    ensures { (confs : List IndexConf) (old : State) (statement : StatementValue) (event : EventOf T.Front) (a b : Reply) (x y : State) → HasLayers (told T.words.documents event)
+        → Replies T.words.documents confs old statement event a x → Replies T.words.documents confs old statement event b y → (a ≡ b) × (x ≡ y) }
 {
     a_statement_has_one_plan();
     a_plan_has_one_reply();
 }
 
-/// What came of a text has one reply, byte for byte, where what was read has layers as a snapshot has them.
-pub fn a_text_has_one_reply()
-    ensures { (state : State) (text : List ℕ) (events : List Event) (a b : List ℕ) → HaveLayers events → AnswersText state text events a → AnswersText state text events b → a ≡ b }
+/// What came of a text has one reply, byte for byte, and leaves the session in one state, where what was read has layers as a
+/// snapshot has them.
+pub fn a_text_has_one_reply<T: TableStore>()
+    ensures { (old : State) (text : List ℕ) (events : List (EventOf T.Front)) (a b : List ℕ) (x y : State) → HaveLayers T.words.documents events
+        → AnswersText T.words.documents old text events a x → AnswersText T.words.documents old text events b y → (a ≡ b) × (x ≡ y) }
 {
     a_text_is_read_in_one_way();
-    a_statement_has_one_reply();
+    a_statement_has_one_reply::<T>();
 }
 
 /// What came of a command has one reply, byte for byte, and leaves the session in one state.
-pub fn a_command_has_one_reply()
-    ensures { (old : State) (asked : ClientCommand) (events : List Event) (a b : List ℕ) (x y : State) → HaveLayers events → Answers old asked events a x → Answers old asked events b y → (a ≡ b) × (x ≡ y) }
+pub fn a_command_has_one_reply<T: TableStore>()
+    ensures { (old : State) (asked : ClientCommand) (events : List (EventOf T.Front)) (a b : List ℕ) (x y : State) → HaveLayers T.words.documents events
+        → Answers T.words.documents old asked events a x → Answers T.words.documents old asked events b y → (a ≡ b) × (x ≡ y) }
 {
-    a_text_has_one_reply();
+    a_text_has_one_reply::<T>();
 }
 
 /// Equal bytes have equal replies: two sessions of one connection over the same documents that read the same bytes wrote the same bytes,
@@ -61,11 +70,12 @@ pub fn a_line_has_one_reply()
     payload_is_one_response_or_bad();
     a_statement_has_one_plan();
     a_plan_has_one_reply();
+    a_commit_has_one_outcome();
     a_text_is_read_in_one_way();
 }
 
 /// Documents that begin with none keep layers as a snapshot has them, whatever follows, and so has what is read of them.
 pub fn layers_stay_sound()
     ensures first { (confs : List IndexConf) → AreSound (empty_tables confs) }
-    ensures after { (old : Tables) (events : List Event) (new : Tables) → AreSound old → FollowAll Follows old events new → HaveLayers events × AreSound new }
+    ensures after { (old : Tables) (events : List Event) (new : Tables) → AreSound old → FollowAll Follows old events new → HaveLayers in_memory.documents events × AreSound new }
 {}

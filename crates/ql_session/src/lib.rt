@@ -1,14 +1,15 @@
 //! Statements and sessions: what is replied to the bytes of a connection, over indexes and their documents.
 //!
 //! One road leads from a text to its reply: tokens, statements, what each statement wants of the outside, what the outside
-//! did, and the packets that say so. `ql_lex`, `ql_parse` and `ql_answers` know no store; here they meet the tables.
+//! did, and the packets that say so. `ql_lex`, `ql_parse` and `ql_answers` know no store; here they meet one, whichever it is.
 #![tactic(auto)]
 
+mod answering;
 mod laws;
 mod line;
-mod refusing;
 mod running;
 mod session;
+mod stores;
 mod tables;
 mod texts;
 
@@ -16,9 +17,10 @@ pub use laws::{
     a_command_has_one_reply, a_line_has_one_reply, a_statement_has_one_reply, a_text_has_one_reply,
     a_text_is_read_in_one_way, layers_stay_sound,
 };
-pub use line::serve_link;
+pub use line::{serve_link, serve_over};
 pub use ql_answers::{Catalog, Event, Need};
 pub use ql_refusals::Refusal;
 pub use serve_line::LinkEnd;
 pub use session::{Session, StepEnd};
+pub use stores::TableStore;
 pub use tables::PlainTables;

@@ -1,19 +1,22 @@
 //! A session: it answers the commands of a connection, and a command's text is read and its statements run.
 ghost use Rattle.std.specs.Prelude.{◌≡◌, ◌≤◌, [], vec_capacity};
 ghost use Rattle.mysql_wire.specs.CommandValues.{command_value};
+ghost use Rattle.reply_rows.specs.Written.{begun};
+ghost use Rattle.ql_session.specs.Session.{TakesStep};
+ghost use Rattle.ql_session.specs.Tables.{in_memory};
 ghost use Rattle.ql_session.specs.steps.Running.{RepliesText};
 
-use crate::PlainTables;
-use crate::refusing::{put, put_refusal};
 use crate::running::run_all;
 use crate::texts::statements;
-use mysql_wire::{Command, eof_packet, err_packet, ok_packet};
-use ql_answers::StatementMachine;
+use crate::{PlainTables, TableStore};
+use mysql_wire::Command;
+use ql_answers::{StatementMachine, put_refusal};
 use ql_refusals::no_memory;
-use serve_line::Answerer;
+use reply_rows::Replies;
 use srch_base::Or;
 use std::alloc::Global;
 use std::marker::Model;
+use std::mem;
 
 /// What came of a command.
 #[derive(Clone, Copy, PartialEq, Eq)]
@@ -31,7 +34,7 @@ pub struct Session {
 }
 
 impl Model for Session {
-    ghost use Rattle.ql_answers.specs.Sessions.{State};
+    ghost use Rattle.ql_answers.specs.declared.state.State.{State};
 
     ghost Value = { State };
 
@@ -39,8 +42,8 @@ impl Model for Session {
 }
 
 impl Session {
-    ghost use Rattle.ql_answers.specs.Sessions.{new_state};
-    ghost use Rattle.ql_session.specs.Session.{TakesStep};
+    ghost use Rattle.ql_answers.specs.States.{new_state, status_of};
+    ghost use Rattle.std.specs.Prelude.{false};
 
     /// A session that begins: autocommit is 1.
     pub fn new() -> Session
@@ -51,8 +54,8 @@ impl Session {
         }
     }
 
-    /// Answers one command. `out` is empty and has 1,024 spare bytes at least, so that replies of one packet take no
-    /// memory. Where a statement's memory is refused, nothing of it was done, and the reply says so.
+    /// Answers one command over tables in memory. `out` is empty and has 1,024 spare bytes at least, so that replies of one
+    /// packet take no memory. Where a statement's memory is refused, nothing of it was done, and the reply says so.
     pub fn step(
         &mut self,
         alloc: Global,
@@ -62,63 +65,69 @@ impl Session {
     ) -> StepEnd
         requires empty { out.old.items ≡ [] }
         requires room { 1024 ≤ vec_capacity out.old }
-        ensures steps { TakesStep result self.old (command_value command.entry) tables.old tables.new out.new.items self.new }
+        ensures steps { TakesStep (λ all. all.confs) in_memory result self.old (command_value command.entry) tables.old tables.new out.new.items self.new }
         ensures room { 1024 ≤ vec_capacity out.new }
+    {
+        let mut replies = Replies::over(mem::replace(out, Vec::new(alloc)), 1);
+        let end = self.step_over(alloc, tables, command, &mut replies);
+        *out = replies.into_out();
+        end
+    }
+
+    /// Answers one command over any store, by packets from number 1 on.
+    pub fn step_over<T: TableStore>(
+        &mut self,
+        alloc: Global,
+        tables: &mut T,
+        command: Command<'_>,
+        replies: &mut Replies,
+    ) -> StepEnd
+        requires { replies.old ≡ begun 1 }
+        ensures { TakesStep T.confs T.words result self.old (command_value command.entry) tables.old tables.new replies.new.bytes self.new }
     {
         match command {
             Command::Quit => StepEnd::Quit,
-            command => {
-                self.answer(alloc, tables, command, out);
+            Command::Query(text) => {
+                self.query(alloc, tables, text, replies);
+                StepEnd::Reply
+            }
+            Command::Ping | Command::InitDb(_) => {
+                replies.put_ok(0, self.status());
+                StepEnd::Reply
+            }
+            Command::SetOption(_) => {
+                replies.put_eof(self.status());
+                StepEnd::Reply
+            }
+            Command::Unknown(_) => {
+                replies.put_error(1047, *b"08S01", b"unknown command");
                 StepEnd::Reply
             }
         }
     }
 
-    /// Answers a text.
-    fn query(&mut self, alloc: Global, tables: &mut PlainTables, text: &[u8], out: &mut Vec<u8>)
-        requires empty { out.old.items ≡ [] }
-        requires room { 1024 ≤ vec_capacity out.old }
-        ensures replies { RepliesText self.old text.now tables.old tables.new out.new.items }
-        ensures state { self.new ≡ self.old }
-        ensures room { 1024 ≤ vec_capacity out.new }
+    /// The status of a packet after which none of the same command follows.
+    pub(crate) fn status(&self) -> u16
+        ensures { result ≡ status_of self.now false }
     {
-        match statements(alloc, text) {
-            Ok(list) => run_all(alloc, &mut self.machine, tables, &list, 1, out),
-            Err(Or::NoMemory) => put_refusal(&no_memory(), 1, out),
-            Err(Or::Fault(refusal)) => put_refusal(&refusal, 1, out),
-        }
-    }
-}
-
-impl Answerer for Session {
-    ghost use Rattle.ql_session.specs.Tables.{Event, Follows};
-    ghost use Rattle.ql_session.specs.Session.{statement_machine};
-
-    type Store = PlainTables;
-
-    ghost Event = { Event };
-
-    ghost machine = { statement_machine };
-
-    ghost follows = { Follows };
-
-    fn status(&self) -> u16 {
         self.machine.status(false)
     }
 
-    fn answer(
+    /// Answers a text.
+    fn query<T: TableStore>(
         &mut self,
         alloc: Global,
-        tables: &mut PlainTables,
-        command: Command<'_>,
-        out: &mut Vec<u8>,
-    ) {
-        match command {
-            Command::Quit => unreachable!(),
-            Command::Query(text) => self.query(alloc, tables, text, out),
-            Command::Ping | Command::InitDb(_) => put(&ok_packet(1, 0, self.status()), out),
-            Command::SetOption(_) => put(&eof_packet(1, self.status()), out),
-            Command::Unknown(_) => put(&err_packet(1, 1047, *b"08S01", b"unknown command"), out),
+        tables: &mut T,
+        text: &[u8],
+        replies: &mut Replies,
+    )
+        requires { replies.old ≡ begun 1 }
+        ensures { RepliesText T.confs T.words self.old text.now tables.old tables.new replies.new.bytes self.new }
+    {
+        match statements(alloc, text) {
+            Ok(list) => run_all(alloc, &mut self.machine, tables, &list, replies),
+            Err(Or::NoMemory) => put_refusal(&no_memory(), replies),
+            Err(Or::Fault(refusal)) => put_refusal(&refusal, replies),
         }
     }
 }

@@ -1,22 +1,24 @@
 //! The indexes of a configuration with their documents, which are held in memory from the start of a run to its end.
 //!
 //! A statement finds an index by its place among the others, by `Catalog`; what it needs of the documents is found here.
-ghost use Rattle.std.specs.Prelude.{◌≡◌, ◌<◌, ◌^◌, ◌≤◌, All, IfOk, OnOk, Some, length, map, slice_get};
+ghost use Rattle.std.specs.Prelude.{◌≡◌, ◌<◌, ◌^◌, ◌≤◌, All, IfOk, Some, length, map, slice_get};
+ghost use Rattle.std.specs.Arc.{arc_value};
 ghost use Rattle.doc_types.specs.Documents.{AreRowsOf};
 ghost use Rattle.doc_types.specs.Schemas.{AreZones, IsSchema};
-ghost use Rattle.doc_types.specs.Snapshots.{AreLayers};
 ghost use Rattle.doc_types.specs.Transactions.{IsTxnOf};
-ghost use Rattle.plain_store.specs.Commits.{AreInsertions, Commits as CommitsTo, empty_snapshot};
+ghost use Rattle.commit_outcomes.specs.Outcomes.{Commits, empty_snapshot};
 ghost use Rattle.ql_session.specs.Tables.{empty_tables};
-ghost use Rattle.ql_session.specs.steps.Running.{Commits};
 
+use crate::TableStore;
+use commit_outcomes::CommitOutcome;
 use doc_types::{PlainChunk, Snapshot, Txn};
 use index_conf::IndexConf;
-use plain_store::{Duplicate, PlainStore};
+use plain_store::PlainStore;
 use ql_answers::Catalog;
-use srch_base::{NoMemory, Or};
+use srch_base::NoMemory;
 use std::alloc::Global;
 use std::marker::Model;
+use std::sync::Arc;
 
 /// An index and its documents.
 #[derive(Drop)]
@@ -40,21 +42,19 @@ impl Table {
     }
 
     /// Its documents, which are of its columns.
-    fn front(&self) -> &Snapshot<PlainChunk>
-        ensures front { self.now.store.snapshot ≡ result.now }
+    fn front(&self) -> Result<Arc<Snapshot<PlainChunk>, Global>, NoMemory>
+        ensures front { IfOk result (λ front. arc_value front ≡ self.now.store.snapshot) }
         ensures schema { IsSchema self.now.conf.schema }
-        ensures rows { All (λ layer. AreRowsOf self.now.conf.schema layer.rows) result.now.layers }
+        ensures rows { All (λ layer. AreRowsOf self.now.conf.schema layer.rows) self.now.store.snapshot.layers }
     {
-        self.store.snapshot()
+        self.store.front()
     }
 
-    /// Commits insertions. After an `Err` nothing was done.
-    fn commit(&mut self, alloc: Global, txn: &Txn) -> Result<u32, Or<Duplicate>>
-        requires of { IsTxnOf self.old.conf.schema txn.now }
-        requires insertions { AreInsertions txn.now.ops }
+    /// Commits a transaction. After an `Err` nothing was done.
+    fn commit(&mut self, alloc: Global, txn: &Txn) -> Result<CommitOutcome, NoMemory>
+        requires { IsTxnOf self.old.conf.schema txn.now }
         ensures conf { self.new.conf ≡ self.old.conf }
-        ensures commits { CommitsTo txn.now.ops self.old.store.snapshot result self.new.store.snapshot }
-        ensures sound { OnOk result (AreLayers self.new.store.snapshot.layers) }
+        ensures commits { Commits txn.now.ops self.old.store.snapshot result self.new.store.snapshot }
     {
         self.store.commit(alloc, txn)
     }
@@ -91,29 +91,6 @@ impl PlainTables {
         }
         Ok(PlainTables { tables })
     }
-
-    /// The documents of the index at a place.
-    pub(crate) fn front(&self, place: u16) -> &Snapshot<PlainChunk>
-        requires { place < length self.now.confs }
-        ensures front { slice_get self.now.fronts place ≡ Some result.now }
-        ensures of { (conf : IndexConf) × (slice_get self.now.confs place ≡ Some conf) × IsSchema conf.schema × All (λ layer. AreRowsOf conf.schema layer.rows) result.now.layers }
-    {
-        self.tables[place as usize].front()
-    }
-
-    /// Commits insertions to the index at a place. After an `Err` nothing was done.
-    pub(crate) fn commit(
-        &mut self,
-        alloc: Global,
-        place: u16,
-        txn: &Txn,
-    ) -> Result<u32, Or<Duplicate>>
-        requires of { (conf : IndexConf) × (slice_get self.old.confs place ≡ Some conf) × IsTxnOf conf.schema txn.now }
-        requires insertions { AreInsertions txn.now.ops }
-        ensures { Commits place txn.now.ops self.old result self.new }
-    {
-        self.tables[place as usize].commit(alloc, txn)
-    }
 }
 
 impl Catalog for PlainTables {
@@ -125,5 +102,27 @@ impl Catalog for PlainTables {
 
     fn conf(&self, index: u16) -> &IndexConf {
         &self.tables[index as usize].conf
+    }
+}
+
+impl TableStore for PlainTables {
+    ghost use Rattle.std.proofs.Common.{refl};
+    ghost use Rattle.doc_types.specs.Snapshots.{SnapshotValue};
+    ghost use Rattle.ql_session.specs.Tables.{in_memory};
+
+    type Chunk = PlainChunk;
+
+    ghost Front = { SnapshotValue };
+
+    ghost words = { in_memory };
+
+    ghost may_stay = { λ tables. refl };
+
+    fn front(&mut self, place: u16) -> Result<Arc<Snapshot<PlainChunk>, Global>, NoMemory> {
+        self.tables[place as usize].front()
+    }
+
+    fn commit(&mut self, alloc: Global, place: u16, txn: &Txn) -> Result<CommitOutcome, NoMemory> {
+        self.tables[place as usize].commit(alloc, txn)
     }
 }

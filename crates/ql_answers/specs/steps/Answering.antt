@@ -1,19 +1,15 @@
--- What the calls of a session answer.
-use Rattle.std.specs.Prelude.{◌≡◌, ℕ, List, ◌++◌, Bool, Result, Ok, Err}
-use Rattle.mysql_wire.specs.Packets.{packets_from, sequence_after}
+-- What is replied to a plan.
+use Rattle.std.specs.Prelude.{◌≡◌, ◌≢◌, ℕ, true, Result, Ok, Err}
+use Rattle.reply_rows.specs.Written.{Written}
 use Rattle.ql_answers.specs.declared.plan.Plan.{Plan}
-use Rattle.ql_answers.specs.Replies.{Reply, payloads}
-use Rattle.ql_answers.specs.Sessions.{Happened, Decides, is_refusal}
+use Rattle.ql_answers.specs.Replies.{Reply, replied}
+use Rattle.ql_answers.specs.Sessions.{Happened, Decides, NoMemory, reply_takes_memory}
 
--- the packets of a reply were appended, or memory was refused and nothing was
-abbrev pub SaysReply : {E : Type 0} → Reply → ℕ → ℕ → Result (ℕ × Bool) E → List ℕ → List ℕ → Type 0
-SaysReply reply status seq (Ok answer) before after =
-    (answer.1 ≡ is_refusal reply) × (answer.0 ≡ sequence_after seq (payloads status reply)) × (after ≡ before ++ packets_from seq (payloads status reply))
-SaysReply reply status seq (Err e) before after = after ≡ before
+-- A reply to the plan, by what happened, was written.
+abbrev pub Says : Plan → Happened → ℕ → Written → Written → Type 0
+Says plan happened status before after = (reply : Reply) × Decides plan happened reply × (after ≡ replied before status reply)
 
--- a reply to a plan, by what happened, was appended, or memory was refused and nothing was
-abbrev pub Says : {E : Type 0} → Plan → Happened → ℕ → ℕ → Result (ℕ × Bool) E → List ℕ → List ℕ → Type 0
-Says plan happened status seq (Ok answer) before after =
-    (reply : Reply) × Decides plan happened reply
-    × (answer.1 ≡ is_refusal reply) × (answer.0 ≡ sequence_after seq (payloads status reply)) × (after ≡ before ++ packets_from seq (payloads status reply))
-Says plan happened status seq (Err e) before after = after ≡ before
+-- The same, or memory for a result set was refused and nothing was written.
+abbrev pub SaysPlan : {T E : Type 0} → Plan → Happened → ℕ → Result T E → Written → Written → Type 0
+SaysPlan plan happened status (Ok done) before after = Says plan happened status before after
+SaysPlan plan happened status (Err e) before after = (reply_takes_memory plan ≡ true) × (happened ≢ NoMemory) × (after ≡ before)

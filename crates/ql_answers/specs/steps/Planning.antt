@@ -9,6 +9,7 @@ use Rattle.ql_tree.specs.declared.statement.Statement.{Statement}
 use Rattle.ql_tree.specs.declared.statement.Val.{Val}
 use Rattle.ql_select.specs.declared.selection.Selection.{Selection}
 use Rattle.ql_answers.specs.declared.plan.Plan.{Plan}
+use Rattle.ql_answers.specs.declared.state.State.{State}
 use Rattle.ql_answers.specs.declared.plan.Plan.TheVariants.{Show, Search, Insert}
 use Rattle.reply_rows.specs.declared.result_set.ResultSet.{ResultSet}
 use Rattle.ql_answers.specs.Indexes.{index_fault, Serves}
@@ -18,10 +19,10 @@ use Rattle.ql_answers.specs.Showing.{description}
 use Rattle.ql_answers.specs.Writing.{WantsInsert, RefusesInsert}
 use Rattle.ql_answers.specs.Plans.{Wants, Refuses, RefusesJob, TakesMemory}
 
-abbrev pub Planned : List IndexConf → Statement → Result Plan (Or Refused) → Type 0
-Planned confs statement (Ok plan) = Wants confs statement plan
-Planned confs statement (Err causes.NoMemory) = TakesMemory statement
-Planned confs statement (Err (causes.Fault refusal)) = Refuses confs statement refusal
+abbrev pub Planned : List IndexConf → State → Statement → Result Plan (Or Refused) → Type 0
+Planned confs state statement (Ok plan) = Wants confs state statement plan
+Planned confs state statement (Err causes.NoMemory) = TakesMemory statement
+Planned confs state statement (Err (causes.Fault refusal)) = Refuses confs state statement refusal
 
 abbrev pub PlansSelect : List IndexConf → Select → Result Plan (Or Refused) → Type 0
 PlansSelect confs select (Ok plan) = (place : ℕ) × (selection : Selection) × WantsSearch confs select place selection × (plan ≡ Search place selection)

@@ -1,23 +1,22 @@
 -- How a text is read, its statements are run and their replies appended.
-use Rattle.std.specs.Prelude.{◌≡◌, ◌≢◌, ◌≤◌, ◌⊎◌, ℕ, List, ◌++◌, Bool, false, Some, Result, Ok, Err, Vec, length}
+use Rattle.std.specs.Prelude.{◌≡◌, ◌≤◌, ◌⊎◌, ℕ, List, ◌++◌, Bool, true, false, Some, Result, Ok, Err, Vec, length}
 use Rattle.srch_base.specs.declared.faults.Or.{Or}
 use Rattle.srch_base.specs.declared.faults.Or.TheVariants as causes
-use Rattle.mysql_wire.specs.Packets.{packets_from, sequence_after}
+use Rattle.reply_rows.specs.Written.{Written}
 use Rattle.index_conf.specs.declared.conf.IndexConf.{IndexConf}
-use Rattle.doc_types.specs.declared.transactions.TxnOp.{TxnOp}
-use Rattle.plain_store.specs.declared.duplicate.Duplicate.{Duplicate as TheDuplicate}
 use Rattle.ql_lex.specs.Tokens.{Lexeme}
 use Rattle.ql_tree.specs.declared.statement.Statement.{Statement}
 use Rattle.ql_grammar.specs.Packets.{IsPacket}
 use Rattle.ql_answers.specs.declared.event.Need.{Need}
 use Rattle.ql_answers.specs.declared.plan.Plan.{Plan}
-use Rattle.ql_answers.specs.declared.plan.Plan.TheVariants.{Agree}
+use Rattle.ql_answers.specs.declared.state.State.{State}
 use Rattle.ql_answers.specs.Plans.{Wants}
 use Rattle.ql_refusals.specs.Refusals.{Refused, no_memory}
-use Rattle.ql_answers.specs.Replies.{Reply, Fails, payloads}
-use Rattle.ql_answers.specs.Sessions.{State, Standing, Happened, Decides, is_refusal, is_small, need_of, status_of}
-use Rattle.ql_session.specs.Tables.{Tables, Event, NoMemory, Committed, Duplicate, Follows}
-use Rattle.ql_session.specs.Statements.{States, RefusesText, RefusesTokens, most_run, Meets, told, Replies, AnswersText}
+use Rattle.ql_answers.specs.Replies.{Reply, Fails, replied}
+use Rattle.ql_answers.specs.Sessions.{Standing, Happened, Decides, need_of, next_of, reply_takes_memory}
+use Rattle.ql_answers.specs.States.{status_of}
+use Rattle.ql_session.specs.Events.{Event, StoreWords, Follows}
+use Rattle.ql_session.specs.Statements.{States, RefusesText, RefusesTokens, most_run, Replies, AreAnswered, AnswersText}
 use Rattle.serve_line.specs.Machines.{FollowAll}
 
 -- What tokens are read as: a packet of statements, or none.
@@ -32,44 +31,40 @@ ReadsText text (Ok statements) = States text statements.items
 ReadsText text (Err causes.NoMemory) = Unit {0}
 ReadsText text (Err (causes.Fault refusal)) = RefusesText text refusal
 
--- What a commit made of the tables.
-abbrev pub Commits : ℕ → List TxnOp → Tables → Result ℕ (Or TheDuplicate) → Tables → Type 0
-Commits place ops old (Ok removed) new = Follows old (Committed place ops removed) new
-Commits place ops old (Err causes.NoMemory) new = new ≡ old
-Commits place ops old (Err (causes.Fault duplicate)) new = Follows old (Duplicate place ops duplicate.id) new
-
--- The packets of a reply were appended; the answer has the number of the next one, and whether it is a refusal.
-pub record SaysReply (state : State) (reply : Reply) (seq : ℕ) (more : Bool) (answer : ℕ × Bool) (before after : List ℕ) : Type 0 where
-  pub refused : answer.1 ≡ is_refusal reply
-  pub next : answer.0 ≡ sequence_after seq (payloads (status_of state more) reply)
-  pub bytes : after ≡ before ++ packets_from seq (payloads (status_of state more) reply)
-
--- The reply is what the plan decides by what happened, or memory for one that takes some was refused.
-abbrev pub Says : Plan → Happened → Reply → Type 0
-Says plan happened reply = Decides plan happened reply ⊎ ((is_small happened plan ≡ false) × (reply ≡ Fails no_memory))
+-- The reply is what the plan decides by what happened, and so is the state then; or memory for a reply that takes some was
+-- refused, and nothing changed.
+abbrev pub Says : Plan → State → Happened → Reply → State → Type 0
+Says plan old happened reply new =
+    (Decides plan happened reply × (new ≡ next_of plan happened old)) ⊎ ((reply_takes_memory plan ≡ true) × (reply ≡ Fails no_memory) × (new ≡ old))
 
 -- The session is at a statement, and this is what that needs.
 pub record IsAt (confs : List IndexConf) (statement : Statement) (standing : Standing) (need : Need) : Type 0 where
   pub plan : Plan
-  pub wants : Wants confs statement plan
+  pub wants : Wants confs standing.state statement plan
   pub at : standing.plan ≡ Some plan
-  pub is : need ≡ need_of plan
+  pub is : need_of plan ≡ need
 
--- What happened about a statement at this plan, and what the tables are then.
-pub record CameOf (plan : Plan) (happened : Happened) (before after : Tables) : Type 0 where
-  pub event : Event
-  pub is : happened ≡ told event
-  pub meets : Meets plan event ⊎ ((event ≡ NoMemory) × (plan ≢ Agree))
-  pub follows : Follows before event after
+-- A plan's reply was written, by what happened.
+abbrev pub RepliesPlan : Standing → Happened → Bool → State → Written → Written → Type 0
+RepliesPlan old happened more new before after =
+    (plan : Plan) × (reply : Reply) × (old.plan ≡ Some plan) × Says plan old.state happened reply new × (after ≡ replied before (status_of new more) reply)
 
--- A statement was answered.
-pub record Runs (before : Tables) (state : State) (statement : Statement) (seq : ℕ) (more : Bool) (answer : ℕ × Bool) (after : Tables) (old new : List ℕ) : Type 0 where
-  pub event : Event
+-- A statement was answered. The status of its packets is that of the session afterwards.
+pub record Runs {D F : Type 0} (confs : D → List IndexConf) (words : StoreWords D F) (before : D) (old : State) (statement : Statement) (more : Bool) (after : D) (new : State) (out longer : Written) : Type 0 where
+  pub event : Event F
   pub reply : Reply
-  pub replies : Replies before.confs statement event reply
-  pub follows : Follows before event after
-  pub says : SaysReply state reply seq more answer old new
+  pub replies : Replies words.documents (confs before) old statement event reply new
+  pub follows : Follows confs words before event after
+  pub same : confs after ≡ confs before
+  pub says : longer ≡ replied out (status_of new more) reply
 
--- A text was answered, and its events led from some tables to others.
-abbrev pub RepliesText : State → List ℕ → Tables → Tables → List ℕ → Type 0
-RepliesText state text before after bytes = (events : List Event) × AnswersText state text events bytes × FollowAll Follows before events after
+-- Statements were answered one after another.
+abbrev pub RunsAll : {D F : Type 0} → (D → List IndexConf) → StoreWords D F → D → State → List Statement → D → State → Written → Written → Type 0
+RunsAll {D} {F} confs words before old statements after new out longer =
+    (events : List (Event F)) × (bytes : List ℕ) × AreAnswered words.documents (confs before) old out.next false statements events bytes new
+    × FollowAll (Follows confs words) before events after × (longer.bytes ≡ out.bytes ++ bytes)
+
+-- A text was answered, and its events led the store from before to after.
+abbrev pub RepliesText : {D F : Type 0} → (D → List IndexConf) → StoreWords D F → State → List ℕ → D → D → List ℕ → State → Type 0
+RepliesText {D} {F} confs words old text before after bytes new =
+    (events : List (Event F)) × AnswersText words.documents old text events bytes new × FollowAll (Follows confs words) before events after

@@ -2,4 +2,4 @@ use Rattle.ql_session.proofs.OneCommand.{one_command}
 use Rattle.ql_session.proofs.laws.a_command_has_one_reply.Goals as goal
 
 pub returns : goal.returns
-returns c = one_command c.a_text_has_one_reply.ensures
+returns g c = one_command g.T.TableStore.words.documents c.a_text_has_one_reply.ensures

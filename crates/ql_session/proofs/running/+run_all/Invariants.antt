@@ -3,4 +3,4 @@ use Rattle.ql_session.proofs.running.+run_all.Given as goal
 
 -- proposed from what the function passes where it calls itself
 abbrev pub decreases-run_all : goal.decreases-run_all
-decreases-run_all l = length l.statements.now
+decreases-run_all g l = length l.statements.now

@@ -1,5 +1,5 @@
 use Rattle.std.proofs.Common.{◌≡◌, ◌++◌, map}
-use Rattle.plain_store.specs.Commits.{empty_snapshot}
+use Rattle.commit_outcomes.specs.Outcomes.{empty_snapshot}
 use Rattle.ql_session.proofs.tables.PlainTables.new.Given as goal
 
 abbrev pub invariant-confs : goal.invariant-confs
