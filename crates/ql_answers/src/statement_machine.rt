@@ -92,7 +92,8 @@ impl StatementMachine {
         ensures { IsSomeAnd self.now.plan (λ plan. pending_of self.now.state plan ≡ Some result.now) }
     {
         match &self.plan {
-            Some(Plan::Insert { txn, .. }) => txn,
+            Some(Plan::Put { txn, .. }) => txn,
+            Some(Plan::Commit { .. }) => self.state.waiting(),
             _ => unreachable!(),
         }
     }
@@ -112,6 +113,7 @@ impl StatementMachine {
         requires open { IsOpen replies.old }
         ensures { Replied self.old (happened_by event.now) more result replies.old replies.new self.new }
     {
+        self.turn(alloc, event)?;
         let status = self.state.status(more);
         match &self.plan {
             Some(plan) => say(alloc, plan, event, status, replies)?,
@@ -119,5 +121,23 @@ impl StatementMachine {
         }
         self.plan = None;
         Ok(())
+    }
+
+    /// Changes the state as what came of the plan says.
+    fn turn<C: Chunk>(&mut self, alloc: Global, event: &Event<'_, C>) -> Result<(), NoMemory> {
+        match (&mut self.plan, event) {
+            (Some(Plan::Agree(turn)), Event::Nothing) => {
+                self.state.turn(*turn);
+                Ok(())
+            }
+            (Some(Plan::Keep { index, txn, .. }), Event::Nothing) => {
+                self.state.keep(alloc, *index, txn)
+            }
+            (Some(Plan::Commit { turn, .. }), Event::Commit(outcome)) => {
+                self.state.finish(*turn, *outcome);
+                Ok(())
+            }
+            _ => Ok(()),
+        }
     }
 }

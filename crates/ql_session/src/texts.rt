@@ -11,7 +11,7 @@ use srch_base::Or;
 use std::alloc::Global;
 
 /// How many statements of a packet are run.
-const MOST_RUN: usize = 1;
+const MOST_RUN: usize = 32;
 
 /// The statements of a text, where they are not more than are run. No packet holds 2^32 bytes; a text of so many is taken for one that no memory is left for.
 pub(crate) fn statements(alloc: Global, text: &[u8]) -> Result<Vec<Statement>, Or<Refusal>>
