@@ -8,7 +8,8 @@ use Rattle.std.proofs.Math.Facts.{to_z-of_z, Fits-of_z}
 use Rattle.doc_types.proofs.Numbers.{All-tail}
 use Rattle.doc_types.specs.declared.schema.Value.{Value}
 use Rattle.doc_types.specs.declared.schema.Value.TheVariants as values
-use Rattle.chunk_image.specs.ChunkImage.{value_bytes, IsWide}
+use Rattle.doc_bytes.specs.Payload.{value_bytes}
+use Rattle.doc_bytes.specs.RoundTrip.{IsNumber}
 
 -- lists of one length that go on are told apart from what follows
 pub parted : {X : Type 0} (a b x y : List X) → length a ≡ length b → a ++ x ≡ b ++ y → (a ≡ b) × (x ≡ y)
@@ -36,7 +37,7 @@ pub four_any : (m n : ℕ) (x y : List ℕ) → to_le_bytes w32 m ++ x ≡ to_le
 four_any m n x y e = (parted (to_le_bytes w32 m) (to_le_bytes w32 n) x y refl e).1
 
 -- a value
-pub one_value : (v w : Value) (x y : List ℕ) → IsWide v → IsWide w → value_bytes v ++ x ≡ value_bytes w ++ y → (v ≡ w) × (x ≡ y)
+pub one_value : (v w : Value) (x y : List ℕ) → IsNumber v → IsNumber w → value_bytes v ++ x ≡ value_bytes w ++ y → (v ≡ w) × (x ≡ y)
 one_value (values.Whole a) (values.Whole b) x y sa sb e =
     let its = parted (value_bytes (values.Whole a)) (value_bytes (values.Whole b)) x y refl e in
     let same : cast_unsigned w64 a ≡ cast_unsigned w64 b =
@@ -44,7 +45,7 @@ one_value (values.Whole a) (values.Whole b) x y sa sb e =
     (ap values.Whole (sym (to_z-of_z sa) ∙ ap (cast_signed w64) same ∙ to_z-of_z sb), its.1)
 
 -- as many values
-pub all_values : (vs ws : List Value) (x y : List ℕ) → length vs ≡ length ws → All IsWide vs → All IsWide ws → flat_map value_bytes vs ++ x ≡ flat_map value_bytes ws ++ y → (vs ≡ ws) × (x ≡ y)
+pub all_values : (vs ws : List Value) (x y : List ℕ) → length vs ≡ length ws → All IsNumber vs → All IsNumber ws → flat_map value_bytes vs ++ x ≡ flat_map value_bytes ws ++ y → (vs ≡ ws) × (x ≡ y)
 all_values [] [] x y long sv sw e = (refl, e)
 all_values [] (w ∷ ws) x y long sv sw e = absurd (omega (arith, long))
 all_values (v ∷ vs) [] x y long sv sw e = absurd (omega (arith, long))
@@ -52,5 +53,5 @@ all_values (v ∷ vs) (w ∷ ws) x y long sv sw e =
     let f : value_bytes v ++ (flat_map value_bytes vs ++ x) ≡ value_bytes w ++ (flat_map value_bytes ws ++ y) =
     sym (append_assoc (value_bytes v) (flat_map value_bytes vs) x) ∙ e ∙ append_assoc (value_bytes w) (flat_map value_bytes ws) y in
     let its = one_value v w (flat_map value_bytes vs ++ x) (flat_map value_bytes ws ++ y) (sv zero v (omega arith)) (sw zero w (omega arith)) f in
-    let rest = all_values vs ws x y (omega (arith, long)) (All-tail IsWide v vs sv) (All-tail IsWide w ws sw) its.1 in
+    let rest = all_values vs ws x y (omega (arith, long)) (All-tail IsNumber v vs sv) (All-tail IsNumber w ws sw) its.1 in
     (let here : v ≡ w = its.0 in let more : vs ≡ ws = rest.0 in cc, rest.1)

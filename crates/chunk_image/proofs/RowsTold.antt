@@ -4,8 +4,9 @@ use Rattle.std.specs.Int.{w32, w64, to_le_bytes}
 use Rattle.std.specs.List.{flat_map, AllZip}
 use Rattle.doc_types.specs.declared.documents.DocRow.{DocRow}
 use Rattle.doc_types.proofs.Numbers.{All-tail}
+use Rattle.doc_bytes.specs.Payload.{value_bytes}
 use Rattle.chunk_image.specs.Marks.{row_marks}
-use Rattle.chunk_image.specs.ChunkImage.{HasRoom, rows_bytes, value_bytes}
+use Rattle.chunk_image.specs.ChunkImage.{HasRoom, rows_bytes}
 use Rattle.chunk_image.proofs.Fixed.{all_values, eight, four_any}
 
 -- two rows with one id, one commit and the same values

@@ -7,31 +7,23 @@
 --   word table    of each word where it begins in the dictionary, how many rows have it, and where its posting list begins
 --   dictionary    of each word its length and its bytes, ascending
 --   postings      of each word the rows that have it, each with the word's places
-use Rattle.std.specs.Prelude.{◌≡◌, ℕ, ◌+◌, ◌<◌, ◌^◌, List, [], ◌∷◌, ◌++◌, codes, length, All, FitsSigned}
-use Rattle.std.specs.Int.{w16, w32, w64, to_le_bytes, cast_unsigned}
+use Rattle.std.specs.Prelude.{◌≡◌, ℕ, ◌+◌, ◌<◌, ◌^◌, List, [], ◌∷◌, ◌++◌, codes, length, All}
+use Rattle.std.specs.Int.{w16, w32, w64, to_le_bytes}
 use Rattle.std.specs.List.{flat_map}
 use Rattle.doc_types.specs.declared.documents.DocRow.{DocRow}
 use Rattle.doc_types.specs.declared.schema.Schema.{Schema}
-use Rattle.doc_types.specs.declared.schema.Value.{Value}
-use Rattle.doc_types.specs.declared.schema.Value.TheVariants as values
 use Rattle.doc_types.specs.Chunks.{AreWordsOf, rows_with}
+use Rattle.doc_bytes.specs.Payload.{value_bytes}
+use Rattle.doc_bytes.specs.RoundTrip.{IsNumber}
 use Rattle.row_laws.specs.AlikeRows.{postings}
 use Rattle.posting_codec.specs.PostingLists.{posting_list}
 use Rattle.chunk_image.specs.Marks.{row_marks}
-
--- a value: 8 bytes, two's complement
-abbrev pub value_bytes : Value → List ℕ
-value_bytes (values.Whole number) = to_le_bytes w64 (cast_unsigned w64 number)
-
--- a value of 64 bits
-abbrev pub IsWide : Value → Type 0
-IsWide (values.Whole number) = FitsSigned w64 number
 
 -- the row's numbers have room in 64 bits
 pub record HasRoom (row : DocRow) : Type 0 where
   pub id : row.doc.id < 2 ^ 64
   pub born : row.born < 2 ^ 64
-  pub values : All IsWide row.doc.values
+  pub values : All IsNumber row.doc.values
 
 -- a row whose marks begin here
 abbrev pub row_bytes : ℕ → DocRow → List ℕ
