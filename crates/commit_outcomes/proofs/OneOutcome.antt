@@ -12,6 +12,7 @@ use Rattle.commit_outcomes.specs.declared.outcome.Full.{Full}
 use Rattle.commit_outcomes.specs.declared.outcome.CommitOutcome.{CommitOutcome}
 use Rattle.commit_outcomes.specs.declared.outcome.CommitOutcome.TheVariants as outcomes
 use Rattle.commit_outcomes.specs.Outcomes.{Accepts, IsFull, Leaves, SameRows, changed}
+use Rattle.commit_outcomes.specs.declared.outcome.TheConstants.{MAX_DOCUMENTS}
 
 -- the same changes make the same of the same documents
 same_changed : (old other : SnapshotValue) (changes its : List Change) → SameRows old other → changes ≡ its → changed old changes ≡ changed other its
@@ -35,13 +36,13 @@ not_refused : (ops : List TxnOp) (old other : SnapshotValue) (changes : List Cha
 not_refused ops old other changes removed id same is is' =
     let clash : verdicts.Accepted changes removed ≡ verdicts.Duplicate id = same_verdict ops old other (verdicts.Accepted changes removed) (verdicts.Duplicate id) same is is' in cc
 
-not_full : (ops : List TxnOp) (old other new : SnapshotValue) (removed : ℕ) (full : Full) → SameRows old other → Accepts ops old removed new → IsFull ops other full → ⊥
+not_full : (ops : List TxnOp) (old other new : SnapshotValue) (removed : ℕ) (full : Full) → SameRows old other → Accepts ops old removed new → IsFull MAX_DOCUMENTS ops other full → ⊥
 not_full ops old other new removed full same accepts is =
     let changes = (accepted_twice ops old other accepts.changes is.changes removed is.removed same accepts.verdict is.verdict).0 in
     let many : finite.len (live new) ≡ finite.len (changed other is.changes) = ap finite.len (accepts.rows ∙ same_changed old other accepts.changes is.changes same changes) in
     absurd (omega (arith, accepts.few, is.above, many))
 
-same_full : (ops : List TxnOp) (old other : SnapshotValue) (a b : Full) → SameRows old other → IsFull ops old a → IsFull ops other b → a ≡ b
+same_full : (ops : List TxnOp) (old other : SnapshotValue) (a b : Full) → SameRows old other → IsFull MAX_DOCUMENTS ops old a → IsFull MAX_DOCUMENTS ops other b → a ≡ b
 same_full ops old other a b same one two =
     let changes = (accepted_twice ops old other one.changes two.changes one.removed two.removed same one.verdict two.verdict).0 in
     let before : finite.len (live old) ≡ finite.len (live other) = ap finite.len same.rows in

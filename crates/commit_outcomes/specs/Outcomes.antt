@@ -44,19 +44,19 @@ pub record Accepts (ops : List TxnOp) (old : SnapshotValue) (removed : ℕ) (new
   pub shape : new.shape ≡ old.shape
   pub layers : AreLayers new.layers
 
--- There would be more documents than an index may have.
-pub record IsFull (ops : List TxnOp) (old : SnapshotValue) (full : Full) : Type 0 where
+-- The operations would be accepted, and there would be more documents than the limit.
+pub record IsFull (limit : ℕ) (ops : List TxnOp) (old : SnapshotValue) (full : Full) : Type 0 where
   pub changes : List Change
   pub removed : ℕ
   pub verdict : verdict ops (live old) ≡ verdicts.Accepted changes removed
-  pub above : MAX_DOCUMENTS < finite.len (changed old changes)
+  pub above : limit < finite.len (changed old changes)
   pub says : full ≡ record { what = Documents; at = finite.len (live old); need = finite.len (changed old changes) - finite.len (live old) }
 
 -- What a commit of these operations leaves, by its outcome.
 abbrev pub Leaves : List TxnOp → SnapshotValue → CommitOutcome → SnapshotValue → Type 0
 Leaves ops old (outcomes.Committed removed) new = Accepts ops old removed new
 Leaves ops old (outcomes.Duplicate id) new = (verdict ops (live old) ≡ verdicts.Duplicate id) × (new ≡ old)
-Leaves ops old (outcomes.Full full) new = IsFull ops old full × (new ≡ old)
+Leaves ops old (outcomes.Full full) new = IsFull MAX_DOCUMENTS ops old full × (new ≡ old)
 
 -- What a store answers to a commit, and what it leaves: after want of memory all is as before.
 abbrev pub Commits : {E : Type 0} → List TxnOp → SnapshotValue → Result CommitOutcome E → SnapshotValue → Type 0

@@ -17,8 +17,8 @@ pub struct Layer<C: Chunk> {
     pub chunk: Arc<C, Global>,
     /// The chunk is an image of a file.
     pub disk: bool,
-    /// The rows that were killed, or put anew in a later layer, ascending.
-    pub dead: Items<u32>,
+    /// The rows that were killed, or put anew in a later layer, ascending. A commit that kills none of the layer's rows shares them.
+    pub dead: Arc<Items<u32>, Global>,
 }
 
 impl<C: Chunk> Model for Layer<C> {
@@ -27,9 +27,9 @@ impl<C: Chunk> Model for Layer<C> {
 
     ghost Value = { LayerValue };
 
-    ghost view = { λ a. record { rows = C.content (arc_value a.chunk); disk = a.disk; dead = a.dead } };
+    ghost view = { λ a. record { rows = C.content (arc_value a.chunk); disk = a.disk; dead = arc_value a.dead } };
 
-    ghost invariant = { λ a. IsLayer (record { rows = C.content (arc_value a.chunk); disk = a.disk; dead = a.dead }) };
+    ghost invariant = { λ a. IsLayer (record { rows = C.content (arc_value a.chunk); disk = a.disk; dead = arc_value a.dead }) };
 }
 
 impl<C: Chunk> Layer<C> {
@@ -38,7 +38,8 @@ impl<C: Chunk> Layer<C> {
         ensures { result ≡ length (living self.now) }
     {
         let chunk: &C = &self.chunk;
-        chunk.rows() - self.dead.len() as u32
+        let dead: &Items<u32> = &self.dead;
+        chunk.rows() - dead.len() as u32
     }
 }
 

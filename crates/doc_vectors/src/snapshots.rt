@@ -16,10 +16,11 @@ fn full_layer(alloc: Global) -> Result<Layer<PlainChunk>, NoMemory> {
     }
     let dead = Vec::from_slice(alloc, &[0, 4, 9])?;
     let chunk = Arc::new(alloc, chunk)?;
+    let dead = Arc::new(alloc, Items::new(dead))?;
     Ok(Layer {
         chunk,
         disk: true,
-        dead: Items::new(dead),
+        dead,
     })
 }
 
@@ -30,10 +31,11 @@ fn empty_layer(alloc: Global) -> Result<Layer<PlainChunk>, NoMemory>
     let chunk = no_chunk(alloc)?;
     let dead = Vec::new(alloc);
     let chunk = Arc::new(alloc, chunk)?;
+    let dead = Arc::new(alloc, Items::new(dead))?;
     Ok(Layer {
         chunk,
         disk: false,
-        dead: Items::new(dead),
+        dead,
     })
 }
 

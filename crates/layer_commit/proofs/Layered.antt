@@ -31,8 +31,8 @@ use Rattle.layer_commit.specs.declared.refusal.Refusal.TheVariants as refusals
 use Rattle.layer_commit.specs.declared.trial.Outcome.{Outcome}
 use Rattle.commit_outcomes.specs.declared.outcome.Full.{Full}
 use Rattle.commit_outcomes.specs.declared.outcome.FullKind.TheVariants.{Documents}
-use Rattle.commit_outcomes.specs.Outcomes.{changed}
-use Rattle.layer_commit.specs.Commits.{Applies, ArePut, Commits, IsFull, is_kept, layers_after, layers_of, named, row_at}
+use Rattle.commit_outcomes.specs.Outcomes.{IsFull, changed}
+use Rattle.layer_commit.specs.Commits.{Applies, ArePut, Commits, is_kept, layers_after, layers_of, named, row_at}
 use Rattle.layer_commit.specs.steps.Finding.{AreOfOne, layer_with, lives}
 use Rattle.layer_commit.specs.steps.Trying.{ComesTo, Tries, row_after, row_then}
 use Rattle.layer_commit.proofs.DeadRows.{layer_is}

@@ -1,5 +1,5 @@
 -- Commits: what a transaction makes of the layers of a snapshot, and what is answered to it.
-use Rattle.std.specs.Prelude.{◌≡◌, ℕ, ◌+◌, ◌-◌, ◌<◌, ◌≤◌, List, [], ◌∷◌, ◌++◌, Bool, true, false, ◌==◌, ◌||◌, nat_lt, Result, Ok, Err, AllPairs, length, map}
+use Rattle.std.specs.Prelude.{◌≡◌, ℕ, ◌+◌, ◌<◌, ◌≤◌, List, [], ◌∷◌, ◌++◌, Bool, true, false, ◌==◌, ◌||◌, nat_lt, Result, Ok, Err, AllPairs, length, map}
 use Rattle.std.specs.List.{filter, fold, list_any, enumerate_from}
 use Rattle.std.specs.FinMap as finite
 use Rattle.srch_base.specs.declared.faults.Or.{Or}
@@ -11,9 +11,7 @@ use Rattle.doc_types.specs.Commits as commits
 use Rattle.doc_types.specs.Commits.{Change, Put, Kill, Clear, after_change, verdict}
 use Rattle.doc_types.specs.Rows.{rows_of}
 use Rattle.doc_types.specs.Snapshots.{LayerValue, SnapshotValue, is_dead, live, living}
-use Rattle.commit_outcomes.specs.declared.outcome.Full.{Full}
-use Rattle.commit_outcomes.specs.declared.outcome.FullKind.TheVariants.{Documents}
-use Rattle.commit_outcomes.specs.Outcomes.{changed}
+use Rattle.commit_outcomes.specs.Outcomes.{IsFull, changed}
 use Rattle.layer_commit.specs.declared.refusal.Refusal.{Refusal}
 use Rattle.layer_commit.specs.declared.refusal.Refusal.TheVariants as refusals
 
@@ -69,14 +67,6 @@ pub record Applies (limit : ℕ) (ops : List TxnOp) (old : SnapshotValue) (remov
   pub put : List DocRow
   pub are_put : ArePut new.number changes put
   pub layers : new.layers ≡ layers_after changes put old.layers
-
--- These operations would have been accepted, and the rows after them are more than the limit.
-pub record IsFull (limit : ℕ) (ops : List TxnOp) (old : SnapshotValue) (full : Full) : Type 0 where
-  pub changes : List Change
-  pub removed : ℕ
-  pub verdict : verdict ops (live old) ≡ commits.Accepted changes removed
-  pub above : limit < finite.len (changed old changes)
-  pub says : full ≡ record { what = Documents; at = finite.len (live old); need = finite.len (changed old changes) - finite.len (live old) }
 
 -- what is answered to these operations over a snapshot: the snapshot after them and how many ids they removed, or why not
 abbrev pub Commits : ℕ → List TxnOp → SnapshotValue → Result (SnapshotValue × ℕ) (Or Refusal) → Type 0

@@ -126,7 +126,7 @@ fn layer_of<C: MakeChunk>(alloc: Global, docs: &[&Doc], number: u64) -> Result<L
     Ok(Layer {
         chunk: Arc::new(alloc, chunk)?,
         disk: false,
-        dead: Items::new(Vec::new(alloc)),
+        dead: Arc::new(alloc, Items::new(Vec::new(alloc)))?,
     })
 }
 

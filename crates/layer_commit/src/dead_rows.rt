@@ -3,6 +3,7 @@
 //! Ids ascend, and so do the rows of a layer by their ids; so the rows that die are found in their order, and their list is put
 //! together with that of the dead in one pass. A layer in which none dies keeps its list.
 ghost use Rattle.std.specs.Prelude.{◌≡◌, ◌<◌, ◌≤◌, ◌==◌, ◌||◌, ◌++◌, [], ◌∷◌, true, AllPairs, IfOk, OnOk, drop, length, take};
+ghost use Rattle.std.specs.Arc.{arc_value};
 ghost use Rattle.std.specs.List.{cons_option, list_any, filter_map};
 ghost use Rattle.layer_commit.specs.steps.Finding.{before, dead_with, joined, living_row};
 
@@ -10,6 +11,7 @@ use crate::finding::living_row;
 use doc_types::{Chunk, Layer};
 use srch_base::{Items, NoMemory};
 use std::alloc::Global;
+use std::sync::Arc;
 
 /// Appends the number of the row that lives and has the id, if there is one.
 fn push_living<C: Chunk>(layer: &Layer<C>, id: u64, rows: &mut Vec<u32>) -> Result<(), NoMemory>
@@ -87,19 +89,23 @@ fn joined(alloc: Global, dead: &[u32], more: &[u32]) -> Result<Vec<u32>, NoMemor
     Ok(rows)
 }
 
-/// The dead rows of a layer after all of it, or its rows of these ids, die.
+/// The dead rows of a layer after all of it, or its rows of these ids, die. Where none dies the list is shared.
 pub(crate) fn dead_rows<C: Chunk>(
     alloc: Global,
     layer: &Layer<C>,
     cleared: bool,
     ids: &[u64],
-) -> Result<Items<u32>, NoMemory>
+) -> Result<Arc<Items<u32>, Global>, NoMemory>
     requires { AllPairs (λ id later. id < later) ids.now }
-    ensures { IfOk result (λ dead. dead ≡ dead_with (λ id. cleared || list_any (λ n. n == id) ids.now) layer.now) }
+    ensures { IfOk result (λ dead. arc_value dead ≡ dead_with (λ id. cleared || list_any (λ n. n == id) ids.now) layer.now) }
 {
     if cleared {
-        return Ok(Items::new(all_rows(alloc, layer)?));
+        return Ok(Arc::new(alloc, Items::new(all_rows(alloc, layer)?))?);
     }
     let rows = rows_of(alloc, layer, ids)?;
-    Ok(Items::new(joined(alloc, layer.dead.as_slice(), rows.as_slice())?))
+    if rows.is_empty() {
+        return Ok(Arc::try_clone(&layer.dead)?);
+    }
+    let dead = joined(alloc, layer.dead.as_slice(), rows.as_slice())?;
+    Ok(Arc::new(alloc, Items::new(dead))?)
 }

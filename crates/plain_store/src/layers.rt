@@ -64,9 +64,10 @@ pub fn layer_of(alloc: Global, rows: Vec<DocRow>) -> Result<Layer<PlainChunk>, N
     let rows = sorted(rows)?;
     let chunk = PlainChunk::build(alloc, rows)?;
     let chunk = Arc::new(alloc, chunk)?;
+    let dead = Arc::new(alloc, Items::new(Vec::new(alloc)))?;
     Ok(Layer {
         chunk,
         disk: false,
-        dead: Items::new(Vec::new(alloc)),
+        dead,
     })
 }

@@ -67,6 +67,7 @@ impl PlainStore {
     pub fn front(&self) -> Result<Arc<Snapshot<PlainChunk>, Global>, NoMemory>
         ensures value { IfOk result (λ front. arc_value front ≡ self.now.snapshot) }
         ensures rows { All (λ layer. AreRowsOf self.now.schema layer.rows) self.now.snapshot.layers }
+        ensures memory { All (λ layer. layer.disk ≡ false) self.now.snapshot.layers }
     {
         Ok(Arc::try_clone(&self.snapshot)?)
     }

@@ -8,7 +8,7 @@ use Rattle.doc_vectors.proofs.snapshots.full_layer.Goals as goal
 pub invariant_of-result : goal.invariant_of-result
 invariant_of-result c =
     let kept : (arc_value c.in_ok-chunk-2.chunk).rows ≡ c.in_ok-chunk.chunk.rows = ap (λ (chunk : PlainChunk). chunk.rows) c.in_ok-chunk-2.ensures.ok in
-    full_is (arc_value c.in_ok-chunk-2.chunk).rows c.new-2.result
+    full_is (arc_value c.in_ok-chunk-2.chunk).rows (arc_value c.in_ok-dead-2.dead)
     (subst IsContent (sym kept) c.in_ok-chunk.ensures.content)
     (omega (arith, ap length kept, c.rows.ensures, c.if-rows-ne10.false))
-    (c.new-2.ensures ∙ c.in_ok-dead.ensures.items)
+    (c.in_ok-dead-2.ensures.ok ∙ c.new-2.ensures ∙ c.in_ok-dead.ensures.items)
