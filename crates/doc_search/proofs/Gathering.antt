@@ -14,12 +14,10 @@ use Rattle.op_eval.proofs.NextMatches.{ahead_here}
 use Rattle.word_rows.proofs.Opening.{row_there}
 use Rattle.word_rows.proofs.Zipped.{zip_push}
 use Rattle.rankers.specs.Weight.{weight}
-use Rattle.row_select.specs.Collecting.{Collection, Keeps}
 use Rattle.row_select.specs.Filters.{hold_unweighed, hold_weighed}
-use Rattle.row_select.specs.Pages.{IsTop}
 use Rattle.row_select.proofs.InTwoParts.{hold_any_weight, hold_in_two}
 use Rattle.row_select.specs.declared.row.Row.{Row}
-use Rattle.doc_search.specs.Searches.{AreShown, IsRowOf, passes}
+use Rattle.doc_search.specs.Searches.{IsRowOf, passes}
 use Rattle.doc_search.specs.declared.question.Question.{Question}
 use Rattle.doc_search.specs.steps.Gathering.{Gathers, HasRead, IsAmid, IsOnWay, StandsAt, matching_in}
 use Rattle.doc_search.proofs.Numbered.{numbers_beside}
@@ -30,32 +28,28 @@ use Rattle.doc_search.proofs.Weighing.{row_of}
 abbrev IsNumberOf : List DocRow → ℕ → DocRow → Type 0
 IsNumberOf docs number doc = slice_get docs number ≡ Some doc
 
-module _ (question : Question) where
+module _ {S : Type 0} (Took : S → List Row → S → Type 0) (question : Question) (first : S) where
   -- the rows that pass, once one more is there
   passing_more : (rows : List Row) (row : Row) (b : Bool) → passes question row ≡ b → filter (passes question) (rows ++ row ∷ []) ≡ filter (passes question) rows ++ cond b (row ∷ []) []
   passing_more rows row b e = filter-append (passes question) rows (row ∷ []) ∙ ap (λ t. filter (passes question) rows ++ cond t (row ∷ []) []) e
 
-  pub gathers_none : (collection : Collection) → collection.order ≡ question.order → collection.page ≡ question.page → Keeps [] collection → Gathers question [] collection
-  gathers_none collection order page kept = record { rows = []; weighed = tt; order = order; page = page; kept = kept }
+  pub gathers_none : Took first [] first → Gathers Took question first [] first
+  gathers_none taken = record { rows = []; weighed = tt; taken = taken }
 
   -- a document that passes is offered
-  pub gathers_more : (docs : List DocRow) (doc : DocRow) (row : Row) (old new : Collection) → Gathers question docs old → IsRowOf question doc row → passes question row ≡ true → new.order ≡ old.order → new.page ≡ old.page → ((offered : List Row) → Keeps offered old → Keeps (offered ++ row ∷ []) new) → Gathers question (docs ++ doc ∷ []) new
-  gathers_more docs doc row old new so its passing order page offers = record {
+  pub gathers_more : (docs : List DocRow) (doc : DocRow) (row : Row) (old new : S) → Gathers Took question first docs old → IsRowOf question doc row → passes question row ≡ true → ((rows : List Row) → Took first rows old → Took first (rows ++ row ∷ []) new) → Gathers Took question first (docs ++ doc ∷ []) new
+  gathers_more docs doc row old new so its passing offers = record {
     rows = so.rows ++ row ∷ [];
     weighed = zip_push (IsRowOf question) docs so.rows doc row so.weighed its;
-    order = order ∙ so.order;
-    page = page ∙ so.page;
-    kept = subst (λ offered. Keeps offered new) (sym (passing_more so.rows row true passing)) (offers (filter (passes question) so.rows) so.kept);
+    taken = subst (λ rows. Took first rows new) (sym (passing_more so.rows row true passing)) (offers (filter (passes question) so.rows) so.taken);
   }
 
   -- and another one isn't
-  pub gathers_same : (docs : List DocRow) (doc : DocRow) (row : Row) (collection : Collection) → Gathers question docs collection → IsRowOf question doc row → passes question row ≡ false → Gathers question (docs ++ doc ∷ []) collection
-  gathers_same docs doc row collection so its failing = record {
+  pub gathers_same : (docs : List DocRow) (doc : DocRow) (row : Row) (here : S) → Gathers Took question first docs here → IsRowOf question doc row → passes question row ≡ false → Gathers Took question first (docs ++ doc ∷ []) here
+  gathers_same docs doc row here so its failing = record {
     rows = so.rows ++ row ∷ [];
     weighed = zip_push (IsRowOf question) docs so.rows doc row so.weighed its;
-    order = so.order;
-    page = so.page;
-    kept = subst (λ offered. Keeps offered collection) (sym (passing_more so.rows row false failing ∙ append-nil (filter (passes question) so.rows))) so.kept;
+    taken = subst (λ rows. Took first rows here) (sym (passing_more so.rows row false failing ∙ append-nil (filter (passes question) so.rows))) so.taken;
   }
 
   -- ---- a document that was read
@@ -64,16 +58,16 @@ module _ (question : Question) where
   weighed_row doc row = record row { weight = weight question.ranker (record { keywords = question.query.keywords; list = hits_of question.query doc }) question.weights.list }
 
   -- it fails one of the conditions that look at no weight, whether it matches or not
-  pub gathers_past : (docs : List DocRow) (doc : DocRow) (row : Row) (collection : Collection) → HasRead doc row → hold_unweighed question.filters row ≡ false → Gathers question docs collection → Gathers question (docs ++ filter (matches question.query) (doc ∷ [])) collection
-  gathers_past docs doc row collection read fails so =
+  pub gathers_past : (docs : List DocRow) (doc : DocRow) (row : Row) (here : S) → HasRead doc row → hold_unweighed question.filters row ≡ false → Gathers Took question first docs here → Gathers Took question first (docs ++ filter (matches question.query) (doc ∷ [])) here
+  gathers_past docs doc row here read fails so =
       let its : IsRowOf question doc (weighed_row doc row) =
       row_of question doc (weighed_row doc row) (record { id = read.id; values = read.values }) (record { hits = hits_of question.query doc; are = are_its_hits question.query doc; is = refl }) in
       let failing : passes question (weighed_row doc row) ≡ false =
       hold_in_two question.filters (weighed_row doc row)
       ∙ and_left (hold_unweighed question.filters (weighed_row doc row)) (hold_weighed question.filters (weighed_row doc row)) (hold_any_weight (weighed_row doc row) row refl refl question.filters ∙ fails) in
-      elim (matches question.query doc) as (λ b. Gathers question (docs ++ cond b (doc ∷ []) []) collection) [
-        | true ↦ gathers_same docs doc (weighed_row doc row) collection so its failing
-        | false ↦ subst (λ gathered. Gathers question gathered collection) (sym (append-nil docs)) so
+      elim (matches question.query doc) as (λ b. Gathers Took question first (docs ++ cond b (doc ∷ []) []) here) [
+        | true ↦ gathers_same docs doc (weighed_row doc row) here so its failing
+        | false ↦ subst (λ gathered. Gathers Took question first gathered here) (sym (append-nil docs)) so
       ]
 
   -- it passes those
@@ -83,8 +77,8 @@ module _ (question : Question) where
       ∙ ap (λ b. b && hold_weighed question.filters weighed) (hold_any_weight weighed row id values question.filters ∙ passing)
 
   -- ---- within a layer
-  amid_first : (layer : LayerValue) (docs : List DocRow) (dead : List ℕ) (stream : Stream) (before : List DocRow) (collection : Collection) → docs ≡ layer.rows → dead ≡ layer.dead → stream ≡ record { query = question.query; rows = docs; dead = dead; at = 0 } → Gathers question before collection → IsAmid question layer.rows (filter (matches question.query) (living layer)) before (ahead stream) collection
-  amid_first layer docs dead stream before collection its out told so =
+  amid_first : (layer : LayerValue) (docs : List DocRow) (dead : List ℕ) (stream : Stream) (before : List DocRow) (here : S) → docs ≡ layer.rows → dead ≡ layer.dead → stream ≡ record { query = question.query; rows = docs; dead = dead; at = 0 } → Gathers Took question first before here → IsAmid Took question first layer.rows (filter (matches question.query) (living layer)) before (ahead stream) here
+  amid_first layer docs dead stream before here its out told so =
       let all : ahead stream ≡ matching question.query layer.rows layer.dead =
       ap ahead told
       ∙ ap (λ rows. matching question.query rows dead) its
@@ -94,54 +88,55 @@ module _ (question : Question) where
         left = filter (matches question.query) (living layer);
         all = refl;
         numbers = subst (λ numbers. AllZip (IsNumberOf layer.rows) numbers (filter (matches question.query) (living layer))) (sym all) (numbers_beside question.query layer);
-        gathers = subst (λ found. Gathers question found collection) (sym (append-nil before)) so;
+        gathers = subst (λ found. Gathers Took question first found here) (sym (append-nil before)) so;
       }
 
   module _ (docs wanted before : List DocRow) where
-    next_of : (row : ℕ) (ahead : List ℕ) (old new : Collection) (seen left : List DocRow) → seen ++ left ≡ wanted → AllZip (IsNumberOf docs) (row ∷ ahead) left → Gathers question (before ++ seen) old → ((gathered : List DocRow) (doc : DocRow) → slice_get docs row ≡ Some doc → Gathers question gathered old → Gathers question (gathered ++ doc ∷ []) new) → IsAmid question docs wanted before ahead new
+    next_of : (row : ℕ) (ahead : List ℕ) (old new : S) (seen left : List DocRow) → seen ++ left ≡ wanted → AllZip (IsNumberOf docs) (row ∷ ahead) left → Gathers Took question first (before ++ seen) old → ((gathered : List DocRow) (doc : DocRow) → slice_get docs row ≡ Some doc → Gathers Took question first gathered old → Gathers Took question first (gathered ++ doc ∷ []) new) → IsAmid Took question first docs wanted before ahead new
     next_of row ahead old new seen [] all numbers so takes = absurd numbers
     next_of row ahead old new seen (doc ∷ left) all numbers so takes = record {
       seen = seen ++ doc ∷ [];
       left = left;
       all = append_assoc seen (doc ∷ []) left ∙ all;
       numbers = numbers.1;
-      gathers = subst (λ gathered. Gathers question gathered new) (append_assoc before seen (doc ∷ [])) (takes (before ++ seen) doc numbers.0 so);
+      gathers = subst (λ gathered. Gathers Took question first gathered new) (append_assoc before seen (doc ∷ [])) (takes (before ++ seen) doc numbers.0 so);
     }
 
-    amid_next : (row : ℕ) (now ahead : List ℕ) (old new : Collection) → now ≡ row ∷ ahead → IsAmid question docs wanted before now old → ((gathered : List DocRow) (doc : DocRow) → slice_get docs row ≡ Some doc → Gathers question gathered old → Gathers question (gathered ++ doc ∷ []) new) → IsAmid question docs wanted before ahead new
+    amid_next : (row : ℕ) (now ahead : List ℕ) (old new : S) → now ≡ row ∷ ahead → IsAmid Took question first docs wanted before now old → ((gathered : List DocRow) (doc : DocRow) → slice_get docs row ≡ Some doc → Gathers Took question first gathered old → Gathers Took question first (gathered ++ doc ∷ []) new) → IsAmid Took question first docs wanted before ahead new
     amid_next row now ahead old new next amid takes =
         next_of row ahead old new amid.seen amid.left amid.all (subst (λ numbers. AllZip (IsNumberOf docs) numbers amid.left) next amid.numbers) amid.gathers takes
 
     -- a row that may match went by, and is ahead if it does
-    amid_past : (row : ℕ) (doc : DocRow) (b : Bool) (now ahead : List ℕ) (old new : Collection) → slice_get docs row ≡ Some doc → matches question.query doc ≡ b → now ≡ cond b (row ∷ []) [] ++ ahead → IsAmid question docs wanted before now old → ((gathered : List DocRow) → Gathers question gathered old → Gathers question (gathered ++ cond b (doc ∷ []) []) new) → IsAmid question docs wanted before ahead new
+    amid_past : (row : ℕ) (doc : DocRow) (b : Bool) (now ahead : List ℕ) (old new : S) → slice_get docs row ≡ Some doc → matches question.query doc ≡ b → now ≡ cond b (row ∷ []) [] ++ ahead → IsAmid Took question first docs wanted before now old → ((gathered : List DocRow) → Gathers Took question first gathered old → Gathers Took question first (gathered ++ cond b (doc ∷ []) []) new) → IsAmid Took question first docs wanted before ahead new
     amid_past row doc true now ahead old new at is next amid takes =
         amid_next row now ahead old new next amid
-        (λ gathered other there so. let same : doc ≡ other = cc in subst (λ d. Gathers question (gathered ++ d ∷ []) new) same (takes gathered so))
+        (λ gathered other there so. let same : doc ≡ other = cc in subst (λ d. Gathers Took question first (gathered ++ d ∷ []) new) same (takes gathered so))
     amid_past row doc false now ahead old new at is next amid takes = record {
       seen = amid.seen;
       left = amid.left;
       all = amid.all;
       numbers = subst (λ numbers. AllZip (IsNumberOf docs) numbers amid.left) next amid.numbers;
-      gathers = subst (λ gathered. Gathers question gathered new) (append-nil (before ++ amid.seen)) (takes (before ++ amid.seen) amid.gathers);
+      gathers = subst (λ gathered. Gathers Took question first gathered new) (append-nil (before ++ amid.seen)) (takes (before ++ amid.seen) amid.gathers);
     }
 
-    last_of : (collection : Collection) (seen left : List DocRow) → seen ++ left ≡ wanted → AllZip (IsNumberOf docs) [] left → Gathers question (before ++ seen) collection → Gathers question (before ++ wanted) collection
-    last_of collection seen [] all numbers so = subst (λ found. Gathers question (before ++ found) collection) (sym (append-nil seen) ∙ all) so
-    last_of collection seen (doc ∷ left) all numbers so = absurd numbers
+    last_of : (here : S) (seen left : List DocRow) → seen ++ left ≡ wanted → AllZip (IsNumberOf docs) [] left → Gathers Took question first (before ++ seen) here → Gathers Took question first (before ++ wanted) here
+    last_of here seen [] all numbers so = subst (λ found. Gathers Took question first (before ++ found) here) (sym (append-nil seen) ∙ all) so
+    last_of here seen (doc ∷ left) all numbers so = absurd numbers
 
-    amid_last : (now : List ℕ) (collection : Collection) → now ≡ [] → IsAmid question docs wanted before now collection → Gathers question (before ++ wanted) collection
-    amid_last now collection none amid = last_of collection amid.seen amid.left amid.all (subst (λ numbers. AllZip (IsNumberOf docs) numbers amid.left) none amid.numbers) amid.gathers
+    amid_last : (now : List ℕ) (here : S) → now ≡ [] → IsAmid Took question first docs wanted before now here → Gathers Took question first (before ++ wanted) here
+    amid_last now here none amid = last_of here amid.seen amid.left amid.all (subst (λ numbers. AllZip (IsNumberOf docs) numbers amid.left) none amid.numbers) amid.gathers
 
-  pub on_way_first : (layer : LayerValue) (docs : List DocRow) (dead : List ℕ) (stream : Stream) (first : Collection) → docs ≡ layer.rows → dead ≡ layer.dead → stream ≡ record { query = question.query; rows = docs; dead = dead; at = 0 } → IsOnWay question layer first stream first
-  on_way_first layer docs dead stream first its out told = record {
+module _ {S : Type 0} (Took : S → List Row → S → Type 0) (question : Question) where
+  pub on_way_first : (layer : LayerValue) (docs : List DocRow) (dead : List ℕ) (stream : Stream) (start : S) → docs ≡ layer.rows → dead ≡ layer.dead → stream ≡ record { query = question.query; rows = docs; dead = dead; at = 0 } → IsOnWay Took question layer start stream start
+  on_way_first layer docs dead stream start its out told = record {
     query = ap (λ (it : Stream). it.query) told;
     docs = ap (λ (it : Stream). it.rows) told ∙ its;
-    amid = λ before so. amid_first layer docs dead stream before first its out told so;
+    amid = λ first before so. amid_first Took question first layer docs dead stream before start its out told so;
   }
 
   -- the stream stands at a row
-  pub stands_at : (layer : LayerValue) (docs : List DocRow) (number : ℕ) (old new : Stream) (first here : Collection) → docs ≡ layer.rows → GoesTo old number new → IsOnWay question layer first old here → StandsAt question docs number new
-  stands_at layer docs number old new first here its next way = record {
+  pub stands_at : (layer : LayerValue) (docs : List DocRow) (number : ℕ) (old new : Stream) (start here : S) → docs ≡ layer.rows → GoesTo old number new → IsOnWay Took question layer start old here → StandsAt question docs number new
+  stands_at layer docs number old new start here its next way = record {
     query = ap (λ (it : Stream). it.query) next.stands ∙ way.query;
     rows = ap (λ (it : Stream). it.rows) next.stands ∙ way.docs ∙ sym its;
     at = ap (λ (it : Stream). it.at) next.stands;
@@ -149,8 +144,8 @@ module _ (question : Question) where
   }
 
   -- and goes on behind it
-  pub on_way_next : (layer : LayerValue) (docs : List DocRow) (number : ℕ) (old mid new : Stream) (first here there : Collection) → docs ≡ layer.rows → GoesTo old number mid → new ≡ record mid { at = number + 1 } → IsOnWay question layer first old here → ((gathered : List DocRow) (doc : DocRow) → slice_get docs number ≡ Some doc → Gathers question gathered here → Gathers question (gathered ++ filter (matches question.query) (doc ∷ [])) there) → IsOnWay question layer first new there
-  on_way_next layer docs number old mid new first here there its next on way takes =
+  pub on_way_next : (layer : LayerValue) (docs : List DocRow) (number : ℕ) (old mid new : Stream) (start here there : S) → docs ≡ layer.rows → GoesTo old number mid → new ≡ record mid { at = number + 1 } → IsOnWay Took question layer start old here → ((first : S) (gathered : List DocRow) (doc : DocRow) → slice_get docs number ≡ Some doc → Gathers Took question first gathered here → Gathers Took question first (gathered ++ filter (matches question.query) (doc ∷ [])) there) → IsOnWay Took question layer start new there
+  on_way_next layer docs number old mid new start here there its next on way takes =
       let found = row_there old.rows number next.within in
       let doc : DocRow = found.0 in
       let at : slice_get old.rows number ≡ Some doc = found.1 in
@@ -164,15 +159,16 @@ module _ (question : Question) where
       record {
         query = ap (λ (it : Stream). it.query) behind ∙ way.query;
         docs = ap (λ (it : Stream). it.rows) behind ∙ way.docs;
-        amid = λ before so.
-            amid_past layer.rows (filter (matches question.query) (living layer)) before number doc (matches question.query doc) (ahead old) (ahead new) here there
-            (ap (λ rows. slice_get rows number) (sym way.docs) ∙ at) refl past (way.amid before so)
-            (λ gathered gathers. takes gathered doc (ap (λ rows. slice_get rows number) (its ∙ sym way.docs) ∙ at) gathers);
+        amid = λ first before so.
+            amid_past Took question first layer.rows (filter (matches question.query) (living layer)) before number doc (matches question.query doc) (ahead old) (ahead new) here there
+            (ap (λ rows. slice_get rows number) (sym way.docs) ∙ at) refl past (way.amid first before so)
+            (λ gathered gathers. takes first gathered doc (ap (λ rows. slice_get rows number) (its ∙ sym way.docs) ∙ at) gathers);
       }
 
-  pub on_way_last : (layer : LayerValue) (stream : Stream) (first here : Collection) → ahead stream ≡ [] → IsOnWay question layer first stream here → (before : List DocRow) → Gathers question before first → Gathers question (before ++ filter (matches question.query) (living layer)) here
-  on_way_last layer stream first here none way before so = amid_last layer.rows (filter (matches question.query) (living layer)) before (ahead stream) here none (way.amid before so)
+  pub on_way_last : (layer : LayerValue) (stream : Stream) (start here : S) → ahead stream ≡ [] → IsOnWay Took question layer start stream here → (first : S) (before : List DocRow) → Gathers Took question first before start → Gathers Took question first (before ++ filter (matches question.query) (living layer)) here
+  on_way_last layer stream start here none way first before so = amid_last Took question first layer.rows (filter (matches question.query) (living layer)) before (ahead stream) here none (way.amid first before so)
 
+module _ (question : Question) where
   -- ---- over layers
   pub one_layer : (layers : List LayerValue) (i : ℕ) (layer : LayerValue) → i < length layers → layer ≡ get_or layers i layer → matching_in question (take (i + 1) layers) ≡ matching_in question (take i layers) ++ filter (matches question.query) (living layer)
   one_layer layers i layer within at =
@@ -184,12 +180,3 @@ module _ (question : Question) where
 
   pub all_layers : (layers : List LayerValue) (i : ℕ) → length layers ≤ i → matching_in question (take i layers) ≡ matching_in question layers
   all_layers layers i past = ap (matching_in question) (take_all i layers past)
-
-  -- the page of all that was gathered is what is shown
-  pub gathered_all : (docs : List DocRow) (collection : Collection) (so : Gathers question (filter (matches question.query) docs) collection) (shown : List Row) → IsTop (filter (passes question) so.rows) collection.order collection.page shown → AreShown question docs shown
-  gathered_all docs collection so shown top = (
-    filter (passes question) so.rows,
-    record { rows = so.rows; weighed = so.weighed; passing = refl },
-    subst (λ order. IsTop (filter (passes question) so.rows) order question.page shown) so.order
-        (subst (λ page. IsTop (filter (passes question) so.rows) collection.order page shown) so.page top),
-  )

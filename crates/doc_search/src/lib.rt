@@ -9,4 +9,4 @@ mod searching;
 
 pub use laws::a_search_shows_one_list;
 pub use question::Question;
-pub use searching::search;
+pub use searching::{search, search_into};

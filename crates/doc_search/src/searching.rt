@@ -1,8 +1,8 @@
-//! A search over the layers of a snapshot: each document that matches and passes the conditions is offered to a collector, which
-//! keeps what the page may need.
+//! A search over the layers of a snapshot: each document that matches and passes the conditions is offered to a sink, which is a
+//! collector for the page, groups, a facet, a count, or several of these.
 //!
 //! A document's conditions that look at no weight come before its hits, since to find these the places of its words are read.
-//! Nothing is kept of a document that the page doesn't need, and one row and one list of hits serve for all of them.
+//! Nothing is kept of a document but what the sink takes, and one row and one list of hits serve for all of them.
 ghost use Rattle.std.specs.Prelude.{◌≡◌, ◌+◌, ◌<◌, ◌++◌, ◌∷◌, [], List, IfOk, OnOk, All, Some, true, length, slice_get};
 ghost use Rattle.std.specs.List.{filter};
 ghost use Rattle.doc_types.specs.declared.documents.DocRow.{DocRow};
@@ -12,7 +12,8 @@ ghost use Rattle.doc_types.specs.Snapshots.{all_living, living};
 ghost use Rattle.op_eval.specs.Matching.{matches};
 ghost use Rattle.rankers.specs.declared.ranker.Ranker.TheVariants as rankers;
 ghost use Rattle.row_select.specs.Filters.{hold_unweighed};
-ghost use Rattle.doc_search.specs.Searches.{AreShown, IsAskedOf};
+ghost use Rattle.row_select.specs.declared.row.Row.{Row as RowValue};
+ghost use Rattle.doc_search.specs.Searches.{AreFound, AreShown, IsAskedOf};
 ghost use Rattle.doc_search.specs.declared.question.Question.{Question as QuestionValue};
 ghost use Rattle.doc_search.specs.steps.Gathering.{Gathers, HasRead, IsAskedOfDocs, IsWeighed, StandsAt};
 
@@ -22,7 +23,7 @@ use crate::rows::{Scratch, read_row};
 use doc_types::{Chunk, Hits, Layer, Snapshot};
 use op_eval::Matches;
 use rankers::{Ranker, weight};
-use row_select::{Collector, Row};
+use row_select::{Collector, Row, Sink};
 use srch_base::{NoMemory, Steps};
 use std::alloc::Global;
 use std::marker::Brand;
@@ -37,66 +38,83 @@ pub fn search<C: Chunk>(
     requires asked { (schema : Schema) × IsAskedOf schema question.now × All (λ layer. AreRowsOf schema layer.rows) snapshot.now.layers }
     ensures { IfOk result (λ shown. AreShown question.now (all_living snapshot.now.layers) shown.items) }
 {
-    search_layers::<Brand, C>(alloc, question, snapshot.layers.as_slice(), Blank::new(1))
+    let mut collector = Collector::new(alloc, &question.order, question.page);
+    search_into(alloc, question, snapshot, &mut collector)?;
+    collector.finish()
 }
 
-/// The page of what is found in some layers. The steps of opening are counted, as chunks ask it, and not used.
-fn search_layers<L: Ledger, C: Chunk>(
+/// Offers all that is found in a snapshot to a sink, by a question of its index: each document that matches and passes the
+/// conditions, once, with its weight. The question's order and page don't matter.
+pub fn search_into<C: Chunk, S: Sink>(
+    alloc: Global,
+    question: &Question,
+    snapshot: &Snapshot<C>,
+    sink: &mut S,
+) -> Result<(), NoMemory>
+    requires asked { (schema : Schema) × IsAskedOf schema question.now × All (λ layer. AreRowsOf schema layer.rows) snapshot.now.layers }
+    ensures { OnOk result ((found : List RowValue) × AreFound question.now (all_living snapshot.now.layers) found × S.Took sink.old found sink.new) }
+{
+    let layers = snapshot.layers.as_slice();
+    search_layers::<Brand, C, S>(alloc, question, layers, Blank::new(1), sink)
+}
+
+/// Offers what is found in some layers. The steps of opening are counted, as chunks ask it, and not used.
+fn search_layers<L: Ledger, C: Chunk, S: Sink>(
     alloc: Global,
     question: &Question,
     layers: &[Layer<C>],
     blank: Blank,
-) -> Result<Vec<Row>, NoMemory>
+    sink: &mut S,
+) -> Result<(), NoMemory>
     requires asked { All (λ layer. IsAskedOfDocs question.now layer.rows) layers.now }
     requires name { blank.name ≡ L.name }
     requires parts { blank.parts ≡ L.parts }
     requires some { 0 < blank.parts }
-    ensures { IfOk result (λ shown. AreShown question.now (all_living layers.now) shown.items) }
+    ensures { OnOk result ((found : List RowValue) × AreFound question.now (all_living layers.now) found × S.Took sink.old found sink.new) }
 {
     let asked = ReadyQuestion::over(alloc, question)?;
     let mut steps = Steps::<L>::new(blank);
     let mut scratch = Scratch::new(alloc);
-    let mut collector = Collector::new(alloc, &question.order, question.page);
     for layer in layers {
-        collect_layer(&asked, layer, &mut scratch, &mut collector, &mut steps)?;
+        collect_layer(&asked, layer, &mut scratch, sink, &mut steps)?;
     }
-    collector.finish()
+    Ok(())
 }
 
 /// Offers what is found in a layer.
-fn collect_layer<L: Ledger, C: Chunk>(
+fn collect_layer<L: Ledger, C: Chunk, S: Sink>(
     asked: &ReadyQuestion<'_>,
     layer: &Layer<C>,
     scratch: &mut Scratch,
-    collector: &mut Collector<'_>,
+    sink: &mut S,
     steps: &mut Steps<L>,
 ) -> Result<(), NoMemory>
     requires { IsAskedOfDocs asked.now layer.now.rows }
-    ensures { (before : List DocRow) → Gathers asked.now before collector.old → OnOk result (Gathers asked.now (before ++ filter (matches asked.now.query) (living layer.now)) collector.new) }
+    ensures { (first : S) (before : List DocRow) → Gathers S.Took asked.now first before sink.old → OnOk result (Gathers S.Took asked.now first (before ++ filter (matches asked.now.query) (living layer.now)) sink.new) }
 {
     let chunk: &C = &layer.chunk;
     let dead = layer.dead.as_slice();
     let mut stream = Matches::over(asked.alloc, &asked.question.query, chunk, dead)?;
     'rows: while let Some(number) = stream.row() {
-        collect_row(asked, chunk, number, &mut stream, scratch, collector, steps)?;
+        collect_row(asked, chunk, number, &mut stream, scratch, sink, steps)?;
     }
     Ok(())
 }
 
 /// Goes on behind a row, and offers its document if it matches and passes the conditions.
-fn collect_row<L: Ledger, C: Chunk>(
+fn collect_row<L: Ledger, C: Chunk, S: Sink>(
     asked: &ReadyQuestion<'_>,
     chunk: &C,
     number: u32,
     stream: &mut Matches<'_, C>,
     scratch: &mut Scratch,
-    collector: &mut Collector<'_>,
+    sink: &mut S,
     steps: &mut Steps<L>,
 ) -> Result<(), NoMemory>
     requires asked { IsAskedOfDocs asked.now (C.content chunk.now) }
     requires stands { StandsAt asked.now (C.content chunk.now) number stream.old }
     ensures goes_on { OnOk result (stream.new ≡ record stream.old { at = number + 1 }) }
-    ensures gathers { (before : List DocRow) (doc : DocRow) → slice_get (C.content chunk.now) number ≡ Some doc → Gathers asked.now before collector.old → OnOk result (Gathers asked.now (before ++ filter (matches asked.now.query) (doc ∷ [])) collector.new) }
+    ensures gathers { (first : S) (before : List DocRow) (doc : DocRow) → slice_get (C.content chunk.now) number ≡ Some doc → Gathers S.Took asked.now first before sink.old → OnOk result (Gathers S.Took asked.now first (before ++ filter (matches asked.now.query) (doc ∷ [])) sink.new) }
 {
     let attrs = asked.question.attrs;
     read_row(asked.alloc, chunk, number, attrs, &mut scratch.row)?;
@@ -105,7 +123,7 @@ fn collect_row<L: Ledger, C: Chunk>(
         return Ok(());
     }
     match weight_of(asked, stream, &mut scratch.hits, steps)? {
-        Some(weight) => offer(asked, weight, &mut scratch.row, collector),
+        Some(weight) => offer(asked, weight, &mut scratch.row, sink),
         None => Ok(()),
     }
 }
@@ -164,18 +182,18 @@ fn weight_ranked<L: Ledger, C: Chunk>(
 }
 
 /// Offers a document that matches and passed the conditions that look at no weight, if it passes the others too.
-fn offer(
+fn offer<S: Sink>(
     asked: &ReadyQuestion<'_>,
     weight: u64,
     row: &mut Row,
-    collector: &mut Collector<'_>,
+    sink: &mut S,
 ) -> Result<(), NoMemory>
     requires { hold_unweighed asked.now.filters row.old ≡ true }
-    ensures { (before : List DocRow) (doc : DocRow) → HasRead doc row.old → IsWeighed asked.now doc (Some weight) → Gathers asked.now before collector.old → OnOk result (Gathers asked.now (before ++ doc ∷ []) collector.new) }
+    ensures { (first : S) (before : List DocRow) (doc : DocRow) → HasRead doc row.old → IsWeighed asked.now doc (Some weight) → Gathers S.Took asked.now first before sink.old → OnOk result (Gathers S.Took asked.now first (before ++ doc ∷ []) sink.new) }
 {
     row.weight = weight;
     if asked.conditions.hold_weighed(row) {
-        collector.offer(row)?;
+        sink.offer(row)?;
     }
     Ok(())
 }

@@ -8,5 +8,7 @@ pub mod Orders
 pub mod Pages
 -- the rows that a collector keeps
 pub mod Collecting
+-- where found rows go
+pub mod Sinks
 -- what serves proofs and private functions alone
 pub mod steps

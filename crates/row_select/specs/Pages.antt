@@ -7,7 +7,7 @@ use Rattle.row_select.specs.declared.row.Row.{Row}
 
 -- the page of rows that are in order: only the first `max_matches` exist for it, `offset` of them are passed over, and at most
 -- `count` follow
-abbrev pub cut : Page → List Row → List Row
+abbrev pub cut : {X : Type 0} → Page → List X → List X
 cut page rows = take page.count (drop page.offset (take page.max_matches rows))
 
 -- how many rows, from the first on, are enough to tell the page

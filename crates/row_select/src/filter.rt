@@ -70,7 +70,8 @@ impl Filter {
 }
 
 impl CompareOp {
-    fn holds(self, value: i128, number: i128) -> bool
+    /// Whether a value compares so with a number.
+    pub fn holds(self, value: i128, number: i128) -> bool
         ensures { result ≡ compares self value number }
     {
         match self {

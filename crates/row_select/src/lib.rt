@@ -8,6 +8,7 @@ mod laws;
 mod order;
 mod page;
 mod row;
+mod sink;
 
 pub use collector::Collector;
 pub use conditions::Conditions;
@@ -16,3 +17,4 @@ pub use laws::{a_page_is_one_list, conditions_hold_in_two_parts};
 pub use order::Order;
 pub use page::{Page, top};
 pub use row::{ColumnRef, Row};
+pub use sink::{Both, RowCount, Sink};

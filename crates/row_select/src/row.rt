@@ -27,7 +27,7 @@ impl Row {
     }
 
     /// A row that holds the same.
-    pub(crate) fn copy(&self) -> Result<Row, NoMemory>
+    pub fn copy(&self) -> Result<Row, NoMemory>
         ensures { IfOk result (λ copy. copy ≡ self.now) }
     {
         Ok(Row {

@@ -10,7 +10,6 @@ use Rattle.op_eval.specs.Hits.{AreHits}
 use Rattle.op_eval.specs.Matching.{matches}
 use Rattle.op_eval.specs.Streams.{Stream, ahead}
 use Rattle.rankers.specs.Weight.{weight}
-use Rattle.row_select.specs.Collecting.{Collection, Keeps}
 use Rattle.row_select.specs.declared.row.Row.{Row}
 use Rattle.doc_search.specs.Searches.{IsAskedOf, IsRowOf, passes}
 use Rattle.doc_search.specs.declared.question.Question.{Question}
@@ -44,29 +43,27 @@ pub record StandsAt (question : Question) (docs : List DocRow) (number : ℕ) (s
   pub at : stream.at ≡ number
   pub within : number < length docs
 
--- of these documents, which match, the collector was offered those that pass, each with its weight
-pub record Gathers (question : Question) (docs : List DocRow) (collection : Collection) : Type 0 where
+-- Of these documents, which match, those that pass were offered to a sink since it was as at first, each with its weight.
+pub record Gathers {S : Type 0} (Took : S → List Row → S → Type 0) (question : Question) (first : S) (docs : List DocRow) (here : S) : Type 0 where
   pub rows : List Row
   pub weighed : AllZip (IsRowOf question) docs rows
-  pub order : collection.order ≡ question.order
-  pub page : collection.page ≡ question.page
-  pub kept : Keeps (filter (passes question) rows) collection
+  pub taken : Took first (filter (passes question) rows) here
 
 -- Amid a layer with these documents, of which some are wanted: the wanted ones before some place were gathered, after those of the
 -- layers before, and the numbers of the others are ahead.
-pub record IsAmid (question : Question) (docs wanted before : List DocRow) (ahead : List ℕ) (collection : Collection) : Type 0 where
+pub record IsAmid {S : Type 0} (Took : S → List Row → S → Type 0) (question : Question) (first : S) (docs wanted before : List DocRow) (ahead : List ℕ) (here : S) : Type 0 where
   pub seen : List DocRow
   pub left : List DocRow
   pub all : seen ++ left ≡ wanted
   pub numbers : AllZip (λ number doc. slice_get docs number ≡ Some doc) ahead left
-  pub gathers : Gathers question (before ++ seen) collection
+  pub gathers : Gathers Took question first (before ++ seen) here
 
--- On the way over a layer: whatever was gathered when the collector was as at first, the documents of the layer that went by have
--- been gathered as well.
-pub record IsOnWay (question : Question) (layer : LayerValue) (first : Collection) (stream : Stream) (here : Collection) : Type 0 where
+-- On the way over a layer: whatever was gathered when the sink was as at the layer's start, the documents of the layer that went by
+-- have been gathered as well.
+pub record IsOnWay {S : Type 0} (Took : S → List Row → S → Type 0) (question : Question) (layer : LayerValue) (start : S) (stream : Stream) (here : S) : Type 0 where
   pub query : stream.query ≡ question.query
   pub docs : stream.rows ≡ layer.rows
-  pub amid : (before : List DocRow) → Gathers question before first → IsAmid question layer.rows (filter (matches question.query) (living layer)) before (ahead stream) here
+  pub amid : (first : S) (before : List DocRow) → Gathers Took question first before start → IsAmid Took question first layer.rows (filter (matches question.query) (living layer)) before (ahead stream) here
 
 -- the documents of some layers that match
 abbrev pub matching_in : Question → List LayerValue → List DocRow

@@ -9,23 +9,23 @@ pub rows-init : goal.rows-init
 rows-init g c =
     let docs : g.C.Chunk.content c.deref-chunk.result.now ≡ c.args.layer.now.rows =
     ap g.C.Chunk.content c.deref-chunk.ensures ∙ ap (λ (its : LayerValue). its.rows) c.layer.view_is in
-    let dead : c.as_slice-dead.result.now ≡ c.args.layer.now.dead = c.as_slice-dead.ensures ∙ ap (λ (its : LayerValue). its.dead) c.layer.view_is in
-    on_way_first c.args.asked.now c.args.layer.now (g.C.Chunk.content c.deref-chunk.result.now) c.as_slice-dead.result.now c.in_ok-stream.stream c.args.collector.now docs dead
+    let dead : c.as_slice-dead.result.now ≡ c.args.layer.now.dead = c.as_slice-dead.ensures ∙ c.deref.ensures ∙ ap (λ (its : LayerValue). its.dead) c.layer.view_is in
+    on_way_first g.S.Sink.Took c.args.asked.now c.args.layer.now (g.C.Chunk.content c.deref-chunk.result.now) c.as_slice-dead.result.now c.in_ok-stream.stream c.args.sink.now docs dead
     (c.in_ok-stream.ensures ∙ ap (λ (its : Question). record { query = its.query; rows = g.C.Chunk.content c.deref-chunk.result.now; dead = c.as_slice-dead.result.now; at = 0 }) c.asked.view_is)
 
 pub collect_row-requires-clause-stands : goal.collect_row-requires-clause-stands
 collect_row-requires-clause-stands g c =
     let docs : g.C.Chunk.content c.deref-chunk.result.now ≡ c.args.layer.now.rows =
     ap g.C.Chunk.content c.deref-chunk.ensures ∙ ap (λ (its : LayerValue). its.rows) c.layer.view_is in
-    stands_at c.args.asked.now c.args.layer.now (g.C.Chunk.content c.deref-chunk.result.now) c.in-Some.number c.rows.stream c.row.new.self c.args.collector.now c.rows.collector docs c.in-Some.ensures c.rows.invariant
+    stands_at g.S.Sink.Took c.args.asked.now c.args.layer.now (g.C.Chunk.content c.deref-chunk.result.now) c.in-Some.number c.rows.stream c.row.new.self c.args.sink.now c.rows.sink docs c.in-Some.ensures c.rows.invariant
 
 pub rows-preserved : goal.rows-preserved
 rows-preserved g c =
     let docs : g.C.Chunk.content c.deref-chunk.result.now ≡ c.args.layer.now.rows =
     ap g.C.Chunk.content c.deref-chunk.ensures ∙ ap (λ (its : LayerValue). its.rows) c.layer.view_is in
-    on_way_next c.args.asked.now c.args.layer.now (g.C.Chunk.content c.deref-chunk.result.now) c.in-Some.number c.rows.stream c.row.new.self c.collect_row.new.stream c.args.collector.now c.rows.collector c.collect_row.new.collector
+    on_way_next g.S.Sink.Took c.args.asked.now c.args.layer.now (g.C.Chunk.content c.deref-chunk.result.now) c.in-Some.number c.rows.stream c.row.new.self c.collect_row.new.stream c.args.sink.now c.rows.sink c.collect_row.new.sink
     docs c.in-Some.ensures c.in_ok-collect_row.ensures.goes_on c.rows.invariant c.in_ok-collect_row.ensures.gathers
 
 pub returns : goal.returns
 returns g c =
-    on_way_last c.args.asked.now c.args.layer.now c.rows.stream c.args.collector.now c.rows.collector c.in_default.ensures.0 c.rows.invariant
+    on_way_last g.S.Sink.Took c.args.asked.now c.args.layer.now c.rows.stream c.args.sink.now c.rows.sink c.in_default.ensures.0 c.rows.invariant

@@ -3,7 +3,7 @@ use Rattle.doc_search.specs.steps.Gathering.{IsOnWay}
 use Rattle.doc_search.proofs.searching.collect_layer.Given as goal
 
 abbrev pub invariant-rows : goal.invariant-rows
-invariant-rows g l = IsOnWay l.asked l.layer l.fn.collector l.stream l.collector
+invariant-rows g l = IsOnWay g.S.Sink.Took l.asked l.layer l.fn.sink l.stream l.sink
 
 abbrev pub decreases-rows : goal.decreases-rows
 decreases-rows g l = length l.stream.rows - l.stream.at

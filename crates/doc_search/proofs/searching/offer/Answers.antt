@@ -7,23 +7,23 @@ use Rattle.doc_search.proofs.Weighing.{row_of}
 use Rattle.doc_search.proofs.searching.offer.Goals as goal
 
 pub returns-in_ok-offer : goal.returns-in_ok-offer
-returns-in_ok-offer c = λ before doc read weighed so.
+returns-in_ok-offer g c = λ first before doc read weighed so.
     let row : Row = record c.args.row.now { weight = c.args.weight } in
-    gathers_more c.args.asked.now before doc row c.args.collector.now c.offer.new.self so
+    gathers_more g.S.Sink.Took c.args.asked.now first before doc row c.args.sink.now c.offer.new.self so
     (row_of c.args.asked.now doc row (record { id = read.id; values = read.values }) weighed.1)
-    (passes_as c.args.asked.now c.args.row.now row refl refl c.requires
+    (passes_as g.S.Sink.Took c.args.asked.now first c.args.row.now row refl refl c.requires
     ∙ ap (λ (its : Question). hold_weighed its.filters row) (sym c.asked.view_is)
     ∙ ap (λ filters. hold_weighed filters row) (sym c.asked.invariant)
     ∙ sym c.hold_weighed.ensures
     ∙ c.if-hold_weighed.true)
-    c.in_ok-offer.ensures.order c.in_ok-offer.ensures.page c.in_ok-offer.ensures.keeps
+    (c.in_ok-offer.ensures first)
 
 pub returns-else-hold_weighed : goal.returns-else-hold_weighed
-returns-else-hold_weighed c = λ before doc read weighed so.
+returns-else-hold_weighed g c = λ first before doc read weighed so.
     let row : Row = record c.args.row.now { weight = c.args.weight } in
-    gathers_same c.args.asked.now before doc row c.args.collector.now so
+    gathers_same g.S.Sink.Took c.args.asked.now first before doc row c.args.sink.now so
     (row_of c.args.asked.now doc row (record { id = read.id; values = read.values }) weighed.1)
-    (passes_as c.args.asked.now c.args.row.now row refl refl c.requires
+    (passes_as g.S.Sink.Took c.args.asked.now first c.args.row.now row refl refl c.requires
     ∙ ap (λ (its : Question). hold_weighed its.filters row) (sym c.asked.view_is)
     ∙ ap (λ filters. hold_weighed filters row) (sym c.asked.invariant)
     ∙ sym c.hold_weighed.ensures

@@ -3,4 +3,4 @@ use Rattle.doc_search.specs.steps.Gathering.{Gathers, matching_in}
 use Rattle.doc_search.proofs.searching.search_layers.Given as goal
 
 abbrev pub invariant-loop-layer : goal.invariant-loop-layer
-invariant-loop-layer g l = Gathers l.question (matching_in l.question (take l.layer-index l.layers)) l.collector
+invariant-loop-layer g l = Gathers g.S.Sink.Took l.question l.fn.sink (matching_in l.question (take l.layer-index l.layers)) l.sink
