@@ -1,5 +1,5 @@
 -- Runs that take no door, a run whose door is served, and a run whose status is reported.
-use Rattle.std.proofs.Common.{◌≡◌, ℕ, suc, ◌+◌, List, [], ◌∷◌, ◌++◌, take, arith, refl, sym, ap, subst, ◌∙◌, inl, inr, append-nil, append_assoc}
+use Rattle.std.proofs.Common.{◌≡◌, ℕ, suc, List, [], ◌∷◌, ◌++◌, arith, refl, sym, ap, subst, ◌∙◌, inl, inr, append-nil, append_assoc}
 use Rattle.std.specs.Prelude.{Option, Some, None, Err}
 use Rattle.srch_base.specs.declared.link.Link.{Ghosts as LinkWords}
 use Rattle.srch_base.specs.declared.door.Door.{Ghosts as DoorWords}
@@ -9,7 +9,7 @@ use Rattle.conf_text.specs.Confs.{IsConfOf}
 use Rattle.index_conf.specs.declared.conf.Conf.{Conf}
 use Rattle.index_conf.specs.declared.conf.IndexConf.{IndexConf}
 use Rattle.conf_text.specs.declared.size.TheConstants.{MAX_CONF_BYTES}
-use Rattle.searchd_top.specs.CommandLine.{session}
+use Rattle.command_line.specs.Modes.{Mode, session}
 use Rattle.searchd_top.specs.Configuring.{Texts, AreReadOf}
 use Rattle.searchd_top.specs.Lending.{CountsOpening}
 use Rattle.searchd_top.specs.Sessions.{Says, ServesOne, WorkedOrFailed, Runs}
@@ -41,10 +41,10 @@ requested_then (Some first) (Some earlier) (Some all) requests more is then = th
 
 module _ {H D K : Type 0} (host : HostWords H D K) (door : DoorWords D K) (link : LinkWords K) where
   -- no door was taken
-  pub runs_none : (words : List (List ℕ)) (status : Status) (requests : List Request) (old new : H) → host.doors_given new ≡ host.doors_given old → host.doors_back new ≡ host.doors_back old
+  pub runs_none : (mode : Option Mode) (status : Status) (requests : List Request) (old new : H) → host.doors_given new ≡ host.doors_given old → host.doors_back new ≡ host.doors_back old
       → Requested (host.requests old) (host.requests new) requests
-      → Says status (host.text old) words door requests (host.faults old) (host.faults new) [] [] → Runs host door link words status old new
-  runs_none words status requests old new given back asked says = (
+      → Says status (host.text old) mode door requests (host.faults old) (host.faults new) [] [] → Runs host door link mode status old new
+  runs_none mode status requests old new given back asked says = (
     requests,
     asked,
     record {
@@ -114,7 +114,7 @@ module _ {H D K : Type 0} (host : HostWords H D K) (door : DoorWords D K) (link 
 
   -- a file that gave no configuration
   pub says_unconfigured : (texts : Texts) (file : List ℕ) (status : Status) (before now : ℕ) → Configures (texts file) (Err status) before now
-      → Says status texts (session file) door (ReadText file ∷ []) before now [] []
+      → Says status texts (Some (session file)) door (ReadText file ∷ []) before now [] []
   says_unconfigured texts file (Config line kind) before now (bytes, read, fault, still) =
       (refl, still, refl, record { bytes = bytes; read = record { file = file; named = refl; read = read }; is = fault })
   says_unconfigured texts file HostFault before now rose = inl (refl, (refl, rose))
@@ -125,7 +125,7 @@ module _ {H D K : Type 0} (host : HostWords H D K) (door : DoorWords D K) (link 
   -- what is said once the configuration was read
   pub says_served : (texts : Texts) (file bytes : List ℕ) (conf : Conf) (status : Status) (requests : List Request) (before now : ℕ) (doors after : List D)
       → AreReadOf (texts file) MAX_CONF_BYTES bytes → IsConfOf bytes conf
-      → SaysServing status door requests before now doors after → Says status texts (session file) door (ReadText file ∷ requests) before now doors after
+      → SaysServing status door requests before now doors after → Says status texts (Some (session file)) door (ReadText file ∷ requests) before now doors after
   says_served texts file bytes conf Done requests before now doors after read is (asked, still, one, work) = (ap (λ (list : List Request). ReadText file ∷ list) asked, still, one, work)
   says_served texts file bytes conf HostFault requests before now doors after read is (asked, failed) =
       inr (
@@ -143,7 +143,7 @@ module _ {H D K : Type 0} (host : HostWords H D K) (door : DoorWords D K) (link 
       → AreReadOf (host.text old file) MAX_CONF_BYTES bytes → IsConfOf bytes conf
       → host.doors_given between ≡ host.doors_given old → host.doors_back between ≡ host.doors_back old → host.faults between ≡ host.faults old
       → Requested (host.requests old) (host.requests between) (ReadText file ∷ [])
-      → ServesBy host door link conf.indexes status between new → Runs host door link (session file) status old new
+      → ServesBy host door link conf.indexes status between new → Runs host door link (Some (session file)) status old new
   runs_configured file bytes conf status old between new read is given back still asked (requests, more, hands) = (
     ReadText file ∷ requests,
     requested_then (host.requests old) (host.requests between) (host.requests new) (ReadText file ∷ []) requests asked more,
@@ -167,9 +167,9 @@ module _ {H D K : Type 0} (host : HostWords H D K) (door : DoorWords D K) (link 
   )
 
   -- a report changes nothing of what a status says
-  pub runs_reported : (words : List (List ℕ)) (status : Status) (old between new : H) → host.doors_given new ≡ host.doors_given between → host.doors_back new ≡ host.doors_back between
-      → host.faults new ≡ host.faults between → host.requests new ≡ host.requests between → Runs host door link words status old between → Runs host door link words status old new
-  runs_reported words status old between new given back still same (requests, asked, runs) = (
+  pub runs_reported : (mode : Option Mode) (status : Status) (old between new : H) → host.doors_given new ≡ host.doors_given between → host.doors_back new ≡ host.doors_back between
+      → host.faults new ≡ host.faults between → host.requests new ≡ host.requests between → Runs host door link mode status old between → Runs host door link mode status old new
+  runs_reported mode status old between new given back still same (requests, asked, runs) = (
     requests,
     subst (λ (told : Option (List Request)). Requested (host.requests old) told requests) (sym same) asked,
     record {
@@ -181,7 +181,7 @@ module _ {H D K : Type 0} (host : HostWords H D K) (door : DoorWords D K) (link 
         runs.holds.0,
         runs.holds.1,
         runs.holds.2,
-        subst (λ (n : ℕ). Says status (host.text old) words door requests (host.faults old) n runs.taken runs.returned) (sym still) runs.holds.3,
+        subst (λ (n : ℕ). Says status (host.text old) mode door requests (host.faults old) n runs.taken runs.returned) (sym still) runs.holds.3,
       );
     },
   )

@@ -1,4 +1,3 @@
 pub mod Handing
 pub mod Copies
-pub mod Arguments
 pub mod Lines

@@ -1,10 +1,14 @@
--- What the words after the program's name ask.
-use Rattle.std.specs.Prelude.{◌≡◌, ℕ, List, [], ◌∷◌, codes}
+-- What the words after the program's name ask of the program as it is built.
+use Rattle.std.specs.Prelude.{ℕ, List, Option, Some, None, option_and_then}
+use Rattle.command_line.specs.Modes.{Mode, mode, session, serve, check, selftest}
 
--- the words of a session by the file of this name
-abbrev pub session : List ℕ → List (List ℕ)
-session file = codes "session" ∷ codes "--config" ∷ file ∷ []
+-- The modes that are built, a row for each. The others ask for nothing yet.
+abbrev pub built : Mode → Option Mode
+built (session config) = Some (session config)
+built (serve config listen workers sessions) = None
+built (check config) = None
+built (selftest number docs) = None
 
--- a session: the words `session`, `--config` and a file's name
-abbrev pub AsksSession : List (List ℕ) → Type 0
-AsksSession words = (file : List ℕ) × (words ≡ session file)
+-- the mode that the words ask for, none where they are no mode or one that isn't built
+abbrev pub asked : List (List ℕ) → Option Mode
+asked words = option_and_then built (mode words)

@@ -1,5 +1,6 @@
 -- Requests to a host: for the texts of files, and for doors to clients.
-use Rattle.std.specs.Prelude.{◌≡◌, ⊤, ℕ, List, [], ◌∷◌, ◌++◌, Option, Some, None}
+use Rattle.std.specs.Prelude.{◌≡◌, ⊤, List, [], ◌∷◌, ◌++◌, Option, Some, None}
+use Rattle.command_line.specs.Modes.{Mode, session}
 use Rattle.searchd_top.specs.declared.requests.Request.{Request}
 use Rattle.searchd_top.specs.declared.requests.Request.TheVariants.{ReadText, OpenDoors}
 
@@ -9,7 +10,7 @@ Requested before None requests = ⊤
 Requested None (Some all) requests = ⊥
 Requested (Some earlier) (Some all) requests = all ≡ earlier ++ requests
 
--- The requests of a session with these words, in this order: the text of its file, and one door over the standard streams.
-abbrev pub requests_of : List (List ℕ) → List Request
-requests_of (mode ∷ option ∷ file ∷ []) = ReadText file ∷ OpenDoors None 1 ∷ []
-requests_of words = []
+-- The requests of a mode, in this order: of a session the text of its file, and one door over the standard streams.
+abbrev pub requests_of : Option Mode → List Request
+requests_of (Some (session file)) = ReadText file ∷ OpenDoors None 1 ∷ []
+requests_of mode = []

@@ -1,5 +1,5 @@
 -- What a run does with its doors and connections, and why it ends so.
-use Rattle.std.specs.Prelude.{◌≡◌, ◌⊎◌, ℕ, ◌≤◌, List, [], ◌∷◌, ◌++◌, true, length, take}
+use Rattle.std.specs.Prelude.{◌≡◌, ◌⊎◌, ℕ, ◌≤◌, List, [], ◌∷◌, ◌++◌, Option, true, length, take}
 use Rattle.std.specs.List.{AllZip}
 use Rattle.srch_base.specs.Counts.{Rose}
 use Rattle.srch_base.specs.declared.link.Link.{Ghosts as LinkWords}
@@ -10,6 +10,7 @@ use Rattle.ql_session.specs.Machines.{FollowAll}
 use Rattle.ql_session.specs.Session.{Session}
 use Rattle.srch_base.specs.Moves.{Moves}
 use Rattle.ql_session.specs.LinkEnd.{LinkEnd}
+use Rattle.command_line.specs.Modes.{Mode}
 use Rattle.searchd_top.specs.Configuring.{Texts, IsConfigured, IsMisconfigured}
 use Rattle.searchd_top.specs.Lending.{HandsBack, SomeZip}
 use Rattle.searchd_top.specs.Requests.{Requested, requests_of}
@@ -43,34 +44,34 @@ abbrev pub WorkedOrFailed : {D K : Type 0} → DoorWords D K → D → D → Typ
 WorkedOrFailed door old new = DidWork door old new ⊎ DoorFailed door old new
 
 -- The text of the file couldn't be read: the host's count rose, and nothing else was asked for.
-abbrev pub TextFailed : List (List ℕ) → List Request → ℕ → ℕ → Type 0
-TextFailed words requests before now = (requests ≡ take 1 (requests_of words)) × Rose before now
+abbrev pub TextFailed : Option Mode → List Request → ℕ → ℕ → Type 0
+TextFailed mode requests before now = (requests ≡ take 1 (requests_of mode)) × Rose before now
 
 -- The file is a configuration, and then the host opened no door, or the door failed.
-abbrev pub ServingFailed : {D K : Type 0} → Texts → List (List ℕ) → DoorWords D K → List Request → ℕ → ℕ → List D → List D → Type 0
-ServingFailed texts words door requests before now doors after =
-    (indexes : List IndexConf) × IsConfigured texts words indexes × (requests ≡ requests_of words) × (Rose before now ⊎ SomeZip (DoorFailed door) doors after)
+abbrev pub ServingFailed : {D K : Type 0} → Texts → Option Mode → DoorWords D K → List Request → ℕ → ℕ → List D → List D → Type 0
+ServingFailed texts mode door requests before now doors after =
+    (indexes : List IndexConf) × IsConfigured texts mode indexes × (requests ≡ requests_of mode) × (Rose before now ⊎ SomeZip (DoorFailed door) doors after)
 
--- What a status says of the words and the host's texts, of the requests that were made of the host and its count of faults, and of its doors before and after.
-abbrev pub Says : {D K : Type 0} → Status → Texts → List (List ℕ) → DoorWords D K → List Request → ℕ → ℕ → List D → List D → Type 0
-Says Done texts words door requests before now doors after =
-    (requests ≡ requests_of words) × (now ≡ before) × (length doors ≡ 1) × AllZip (DidWork door) doors after
-Says Usage texts words door requests before now doors after = (requests ≡ []) × (now ≡ before) × (doors ≡ [])
-Says (Config line kind) texts words door requests before now doors after =
-    (requests ≡ take 1 (requests_of words)) × (now ≡ before) × (doors ≡ []) × IsMisconfigured texts words (record { line = line; kind = kind })
-Says HostFault texts words door requests before now doors after =
-    ((doors ≡ []) × TextFailed words requests before now) ⊎ ServingFailed texts words door requests before now doors after
-Says NoMemory texts words door requests before now doors after = (count : ℕ) × (requests ≡ take count (requests_of words))
+-- What a status says of the mode and the host's texts, of the requests that were made of the host and its count of faults, and of its doors before and after.
+abbrev pub Says : {D K : Type 0} → Status → Texts → Option Mode → DoorWords D K → List Request → ℕ → ℕ → List D → List D → Type 0
+Says Done texts mode door requests before now doors after =
+    (requests ≡ requests_of mode) × (now ≡ before) × (length doors ≡ 1) × AllZip (DidWork door) doors after
+Says Usage texts mode door requests before now doors after = (requests ≡ []) × (now ≡ before) × (doors ≡ [])
+Says (Config line kind) texts mode door requests before now doors after =
+    (requests ≡ take 1 (requests_of mode)) × (now ≡ before) × (doors ≡ []) × IsMisconfigured texts mode (record { line = line; kind = kind })
+Says HostFault texts mode door requests before now doors after =
+    ((doors ≡ []) × TextFailed mode requests before now) ⊎ ServingFailed texts mode door requests before now doors after
+Says NoMemory texts mode door requests before now doors after = (count : ℕ) × (requests ≡ take count (requests_of mode))
 
--- No door was taken, or the words' file is a configuration, by whose indexes each door was served.
-abbrev pub ServesAll : {D K : Type 0} → Texts → List (List ℕ) → DoorWords D K → LinkWords K → List D → List D → Type 0
-ServesAll texts words door link doors after =
-    ((doors ≡ []) × (after ≡ [])) ⊎ ((indexes : List IndexConf) × IsConfigured texts words indexes × AllZip (ServesOne door link indexes) doors after)
+-- No door was taken, or the mode's file is a configuration, by whose indexes each door was served.
+abbrev pub ServesAll : {D K : Type 0} → Texts → Option Mode → DoorWords D K → LinkWords K → List D → List D → Type 0
+ServesAll texts mode door link doors after =
+    ((doors ≡ []) × (after ≡ [])) ⊎ ((indexes : List IndexConf) × IsConfigured texts mode indexes × AllZip (ServesOne door link indexes) doors after)
 
 -- A run: the host gave one door at most, which was served and handed back with its work done or its count risen, and the status says how it went and what the host was asked for.
-abbrev pub Runs : {H D K : Type 0} → HostWords H D K → DoorWords D K → LinkWords K → List (List ℕ) → Status → H → H → Type 0
-Runs host door link words status old new =
+abbrev pub Runs : {H D K : Type 0} → HostWords H D K → DoorWords D K → LinkWords K → Option Mode → Status → H → H → Type 0
+Runs host door link mode status old new =
     (requests : List Request) × Requested (host.requests old) (host.requests new) requests
     × HandsBack (host.doors_given old) (host.doors_given new) (host.doors_back old) (host.doors_back new) (λ doors after.
-    ServesAll (host.text old) words door link doors after × (length doors ≤ 1) × AllZip (WorkedOrFailed door) doors after
-    × Says status (host.text old) words door requests (host.faults old) (host.faults new) doors after)
+    ServesAll (host.text old) mode door link doors after × (length doors ≤ 1) × AllZip (WorkedOrFailed door) doors after
+    × Says status (host.text old) mode door requests (host.faults old) (host.faults new) doors after)

@@ -1,7 +1,6 @@
 //! The top call of the daemon: what its words ask is done through a host, and a status says how it went.
 #![tactic(auto)]
 
-mod command_line;
 mod host;
 mod memory_host;
 mod program;

@@ -1,17 +1,18 @@
 //! The top call: the words of the command line are looked at first, then the configuration is read, then a door is asked
 //! for and its connection served. The first refusal decides the status, and its line is printed to the errors.
-ghost use Rattle.std.specs.Prelude.{◌≡◌, ◌↔◌, ◌≤◌, [], ◌∷◌, length, map, string_bytes};
+ghost use Rattle.std.specs.Prelude.{◌≡◌, ◌↔◌, ◌≤◌, [], ◌∷◌, Some, None, length, map, string_bytes};
 ghost use Rattle.index_conf.specs.Soundness.{IsSound};
-ghost use Rattle.searchd_top.specs.CommandLine.{AsksSession, session};
+ghost use Rattle.command_line.specs.Modes.{session};
+ghost use Rattle.searchd_top.specs.CommandLine.{asked};
 ghost use Rattle.searchd_top.specs.Statuses.{line_of};
 ghost use Rattle.searchd_top.specs.Printing.{Reports};
 ghost use Rattle.searchd_top.specs.Requests.{Requested};
 ghost use Rattle.searchd_top.specs.Sessions.{Runs};
 ghost use Rattle.searchd_top.specs.steps.Halves.{Configures, ServesBy};
 
-use crate::command_line::session_file;
 use crate::serving::serve_one;
 use crate::{Host, Request, Status, Stream};
+use command_line::{Mode, read_mode};
 use conf_text::{ConfFault, MAX_CONF_BYTES, read_conf};
 use index_conf::Conf;
 use ql_session::PlainTables;
@@ -25,23 +26,37 @@ use std::alloc::Global;
 /// host and its door alone.
 pub fn searchd<H: Host>(alloc: Global, words: &[String], host: &mut H) -> Status
     requires { length (H.doors_back host.old) ≤ length (H.doors_given host.old) }
-    ensures usage { (result ≡ Status.Usage) ↔ ¬ AsksSession (map string_bytes words.now) }
-    ensures runs { Runs H.Host H.Entry.Door H.Entry.Line.Link (map string_bytes words.now) result host.old host.new }
+    ensures usage { (result ≡ Status.Usage) ↔ (asked (map string_bytes words.now) ≡ None) }
+    ensures runs { Runs H.Host H.Entry.Door H.Entry.Line.Link (asked (map string_bytes words.now)) result host.old host.new }
     ensures prints { Reports (line_of result) (H.printed host.old) (H.printed host.new) (H.print_faults host.old Stream.Err) (H.print_faults host.new Stream.Err) }
     ensures quiet { H.print_faults host.new Stream.Out ≡ H.print_faults host.old Stream.Out }
 {
-    let status = match session_file(words) {
-        Some(file) => run_session(alloc, file, host),
-        None => Status::Usage,
-    };
+    let status = run(alloc, words, host);
     report(status, host);
     status
+}
+
+/// Runs the mode that the words ask for. A mode that isn't built yet is Usage, as words are that ask for none.
+fn run<H: Host>(alloc: Global, words: &[String], host: &mut H) -> Status
+    requires { length (H.doors_back host.old) ≤ length (H.doors_given host.old) }
+    ensures usage { (result ≡ Status.Usage) ↔ (asked (map string_bytes words.now) ≡ None) }
+    ensures runs { Runs H.Host H.Entry.Door H.Entry.Line.Link (asked (map string_bytes words.now)) result host.old host.new }
+    ensures prints { H.printed host.new ≡ H.printed host.old }
+    ensures print_count { H.print_faults host.new ≡ H.print_faults host.old }
+{
+    match read_mode(words) {
+        Some(Mode::Session { config }) => run_session(alloc, config, host),
+        Some(Mode::Serve { .. }) => Status::Usage,
+        Some(Mode::Check { .. }) => Status::Usage,
+        Some(Mode::Selftest { .. }) => Status::Usage,
+        None => Status::Usage,
+    }
 }
 
 /// Reads the configuration, and serves one connection of one door by it.
 fn run_session<H: Host>(alloc: Global, file: &str, host: &mut H) -> Status
     requires { length (H.doors_back host.old) ≤ length (H.doors_given host.old) }
-    ensures runs { Runs H.Host H.Entry.Door H.Entry.Line.Link (session file.now) result host.old host.new }
+    ensures runs { Runs H.Host H.Entry.Door H.Entry.Line.Link (Some (session file.now)) result host.old host.new }
     ensures asked { ¬ (result ≡ Status.Usage) }
     ensures prints { H.printed host.new ≡ H.printed host.old }
     ensures print_count { H.print_faults host.new ≡ H.print_faults host.old }

@@ -1,12 +1,13 @@
 use Rattle.std.proofs.Common.{◌∷◌, []}
 use Rattle.searchd_top.proofs.Handing.{runs_configured, runs_none, says_unconfigured}
-use Rattle.searchd_top.specs.CommandLine.{session}
+use Rattle.std.specs.Prelude.{Some}
+use Rattle.command_line.specs.Modes.{session}
 use Rattle.searchd_top.specs.declared.requests.Request.TheVariants.{ReadText}
 use Rattle.searchd_top.proofs.program.run_session.Goals as goal
 
 pub returns-in-Err-clause-runs : goal.returns-in-Err-clause-runs
 returns-in-Err-clause-runs g c =
-    runs_none g.H.Host g.H.Entry.Door g.H.Entry.Line.Link (session c.args.file.now) c.in-Err.status (ReadText c.args.file.now ∷ []) c.args.host.now c.configure.new.host c.in-Err.ensures.gives c.in-Err.ensures.back c.in-Err.ensures.asks
+    runs_none g.H.Host g.H.Entry.Door g.H.Entry.Line.Link (Some (session c.args.file.now)) c.in-Err.status (ReadText c.args.file.now ∷ []) c.args.host.now c.configure.new.host c.in-Err.ensures.gives c.in-Err.ensures.back c.in-Err.ensures.asks
     (says_unconfigured g.H.Host g.H.Entry.Door g.H.Entry.Line.Link (g.H.Host.text c.args.host.now) c.args.file.now c.in-Err.status _ _ c.in-Err.ensures.configures)
 
 pub returns-in-Ok-clause-runs : goal.returns-in-Ok-clause-runs

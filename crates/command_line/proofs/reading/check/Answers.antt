@@ -1,0 +1,16 @@
+use Rattle.std.proofs.Common.{◌≡◌, true, false, map, option_map, string_bytes}
+use Rattle.command_line.specs.Modes.{check_of, check_options}
+use Rattle.command_line.specs.Reading.{said}
+use Rattle.command_line.specs.steps.Words.{are_options_in}
+use Rattle.command_line.proofs.Pairing.{options_read, no_options}
+use Rattle.command_line.proofs.reading.check.Goals as goal
+
+pub returns-then-are_options : goal.returns-then-are_options
+returns-then-are_options c =
+    let is : true ≡ are_options_in check_options (map string_bytes c.args.words.now) = c.if-are_options.ensures in
+    options_read check_options (map string_bytes c.args.words.now) check_of (option_map said c.check_of.result) is c.check_of.ensures
+
+pub returns-else-are_options : goal.returns-else-are_options
+returns-else-are_options c =
+    let is : false ≡ are_options_in check_options (map string_bytes c.args.words.now) = c.if-are_options.ensures in
+    no_options check_options (map string_bytes c.args.words.now) check_of is

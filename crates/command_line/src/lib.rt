@@ -1,0 +1,9 @@
+//! The words after the program's name: which mode of the daemon they ask for, with the values of its options.
+#![tactic(auto)]
+
+mod mode;
+mod options;
+mod reading;
+
+pub use mode::Mode;
+pub use reading::read_mode;
