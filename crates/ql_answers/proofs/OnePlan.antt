@@ -1,6 +1,6 @@
 -- A statement wants one thing or is refused for one reason, and never both: by cases on the statement, since a SELECT and an
 -- INSERT are read in one way.
-use Rattle.std.proofs.Common.{◌≡◌, ℕ, List, Option, false, sym, ap, ◌∙◌, inl, inr}
+use Rattle.std.proofs.Common.{◌≡◌, ℕ, List, Option, sym, ap, ◌∙◌, inl, inr}
 use Rattle.index_conf.specs.declared.conf.IndexConf.{IndexConf}
 use Rattle.doc_types.specs.declared.transactions.Txn.{Txn}
 use Rattle.ql_tree.specs.declared.select.Select.{Select}
@@ -13,14 +13,15 @@ use Rattle.ql_insert.specs.Insertions.{Makes, RefusesValues}
 use Rattle.ql_select.specs.declared.selection.Selection.{Selection}
 use Rattle.ql_select.specs.Selections.{RefusesSelection, Selects}
 use Rattle.ql_answers.specs.declared.plan.Plan.{Plan}
+use Rattle.ql_answers.specs.declared.plan.Plan.TheVariants.{Search, Show, Status}
 use Rattle.ql_answers.specs.declared.state.State.{State}
-use Rattle.ql_answers.specs.declared.plan.Plan.TheVariants.{Insert, Search, Show}
 use Rattle.ql_answers.specs.Indexes.{index_fault}
-use Rattle.ql_answers.specs.Plans.{Refuses, RefusesJob, Wants}
+use Rattle.ql_answers.specs.Plans.{Refuses, RefusesJob, Wants, autocommit_of}
 use Rattle.ql_answers.specs.Showing.{description}
-use Rattle.ql_answers.proofs.OneInsert.{not_refused_insert, one_insert, one_refused_insert}
+use Rattle.ql_answers.specs.Transactions.{killing}
 use Rattle.ql_answers.proofs.OneSearch.{not_searched, one_refused_select, one_search}
-use Rattle.ql_answers.proofs.OneServed.{not_served, one_conf}
+use Rattle.ql_answers.proofs.OneServed.{not_served, one_conf, one_place}
+use Rattle.ql_answers.proofs.OneWrite.{not_deleted, not_stored, not_truncated, one_delete, one_refused_delete, one_refused_store, one_refused_truncate, one_store, one_truncate}
 
 -- a job on an index has one refusal
 one_job : (confs : List IndexConf) (index : List ℕ) (a b : Refused) → RefusesJob confs index a → RefusesJob confs index b → a ≡ b
@@ -42,43 +43,50 @@ module _
       is ∙ (ap (λ (place : ℕ). Search place selection) same.0 ∙ ap (λ (s : Selection). Search q s) same.1) ∙ sym is'
   one_plan confs state (statements.SelectVar name limit) a b is is' = is ∙ sym is'
   one_plan confs state statements.SelectDatabase a b is is' = is ∙ sym is'
-  one_plan confs state (statements.Insert false index columns rows) a b (p, txn, wants, is) (q, other, wants', is') =
-      let same = one_insert one_txn one_values_fault not_refused_values confs index columns rows p q txn other wants wants' in
-      is ∙ (ap (λ (place : ℕ). Insert place txn) same.0 ∙ ap (λ (t : Txn). Insert q t) same.1) ∙ sym is'
+  one_plan confs state (statements.Insert replace index columns rows) a b wants wants' = one_store one_txn one_values_fault not_refused_values confs state replace index columns rows a b wants wants'
+  one_plan confs state (statements.Delete index ids) a b wants wants' = one_delete confs state index ids a b wants wants'
+  one_plan confs state statements.Begin a b is is' = is ∙ sym is'
+  one_plan confs state statements.StartTransaction a b is is' = is ∙ sym is'
+  one_plan confs state statements.Commit a b is is' = is ∙ sym is'
+  one_plan confs state statements.Rollback a b is is' = is ∙ sym is'
+  one_plan confs state (statements.SetAutocommit value) a b is is' = one_value (autocommit_of state value) a b is is'
   one_plan confs state (statements.SetNames names) a b is is' = is ∙ sym is'
   one_plan confs state (statements.SetOther scope target value) a b is is' = is ∙ sym is'
+  one_plan confs state (statements.TruncateRtindex index) a b wants wants' = one_truncate confs state index a b wants wants'
   one_plan confs state (statements.Describe index) a b (p, conf, serves, is) (q, other, serves', is') =
       is ∙ ap (λ (c : IndexConf). Show (description c.schema)) (one_conf confs index p q conf other serves serves') ∙ sym is'
+  one_plan confs state (statements.ShowIndexStatus index) a b (p, conf, serves, is) (q, other, serves', is') =
+      is ∙ ap Status (one_place confs index p q conf other serves serves') ∙ sym is'
   one_plan confs state statements.ShowTables a b is is' = is ∙ sym is'
   one_plan confs state statements.ShowWarnings a b is is' = is ∙ sym is'
+  one_plan confs state statements.ShowVariables a b is is' = is ∙ sym is'
   one_plan confs state statements.ShowDatabases a b is is' = is ∙ sym is'
   one_plan confs state statement a b wants wants' = absurd wants
 
   pub one_refusal : (confs : List IndexConf) (state : State) (statement : Statement) (a b : Refused) → Refuses confs state statement a → Refuses confs state statement b → a ≡ b
   one_refusal confs state (statements.Select select) a b refuses refuses' = one_refused_select one_selection one_selection_fault not_refused_selection confs select a b refuses refuses'
-  one_refusal confs state (statements.SelectVar name limit) a b refuses refuses' = absurd refuses
-  one_refusal confs state statements.SelectDatabase a b refuses refuses' = absurd refuses
-  one_refusal confs state (statements.Insert false index columns rows) a b refuses refuses' = one_refused_insert one_txn one_values_fault not_refused_values confs index columns rows a b refuses refuses'
-  one_refusal confs state (statements.SetNames names) a b refuses refuses' = absurd refuses
-  one_refusal confs state (statements.SetOther scope target value) a b refuses refuses' = absurd refuses
+  one_refusal confs state (statements.Insert replace index columns rows) a b refuses refuses' = one_refused_store one_txn one_values_fault not_refused_values confs state replace index columns rows a b refuses refuses'
+  one_refusal confs state (statements.Delete index ids) a b refuses refuses' = one_refused_delete confs state index (killing ids) a b refuses refuses'
+  one_refusal confs state (statements.SetAutocommit value) a b (other, says) (other', says') = says ∙ sym says'
+  one_refusal confs state (statements.TruncateRtindex index) a b refuses refuses' = one_refused_truncate confs state index a b refuses refuses'
   one_refusal confs state (statements.Describe index) a b fault fault' = one_value (index_fault confs index) a b fault fault'
-  one_refusal confs state statements.ShowTables a b refuses refuses' = absurd refuses
-  one_refusal confs state statements.ShowWarnings a b refuses refuses' = absurd refuses
-  one_refusal confs state statements.ShowDatabases a b refuses refuses' = absurd refuses
+  one_refusal confs state (statements.ShowIndexStatus index) a b fault fault' = one_value (index_fault confs index) a b fault fault'
   one_refusal confs state (statements.FlushRamchunk index) a b refuses refuses' = one_job confs index a b refuses refuses'
   one_refusal confs state (statements.FlushRtindex index) a b refuses refuses' = one_job confs index a b refuses refuses'
   one_refusal confs state (statements.OptimizeIndex index) a b refuses refuses' = one_job confs index a b refuses refuses'
-  one_refusal confs state statement a b says says' = says ∙ sym says'
+  one_refusal confs state statements.ShowMeta a b says says' = says ∙ sym says'
+  one_refusal confs state statement a b refuses refuses' = absurd refuses
 
   pub never_both : (confs : List IndexConf) (state : State) (statement : Statement) (plan : Plan) (refusal : Refused) → Wants confs state statement plan → Refuses confs state statement refusal → ⊥
   never_both confs state (statements.Select select) plan refusal (place, selection, wants, is) refuses = not_searched one_selection one_selection_fault not_refused_selection confs select place selection refusal wants refuses
-  never_both confs state (statements.SelectVar name limit) plan refusal wants refuses = refuses
-  never_both confs state statements.SelectDatabase plan refusal wants refuses = refuses
-  never_both confs state (statements.Insert false index columns rows) plan refusal (place, txn, wants, is) refuses = not_refused_insert one_txn one_values_fault not_refused_values confs index columns rows place txn refusal wants refuses
-  never_both confs state (statements.SetNames names) plan refusal wants refuses = refuses
-  never_both confs state (statements.SetOther scope target value) plan refusal wants refuses = refuses
+  never_both confs state (statements.Insert replace index columns rows) plan refusal wants refuses = not_stored one_txn one_values_fault not_refused_values confs state replace index columns rows plan refusal wants refuses
+  never_both confs state (statements.Delete index ids) plan refusal wants refuses = not_deleted confs state index ids plan refusal wants refuses
+  never_both confs state (statements.SetAutocommit value) plan refusal wants (other, says) = not_both (autocommit_of state value) plan other wants
+  never_both confs state (statements.TruncateRtindex index) plan refusal wants refuses = not_truncated confs state index plan refusal wants refuses
   never_both confs state (statements.Describe index) plan refusal (place, conf, serves, is) fault = not_served confs index place conf refusal serves fault
-  never_both confs state statements.ShowTables plan refusal wants refuses = refuses
-  never_both confs state statements.ShowWarnings plan refusal wants refuses = refuses
-  never_both confs state statements.ShowDatabases plan refusal wants refuses = refuses
-  never_both confs state statement plan refusal wants refuses = wants
+  never_both confs state (statements.ShowIndexStatus index) plan refusal (place, conf, serves, is) fault = not_served confs index place conf refusal serves fault
+  never_both confs state (statements.FlushRamchunk index) plan refusal wants refuses = wants
+  never_both confs state (statements.FlushRtindex index) plan refusal wants refuses = wants
+  never_both confs state (statements.OptimizeIndex index) plan refusal wants refuses = wants
+  never_both confs state statements.ShowMeta plan refusal wants refuses = wants
+  never_both confs state statement plan refusal wants refuses = refuses

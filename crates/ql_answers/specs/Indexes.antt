@@ -1,8 +1,8 @@
 -- Indexes, as statements name them.
-use Rattle.std.specs.Prelude.{◌≡◌, ℕ, zero, suc, ◌+◌, List, [], ◌∷◌, Option, Some, None, slice_get, if◌then◌else◌}
+use Rattle.std.specs.Prelude.{◌≡◌, ℕ, ◌+◌, List, [], ◌∷◌, Option, Some, None, slice_get, if◌then◌else◌}
 use Rattle.std.specs.Str.{bytes_eq}
 use Rattle.index_conf.specs.declared.conf.IndexConf.{IndexConf}
-use Rattle.ql_refusals.specs.Refusals.{Refused, unknown_index, not_offered}
+use Rattle.ql_refusals.specs.Refusals.{Refused, unknown_index}
 
 -- the place of the index with a name, the first of these indexes standing at this place
 abbrev pub place_from : ℕ → List IndexConf → List ℕ → Option ℕ
@@ -12,13 +12,11 @@ place_from place (conf ∷ confs) name = if bytes_eq conf.schema.name name then 
 abbrev pub place_of : List IndexConf → List ℕ → Option ℕ
 place_of confs name = place_from 0 confs name
 
--- the index at a place isn't served
+-- why no statement of this index is run: it isn't there
 abbrev pub place_fault : Option ℕ → List ℕ → Option Refused
 place_fault None name = Some (unknown_index name)
-place_fault (Some zero) name = None
-place_fault (Some (suc place)) name = Some not_offered
+place_fault (Some place) name = None
 
--- why no statement of this index is run: it isn't there, or it isn't the first one
 abbrev pub index_fault : List IndexConf → List ℕ → Option Refused
 index_fault confs name = place_fault (place_of confs name) name
 

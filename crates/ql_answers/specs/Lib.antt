@@ -1,8 +1,12 @@
 -- indexes, as statements name them
 pub mod Indexes
+-- operations that wait for their commit
+pub mod Pending
 -- the state of a session
 pub mod States
--- INSERT
+-- statements that write, and those that end a transaction
+pub mod Transactions
+-- INSERT and REPLACE
 pub mod Writing
 -- replies and their packets
 pub mod Replies

@@ -1,18 +1,29 @@
 -- What a statement wants, or why it is refused, by its text, the configuration and the session's state alone.
-use Rattle.std.specs.Prelude.{◌≡◌, ◌⊎◌, ℕ, List, false, Some, None}
+use Rattle.std.specs.Prelude.{◌≡◌, ◌⊎◌, ℕ, zero, suc, List, codes, true, false, Option, Some, None}
 use Rattle.doc_types.specs.declared.transactions.Txn.{Txn}
 use Rattle.index_conf.specs.declared.conf.IndexConf.{IndexConf}
 use Rattle.ql_tree.specs.declared.statement.Statement.{Statement}
 use Rattle.ql_tree.specs.declared.statement.Statement.TheVariants as statements
 use Rattle.ql_select.specs.declared.selection.Selection.{Selection}
 use Rattle.ql_answers.specs.declared.plan.Plan.{Plan}
-use Rattle.ql_answers.specs.declared.plan.Plan.TheVariants.{Agree, Show, Search, Insert}
+use Rattle.ql_answers.specs.declared.plan.Plan.TheVariants.{Agree, Show, Search, Status, Put}
+use Rattle.ql_answers.specs.declared.plan.Counted.TheVariants.{Rows, Removed, Nothing}
+use Rattle.ql_answers.specs.declared.turn.Turn.TheVariants.{Stays, Opens, Ends, Sets}
 use Rattle.ql_answers.specs.Indexes.{index_fault, Serves}
-use Rattle.ql_refusals.specs.Refusals.{Refused, not_offered}
+use Rattle.ql_refusals.specs.Refusals.{Refused, not_offered, transaction_open, value_out_of_range}
 use Rattle.ql_answers.specs.declared.state.State.{State}
+use Rattle.ql_answers.specs.Pending.{PendingValue}
 use Rattle.ql_answers.specs.Reading.{WantsSearch, RefusesSelect}
-use Rattle.ql_answers.specs.Showing.{variable, current_database, databases, warnings, tables, description}
-use Rattle.ql_answers.specs.Writing.{WantsInsert, RefusesInsert}
+use Rattle.ql_answers.specs.Showing.{variable, variables, current_database, databases, warnings, tables, description}
+use Rattle.ql_answers.specs.States.{is_open}
+use Rattle.ql_answers.specs.Transactions.{clearing, commit_of, killing, write_fault, written}
+use Rattle.ql_answers.specs.Writing.{WantsStore, RefusesStore}
+
+-- SET AUTOCOMMIT wants this, for 0 and 1
+abbrev pub autocommit_of : State → ℕ → Option Plan
+autocommit_of state zero = Some (Agree (Sets false))
+autocommit_of state (suc zero) = Some (commit_of state.pending (Sets true))
+autocommit_of state (suc (suc value)) = None
 
 -- What a statement wants. A statement that isn't listed wants nothing: it is refused.
 abbrev pub Wants : List IndexConf → State → Statement → Plan → Type 0
@@ -20,13 +31,24 @@ Wants confs state (statements.Select select) plan =
     (place : ℕ) × (selection : Selection) × WantsSearch confs select place selection × (plan ≡ Search place selection)
 Wants confs state (statements.SelectVar name limit) plan = plan ≡ Show (variable name limit)
 Wants confs state statements.SelectDatabase plan = plan ≡ Show current_database
-Wants confs state (statements.Insert false index columns rows) plan =
-    (place : ℕ) × (txn : Txn) × WantsInsert confs index columns rows place txn × (plan ≡ Insert place txn)
-Wants confs state (statements.SetNames names) plan = plan ≡ Agree
-Wants confs state (statements.SetOther scope target value) plan = plan ≡ Agree
+Wants confs state (statements.Insert replace index columns rows) plan =
+    (place : ℕ) × (txn : Txn) × WantsStore confs replace index columns rows place txn × (write_fault state place txn ≡ None) × (plan ≡ written state place txn Rows)
+Wants confs state (statements.Delete index ids) plan =
+    (place : ℕ) × (conf : IndexConf) × Serves confs index place conf × (write_fault state place (killing ids) ≡ None) × (plan ≡ written state place (killing ids) Removed)
+Wants confs state statements.Begin plan = plan ≡ commit_of state.pending Opens
+Wants confs state statements.StartTransaction plan = plan ≡ commit_of state.pending Opens
+Wants confs state statements.Commit plan = plan ≡ commit_of state.pending Ends
+Wants confs state statements.Rollback plan = plan ≡ Agree Ends
+Wants confs state (statements.SetAutocommit value) plan = autocommit_of state value ≡ Some plan
+Wants confs state (statements.SetNames names) plan = plan ≡ Agree Stays
+Wants confs state (statements.SetOther scope target value) plan = plan ≡ Agree Stays
+Wants confs state (statements.TruncateRtindex index) plan =
+    (place : ℕ) × (conf : IndexConf) × Serves confs index place conf × (is_open state ≡ false) × (plan ≡ Put place clearing Nothing)
 Wants confs state (statements.Describe index) plan = (place : ℕ) × (conf : IndexConf) × Serves confs index place conf × (plan ≡ Show (description conf.schema))
+Wants confs state (statements.ShowIndexStatus index) plan = (place : ℕ) × (conf : IndexConf) × Serves confs index place conf × (plan ≡ Status place)
 Wants confs state statements.ShowTables plan = plan ≡ Show (tables confs)
 Wants confs state statements.ShowWarnings plan = plan ≡ Show warnings
+Wants confs state statements.ShowVariables plan = plan ≡ Show (variables state.autocommit)
 Wants confs state statements.ShowDatabases plan = plan ≡ Show databases
 Wants confs state statement plan = ⊥
 
@@ -34,31 +56,61 @@ Wants confs state statement plan = ⊥
 abbrev pub RefusesJob : List IndexConf → List ℕ → Refused → Type 0
 RefusesJob confs index refusal = (index_fault confs index ≡ Some refusal) ⊎ ((index_fault confs index ≡ None) × (refusal ≡ not_offered))
 
+-- A DELETE is refused by its index, or by what is pending and the limits of a transaction.
+abbrev pub RefusesDelete : List IndexConf → State → List ℕ → Txn → Refused → Type 0
+RefusesDelete confs state index txn refusal =
+    (index_fault confs index ≡ Some refusal)
+    ⊎ ((place : ℕ) × (conf : IndexConf) × Serves confs index place conf × (write_fault state place txn ≡ Some refusal))
+
+-- A TRUNCATE is refused by its index, or since a transaction is open.
+abbrev pub RefusesTruncate : List IndexConf → State → List ℕ → Refused → Type 0
+RefusesTruncate confs state index refusal =
+    (index_fault confs index ≡ Some refusal) ⊎ ((index_fault confs index ≡ None) × (is_open state ≡ true) × (refusal ≡ transaction_open))
+
 -- Why a statement is refused.
 abbrev pub Refuses : List IndexConf → State → Statement → Refused → Type 0
 Refuses confs state (statements.Select select) refusal = RefusesSelect confs select refusal
 Refuses confs state (statements.SelectVar name limit) refusal = ⊥
 Refuses confs state statements.SelectDatabase refusal = ⊥
-Refuses confs state (statements.Insert false index columns rows) refusal = RefusesInsert confs index columns rows refusal
+Refuses confs state (statements.Insert replace index columns rows) refusal =
+    RefusesStore confs index columns rows refusal
+    ⊎ ((place : ℕ) × (txn : Txn) × WantsStore confs replace index columns rows place txn × (write_fault state place txn ≡ Some refusal))
+Refuses confs state (statements.Delete index ids) refusal = RefusesDelete confs state index (killing ids) refusal
+Refuses confs state statements.Begin refusal = ⊥
+Refuses confs state statements.StartTransaction refusal = ⊥
+Refuses confs state statements.Commit refusal = ⊥
+Refuses confs state statements.Rollback refusal = ⊥
+Refuses confs state (statements.SetAutocommit value) refusal = (autocommit_of state value ≡ None) × (refusal ≡ value_out_of_range (codes "autocommit"))
 Refuses confs state (statements.SetNames names) refusal = ⊥
 Refuses confs state (statements.SetOther scope target value) refusal = ⊥
-Refuses confs state (statements.Describe index) refusal = index_fault confs index ≡ Some refusal
-Refuses confs state statements.ShowTables refusal = ⊥
-Refuses confs state statements.ShowWarnings refusal = ⊥
-Refuses confs state statements.ShowDatabases refusal = ⊥
 Refuses confs state (statements.FlushRamchunk index) refusal = RefusesJob confs index refusal
 Refuses confs state (statements.FlushRtindex index) refusal = RefusesJob confs index refusal
 Refuses confs state (statements.OptimizeIndex index) refusal = RefusesJob confs index refusal
-Refuses confs state statement refusal = refusal ≡ not_offered
+Refuses confs state (statements.TruncateRtindex index) refusal = RefusesTruncate confs state index refusal
+Refuses confs state (statements.Describe index) refusal = index_fault confs index ≡ Some refusal
+Refuses confs state (statements.ShowIndexStatus index) refusal = index_fault confs index ≡ Some refusal
+Refuses confs state statements.ShowMeta refusal = refusal ≡ not_offered
+Refuses confs state statements.ShowTables refusal = ⊥
+Refuses confs state statements.ShowWarnings refusal = ⊥
+Refuses confs state statements.ShowVariables refusal = ⊥
+Refuses confs state statements.ShowDatabases refusal = ⊥
 
--- Memory is wanted to find out what the statement wants.
-abbrev pub TakesMemory : Statement → Type 0
-TakesMemory (statements.Select select) = Unit {0}
-TakesMemory (statements.SelectVar name limit) = Unit {0}
-TakesMemory statements.SelectDatabase = Unit {0}
-TakesMemory (statements.Insert false index columns rows) = Unit {0}
-TakesMemory (statements.Describe index) = Unit {0}
-TakesMemory statements.ShowTables = Unit {0}
-TakesMemory statements.ShowWarnings = Unit {0}
-TakesMemory statements.ShowDatabases = Unit {0}
-TakesMemory statement = ⊥
+-- Something is pending.
+abbrev pub HasPending : Option PendingValue → Type 0
+HasPending None = ⊥
+HasPending (Some pending) = Unit {0}
+
+-- Memory is wanted to find out what the statement wants, or to do it.
+abbrev pub TakesMemory : State → Statement → Type 0
+TakesMemory state statements.Begin = HasPending state.pending
+TakesMemory state statements.StartTransaction = HasPending state.pending
+TakesMemory state statements.Commit = HasPending state.pending
+TakesMemory state statements.Rollback = ⊥
+TakesMemory state (statements.SetAutocommit value) = HasPending state.pending
+TakesMemory state (statements.SetNames names) = ⊥
+TakesMemory state (statements.SetOther scope target value) = ⊥
+TakesMemory state (statements.FlushRamchunk index) = ⊥
+TakesMemory state (statements.FlushRtindex index) = ⊥
+TakesMemory state (statements.OptimizeIndex index) = ⊥
+TakesMemory state statements.ShowMeta = ⊥
+TakesMemory state statement = Unit {0}

@@ -1,5 +1,7 @@
 -- Sessions: what is kept between statements, and what is replied to one by what the outside did.
 use Rattle.std.specs.Prelude.{◌≡◌, ◌≢◌, ℕ, List, All, Result, Ok, Err, length, Bool, true, false, Option, Some, None}
+use Rattle.std.specs.FinMap as finite
+use Rattle.std.specs.List.{count_by}
 use Rattle.doc_types.specs.declared.schema.Schema.{Schema}
 use Rattle.doc_types.specs.declared.transactions.Txn.{Txn}
 use Rattle.doc_types.specs.Documents.{AreRowsOf}
@@ -15,7 +17,9 @@ use Rattle.ql_answers.specs.declared.event.Need.TheVariants as needs
 use Rattle.ql_answers.specs.declared.event.Event.{Event}
 use Rattle.ql_answers.specs.declared.event.Event.TheVariants as events
 use Rattle.ql_answers.specs.declared.plan.Plan.{Plan}
-use Rattle.ql_answers.specs.declared.plan.Plan.TheVariants.{Agree, Show, Search, Insert}
+use Rattle.ql_answers.specs.declared.plan.Counted.{Counted}
+use Rattle.ql_answers.specs.declared.plan.Counted.TheVariants as counting
+use Rattle.ql_answers.specs.declared.plan.Plan.TheVariants.{Agree, Show, Search, Status, Keep, Put, Commit}
 use Rattle.ql_answers.specs.Plans.{Wants, Refuses, TakesMemory}
 use Rattle.ql_refusals.specs.Refusals.{Refused, no_memory, duplicate_id, index_full}
 use Rattle.doc_search.specs.declared.question.Question.{Question}
@@ -23,7 +27,9 @@ use Rattle.doc_search.specs.Searches.{AreShown, IsAskedOf}
 use Rattle.row_select.specs.declared.row.Row.{Row}
 use Rattle.ql_answers.specs.Reading.{set_of}
 use Rattle.ql_answers.specs.declared.state.State.{State}
-use Rattle.ql_answers.specs.States.{status_of}
+use Rattle.ql_answers.specs.Showing.{index_status}
+use Rattle.ql_answers.specs.States.{finished, kept, pending_txn, status_of, turned}
+use Rattle.ql_answers.specs.Transactions.{affected}
 use Rattle.reply_rows.specs.Written.{Written}
 use Rattle.ql_answers.specs.Replies.{Reply, Done, Shows, Fails, replied}
 
@@ -42,14 +48,18 @@ at_plan state plan = record { state = state; plan = Some plan }
 
 -- what a plan wants of the outside
 abbrev pub need_of : Plan → Need
-need_of Agree = needs.Nothing
+need_of (Agree turn) = needs.Nothing
 need_of (Show set) = needs.Nothing
 need_of (Search place selection) = needs.Read place
-need_of (Insert place txn) = needs.Commit place
+need_of (Status place) = needs.Read place
+need_of (Keep place txn affected) = needs.Nothing
+need_of (Put place txn counted) = needs.Commit place
+need_of (Commit place turn) = needs.Commit place
 
 -- the transaction that a plan wants to be committed
 abbrev pub pending_of : State → Plan → Option Txn
-pending_of state (Insert place txn) = Some txn
+pending_of state (Put place txn counted) = Some txn
+pending_of state (Commit place turn) = pending_txn state.pending
 pending_of state plan = None
 
 -- What the outside did, by what it was asked for.
@@ -57,78 +67,101 @@ pub data Happened : Type 0 where
   Nothing : Happened
   NoMemory : Happened
   Read : (front : SnapshotValue) → Happened
-  Commit : (outcome : CommitOutcome) → Happened
+  Committing : (outcome : CommitOutcome) → Happened
 
 -- The documents, where they were read, have layers as a snapshot has them: no id lives twice.
 abbrev pub HasLayers : Happened → Type 0
 HasLayers (Read front) = AreLayers front.layers
 HasLayers happened = Unit {0}
 
--- The same happened, as far as a client can see: the same documents were read, whatever layers hold them, or a commit had the
--- same outcome.
-abbrev pub AreAlike : Happened → Happened → Type 0
-AreAlike Nothing Nothing = Unit {0}
-AreAlike NoMemory NoMemory = Unit {0}
-AreAlike (Read front) (Read other) = AreLayers front.layers × AreLayers other.layers × (live front ≡ live other)
-AreAlike (Commit outcome) (Commit other) = outcome ≡ other
-AreAlike happened other = ⊥
+-- how many chunks are on the disk
+abbrev pub disk_count : SnapshotValue → ℕ
+disk_count front = count_by (λ layer. layer.disk) front.layers
+
+-- Layers are alike to a plan: SHOW INDEX STATUS alone sees of them how many are on the disk.
+abbrev pub LookAlike : Plan → SnapshotValue → SnapshotValue → Type 0
+LookAlike (Status place) front other = disk_count front ≡ disk_count other
+LookAlike plan front other = Unit {0}
+
+-- The same happened to a plan, as far as a client can see: the same documents were read, whatever layers hold them, or a commit had
+-- the same outcome.
+abbrev pub AreAlike : Plan → Happened → Happened → Type 0
+AreAlike plan Nothing Nothing = Unit {0}
+AreAlike plan NoMemory NoMemory = Unit {0}
+AreAlike plan (Read front) (Read other) = AreLayers front.layers × AreLayers other.layers × (live front ≡ live other) × LookAlike plan front other
+AreAlike plan (Committing outcome) (Committing other) = outcome ≡ other
+AreAlike plan happened other = ⊥
 
 -- what a call learns of it
 abbrev pub happened_by : {C : Type 0} → Event C → Happened
 happened_by events.Nothing = Nothing
 happened_by events.NoMemory = NoMemory
 happened_by (events.Read front) = Read front.now
-happened_by (events.Commit outcome) = Commit outcome
+happened_by (events.Commit outcome) = Committing outcome
 
 -- The question is asked of the index whose rows these are.
 abbrev pub CanSearch : Question → SnapshotValue → Type 0
 CanSearch question front = (schema : Schema) × IsAskedOf schema question × All (λ layer. AreRowsOf schema layer.rows) front.layers
 
--- what is replied to a commit that would affect so many rows
-abbrev pub reply_to_commit : ℕ → CommitOutcome → Reply
-reply_to_commit affected (outcomes.Committed removed) = Done affected
-reply_to_commit affected (outcomes.Duplicate id) = Fails (duplicate_id id)
-reply_to_commit affected (outcomes.Full full) = Fails (index_full full)
+-- what is replied to a commit for which a text has so many rows
+abbrev pub reply_to_commit : Counted → ℕ → CommitOutcome → Reply
+reply_to_commit counted rows (outcomes.Committed removed) = Done (affected counted rows removed)
+reply_to_commit counted rows (outcomes.Duplicate id) = Fails (duplicate_id id)
+reply_to_commit counted rows (outcomes.Full full) = Fails (index_full full)
 
 -- What is replied to a plan by what happened.
 abbrev pub Decides : Plan → Happened → Reply → Type 0
 Decides plan NoMemory reply = reply ≡ Fails no_memory
-Decides Agree Nothing reply = reply ≡ Done 0
+Decides (Agree turn) Nothing reply = reply ≡ Done 0
 Decides (Show set) Nothing reply = reply ≡ Shows set
 Decides (Search place selection) (Read front) reply =
     (rows : List Row) × AreShown selection.question (all_living front.layers) rows × (reply ≡ Shows (set_of selection.shown rows))
-Decides (Insert place txn) (Commit outcome) reply = reply ≡ reply_to_commit (length txn.ops) outcome
+Decides (Status place) (Read front) reply = reply ≡ Shows (index_status (finite.len (live front)) (disk_count front))
+Decides (Keep place txn affected) Nothing reply = reply ≡ Done affected
+Decides (Put place txn counted) (Committing outcome) reply = reply ≡ reply_to_commit counted (length txn.ops) outcome
+Decides (Commit place turn) (Committing outcome) reply = reply ≡ reply_to_commit counting.Nothing 0 outcome
 Decides plan happened reply = ⊥
 
 -- what a session is after a plan, by what happened
 abbrev pub next_of : Plan → Happened → State → State
+next_of (Agree turn) Nothing state = turned turn state
+next_of (Keep place txn affected) Nothing state = kept place txn.ops state
+next_of (Commit place turn) (Committing outcome) state = finished turn outcome state
 next_of plan happened state = state
 
 -- This can happen to a plan.
 abbrev pub CanHave : Plan → Happened → Type 0
 CanHave plan NoMemory = Unit {0}
-CanHave Agree Nothing = Unit {0}
+CanHave (Agree turn) Nothing = Unit {0}
 CanHave (Show set) Nothing = Unit {0}
 CanHave (Search place selection) (Read front) = CanSearch selection.question front
-CanHave (Insert place txn) (Commit outcome) = Unit {0}
+CanHave (Status place) (Read front) = Unit {0}
+CanHave (Keep place txn affected) Nothing = Unit {0}
+CanHave (Put place txn counted) (Committing outcome) = Unit {0}
+CanHave (Commit place turn) (Committing outcome) = Unit {0}
 CanHave plan happened = ⊥
 
--- memory may be refused to the reply to a plan: it isn't one packet
+-- the reply is a result set, for which memory may be refused
+abbrev pub shows_rows : Plan → Bool
+shows_rows (Show set) = true
+shows_rows (Search place selection) = true
+shows_rows (Status place) = true
+shows_rows plan = false
+
+-- memory may be refused to the reply to a plan, or to what is kept before it
 abbrev pub reply_takes_memory : Plan → Bool
-reply_takes_memory Agree = false
-reply_takes_memory (Show set) = true
-reply_takes_memory (Search place selection) = true
-reply_takes_memory (Insert place txn) = false
+reply_takes_memory (Keep place txn affected) = true
+reply_takes_memory plan = shows_rows plan
 
 -- What `need` answers, and what the session is then.
 abbrev pub Needs : List IndexConf → Standing → Statement → Result Need (Or Refused) → Standing → Type 0
 Needs confs old statement (Ok need) new =
     (plan : Plan) × Wants confs old.state statement plan × (need ≡ need_of plan) × (new ≡ at_plan old.state plan)
-Needs confs old statement (Err causes.NoMemory) new = TakesMemory statement × (new ≡ at_rest old.state)
+Needs confs old statement (Err causes.NoMemory) new = TakesMemory old.state statement × (new ≡ at_rest old.state)
 Needs confs old statement (Err (causes.Fault refusal)) new = Refuses confs old.state statement refusal × (new ≡ at_rest old.state)
 
 -- What `reply` answers, what is written then, and what the session is. The status of the packets is that of the session afterwards.
--- Memory is refused to replies alone that are result sets, and not to what says that memory was refused.
+-- Memory is refused to result sets and to operations that are pending from then on, and not to what says that memory was refused.
 abbrev pub Replied : {T E : Type 0} → Standing → Happened → Bool → Result T E → Written → Written → Standing → Type 0
 Replied old happened more (Ok done) before after new =
     (plan : Plan) × (reply : Reply) × (old.plan ≡ Some plan) × Decides plan happened reply × (after ≡ replied before (status_of new.state more) reply)

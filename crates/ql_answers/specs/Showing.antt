@@ -1,6 +1,6 @@
 -- What SHOW, DESCRIBE and SELECT of a variable show. "SHOW TABLES syntax", "DESCRIBE syntax" and "SELECT @@system_variable
 -- syntax" of the manual.
-use Rattle.std.specs.Prelude.{ℕ, List, [], ◌∷◌, ◌++◌, map, take, codes, Option, Some, None, if◌then◌else◌}
+use Rattle.std.specs.Prelude.{ℕ, Bool, decimal, List, [], ◌∷◌, ◌++◌, map, take, codes, Option, Some, None, if◌then◌else◌}
 use Rattle.std.specs.Str.{bytes_eq}
 use Rattle.doc_types.specs.declared.schema.Schema.{Schema}
 use Rattle.doc_types.specs.declared.schema.AttrKind.{AttrKind}
@@ -35,6 +35,16 @@ databases = texts (codes "Database" ∷ []) []
 -- SHOW WARNINGS: there are none
 abbrev pub warnings : ResultSet
 warnings = texts (codes "Level" ∷ codes "Code" ∷ codes "Message" ∷ []) []
+
+-- SHOW VARIABLES
+abbrev pub variables : Bool → ResultSet
+variables autocommit = texts (codes "Variable_name" ∷ codes "Value" ∷ []) (pair (codes "autocommit") (if autocommit then codes "1" else codes "0") ∷ [])
+
+-- SHOW INDEX STATUS: how many documents live, and how many chunks are on the disk
+abbrev pub index_status : ℕ → ℕ → ResultSet
+index_status documents chunks =
+    texts (codes "Variable_name" ∷ codes "Value" ∷ [])
+    (pair (codes "index_type") (codes "rt") ∷ pair (codes "indexed_documents") (decimal documents) ∷ pair (codes "disk_chunks") (decimal chunks) ∷ [])
 
 -- SHOW TABLES: the indexes in the order of the configuration
 abbrev pub tables : List IndexConf → ResultSet

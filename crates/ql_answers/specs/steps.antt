@@ -1,3 +1,4 @@
 pub mod Serving
 pub mod Planning
 pub mod Answering
+pub mod Turning

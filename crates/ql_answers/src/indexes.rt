@@ -6,7 +6,7 @@ ghost use Rattle.ql_answers.specs.Indexes.{place_of};
 ghost use Rattle.ql_answers.specs.steps.Serving.{ServedOr};
 
 use index_conf::IndexConf;
-use ql_refusals::{Refusal, not_offered, unknown_index};
+use ql_refusals::{Refusal, unknown_index};
 
 /// The indexes that statements may name, in the order of the configuration.
 pub trait Catalog {
@@ -38,13 +38,12 @@ fn place_of<T: Catalog>(catalog: &T, name: &[u8]) -> Option<u16>
     None
 }
 
-/// The place of the index with this name, whose statements are run.
+/// The place of the index with this name, or why there is none.
 pub(crate) fn served<T: Catalog>(catalog: &T, name: &[u8]) -> Result<u16, Refusal>
     ensures { ServedOr (T.confs catalog.now) name.now result }
 {
     match place_of(catalog, name) {
         None => Err(unknown_index(name)),
-        Some(0) => Ok(0),
-        Some(_) => Err(not_offered()),
+        Some(place) => Ok(place),
     }
 }

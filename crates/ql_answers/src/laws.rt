@@ -25,10 +25,11 @@ pub fn a_statement_has_one_plan()
 }
 
 /// What came of a plan has one reply and leaves the session in one state. What is replied to a search depends on the documents
-/// alone, by their ids, whatever layers and chunks hold them.
+/// alone, by their ids, whatever layers and chunks hold them; what is replied to SHOW INDEX STATUS, besides on how many of these
+/// chunks are on the disk.
 pub fn a_plan_has_one_reply()
-    ensures reply { (plan : Plan) (happened other : Happened) (a b : Reply) → AreAlike happened other → Decides plan happened a → Decides plan other b → a ≡ b }
-    ensures state { (plan : Plan) (happened other : Happened) (state : State) → AreAlike happened other → next_of plan happened state ≡ next_of plan other state }
+    ensures reply { (plan : Plan) (happened other : Happened) (a b : Reply) → AreAlike plan happened other → Decides plan happened a → Decides plan other b → a ≡ b }
+    ensures state { (plan : Plan) (happened other : Happened) (state : State) → AreAlike plan happened other → next_of plan happened state ≡ next_of plan other state }
 {
     a_search_shows_one_list();
 }

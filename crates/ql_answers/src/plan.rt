@@ -1,8 +1,10 @@
 //! What a statement wants, by its text, the configuration and the session's state alone.
 ghost use Rattle.std.specs.Prelude.{◌≡◌};
 ghost use Rattle.ql_answers.specs.Sessions.{need_of};
+ghost use Rattle.ql_answers.specs.Transactions.{affected};
 
 use crate::event::Need;
+use crate::turn::Turn;
 use doc_types::Txn;
 use ql_select::Selection;
 use reply_rows::ResultSet;
@@ -10,14 +12,47 @@ use reply_rows::ResultSet;
 /// What a statement wants of the outside, with what its reply needs beside that.
 #[derive(Drop)]
 pub enum Plan {
-    /// Nothing: it is answered OK.
-    Agree,
+    /// Nothing: it is answered OK, and the transaction turns so.
+    Agree(Turn),
     /// Nothing: this is shown.
     Show(ResultSet),
     /// What a SELECT asks of an index.
-    Search { index: u16, selection: Selection },
-    /// A commit of these insertions.
-    Insert { index: u16, txn: Txn },
+    Search {
+        index: u16,
+        selection: Selection,
+    },
+    /// How many documents and disk chunks an index has.
+    Status {
+        index: u16,
+    },
+    /// Nothing: these operations are pending from now on, and so many rows are affected.
+    Keep {
+        index: u16,
+        txn: Txn,
+        affected: u64,
+    },
+    /// A commit of these operations by themselves.
+    Put {
+        index: u16,
+        txn: Txn,
+        counted: Counted,
+    },
+    /// A commit of what is pending; then the transaction turns so.
+    Commit {
+        index: u16,
+        turn: Turn,
+    },
+}
+
+/// What the rows are that a statement affects.
+#[derive(Clone, Copy, PartialEq, Eq)]
+pub enum Counted {
+    /// The rows of its text.
+    Rows,
+    /// The ids that were there and are no more.
+    Removed,
+    /// None.
+    Nothing,
 }
 
 impl Plan {
@@ -26,9 +61,20 @@ impl Plan {
         ensures { result ≡ need_of self.now }
     {
         match self {
-            Plan::Agree | Plan::Show(_) => Need::Nothing,
-            Plan::Search { index, .. } => Need::Read(*index),
-            Plan::Insert { index, .. } => Need::Commit(*index),
+            Plan::Agree(_) | Plan::Show(_) | Plan::Keep { .. } => Need::Nothing,
+            Plan::Search { index, .. } | Plan::Status { index } => Need::Read(*index),
+            Plan::Put { index, .. } | Plan::Commit { index, .. } => Need::Commit(*index),
         }
+    }
+}
+
+/// How many rows are affected, of so many rows of the text and so many ids that were removed.
+pub(crate) fn affected(counted: Counted, rows: u64, removed: u64) -> u64
+    ensures { result ≡ affected counted rows removed }
+{
+    match counted {
+        Counted::Rows => rows,
+        Counted::Removed => removed,
+        Counted::Nothing => 0,
     }
 }

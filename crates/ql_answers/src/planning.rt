@@ -1,15 +1,19 @@
 //! What a statement wants, or why it is refused: each statement by its text, the configuration and the session's state alone.
 ghost use Rattle.std.specs.Prelude.{◌≡◌, option_copied};
-ghost use Rattle.ql_answers.specs.steps.Planning.{PlansInsert, PlansSelect, PlansDescribe, PlansJob, ShowsOr, Planned};
+ghost use Rattle.ql_answers.specs.Transactions.{commit_of};
+ghost use Rattle.ql_answers.specs.steps.Planning.{Planned, PlansAutocommit, PlansDescribe, PlansJob, PlansSelect, PlansStatus, ShowsOr};
 
 use crate::indexes::{Catalog, served};
 use crate::plan::Plan;
-use crate::showing::{current_database, databases, description, tables, variable, warnings};
+use crate::showing::{
+    current_database, databases, description, tables, variable, variables, warnings,
+};
 use crate::state::State;
-use ql_insert::insertion;
-use ql_refusals::{Refusal, not_offered};
+use crate::turn::Turn;
+use crate::writing::{plan_delete, plan_insert, plan_truncate};
+use ql_refusals::{Refusal, not_offered, value_out_of_range};
 use ql_select::is_grouped;
-use ql_tree::{Select, Statement, Val};
+use ql_tree::{Select, Statement};
 use reply_rows::ResultSet;
 use srch_base::{Items, Name, NoMemory, Or};
 use std::alloc::Global;
@@ -18,47 +22,83 @@ use std::alloc::Global;
 pub(crate) fn plan<T: Catalog>(
     alloc: Global,
     catalog: &T,
-    _state: &State,
+    state: &State,
     statement: &Statement,
 ) -> Result<Plan, Or<Refusal>>
-    ensures { Planned (T.confs catalog.now) _state.now statement.now result }
+    ensures { Planned (T.confs catalog.now) state.now statement.now result }
 {
     match statement {
         Statement::Select(select) => plan_select(alloc, catalog, select),
         Statement::SelectVar { name, limit } => show(variable(alloc, name.as_bytes(), *limit)),
         Statement::SelectDatabase => show(current_database(alloc)),
         Statement::Insert {
-            replace: false,
+            replace,
             index,
             columns,
             rows,
         } => plan_insert(
             alloc,
             catalog,
+            state,
+            *replace,
             index.as_bytes(),
             named(columns),
             rows.as_slice(),
         ),
-        Statement::SetNames(_) | Statement::SetOther { .. } => Ok(Plan::Agree),
+        Statement::Delete { index, ids } => {
+            plan_delete(alloc, catalog, state, index.as_bytes(), ids)
+        }
+        Statement::Begin | Statement::StartTransaction => Ok(commit(state, Turn::Opens)),
+        Statement::Commit => Ok(commit(state, Turn::Ends)),
+        Statement::Rollback => Ok(Plan::Agree(Turn::Ends)),
+        Statement::SetAutocommit(value) => plan_autocommit(state, *value),
+        Statement::SetNames(_) | Statement::SetOther { .. } => Ok(Plan::Agree(Turn::Stays)),
+        Statement::TruncateRtindex(index) => {
+            plan_truncate(alloc, catalog, state, index.as_bytes())
+        }
         Statement::Describe(index) => plan_describe(alloc, catalog, index.as_bytes()),
+        Statement::ShowIndexStatus(index) => plan_status(catalog, index.as_bytes()),
         Statement::ShowTables => show(tables(alloc, catalog)),
         Statement::ShowWarnings => show(warnings(alloc)),
+        Statement::ShowVariables => show(variables(alloc, state.autocommit)),
         Statement::ShowDatabases => show(databases(alloc)),
         Statement::FlushRamchunk(index)
         | Statement::FlushRtindex(index)
         | Statement::OptimizeIndex(index) => plan_job(catalog, index.as_bytes()),
-        Statement::Insert { .. }
-        | Statement::Delete { .. }
-        | Statement::Begin
-        | Statement::StartTransaction
-        | Statement::Commit
-        | Statement::Rollback
-        | Statement::SetAutocommit(_)
-        | Statement::TruncateRtindex(_)
-        | Statement::ShowIndexStatus(_)
-        | Statement::ShowMeta
-        | Statement::ShowVariables => Err(Or::Fault(not_offered())),
+        Statement::ShowMeta => Err(Or::Fault(not_offered())),
     }
+}
+
+/// A commit of what is pending, if anything is; then the transaction turns so.
+fn commit(state: &State, turn: Turn) -> Plan
+    ensures { result ≡ commit_of state.now.pending turn }
+{
+    match &state.pending {
+        Some(pending) => Plan::Commit {
+            index: pending.place(),
+            turn,
+        },
+        None => Plan::Agree(turn),
+    }
+}
+
+/// SET AUTOCOMMIT: 1 commits what is pending.
+fn plan_autocommit(state: &State, value: u64) -> Result<Plan, Or<Refusal>>
+    ensures { PlansAutocommit state.now value result }
+{
+    match value {
+        0 => Ok(Plan::Agree(Turn::Sets(false))),
+        1 => Ok(commit(state, Turn::Sets(true))),
+        _ => Err(Or::Fault(value_out_of_range(b"autocommit"))),
+    }
+}
+
+/// SHOW INDEX STATUS.
+fn plan_status<T: Catalog>(catalog: &T, name: &[u8]) -> Result<Plan, Or<Refusal>>
+    ensures { PlansStatus (T.confs catalog.now) name.now result }
+{
+    let index = served(catalog, name)?;
+    Ok(Plan::Status { index })
 }
 
 /// The names of the columns, as a slice.
@@ -87,20 +127,6 @@ fn plan_select<T: Catalog>(alloc: Global, catalog: &T, select: &Select) -> Resul
     let index = served(catalog, select.index.as_bytes())?;
     let selection = ql_select::select(alloc, catalog.conf(index), select)?;
     Ok(Plan::Search { index, selection })
-}
-
-fn plan_insert<T: Catalog>(
-    alloc: Global,
-    catalog: &T,
-    name: &[u8],
-    columns: Option<&[Name]>,
-    rows: &[Items<Val>],
-) -> Result<Plan, Or<Refusal>>
-    ensures { PlansInsert (T.confs catalog.now) name.now (option_copied columns.entry) rows.now result }
-{
-    let index = served(catalog, name)?;
-    let txn = insertion(alloc, catalog.conf(index), columns, rows)?;
-    Ok(Plan::Insert { index, txn })
 }
 
 fn plan_describe<T: Catalog>(alloc: Global, catalog: &T, name: &[u8]) -> Result<Plan, Or<Refusal>>

@@ -4,13 +4,14 @@
 ghost use Rattle.std.specs.Prelude.{◌≡◌};
 ghost use Rattle.reply_rows.specs.Written.{IsOpen};
 ghost use Rattle.ql_answers.specs.Replies.{replied};
-ghost use Rattle.ql_answers.specs.Sessions.{CanHave, Commit, Nothing, Read, happened_by, reply_to_commit};
+ghost use Rattle.ql_answers.specs.Sessions.{CanHave, Committing, Nothing, Read, happened_by, reply_to_commit};
 ghost use Rattle.ql_answers.specs.steps.Answering.{Says, SaysPlan};
 
 use crate::event::Event;
 use crate::found::FoundRows;
-use crate::plan::Plan;
+use crate::plan::{Counted, Plan, affected};
 use crate::refusing::put_refusal;
+use crate::showing::index_status;
 use commit_outcomes::CommitOutcome;
 use doc_search::search;
 use doc_types::{Chunk, Snapshot};
@@ -56,12 +57,18 @@ fn say_nothing(
     ensures { SaysPlan plan.now Nothing status result replies.old replies.new }
 {
     match plan {
-        Plan::Agree => {
+        Plan::Agree(_) => {
             replies.put_ok(0, status);
             Ok(())
         }
         Plan::Show(set) => replies.put_set(alloc, set, status),
-        Plan::Search { .. } | Plan::Insert { .. } => unreachable!(),
+        Plan::Keep { affected, .. } => {
+            replies.put_ok(*affected, status);
+            Ok(())
+        }
+        Plan::Search { .. } | Plan::Status { .. } | Plan::Put { .. } | Plan::Commit { .. } => {
+            unreachable!()
+        }
     }
 }
 
@@ -85,30 +92,52 @@ fn say_read<C: Chunk>(
             };
             replies.put_table(alloc, &found, status)
         }
-        Plan::Agree | Plan::Show(_) | Plan::Insert { .. } => unreachable!(),
+        Plan::Status { .. } => {
+            let documents = u64::from(snapshot.live_count());
+            let set = index_status(alloc, documents, u64::from(snapshot.disk_chunks()))?;
+            replies.put_set(alloc, &set, status)
+        }
+        Plan::Agree(_)
+        | Plan::Show(_)
+        | Plan::Keep { .. }
+        | Plan::Put { .. }
+        | Plan::Commit { .. } => unreachable!(),
     }
 }
 
 fn say_commit(plan: &Plan, outcome: CommitOutcome, status: u16, replies: &mut Replies)
-    requires can { CanHave plan.now (Commit outcome) }
+    requires can { CanHave plan.now (Committing outcome) }
     requires open { IsOpen replies.old }
-    ensures { Says plan.now (Commit outcome) status replies.old replies.new }
+    ensures { Says plan.now (Committing outcome) status replies.old replies.new }
 {
     match plan {
-        Plan::Insert { txn, .. } => {
-            reply_to_commit(txn.ops.len() as u64, outcome, status, replies);
+        Plan::Put { txn, counted, .. } => {
+            reply_to_commit(*counted, txn.ops.len() as u64, outcome, status, replies);
         }
-        Plan::Agree | Plan::Show(_) | Plan::Search { .. } => unreachable!(),
+        Plan::Commit { .. } => reply_to_commit(Counted::Nothing, 0, outcome, status, replies),
+        Plan::Agree(_)
+        | Plan::Show(_)
+        | Plan::Search { .. }
+        | Plan::Status { .. }
+        | Plan::Keep { .. } => unreachable!(),
     }
 }
 
-/// What is replied to a commit that would affect so many rows.
-fn reply_to_commit(affected: u64, outcome: CommitOutcome, status: u16, replies: &mut Replies)
+/// What is replied to a commit that so many rows of a text asked for.
+fn reply_to_commit(
+    counted: Counted,
+    rows: u64,
+    outcome: CommitOutcome,
+    status: u16,
+    replies: &mut Replies,
+)
     requires { IsOpen replies.old }
-    ensures { replies.new ≡ replied replies.old status (reply_to_commit affected outcome) }
+    ensures { replies.new ≡ replied replies.old status (reply_to_commit counted rows outcome) }
 {
     match outcome {
-        CommitOutcome::Committed { .. } => replies.put_ok(affected, status),
+        CommitOutcome::Committed { removed } => {
+            replies.put_ok(affected(counted, rows, u64::from(removed)), status);
+        }
         CommitOutcome::Duplicate { id } => put_refusal(&duplicate_id(id), replies),
         CommitOutcome::Full(full) => put_refusal(&index_full(full), replies),
     }

@@ -3,11 +3,12 @@
 //! they go on.
 ghost use Rattle.std.specs.Prelude.{◌≡◌, ◌++◌, IfOk, codes, map};
 ghost use Rattle.ql_answers.specs.Replies.{pair};
-ghost use Rattle.ql_answers.specs.Showing.{current_database, databases, description, description_rows, kind_text, tables, variable, variable_value, warnings};
+ghost use Rattle.ql_answers.specs.Showing.{current_database, databases, description, description_rows, index_status, kind_text, tables, variable, variable_value, variables, warnings};
 
 use crate::indexes::Catalog;
 use crate::text_sets::{pair, single, text_columns};
 use doc_types::{AttrKind, Schema};
+use itoa::Buffer;
 use mysql_wire::Cell;
 use ql_columns::ID;
 use reply_rows::ResultSet;
@@ -82,6 +83,40 @@ pub(crate) fn warnings(alloc: Global) -> Result<ResultSet, NoMemory>
 {
     let columns = text_columns(alloc, &[b"Level", b"Code", b"Message"])?;
     let rows = Items::new(Vec::new(alloc));
+    Ok(ResultSet { columns, rows })
+}
+
+/// SHOW VARIABLES.
+pub(crate) fn variables(alloc: Global, autocommit: bool) -> Result<ResultSet, NoMemory>
+    ensures { IfOk result (λ set. set ≡ variables autocommit) }
+{
+    let columns = text_columns(alloc, &[b"Variable_name", b"Value"])?;
+    let value: &[u8] = if autocommit { b"1" } else { b"0" };
+    let mut rows = Vec::new(alloc);
+    rows.push(pair(alloc, b"autocommit", value)?)?;
+    let rows = Items::new(rows);
+    Ok(ResultSet { columns, rows })
+}
+
+/// SHOW INDEX STATUS: how many documents live, and how many chunks are on the disk.
+pub(crate) fn index_status(
+    alloc: Global,
+    documents: u64,
+    chunks: u64,
+) -> Result<ResultSet, NoMemory>
+    ensures { IfOk result (λ set. set ≡ index_status documents chunks) }
+{
+    let columns = text_columns(alloc, &[b"Variable_name", b"Value"])?;
+    let mut number = Buffer::new();
+    let mut rows = Vec::new(alloc);
+    rows.push(pair(alloc, b"index_type", b"rt")?)?;
+    rows.push(pair(
+        alloc,
+        b"indexed_documents",
+        number.format(documents).as_bytes(),
+    )?)?;
+    rows.push(pair(alloc, b"disk_chunks", number.format(chunks).as_bytes())?)?;
+    let rows = Items::new(rows);
     Ok(ResultSet { columns, rows })
 }
 

@@ -1,12 +1,25 @@
-//! The state of a session.
-ghost use Rattle.std.specs.Prelude.{◌≡◌};
-ghost use Rattle.ql_answers.specs.States.{new_state, status_of};
+//! The state of a session: AUTOCOMMIT, and its transaction.
+ghost use Rattle.std.specs.Prelude.{◌≡◌, [], IsSome, None, OnErr, OnOk, Some};
+ghost use Rattle.ql_answers.specs.States.{ended, finished, is_alone, is_open, kept, new_state, pending_txn, status_of, turned};
+ghost use Rattle.ql_answers.specs.Transactions.{write_fault};
+
+use crate::pending::Pending;
+use crate::turn::Turn;
+use commit_outcomes::CommitOutcome;
+use doc_types::Txn;
+use srch_base::{Items, NoMemory};
+use std::alloc::Global;
+use std::mem;
 
 /// What a session keeps between its statements.
 #[derive(Drop)]
 pub struct State {
-    /// Whether each statement that writes is committed by itself.
+    /// Whether AUTOCOMMIT is 1.
     pub autocommit: bool,
+    /// Whether BEGIN opened a transaction.
+    pub opened: bool,
+    /// What waits for a commit.
+    pub pending: Option<Pending>,
 }
 
 impl State {
@@ -14,7 +27,25 @@ impl State {
     pub(crate) fn new() -> State
         ensures { result ≡ new_state }
     {
-        State { autocommit: true }
+        State {
+            autocommit: true,
+            opened: false,
+            pending: None,
+        }
+    }
+
+    /// Whether a transaction is open: BEGIN opened it, or an operation is pending.
+    pub(crate) fn is_open(&self) -> bool
+        ensures { result ≡ is_open self.now }
+    {
+        self.opened || self.pending.is_some()
+    }
+
+    /// Whether each statement that writes is committed by itself.
+    pub(crate) fn is_alone(&self) -> bool
+        ensures { result ≡ is_alone self.now }
+    {
+        self.autocommit && !self.opened
     }
 
     /// The status that packets carry, after which another statement of the packet follows or not.
@@ -22,7 +53,81 @@ impl State {
         ensures { result ≡ status_of self.now more }
     {
         let autocommit = if self.autocommit { 2 } else { 0 };
+        let open = if self.is_open() { 1 } else { 0 };
         let follows = if more { 8 } else { 0 };
-        autocommit + follows
+        autocommit + open + follows
     }
+
+    /// The transaction is over.
+    pub(crate) fn end(&mut self)
+        ensures { self.new ≡ ended self.old }
+    {
+        self.opened = false;
+        self.pending = None;
+    }
+
+    /// What a statement makes of the transaction.
+    pub(crate) fn turn(&mut self, turn: Turn)
+        ensures { self.new ≡ turned turn self.old }
+    {
+        match turn {
+            Turn::Stays => {}
+            Turn::Opens => {
+                self.opened = true;
+                self.pending = None;
+            }
+            Turn::Ends => self.end(),
+            Turn::Sets(true) => {
+                self.autocommit = true;
+                self.end();
+            }
+            Turn::Sets(false) => self.autocommit = false,
+        }
+    }
+
+    /// What is pending was committed, with this outcome. One that was refused ends the transaction.
+    pub(crate) fn finish(&mut self, turn: Turn, outcome: CommitOutcome)
+        ensures { self.new ≡ finished turn outcome self.old }
+    {
+        match outcome {
+            CommitOutcome::Committed { .. } => self.turn(turn),
+            CommitOutcome::Duplicate { .. } | CommitOutcome::Full(_) => self.end(),
+        }
+    }
+
+    /// The transaction that is pending.
+    pub(crate) fn waiting(&self) -> &Txn
+        requires { IsSome self.now.pending }
+        ensures { pending_txn self.now.pending ≡ Some result.now }
+    {
+        match &self.pending {
+            Some(pending) => pending.txn(),
+            None => unreachable!(),
+        }
+    }
+
+    /// More operations are pending, which nothing forbids; the transaction that had them is left without any. After an `Err`
+    /// all is as before.
+    pub(crate) fn keep(&mut self, alloc: Global, place: u16, txn: &mut Txn) -> Result<(), NoMemory>
+        requires { write_fault self.old place txn.old ≡ None }
+        ensures ok { OnOk result ((self.new ≡ kept place txn.old.ops self.old) × (txn.new ≡ record { ops = [] })) }
+        ensures err { OnErr result ((self.new ≡ self.old) × (txn.new ≡ txn.old)) }
+    {
+        match &mut self.pending {
+            Some(pending) => pending.add(alloc, txn),
+            None => {
+                self.pending = Some(Pending::new(place, taken(alloc, txn)));
+                Ok(())
+            }
+        }
+    }
+}
+
+/// The operations of a transaction, which is left without any.
+fn taken(alloc: Global, txn: &mut Txn) -> Txn
+    ensures taken { result ≡ txn.old }
+    ensures left { txn.new ≡ record { ops = [] } }
+{
+    let ops = mem::replace(&mut txn.ops, Items::new(Vec::new(alloc)));
+    Txn { ops }
 }

@@ -8,6 +8,7 @@ ghost use Rattle.reply_rows.specs.Written.{IsOpen};
 ghost use Rattle.ql_answers.specs.Sessions.{CanHave, at_rest, happened_by, pending_of};
 ghost use Rattle.ql_answers.specs.Sessions.{Needs, Replied};
 ghost use Rattle.ql_answers.specs.States.{new_state, status_of};
+ghost use Rattle.ql_answers.specs.steps.Turning.{Answered, CanKeep, Turned};
 
 use crate::event::{Event, Need};
 use crate::indexes::Catalog;
@@ -33,12 +34,15 @@ impl Model for StatementMachine {
     ghost use Rattle.std.specs.Coded.{codes};
     ghost use Rattle.query_tree.specs.contracts.query.Node as node;
     ghost use Rattle.ql_answers.specs.Sessions.{Standing};
+    ghost use Rattle.ql_answers.specs.steps.Turning.{CanKeepAny};
 
     ghost Value = { Standing };
 
     ghost coded = { Prim.hlevel (codes, node.the_row.coded) };
 
     ghost view = { λ machine. record { state = machine.state; plan = machine.plan } };
+
+    ghost invariant = { λ machine. CanKeepAny machine.state machine.plan };
 }
 
 // Not derived: so letting go of a machine is a call, and no caller's proof takes apart what its statement wants.
@@ -92,14 +96,16 @@ impl StatementMachine {
         ensures { IsSomeAnd self.now.plan (λ plan. pending_of self.now.state plan ≡ Some result.now) }
     {
         match &self.plan {
-            Some(Plan::Insert { txn, .. }) => txn,
+            Some(Plan::Put { txn, .. }) => txn,
+            Some(Plan::Commit { .. }) => self.state.waiting(),
             _ => unreachable!(),
         }
     }
 
     /// Replies to the statement of the last `need`. `more` says that another statement of the packet follows.
     ///
-    /// Result sets alone take memory. After NoMemory the machine and the replies are as before.
+    /// Result sets take memory, and operations that are pending from then on. After NoMemory the machine and the replies are as
+    /// before.
     pub fn reply<C: Chunk>(
         &mut self,
         alloc: Global,
@@ -112,12 +118,60 @@ impl StatementMachine {
         requires open { IsOpen replies.old }
         ensures { Replied self.old (happened_by event.now) more result replies.old replies.new self.new }
     {
-        let status = self.state.status(more);
-        match &self.plan {
-            Some(plan) => say(alloc, plan, event, status, replies)?,
+        match &mut self.plan {
+            Some(plan) => answer(alloc, &mut self.state, plan, event, more, replies)?,
             None => unreachable!(),
         }
         self.plan = None;
         Ok(())
     }
+}
+
+/// Replies to a plan, and changes the state as what came of the plan says.
+fn answer<C: Chunk>(
+    alloc: Global,
+    state: &mut State,
+    plan: &mut Plan,
+    event: &Event<'_, C>,
+    more: bool,
+    replies: &mut Replies,
+) -> Result<(), NoMemory>
+    requires keeps { CanKeep state.old plan.old }
+    requires can { CanHave plan.old (happened_by event.now) }
+    requires open { IsOpen replies.old }
+    ensures { Answered plan.old (happened_by event.now) more result state.old state.new plan.new replies.old replies.new }
+{
+    turn(alloc, state, plan, event)?;
+    say(alloc, plan, event, state.status(more), replies)
+}
+
+/// Changes the state as what came of a plan says. Operations that are pending from now on leave the plan.
+fn turn<C: Chunk>(
+    alloc: Global,
+    state: &mut State,
+    plan: &mut Plan,
+    event: &Event<'_, C>,
+) -> Result<(), NoMemory>
+    requires { CanKeep state.old plan.old }
+    ensures { Turned plan.old (happened_by event.now) result state.old state.new plan.new }
+{
+    match plan {
+        Plan::Agree(turn) => {
+            if let Event::Nothing = event {
+                state.turn(*turn);
+            }
+        }
+        Plan::Keep { index, txn, .. } => {
+            if let Event::Nothing = event {
+                state.keep(alloc, *index, txn)?;
+            }
+        }
+        Plan::Commit { turn, .. } => {
+            if let Event::Commit(outcome) = event {
+                state.finish(*turn, *outcome);
+            }
+        }
+        Plan::Show(_) | Plan::Search { .. } | Plan::Status { .. } | Plan::Put { .. } => {}
+    }
+    Ok(())
 }

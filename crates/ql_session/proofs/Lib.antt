@@ -1,5 +1,7 @@
 pub mod OneReading
+pub mod Limits
 pub mod Plans
+pub mod StaysFit
 pub mod Replying
 pub mod MemoryWants
 pub mod Reading

@@ -1,5 +1,5 @@
 -- A text is read in one way, since its tokens are.
-use Rattle.std.proofs.Common.{◌≡◌, ◌≤◌, ℕ, List, length, sym, ap, subst, ◌∙◌, inl, inr, arith}
+use Rattle.std.proofs.Common.{◌≡◌, ◌≤◌, ℕ, List, length, sym, ap, subst, ◌∙◌, inl, inr}
 use Rattle.ql_lex.specs.declared.fault.LexKind.{LexKind}
 use Rattle.ql_lex.specs.Tokens.{AreTokens, FaultAt, Lexeme}
 use Rattle.ql_grammar.specs.declared.fault.ParseFault.{ParseFault}
@@ -21,10 +21,7 @@ module _
       one_value tokens a b packet (subst (λ (ts : List Lexeme). IsPacket b ts) (one_tokens text others tokens are' are) packet')
 
   one_of_tokens : (tokens : List Lexeme) (a b : Refused) → RefusesTokens tokens a → RefusesTokens tokens b → a ≡ b
-  one_of_tokens tokens a b (inl (f, is, says)) (inl (g, is', says')) = says ∙ ap bad_syntax (one_fault tokens f g is is') ∙ sym says'
-  one_of_tokens tokens a b (inl (f, is, says)) (inr (list, packet, more, few, says')) = absurd (no_fault tokens list f packet few is)
-  one_of_tokens tokens a b (inr (list, packet, more, few, says)) (inl (g, is', says')) = absurd (no_fault tokens list g packet few is')
-  one_of_tokens tokens a b (inr (list, packet, more, few, says)) (inr (list', packet', more', few', says')) = says ∙ sym says'
+  one_of_tokens tokens a b (f, is, says) (g, is', says') = says ∙ ap bad_syntax (one_fault tokens f g is is') ∙ sym says'
 
   pub one_refusal : (text : List ℕ) (a b : Refused) → RefusesText text a → RefusesText text b → a ≡ b
   one_refusal text a b (inl (f, at, says)) (inl (g, at', says')) =
@@ -36,11 +33,8 @@ module _
   one_refusal text a b (inr (tokens, are, refuses)) (inr (others, are', refuses')) =
       one_of_tokens tokens a b refuses (subst (λ (ts : List Lexeme). RefusesTokens ts b) (one_tokens text others tokens are' are) refuses')
 
-  not_refused : (tokens : List Lexeme) (statements : List Statement) (refusal : Refused) → IsPacket statements tokens → length statements ≤ 1 → RefusesTokens tokens refusal → ⊥
-  not_refused tokens statements refusal packet few (inl (f, is, says)) = no_fault tokens statements f packet (omega (arith, few)) is
-  not_refused tokens statements refusal packet few (inr (list, packet', more, most, says)) =
-      let same : length list ≡ length statements = ap (λ (l : List Statement). length l) (one_value tokens list statements packet' packet) in
-      absurd (omega (arith, few, more, same))
+  not_refused : (tokens : List Lexeme) (statements : List Statement) (refusal : Refused) → IsPacket statements tokens → length statements ≤ MAX_STATEMENTS → RefusesTokens tokens refusal → ⊥
+  not_refused tokens statements refusal packet few (f, is, says) = no_fault tokens statements f packet few is
 
   pub not_both : (text : List ℕ) (statements : List Statement) (refusal : Refused) → States text statements → RefusesText text refusal → ⊥
   not_both text statements refusal (tokens, are, packet, few) (inl (f, at, says)) = no_place text tokens f.place f.kind are at

@@ -38,7 +38,7 @@ module _
     (one_plan : (confs : List IndexConf) (state : State) (statement : Statement) (a b : Plan) → Wants confs state statement a → Wants confs state statement b → a ≡ b)
     (one_refusal : (confs : List IndexConf) (state : State) (statement : Statement) (a b : Refused) → Refuses confs state statement a → Refuses confs state statement b → a ≡ b)
     (never_both : (confs : List IndexConf) (state : State) (statement : Statement) (plan : Plan) (refusal : Refused) → Wants confs state statement plan → Refuses confs state statement refusal → ⊥)
-    (one_decided : (plan : Plan) (happened other : Happened) (a b : Reply) → AreAlike happened other → Decides plan happened a → Decides plan other b → a ≡ b)
+    (one_decided : (plan : Plan) (happened other : Happened) (a b : Reply) → AreAlike plan happened other → Decides plan happened a → Decides plan other b → a ≡ b)
     {F : Type 0} (documents : F → SnapshotValue) where
   pub one_reply : (confs : List IndexConf) (old : State) (statement : Statement) (event : Event F) (a b : Reply) (x y : State) → HasLayers (told documents event)
       → Replies documents confs old statement event a x → Replies documents confs old statement event b y → (a ≡ b) × (x ≡ y)
@@ -49,7 +49,7 @@ module _
   one_reply confs old statement event a b x y layers (inr (inl (plan, wants, meets, decides, next))) (inl (r, refuses, is, says, stays)) = absurd (never_both confs old statement plan r wants refuses)
   one_reply confs old statement event a b x y layers (inr (inl (plan, wants, meets, decides, next))) (inr (inl (other, wants', meets', decides', next'))) =
       let same : other ≡ plan = one_plan confs old statement other plan wants' wants in (
-        one_decided plan (told documents event) (told documents event) a b (alike_itself (told documents event) layers) decides (subst (λ (p : Plan). Decides p (told documents event) b) same decides'),
+        one_decided plan (told documents event) (told documents event) a b (alike_itself plan (told documents event) layers) decides (subst (λ (p : Plan). Decides p (told documents event) b) same decides'),
         next ∙ ap (λ (p : Plan). next_of p (told documents event) old) (sym same) ∙ sym next',
       )
   one_reply confs old statement event a b x y layers (inr (inl (plan, wants, meets, decides, next))) (inr (inr (takes, is, says, stays))) =

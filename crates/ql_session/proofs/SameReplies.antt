@@ -1,13 +1,14 @@
 -- Two sessions over the same documents that read the same bytes write the same, where memory was refused to neither.
-use Rattle.std.proofs.Common.{◌≡◌, ◌≢◌, ℕ, zero, suc, ◌+◌, List, [], ◌∷◌, ◌++◌, Bool, true, false, refl, sym, ap, subst, ◌∙◌, inl, inr}
-use Rattle.std.specs.Prelude.{All, Option, Some, slice_get, slice_set, get_or}
-use Rattle.std.specs.List.{AllZip}
+use Rattle.std.proofs.Common.{◌≡◌, ◌≢◌, ℕ, zero, suc, ◌+◌, List, [], ◌∷◌, ◌++◌, Bool, true, false, refl, sym, ap, subst, ◌∙◌, inl, inr, arith}
+use Rattle.std.specs.Prelude.{All, Option, Some, cond, slice_get, slice_set, get_or}
+use Rattle.std.specs.List.{AllZip, count_by}
 use Rattle.std.proofs.lemmas.List.Elements.{All-cons, All-head, All-nil, All-tail, AllZip-get_or}
+use Rattle.std.proofs.lemmas.List.Sums.{sum_by-cons}
 use Rattle.std.proofs.lemmas.Option.{get_or_from_slice_get, same_Some, slice_get_within}
 use Rattle.mysql_wire.specs.Commands.{ClientCommand, Quit as asks_quit, InitDb, Query, Ping, SetOption, Unknown}
 use Rattle.mysql_wire.specs.Packets.{packets_from, sequence_after}
 use Rattle.index_conf.specs.declared.conf.IndexConf.{IndexConf}
-use Rattle.doc_types.specs.Snapshots.{SnapshotValue}
+use Rattle.doc_types.specs.Snapshots.{LayerValue, SnapshotValue}
 use Rattle.doc_types.specs.declared.transactions.Txn.{Txn}
 use Rattle.doc_types.specs.declared.transactions.TxnOp.{TxnOp}
 use Rattle.commit_outcomes.specs.declared.outcome.CommitOutcome.{CommitOutcome}
@@ -22,13 +23,14 @@ use Rattle.ql_refusals.specs.Refusals.{Refused}
 use Rattle.ql_answers.specs.declared.event.Need.{Need}
 use Rattle.ql_answers.specs.declared.event.Need.TheVariants as needs
 use Rattle.ql_answers.specs.declared.plan.Plan.{Plan}
+use Rattle.ql_answers.specs.declared.plan.Plan.TheVariants.{Status}
 use Rattle.ql_answers.specs.declared.state.State.{State}
 use Rattle.ql_answers.specs.Plans.{Refuses, Wants}
 use Rattle.ql_answers.specs.Replies.{Fails, Reply, is_refusal, payloads}
-use Rattle.ql_answers.specs.Sessions.{AreAlike, Decides, Happened, need_of, next_of, pending_of}
+use Rattle.ql_answers.specs.Sessions.{AreAlike, Decides, Happened, LookAlike, need_of, next_of, pending_of}
 use Rattle.ql_answers.specs.States.{new_state, status_of}
 use Rattle.ql_session.specs.Events.{Commit, Configured, NoMemory, Nothing, Read}
-use Rattle.ql_session.specs.Tables.{AreSound, Event, Follows, HaveSameRows, Tables, in_memory}
+use Rattle.ql_session.specs.Tables.{AreInMemory, AreSound, Event, Follows, HaveSameRows, Tables, in_memory}
 use Rattle.ql_session.specs.Session.{Answers, IsUndisturbed, statement_machine}
 use Rattle.ql_session.specs.Statements.{AnswersText, AreAnswered, Meets, RefusesText, Replies, States, is_more, told}
 use Rattle.ql_session.proofs.SoundFronts.{all_events, one_event, sound_at}
@@ -118,9 +120,23 @@ same_ops pending ops its one two =
     ap (λ (txn : Txn). txn.ops) (same_Some a b (sym one ∙ two))
 
 -- ---- one event over the same documents
--- The same happened, and left the same documents.
+-- where nothing is on a disk, no chunk is counted
+none_counted : (layers : List LayerValue) → AreInMemory layers → count_by (λ layer. layer.disk) layers ≡ 0
+none_counted [] memory = refl
+none_counted (layer ∷ layers) memory =
+    let here : layer.disk ≡ false = All-head (λ (l : LayerValue). l.disk ≡ false) layer layers memory in
+    let rest = none_counted layers (All-tail (λ (l : LayerValue). l.disk ≡ false) layer layers memory) in
+    let one : cond {A = ℕ} layer.disk 1 0 ≡ 0 = ap (λ (b : Bool). cond b 1 0) here in
+    let more = sum_by-cons (λ (l : LayerValue). cond l.disk 1 0) layer layers in
+    omega (arith, more, one, rest)
+
+look_alike : (plan : Plan) (front other : SnapshotValue) → AreInMemory front.layers → AreInMemory other.layers → LookAlike plan front other
+look_alike (Status place) front other memory memory' = none_counted front.layers memory ∙ sym (none_counted other.layers memory')
+look_alike plan front other memory memory' = tt
+
+-- The same happened, whatever was wanted, and left the same documents.
 record SameHappened (event other : Event) (new left : Tables) : Type 0 where
-  pub alike : AreAlike (tells event) (tells other)
+  pub alike : (plan : Plan) → AreAlike plan (tells event) (tells other)
   pub rows : HaveSameRows new left
 
 same_as : (event event' is is' : Event) (new left : Tables) → event ≡ is → event' ≡ is' → SameHappened is is' new left → SameHappened event event' new left
@@ -129,11 +145,16 @@ same_as event event' is is' new left e e' same =
 
 read_alike : (place : ℕ) (front other : SnapshotValue) (old old' new new' : Tables) → Alike old old' → Follows old (Read place front) new → Follows old' (Read place other) new'
     → SameHappened (Read place front) (Read place other) new new'
-read_alike place front other old old' new new' alike (same, is) (same', is') =
+read_alike place front other old old' new new' alike (same, (is, memory)) (same', (is', memory')) =
     let at : slice_get old.fronts place ≡ Some front = ap (λ (tables : Tables). slice_get tables.fronts place) (sym same) ∙ is in
     let at' : slice_get old'.fronts place ≡ Some other = ap (λ (tables : Tables). slice_get tables.fronts place) (sym same') ∙ is' in
     record {
-      alike = (sound_at old.fronts place front alike.first at, sound_at old'.fronts place other alike.second at', (same_at old.fronts old'.fronts place front other alike.same.rows at at').rows);
+      alike = λ plan. (
+        sound_at old.fronts place front alike.first at,
+        sound_at old'.fronts place other alike.second at',
+        (same_at old.fronts old'.fronts place front other alike.same.rows at at').rows,
+        look_alike plan front other memory memory',
+      );
       rows = alike_as old old' new new' same same' alike.same;
     }
 
@@ -146,7 +167,7 @@ module _
       let between : HaveSameRows mid mid' = alike_as old old' mid mid' same same' alike.same in
       let rows : SameRows before before' = same_at mid.fronts mid'.fronts place before before' between.rows at at' in
       record {
-        alike = one_outcome ops before before' front its outcome other rows leaves leaves';
+        alike = λ plan. one_outcome ops before before' front its outcome other rows leaves leaves';
         rows = alike_set mid mid' new new' place front its is is' between (one_left ops before before' front its outcome other rows leaves leaves');
       }
 
@@ -156,7 +177,7 @@ module _
       let is : event ≡ Nothing = nothing_did pending event meets in
       let is' : event' ≡ Nothing = nothing_did pending event' meets' in
       same_as event event' Nothing Nothing new new' is is' (record {
-        alike = tt;
+        alike = λ plan. tt;
         rows = alike_as old old' new new' (subst (λ (e : Event). Follows old e new) is follows) (subst (λ (e : Event). Follows old' e new') is' follows') alike.same;
       })
   met_alike (needs.Read place) pending event event' old old' new new' alike meets meets' follows follows' =
@@ -181,8 +202,8 @@ module _
       (one_plan : (confs : List IndexConf) (state : State) (statement : Statement) (a b : Plan) → Wants confs state statement a → Wants confs state statement b → a ≡ b)
       (one_refusal : (confs : List IndexConf) (state : State) (statement : Statement) (a b : Refused) → Refuses confs state statement a → Refuses confs state statement b → a ≡ b)
       (never_both : (confs : List IndexConf) (state : State) (statement : Statement) (plan : Plan) (refusal : Refused) → Wants confs state statement plan → Refuses confs state statement refusal → ⊥)
-      (one_decided : (plan : Plan) (happened other : Happened) (a b : Reply) → AreAlike happened other → Decides plan happened a → Decides plan other b → a ≡ b)
-      (one_next : (plan : Plan) (happened other : Happened) (state : State) → AreAlike happened other → next_of plan happened state ≡ next_of plan other state) where
+      (one_decided : (plan : Plan) (happened other : Happened) (a b : Reply) → AreAlike plan happened other → Decides plan happened a → Decides plan other b → a ≡ b)
+      (one_next : (plan : Plan) (happened other : Happened) (state : State) → AreAlike plan happened other → next_of plan happened state ≡ next_of plan other state) where
     one_reply : (confs : List IndexConf) (state : State) (statement : Statement) (event event' : Event) (a b : Reply) (x y : State) (old old' new new' : Tables) → Alike old old' → event ≢ NoMemory → event' ≢ NoMemory
         → RepliesTo confs state statement event a x → RepliesTo confs state statement event' b y → Follows old event new → Follows old' event' new' → (a ≡ b) × (x ≡ y) × HaveSameRows new new'
     one_reply confs state statement event event' a b x y old old' new new' alike memory memory' (inl (r, refuses, is, says, stays)) (inl (s, refuses', is', says', stays')) follows follows' = (
@@ -198,8 +219,8 @@ module _
         let same : other ≡ plan = one_plan confs state statement other plan wants' wants in
         let it : Meets (need_of plan) (pending_of state plan) event' = subst (λ (p : Plan). Meets (need_of p) (pending_of state p) event') same meets' in
         let both = met_alike (need_of plan) (pending_of state plan) event event' old old' new new' alike meets it follows follows' in (
-          one_decided plan (tells event) (tells event') a b both.alike decides (subst (λ (p : Plan). Decides p (tells event') b) same decides'),
-          next ∙ one_next plan (tells event) (tells event') state both.alike ∙ ap (λ (p : Plan). next_of p (tells event') state) (sym same) ∙ sym next',
+          one_decided plan (tells event) (tells event') a b (both.alike plan) decides (subst (λ (p : Plan). Decides p (tells event') b) same decides'),
+          next ∙ one_next plan (tells event) (tells event') state (both.alike plan) ∙ ap (λ (p : Plan). next_of p (tells event') state) (sym same) ∙ sym next',
           both.rows,
         )
     one_reply confs state statement event event' a b x y old old' new new' alike memory memory' (inr (inr (takes, is, says, stays))) replies follows follows' = absurd (memory is)

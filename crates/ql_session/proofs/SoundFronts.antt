@@ -51,7 +51,7 @@ pub one_event : (old : Tables) (event : Event) (new : Tables) â†’ AreSound old â
 one_event old (Configured confs) new sound (is, same) = (tt, sound_as old new same sound)
 one_event old Nothing new sound same = (tt, sound_as old new same sound)
 one_event old NoMemory new sound same = (tt, sound_as old new same sound)
-one_event old (Read place front) new sound (same, is) =
+one_event old (Read place front) new sound (same, (is, memory)) =
     let after : AreSound new = sound_as old new same sound in
     (sound_at new.fronts place front after is, after)
 one_event old (Commit place ops outcome front) new sound (mid, settled, (before, is, leaves, same)) =

@@ -2,6 +2,8 @@
 pub mod Events
 -- the indexes and their documents in memory, and what happens to them
 pub mod Tables
+-- what is pending fits the indexes
+pub mod Fitting
 -- what is replied to a text of statements
 pub mod Statements
 -- a session over a connection

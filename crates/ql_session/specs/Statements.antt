@@ -1,5 +1,5 @@
 -- The statement machine: what is replied to a text of statements, by what the outside did about each of them.
-use Rattle.std.specs.Prelude.{◌≡◌, ◌≤◌, ◌<◌, ◌⊎◌, ⊤, ℕ, List, [], ◌∷◌, ◌++◌, Bool, true, false, All, length, Option, Some}
+use Rattle.std.specs.Prelude.{◌≡◌, ◌≤◌, ◌⊎◌, ⊤, ℕ, List, [], ◌∷◌, ◌++◌, Bool, true, false, All, length, Option, Some}
 use Rattle.mysql_wire.specs.Packets.{packets_from, sequence_after}
 use Rattle.index_conf.specs.declared.conf.IndexConf.{IndexConf}
 use Rattle.ql_lex.specs.declared.fault.LexFault.{LexFault}
@@ -14,7 +14,7 @@ use Rattle.ql_answers.specs.declared.event.Need.{Need}
 use Rattle.ql_answers.specs.declared.event.Need.TheVariants as needs
 use Rattle.ql_answers.specs.declared.plan.Plan.{Plan}
 use Rattle.ql_answers.specs.declared.state.State.{State}
-use Rattle.ql_refusals.specs.Refusals.{Refused, bad_token, bad_syntax, no_memory, not_offered}
+use Rattle.ql_refusals.specs.Refusals.{Refused, bad_token, bad_syntax, no_memory}
 use Rattle.ql_answers.specs.Replies.{Reply, Fails, is_refusal, payloads}
 use Rattle.ql_answers.specs.Plans.{Wants, Refuses, TakesMemory}
 use Rattle.ql_answers.specs.Sessions.{Decides, Happened, HasLayers, need_of, next_of, pending_of}
@@ -22,22 +22,13 @@ use Rattle.ql_answers.specs.Sessions as happenings
 use Rattle.ql_answers.specs.States.{status_of}
 use Rattle.ql_session.specs.Events.{Event, Configured, Nothing, NoMemory, Read, Commit}
 
--- how many statements of a packet are run
-abbrev pub most_run : ℕ
-most_run = 1
-
--- The text is a packet of these statements, and not of more than are run.
+-- The text is a packet of these statements.
 abbrev pub States : List ℕ → List Statement → Type 0
-States text statements = (tokens : List Lexeme) × AreTokens text tokens × IsPacket statements tokens × (length statements ≤ most_run)
+States text statements = (tokens : List Lexeme) × AreTokens text tokens × IsPacket statements tokens × (length statements ≤ MAX_STATEMENTS)
 
--- The tokens are a packet of more statements than are run.
-abbrev pub AreTooMany : List Lexeme → Refused → Type 0
-AreTooMany tokens refusal =
-    (statements : List Statement) × IsPacket statements tokens × (most_run < length statements) × (length statements ≤ MAX_STATEMENTS) × (refusal ≡ not_offered)
-
--- The tokens are no packet of statements, or one of more than are run.
+-- The tokens are no packet of statements, or one of too many.
 abbrev pub RefusesTokens : List Lexeme → Refused → Type 0
-RefusesTokens tokens refusal = ((fault : ParseFault) × IsFault tokens fault × (refusal ≡ bad_syntax fault)) ⊎ AreTooMany tokens refusal
+RefusesTokens tokens refusal = (fault : ParseFault) × IsFault tokens fault × (refusal ≡ bad_syntax fault)
 
 -- No token can be read at a place of the text, or its tokens are refused.
 abbrev pub RefusesText : List ℕ → Refused → Type 0
@@ -58,7 +49,7 @@ told documents (Configured confs) = happenings.Nothing
 told documents Nothing = happenings.Nothing
 told documents NoMemory = happenings.NoMemory
 told documents (Read place front) = happenings.Read (documents front)
-told documents (Commit place ops outcome front) = happenings.Commit outcome
+told documents (Commit place ops outcome front) = happenings.Committing outcome
 
 -- What was read has layers as a snapshot has them, at each of these events.
 abbrev pub HaveLayers : {F : Type 0} → (F → SnapshotValue) → List (Event F) → Type 0
@@ -77,7 +68,7 @@ IsMet documents confs old statement event reply new =
 
 -- The statement takes memory, and that was refused.
 abbrev pub IsWithoutMemory : {F : Type 0} → State → Statement → Event F → Reply → State → Type 0
-IsWithoutMemory old statement event reply new = TakesMemory statement × (event ≡ NoMemory) × (reply ≡ Fails no_memory) × (new ≡ old)
+IsWithoutMemory old statement event reply new = TakesMemory old statement × (event ≡ NoMemory) × (reply ≡ Fails no_memory) × (new ≡ old)
 
 -- What is replied to a statement, and the state of the session afterwards.
 abbrev pub Replies : {F : Type 0} → (F → SnapshotValue) → List IndexConf → State → Statement → Event F → Reply → State → Type 0

@@ -39,6 +39,7 @@ impl<T: TableStore> SessionOver<T> {
 
 impl<T: TableStore> Answerer for SessionOver<T> {
     ghost use Rattle.ql_session.specs.Events.{Event, Follows};
+    ghost use Rattle.ql_session.specs.Fitting.{Fits};
     ghost use Rattle.ql_session.specs.Session.{statement_machine};
 
     type Store = T;
@@ -48,6 +49,8 @@ impl<T: TableStore> Answerer for SessionOver<T> {
     ghost machine = { statement_machine T.words.documents };
 
     ghost follows = { Follows T.confs T.words };
+
+    ghost fits = { λ session store. Fits (T.confs store) session };
 
     fn status(&self) -> u16 {
         self.session.status()

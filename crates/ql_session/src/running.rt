@@ -3,6 +3,7 @@ ghost use Rattle.std.specs.Prelude.{◌≡◌, ◌≤◌, false, length};
 ghost use Rattle.std.specs.Option.{IsSomeAnd};
 ghost use Rattle.reply_rows.specs.Written.{IsOpen};
 ghost use Rattle.ql_answers.specs.Sessions.{CanHave, happened_by};
+ghost use Rattle.ql_session.specs.Fitting.{Fits};
 ghost use Rattle.ql_session.specs.steps.Running.{IsAt, RepliesPlan, Runs, RunsAll};
 
 use crate::TableStore;
@@ -24,7 +25,10 @@ pub(crate) fn run_all<T: TableStore>(
 )
     requires open { replies.old.refused ≡ false }
     requires room { length statements.now ≤ replies.old.room }
-    ensures { RunsAll T.confs T.words tables.old machine.old.state statements.now tables.new machine.new.state replies.old replies.new }
+    requires fits { Fits (T.confs tables.old) machine.old.state }
+    ensures runs { RunsAll T.confs T.words tables.old machine.old.state statements.now tables.new machine.new.state replies.old replies.new }
+    ensures fits { Fits (T.confs tables.new) machine.new.state }
+    ensures confs { T.confs tables.new ≡ T.confs tables.old }
 {
     match statements.split_first() {
         None => {}
@@ -47,7 +51,8 @@ fn run<T: TableStore>(
     more: bool,
     replies: &mut Replies,
 )
-    requires { IsOpen replies.old }
+    requires open { IsOpen replies.old }
+    requires fits { Fits (T.confs tables.old) machine.old.state }
     ensures { Runs T.confs T.words tables.old machine.old.state statement.now more tables.new machine.new.state replies.old replies.new }
 {
     match machine.need(alloc, statement, tables) {
@@ -114,6 +119,7 @@ fn commit<T: TableStore>(
 )
     requires at { IsAt (T.confs tables.old) statement.now machine.old (Need.Commit place) }
     requires open { IsOpen replies.old }
+    requires fits { Fits (T.confs tables.old) machine.old.state }
     ensures { Runs T.confs T.words tables.old machine.old.state statement.now more tables.new machine.new.state replies.old replies.new }
 {
     match tables.commit(alloc, place, machine.pending()) {

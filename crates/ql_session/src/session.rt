@@ -2,6 +2,7 @@
 ghost use Rattle.std.specs.Prelude.{◌≡◌, ◌≤◌, [], vec_capacity};
 ghost use Rattle.mysql_wire.specs.CommandValues.{command_value};
 ghost use Rattle.reply_rows.specs.Written.{begun};
+ghost use Rattle.ql_session.specs.Fitting.{Fits};
 ghost use Rattle.ql_session.specs.Session.{TakesStep};
 ghost use Rattle.ql_session.specs.Tables.{in_memory};
 ghost use Rattle.ql_session.specs.steps.Running.{RepliesText};
@@ -54,7 +55,8 @@ impl Session {
         }
     }
 
-    /// Answers one command over tables in memory. `out` is empty and has 1,024 spare bytes at least, so that replies of one
+    /// Answers one command over tables in memory, of the indexes that what is pending in the session was written for, as it is where
+    /// a session has always one store. `out` is empty and has 1,024 spare bytes at least, so that replies of one
     /// packet take no memory. Where a statement's memory is refused, nothing of it was done, and the reply says so.
     pub fn step(
         &mut self,
@@ -65,8 +67,11 @@ impl Session {
     ) -> StepEnd
         requires empty { out.old.items ≡ [] }
         requires room { 1024 ≤ vec_capacity out.old }
+        requires fits { Fits tables.old.confs self.old }
         ensures steps { TakesStep (λ all. all.confs) in_memory result self.old (command_value command.entry) tables.old tables.new out.new.items self.new }
         ensures room { 1024 ≤ vec_capacity out.new }
+        ensures fits { Fits tables.new.confs self.new }
+        ensures confs { tables.new.confs ≡ tables.old.confs }
     {
         let mut replies = Replies::over(mem::replace(out, Vec::new(alloc)), 1);
         let end = self.step_over(alloc, tables, command, &mut replies);
@@ -82,8 +87,11 @@ impl Session {
         command: Command<'_>,
         replies: &mut Replies,
     ) -> StepEnd
-        requires { replies.old ≡ begun 1 }
-        ensures { TakesStep T.confs T.words result self.old (command_value command.entry) tables.old tables.new replies.new.bytes self.new }
+        requires begun { replies.old ≡ begun 1 }
+        requires fits { Fits (T.confs tables.old) self.old }
+        ensures steps { TakesStep T.confs T.words result self.old (command_value command.entry) tables.old tables.new replies.new.bytes self.new }
+        ensures fits { Fits (T.confs tables.new) self.new }
+        ensures confs { T.confs tables.new ≡ T.confs tables.old }
     {
         match command {
             Command::Quit => StepEnd::Quit,
@@ -121,8 +129,11 @@ impl Session {
         text: &[u8],
         replies: &mut Replies,
     )
-        requires { replies.old ≡ begun 1 }
-        ensures { RepliesText T.confs T.words self.old text.now tables.old tables.new replies.new.bytes self.new }
+        requires begun { replies.old ≡ begun 1 }
+        requires fits { Fits (T.confs tables.old) self.old }
+        ensures replies { RepliesText T.confs T.words self.old text.now tables.old tables.new replies.new.bytes self.new }
+        ensures fits { Fits (T.confs tables.new) self.new }
+        ensures confs { T.confs tables.new ≡ T.confs tables.old }
     {
         match statements(alloc, text) {
             Ok(list) => run_all(alloc, &mut self.machine, tables, &list, replies),

@@ -7,7 +7,7 @@ ghost use Rattle.doc_types.specs.Documents.{AreRowsOf};
 ghost use Rattle.doc_types.specs.Schemas.{AreZones, IsSchema};
 ghost use Rattle.doc_types.specs.Transactions.{IsTxnOf};
 ghost use Rattle.commit_outcomes.specs.Outcomes.{Commits, empty_snapshot};
-ghost use Rattle.ql_session.specs.Tables.{empty_tables};
+ghost use Rattle.ql_session.specs.Tables.{AreInMemory, empty_tables};
 
 use crate::TableStore;
 use commit_outcomes::CommitOutcome;
@@ -46,6 +46,7 @@ impl Table {
         ensures front { IfOk result (λ front. arc_value front ≡ self.now.store.snapshot) }
         ensures schema { IsSchema self.now.conf.schema }
         ensures rows { All (λ layer. AreRowsOf self.now.conf.schema layer.rows) self.now.store.snapshot.layers }
+        ensures memory { AreInMemory self.now.store.snapshot.layers }
     {
         self.store.front()
     }

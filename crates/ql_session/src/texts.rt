@@ -5,15 +5,12 @@ ghost use Rattle.ql_session.specs.steps.Running.{ReadsText, ReadsTokens};
 
 use ql_lex::{Token, lex};
 use ql_read::parse;
-use ql_refusals::{Refusal, bad_syntax, bad_token, not_offered};
+use ql_refusals::{Refusal, bad_syntax, bad_token};
 use ql_tree::Statement;
 use srch_base::Or;
 use std::alloc::Global;
 
-/// How many statements of a packet are run.
-const MOST_RUN: usize = 1;
-
-/// The statements of a text, where they are not more than are run. No packet holds 2^32 bytes; a text of so many is taken for one that no memory is left for.
+/// The statements of a text. No packet holds 2^32 bytes; a text of so many is taken for one that no memory is left for.
 pub(crate) fn statements(alloc: Global, text: &[u8]) -> Result<Vec<Statement>, Or<Refusal>>
     ensures { ReadsText text.now result }
 {
@@ -27,13 +24,12 @@ pub(crate) fn statements(alloc: Global, text: &[u8]) -> Result<Vec<Statement>, O
     }
 }
 
-/// The statements of tokens, where they are not more than are run.
+/// The statements of tokens.
 fn parsed(alloc: Global, tokens: &[Token<'_>]) -> Result<Vec<Statement>, Or<Refusal>>
     requires { AreLexemes (lexemes tokens.now) }
     ensures { ReadsTokens (lexemes tokens.now) result }
 {
     match parse(alloc, tokens) {
-        Ok(statements) if statements.len() > MOST_RUN => Err(Or::Fault(not_offered())),
         Ok(statements) => Ok(statements),
         Err(Or::NoMemory) => Err(Or::NoMemory),
         Err(Or::Fault(fault)) => Err(Or::Fault(bad_syntax(fault))),

@@ -28,6 +28,9 @@ pub trait Answerer {
     /// What an event says of the store before and after it.
     ghost follows: { Self.Store → Event → Self.Store → Type 0 };
 
+    /// What holds between the session and the store before and after each answer.
+    ghost fits: { Self → Self.Store → Type 0 };
+
     /// The status that packets carry in this state of the session.
     fn status(&self) -> u16
         ensures { result ≡ machine.status self.now };
@@ -42,5 +45,7 @@ pub trait Answerer {
     )
         requires other { command_value command ≢ asks_quit }
         requires begun { replies.old ≡ begun 1 }
-        ensures { Answered machine follows self.old (command_value command.entry) store.old store.new replies.new.bytes self.new };
+        requires fits { fits self.old store.old }
+        ensures answers { Answered machine follows self.old (command_value command.entry) store.old store.new replies.new.bytes self.new }
+        ensures fits { fits self.new store.new };
 }

@@ -82,6 +82,7 @@ pub fn serve<A: Answerer, K: Link>(
     connection: u32,
     link: &mut K,
 ) -> LinkEnd
+    requires { A.fits answerer.old store.old }
     ensures { Moves K.Link link.old link.new (λ before now read written.
         (events : List A.Event) × IsLine A.machine connection answerer.old before now read written result events × FollowAll A.follows store.old events store.new) }
 {
@@ -112,6 +113,7 @@ fn converse<A: Answerer, K: Link>(
     room: &mut Room,
 ) -> LinkEnd
     requires good { room.old.framer.refused ≡ None }
+    requires fits { A.fits answerer.old store.old }
     ensures { Moves K.Link link.old link.new (λ before now read written.
         (events : List A.Event) × Ends A.machine before now result (Greeted answerer.old) room.old.framer.held read written events × FollowAll A.follows store.old events store.new) }
 {
@@ -163,12 +165,14 @@ fn turn<A: Answerer, K: Link>(
     link: &mut K,
     room: &mut Room,
 ) -> Result<(), LinkEnd>
-    requires { room.old.framer.refused ≡ None }
+    requires good { room.old.framer.refused ≡ None }
+    requires fits { A.fits answerer.old store.old }
     ensures moves { Moves K.Link link.old link.new (λ before now read written.
         (events : List A.Event)
         × ((answered : ℕ) → answered < most_commands → Goes A.machine before now result (Talking answerer.old answered) room.old.framer.held read written events (Talking answerer.new (suc answered)) room.new.framer.held)
         × FollowAll A.follows store.old events store.new) }
     ensures good { OnOk result (room.new.framer.refused ≡ None) }
+    ensures fits { A.fits answerer.new store.new }
 {
     match fill(&mut room.framer, &mut room.buffer, link, 0) {
         Ok(()) => {}

@@ -38,7 +38,9 @@ pub(crate) fn take_command<A: Answerer>(
     requires whole { Waits 0 framer.old → ⊥ }
     requires good { framer.old.refused ≡ None }
     requires begun { replies.old ≡ begun 1 }
-    ensures { TakesCommand A.machine A.follows result framer.old.held framer.new answerer.old answerer.new store.old store.new replies.new.bytes }
+    requires fits { A.fits answerer.old store.old }
+    ensures takes { TakesCommand A.machine A.follows result framer.old.held framer.new answerer.old answerer.new store.old store.new replies.new.bytes }
+    ensures fits { A.fits answerer.new store.new }
 {
     match framer.next(0) {
         Next::NeedMore => unreachable!(),

@@ -6,6 +6,7 @@ use Rattle.reply_rows.specs.Written.{Written}
 use Rattle.index_conf.specs.declared.conf.IndexConf.{IndexConf}
 use Rattle.ql_lex.specs.Tokens.{Lexeme}
 use Rattle.ql_tree.specs.declared.statement.Statement.{Statement}
+use Rattle.ql_tree.specs.declared.statement.TheConstants.{MAX_STATEMENTS}
 use Rattle.ql_grammar.specs.Packets.{IsPacket}
 use Rattle.ql_answers.specs.declared.event.Need.{Need}
 use Rattle.ql_answers.specs.declared.plan.Plan.{Plan}
@@ -16,12 +17,13 @@ use Rattle.ql_answers.specs.Replies.{Reply, Fails, replied}
 use Rattle.ql_answers.specs.Sessions.{Standing, Happened, Decides, need_of, next_of, reply_takes_memory}
 use Rattle.ql_answers.specs.States.{status_of}
 use Rattle.ql_session.specs.Events.{Event, StoreWords, Follows}
-use Rattle.ql_session.specs.Statements.{States, RefusesText, RefusesTokens, most_run, Replies, AreAnswered, AnswersText}
+use Rattle.ql_session.specs.Fitting.{Fits}
+use Rattle.ql_session.specs.Statements.{States, RefusesText, RefusesTokens, Replies, AreAnswered, AnswersText}
 use Rattle.serve_line.specs.Machines.{FollowAll}
 
 -- What tokens are read as: a packet of statements, or none.
 abbrev pub ReadsTokens : {M : Type 0} → List Lexeme → Result (Vec Statement M) (Or Refused) → Type 0
-ReadsTokens tokens (Ok statements) = IsPacket statements.items tokens × (length statements.items ≤ most_run)
+ReadsTokens tokens (Ok statements) = IsPacket statements.items tokens × (length statements.items ≤ MAX_STATEMENTS)
 ReadsTokens tokens (Err causes.NoMemory) = Unit {0}
 ReadsTokens tokens (Err (causes.Fault refusal)) = RefusesTokens tokens refusal
 
@@ -49,13 +51,14 @@ abbrev pub RepliesPlan : Standing → Happened → Bool → State → Written �
 RepliesPlan old happened more new before after =
     (plan : Plan) × (reply : Reply) × (old.plan ≡ Some plan) × Says plan old.state happened reply new × (after ≡ replied before (status_of new more) reply)
 
--- A statement was answered. The status of its packets is that of the session afterwards.
+-- A statement was answered, and what is pending still fits. The status of its packets is that of the session afterwards.
 pub record Runs {D F : Type 0} (confs : D → List IndexConf) (words : StoreWords D F) (before : D) (old : State) (statement : Statement) (more : Bool) (after : D) (new : State) (out longer : Written) : Type 0 where
   pub event : Event F
   pub reply : Reply
   pub replies : Replies words.documents (confs before) old statement event reply new
   pub follows : Follows confs words before event after
   pub same : confs after ≡ confs before
+  pub fits : Fits (confs before) old → Fits (confs after) new
   pub says : longer ≡ replied out (status_of new more) reply
 
 -- Statements were answered one after another.

@@ -1,5 +1,9 @@
-use Rattle.ql_session.proofs.Replying.{runs_commit}
+use Rattle.ql_session.proofs.Replying.{can_be_committed, runs_commit}
 use Rattle.ql_session.proofs.running.commit.Goals as goal
+
+pub commit-requires : goal.commit-requires
+commit-requires g c =
+    can_be_committed (g.T.Catalog.confs c.args.tables.now) c.args.statement.now c.args.machine.now c.args.place c.pending.result.now c.requires.at c.pending.ensures c.requires.fits
 
 pub returns-in-Ok : goal.returns-in-Ok
 returns-in-Ok g c =

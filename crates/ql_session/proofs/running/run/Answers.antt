@@ -3,6 +3,7 @@ use Rattle.ql_refusals.specs.Refusals.{Refused, no_memory}
 use Rattle.ql_answers.specs.Replies.{Fails, replied}
 use Rattle.ql_session.specs.Events.{Nothing}
 use Rattle.ql_session.proofs.Replying.{needs_memory, needs_none, runs_want}
+use Rattle.ql_session.proofs.StaysFit.{fits_after}
 use Rattle.ql_session.proofs.running.run.Goals as goal
 
 pub returns-in-Err-NoMemory : goal.returns-in-Err-NoMemory
@@ -20,5 +21,7 @@ returns-in-Err-Fault g c =
       replies = inl (c.in-Err-Fault.refusal, told.0, refl, refl, told.1);
       follows = refl;
       same = refl;
+      fits = λ fits. fits_after g.T.TableStore.words.documents (g.T.Catalog.confs c.args.tables.now) (g.T.Catalog.confs c.args.tables.now) c.args.machine.now.state c.need.new.self.state c.args.statement.now Nothing (Fails c.in-Err-Fault.refusal)
+          (inl (c.in-Err-Fault.refusal, told.0, refl, refl, told.1)) refl fits;
       says = c.put_refusal-in-Err-Fault.ensures ∙ ap (λ (r : Refused). replied c.args.replies.now 0 (Fails r)) c.in-Err-Fault.refusal-is;
     }

@@ -29,6 +29,7 @@ commands-init g c =
     let start = c.args.answerer.now in
     record {
       good = c.in-Ok.ensures.good;
+      fits = c.requires.fits;
       talked = Moves-weaker K c.args.link.now c.shake.new.link
           (λ before now read written. Goes {T = Unit {0}} A.machine before now (Ok c.in-Ok.field-0) (Greeted start) held read written [] (Talking start 0) c.shake.new.room.framer.held)
           (λ before now read written. (events : List A.Event) × GoesOn A.machine (Greeted start) held read written events (Talking start 0) c.shake.new.room.framer.held
@@ -38,7 +39,7 @@ commands-init g c =
     }
 
 pub turn-requires : goal.turn-requires
-turn-requires g c = c.commands.invariant.good
+turn-requires g c = record { good = c.commands.invariant.good; fits = c.commands.invariant.fits }
 
 pub returns-in-Err-turn : goal.returns-in-Err-turn
 returns-in-Err-turn g c =
@@ -76,6 +77,7 @@ commands-preserved g c =
     let new = c.turn.new.answerer in
     record {
       good = c.in-Ok-turn.ensures.good;
+      fits = c.in-Ok-turn.ensures.fits;
       talked = Moves-then K c.args.link.now c.commands.link c.turn.new.link
           (λ before now read written. (events : List A.Event) × GoesOn A.machine (Greeted start) held read written events (Talking old c.commands.counter) c.commands.room.framer.held
           × FollowAll A.follows c.args.store.now events c.commands.store)

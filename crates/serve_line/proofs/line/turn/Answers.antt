@@ -30,7 +30,7 @@ returns-in-Reply-clause-moves g c =
     let held = c.args.room.now.framer.held in
     let old = c.args.answerer.now in
     let new = c.take_command.new.answerer in
-    let t = c.in-Reply.ensures in
+    let t = c.in-Reply.ensures.takes in
     let s = t.4 in
     Moves-then K c.args.link.now c.fill.new.link c.send.new.link
     (Fills {T = Unit {0}} (Ok c.in-Ok.field-0) 0 held c.fill.new.framer.held)
@@ -55,7 +55,7 @@ returns-in-Quit-clause-moves g c =
     let m = meters_of K in
     let held = c.args.room.now.framer.held in
     let old = c.args.answerer.now in
-    let t = c.in-Quit.ensures in
+    let t = c.in-Quit.ensures.takes in
     Moves-weaker K c.args.link.now c.fill.new.link
     (Fills {T = Unit {0}} (Ok c.in-Ok.field-0) 0 held c.fill.new.framer.held)
     (λ before now read written. (events : List g.A.Answerer.Event)
@@ -75,7 +75,7 @@ returns-in-TooLarge-clause-moves g c =
     let m = meters_of K in
     let held = c.args.room.now.framer.held in
     let old = c.args.answerer.now in
-    let t = c.in-TooLarge.ensures in
+    let t = c.in-TooLarge.ensures.takes in
     Moves-then K c.args.link.now c.fill.new.link c.refuse.new.link
     (Fills {T = Unit {0}} (Ok c.in-Ok.field-0) 0 held c.fill.new.framer.held)
     (RefusesWith c.refuse.result c.too_large.result (TooLarge c.in-TooLarge.length))
@@ -98,7 +98,7 @@ returns-in-OutOfOrder-clause-moves g c =
     let m = meters_of K in
     let held = c.args.room.now.framer.held in
     let old = c.args.answerer.now in
-    let t = c.in-OutOfOrder.ensures in
+    let t = c.in-OutOfOrder.ensures.takes in
     Moves-then K c.args.link.now c.fill.new.link c.refuse-in-OutOfOrder.new.link
     (Fills {T = Unit {0}} (Ok c.in-Ok.field-0) 0 held c.fill.new.framer.held)
     (RefusesWith c.refuse-in-OutOfOrder.result c.out_of_order.result (OutOfOrder c.in-OutOfOrder.seq))
