@@ -12,10 +12,14 @@ const BAD: &[u8] = b"searchd: bad arguments\n";
 const FAULT: &[u8] = b"searchd: host fault\n";
 
 /// The words, how many doors without a line the host has, its calls that fail, the status, and what is printed to the errors.
-const STATUSES: [(&str, usize, &[u32], Status, &[u8]); 13] = [
+const STATUSES: [(&str, usize, &[u32], Status, &[u8]); 17] = [
     ("", 1, &[], Status::Usage, BAD),
     ("session --config", 1, &[], Status::Usage, BAD),
     ("serve --config f", 1, &[], Status::Usage, BAD),
+    ("serve --config f --listen a", 1, &[], Status::Usage, BAD),
+    ("check --config f", 1, &[], Status::Usage, BAD),
+    ("selftest --number 1 --docs 2", 1, &[], Status::Usage, BAD),
+    ("session --config -f", 1, &[], Status::Usage, BAD),
     ("session --conf f", 1, &[], Status::Usage, BAD),
     ("session --config f g", 1, &[], Status::Usage, BAD),
     ("session", 1, &[1], Status::Usage, b""),

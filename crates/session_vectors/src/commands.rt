@@ -1,8 +1,7 @@
 //! The bytes of replies to commands, by the protocol's documentation.
-use crate::running::{TWO, replied, tables_of};
+use crate::running::{Client, Clients, TWO};
 use crate::spelling::written_out;
 use mysql_wire::Command;
-use ql_session::{PlainTables, Session, StepEnd};
 use std::alloc::Global;
 use std::test::Fail;
 
@@ -28,10 +27,12 @@ query INSERT INTO rt (id,title) VALUES (18446744073709551615,'hello'), (2,'wide'
 query SELECT id FROM rt WHERE MATCH('HELLO') ⇒ ⟨01 00 00 01 01 1a 00 00 02 03⟩def⟨00 00 00 02⟩id⟨02⟩id⟨0c 3f 00 14 00 00 00 08 20 00 00 00 00 05 00 00 03 fe 00 00 02 00 15 00 00 04 14⟩18446744073709551615⟨05 00 00 05 fe 00 00 02 00⟩
 query INSERT INTO rt (id,title) VALUES (2,'hello') ⇒ ⟨17 00 00 01 ff 28 04⟩#42000duplicate id 2
 query SELECT id FROM nosuch WHERE MATCH('hello') ⇒ ⟨1f 00 00 01 ff 28 04⟩#42000unknown index 'nosuch'
-query BEGIN ⇒ ⟨18 00 00 01 ff 28 04⟩#42000not offered yet
-query SET NAMES utf8; set autocommit = 1 ⇒ ⟨18 00 00 01 ff 28 04⟩#42000not offered yet
-query SET NAMES utf8;SET NAMES utf8; ⇒ ⟨18 00 00 01 ff 28 04⟩#42000not offered yet
-query INSERT INTO rt (id) VALUES (7); SELECT id FROM rt WHERE MATCH('wide') ⇒ ⟨18 00 00 01 ff 28 04⟩#42000not offered yet
+query SHOW META ⇒ ⟨18 00 00 01 ff 28 04⟩#42000not offered yet
+query BEGIN ⇒ ⟨07 00 00 01 00 00 00 03 00 00 00⟩
+option 0 ⇒ ⟨05 00 00 01 fe 00 00 03 00⟩
+query SET NAMES utf8; set autocommit = 1 ⇒ ⟨07 00 00 01 00 00 00 0b 00 00 00 07 00 00 02 00 00 00 02 00 00 00⟩
+query SET NAMES utf8;SET NAMES utf8; ⇒ ⟨07 00 00 01 00 00 00 0a 00 00 00 07 00 00 02 00 00 00 02 00 00 00⟩
+query INSERT INTO rt (id) VALUES (6); SELECT id FROM rt WHERE MATCH('wide') ⇒ ⟨07 00 00 01 00 01 00 0a 00 00 00 01 00 00 02 01 1a 00 00 03 03⟩def⟨00 00 00 02⟩id⟨02⟩id⟨0c 3f 00 14 00 00 00 08 20 00 00 00 00 05 00 00 04 fe 00 00 02 00 02 00 00 05 01 32 05 00 00 06 fe 00 00 02 00⟩
 query INSERT INTO rt (id, content) VALUES (7, 'wide'); ⇒ ⟨07 00 00 01 00 01 00 02 00 00 00⟩
 query SELECT id FROM rt WHERE MATCH('wide') ⇒ ⟨01 00 00 01 01 1a 00 00 02 03⟩def⟨00 00 00 02⟩id⟨02⟩id⟨0c 3f 00 14 00 00 00 08 20 00 00 00 00 05 00 00 03 fe 00 00 02 00 02 00 00 04 01 32 02 00 00 05 01 37 05 00 00 06 fe 00 00 02 00⟩
 ping ⇒ ⟨07 00 00 01 00 00 00 02 00 00 00⟩
@@ -50,15 +51,10 @@ fn command(text: &str) -> Result<Command<'_>, Fail> {
 }
 
 /// Fails with a command to which other bytes are replied.
-fn try_command(
-    alloc: Global,
-    session: &mut Session,
-    tables: &mut PlainTables,
-    line: &str,
-) -> Result<(), Fail> {
+fn try_command(alloc: Global, clients: &mut Clients, line: &str) -> Result<(), Fail> {
     let (text, reply) = line.split_once(" ⇒ ").ok_or("a line without an arrow")?;
-    let packets = replied(alloc, session, tables, command(text)?)?;
-    if packets.as_slice() == written_out(alloc, reply)?.as_slice() {
+    let packets = clients.replied(alloc, Client::First, command(text)?)?;
+    if packets.ok_or("the session ends")?.as_slice() == written_out(alloc, reply)?.as_slice() {
         return Ok(());
     }
     Err(Fail::new(format!(in alloc; "{text}")?))
@@ -66,10 +62,9 @@ fn try_command(
 
 #[test]
 fn commands_are_answered_by_these_bytes(rt: HostRuntime) -> Result<(), Fail> {
-    let mut tables = tables_of(rt.alloc(), TWO)?;
-    let mut session = Session::new();
+    let mut clients = Clients::over(rt.alloc(), TWO)?;
     for line in COMMANDS.lines().skip(1) {
-        try_command(rt.alloc(), &mut session, &mut tables, line)?;
+        try_command(rt.alloc(), &mut clients, line)?;
     }
     Ok(())
 }
@@ -77,10 +72,5 @@ fn commands_are_answered_by_these_bytes(rt: HostRuntime) -> Result<(), Fail> {
 #[test]
 fn nothing_is_replied_to_quit(rt: HostRuntime) -> Result<(), Fail> {
     let alloc = rt.alloc();
-    let mut tables = tables_of(alloc, TWO)?;
-    let mut out = Vec::with_capacity(alloc, 1024)?;
-    let end = Session::new().step(alloc, &mut tables, Command::Quit, &mut out);
-    assert!(rt; end == StepEnd::Quit);
-    assert!(rt; out.is_empty());
-    Ok(())
+    Clients::over(alloc, TWO)?.quit(alloc, Client::First)
 }

@@ -1,7 +1,7 @@
 //! What a word finds: the most fields first, then the smallest id. Worked out by hand from the texts of the documents.
-use crate::running::{TWO, answer, tables_of, try_each, try_in_turn};
+use crate::running::{Client, Clients, TWO, answer, told_of, try_each, try_in_turn};
 use itoa::Buffer;
-use ql_session::{PlainTables, Session};
+use mysql_wire::Command;
 use std::alloc::Global;
 use std::test::Fail;
 
@@ -71,17 +71,16 @@ fn insert_one(alloc: Global, id: u64) -> Result<Vec<u8>, Fail> {
 }
 
 /// Documents of the ids 30 down to 1, each by a text of its own.
-fn thirty(alloc: Global) -> Result<PlainTables, Fail> {
-    let mut tables = tables_of(alloc, TWO)?;
-    let mut session = Session::new();
+fn thirty(alloc: Global) -> Result<Clients, Fail> {
+    let mut clients = Clients::over(alloc, TWO)?;
     for passed in 0..30_u64 {
         let text = insert_one(alloc, 30 - passed)?;
-        let told = answer(alloc, &mut session, &mut tables, &text)?;
+        let told = answer(alloc, &mut clients, &text)?;
         if told.as_slice() != b"OK 1".as_slice() {
             return Err("an INSERT is refused".into());
         }
     }
-    Ok(tables)
+    Ok(clients)
 }
 
 /// The first 20 ids.
@@ -91,9 +90,9 @@ const TWENTY: &[u8] =
 #[test]
 fn twenty_documents_are_shown(rt: HostRuntime) -> Result<(), Fail> {
     let alloc = rt.alloc();
-    let mut tables = thirty(alloc)?;
-    let select = b"SELECT id FROM rt WHERE MATCH('a')";
-    let told = answer(alloc, &mut Session::new(), &mut tables, select)?;
+    let mut clients = thirty(alloc)?;
+    let select = Command::Query(b"SELECT id FROM rt WHERE MATCH('a')");
+    let told = told_of(alloc, &mut clients, Client::Second, select)?;
     assert!(rt; told.as_slice() == TWENTY);
     Ok(())
 }

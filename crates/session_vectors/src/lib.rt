@@ -37,3 +37,17 @@ mod sharing;
 mod showing;
 #[cfg(test)]
 mod spelling;
+#[cfg(test)]
+mod transactions;
+#[cfg(test)]
+mod transactions_begun;
+#[cfg(test)]
+mod transactions_ids;
+#[cfg(test)]
+mod transactions_limits;
+#[cfg(test)]
+mod transactions_packets;
+#[cfg(test)]
+mod transactions_pending;
+#[cfg(test)]
+mod transactions_refused;

@@ -1,6 +1,7 @@
 //! A reply as one text, by which tables say what is wanted: `OK 1`, `ERR 1064 42000 syntax error at 0`, `EOF`, and a result
 //! set as `id | 2 | 1`, with `''` for an empty cell. A column whose kind isn't that of the column of this name has it behind its
-//! name: `g:Uint`. `; ` follows a reply whose status says that another one follows.
+//! name: `g:Uint`. `; ` follows a reply whose status says that another one follows. The status stands before its reply, as in
+//! `3: OK 1`, but for that of AUTOCOMMIT 1 without a transaction, which is 2, or 10 where another reply follows.
 use itoa::Buffer;
 use mysql_wire::{ColumnKind, read_column, read_eof, read_err, read_lenenc, read_ok, read_row};
 use srch_base::Text;
@@ -13,7 +14,8 @@ const LONGEST: usize = 65_535;
 /// What the next packet is.
 #[derive(Clone, Copy, PartialEq, Eq)]
 enum Next {
-    Reply,
+    /// A reply. The one before it has this status.
+    Reply(Option<u16>),
     /// A column's definition, after which so many come.
     Column(u64),
     /// The EOF after the columns.
@@ -25,22 +27,40 @@ enum Next {
 /// The replies that packets are. Their numbers go on from 1, modulo 256.
 pub(crate) fn told(alloc: Global, packets: &[u8]) -> Result<Vec<u8>, Fail> {
     let mut text = Vec::new(alloc);
+    let mut reply = Vec::new(alloc);
     let mut rest = packets;
     let mut number = 1_u8;
-    let mut next = Next::Reply;
+    let mut next = Next::Reply(None);
     for _ in 0..10_000 {
         if rest.is_empty() {
             break;
         }
         let (payload, after) = packet(rest, number)?;
-        next = tell(alloc, payload, next, &mut text)?;
+        next = tell(alloc, payload, next, &mut reply)?;
+        if let Next::Reply(status) = next {
+            push_reply(status, &mut reply, &mut text)?;
+        }
         number = number.wrapping_add(1);
         rest = after;
     }
-    if !rest.is_empty() || next != Next::Reply {
+    if !rest.is_empty() || !matches!(next, Next::Reply(_)) {
         return Err("a reply is cut off".into());
     }
     Ok(text)
+}
+
+/// Moves a whole reply to the others.
+fn push_reply(status: Option<u16>, reply: &mut Vec<u8>, text: &mut Vec<u8>) -> Result<(), Fail> {
+    let status = status.unwrap_or(2);
+    if status != 2 && status != 10 {
+        tell_number(u64::from(status), text)?;
+        text.extend_from_slice(b": ")?;
+    }
+    text.append(reply)?;
+    if status & 8 != 0 {
+        text.extend_from_slice(b"; ")?;
+    }
+    Ok(())
 }
 
 /// The payload of the packet at the front, which has this number, and what follows it.
@@ -61,11 +81,11 @@ fn tell(alloc: Global, payload: &[u8], next: Next, text: &mut Vec<u8>) -> Result
         return Err("a payload is long".into());
     }
     match next {
-        Next::Reply => tell_reply(alloc, payload, text),
+        Next::Reply(_) => tell_reply(alloc, payload, text),
         Next::Column(left) => tell_column(alloc, payload, left, text),
         Next::Columned => Ok(Next::Row(read_eof(payload).ok().ok_or("no EOF")?.status)),
         Next::Row(status) => match read_eof(payload) {
-            Ok(end) if end.status == status => tell_end(status, text),
+            Ok(end) if end.status == status => Ok(Next::Reply(Some(status))),
             Ok(_) => Err("the EOFs of a set differ".into()),
             Err(_) => tell_row(alloc, payload, status, text),
         },
@@ -82,11 +102,12 @@ fn tell_reply(alloc: Global, payload: &[u8], text: &mut Vec<u8>) -> Result<Next,
             let ok = read_ok(payload).ok().ok_or("no OK")?;
             text.extend_from_slice(b"OK ")?;
             tell_number(ok.affected, text)?;
-            tell_end(ok.status, text)
+            Ok(Next::Reply(Some(ok.status)))
         }
         Some(0xfe) => {
             text.extend_from_slice(b"EOF")?;
-            tell_end(read_eof(payload).ok().ok_or("no EOF")?.status, text)
+            let end = read_eof(payload).ok().ok_or("no EOF")?;
+            Ok(Next::Reply(Some(end.status)))
         }
         Some(0xff) => tell_refusal(alloc, payload, text),
         _ => {
@@ -113,17 +134,7 @@ fn tell_refusal(alloc: Global, payload: &[u8], text: &mut Vec<u8>) -> Result<Nex
     text.extend_from_slice(&refusal.state)?;
     text.push(b' ')?;
     text.extend_from_slice(refusal.text.as_bytes())?;
-    Ok(Next::Reply)
-}
-
-/// Appends the end of a reply.
-fn tell_end(status: u16, text: &mut Vec<u8>) -> Result<Next, Fail> {
-    match status {
-        2 => {}
-        10 => text.extend_from_slice(b"; ")?,
-        _ => return Err("another status".into()),
-    }
-    Ok(Next::Reply)
+    Ok(Next::Reply(None))
 }
 
 /// Appends a column's name, and its kind where the name doesn't say it. So many columns come after it, itself counted.

@@ -66,10 +66,6 @@ SELECT id FROM rt ORDER BY id, COUNT(*) DESC ⇒ ERR 1064 42000 not offered yet
 SELECT id FROM rt FACET gid ⇒ ERR 1064 42000 not offered yet
 SELECT id FROM rt FACET gid ORDER BY COUNT(*) DESC LIMIT 2, 3 ⇒ ERR 1064 42000 not offered yet
 SELECT id FROM rt FACET id FACET id FACET id FACET id FACET id FACET id FACET id FACET id FACET id FACET id FACET id FACET id FACET id FACET id FACET id FACET id FACET id ⇒ ERR 1064 42000 not offered yet
-SELECT id FROM rt; SELECT id FROM rt ⇒ ERR 1064 42000 not offered yet
-SELECT id FROM other ⇒ ERR 1064 42000 not offered yet
-SELECT id FROM OTHER WHERE MATCH('a') ⇒ ERR 1064 42000 not offered yet
-SELECT * FROM `other` LIMIT 0 ⇒ ERR 1064 42000 not offered yet
 SELECT COUNT(*) FROM other ⇒ ERR 1064 42000 not offered yet
 SELECT COUNT(*) FROM nosuch ⇒ ERR 1064 42000 not offered yet
 SELECT MIN(nosuch), SUM(title) FROM nosuch ⇒ ERR 1064 42000 not offered yet
@@ -83,7 +79,6 @@ SELECT COUNT(*) FROM rt OPTION nosuch=1 ⇒ ERR 1064 42000 not offered yet
 SELECT id, nosuch FROM rt GROUP BY gid ⇒ ERR 1064 42000 not offered yet
 SELECT title FROM rt FACET gid ⇒ ERR 1064 42000 not offered yet
 SELECT id FROM rt WHERE MATCH('"') ORDER BY COUNT(*) LIMIT 1000, 1 ⇒ ERR 1064 42000 not offered yet
-SELECT id FROM nosuch; SELECT id FROM rt ⇒ ERR 1064 42000 not offered yet
 SELECT id FROM nosuch ⇒ ERR 1064 42000 unknown index 'nosuch'
 SELECT id FROM NoSuch ⇒ ERR 1064 42000 unknown index 'nosuch'
 SELECT id FROM `Select` ⇒ ERR 1064 42000 unknown index 'select'
@@ -96,9 +91,15 @@ SELECT id FROM nosuch OPTION max_matches='a' ⇒ ERR 1064 42000 unknown index 'n
 SELECT id FROM nosuch WHERE MATCH('a') AND MATCH('b') ⇒ ERR 1064 42000 unknown index 'nosuch'
 SELECT id FROM nosuch LIMIT 1000, 1 ⇒ ERR 1064 42000 unknown index 'nosuch'
 SELECT id FROM nosuch WHERE MATCH('"') ⇒ ERR 1064 42000 unknown index 'nosuch'
-SELECT id FROM other OPTION foo=1 ⇒ ERR 1064 42000 not offered yet
-SELECT body, foo FROM other ORDER BY foo ⇒ ERR 1064 42000 not offered yet
-SELECT id FROM other WHERE MATCH('"') LIMIT 1000, 1 ⇒ ERR 1064 42000 not offered yet
+SELECT id FROM nosuch; SELECT id FROM rt ⇒ ERR 1064 42000 unknown index 'nosuch'
+SELECT id FROM other ⇒ id
+SELECT id FROM OTHER WHERE MATCH('a') ⇒ id
+SELECT * FROM `other` LIMIT 0 ⇒ id
+SELECT id FROM other OPTION foo=1 ⇒ ERR 1064 42000 unknown option 'foo'
+SELECT body, foo FROM other ORDER BY foo ⇒ ERR 1064 42000 unknown column 'foo'
+SELECT title FROM other ⇒ ERR 1064 42000 unknown column 'title'
+SELECT body FROM other ⇒ ERR 1064 42000 column 'body' is a field
+SELECT id FROM other WHERE MATCH('"') LIMIT 1000, 1 ⇒ ERR 1064 42000 offset 1000 is not below max_matches 1000
 SELECT id FROM rt OPTION foo=1 ⇒ ERR 1064 42000 unknown option 'foo'
 SELECT id FROM rt OPTION Max_Match=5 ⇒ ERR 1064 42000 unknown option 'max_match'
 SELECT id FROM rt OPTION max_matches=5, cutoff=5 ⇒ ERR 1064 42000 unknown option 'cutoff'

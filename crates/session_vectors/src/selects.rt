@@ -1,10 +1,9 @@
 //! Runs over SELECTs and what is replied to them, as docs/cases/selects.md tells it.
-use crate::running::{TWO, answer, insert_numbered, tables_of, try_reply};
+use crate::running::{Clients, TWO, answer, insert_numbered, try_line};
 use crate::select_documents::{CONFIGURATIONS, DOCUMENTS};
 use crate::select_refusals::REFUSALS;
 use crate::select_rows::ROWS;
 use crate::select_weights::WEIGHTS;
-use ql_session::{PlainTables, Session};
 use std::alloc::Global;
 use std::test::Fail;
 
@@ -28,29 +27,13 @@ fn configuration(name: &str) -> Result<&'static [u8], Fail> {
     Ok(lines_of(CONFIGURATIONS, name)?.as_bytes())
 }
 
-/// Fails where something else is replied to the text of a line, with what is replied.
-fn try_line(
-    alloc: Global,
-    session: &mut Session,
-    tables: &mut PlainTables,
-    line: &str,
-) -> Result<(), Fail> {
-    let (text, reply) = line.split_once(" ⇒ ").ok_or("a line without an arrow")?;
-    try_reply(alloc, session, tables, text, reply)
-}
-
 /// Sends what a line of a set's documents says.
-fn add(
-    alloc: Global,
-    session: &mut Session,
-    tables: &mut PlainTables,
-    line: &str,
-) -> Result<(), Fail> {
+fn add(alloc: Global, clients: &mut Clients, line: &str) -> Result<(), Fail> {
     let Some(last) = line.strip_prefix("ids 1 to ") else {
-        return try_line(alloc, session, tables, line);
+        return try_line(alloc, clients, line);
     };
     let text = insert_numbered(alloc, last.parse::<u32>()?)?;
-    let told = answer(alloc, session, tables, &text)?;
+    let told = answer(alloc, clients, &text)?;
     if !told.starts_with(b"OK ") {
         return Err("an INSERT of many rows is refused".into());
     }
@@ -61,13 +44,12 @@ fn add(
 fn try_set(alloc: Global, set: &str, lines: &str) -> Result<(), Fail> {
     let mut documents = lines_of(DOCUMENTS, set)?.lines();
     let name = documents.next().ok_or("a set without a configuration")?;
-    let mut tables = tables_of(alloc, configuration(name)?)?;
-    let mut session = Session::new();
+    let mut clients = Clients::over(alloc, configuration(name)?)?;
     for line in documents {
-        add(alloc, &mut session, &mut tables, line)?;
+        add(alloc, &mut clients, line)?;
     }
     for line in lines.lines() {
-        try_line(alloc, &mut session, &mut tables, line)?;
+        try_line(alloc, &mut clients, line)?;
     }
     Ok(())
 }

@@ -1,19 +1,17 @@
 //! Several statements in one text, many rows in one INSERT, and the description of the widest index.
-use crate::running::{TWO, answer, insert_numbered, tables_of, try_each, try_in_turn};
+use crate::running::{Clients, TWO, answer, insert_numbered, try_each, try_in_turn};
 use itoa::Buffer;
-use ql_session::Session;
 use std::alloc::Global;
 use std::test::Fail;
 
-/// Texts of several statements, which aren't offered yet as a whole, and what comes before that: the tokens and the grammar of
-/// the whole text.
+/// Texts of several statements. What comes first is the tokens and the grammar of the whole text.
 const SEVERAL: &str = r#"
-SHOW TABLES; SHOW TABLES ⇒ ERR 1064 42000 not offered yet
-SET NAMES utf8; SELECT id FROM nosuch WHERE MATCH('a') ⇒ ERR 1064 42000 not offered yet
-SET NAMES utf8;SET NAMES utf8; ⇒ ERR 1064 42000 not offered yet
-DESCRIBE nosuch; SHOW TABLES ⇒ ERR 1064 42000 not offered yet
-INSERT INTO rt (nosuch) VALUES (1); SHOW TABLES ⇒ ERR 1064 42000 not offered yet
-BEGIN; SHOW TABLES ⇒ ERR 1064 42000 not offered yet
+SHOW TABLES; SHOW TABLES ⇒ Index, Type | rt, rt | other, rt; Index, Type | rt, rt | other, rt
+SET NAMES utf8; SELECT id FROM nosuch WHERE MATCH('a') ⇒ OK 0; ERR 1064 42000 unknown index 'nosuch'
+SET NAMES utf8;SET NAMES utf8; ⇒ OK 0; OK 0
+DESCRIBE nosuch; SHOW TABLES ⇒ ERR 1064 42000 unknown index 'nosuch'
+INSERT INTO rt (nosuch) VALUES (1); SHOW TABLES ⇒ ERR 1064 42000 unknown column 'nosuch'
+BEGIN; SHOW TABLES ⇒ 11: OK 0; 3: Index, Type | rt, rt | other, rt
 SHOW TABLES; SHOW ⇒ ERR 1064 42000 syntax error at 17
 SHOW TABLES; SELEC ⇒ ERR 1064 42000 syntax error at 13
 SHOW TABLES; SHOW TABLES 'a ⇒ ERR 1064 42000 unclosed quote at 25
@@ -22,31 +20,31 @@ SHOW DATABASES ; /* c */  ⇒ Database
 "#;
 
 #[test]
-fn several_statements_are_not_offered_yet(rt: HostRuntime) -> Result<(), Fail> {
+fn several_statements_are_run_in_turn(rt: HostRuntime) -> Result<(), Fail> {
     try_each(rt.alloc(), SEVERAL)
 }
 
-/// None of several statements is run.
+/// Texts that one session is sent in turn: of one that can't be read no statement is run.
 const IN_TURN: &str = r#"
-INSERT INTO rt (id, title) VALUES (1, 'a'); SELECT id FROM rt WHERE MATCH('a') ⇒ ERR 1064 42000 not offered yet
-SELECT id FROM rt WHERE MATCH('a') ⇒ id
+INSERT INTO rt (id, title) VALUES (1, 'a'); SELECT id FROM rt WHERE MATCH('a') ⇒ OK 1; id | 1
+SELECT id FROM rt WHERE MATCH('a') ⇒ id | 1
 INSERT INTO rt (id, title) VALUES (3, 'a'); SELEC ⇒ ERR 1064 42000 syntax error at 44
 INSERT INTO rt (id, title) VALUES (3, 'a'); ⇒ OK 1
-SELECT id FROM rt WHERE MATCH('a'); ⇒ id | 3
+SELECT id FROM rt WHERE MATCH('a'); ⇒ id | 1 | 3
 "#;
 
 #[test]
-fn none_of_several_statements_is_run(rt: HostRuntime) -> Result<(), Fail> {
+fn a_text_is_read_before_its_statements_are_run(rt: HostRuntime) -> Result<(), Fail> {
     try_in_turn(rt.alloc(), TWO, IN_TURN)
 }
 
 /// Texts of many statements.
 const COUNTS: &str = r#"
 SET NAMES utf8 ⇒ OK 0
-⟨SET NAMES utf8;  × 1⟩SET NAMES utf8 ⇒ ERR 1064 42000 not offered yet
-⟨SET NAMES utf8;  × 31⟩SET NAMES utf8 ⇒ ERR 1064 42000 not offered yet
-⟨SET NAMES utf8;  × 32⟩SET NAMES utf8 ⇒ ERR 1064 42000 too many statements
-⟨COMMIT;  × 32⟩COMMIT ⇒ ERR 1064 42000 too many statements
+SET NAMES utf8; SET NAMES utf8 ⇒ OK 0; OK 0
+⟨SET NAMES utf8; × 31⟩ SET NAMES utf8 ⇒ ⟨OK 0; × 31⟩ OK 0
+⟨SET NAMES utf8; × 32⟩ SET NAMES utf8 ⇒ ERR 1064 42000 too many statements
+⟨COMMIT; × 32⟩ COMMIT ⇒ ERR 1064 42000 too many statements
 "#;
 
 #[test]
@@ -61,17 +59,11 @@ const TWENTY: &[u8] =
 #[test]
 fn three_hundred_rows_are_inserted_at_once(rt: HostRuntime) -> Result<(), Fail> {
     let alloc = rt.alloc();
-    let mut tables = tables_of(alloc, TWO)?;
-    let mut session = Session::new();
-    let inserted = answer(
-        alloc,
-        &mut session,
-        &mut tables,
-        &insert_numbered(alloc, 300)?,
-    )?;
+    let mut clients = Clients::over(alloc, TWO)?;
+    let inserted = answer(alloc, &mut clients, &insert_numbered(alloc, 300)?)?;
     assert!(rt; inserted.as_slice() == b"OK 300".as_slice());
     let select = b"SELECT id FROM rt WHERE MATCH('a')";
-    let told = answer(alloc, &mut session, &mut tables, select)?;
+    let told = answer(alloc, &mut clients, select)?;
     assert!(rt; told.as_slice() == TWENTY);
     Ok(())
 }
@@ -121,8 +113,8 @@ fn description(alloc: Global) -> Result<Vec<u8>, Fail> {
 #[test]
 fn the_longest_description_has_70_packets(rt: HostRuntime) -> Result<(), Fail> {
     let alloc = rt.alloc();
-    let mut tables = tables_of(alloc, &widest(alloc)?)?;
-    let told = answer(alloc, &mut Session::new(), &mut tables, b"DESCRIBE wide")?;
+    let mut clients = Clients::over(alloc, &widest(alloc)?)?;
+    let told = answer(alloc, &mut clients, b"DESCRIBE wide")?;
     assert!(rt; told.as_slice() == description(alloc)?.as_slice());
     Ok(())
 }

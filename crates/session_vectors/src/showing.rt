@@ -1,4 +1,4 @@
-//! What SHOW, DESCRIBE and SELECT of a variable show, by the manual, and what SET is answered.
+//! What SHOW, DESCRIBE and SELECT of a variable show, by the manual, and what statements that show nothing are answered.
 use crate::running::try_each;
 use std::test::Fail;
 
@@ -37,6 +37,26 @@ insert into RT (TITLE, iD) values ("it\'s", 7); ⇒ OK 1
 INSERT INTO `rt` (`id`, `title`) VALUES (1, 'a') ⇒ OK 1
 ⟨09⟩ INSERT⟨0d⟩⟨0a⟩INTO rt(gid,id)VALUES(3,1),( 4 , 2 )⟨0a⟩;⟨0a⟩ ⇒ OK 2
 INSERT INTO rt (id, title) VALUES (1, '') ⇒ OK 1
+INSERT INTO other (id, body) VALUES (1, 'a') ⇒ OK 1
+INSERT INTO other (nosuch) VALUES (0) ⇒ ERR 1064 42000 unknown column 'nosuch'
+REPLACE INTO rt VALUES (1,'a','b',0,0,0,0) ⇒ OK 1
+REPLACE INTO nosuch VALUES (1) ⇒ ERR 1064 42000 unknown index 'nosuch'
+REPLACE INTO rt VALUES (0) ⇒ ERR 1064 42000 wrong number of values
+DELETE FROM rt WHERE ID = 1 ⇒ OK 0
+DELETE FROM nosuch WHERE ID IN (1, 2) ⇒ ERR 1064 42000 unknown index 'nosuch'
+BEGIN ⇒ 3: OK 0
+START TRANSACTION ⇒ 3: OK 0
+COMMIT ⇒ OK 0
+ROLLBACK ⇒ OK 0
+SET AUTOCOMMIT = 0 ⇒ 0: OK 0
+SET AUTOCOMMIT = 5 ⇒ ERR 1064 42000 value out of range for 'autocommit'
+TRUNCATE RTINDEX rt ⇒ OK 0
+TRUNCATE RTINDEX nosuch ⇒ ERR 1064 42000 unknown index 'nosuch'
+SHOW INDEX rt STATUS ⇒ Variable_name, Value | index_type, rt | indexed_documents, 0 | disk_chunks, 0
+SHOW INDEX nosuch STATUS ⇒ ERR 1064 42000 unknown index 'nosuch'
+SHOW VARIABLES ⇒ Variable_name, Value | autocommit, 1
+DESCRIBE other ⇒ Field, Type | id, bigint | body, field
+DESCRIBE nosuch ⇒ ERR 1064 42000 unknown index 'nosuch'
 "#;
 
 #[test]

@@ -1,0 +1,2 @@
+-- sessions over the same indexes
+pub mod Seats
