@@ -1,5 +1,6 @@
 -- A disk in memory: the calls that were made on it, what a read gives after them, and what a crash may leave.
-use Rattle.std.specs.Prelude.{◌≡◌, ◌⊎◌, ℕ, ◌+◌, ◌≤◌, ◌<◌, ◌^◌, List, [], ◌∷◌, length, map, ◌==◌, Option, Some, None, if◌then◌else◌}
+use Rattle.std.specs.Prelude.{◌≡◌, ◌⊎◌, ℕ, ◌+◌, ◌≤◌, ◌<◌, ◌^◌, List, [], ◌∷◌, length, map, Bool, true, false, ◌==◌, Option, Some, None, Result, Ok, Err, if◌then◌else◌}
+use Rattle.std.specs.List.{list_any}
 use Rattle.std.specs.Option.{option_map}
 use Rattle.std.specs.BTreeMap.{BTreeMap, get}
 use Rattle.std.specs.Ordering.{nat_cmp}
@@ -77,3 +78,13 @@ left_after pick now left Idle = left
 abbrev pub outcome : ℕ → Image → List Call → Image
 outcome pick start [] = start
 outcome pick start (call ∷ calls) = left_after pick (replayed start calls) (outcome pick start calls) call
+
+-- the call after these is one of those that are to fail
+abbrev pub is_listed : List ℕ → List Call → Bool
+is_listed failing calls = list_any (λ number. number == length calls + 1) failing
+
+-- What came of a call, by the records before and after it, the last call first: it wasn't to fail, and is recorded; or it was to
+-- fail, and is recorded as one that did nothing; or no memory was left for its record, and there is none.
+abbrev pub Records : {T E : Type 0} → List ℕ → Call → Result T E → List Call → List Call → Type 0
+Records failing call (Ok value) old new = (is_listed failing old ≡ false) × (new ≡ call ∷ old)
+Records failing call (Err fault) old new = ((is_listed failing old ≡ true) × (new ≡ Idle ∷ old)) ⊎ (new ≡ old)

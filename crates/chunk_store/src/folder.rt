@@ -21,10 +21,11 @@ pub(crate) struct Folder<R> {
     is_synced: bool,
 }
 
-/// The file that stays open.
+/// The file that stays open, with its length, which no other program changes.
 #[derive(Drop)]
 struct Kept {
     number: u32,
+    len: u64,
     file: File,
 }
 
@@ -53,9 +54,9 @@ impl<R: Files<File = File> + Drop> Folder<R> {
     /// The length of a file. None where it isn't there.
     pub(crate) fn len(&mut self, number: u32) -> io::Result<Option<u64>> {
         match self.take(number) {
-            Ok(file) => {
-                let len = file.metadata()?.len();
-                self.keep(number, file);
+            Ok(kept) => {
+                let len = kept.len;
+                self.kept = Some(kept);
                 Ok(Some(len))
             }
             Err(error) if error.kind() == ErrorKind::NotFound => Ok(None),
@@ -63,31 +64,39 @@ impl<R: Files<File = File> + Drop> Folder<R> {
         }
     }
 
+    /// Reads a range of a file. One that doesn't lie inside it is an error.
     pub(crate) fn read(&mut self, number: u32, at: u64, into: &mut [u8]) -> io::Result<()> {
-        let file = self.take(number)?;
-        file.read_exact_at(into, at)?;
-        self.keep(number, file);
+        let kept = self.take(number)?;
+        if at > kept.len {
+            return Err(io::Error::from(ErrorKind::UnexpectedEof));
+        }
+        kept.file.read_exact_at(into, at)?;
+        self.kept = Some(kept);
         Ok(())
     }
 
-    /// Writes into a file, which is made where it isn't there. What is written in part is an error.
+    /// Writes into a file, which is made where it isn't there. A place past its end, and what is written in part, is an error.
     pub(crate) fn write(&mut self, number: u32, at: u64, bytes: &[u8]) -> io::Result<()> {
-        let file = match self.take(number) {
-            Err(error) if error.kind() == ErrorKind::NotFound => self.make(number)?,
+        let mut kept = match self.take(number) {
+            Err(error) if at == 0 && error.kind() == ErrorKind::NotFound => self.make(number)?,
             found => found?,
         };
-        if write_again(&file, at, bytes)? < bytes.len() {
+        if at > kept.len {
+            return Err(io::Error::from(ErrorKind::InvalidInput));
+        }
+        if write_again(&kept.file, at, bytes)? < bytes.len() {
             return Err(io::Error::from(ErrorKind::WriteZero));
         }
-        self.keep(number, file);
+        kept.len = kept.len.max(at.saturating_add(bytes.len() as u64));
+        self.kept = Some(kept);
         Ok(())
     }
 
     /// Syncs a file, and the folder where names have changed.
     pub(crate) fn sync(&mut self, number: u32) -> io::Result<()> {
-        let file = self.take(number)?;
-        file.sync_data()?;
-        self.keep(number, file);
+        let kept = self.take(number)?;
+        kept.file.sync_data()?;
+        self.kept = Some(kept);
         if !self.is_synced {
             self.directory.sync_all()?;
             self.is_synced = true;
@@ -106,33 +115,39 @@ impl<R: Files<File = File> + Drop> Folder<R> {
     }
 
     /// A file that is there, opened unless it is the one that stays open.
-    fn take(&mut self, number: u32) -> io::Result<File> {
+    fn take(&mut self, number: u32) -> io::Result<Kept> {
         if let Some(kept) = self.kept.take()
             && kept.number == number
         {
-            return Ok(kept.file);
+            return Ok(kept);
         }
         let file = OpenOptions::new()
             .read(true)
             .write(true)
             .open(&self.files, self.path_of(number)?.as_str())?;
-        if !file.metadata()?.is_file() {
+        let metadata = file.metadata()?;
+        if !metadata.is_file() {
             return Err(io::Error::from(ErrorKind::Unsupported));
         }
-        Ok(file)
+        Ok(Kept {
+            number,
+            len: metadata.len(),
+            file,
+        })
     }
 
-    fn make(&mut self, number: u32) -> io::Result<File> {
+    fn make(&mut self, number: u32) -> io::Result<Kept> {
         self.is_synced = false;
-        OpenOptions::new()
+        let file = OpenOptions::new()
             .read(true)
             .write(true)
             .create_new(true)
-            .open(&self.files, self.path_of(number)?.as_str())
-    }
-
-    fn keep(&mut self, number: u32, file: File) {
-        self.kept = Some(Kept { number, file });
+            .open(&self.files, self.path_of(number)?.as_str())?;
+        Ok(Kept {
+            number,
+            len: 0,
+            file,
+        })
     }
 
     fn path_of(&self, number: u32) -> io::Result<String> {

@@ -1,8 +1,10 @@
 //! A disk in memory, which tells everything. It is for tests and for trying things out.
-ghost use Rattle.std.specs.Prelude.{◌≡◌, ◌⊎◌, ◌<◌, ◌≤◌, ◌++◌, [], ◌∷◌, ℕ, List, ◌+◌, ◌^◌, Some, None, length, reverse, take, vec_capacity, vec_len, IfOk, OnOk, OnErr};
-ghost use Rattle.srch_base.specs.Counts.{Rose};
-ghost use Rattle.chunk_store.specs.Images.{contents, over};
-ghost use Rattle.chunk_store.specs.Memory.{put_in, image_of, replayed, AreFitting, AreFitting-prop, MayLeave, MayHaveLeft, outcome};
+ghost use Rattle.std.specs.Prelude.{◌≡◌, ◌==◌, ◌⊎◌, ◌<◌, ◌≤◌, ◌++◌, [], ◌∷◌, ℕ, List, ◌+◌, ◌^◌, Some, None, true, false, length, reverse, take, vec_capacity, vec_len, IfOk, OnOk, OnErr};
+ghost use Rattle.std.specs.List.{list_any};
+ghost use Rattle.std.specs.Option.{option_map};
+ghost use Rattle.srch_base.specs.Counts.{HasCause, Rose};
+ghost use Rattle.chunk_store.specs.Images.{contents, over, IsThere, Reads};
+ghost use Rattle.chunk_store.specs.Memory.{put_in, image_of, is_listed, replayed, AreFitting, AreFitting-prop, MayLeave, MayHaveLeft, outcome, Records};
 ghost use Rattle.chunk_store.specs.steps.MemoryLaws.{passes_told, short, counts_now, only_now};
 
 use crate::call::Call;
@@ -73,7 +75,7 @@ impl MemoryDisk {
     pub fn after_crash(&self, calls: u64, pick: u8) -> Result<MemoryDisk, NoMemory>
         ensures outcome { IfOk result (λ disk. (f : ℕ) → image_of disk.files f ≡ outcome pick (image_of self.now.start) (reverse (take calls self.now.calls.items)) f) }
         ensures may { IfOk result (λ disk. MayLeave (image_of self.now.start) (reverse (take calls self.now.calls.items)) (image_of disk.files)) }
-        ensures fresh { IfOk result (λ disk. disk.calls.items ≡ []) }
+        ensures fresh { IfOk result (λ disk. (disk.calls.items ≡ []) × (disk.failing.items ≡ [])) }
     {
         let count = calls.min(self.calls.len() as u64) as usize;
         let start = left_by(self.alloc, &self.start, &self.calls[..count], pick)?;
@@ -112,20 +114,36 @@ impl Disk for MemoryDisk {
 
     ghost only_now = { λ d x left. only_now (image_of d.start) (reverse d.calls.items) x left };
 
-    fn len(&mut self, file: u32) -> Result<Option<u64>, Failed> {
+    fn len(&mut self, file: u32) -> Result<Option<u64>, Failed>
+        ensures value { IfOk result (λ len. len ≡ option_map length (replayed (image_of self.old.start) (reverse self.old.calls.items) file)) }
+        ensures recorded { Records self.old.failing.items (Call.Idle) result (reverse self.old.calls.items) (reverse self.new.calls.items) }
+        ensures same { (self.new.start ≡ self.old.start) × (self.new.failing ≡ self.old.failing) }
+        ensures cause { HasCause self.old.faults self.new.faults result }
+    {
         begin(&mut self.calls, self.failing.as_slice(), &mut self.faults)?;
         record(&mut self.calls, Call::Idle);
         Ok(self.files.get(&file).map(|bytes| bytes.len() as u64))
     }
 
-    fn read(&mut self, file: u32, at: u64, into: &mut [u8]) -> Result<(), Failed> {
+    fn read(&mut self, file: u32, at: u64, into: &mut [u8]) -> Result<(), Failed>
+        requires inside { at + length into.old ≤ length (contents (replayed (image_of self.old.start) (reverse self.old.calls.items) file)) }
+        ensures value { OnOk result (Reads (contents (replayed (image_of self.old.start) (reverse self.old.calls.items) file)) at into.new) }
+        ensures recorded { Records self.old.failing.items (Call.Idle) result (reverse self.old.calls.items) (reverse self.new.calls.items) }
+        ensures same { (self.new.start ≡ self.old.start) × (self.new.failing ≡ self.old.failing) }
+        ensures cause { HasCause self.old.faults self.new.faults result }
+    {
         begin(&mut self.calls, self.failing.as_slice(), &mut self.faults)?;
         record(&mut self.calls, Call::Idle);
         read_in(&self.files, file, at as usize, into);
         Ok(())
     }
 
-    fn write(&mut self, file: u32, at: u64, bytes: &[u8]) -> Result<(), Failed> {
+    fn write(&mut self, file: u32, at: u64, bytes: &[u8]) -> Result<(), Failed>
+        requires inside { at ≤ length (contents (replayed (image_of self.old.start) (reverse self.old.calls.items) file)) }
+        ensures recorded { Records self.old.failing.items (Call.Wrote file at bytes.now) result (reverse self.old.calls.items) (reverse self.new.calls.items) }
+        ensures same { (self.new.start ≡ self.old.start) × (self.new.failing ≡ self.old.failing) }
+        ensures cause { HasCause self.old.faults self.new.faults result }
+    {
         begin(&mut self.calls, self.failing.as_slice(), &mut self.faults)?;
         match store(
             self.alloc,
@@ -140,13 +158,22 @@ impl Disk for MemoryDisk {
         }
     }
 
-    fn sync(&mut self, file: u32) -> Result<(), Failed> {
+    fn sync(&mut self, file: u32) -> Result<(), Failed>
+        requires there { IsThere (replayed (image_of self.old.start) (reverse self.old.calls.items) file) }
+        ensures recorded { Records self.old.failing.items (Call.Synced file) result (reverse self.old.calls.items) (reverse self.new.calls.items) }
+        ensures same { (self.new.start ≡ self.old.start) × (self.new.failing ≡ self.old.failing) }
+        ensures cause { HasCause self.old.faults self.new.faults result }
+    {
         begin(&mut self.calls, self.failing.as_slice(), &mut self.faults)?;
         record(&mut self.calls, Call::Synced(file));
         Ok(())
     }
 
-    fn remove(&mut self, file: u32) -> Result<(), Failed> {
+    fn remove(&mut self, file: u32) -> Result<(), Failed>
+        ensures recorded { Records self.old.failing.items (Call.Removed file) result (reverse self.old.calls.items) (reverse self.new.calls.items) }
+        ensures same { (self.new.start ≡ self.old.start) × (self.new.failing ≡ self.old.failing) }
+        ensures cause { HasCause self.old.faults self.new.faults result }
+    {
         begin(&mut self.calls, self.failing.as_slice(), &mut self.faults)?;
         let _bytes = self.files.remove(&file);
         record(&mut self.calls, Call::Removed(file));
@@ -159,19 +186,34 @@ fn begin(calls: &mut Vec<Call>, failing: &[u64], faults: &mut u64) -> Result<(),
     ensures room { OnOk result (vec_len calls.new < vec_capacity calls.new) }
     ensures same { OnOk result (calls.new.items ≡ calls.old.items) }
     ensures count { OnOk result (faults.new ≡ faults.old) }
-    ensures err { OnErr result ((calls.new.items ≡ calls.old.items) ⊎ (reverse calls.new.items ≡ Call.Idle ∷ reverse calls.old.items)) }
+    ensures unlisted { OnOk result (is_listed failing.now (reverse calls.old.items) ≡ false) }
+    ensures err { OnErr result (((is_listed failing.now (reverse calls.old.items) ≡ true) × (reverse calls.new.items ≡ Call.Idle ∷ reverse calls.old.items)) ⊎ (reverse calls.new.items ≡ reverse calls.old.items)) }
     ensures rose { OnErr result (Rose faults.old faults.new) }
     ensures later { faults.old ≤ faults.new }
 {
     if calls.reserve(1).is_err() {
         return Err(fault(faults));
     }
-    let number = calls.len() as u64 + 1;
-    if failing.contains(&number) {
+    let fails = is_next_listed(failing, calls);
+    if fails {
         record(calls, Call::Idle);
         return Err(fault(faults));
     }
     Ok(())
+}
+
+/// Whether the next call is one of those that are to fail.
+fn is_next_listed(failing: &[u64], calls: &Vec<Call>) -> bool
+    ensures { result ≡ is_listed failing.now (reverse calls.now.items) }
+{
+    is_among(failing, calls.len() as u64 + 1)
+}
+
+/// Whether a number is one of these.
+fn is_among(numbers: &[u64], wanted: u64) -> bool
+    ensures { result ≡ list_any (λ number. number == wanted) numbers.now }
+{
+    numbers.iter().any(|number| *number == wanted)
 }
 
 /// Puts a call at the end of the record.

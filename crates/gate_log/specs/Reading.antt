@@ -3,7 +3,7 @@ use Rattle.std.specs.Prelude.{◌≡◌, ◌≢◌, ◌⊎◌, ℕ, ◌+◌, ◌
 use Rattle.std.specs.declared.alloc.Global.{Global}
 use Rattle.srch_base.specs.Counts.{Rose}
 use Rattle.gate_log.specs.Frames.{frame}
-use Rattle.gate_log.specs.Logs.{AreRecords, Stands, last_number, spelled}
+use Rattle.gate_log.specs.Logs.{AreRecords, Stands, last_number, quiet_log, spelled}
 use Rattle.gate_log.specs.declared.log.GateLog.{GateLog}
 use Rattle.gate_log.specs.declared.reading.Before.{Before}
 use Rattle.gate_log.specs.declared.reading.Before.TheVariants as befores
@@ -85,6 +85,14 @@ pub record IsReadAs (before : Before) (bytes : List ℕ) (read : LogRead) : Type
   pub last : read.last ≡ last_number (map record_of read.records.items)
   pub ends : Ends read.fault (behind before read.last) rest
 
+-- Two readings give the same records at the same places, and the same of what stands behind them.
+pub record AreAlike (a b : LogRead) : Type 0 where
+  pub records : map record_of a.records.items ≡ map record_of b.records.items
+  pub places : map (λ (r : RecordAt). r.place) a.records.items ≡ map (λ (r : RecordAt). r.place) b.records.items
+  pub end : a.end ≡ b.end
+  pub last : a.last ≡ b.last
+  pub fault : a.fault ≡ b.fault
+
 -- The bytes are records as far as this place, and there they are wrong.
 pub record IsBadAt (kind : LogKind) (place : ℕ) (bytes : List ℕ) : Type 0 where
   pub records : List LogRecord
@@ -100,6 +108,11 @@ pub record IsBadAt (kind : LogKind) (place : ℕ) (bytes : List ℕ) : Type 0 wh
 abbrev pub FindsFront : ℕ → Option (Vec ℕ Global) → Option (List ℕ) → Type 0
 FindsFront most None file = file ≡ None
 FindsFront most (Some bytes) file = (whole : List ℕ) × (file ≡ Some whole) × (bytes.items ≡ take most whole)
+
+-- The marks of a log behind these records: its end, and the number of the last one.
+pub record Marks (number : ℕ) (log : GateLog) (records : List LogRecord) : Type 0 where
+  pub records_are : AreRecords records
+  pub log_is : log ≡ quiet_log number (length (spelled records)) (last_number records)
 
 -- The file is a log with these records, none of them staged.
 pub record Opens (number : ℕ) (log : GateLog) (records : List LogRecord) (file : Option (List ℕ)) : Type 0 where

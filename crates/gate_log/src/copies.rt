@@ -1,6 +1,6 @@
 //! A log with records that own their payloads.
 ghost use Rattle.std.specs.Prelude.{◌≡◌, map, Some, IfOk};
-ghost use Rattle.gate_log.specs.Reading.{ReadsFile, record_of};
+ghost use Rattle.gate_log.specs.Reading.{Marks, ReadsFile, record_of};
 ghost use Rattle.gate_log.specs.steps.Parts.{IsOfBytes};
 
 use crate::fault::LogFault;
@@ -17,6 +17,7 @@ pub(crate) fn log_of(
     bytes: &[u8],
 ) -> Result<(GateLog, Vec<LogRecord>), LogFault>
     ensures reads { ReadsFile file result (Some bytes.now) }
+    ensures marks { IfOk result (λ found. Marks file found.0 found.1.items) }
     ensures bytes { IsOfBytes result }
 {
     match read_records(alloc, bytes, Before::Anything) {

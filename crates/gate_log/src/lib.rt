@@ -14,7 +14,8 @@ mod records;
 pub use fault::{LogFault, LogKind};
 pub use front::read_front;
 pub use laws::{
-    a_log_gives_its_records, a_log_gives_its_records_or_one_more, a_log_that_is_read_stands,
+    a_log_gives_its_records, a_log_gives_its_records_or_one_more, a_log_is_read_in_one_way,
+    a_log_that_is_read_stands,
 };
 pub use log::GateLog;
 pub use reading::{Before, LogRead, RecordAt, read_records};

@@ -26,11 +26,12 @@ impl GateLog {
     ghost use Rattle.std.specs.Prelude.{[], ◌∷◌, ◌++◌, false, is_some};
     ghost use Rattle.gate_log.specs.declared.records.LogRecord.{LogRecord};
     ghost use Rattle.gate_log.specs.Logs.{Stands, MayFollow, staging, opening, opened, quiet_log};
-    ghost use Rattle.gate_log.specs.Reading.{ReadsFile, HasLogCause};
+    ghost use Rattle.gate_log.specs.Reading.{ReadsFile, HasLogCause, Marks};
 
     /// Makes the file anew, with no record.
     pub fn create<D: Disk>(disk: &mut D, file: u32) -> Result<GateLog, Failed>
         ensures log { IfOk result (λ log. log ≡ record { file = file; end = 0; last = None; staged = None; pending = false }) }
+        ensures bytes { OnOk result (Both (Changes file (λ old new. new ≡ Some (0 ∷ []))) (D.told disk.old) (D.told disk.new)) }
         ensures stands { IfOk result (λ log. Both (Changes file (λ old new. Stands log [] None new)) (D.told disk.old) (D.told disk.new)) }
         ensures durable { OnOk result (IsSynced file (D.told disk.new) (D.may_leave disk.new)) }
         ensures crash { Crashes D.Disk disk.old disk.new (Changes file (λ old new. Unit {0})) }
@@ -53,6 +54,8 @@ impl GateLog {
         file: u32,
     ) -> Result<(GateLog, Vec<LogRecord>), LogFault>
         ensures found { Told (λ image. ReadsFile file result (image file)) (D.told disk.new) }
+        // Also over a disk that tells nothing.
+        ensures marks { IfOk result (λ found. Marks file found.0 found.1.items) }
         ensures looks { OnlyReads D.Disk disk.old disk.new }
         ensures cause { HasLogCause (D.faults disk.old) (D.faults disk.new) result }
     {

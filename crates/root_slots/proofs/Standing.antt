@@ -9,7 +9,7 @@ use Rattle.byte_fields.proofs.Taking.{IsBytes}
 use Rattle.root_slots.specs.Choosing.{HasRootCause, IsBadRoot}
 use Rattle.root_slots.specs.Openings.{Opens, ReadsRoot, own_of}
 use Rattle.root_slots.specs.steps.Chosen.{GivesRoot, IsOfBytes, bytes_of, chosen, no_root}
-use Rattle.root_slots.specs.Roots.{Leaves, MayHold, Stand, Stands, Stays}
+use Rattle.root_slots.specs.Roots.{HoldsOpen, Leaves, MayHold, Stand, Stands, Stays, own_slot}
 use Rattle.root_slots.specs.States.{IsState}
 use Rattle.root_slots.specs.Slots.{IsBelow, IsClosed, IsOpen, IsRoot, IsShut, Slot, Slots, tail}
 use Rattle.root_slots.specs.declared.fault.RootFault.{RootFault}
@@ -214,3 +214,9 @@ stand_leaves First zs fs (Some own) doubt z f stand = elim (behind_is zs own.num
 
 pub root_leaves : (root : Root) (own doubt : Option Slot) (slots : Slots) → Stands root own doubt slots → Leaves own doubt slots
 root_leaves root own doubt slots stands = stand_leaves root.holder root.zeroth_shut root.first_shut own doubt slots.zeroth slots.first stands.slots_are
+
+-- the own state is in the slot of its number
+pub holds_own : (holder : Holder) (zeroth_shut first_shut : Bool) (own : Slot) (doubt : Option Slot) (slots : Slots) → Stand holder zeroth_shut first_shut (Some own) doubt slots → HoldsOpen (own_slot holder) own slots
+holds_own Neither zeroth_shut first_shut own doubt slots stand = absurd stand
+holds_own Zeroth zeroth_shut first_shut own doubt slots stand = stand.1
+holds_own First zeroth_shut first_shut own doubt slots stand = stand.1

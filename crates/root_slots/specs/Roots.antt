@@ -1,5 +1,5 @@
 -- Roots: how the slots stand, and what replacing the state makes of them.
-use Rattle.std.specs.Prelude.{◌≡◌, ◌⊎◌, ℕ, ◌+◌, ◌<◌, ◌≤◌, List, ◌∷◌, ◌++◌, Bool, true, false, Option, Some, None, length}
+use Rattle.std.specs.Prelude.{◌≡◌, ◌⊎◌, ℕ, zero, suc, ◌+◌, ◌<◌, ◌≤◌, List, ◌∷◌, ◌++◌, Bool, true, false, Option, Some, None, length}
 use Rattle.chunk_store.specs.Images.{Image, Both, contents}
 use Rattle.chunk_store.specs.CrashModel.{Follows}
 use Rattle.chunk_store.specs.declared.disk.Disk.{Ghosts as DiskWords}
@@ -36,6 +36,17 @@ Stand First zeroth_shut first_shut (Some s) doubt slots = (first_shut ≡ false)
 pub record Stands (root : Root) (own doubt : Option Slot) (slots : Slots) : Type 0 where
   pub used : (s : Slot) → own ≡ Some s → s.number ≤ root.number
   pub slots_are : Stand root.holder root.zeroth_shut root.first_shut own doubt slots
+
+-- the number of the slot that holds the own state, where there is one
+abbrev pub own_slot : Holder → ℕ
+own_slot Neither = 0
+own_slot Zeroth = 0
+own_slot First = 1
+
+-- The slot of this number is open, and holds this.
+abbrev pub HoldsOpen : ℕ → Slot → Slots → Type 0
+HoldsOpen zero s slots = IsOpen s slots.zeroth
+HoldsOpen (suc number) s slots = IsOpen s slots.first
 
 -- The slots are read as the own state, or as the one in doubt.
 abbrev pub Leaves : Option Slot → Option Slot → Slots → Type 0

@@ -3,6 +3,7 @@ ghost use Rattle.std.specs.Prelude.{◌≡◌, ◌+◌, ◌≤◌, ◌<◌, ◌^
 ghost use Rattle.srch_base.specs.Counts.{HasCause};
 ghost use Rattle.chunk_store.specs.Images.{Image, Told};
 ghost use Rattle.chunk_store.specs.Calls.{Crashes, OnlyReads};
+ghost use Rattle.root_slots.specs.Roots.{own_slot};
 ghost use Rattle.root_slots.specs.States.{IsState};
 ghost use Rattle.root_slots.specs.steps.Chosen.{bytes_of};
 
@@ -36,10 +37,10 @@ pub struct Root {
 }
 
 impl Root {
-    ghost use Rattle.root_slots.specs.Slots.{Slot, slots_of, ChangesSlots};
+    ghost use Rattle.root_slots.specs.Slots.{Slot, Slots, slots_of, ChangesSlots};
     ghost use Rattle.root_slots.specs.Choosing.{HasRootCause};
     ghost use Rattle.root_slots.specs.Openings.{ReadsRoot};
-    ghost use Rattle.root_slots.specs.Roots.{Stands, Steps, Replaces, Replacing, Failing, replaced};
+    ghost use Rattle.root_slots.specs.Roots.{HoldsOpen, Stands, Steps, Replaces, Replacing, Failing, replaced};
 
     /// Reads the root of an index, and its state. None where no slot is open.
     pub fn read<D: Disk>(
@@ -66,6 +67,13 @@ impl Root {
         ensures { IsTrue result ↔ (2 ^ 63 ≤ self.now.number) }
     {
         self.number >= 1 << 63
+    }
+
+    /// The number of the slot that holds the own state; 0 where there is none.
+    pub fn slot(&self) -> u8
+        ensures { (own : Slot) (doubt : Option Slot) (slots : Slots) → Stands self.now (Some own) doubt slots → HoldsOpen result own slots }
+    {
+        slot_of(self.holder)
     }
 
     /// Replaces the state. After an error the old one is still the own state, and the new one may be what a crash leaves.
@@ -112,6 +120,16 @@ impl Root {
                 }
             }
         }
+    }
+}
+
+/// The number of the slot that holds the own state.
+fn slot_of(holder: Holder) -> u8
+    ensures { result ≡ own_slot holder }
+{
+    match holder {
+        Holder::Neither | Holder::Zeroth => 0,
+        Holder::First => 1,
     }
 }
 

@@ -14,7 +14,8 @@ use std::test::Fail;
 use std::{env, process};
 
 /// Calls on an empty folder, one after the other, and what each answers: its length (`l 0`), a write of bytes at a place of a
-/// file (`w 0 2 0a0b`), a sync (`s 0`), a removal (`d 0`) and a read of so many bytes (`r 0 2 4`).
+/// file (`w 0 2 0a0b`), a sync (`s 0`), a removal (`d 0`) and a read of so many bytes (`r 0 2 4`). A place past the end fails,
+/// for no bytes too.
 const CALLS: &str = "\
 l 0 ⇒ none
 s 0 ⇒ failed
@@ -39,7 +40,11 @@ s 0 ⇒ done
 w 1 1 79 ⇒ done
 s 1 ⇒ done
 w 1 18446744073709551615 7a ⇒ failed
-l 1 ⇒ 2";
+w 1 3 7a ⇒ failed
+r 1 3 0 ⇒ failed
+l 1 ⇒ 2
+w 2 1 7a ⇒ failed
+l 2 ⇒ none";
 
 /// What calls answer after those, once the folder is opened again.
 const CALLS_LATER: &str = "\
