@@ -10,7 +10,7 @@ use Rattle.doc_types.specs.Commits.{Change, Put, Kill, Clear, Entry, after_entry
 use Rattle.doc_types.specs.Snapshots.{SnapshotValue, all_living, live}
 use Rattle.step_history.specs.declared.job.Job.{Job}
 use Rattle.step_history.specs.declared.job.Job.TheVariants.{Flush, Optimize}
-use Rattle.step_history.specs.Places.{disk_chunks, on_disk, ram_layers, IsLive}
+use Rattle.step_history.specs.Places.{disk_chunks, on_disk, ram_layers, IsLive, LivesOnDisk}
 
 -- A step: a commit of an entry, or the end of a job that began over the snapshot of this number; with the snapshot after it.
 pub data Step : Type 0 where
@@ -87,7 +87,7 @@ pub record Flushes (from before next : SnapshotValue) : Type 0 where
   pub more : List (List DocRow)
   pub chunks : disk_chunks next ≡ disk_chunks before ++ more
   pub one : length more ≡ chunks_for (all_living (ram_layers from))
-  pub rows : (id : ℕ) (row : DocRow) → finite.get (live next) id ≡ Some row → row.born ≤ from.number → on_disk next id ≡ true
+  pub rows : (id : ℕ) (row : DocRow) → finite.get (live next) id ≡ Some row → row.born ≤ from.number → LivesOnDisk next row
 
 -- What OPTIMIZE leaves, begun over a snapshot: one chunk on the disk, which has each row that lived then, or none where none did.
 pub record Optimizes (from next : SnapshotValue) : Type 0 where

@@ -1,5 +1,5 @@
 -- Places: which rows of a snapshot stand in chunks on the disk, and which in memory.
-use Rattle.std.specs.Prelude.{◌≡◌, ℕ, List, Bool, true, ◌==◌, not, map}
+use Rattle.std.specs.Prelude.{◌≡◌, ℕ, List, Bool, true, ◌==◌, not, map, Contains}
 use Rattle.std.specs.List.{filter, list_any}
 use Rattle.std.specs.FinMap as finite
 use Rattle.doc_types.specs.declared.documents.DocRow.{DocRow}
@@ -23,3 +23,7 @@ IsLive snapshot id = finite.contains_key (live snapshot) id ≡ true
 -- a row of the id lives in a layer on the disk
 abbrev pub on_disk : SnapshotValue → ℕ → Bool
 on_disk snapshot id = list_any (λ row. row.doc.id == id) (all_living (disk_layers snapshot))
+
+-- the row lives in a layer on the disk
+abbrev pub LivesOnDisk : SnapshotValue → DocRow → Type 0
+LivesOnDisk snapshot row = Contains (all_living (disk_layers snapshot)) row
