@@ -1,0 +1,14 @@
+-- what a record of a log says
+pub mod Batches
+-- what the files of an index stand for
+pub mod Directory
+-- what is wrong with them
+pub mod Damage
+-- what a disk keeps of a history
+pub mod Kept
+-- when a commit is refused
+pub mod Refusals
+-- what a commit leaves
+pub mod Answers
+-- files of a small index, byte by byte
+pub mod Example
