@@ -1,6 +1,5 @@
 //! Damaged payloads, each with the place of the first field that breaks the layout.
 use crate::examples::{long_bytes, long_schema, refused_at};
-use crate::hexadecimal::bytes_of;
 use doc_types::Schema;
 use std::alloc::Global;
 use std::test::Fail;
@@ -65,7 +64,7 @@ fn damaged_at(
     digits: &str,
 ) -> Result<Option<u32>, Fail> {
     let whole = long_bytes(alloc)?;
-    let part = bytes_of(alloc, digits)?;
+    let part = hex::decode(alloc, digits)?;
     let mut bytes = Vec::from_slice(alloc, whole.get(..from).ok_or("no front")?)?;
     bytes.extend_from_slice(&part)?;
     bytes.extend_from_slice(whole.get(bytes.len()..).unwrap_or(&[]))?;

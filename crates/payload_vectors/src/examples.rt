@@ -3,7 +3,6 @@ ghost use Rattle.std.specs.Prelude.{IfOk};
 ghost use Rattle.doc_types.specs.Schemas.{IsSchema};
 ghost use Rattle.index_conf.specs.Soundness.{IsSound};
 
-use crate::hexadecimal::bytes_of;
 use conf_text::read_conf;
 use doc_bytes::read_txn;
 use doc_types::Schema;
@@ -106,5 +105,5 @@ pub(crate) fn refused_at(
 
 /// The bytes of `LONG`.
 pub(crate) fn long_bytes(alloc: Global) -> Result<Vec<u8>, Fail> {
-    bytes_of(alloc, LONG)
+    Ok(hex::decode(alloc, LONG)?)
 }

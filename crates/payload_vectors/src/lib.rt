@@ -6,8 +6,6 @@ mod damage;
 #[cfg(test)]
 mod examples;
 #[cfg(test)]
-mod hexadecimal;
-#[cfg(test)]
 mod long_fields;
 #[cfg(test)]
 mod prefixes;

@@ -1,6 +1,5 @@
 //! Every front part of a payload is refused where its first field begins that isn't whole.
 use crate::examples::{LONG, SHORT, long_schema, refused_at, short_schema};
-use crate::hexadecimal::bytes_of;
 use doc_types::Schema;
 use std::alloc::Global;
 use std::test::Fail;
@@ -19,7 +18,7 @@ fn first_wrong(
     digits: &str,
     fields: &str,
 ) -> Result<Option<usize>, Fail> {
-    let bytes = bytes_of(alloc, digits)?;
+    let bytes = hex::decode(alloc, digits)?;
     let mut starts = Vec::new(alloc);
     for start in fields.split(' ') {
         starts.push(start.parse::<usize>()?)?;

@@ -4,7 +4,6 @@ ghost use Rattle.doc_types.specs.Schemas.{IsSchema};
 ghost use Rattle.doc_types.specs.Transactions.{IsOpOf, IsTxnOf};
 
 use crate::examples::{LONG, LONG_TOLD, SHORT, SHORT_TOLD, long_schema, short_schema};
-use crate::hexadecimal::bytes_of;
 use crate::telling::put_told;
 use doc_bytes::{put_schema, put_txn, read_txn};
 use doc_types::{AttrKind, Schema, Txn, TxnOp};
@@ -40,7 +39,7 @@ fn written(alloc: Global, schema: &Schema, txn: &Txn) -> Result<Vec<u8>, Fail>
 fn try_spelling(alloc: Global, schema: &Schema, digits: &str, wanted: &str) -> Result<(), Fail>
     requires { IsSchema schema.now }
 {
-    let bytes = bytes_of(alloc, digits)?;
+    let bytes = hex::decode(alloc, digits)?;
     let txn = read(alloc, schema, &bytes)?;
     let mut told = String::new(alloc);
     put_told(&txn, &mut told)?;
@@ -98,7 +97,7 @@ fn alone(alloc: Global, schema: &Schema, op: TxnOp) -> Result<Txn, Fail>
 #[test]
 fn an_insertion_is_written_as_a_put(rt: HostRuntime) -> Result<(), Fail> {
     let schema = short_schema(rt.alloc())?;
-    let bytes = bytes_of(rt.alloc(), SHORT)?;
+    let bytes = hex::decode(rt.alloc(), SHORT)?;
     let txn = read(rt.alloc(), &schema, &bytes)?;
     let txn = insertion(rt.alloc(), &schema, txn)?;
     let out = written(rt.alloc(), &schema, &txn)?;

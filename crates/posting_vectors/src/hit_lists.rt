@@ -1,5 +1,4 @@
 //! Hit lists with their spellings, and bytes with which no hit list is spelled.
-use crate::hexadecimal::bytes_of;
 use posting_codec::{hits_at, put_hits, read_hits};
 use std::alloc::Global;
 use std::test::Fail;
@@ -60,7 +59,7 @@ fn is_spelled(alloc: Global, list: &str, spelling: &[u8]) -> Result<bool, Fail> 
 fn first_wrong(alloc: Global) -> Result<usize, Fail> {
     for (line, row) in SPELLINGS.split('\n').enumerate() {
         let (list, digits) = row.split_once(' ').ok_or("no spelling")?;
-        let spelling = bytes_of(alloc, digits)?;
+        let spelling = hex::decode(alloc, digits)?;
         if !is_spelled(alloc, list, &spelling)? {
             return Ok(line.saturating_add(1));
         }
@@ -71,7 +70,7 @@ fn first_wrong(alloc: Global) -> Result<usize, Fail> {
 /// The first bytes that a list is read from though none is spelled, from 1, or 0.
 fn first_read(alloc: Global) -> Result<usize, Fail> {
     for (entry, digits) in NO_HITS.split(',').enumerate() {
-        let bytes = bytes_of(alloc, digits.trim_matches('-'))?;
+        let bytes = hex::decode(alloc, digits.trim_matches('-'))?;
         if read_hits(alloc, &bytes, 0)?.is_some() {
             return Ok(entry.saturating_add(1));
         }

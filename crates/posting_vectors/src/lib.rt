@@ -2,8 +2,6 @@
 #![tactic(auto)]
 
 #[cfg(test)]
-mod hexadecimal;
-#[cfg(test)]
 mod hit_lists;
 #[cfg(test)]
 mod numbers;

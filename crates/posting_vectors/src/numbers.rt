@@ -1,5 +1,4 @@
 //! Numbers with their spellings, and bytes with which no number is spelled.
-use crate::hexadecimal::bytes_of;
 use posting_codec::{number_at, put_number, read_number};
 use std::alloc::Global;
 use std::test::Fail;
@@ -45,7 +44,7 @@ fn is_spelled(alloc: Global, value: u32, spelling: &[u8]) -> Result<bool, Fail> 
 fn first_wrong(alloc: Global) -> Result<usize, Fail> {
     for (line, row) in SPELLINGS.split('\n').enumerate() {
         let (value, digits) = row.split_once(' ').ok_or("no spelling")?;
-        let spelling = bytes_of(alloc, digits)?;
+        let spelling = hex::decode(alloc, digits)?;
         if !is_spelled(alloc, value.parse::<u32>()?, &spelling)? {
             return Ok(line.saturating_add(1));
         }
@@ -56,7 +55,7 @@ fn first_wrong(alloc: Global) -> Result<usize, Fail> {
 /// The first bytes that a number is read from though none is spelled, from 1, or 0.
 fn first_read(alloc: Global) -> Result<usize, Fail> {
     for (entry, digits) in NO_NUMBERS.split(',').enumerate() {
-        let bytes = bytes_of(alloc, digits.trim_matches('-'))?;
+        let bytes = hex::decode(alloc, digits.trim_matches('-'))?;
         if read_number(&bytes, 0).is_some() {
             return Ok(entry.saturating_add(1));
         }

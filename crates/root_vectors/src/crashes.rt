@@ -3,6 +3,7 @@
 use crate::replacing::{bytes_of_slot, replace_on};
 use crate::root_texts::{disk_of, put_root};
 use chunk_store::MemoryDisk;
+use root_slots::RootBytes;
 use std::alloc::Global;
 use std::test::Fail;
 
@@ -20,16 +21,21 @@ const CRASHES: &str = "\
 30 30 3 3 3 3";
 
 /// The slot of a state that goes through this commit.
-fn slot_of(alloc: Global, through: u8) -> Result<String, Fail> {
+pub(crate) fn slot_of(alloc: Global, through: u8) -> Result<String, Fail> {
     Ok(format!(in alloc;
         "01 0100000000000000 18000000 0000 {through:02x}00000000000000 03000000 00000000 02000000 0000"
     )?)
 }
 
+/// A state that goes through this commit, as it is written.
+pub(crate) fn bytes_through(alloc: Global, through: u8) -> Result<RootBytes, Fail> {
+    let slot = slot_of(alloc, through)?;
+    bytes_of_slot(alloc, slot.as_str())
+}
+
 /// Replaces the root on a disk by a state that goes through this commit.
 fn replace_by(alloc: Global, disk: &mut MemoryDisk, through: u8) -> Result<(), Fail> {
-    let slot = slot_of(alloc, through)?;
-    let bytes = bytes_of_slot(alloc, slot.as_str())?;
+    let bytes = bytes_through(alloc, through)?;
     replace_on(alloc, disk, &bytes)
 }
 

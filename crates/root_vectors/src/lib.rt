@@ -4,7 +4,7 @@
 #[cfg(test)]
 mod crashes;
 #[cfg(test)]
-mod hexadecimal;
+mod faults;
 #[cfg(test)]
 mod log_reading;
 #[cfg(test)]

@@ -1,5 +1,5 @@
 //! Images of logs with what is read of them, worked out by hand from the layout: the records before a fault, and the fault.
-use crate::hexadecimal::{bytes_of, put_digits};
+use crate::root_texts::bytes_of;
 use chunk_store::{Disk, MemoryDisk};
 use gate_log::{Before, GateLog, LogRead, read_front, read_records};
 use std::alloc::Global;
@@ -45,11 +45,10 @@ fn before_of(words: &str) -> Result<Before, Fail> {
     }
 }
 
-fn put_read(read: &LogRead, text: &mut String) -> Result<(), Fail> {
+fn put_read(alloc: Global, read: &LogRead, text: &mut String) -> Result<(), Fail> {
     for record in read.records.as_slice() {
-        write!(text, "{}:{}:", record.place, record.number)?;
-        put_digits(record.payload, text)?;
-        text.push(' ')?;
+        let payload = hex::encode(alloc, record.payload)?;
+        write!(text, "{}:{}:{payload} ", record.place, record.number)?;
     }
     match read.fault {
         Some(kind) => write!(text, "{kind} at {}", read.end)?,
@@ -65,7 +64,7 @@ fn try_row(alloc: Global, row: &str) -> Result<(), Fail> {
     let before = before_of(before)?;
     let read = read_records(alloc, &bytes, before)?;
     let mut text = String::new(alloc);
-    put_read(&read, &mut text)?;
+    put_read(alloc, &read, &mut text)?;
     if text.as_str() == wanted {
         return Ok(());
     }
@@ -84,12 +83,10 @@ fn logs_are_read_so(rt: HostRuntime) -> Result<(), Fail> {
 fn front_on(alloc: Global, file: u32, most: u64) -> Result<String, Fail> {
     let mut disk = MemoryDisk::new(alloc, Vec::new(alloc));
     disk.write(2, 0, &[1, 2, 3, 4, 5, 6])?;
-    let mut text = String::new(alloc);
     match read_front(alloc, &mut disk, file, most)? {
-        Some(bytes) => put_digits(&bytes, &mut text)?,
-        None => text.push('-')?,
+        Some(bytes) => Ok(hex::encode(alloc, bytes.as_slice())?),
+        None => Ok(String::from_str(alloc, "-")?),
     }
-    Ok(text)
 }
 
 #[test]

@@ -1,5 +1,4 @@
 //! Images of two slots with what they are read as, worked out by hand from the layout.
-use crate::hexadecimal::front_of;
 use crate::root_texts::{disk_of, put_root};
 use std::alloc::Global;
 use std::test::Fail;
@@ -144,9 +143,10 @@ fn wanted_of(length: usize) -> &'static str {
 
 #[test]
 fn each_front_of_a_slot_is_answered(rt: HostRuntime) -> Result<(), Fail> {
+    let digits = TITLE.replace(rt.alloc(), " ", "")?;
     for length in 0..=49 {
-        let front = front_of(rt.alloc(), TITLE, 2 * length)?;
-        try_slots(rt.alloc(), front.as_str(), "-", wanted_of(length))?;
+        let front = digits.as_str().get(..2 * length).ok_or("no front")?;
+        try_slots(rt.alloc(), front, "-", wanted_of(length))?;
     }
     Ok(())
 }

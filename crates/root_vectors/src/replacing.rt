@@ -2,7 +2,6 @@
 ghost use Rattle.std.specs.Prelude.{IfOk};
 ghost use Rattle.root_slots.specs.States.{IsState};
 
-use crate::hexadecimal::{front_of, put_digits};
 use crate::root_texts::disk_of;
 use chunk_store::{MemoryDisk, read_whole};
 use root_slots::{Root, RootBytes, RootState};
@@ -52,9 +51,10 @@ fn put_file(
     text: &mut String,
 ) -> Result<(), Fail> {
     match read_whole(alloc, disk, file)? {
-        Some(bytes) => put_digits(&bytes, text),
-        None => Ok(text.push('-')?),
+        Some(bytes) => text.push_str(hex::encode(alloc, bytes.as_slice())?.as_str())?,
+        None => text.push('-')?,
     }
+    Ok(())
 }
 
 /// The digits of both slots.
@@ -76,7 +76,7 @@ pub(crate) fn bytes_of_slot(alloc: Global, slot: &str) -> Result<RootBytes, Fail
 /// Fails where the slots aren't these.
 fn try_slots(alloc: Global, disk: &mut MemoryDisk, wanted: &str) -> Result<(), Fail> {
     let slots = slots_on(alloc, disk)?;
-    let wanted = front_of(alloc, wanted, usize::MAX)?;
+    let wanted = wanted.replace(alloc, " ", "")?;
     if slots.as_str() == wanted.as_str() {
         return Ok(());
     }

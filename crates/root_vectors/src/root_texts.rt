@@ -1,5 +1,4 @@
 //! What a root is read as, as a text.
-use crate::hexadecimal::bytes_of;
 use chunk_store::{Disk, MemoryDisk};
 use root_slots::{ChunkEntry, Root, RootState};
 use std::alloc::Global;
@@ -43,8 +42,19 @@ pub(crate) fn put_root<D: Disk>(
     Ok(())
 }
 
+/// The bytes that a row spells, two digits each. Blanks between them don't count.
+pub(crate) fn bytes_of(alloc: Global, digits: &str) -> Result<Vec<u8>, Fail> {
+    let digits = digits.replace(alloc, " ", "")?;
+    Ok(hex::decode(alloc, digits.as_str())?)
+}
+
 /// Writes a slot's file, given as digits, blanks between them. `-` is a file that isn't there.
-fn put_slot(alloc: Global, disk: &mut MemoryDisk, slot: u32, digits: &str) -> Result<(), Fail> {
+pub(crate) fn put_slot(
+    alloc: Global,
+    disk: &mut MemoryDisk,
+    slot: u32,
+    digits: &str,
+) -> Result<(), Fail> {
     if digits != "-" {
         let bytes = bytes_of(alloc, digits)?;
         disk.write(slot, 0, &bytes)?;

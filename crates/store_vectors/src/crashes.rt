@@ -1,6 +1,6 @@
 //! What each kind of crash leaves of a disk in memory, after calls that are written as a text.
 use crate::careful_disk::CarefulDisk;
-use crate::hexadecimal::{bytes_of, put_digits};
+use crate::log_texts::bytes_of;
 use chunk_store::{Disk, MemoryDisk, read_whole};
 use std::alloc::Global;
 use std::test::Fail;
@@ -74,8 +74,8 @@ fn shown(alloc: Global, disk: &mut MemoryDisk) -> Result<String, Fail> {
     for file in 0..2 {
         if let Some(bytes) = read_whole(alloc, disk, file)? {
             let blank = if text.is_empty() { "" } else { " " };
-            write!(text, "{blank}{file}=")?;
-            put_digits(&bytes, &mut text)?;
+            let digits = hex::encode(alloc, bytes.as_slice())?;
+            write!(text, "{blank}{file}={digits}")?;
         }
     }
     Ok(text)

@@ -1,15 +1,14 @@
 //! The disk over a real folder: what it keeps, and what it fails at.
 ghost use Rattle.std.specs.Prelude.{◌<◌, ◌^◌, length};
 
-use crate::hexadecimal::{bytes_of, put_digits};
 use crate::log_bytes::{PAYLOAD, WORKED};
-use crate::log_texts::{LOG, put_log};
+use crate::log_texts::{LOG, bytes_of, put_log};
 use chunk_store::{DirDisk, Disk};
 use gate_log::{GateLog, Staged};
 use srch_base::{Failed, OpenFault};
 use std::alloc::Global;
-use std::fs::{self, OpenOptions, Permissions};
-use std::os::unix::fs::PermissionsExt;
+use std::fs::{self, File, OpenOptions, Permissions};
+use std::os::unix::fs::{PermissionsExt, symlink};
 use std::test::Fail;
 use std::{env, process};
 
@@ -52,13 +51,24 @@ r 0 0 2 ⇒ 6162
 r 1 0 2 ⇒ 7879
 l 2 ⇒ none";
 
-/// What calls answer where a folder has the name of the file.
-const CALLS_ON_A_FOLDER: &str = "\
+/// What calls answer where a folder has the name of the file, and where a device has it, `/dev/full`.
+const CALLS_ON_NO_FILE: &str = "\
 l 0 ⇒ failed
 w 0 0 00 ⇒ failed
 s 0 ⇒ failed
 d 0 ⇒ failed
+l 2 ⇒ failed
+w 2 0 00 ⇒ failed
+s 2 ⇒ failed
 w 1 0 00 ⇒ done";
+
+/// What calls answer where the folder lets no file be made or removed.
+const CALLS_WITHOUT_LEAVE: &str = "\
+l 0 ⇒ 6
+w 0 0 6f ⇒ done
+s 0 ⇒ done
+w 1 0 00 ⇒ failed
+d 0 ⇒ failed";
 
 /// What a call that answers nothing else answers.
 fn word(outcome: Result<(), Failed>) -> &'static str {
@@ -77,16 +87,16 @@ fn put_len(len: Result<Option<u64>, Failed>, text: &mut String) -> Result<(), Fa
     Ok(())
 }
 
-/// Puts what is read of a file.
-fn put_read(
+/// What is read of a file.
+fn read_of(
+    alloc: Global,
     disk: &mut DirDisk<&HostRuntime>,
     (file, at): (u32, u64),
     into: &mut [u8],
-    text: &mut String,
-) -> Result<(), Fail> {
+) -> Result<String, Fail> {
     match disk.read(file, at, into) {
-        Ok(()) => put_digits(into, text),
-        Err(Failed) => Ok(text.push_str("failed")?),
+        Ok(()) => Ok(hex::encode(alloc, &*into)?),
+        Err(Failed) => Ok(String::from_str(alloc, "failed")?),
     }
 }
 
@@ -110,7 +120,7 @@ fn answer(alloc: Global, disk: &mut DirDisk<&HostRuntime>, call: &str) -> Result
             let mut room = [0; 8];
             let count = rest.parse::<usize>()?;
             let into = room.get_mut(..count).ok_or("no such room")?;
-            put_read(disk, (file, at), into, &mut text)?;
+            text = read_of(alloc, disk, (file, at), into)?;
         }
     }
     Ok(text)
@@ -156,12 +166,14 @@ fn a_folder_keeps_what_is_written(rt: HostRuntime) -> Result<(), Fail> {
 }
 
 #[test]
-fn a_folder_is_no_file(rt: HostRuntime) -> Result<(), Fail> {
+fn a_folder_or_a_device_is_no_file(rt: HostRuntime) -> Result<(), Fail> {
     let alloc = rt.alloc();
     let path = folder(&rt, "inside")?;
     let name = format!(in alloc; "{path}/0")?;
     fs::create_dir(&rt, name.as_str())?;
-    try_calls(&rt, path.as_str(), CALLS_ON_A_FOLDER)?;
+    let name = format!(in alloc; "{path}/2")?;
+    symlink(&rt, "/dev/full", name.as_str())?;
+    try_calls(&rt, path.as_str(), CALLS_ON_NO_FILE)?;
     fs::remove_dir_all(&rt, path.as_str())?;
     Ok(())
 }
@@ -188,6 +200,62 @@ fn a_file_that_cannot_be_opened_is_a_fault(rt: HostRuntime) -> Result<(), Fail> 
         "l 0 ⇒ failed"
     };
     try_calls(&rt, path.as_str(), wanted)?;
+    fs::remove_dir_all(&rt, path.as_str())?;
+    Ok(())
+}
+
+/// Whether something can be made in a folder.
+fn can_make(rt: &HostRuntime, path: &str) -> Result<bool, Fail> {
+    let name = format!(in rt.alloc(); "{path}/made")?;
+    Ok(fs::create_dir(rt, name.as_str()).is_ok())
+}
+
+#[test]
+fn a_folder_without_leave_is_a_fault(rt: HostRuntime) -> Result<(), Fail> {
+    let alloc = rt.alloc();
+    let path = folder(&rt, "kept_as_it_is")?;
+    let path = path.as_str();
+    try_calls(&rt, path, "w 0 0 636c6f736564 ⇒ done")?;
+    fs::set_permissions(&rt, path, Permissions::from_mode(0o555))?;
+    let is_free = can_make(&rt, path)?;
+    if is_free {
+        let table = CALLS_WITHOUT_LEAVE.replace(alloc, "failed", "done")?;
+        try_calls(&rt, path, table.as_str())?;
+    } else {
+        try_calls(&rt, path, CALLS_WITHOUT_LEAVE)?;
+    }
+    fs::set_permissions(&rt, path, Permissions::from_mode(0))?;
+    assert_eq!(rt; refusal(&rt, path).is_none(), is_free);
+    fs::set_permissions(&rt, path, Permissions::from_mode(0o755))?;
+    fs::remove_dir_all(&rt, path)?;
+    Ok(())
+}
+
+/// The greatest length that the system lets a file have. The file has it then.
+fn longest(file: &File) -> u64 {
+    let mut len = 0;
+    let mut step = 1 << 62;
+    for _ in 0..63 {
+        if file.set_len(len | step).is_ok() {
+            len |= step;
+        }
+        step /= 2;
+    }
+    len
+}
+
+#[test]
+fn a_file_that_cannot_grow_is_a_fault(rt: HostRuntime) -> Result<(), Fail> {
+    let alloc = rt.alloc();
+    let path = folder(&rt, "long")?;
+    let name = format!(in alloc; "{path}/0")?;
+    let len = longest(&File::create(&rt, name.as_str())?);
+    let last = len.saturating_sub(1);
+    // The system writes nothing of the first one, and one byte of the second.
+    let table = format!(in alloc;
+        "w 0 {len} 7a ⇒ failed\nw 0 {last} 7a7b ⇒ failed\nl 0 ⇒ {len}\nw 1 0 7a ⇒ done"
+    )?;
+    try_calls(&rt, path.as_str(), table.as_str())?;
     fs::remove_dir_all(&rt, path.as_str())?;
     Ok(())
 }

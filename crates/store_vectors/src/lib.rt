@@ -10,8 +10,6 @@ mod crashes;
 #[cfg(test)]
 mod folders;
 #[cfg(test)]
-mod hexadecimal;
-#[cfg(test)]
 mod log_bytes;
 #[cfg(test)]
 mod log_crashes;

@@ -2,8 +2,7 @@
 ghost use Rattle.std.specs.Prelude.{◌<◌, ◌^◌, length};
 
 use crate::careful_disk::CarefulDisk;
-use crate::hexadecimal::{bytes_of, put_digits};
-use crate::log_texts::{LOG, put_log};
+use crate::log_texts::{LOG, bytes_of, put_log};
 use chunk_store::{Disk, MemoryDisk, read_whole, remake};
 use gate_log::{GateLog, Staged};
 use std::alloc::Global;
@@ -74,10 +73,8 @@ fn read_as(alloc: Global, bytes: &[u8]) -> Result<String, Fail> {
 
 /// The bytes of the log's file.
 fn digits_of<D: Disk>(alloc: Global, disk: &mut D) -> Result<String, Fail> {
-    let mut text = String::new(alloc);
     let bytes = read_whole(alloc, disk, LOG)?.ok_or("no log")?;
-    put_digits(&bytes, &mut text)?;
-    Ok(text)
+    Ok(hex::encode(alloc, bytes.as_slice())?)
 }
 
 /// The log once it is made in place of an older file, once a record is staged, and once its gate is open, a line each.

@@ -1,5 +1,4 @@
-//! What a log is read as, as a text.
-use crate::hexadecimal::put_digits;
+//! The bytes of a row, and what a log is read as, as a text.
 use chunk_store::{Disk, MemoryDisk};
 use gate_log::{GateLog, LogRecord};
 use std::alloc::Global;
@@ -8,11 +7,16 @@ use std::test::Fail;
 /// The file of each log.
 pub(crate) const LOG: u32 = 2;
 
-fn put_records(records: &[LogRecord], text: &mut String) -> Result<(), Fail> {
+/// The bytes that a row spells, two digits each. Blanks between them don't count.
+pub(crate) fn bytes_of(alloc: Global, digits: &str) -> Result<Vec<u8>, Fail> {
+    let digits = digits.replace(alloc, " ", "")?;
+    Ok(hex::decode(alloc, digits.as_str())?)
+}
+
+fn put_records(alloc: Global, records: &[LogRecord], text: &mut String) -> Result<(), Fail> {
     for record in records {
-        write!(text, "{}:", record.number)?;
-        put_digits(record.payload.as_slice(), text)?;
-        text.push(' ')?;
+        let payload = hex::encode(alloc, record.payload.as_slice())?;
+        write!(text, "{}:{payload} ", record.number)?;
     }
     Ok(())
 }
@@ -21,7 +25,7 @@ fn put_records(records: &[LogRecord], text: &mut String) -> Result<(), Fail> {
 pub(crate) fn put_log<D: Disk>(alloc: Global, disk: &mut D, text: &mut String) -> Result<(), Fail> {
     match GateLog::read(alloc, disk, LOG) {
         Ok((log, records)) => {
-            put_records(&records, text)?;
+            put_records(alloc, &records, text)?;
             write!(text, "to {}", log.end())?;
         }
         Err(fault) => write!(text, "{fault}")?,
