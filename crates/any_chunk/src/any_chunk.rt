@@ -4,8 +4,11 @@
 ghost use Rattle.any_chunk.specs.declared.any_chunk.AnyChunk.TheVariants.{Ram};
 ghost use Rattle.doc_types.specs.steps.PlainIndex.{place_in-IsCursorPlace, words-AreWordsOf};
 
-use doc_types::{Chunk, Cursor, Gap, PlainChunk, Value, ZoneSpan};
+use doc_types::{Chunk, Cursor, Doc, DocRow, Gap, PlainChunk, Value, ZoneSpan};
+use layer_commit::MakeChunk;
+use layer_joins::JoinChunk;
 use srch_base::{NoMemory, Steps};
+use std::alloc::Global;
 use std::sync::ledger::Ledger;
 
 /// A chunk of any kind.
@@ -124,4 +127,24 @@ impl Chunk for AnyChunk {
     ghost all_words = { elim [ Ram inner ↦ words-AreWordsOf inner.rows inner.index inner.indexed ] };
 
     ghost places = { elim [ Ram inner ↦ λ cursor stands. place_in-IsCursorPlace inner.rows inner.index cursor inner.indexed stands ] };
+}
+
+/// What a commit puts is kept in memory.
+impl MakeChunk for AnyChunk {
+    fn of_docs(alloc: Global, docs: &[&Doc], number: u64) -> Result<AnyChunk, NoMemory> {
+        Ok(AnyChunk::Ram(PlainChunk::of_docs(alloc, docs, number)?))
+    }
+}
+
+/// What is put together is kept in memory.
+impl JoinChunk for AnyChunk {
+    fn of_rows(alloc: Global, rows: Vec<DocRow>) -> Result<AnyChunk, NoMemory> {
+        Ok(AnyChunk::Ram(PlainChunk::of_rows(alloc, rows)?))
+    }
+
+    fn row_copy(&self, number: u32) -> Result<DocRow, NoMemory> {
+        match self {
+            AnyChunk::Ram(inner) => inner.row_copy(number),
+        }
+    }
 }

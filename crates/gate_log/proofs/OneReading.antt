@@ -35,7 +35,7 @@ eight m n x y sm sn e =
     (sym (from_le_bytes-to_le_bytes_8 m sm) ∙ ap (from_le_bytes w64) its.0 ∙ from_le_bytes-to_le_bytes_8 n sn, its.1)
 
 -- bytes that begin with two frames are of one record, and go on alike
-one_frame : (r s : LogRecord) (x y : List ℕ) → length r.payload < 2 ^ 32 → length s.payload < 2 ^ 32 → r.number < 2 ^ 64 → s.number < 2 ^ 64 → frame r ++ x ≡ frame s ++ y → (r ≡ s) × (x ≡ y)
+pub one_frame : (r s : LogRecord) (x y : List ℕ) → length r.payload < 2 ^ 32 → length s.payload < 2 ^ 32 → r.number < 2 ^ 64 → s.number < 2 ^ 64 → frame r ++ x ≡ frame s ++ y → (r ≡ s) × (x ≡ y)
 one_frame r s x y short_r short_s small_r small_s e =
     let size = four (length r.payload) (length s.payload) (to_le_bytes w64 r.number ++ (r.payload ++ x)) (to_le_bytes w64 s.number ++ (s.payload ++ y)) short_r short_s e in
     let number = eight r.number s.number (r.payload ++ x) (s.payload ++ y) small_r small_s size.1 in
@@ -71,7 +71,7 @@ one_end before rest (Some kinds.Number) (Some kinds.Length) ends (inr cut) =
 one_end before rest (Some kinds.Number) (Some kinds.Number) ends ends' = refl
 
 -- where a record with its gate stands, records don't end
-goes_on : (before : Before) (kind : Option LogKind) (r : LogRecord) (after : List ℕ) → Fits r → Begins before (r ∷ []) → 0 < length after → Ends kind before (1 ∷ (frame r ++ after)) → ⊥
+pub goes_on : (before : Before) (kind : Option LogKind) (r : LogRecord) (after : List ℕ) → Fits r → Begins before (r ∷ []) → 0 < length after → Ends kind before (1 ∷ (frame r ++ after)) → ⊥
 goes_on before None r after fits begins gate ends = let is = ends.is in ends.closed cc
 goes_on before (Some kinds.Missing) r after fits begins gate ends = ends
 goes_on before (Some kinds.Length) r after fits begins gate (inl none) = absurd cc
@@ -92,15 +92,15 @@ pub record Reading (before : Before) (bytes : List ℕ) (records : List LogRecor
   pub gated : 0 < length records → 0 < length rest
   pub ends : Ends kind (behind before (last_number records)) rest
 
-later : (r : LogRecord) (records : List LogRecord) → AreConsecutive (r ∷ records) → Begins (befores.Record r.number) records
+pub later : (r : LogRecord) (records : List LogRecord) → AreConsecutive (r ∷ records) → Begins (befores.Record r.number) records
 later r [] numbers = tt
 later r (s ∷ records) numbers = numbers.0
 
-tail_of : (r : LogRecord) (records : List LogRecord) → AreConsecutive (r ∷ records) → AreConsecutive records
+pub tail_of : (r : LogRecord) (records : List LogRecord) → AreConsecutive (r ∷ records) → AreConsecutive records
 tail_of r [] numbers = tt
 tail_of r (s ∷ records) numbers = numbers.1
 
-behind_is : (before : Before) (r : LogRecord) (records : List LogRecord) → behind before (last_number (r ∷ records)) ≡ behind (befores.Record r.number) (last_number records)
+pub behind_is : (before : Before) (r : LogRecord) (records : List LogRecord) → behind before (last_number (r ∷ records)) ≡ behind (befores.Record r.number) (last_number records)
 behind_is before r [] = refl
 behind_is before r (s ∷ []) = refl
 behind_is before r (s ∷ t ∷ records) = behind_is before s (t ∷ records) ∙ sym (behind_is (befores.Record r.number) s (t ∷ records))

@@ -1,25 +1,24 @@
 -- What a commit makes of a store.
-use Rattle.std.proofs.Common.{◌≡◌, ◌<◌, ◌+◌, ℕ, List, [], ◌∷◌, ◌++◌, false, map, length, take, drop, refl, sym, ap, subst, ◌∙◌, arith, All, length-append}
+use Rattle.std.proofs.Common.{◌≡◌, ℕ, List, [], ◌∷◌, false, map, take, refl, sym, ap, subst, ◌∙◌, arith, All}
 use Rattle.std.specs.FinMap as finite
 use Rattle.std.specs.List.{filter}
-use Rattle.std.proofs.lemmas.List.{get_or-append-add}
-use Rattle.std.proofs.lemmas.List.Elements.{All-append, All-cons, All-filter, All-head, All-drop, All-map, All-nil, All-take}
-use Rattle.std.proofs.lemmas.List.Sorted.{All-permutation}
+use Rattle.std.proofs.lemmas.List.Elements.{All-append, All-cons, All-filter, All-map, All-nil, All-take}
 use Rattle.doc_types.specs.declared.documents.DocRow.{DocRow}
 use Rattle.doc_types.specs.declared.schema.Schema.{Schema}
 use Rattle.doc_types.specs.declared.transactions.TxnOp.{TxnOp}
-use Rattle.doc_types.specs.Documents.{AreRowsOf, IsDocOf}
-use Rattle.doc_types.specs.Snapshots.{AreLayers, IsLayer, LayerValue, SnapshotValue, all_living, live}
+use Rattle.doc_types.specs.Documents.{AreRowsOf}
+use Rattle.doc_types.specs.Snapshots.{AreLayers, LayerValue, SnapshotValue, all_living, live}
 use Rattle.doc_types.specs.Transactions.{IsOpOf}
 use Rattle.doc_types.proofs.Changes.{accepted}
 use Rattle.commit_outcomes.specs.declared.outcome.TheConstants.{MAX_DOCUMENTS}
 use Rattle.commit_outcomes.specs.Outcomes.{Accepts}
 use Rattle.layer_commit.specs.Commits.{Applies, ArePut, is_kept, layer_after, layers_of}
 use Rattle.layer_commit.proofs.Layered.{put_of}
-use Rattle.plain_store.specs.Commits.{Joins}
-use Rattle.plain_store.specs.steps.Layering.{AreOfOne, IsStore, MayMerge}
-use Rattle.plain_store.proofs.Livings.{docs_of}
-use Rattle.plain_store.proofs.Upkeep.{live_joined}
+use Rattle.layer_joins.specs.Joins.{AreOfOne, Joins, MayMerge}
+use Rattle.layer_joins.proofs.Kept.{of_joined}
+use Rattle.layer_joins.proofs.Livings.{docs_of}
+use Rattle.layer_joins.proofs.Upkeep.{live_joined}
+use Rattle.plain_store.specs.steps.Layering.{IsStore}
 
 -- the documents of a store are of its columns
 pub of_store : (schema : Schema) (layers : List LayerValue) → IsStore schema layers → AreOfOne (all_living layers)
@@ -50,23 +49,12 @@ store_committed schema limit ops old removed new store of applies =
           (memory_of_put applies.put);
     })
 
-all_back : {X : Type 0} (P : X → Type 0) (xs ys : List X) → All P (xs ++ ys) → All P ys
-all_back P xs ys all k d h =
-    let long : length xs + k < length (xs ++ ys) = omega (arith, length-append xs ys, h) in
-    rw (← get_or-append-add xs ys k d) (all (length xs + k) d long)
-
-joined_put : (schema : Schema) (rows : List DocRow) → All IsLayer (layers_of rows) → All (λ row. IsDocOf schema row.doc) rows → All (λ layer. AreRowsOf schema layer.rows) (layers_of rows)
-joined_put schema [] are docs = All-nil (λ (layer : LayerValue). AreRowsOf schema layer.rows)
-joined_put schema (row ∷ rows) are docs = rows_of_put schema (row ∷ rows) (record { ids = (All-head IsLayer (record { rows = row ∷ rows; disk = false; dead = [] }) [] are).content.of.ids; docs = docs })
-
 -- a store whose last layers were put together is a store
 pub store_joined : (schema : Schema) (old new : List LayerValue) → IsStore schema old → AreLayers new → Joins old new → IsStore schema new
 store_joined schema old new store are joins =
-    let each : All IsLayer (layers_of joins.rows) = all_back IsLayer (take joins.start old) (layers_of joins.rows) (subst (All IsLayer) joins.layers are.each) in
-    let docs : All (λ (row : DocRow). IsDocOf schema row.doc) joins.rows = All-permutation (λ (row : DocRow). IsDocOf schema row.doc) (all_living (drop joins.start old)) joins.rows joins.are (docs_of schema (drop joins.start old) (All-drop (λ (layer : LayerValue). AreRowsOf schema layer.rows) joins.start old store.rows)) in
     subst (IsStore schema) (sym joins.layers) (record {
       limits = store.limits;
-      rows = All-append (λ (layer : LayerValue). AreRowsOf schema layer.rows) (take joins.start old) (layers_of joins.rows) (All-take (λ (layer : LayerValue). AreRowsOf schema layer.rows) joins.start old store.rows) (joined_put schema joins.rows each docs);
+      rows = subst (All (λ layer. AreRowsOf schema layer.rows)) joins.layers (of_joined schema old new store.rows are joins);
       memory = All-append (λ (layer : LayerValue). layer.disk ≡ false) (take joins.start old) (layers_of joins.rows) (All-take (λ (layer : LayerValue). layer.disk ≡ false) joins.start old store.memory) (memory_of_put joins.rows);
     })
 

@@ -1,12 +1,2 @@
--- rows of which no two have one id
-pub mod Ids
--- maps of rows by their ids
-pub mod RowMaps
--- the rows of layers that live
-pub mod Livings
--- layers that were put together
-pub mod Upkeep
--- sorted rows and layers of them
-pub mod Limits
 -- what a commit makes of a store
 pub mod Committed

@@ -7,12 +7,12 @@ ghost use Rattle.doc_types.specs.Transactions.{IsTxnOf};
 ghost use Rattle.doc_types.specs.Snapshots.{AreLayers, all_living};
 ghost use Rattle.commit_outcomes.specs.Outcomes.{Commits, empty_snapshot};
 ghost use Rattle.plain_store.specs.Commits.{KeepsLayers};
-ghost use Rattle.plain_store.specs.steps.Layering.{AreOfOne, MayMerge};
+ghost use Rattle.layer_joins.specs.Joins.{AreOfOne, MayMerge};
 
-use crate::merging::merge_last;
 use commit_outcomes::{CommitOutcome, MAX_DOCUMENTS};
 use doc_types::{PlainChunk, Schema, Snapshot, Txn};
 use layer_commit::{Refusal, commit};
+use layer_joins::merge_last;
 use srch_base::{Items, NoMemory, Or};
 use std::alloc::Global;
 use std::marker::Model;

@@ -71,7 +71,8 @@ impl Root {
 
     /// The number of the slot that holds the own state; 0 where there is none.
     pub fn slot(&self) -> u8
-        ensures { (own : Slot) (doubt : Option Slot) (slots : Slots) → Stands self.now (Some own) doubt slots → HoldsOpen result own slots }
+        ensures holds { (own : Slot) (doubt : Option Slot) (slots : Slots) → Stands self.now (Some own) doubt slots → HoldsOpen result own slots }
+        ensures holder { result ≡ own_slot self.now.holder }
     {
         slot_of(self.holder)
     }

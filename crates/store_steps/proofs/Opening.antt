@@ -77,7 +77,7 @@ number_all t n k (b ∷ bs) from lt is =
     ap (λ (l : List Batch). fold (λ (m : ℕ) (c : Batch). c.number) n l + 1) one ∙ number_all t b.number (k + 1) bs from.1 (omega (arith, lt)) (omega (arith, from.0)) ∙ omega arith
 
 -- those behind the chunks are
-number_from : (t k : ℕ) (bs : List Batch) → AreFrom k bs → k ≤ t + 1 → t < k + length bs → fold (λ (m : ℕ) (b : Batch). b.number) t (above t bs) + 1 ≡ k + length bs
+pub number_from : (t k : ℕ) (bs : List Batch) → AreFrom k bs → k ≤ t + 1 → t < k + length bs → fold (λ (m : ℕ) (b : Batch). b.number) t (above t bs) + 1 ≡ k + length bs
 number_from t k [] from low reach = omega (arith, low, reach)
 number_from t k (b ∷ bs) from low reach = elim (cases_lt t b.number) [
   | inl lt ↦ number_all t t k (b ∷ bs) from (omega (arith, from.0, lt)) (omega (arith, from.0, lt, low))

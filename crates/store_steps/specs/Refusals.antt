@@ -1,5 +1,5 @@
 -- Refusals: when a commit is refused, and by which numbers.
-use Rattle.std.specs.Prelude.{◌≡◌, ℕ, ◌+◌, ◌-◌, ◌^◌, List, [], ◌∷◌, Bool, true, false, ◌==◌, ◌||◌, not, nat_lt, min, length, if◌then◌else◌, Option, Some, None, sum_by}
+use Rattle.std.specs.Prelude.{ℕ, ◌+◌, ◌-◌, ◌^◌, List, Bool, true, false, ◌==◌, ◌||◌, not, nat_lt, min, length, if◌then◌else◌, Option, Some, None, sum_by}
 use Rattle.std.specs.List.{list_any}
 use Rattle.std.specs.FinMap as finite
 use Rattle.doc_types.specs.Commits.{Change, Put, Kill, Clear}

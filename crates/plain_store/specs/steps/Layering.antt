@@ -1,56 +1,12 @@
--- The layers of a store in memory, and how they are put together.
-use Rattle.std.specs.Prelude.{◌≡◌, ◌≢◌, ◌<◌, List, [], ◌∷◌, Option, Some, None, false, All, AllPairs, length}
-use Rattle.std.specs.List.Sorted.{IsPermutation}
-use Rattle.doc_types.specs.declared.documents.DocRow.{DocRow}
+-- The layers of a store in memory.
+use Rattle.std.specs.Prelude.{◌≡◌, List, false, All}
 use Rattle.doc_types.specs.declared.schema.Schema.{Schema}
-use Rattle.doc_types.specs.Chunks.{IsContent}
-use Rattle.doc_types.specs.Documents.{AreRowsOf, IsDocOf}
+use Rattle.doc_types.specs.Documents.{AreRowsOf}
 use Rattle.doc_types.specs.Schemas.{IsSchema}
-use Rattle.doc_types.specs.Snapshots.{IsLayer, LayerValue, SnapshotValue}
-use Rattle.plain_store.specs.Commits.{Joins}
+use Rattle.doc_types.specs.Snapshots.{LayerValue}
 
--- no two rows have one id
-abbrev pub AreApart : List DocRow → Type 0
-AreApart rows = AllPairs (λ row other. row.doc.id ≢ other.doc.id) rows
-
--- the rows' documents are of one schema
-pub record AreOfOne (rows : List DocRow) : Type 0 where
-  pub schema : Schema
-  pub limits : IsSchema schema
-  pub docs : All (λ row. IsDocOf schema row.doc) rows
-
--- the layers of a store in memory: rows of its columns
+-- they have rows of its columns
 pub record IsStore (schema : Schema) (layers : List LayerValue) : Type 0 where
   pub limits : IsSchema schema
   pub rows : All (λ layer. AreRowsOf schema layer.rows) layers
   pub memory : All (λ layer. layer.disk ≡ false) layers
-
--- the rows by ascending id, as a chunk holds them
-pub record AreSorted (rows sorted : List DocRow) : Type 0 where
-  pub moved : IsPermutation rows sorted
-  pub ascend : AllPairs (λ row later. row.doc.id < later.doc.id) sorted
-  pub content : IsContent sorted
-
--- a layer in memory of these rows, sorted
-pub record IsLayerOf (rows : List DocRow) (layer : LayerValue) : Type 0 where
-  pub is : IsLayer layer
-  pub sorted : IsPermutation rows layer.rows
-  pub ascend : AllPairs (λ row later. row.doc.id < later.doc.id) layer.rows
-  pub memory : layer.disk ≡ false
-  pub whole : layer.dead ≡ []
-
--- one layer of these rows, or none where there is no row
-abbrev pub IsMerged : List DocRow → Option LayerValue → Type 0
-IsMerged rows None = rows ≡ []
-IsMerged rows (Some layer) = (0 < length rows) × IsLayerOf rows layer
-
--- a layer or none, as a list
-abbrev pub option_list : Option LayerValue → List LayerValue
-option_list None = []
-option_list (Some layer) = layer ∷ []
-
--- all is as before, but for some of the last layers, which may have been put together
-pub record MayMerge (old new : SnapshotValue) : Type 0 where
-  pub number : new.number ≡ old.number
-  pub shape : new.shape ≡ old.shape
-  pub joins : Joins old.layers new.layers

@@ -1,0 +1,2 @@
+pub mod LastIndex
+pub mod Latest

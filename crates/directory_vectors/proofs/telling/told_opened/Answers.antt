@@ -1,0 +1,14 @@
+use Rattle.std.proofs.Common.{sym, subst}
+use Rattle.std.specs.Arc.{arc_value}
+use Rattle.doc_types.specs.declared.schema.Schema.{Schema}
+use Rattle.doc_types.specs.Snapshots.{SnapshotValue}
+use Rattle.step_history.specs.History.{AreOf}
+use Rattle.directory_vectors.proofs.telling.told_opened.Goals as goal
+
+pub named-requires-clause-of : goal.named-requires-clause-of
+named-requires-clause-of g c = subst (λ (s : Schema). AreOf s (arc_value c.args.opened.snapshot)) (sym c.requires.named) c.requires.opened.of
+
+pub told_snapshot-requires-clause-of : goal.told_snapshot-requires-clause-of
+told_snapshot-requires-clause-of g c =
+    subst (λ (v : SnapshotValue). AreOf c.args.schema.now v) (sym c.deref-in-Ok.ensures)
+    (subst (λ (s : Schema). AreOf s (arc_value c.in_ok-found-in-Ok.found)) c.requires.named c.in_ok-found-in-Ok.ensures)

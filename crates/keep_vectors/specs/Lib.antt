@@ -1,0 +1,2 @@
+-- a keeper that commits can be made with
+pub mod Ready

@@ -1,0 +1,2 @@
+-- layers, and how they are put together
+pub mod Layering

@@ -1,6 +1,0 @@
-use Rattle.std.proofs.Common.{◌≡◌, take}
-use Rattle.doc_types.specs.Snapshots.{all_living}
-use Rattle.plain_store.proofs.merging.copies_of.Given as goal
-
-abbrev pub invariant-loop-layer : goal.invariant-loop-layer
-invariant-loop-layer l = l.rows.items ≡ all_living (take l.layer-index l.layers)

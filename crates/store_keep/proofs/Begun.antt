@@ -1,0 +1,198 @@
+-- An index that was begun.
+use Rattle.std.proofs.Common.{◌≡◌, inl, inr, ⊎_elim, ◌⊎◌, ℕ, ◌+◌, ◌≤◌, List, [], ◌++◌, not, ◌==◌, Option, Some, None, Result, Ok, Err, refl, sym, ◌∙◌, ap, subst, arith, length, map, length-append}
+use Rattle.std.specs.Arc.{arc_value}
+use Rattle.std.specs.FinMap as finite
+use Rattle.std.specs.List.{list_any}
+use Rattle.std.specs.Int.{w16, to_le_bytes}
+use Rattle.std.specs.Ordering.{nat_cmp}
+use Rattle.std.proofs.lemmas.Bool.{lt-ltb}
+use Rattle.std.proofs.lemmas.List.Elements.{All-nil}
+use Rattle.chunk_store.specs.Images.{Image, contents}
+use Rattle.chunk_store.specs.Calls.{Crashes, OnlyReads}
+use Rattle.chunk_store.specs.declared.disk.Disk.{Ghosts as DiskWords}
+use Rattle.chunk_store.proofs.Told.{told_by}
+use Rattle.doc_bytes.specs.SchemaText.{schema_text}
+use Rattle.doc_types.specs.declared.schema.Schema.{Schema}
+use Rattle.doc_types.specs.declared.documents.DocRow.{DocRow}
+use Rattle.doc_types.specs.Rows.{Rows}
+use Rattle.doc_types.specs.Snapshots.{LayerValue, all_living}
+use Rattle.gate_log.specs.Logs.{IsLogOf, quiet_log}
+use Rattle.gate_log.specs.declared.log.GateLog.{GateLog}
+use Rattle.root_slots.specs.Roots.{Stands as RootStands, Steps, next, replaced}
+use Rattle.root_slots.specs.Slots.{IsRoot, Slots, slots_of}
+use Rattle.root_slots.specs.States.{IsState, chunks_bytes, numbers_bytes, text_bytes}
+use Rattle.root_slots.specs.declared.root.Root.{Root}
+use Rattle.root_slots.specs.declared.state.ChunkEntry.{ChunkEntry}
+use Rattle.root_slots.proofs.Standing.{root_leaves}
+use Rattle.step_history.specs.History.{Base}
+use Rattle.store_steps.specs.Damage.{IsGoodState}
+use Rattle.store_steps.specs.Directory.{IsInOrder, StandsFor}
+use Rattle.store_steps.specs.Kept.{IsImage, Reaches, Says}
+use Rattle.store_keep.specs.Opens.{HidesNothing, IsBegun, LeavesBegun}
+use Rattle.store_keep.specs.declared.opening.Found.{Found}
+use Rattle.store_keep.specs.steps.Beginnings.{Begins, MayBegin, first_state}
+use Rattle.store_keep.specs.steps.Finds.{Finds, IsFound, IsRootRead}
+use Rattle.store_keep.specs.steps.Loads.{IsRead, IsSnapshotOf}
+use Rattle.store_keep.specs.declared.fault.StoreFault.{StoreFault}
+use Rattle.store_keep.specs.declared.fault.StoreFault.TheVariants as faults
+use Rattle.store_keep.proofs.Founds.{dir_of, empty_rows, in_order, no_disk, numbered, reaches_of, slot_same}
+
+pub state_is : (schema : Schema) (text : List ℕ) (chunks : List ChunkEntry) → text ≡ schema_text schema → chunks ≡ [] → record { schema_text = text; through = 0; next_file = 3; older = 0; newer = 2; chunks = chunks } ≡ first_state schema
+state_is schema text chunks is none =
+    ap (λ (t : List ℕ). record { schema_text = t; through = 0; next_file = 3; older = 0; newer = 2; chunks = chunks }) is
+    ∙ ap (λ (cs : List ChunkEntry). record { schema_text = schema_text schema; through = 0; next_file = 3; older = 0; newer = 2; chunks = cs }) none
+
+pub first_is_state : (schema : Schema) → length (schema_text schema) ≤ 65535 → IsState (first_state schema)
+first_is_state schema short = record {
+  text = omega (arith, short);
+  through = omega arith;
+  next_file = omega arith;
+  older = inl refl;
+  newer = record { no_slot = omega arith; made = omega arith; apart = refl };
+  few = omega arith;
+  chunks = tt;
+  fits = omega (arith, short, length-append (text_bytes (schema_text schema) ++ numbers_bytes (first_state schema)) (chunks_bytes []), length-append (text_bytes (schema_text schema)) (numbers_bytes (first_state schema)), length-append (to_le_bytes w16 (length (schema_text schema))) (schema_text schema));
+}
+
+-- ---- what stands for the empty index
+
+good : (schema : Schema) → IsGoodState schema (first_state schema)
+good schema = record { few = omega arith; text = refl }
+
+order : (schema : Schema) → IsInOrder schema (dir_of schema (first_state schema) [] [])
+order schema = in_order schema (first_state schema) [] [] (good schema) (numbered schema 0 [] tt tt) (All-nil (IsRead schema))
+
+reaches : (schema : Schema) → Reaches (dir_of schema (first_state schema) [] [])
+reaches schema = reaches_of schema (first_state schema) [] [] (numbered schema 0 [] tt tt) (omega arith)
+
+stands_empty : (schema : Schema) (root : Root) (x : Image) → IsRoot None (slots_of x) ⊎ (IsRoot (Some (next root (first_state schema))) (slots_of x) × IsLogOf [] (contents (x 2))) → StandsFor schema x finite.empty 0
+stands_empty schema root x (inl none) = record { found = None; holds = none; rows_are = refl; number_is = refl }
+stands_empty schema root x (inr new) = record {
+  found = Some (dir_of schema (first_state schema) [] []);
+  holds = record { number = root.number + 1; files = record { root = new.0; chunks = tt; older = refl }; newer = new.1; in_order = order schema };
+  rows_are = empty_rows;
+  number_is = refl;
+}
+
+slots_stand : {D : Type 0} (words : DiskWords D) (root : Root) (disk : D) → IsRootRead (words.told disk) (words.may_leave disk) root None → HidesNothing words disk → ((x : Image) → words.may_leave disk x → (image : Image) × (words.told disk ≡ Some image))
+    → (d : Image) → words.may_leave disk d → RootStands root None None (slots_of d)
+slots_stand words root disk read hides tells d left =
+    let i = tells d left in
+    let zeroth = slot_same words disk 0 (omega arith) hides read.zeroth i.0 d i.1 left in
+    let first = slot_same words disk 1 (omega arith) hides read.first i.0 d i.1 left in
+    let same : slots_of d ≡ slots_of i.0 = ap (λ (f : Option (List ℕ)). record { zeroth = f; first = d 1 }) zeroth ∙ ap (λ (f : Option (List ℕ)). record { zeroth = i.0 0; first = f }) first in
+    subst (λ (s : Slots). RootStands root None None s) (sym same) (read.opens i.0 i.1).stands
+
+begun_by : {D : Type 0} (words : DiskWords D) (schema : Schema) (root : Root) (disk : D) → IsRootRead (words.told disk) (words.may_leave disk) root None → HidesNothing words disk → ((x : Image) → words.may_leave disk x → (image : Image) × (words.told disk ≡ Some image))
+    → (d x : Image) → words.may_leave disk d → MayBegin root (first_state schema) d x → IsBegun schema (words.told disk) x
+begun_by words schema root disk read hides tells d x left step = record {
+  none = λ image is. root_leaves root None None (slots_of image) (read.opens image is).stands;
+  empty = stands_empty schema root x (step (slots_stand words root disk read hides tells d left));
+}
+
+-- what beginning an index may leave
+pub begun_leaves : {D : Type 0} (words : DiskWords D) (schema : Schema) (root : Root) (old new : D) → IsRootRead (words.told old) (words.may_leave old) root None → ((x : Image) → words.may_leave old x → (image : Image) × (words.told old ≡ Some image))
+    → Crashes words old new (MayBegin root (first_state schema)) → HidesNothing words old → LeavesBegun words schema old new
+begun_leaves words schema root old new read tells crashes hides = record {
+  later = crashes.later;
+  now = λ x left. let from = crashes.now x left in inr (begun_by words schema root old read hides tells from.0 x from.1 from.2);
+  since = λ t x le left. ⊎_elim (λ was. inl was) (λ from. inr (inr (begun_by words schema root old read hides tells from.0 x from.1 from.2))) (crashes.since t x le left);
+}
+
+pub same_leaves : {D : Type 0} (words : DiskWords D) (schema : Schema) (disk : D) → LeavesBegun words schema disk disk
+same_leaves words schema disk = record { later = omega arith; now = λ x left. inl left; since = λ t x le left. inl left }
+
+begun_image : (schema : Schema) (root : Root) (found : Found) (d x : Image) → found.root ≡ replaced root → found.log ≡ quiet_log 2 0 None → RootStands root None None (slots_of d) → Begins root (first_state schema) d x
+    → IsImage schema (dir_of schema (first_state schema) [] []) (root.number + 1) found.root found.log None x
+begun_image schema root found d x root_is log_is stands begins =
+    let slots : RootStands (replaced root) (Some (next root (first_state schema))) None (slots_of x) = begins.root_is stands in
+    let image : IsImage schema (dir_of schema (first_state schema) [] []) (root.number + 1) (replaced root) (quiet_log 2 0 None) None x = record {
+      files = record { root = root_leaves (replaced root) (Some (next root (first_state schema))) None (slots_of x) slots; chunks = tt; older = refl };
+      slots = slots;
+      newer = begins.log_is;
+    } in
+    subst (λ (l : GateLog). IsImage schema (dir_of schema (first_state schema) [] []) (root.number + 1) found.root l None x) (sym log_is)
+    (subst (λ (r : Root). IsImage schema (dir_of schema (first_state schema) [] []) (root.number + 1) r (quiet_log 2 0 None) None x) (sym root_is) image)
+
+-- an index that was begun is kept
+pub begun_found : {D : Type 0} (words : DiskWords D) (schema : Schema) (root : Root) (old new : D) (found : Found) → IsState (first_state schema) → IsRootRead (words.told old) (words.may_leave old) root None → ((x : Image) → words.may_leave old x → (image : Image) × (words.told old ≡ Some image))
+    → Steps words (Begins root (first_state schema)) old new → found.root ≡ replaced root → found.log ≡ quiet_log 2 0 None → IsSnapshotOf schema 0 [] (arc_value found.snapshot) → found.records ≡ 0 → found.documents ≡ 0 → IsFound words schema old new found
+begun_found words schema root old new found state_is read tells steps root_is log_is loaded records documents =
+    let snapshot = arc_value found.snapshot in
+    let dir = dir_of schema (first_state schema) [] [] in
+    let none : (image : Image) → words.told old ≡ Some image → IsRoot None (slots_of image) = λ image is. root_leaves root None None (slots_of image) (read.opens image is).stands in
+    let says : Says dir snapshot = record { rows = empty_rows ∙ sym loaded.rows_are; number = sym loaded.number_is; chunks = sym (ap (map (λ (l : LayerValue). l.rows)) (no_disk snapshot.layers loaded.memory)) } in
+    let base : Base = record { opening = snapshot; log = found.log.end } in
+    record {
+      said = λ image is. record {
+        found = None;
+        holds = none image is;
+        rows = sym loaded.rows_are;
+        number = sym loaded.number_is;
+        places = λ id row got.
+            ap (λ (ls : List LayerValue). list_any (λ row. row.doc.id == id) (all_living ls)) (no_disk snapshot.layers loaded.memory)
+            ∙ sym (ap not (lt-ltb 0 row.born (loaded.newer id row got)));
+        records_are = records;
+      };
+      kept = λ hides. record {
+        dir = dir;
+        number = root.number + 1;
+        next = None;
+        state = state_is;
+        in_order = order schema;
+        reaches = reaches schema;
+        file = ap (λ (l : GateLog). l.file) log_is;
+        staged = ap (λ (l : GateLog). l.staged) log_is;
+        quiet = λ (_ : _). ap (λ (l : GateLog). l.pending) log_is;
+        last = ap (λ (l : GateLog). l.last) log_is;
+        has = record { says = says; end = refl };
+        told = told_by {R = Begins root (first_state schema)} {P = λ image. RootStands root None None (slots_of image)} {Q = λ image. IsImage schema dir (root.number + 1) found.root found.log None image} (words.told old) (words.told new) steps.told
+            (λ image is. (read.opens image is).stands) (λ d x stands begins. begun_image schema root found d x root_is log_is stands begins);
+        left = λ x left.
+            let from = steps.left x left in
+            begun_image schema root found from.0 x root_is log_is (slots_stand words root old read hides tells from.0 from.1) from.2;
+      };
+      of = loaded.of;
+      shape = loaded.shape_is;
+      documents_are = documents ∙ sym (finite.len-empty nat_cmp DocRow) ∙ ap (λ (m : Rows). finite.len m) (sym loaded.rows_are);
+    }
+
+-- ---- behind calls that looked
+
+hides_then : {D : Type 0} (words : DiskWords D) (old mid : D) → OnlyReads words old mid → HidesNothing words old → HidesNothing words mid
+hides_then words old mid looks hides = record { hides = λ image x slot lt is left none. hides.hides image x slot lt (sym looks.same ∙ is) (looks.now x left) none }
+
+pub finds_then : {D : Type 0} (words : DiskWords D) (schema : Schema) (old mid new : D) (r : Result Found StoreFault) → OnlyReads words old mid → Finds words schema mid new r → Finds words schema old new r
+finds_then words schema old mid new (Ok found) looks is = record {
+  said = λ image told. is.said image (looks.same ∙ told);
+  kept = λ hides. is.kept (hides_then words old mid looks hides);
+  of = is.of;
+  shape = is.shape;
+  documents_are = is.documents_are;
+}
+finds_then words schema old mid new (Err faults.NoMemory) looks is = tt
+finds_then words schema old mid new (Err faults.DiskFault) looks is = tt
+finds_then words schema old mid new (Err (faults.Damaged damage)) looks is = λ image told. is image (looks.same ∙ told)
+
+pub leaves_looked : {D : Type 0} (words : DiskWords D) (schema : Schema) (old new : D) → OnlyReads words old new → LeavesBegun words schema old new
+leaves_looked words schema old new looks = record {
+  later = looks.later;
+  now = λ x left. inl (looks.now x left);
+  since = λ t x le left. ⊎_elim (λ was. inl was) (λ here. inr (inl here)) (looks.since t x le left);
+}
+
+begun_same : {schema : Schema} {old mid : Option Image} {x : Image} → mid ≡ old → IsBegun schema mid x → IsBegun schema old x
+begun_same {schema} {old} {mid} {x} same begun = subst (λ (t : Option Image). IsBegun schema t x) same begun
+
+pub leaves_then : {D : Type 0} (words : DiskWords D) (schema : Schema) (old mid new : D) → OnlyReads words old mid → (HidesNothing words mid → LeavesBegun words schema mid new) → HidesNothing words old → LeavesBegun words schema old new
+leaves_then words schema old mid new looks leaves hides =
+    let second = leaves (hides_then words old mid looks hides) in
+    record {
+      later = omega (arith, looks.later, second.later);
+      now = λ x left. ⊎_elim (λ here. inl (looks.now x here)) (λ begun. inr (begun_same looks.same begun)) (second.now x left);
+      since = λ t x le left.
+          ⊎_elim
+          (λ was. ⊎_elim (λ before. inl before) (λ here. inr (inl here)) (looks.since t x le was))
+          (λ later. inr (⊎_elim (λ here. inl (looks.now x here)) (λ begun. inr (begun_same looks.same begun)) later))
+          (second.since t x (omega (arith, le, looks.later)) left);
+    }

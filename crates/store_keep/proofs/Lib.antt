@@ -1,0 +1,32 @@
+-- a step is published
+pub mod Publishing
+-- a commit is entered
+pub mod Staging
+-- a commit that was entered, and then settled or not
+pub mod Ending
+-- a token that doesn't contradict its keeper
+pub mod Straying
+-- a commit over layers follows in the history
+pub mod Following
+-- a commit that is prepared
+pub mod Accepting
+-- all tokens are told the whole history
+pub mod Telling
+-- loops that look at each element of a list
+pub mod Fitting
+-- records of logs that are taken one by one
+pub mod Loads
+-- the bytes of a log whose records were read
+pub mod LogBytes
+-- files of logs that were read
+pub mod FilesRead
+-- the layer of rows that were read
+pub mod Layers
+-- what was read of a disk is what it stands for
+pub mod Founds
+-- the root that was read
+pub mod RootFound
+-- the first log and the first root are written
+pub mod FirstFiles
+-- an index that was begun
+pub mod Begun

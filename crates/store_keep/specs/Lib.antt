@@ -1,0 +1,14 @@
+-- faults of a store
+pub mod Faults
+-- what a keeper holds
+pub mod Keepers
+-- what a commit says, and what it leaves
+pub mod Commits
+-- what a store is that got a name
+pub mod Names
+-- what all tokens are told at the end
+pub mod Tellings
+-- what opening finds, and what it leaves
+pub mod Opens
+-- what serves proofs alone
+pub mod steps

@@ -1,0 +1,142 @@
+-- What was read of logs: their records, and the rows after them.
+use Rattle.std.specs.Prelude.{◌≡◌, ◌≢◌, ℕ, ◌<◌, ◌≤◌, List, [], ◌∷◌, ◌++◌, Option, Some, None, Result, Ok, Err, IfSome, All, false, length, map}
+use Rattle.std.specs.BTreeMap.{BTreeMap, get}
+use Rattle.std.specs.FinMap as finite
+use Rattle.std.specs.List.{fold}
+use Rattle.std.specs.Ordering.{nat_cmp}
+use Rattle.doc_bytes.specs.Reading.{txn_at}
+use Rattle.doc_types.specs.declared.documents.DocRow.{DocRow}
+use Rattle.doc_types.specs.declared.schema.Schema.{Schema}
+use Rattle.doc_types.specs.declared.transactions.Txn.{Txn}
+use Rattle.doc_types.specs.declared.transactions.TxnOp.{TxnOp}
+use Rattle.doc_types.specs.Commits.{Change, change_of}
+use Rattle.doc_types.specs.Documents.{IsDocOf}
+use Rattle.doc_types.specs.Rows.{Rows}
+use Rattle.doc_types.specs.Snapshots.{SnapshotValue, live}
+use Rattle.step_history.specs.History.{AreOf}
+use Rattle.gate_log.specs.Logs.{AreRecords, last_number, spelled}
+use Rattle.gate_log.specs.Reading.{Begins, behind}
+use Rattle.gate_log.specs.declared.fault.LogKind.{LogKind}
+use Rattle.gate_log.specs.declared.fault.LogKind.TheVariants as logs
+use Rattle.gate_log.specs.declared.reading.Before.{Before}
+use Rattle.gate_log.specs.declared.reading.Before.TheVariants.{Chunks}
+use Rattle.gate_log.specs.declared.records.LogRecord.{LogRecord}
+use Rattle.layer_commit.specs.steps.Trying.{row_after}
+use Rattle.store_steps.specs.Batches.{Batch, IsBatchOf, above, after_batch, record_of}
+use Rattle.store_steps.specs.Damage.{IsBadBehind}
+use Rattle.store_steps.specs.declared.damage.Damage.{Damage}
+use Rattle.store_steps.specs.declared.damage.DamageKind.{DamageKind}
+use Rattle.store_steps.specs.declared.damage.DamageKind.TheVariants as kinds
+use Rattle.store_keep.specs.declared.fault.StoreFault.{StoreFault}
+use Rattle.store_keep.specs.declared.fault.StoreFault.TheVariants as faults
+use Rattle.store_keep.specs.declared.loading.Loaded.{Loaded}
+use Rattle.store_keep.specs.declared.loading.LogEnd.{LogEnd}
+
+-- the changes of a transaction that was read
+abbrev pub changes_in : Result Txn ℕ → List Change
+changes_in (Ok txn) = map change_of txn.ops
+changes_in (Err left) = []
+
+-- the batch of a record
+abbrev pub batch_in : Schema → LogRecord → Batch
+batch_in schema r = record { number = r.number; changes = changes_in (txn_at schema r.payload) }
+
+abbrev pub batches_in : Schema → List LogRecord → List Batch
+batches_in schema records = map (batch_in schema) records
+
+-- A batch of the schema was read, of which the record is.
+pub record IsRead (schema : Schema) (r : LogRecord) : Type 0 where
+  pub of : IsBatchOf schema (batch_in schema r)
+  pub is : record_of (batch_in schema r) ≡ r
+
+-- A row of this id that the chunks don't have.
+pub record IsRowAt (schema : Schema) (through id : ℕ) (row : DocRow) : Type 0 where
+  pub id_is : row.doc.id ≡ id
+  pub newer : through < row.born
+  pub of : IsDocOf schema row.doc
+
+abbrev pub AreRowsAt : Schema → ℕ → BTreeMap ℕ DocRow → Type 0
+AreRowsAt schema through rows = (id : ℕ) → IfSome (get nat_cmp rows id) (IsRowAt schema through id)
+
+-- the rows after these records
+abbrev pub rows_after : Schema → ℕ → List LogRecord → Rows
+rows_after schema through records = fold after_batch finite.empty (above through (batches_in schema records))
+
+-- These records were taken.
+pub record IsLoaded (schema : Schema) (through : ℕ) (records : List LogRecord) (loaded : Loaded) : Type 0 where
+  pub all : All (IsRead schema) records
+  pub rows : (id : ℕ) → get nat_cmp loaded.rows id ≡ finite.get (rows_after schema through records) id
+  pub each : AreRowsAt schema through loaded.rows
+  pub through_is : loaded.through ≡ through
+  pub last_is : loaded.last ≡ last_number records
+
+-- A commit's operations were taken, unless the chunks have it.
+pub record Takes (number : ℕ) (ops : List TxnOp) (old new : Loaded) : Type 0 where
+  pub same : new.through ≡ old.through
+  pub last_is : new.last ≡ Some number
+  pub later : old.through < number → (id : ℕ) → get nat_cmp new.rows id ≡ row_after number id (get nat_cmp old.rows id) (map change_of ops)
+  pub earlier : number ≤ old.through → new.rows ≡ old.rows
+
+-- the number of the last commit: that of the last record, or else the last one that the chunks have
+abbrev pub number_after : ℕ → Option ℕ → ℕ
+number_after through None = through
+number_after through (Some last) = last
+
+-- The snapshot of what was taken of these records: all of it lies in memory.
+pub record IsSnapshotOf (schema : Schema) (through : ℕ) (records : List LogRecord) (snapshot : SnapshotValue) : Type 0 where
+  pub number_is : snapshot.number ≡ number_after through (last_number records)
+  pub shape_is : snapshot.shape ≡ 0
+  pub rows_are : live snapshot ≡ rows_after schema through records
+  pub memory : All (λ layer. layer.disk ≡ false) snapshot.layers
+  pub of : AreOf schema snapshot
+  pub newer : (id : ℕ) (row : DocRow) → finite.get (live snapshot) id ≡ Some row → through < row.born
+
+-- what comes before the record behind these
+abbrev pub before_next : ℕ → List LogRecord → Before
+before_next through records = behind (Chunks through) (last_number records)
+
+-- The bytes are these records, each of which was read, and a closed gate.
+pub record IsLogRead (schema : Schema) (before : Before) (records : List LogRecord) (bytes : List ℕ) (found : LogEnd) : Type 0 where
+  pub records_are : AreRecords records
+  pub begins : Begins before records
+  pub all : All (IsRead schema) records
+  pub gate : ℕ
+  pub rest : List ℕ
+  pub closed : gate ≢ 1
+  pub is : bytes ≡ spelled records ++ gate ∷ rest
+  pub end_is : found.end ≡ length (spelled records)
+  pub last_is : found.last ≡ last_number records
+
+-- the damage of a record that holds no transaction
+abbrev pub bad_payload : ℕ → ℕ → Damage
+bad_payload file place = record { file = file; place = place; kind = kinds.RecordPayload }
+
+-- what is wrong behind records, among the damage of an index
+abbrev pub kind_of : LogKind → DamageKind
+kind_of logs.Missing = kinds.LogMissing
+kind_of logs.Length = kinds.RecordLength
+kind_of logs.Number = kinds.RecordNumber
+
+abbrev pub bad_record : ℕ → ℕ → LogKind → Damage
+bad_record file place kind = record { file = file; place = place; kind = kind_of kind }
+
+-- The answer isn't that the disk failed.
+abbrev pub IsOfBytes : {T : Type 0} → Result T StoreFault → Type 0
+IsOfBytes (Ok value) = Unit {0}
+IsOfBytes (Err faults.NoMemory) = Unit {0}
+IsOfBytes (Err faults.DiskFault) = ⊥
+IsOfBytes (Err (faults.Damaged damage)) = Unit {0}
+
+-- what taking a record comes to, whose gate stands at this place of a file
+abbrev pub TakesRecord : Schema → ℕ → List LogRecord → LogRecord → ℕ → ℕ → Result (Unit {0}) StoreFault → Loaded → Type 0
+TakesRecord schema through front r file place (Ok done) new = IsLoaded schema through (front ++ r ∷ []) new
+TakesRecord schema through front r file place (Err faults.NoMemory) new = Unit {0}
+TakesRecord schema through front r file place (Err faults.DiskFault) new = ⊥
+TakesRecord schema through front r file place (Err (faults.Damaged damage)) new = (damage ≡ bad_payload file place) × ((left : ℕ) × (txn_at schema r.payload ≡ Err left))
+
+-- what taking the bytes of a log comes to, behind these records
+abbrev pub TakesLog : Schema → ℕ → List LogRecord → ℕ → List ℕ → Result LogEnd StoreFault → Loaded → Type 0
+TakesLog schema through front file bytes (Ok found) new = (records : List LogRecord) × IsLogRead schema (before_next through front) records bytes found × IsLoaded schema through (front ++ records) new
+TakesLog schema through front file bytes (Err faults.NoMemory) new = Unit {0}
+TakesLog schema through front file bytes (Err faults.DiskFault) new = ⊥
+TakesLog schema through front file bytes (Err (faults.Damaged damage)) new = (damage.file ≡ file) × ((batches : List Batch) × IsBadBehind schema (before_next through front) damage.kind damage.place batches bytes)

@@ -1,0 +1,118 @@
+//! The keeper, and what it tells.
+ghost use Rattle.std.specs.Prelude.{◌≡◌, ◌<◌, [], None, IfOk, IfErr};
+ghost use Rattle.std.specs.Arc.{arc_value};
+ghost use Rattle.step_history.specs.History.{AreOf};
+ghost use Rattle.store_steps.specs.Kept.{IsKept};
+ghost use Rattle.store_keep.specs.Keepers.{IsSound};
+ghost use Rattle.store_keep.specs.Names.{IsNamed, first_tokens};
+
+use crate::kept::Kept;
+use crate::opening::Opened;
+use chunk_store::Disk;
+use srch_base::NoMemory;
+use std::alloc::Global;
+use std::sync::Wait;
+use step_book::Naming;
+use step_line::Line;
+use step_tokens::Token;
+use store_steps::Strayed;
+
+/// The keeper of one index. It isn't let go of: end it by `close`.
+pub struct Keeper<D: Disk, J: Naming> {
+    pub(crate) kept: Kept<D, J>,
+    /// The place of the history at opening.
+    pub(crate) first: u64,
+    pub(crate) records: u64,
+    pub(crate) documents: u32,
+    /// The first contradiction that was answered.
+    pub(crate) strayed: Option<Strayed>,
+}
+
+impl<D: Disk, J: Naming> Keeper<D, J> {
+    /// A store that was opened, under the name of its index, with a token for each worker. For want of memory its disk comes back.
+    pub fn named<R: Wait>(
+        rt: &R,
+        alloc: Global,
+        opened: Opened<D>,
+        index: u16,
+        workers: u32,
+    ) -> Result<(Keeper<D, J>, Vec<Token<J>>), D>
+        requires workers { 0 < workers }
+        requires book { opened.book.past.seen.book ≡ J.book index }
+        requires base { J.base index ≡ record { opening = arc_value opened.snapshot; log = opened.log.end } }
+        requires shape { (arc_value opened.snapshot).shape ≡ 0 }
+        requires of { AreOf (J.schema index) (arc_value opened.snapshot) }
+        requires kept { IsKept D.Disk (J.schema index) (J.base index) [] None opened.disk opened.root opened.log }
+        ensures keeper { IfOk result (λ named. IsNamed opened index workers named.0) }
+        ensures tokens { IfOk result (λ named. named.1.items ≡ first_tokens index workers) }
+        ensures sound { IfOk result (λ named. IsSound D.Disk J.schema J.base named.0) }
+        ensures disk { IfErr result (λ disk. disk ≡ opened.disk) }
+    {
+        let Opened {
+            disk,
+            root,
+            log,
+            book,
+            snapshot,
+            records,
+            documents,
+        } = opened;
+        let first = snapshot.number;
+        let (book, front) = book.named::<J>(index);
+        match Line::open(alloc, book, front, snapshot, workers) {
+            Ok(line) => {
+                let tokens = tokens_of(alloc, &line, workers);
+                let kept = Kept {
+                    alloc,
+                    disk,
+                    root,
+                    log,
+                    line,
+                };
+                let keeper = Keeper {
+                    kept,
+                    first,
+                    records,
+                    documents,
+                    strayed: None,
+                };
+                match tokens {
+                    Ok(tokens) => Ok((keeper, tokens)),
+                    Err(NoMemory) => Err(keeper.close(rt)),
+                }
+            }
+            Err(NoMemory) => Err(disk),
+        }
+    }
+
+    /// How many records of the log were read at opening that no chunk has.
+    pub fn records(&self) -> u64
+        ensures { result ≡ self.now.records }
+    {
+        self.records
+    }
+
+    /// How many documents and how many chunks on the disk there were at opening.
+    pub fn opened(&self) -> (u32, u32)
+        ensures { result ≡ (self.now.documents, 0) }
+    {
+        (self.documents, 0)
+    }
+}
+
+/// A token for each worker.
+fn tokens_of<J: Naming>(
+    alloc: Global,
+    line: &Line<J>,
+    workers: u32,
+) -> Result<Vec<Token<J>>, NoMemory>
+    requires workers { workers ≡ line.now.workers }
+    requires none { line.now.history ≡ [] }
+    ensures { IfOk result (λ tokens. tokens.items ≡ first_tokens line.now.index workers) }
+{
+    let mut tokens = Vec::new(alloc);
+    for count in 0..workers {
+        tokens.push(line.token(count + 1)?)?;
+    }
+    Ok(tokens)
+}

@@ -1,0 +1,22 @@
+//! The keeper of one index: documents survive. It has the disk, the log, and the line of what is published; a commit is on the disk
+//! for good before anyone sees it.
+#![tactic(auto)]
+
+mod closing;
+mod committing;
+mod entering;
+mod fault;
+mod keeper;
+mod kept;
+mod laws;
+mod loading;
+mod making;
+mod numbers;
+mod opening;
+mod preparing;
+mod settling;
+
+pub use fault::{CommitFault, Committed, Doubt, StoreFault};
+pub use keeper::Keeper;
+pub use laws::a_crash_between_calls_leaves_the_documents;
+pub use opening::Opened;

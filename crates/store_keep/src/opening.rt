@@ -1,0 +1,440 @@
+//! How a store is opened. Each file is synced and then read, so that what was read is what a crash leaves.
+ghost use Rattle.std.specs.Prelude.{◌≡◌, ◌≢◌, ◌<◌, ◌^◌, ℕ, List, [], None, Some, Err, MatchBool, IfOk, IfErr, IfSome, OnOk};
+ghost use Rattle.doc_bytes.specs.SchemaText.{schema_text};
+ghost use Rattle.doc_types.specs.Schemas.{IsSchema};
+ghost use Rattle.doc_types.specs.declared.schema.Schema.{Schema as AnySchema};
+ghost use Rattle.gate_log.specs.Logs.{quiet_log};
+ghost use Rattle.root_slots.specs.Roots.{Stands as RootStands, Steps, replaced};
+ghost use Rattle.root_slots.specs.Slots.{slots_of};
+ghost use Rattle.root_slots.specs.States.{IsState};
+ghost use Rattle.std.specs.Arc.{arc_value};
+ghost use Rattle.store_keep.specs.steps.Beginnings.{Begins, MayBegin, first_state};
+ghost use Rattle.store_steps.specs.Damage.{of_root};
+ghost use Rattle.store_keep.specs.steps.Finds.{ChecksState, Finds, IsLoadedAs, IsRootRead, ReadsSlots};
+ghost use Rattle.chunk_store.specs.Images.{Image, Told};
+ghost use Rattle.chunk_store.specs.Calls.{Crashes, Finds as FindsFile, HasOpenCause, IsSynced, OnlyReads};
+ghost use Rattle.gate_log.specs.declared.records.LogRecord.{LogRecord};
+ghost use Rattle.srch_base.specs.Counts.{HasCause};
+ghost use Rattle.store_keep.specs.Opens.{HasStoreCause, HidesNothing, IsFoundIn, IsOpened, LeavesBegun, SaysDamage, disk_of};
+ghost use Rattle.store_keep.specs.steps.Loads.{IsLoaded, IsOfBytes, IsSnapshotOf};
+ghost use Rattle.store_keep.specs.steps.LogFiles.{IsSteady, ReadsLog, ReadsLogs, ReadsOlder};
+
+use crate::fault::StoreFault;
+use crate::loading::{Loaded, LogEnd};
+use any_chunk::AnyChunk;
+use chunk_store::{Disk, read_whole};
+use doc_bytes::put_schema;
+use doc_types::{Schema, Snapshot};
+use gate_log::GateLog;
+use root_slots::{Root, RootBytes, RootFault, RootKind, RootState};
+use srch_base::{Failed, Items, NoMemory, OpenFault, Text};
+use std::alloc::Global;
+use std::sync::Arc;
+use step_book::NewBook;
+use store_steps::{Damage, DamageKind, MOST_OPENED_CHUNKS};
+
+/// The first file of an index that isn't a slot.
+const FIRST_LOG: u32 = 2;
+
+/// The most bytes of the text of columns. Those of a schema have far fewer.
+const MOST_TEXT: usize = 65_535;
+
+/// A store that was opened and has no name yet.
+pub struct Opened<D: Disk> {
+    pub(crate) disk: D,
+    pub(crate) root: Root,
+    pub(crate) log: GateLog,
+    pub(crate) book: NewBook,
+    pub(crate) snapshot: Arc<Snapshot<AnyChunk>, Global>,
+    pub(crate) records: u64,
+    pub(crate) documents: u32,
+}
+
+/// What the files of an index are: root, log, and the documents.
+#[derive(Drop)]
+struct Found {
+    root: Root,
+    log: GateLog,
+    snapshot: Arc<Snapshot<AnyChunk>, Global>,
+    records: u64,
+    documents: u32,
+}
+
+impl<D: Disk> Opened<D> {
+    /// Opens the store of an index on a disk, which comes back where it can't be opened.
+    pub fn open(alloc: Global, disk: D, schema: &Schema) -> Result<Opened<D>, (D, StoreFault)>
+        requires { IsSchema schema.now }
+        ensures found { IfOk result (λ opened. Told (IsFoundIn schema.now (arc_value opened.snapshot) opened.records) (D.told disk)) }
+        ensures opened { IfOk result (λ opened. HidesNothing D.Disk disk → IsOpened D.Disk schema.now opened) }
+        ensures leaves { HidesNothing D.Disk disk → LeavesBegun D.Disk schema.now disk (disk_of result) }
+        ensures refused { IfErr result (λ refused. SaysDamage schema.now (D.told disk) refused.1) }
+        ensures cause { IfErr result (λ refused. HasStoreCause {T = D} (D.faults disk) (D.faults refused.0) (Err refused.1)) }
+    {
+        let mut disk = disk;
+        match find(alloc, &mut disk, schema) {
+            Ok(found) => {
+                let Found {
+                    root,
+                    log,
+                    snapshot,
+                    records,
+                    documents,
+                } = found;
+                Ok(Opened {
+                    disk,
+                    root,
+                    log,
+                    book: NewBook::new(),
+                    snapshot,
+                    records,
+                    documents,
+                })
+            }
+            Err(fault) => Err((disk, fault)),
+        }
+    }
+}
+
+/// Reads the files of an index, or makes the first ones.
+fn find<D: Disk>(alloc: Global, disk: &mut D, schema: &Schema) -> Result<Found, StoreFault>
+    requires { IsSchema schema.now }
+    ensures finds { Finds D.Disk schema.now disk.old disk.new result }
+    ensures leaves { HidesNothing D.Disk disk.old → LeavesBegun D.Disk schema.now disk.old disk.new }
+    ensures cause { HasStoreCause (D.faults disk.old) (D.faults disk.new) result }
+{
+    match read_root(alloc, disk) {
+        Ok((root, Some(state))) => read_found(alloc, disk, schema, root, &state),
+        Ok((root, None)) => begin(alloc, disk, schema, root),
+        Err(fault) => Err(fault),
+    }
+}
+
+/// Reads the root of slots that are synced first.
+fn read_root<D: Disk>(alloc: Global, disk: &mut D) -> Result<(Root, Option<RootState>), StoreFault>
+    ensures read { ReadsSlots (D.told disk.new) (D.may_leave disk.new) result }
+    ensures state { IfOk result (λ found. IfSome found.1 IsState) }
+    ensures looks { OnlyReads D.Disk disk.old disk.new }
+    ensures cause { HasStoreCause (D.faults disk.old) (D.faults disk.new) result }
+{
+    match steady(disk, 0) {
+        Ok(()) => match steady(disk, 1) {
+            Ok(()) => match Root::read(alloc, disk) {
+                Ok((root, state)) => Ok((root, state)),
+                Err(RootFault::NoMemory) => Err(StoreFault::NoMemory),
+                Err(RootFault::DiskFault) => Err(StoreFault::DiskFault),
+                Err(RootFault::BadRoot { slot, place, kind }) => {
+                    Err(StoreFault::Damaged(bad_root(slot, place, kind)))
+                }
+            },
+            Err(Failed) => Err(StoreFault::DiskFault),
+        },
+        Err(Failed) => Err(StoreFault::DiskFault),
+    }
+}
+
+/// What is wrong with a slot, among the damage of an index.
+fn bad_root(slot: u8, place: u64, kind: RootKind) -> Damage
+    ensures { result ≡ record { file = slot; place = place; kind = of_root kind } }
+{
+    let kind = match kind {
+        RootKind::Length => DamageKind::RootLength,
+        RootKind::State => DamageKind::RootState,
+    };
+    let file = u32::from(slot);
+    Damage { file, place, kind }
+}
+
+/// Reads the logs of a root.
+fn read_found<D: Disk>(
+    alloc: Global,
+    disk: &mut D,
+    schema: &Schema,
+    root: Root,
+    state: &RootState,
+) -> Result<Found, StoreFault>
+    requires schema { IsSchema schema.now }
+    requires state { IsState state.now }
+    requires root { IsRootRead (D.told disk.old) (D.may_leave disk.old) root (Some state.now) }
+    ensures finds { Finds D.Disk schema.now disk.old disk.new result }
+    ensures looks { OnlyReads D.Disk disk.old disk.new }
+    ensures cause { HasStoreCause (D.faults disk.old) (D.faults disk.new) result }
+{
+    match check_columns(alloc, schema, &root, state) {
+        Ok(()) => match read_logs(alloc, disk, schema, state) {
+            Ok(logs) => match load(alloc, root, state, logs) {
+                Ok(found) => Ok(found),
+                Err(NoMemory) => Err(StoreFault::NoMemory),
+            },
+            Err(fault) => Err(fault),
+        },
+        Err(fault) => Err(fault),
+    }
+}
+
+/// Whether a root can be taken.
+fn check_columns(
+    alloc: Global,
+    schema: &Schema,
+    root: &Root,
+    state: &RootState,
+) -> Result<(), StoreFault>
+    ensures bytes { IsOfBytes result }
+    ensures checks { ChecksState schema.now root.now state.now result }
+{
+    match text_of(alloc, schema) {
+        Ok(text) => check_state(root, state, text.as_slice()),
+        Err(NoMemory) => Err(StoreFault::NoMemory),
+    }
+}
+
+/// The text of the columns.
+fn text_of(alloc: Global, schema: &Schema) -> Result<Vec<u8>, NoMemory>
+    ensures { IfOk result (λ text. text.items ≡ schema_text schema.now) }
+{
+    let mut text = Vec::new(alloc);
+    put_schema(schema, &mut text)?;
+    Ok(text)
+}
+
+/// Makes sure that what is read of a file is what a crash leaves of it.
+fn steady<D: Disk>(disk: &mut D, file: u32) -> Result<(), Failed>
+    ensures steady { OnOk result (IsSteady file (D.told disk.new) (D.may_leave disk.new)) }
+    ensures looks { OnlyReads D.Disk disk.old disk.new }
+    ensures cause { HasCause (D.faults disk.old) (D.faults disk.new) result }
+{
+    match disk.len(file)? {
+        Some(_) => disk.sync(file),
+        None => Ok(()),
+    }
+}
+
+/// The first log and the first root of an index without documents.
+fn begin<D: Disk>(
+    alloc: Global,
+    disk: &mut D,
+    schema: &Schema,
+    mut root: Root,
+) -> Result<Found, StoreFault>
+    requires schema { IsSchema schema.now }
+    requires root { IsRootRead (D.told disk.old) (D.may_leave disk.old) root None }
+    ensures finds { Finds D.Disk schema.now disk.old disk.new result }
+    ensures leaves { HidesNothing D.Disk disk.old → LeavesBegun D.Disk schema.now disk.old disk.new }
+    ensures cause { HasStoreCause (D.faults disk.old) (D.faults disk.new) result }
+{
+    match first_of(alloc, schema) {
+        Ok((bytes, snapshot)) => {
+            if root.full() {
+                return Err(StoreFault::NoMemory);
+            }
+            match first_files(disk, &mut root, &bytes) {
+                Ok(log) => Ok(Found {
+                    root,
+                    log,
+                    snapshot,
+                    records: 0,
+                    documents: 0,
+                }),
+                Err(Failed) => Err(StoreFault::DiskFault),
+            }
+        }
+        Err(NoMemory) => Err(StoreFault::NoMemory),
+    }
+}
+
+/// The first root of an index, and its snapshot.
+fn first_of(
+    alloc: Global,
+    schema: &Schema,
+) -> Result<(RootBytes, Arc<Snapshot<AnyChunk>, Global>), NoMemory>
+    requires { IsSchema schema.now }
+    ensures bytes { IfOk result (λ first. first.0 ≡ first_state schema.now) }
+    ensures state { IfOk result (λ first. IsState (first_state schema.now)) }
+    ensures snapshot { IfOk result (λ first. IsSnapshotOf schema.now 0 [] (arc_value first.1)) }
+{
+    let state = state_of(alloc, schema)?;
+    let bytes = RootBytes::new(alloc, &state)?;
+    let snapshot = Loaded::new(alloc, 0).into_snapshot(alloc)?;
+    Ok((bytes, Arc::new(alloc, snapshot)?))
+}
+
+/// The first state of an index.
+fn state_of(alloc: Global, schema: &Schema) -> Result<RootState, NoMemory>
+    ensures state { IfOk result (λ state. state ≡ first_state schema.now) }
+    ensures is { IfOk result (λ state. IsState (first_state schema.now)) }
+{
+    let text = text_of(alloc, schema)?;
+    if text.len() > MOST_TEXT {
+        return Err(NoMemory);
+    }
+    Ok(RootState {
+        schema_text: Text::new(text),
+        through: 0,
+        next_file: FIRST_LOG + 1,
+        older: 0,
+        newer: FIRST_LOG,
+        chunks: Items::new(Vec::new(alloc)),
+    })
+}
+
+/// Writes the first log and the first root.
+fn first_files<D: Disk>(disk: &mut D, root: &mut Root, bytes: &RootBytes) -> Result<GateLog, Failed>
+    requires room { root.old.number < 2 ^ 63 }
+    requires stands { Told (λ image. RootStands root.old None None (slots_of image)) (D.told disk.old) }
+    ensures log { IfOk result (λ log. log ≡ quiet_log 2 0 None) }
+    ensures root { OnOk result (root.new ≡ replaced root.old) }
+    ensures stands { OnOk result (Steps D.Disk (Begins root.old bytes.now) disk.old disk.new) }
+    ensures crash { Crashes D.Disk disk.old disk.new (MayBegin root.old bytes.now) }
+    ensures cause { HasCause (D.faults disk.old) (D.faults disk.new) result }
+{
+    match GateLog::create(disk, FIRST_LOG) {
+        Ok(log) => match root.replace(disk, bytes) {
+            Ok(()) => Ok(log),
+            Err(Failed) => Err(Failed),
+        },
+        Err(Failed) => Err(Failed),
+    }
+}
+
+/// Whether a root can be taken: it names no more chunks than are opened, and its columns are those of the schema.
+fn check_state(root: &Root, state: &RootState, text: &[u8]) -> Result<(), StoreFault>
+    ensures bytes { IsOfBytes result }
+    ensures checks { (schema : AnySchema) → text.now ≡ schema_text schema → ChecksState schema root.now state.now result }
+{
+    let file = u32::from(root.slot());
+    if state.chunks.len() > MOST_OPENED_CHUNKS {
+        return Err(StoreFault::Damaged(Damage {
+            file,
+            place: state.schema_text.as_bytes().len() as u64 + 35,
+            kind: DamageKind::RootState,
+        }));
+    }
+    if same_bytes(state.schema_text.as_bytes(), text) {
+        return Ok(());
+    }
+    Err(StoreFault::Damaged(Damage {
+        file,
+        place: 13,
+        kind: DamageKind::RootSchema,
+    }))
+}
+
+fn same_bytes(left: &[u8], right: &[u8]) -> bool
+    ensures { MatchBool result (left.now ≡ right.now) (left.now ≢ right.now) }
+{
+    left == right
+}
+
+/// The documents of a root's logs.
+fn load(alloc: Global, root: Root, state: &RootState, logs: Logs) -> Result<Found, NoMemory>
+    requires { (schema : AnySchema) × IsSchema schema × ((records : List LogRecord) × IsLoaded schema state.now.through records logs.loaded) }
+    ensures { IfOk result (λ found. (schema : AnySchema) (records : List LogRecord) → IsLoaded schema state.now.through records logs.loaded → IsLoadedAs schema root state.now logs records found) }
+{
+    let Logs { loaded, end } = logs;
+    let snapshot = loaded.into_snapshot(alloc)?;
+    // Logs that end before the chunks do have no room for the next number. No keeper leaves them so.
+    if snapshot.number < state.through {
+        return Err(NoMemory);
+    }
+    let records = snapshot.number.saturating_sub(state.through);
+    let documents = snapshot.live_count();
+    Ok(Found {
+        root,
+        log: GateLog::behind(state.newer, end.end, end.last),
+        snapshot: Arc::new(alloc, snapshot)?,
+        records,
+        documents,
+    })
+}
+
+/// What was read of both logs of a root.
+#[derive(Drop)]
+struct Logs {
+    loaded: Loaded,
+    /// Where the newer one ends.
+    end: LogEnd,
+}
+
+/// Reads both logs of a root.
+fn read_logs<D: Disk>(
+    alloc: Global,
+    disk: &mut D,
+    schema: &Schema,
+    state: &RootState,
+) -> Result<Logs, StoreFault>
+    ensures read { ReadsLogs schema.now state.now (D.told disk.new) (D.may_leave disk.new) result }
+    ensures looks { OnlyReads D.Disk disk.old disk.new }
+    ensures cause { HasStoreCause (D.faults disk.old) (D.faults disk.new) result }
+{
+    let mut loaded = Loaded::new(alloc, state.through);
+    match read_older(alloc, disk, schema, state, &mut loaded) {
+        Ok(()) => match read_log(alloc, disk, schema, state.newer, &mut loaded) {
+            Ok(end) => Ok(Logs { loaded, end }),
+            Err(fault) => Err(fault),
+        },
+        Err(fault) => Err(fault),
+    }
+}
+
+/// Reads the older log of a root, where there is one.
+fn read_older<D: Disk>(
+    alloc: Global,
+    disk: &mut D,
+    schema: &Schema,
+    state: &RootState,
+    loaded: &mut Loaded,
+) -> Result<(), StoreFault>
+    requires { IsLoaded schema.now state.now.through [] loaded.old }
+    ensures read { ReadsOlder schema.now state.now (D.told disk.new) (D.may_leave disk.new) result loaded.new }
+    ensures looks { OnlyReads D.Disk disk.old disk.new }
+    ensures cause { HasStoreCause (D.faults disk.old) (D.faults disk.new) result }
+{
+    if state.older == 0 {
+        return Ok(());
+    }
+    match read_log(alloc, disk, schema, state.older, loaded) {
+        Ok(_) => Ok(()),
+        Err(fault) => Err(fault),
+    }
+}
+
+/// Reads one log.
+fn read_log<D: Disk>(
+    alloc: Global,
+    disk: &mut D,
+    schema: &Schema,
+    file: u32,
+    loaded: &mut Loaded,
+) -> Result<LogEnd, StoreFault>
+    ensures read { (through : ℕ) (front : List LogRecord) → IsLoaded schema.now through front loaded.old → ReadsLog schema.now through front file (D.told disk.new) result loaded.new }
+    ensures synced { OnOk result (IsSynced file (D.told disk.new) (D.may_leave disk.new)) }
+    ensures looks { OnlyReads D.Disk disk.old disk.new }
+    ensures cause { HasStoreCause (D.faults disk.old) (D.faults disk.new) result }
+{
+    match read_steady(alloc, disk, file) {
+        Ok(Some(bytes)) => loaded.take_log(alloc, schema, file, bytes.as_slice()),
+        Ok(None) => Err(StoreFault::Damaged(Damage {
+            file,
+            place: 0,
+            kind: DamageKind::LogMissing,
+        })),
+        Err(OpenFault::NoMemory) => Err(StoreFault::NoMemory),
+        Err(OpenFault::Failed) => Err(StoreFault::DiskFault),
+    }
+}
+
+/// All bytes of a file, which a crash leaves as they were read, or None where it isn't there.
+fn read_steady<D: Disk>(
+    alloc: Global,
+    disk: &mut D,
+    file: u32,
+) -> Result<Option<Vec<u8>>, OpenFault>
+    ensures found { IfOk result (λ found. Told (λ image. FindsFile found (image file)) (D.told disk.new)) }
+    ensures steady { OnOk result (IsSteady file (D.told disk.new) (D.may_leave disk.new)) }
+    ensures looks { OnlyReads D.Disk disk.old disk.new }
+    ensures cause { HasOpenCause (D.faults disk.old) (D.faults disk.new) result }
+{
+    match steady(disk, file) {
+        Ok(()) => read_whole(alloc, disk, file),
+        Err(Failed) => Err(OpenFault::Failed),
+    }
+}

@@ -1,0 +1,8 @@
+-- one root
+pub mod OneRoot
+-- one reading of a log
+pub mod OneLog
+-- one directory
+pub mod OneDirectory
+-- one damage, or none
+pub mod OneDamage
