@@ -51,14 +51,14 @@ module _ (question : Question) where
       (rows_apart docs rows zip.1 (pairs_tail (λ doc later. doc.doc.id ≢ later.doc.id) d docs apart))
 
   -- so are those that are found
-  found_apart : (docs : List DocRow) (found : List Row) → DocsApart docs → AreFound question docs found → RowsApart found
+  pub found_apart : (docs : List DocRow) (found : List Row) → DocsApart docs → AreFound question docs found → RowsApart found
   found_apart docs found apart its =
       let matching : DocsApart (filter (matches question.query) docs) = AllPairs-filter (λ doc later. doc.doc.id ≢ later.doc.id) (matches question.query) docs apart in
       subst RowsApart (sym its.passing)
       (AllPairs-filter (λ row later. row.id ≢ later.id) (passes question) its.rows (rows_apart (filter (matches question.query) docs) its.rows its.weighed matching))
 
   -- what is found of documents is found of others among which they are
-  found_too : (docs others : List DocRow) (found other : List Row) → ((doc : DocRow) → Contains docs doc → Contains others doc) → AreFound question docs found → AreFound question others other → (row : Row) → Contains found row → Contains other row
+  pub found_too : (docs others : List DocRow) (found other : List Row) → ((doc : DocRow) → Contains docs doc → Contains others doc) → AreFound question docs found → AreFound question others other → (row : Row) → Contains found row → Contains other row
   found_too docs others found other among one two row there =
       let weighed = in_filter (passes question) one.rows row (subst (λ list. Contains list row) one.passing there) in
       let beside = beside_first (IsRowOf question) (filter (matches question.query) docs) one.rows row one.weighed weighed.0 in

@@ -61,6 +61,7 @@ module _
   one_plan confs state statements.ShowWarnings a b is is' = is ∙ sym is'
   one_plan confs state statements.ShowVariables a b is is' = is ∙ sym is'
   one_plan confs state statements.ShowDatabases a b is is' = is ∙ sym is'
+  one_plan confs state statements.ShowMeta a b is is' = is ∙ sym is'
   one_plan confs state statement a b wants wants' = absurd wants
 
   pub one_refusal : (confs : List IndexConf) (state : State) (statement : Statement) (a b : Refused) → Refuses confs state statement a → Refuses confs state statement b → a ≡ b
@@ -74,7 +75,6 @@ module _
   one_refusal confs state (statements.FlushRamchunk index) a b refuses refuses' = one_job confs index a b refuses refuses'
   one_refusal confs state (statements.FlushRtindex index) a b refuses refuses' = one_job confs index a b refuses refuses'
   one_refusal confs state (statements.OptimizeIndex index) a b refuses refuses' = one_job confs index a b refuses refuses'
-  one_refusal confs state statements.ShowMeta a b says says' = says ∙ sym says'
   one_refusal confs state statement a b refuses refuses' = absurd refuses
 
   pub never_both : (confs : List IndexConf) (state : State) (statement : Statement) (plan : Plan) (refusal : Refused) → Wants confs state statement plan → Refuses confs state statement refusal → ⊥
@@ -88,5 +88,4 @@ module _
   never_both confs state (statements.FlushRamchunk index) plan refusal wants refuses = wants
   never_both confs state (statements.FlushRtindex index) plan refusal wants refuses = wants
   never_both confs state (statements.OptimizeIndex index) plan refusal wants refuses = wants
-  never_both confs state statements.ShowMeta plan refusal wants refuses = wants
   never_both confs state statement plan refusal wants refuses = refuses

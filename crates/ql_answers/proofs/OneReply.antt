@@ -1,29 +1,39 @@
 -- What came of a plan has one reply, and what is replied to a search depends on the documents alone.
 use Rattle.std.proofs.Common.{◌≡◌, ℕ, List, length, refl, sym, ap, ◌∙◌}
 use Rattle.std.specs.FinMap as finite
-use Rattle.std.specs.Prelude.{◌≢◌, AllPairs}
-use Rattle.doc_search.specs.declared.question.Question.{Question}
-use Rattle.doc_search.specs.Searches.{AreShown}
+use Rattle.std.specs.Prelude.{◌≢◌, AllPairs, min}
 use Rattle.doc_types.specs.declared.documents.DocRow.{DocRow}
 use Rattle.doc_types.specs.Rows.{Rows, rows_of}
 use Rattle.doc_types.specs.Snapshots.{AreLayers, SnapshotValue, all_living, live}
-use Rattle.row_select.specs.declared.row.Row.{Row}
+use Rattle.query_tree.specs.declared.query.Query.{Query}
+use Rattle.table_search.specs.Keywords.{word_docs}
+use Rattle.table_search.specs.Tables.{AreTables}
+use Rattle.table_search.specs.declared.asked.Asked.{Asked}
+use Rattle.table_search.specs.declared.found.Found.{Found}
+use Rattle.table_search.specs.declared.keywords.WordDocs.{WordDocs}
 use Rattle.ql_answers.specs.declared.plan.Counted.TheVariants as counting
 use Rattle.ql_answers.specs.declared.plan.Plan.{Plan}
 use Rattle.ql_answers.specs.declared.plan.Plan.TheVariants.{Agree, Commit, Keep, Put, Search, Show, Status}
 use Rattle.ql_answers.specs.declared.state.State.{State}
-use Rattle.ql_answers.specs.Reading.{set_of}
+use Rattle.ql_answers.specs.Metas.{max_matches, meta_of}
+use Rattle.ql_answers.specs.Reading.{found_sets}
 use Rattle.commit_outcomes.specs.declared.outcome.CommitOutcome.{CommitOutcome}
 use Rattle.ql_refusals.specs.Refusals.{no_memory}
-use Rattle.ql_answers.specs.Replies.{Fails, Reply, Shows}
-use Rattle.ql_answers.specs.Sessions.{AreAlike, Committing, Decides, Happened, HasLayers, LookAlike, NoMemory, Nothing, Read, disk_count, next_of, reply_to_commit}
+use Rattle.ql_answers.specs.Replies.{Fails, Finds, Reply, Shows}
+use Rattle.ql_answers.specs.Sessions.{AreAlike, Committing, Decides, Happened, HasLayers, LookAlike, NoMemory, Nothing, Read, after_plan, disk_count, next_of, reply_to_commit, told_by}
 use Rattle.ql_answers.specs.Showing.{index_status}
+use Rattle.ql_answers.specs.States.{telling}
 
--- a question shows one list of the documents, in whatever order they are listed
-abbrev ShowsOne : Type 0
-ShowsOne =
-    (question : Question) (docs others : List DocRow) (shown other : List Row) → AllPairs (λ doc later. doc.doc.id ≢ later.doc.id) docs → AllPairs (λ doc later. doc.doc.id ≢ later.doc.id) others
-    → rows_of docs ≡ rows_of others → AreShown question docs shown → AreShown question others other → shown ≡ other
+abbrev DocsApart : List DocRow → Type 0
+DocsApart docs = AllPairs (λ doc later. doc.doc.id ≢ later.doc.id) docs
+
+-- a SELECT finds the same among the documents, in whatever order they are listed, and so are its words counted
+abbrev FindsOne : Type 0
+FindsOne =
+    (asked : Asked) (docs others : List DocRow) (found other : Found) → DocsApart docs → DocsApart others → rows_of docs ≡ rows_of others → AreTables asked docs found → AreTables asked others other → found ≡ other
+
+abbrev CountsOne : Type 0
+CountsOne = (query : Query) (docs others : List DocRow) → DocsApart docs → DocsApart others → rows_of docs ≡ rows_of others → word_docs query docs ≡ word_docs query others
 
 -- want of memory is told whatever the plan is
 pub without_memory : (plan : Plan) (reply : Reply) → Decides plan NoMemory reply → reply ≡ Fails no_memory
@@ -58,12 +68,18 @@ alike_itself plan NoMemory layers = tt
 alike_itself plan (Read front) layers = (layers, layers, refl, looks_itself plan front)
 alike_itself plan (Committing outcome) layers = refl
 
-module _ (one_list : ShowsOne) where
+module _ (finds_one : FindsOne) (counts_one : CountsOne) where
   one_for_documents : (plan : Plan) (front other : SnapshotValue) (a b : Reply) → AreLayers front.layers → AreLayers other.layers → live front ≡ live other → LookAlike plan front other
       → Decides plan (Read front) a → Decides plan (Read other) b → a ≡ b
-  one_for_documents (Search place selection) front other a b layers layers' same looks (rows, shown, says) (others, shown', says') =
-      let alike : rows ≡ others = one_list selection.question (all_living front.layers) (all_living other.layers) rows others layers.distinct layers'.distinct same shown shown' in
-      says ∙ ap (λ (list : List Row). Shows (set_of selection.shown list)) alike ∙ sym says'
+  one_for_documents (Search place selection) front other a b layers layers' same looks (found, are, says) (others, are', says') =
+      let asked = selection.asked in
+      let docs = all_living front.layers in
+      let rest = all_living other.layers in
+      let alike : found ≡ others = finds_one asked docs rest found others layers.distinct layers'.distinct same are are' in
+      let words : word_docs asked.question.query docs ≡ word_docs asked.question.query rest = counts_one asked.question.query docs rest layers.distinct layers'.distinct same in
+      says ∙ ap (λ (f : Found). Finds (found_sets selection f) (meta_of asked f docs)) alike
+      ∙ ap (λ (w : List WordDocs). Finds (found_sets selection others) (record { total = min others.total_found (max_matches asked); total_found = others.total_found; words = w })) words
+      ∙ sym says'
   one_for_documents (Status place) front other a b layers layers' same looks says says' =
       says ∙ (ap (λ (rows : Rows). Shows (index_status (finite.len rows) (disk_count front))) same
       ∙ ap (λ (chunks : ℕ). Shows (index_status (finite.len (live other)) chunks)) looks) ∙ sym says'
@@ -77,8 +93,8 @@ module _ (one_list : ShowsOne) where
   one_reply plan (Committing outcome) (Committing other) a b same says says' = of_commit plan outcome other a b same says says'
   one_reply plan happened other a b same says says' = absurd same
 
--- a plan that reads leaves the session as it was
-after_read : (plan : Plan) (front other : SnapshotValue) (state : State) → next_of plan (Read front) state ≡ next_of plan (Read other) state
+-- a plan that reads leaves the transaction as it was
+after_read : (plan : Plan) (front other : SnapshotValue) (state : State) → after_plan plan (Read front) state ≡ after_plan plan (Read other) state
 after_read (Agree turn) front other state = refl
 after_read (Show set) front other state = refl
 after_read (Search place selection) front other state = refl
@@ -87,10 +103,13 @@ after_read (Keep place txn affected) front other state = refl
 after_read (Put place txn counted) front other state = refl
 after_read (Commit place turn) front other state = refl
 
+one_after : (plan : Plan) (happened other : Happened) (state : State) → AreAlike plan happened other → after_plan plan happened state ≡ after_plan plan other state
+one_after plan Nothing Nothing state same = refl
+one_after plan NoMemory NoMemory state same = refl
+one_after plan (Read front) (Read other) state same = after_read plan front other state
+one_after plan (Committing outcome) (Committing other) state same = ap (λ (o : CommitOutcome). after_plan plan (Committing o) state) same
+one_after plan happened other state same = absurd same
+
 -- what came of a plan leaves the session in one state
-pub one_state : (plan : Plan) (happened other : Happened) (state : State) → AreAlike plan happened other → next_of plan happened state ≡ next_of plan other state
-one_state plan Nothing Nothing state same = refl
-one_state plan NoMemory NoMemory state same = refl
-one_state plan (Read front) (Read other) state same = after_read plan front other state
-one_state plan (Committing outcome) (Committing other) state same = ap (λ (o : CommitOutcome). next_of plan (Committing o) state) same
-one_state plan happened other state same = absurd same
+pub one_state : (plan : Plan) (happened other : Happened) (reply : Reply) (state : State) → AreAlike plan happened other → next_of plan happened reply state ≡ next_of plan other reply state
+one_state plan happened other reply state same = ap (telling (told_by reply)) (one_after plan happened other state same)

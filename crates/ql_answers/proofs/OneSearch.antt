@@ -1,6 +1,5 @@
 -- A SELECT wants one search or is refused for one reason: by the index that it names, or by what it says.
-use Rattle.std.proofs.Common.{◌≡◌, ℕ, List, sym, subst, ◌∙◌, inl, inr}
-use Rattle.std.proofs.lemmas.Bool.{false≢true}
+use Rattle.std.proofs.Common.{◌≡◌, ℕ, List, subst, inl, inr}
 use Rattle.index_conf.specs.declared.conf.IndexConf.{IndexConf}
 use Rattle.ql_tree.specs.declared.select.Select.{Select}
 use Rattle.ql_refusals.specs.Refusals.{Refused}
@@ -23,21 +22,15 @@ module _
       )
 
   pub one_refused_select : (confs : List IndexConf) (select : Select) (a b : Refused) → RefusesSelect confs select a → RefusesSelect confs select b → a ≡ b
-  one_refused_select confs select a b (inl (grouped, says)) (inl (grouped', says')) = says ∙ sym says'
-  one_refused_select confs select a b (inl (grouped, says)) (inr (inl (single, fault))) = absurd (false≢true (sym single ∙ grouped))
-  one_refused_select confs select a b (inl (grouped, says)) (inr (inr (place, conf, single, serves, refuses))) = absurd (false≢true (sym single ∙ grouped))
-  one_refused_select confs select a b (inr (inl (single, fault))) (inl (grouped, says)) = absurd (false≢true (sym single ∙ grouped))
-  one_refused_select confs select a b (inr (inl (single, fault))) (inr (inl (single', fault'))) = one_value (index_fault confs select.index) a b fault fault'
-  one_refused_select confs select a b (inr (inl (single, fault))) (inr (inr (place, conf, single', serves, refuses))) = absurd (not_served confs select.index place conf a serves fault)
-  one_refused_select confs select a b (inr (inr (place, conf, single, serves, refuses))) (inl (grouped, says)) = absurd (false≢true (sym single ∙ grouped))
-  one_refused_select confs select a b (inr (inr (place, conf, single, serves, refuses))) (inr (inl (single', fault))) = absurd (not_served confs select.index place conf b serves fault)
-  one_refused_select confs select a b (inr (inr (p, conf, single, serves, refuses))) (inr (inr (q, other, single', serves', refuses'))) =
+  one_refused_select confs select a b (inl fault) (inl fault') = one_value (index_fault confs select.index) a b fault fault'
+  one_refused_select confs select a b (inl fault) (inr (place, conf, serves, refuses)) = absurd (not_served confs select.index place conf a serves fault)
+  one_refused_select confs select a b (inr (place, conf, serves, refuses)) (inl fault) = absurd (not_served confs select.index place conf b serves fault)
+  one_refused_select confs select a b (inr (p, conf, serves, refuses)) (inr (q, other, serves', refuses')) =
       let confs_are : other ≡ conf = one_conf confs select.index q p other conf serves' serves in
       one_selection_fault conf select a b refuses (subst (λ (c : IndexConf). RefusesSelection c select b) confs_are refuses')
 
   pub not_searched : (confs : List IndexConf) (select : Select) (place : ℕ) (selection : Selection) (refusal : Refused) → WantsSearch confs select place selection → RefusesSelect confs select refusal → ⊥
-  not_searched confs select place selection refusal wants (inl (grouped, says)) = false≢true (sym wants.ungrouped ∙ grouped)
-  not_searched confs select place selection refusal wants (inr (inl (single, fault))) = not_served confs select.index place wants.conf refusal wants.serves fault
-  not_searched confs select place selection refusal wants (inr (inr (q, conf, single, serves, refuses))) =
+  not_searched confs select place selection refusal wants (inl fault) = not_served confs select.index place wants.conf refusal wants.serves fault
+  not_searched confs select place selection refusal wants (inr (q, conf, serves, refuses)) =
       let confs_are : conf ≡ wants.conf = one_conf confs select.index q place conf wants.conf serves wants.serves in
       not_refused_selection wants.conf select selection refusal wants.selects (subst (λ (c : IndexConf). RefusesSelection c select refusal) confs_are refuses)

@@ -1,15 +1,17 @@
 -- What is left of a plan once the state has turned is answered as the plan is.
-use Rattle.std.proofs.Common.{◌≡◌, ℕ, Bool, true, Result, Ok, Err, refl, subst, ap, ◌∙◌}
+use Rattle.std.proofs.Common.{◌≡◌, ℕ, Bool, true, Option, None, Some, refl, sym, subst, ap, ◌∙◌}
+use Rattle.std.specs.Prelude.{◌≢◌}
 use Rattle.std.proofs.lemmas.Bool.{false≢true}
 use Rattle.reply_rows.specs.Written.{Written}
 use Rattle.ql_answers.specs.declared.plan.Plan.{Plan}
 use Rattle.ql_answers.specs.declared.plan.Plan.TheVariants.{Agree, Commit, Keep, Put, Search, Show, Status}
 use Rattle.ql_answers.specs.declared.state.State.{State}
 use Rattle.ql_answers.specs.Replies.{Reply, replied}
-use Rattle.ql_answers.specs.Sessions.{CanHave, Committing, Decides, Happened, NoMemory, Nothing, Read, next_of, reply_takes_memory, shows_rows}
-use Rattle.ql_answers.specs.States.{status_of}
-use Rattle.ql_answers.specs.steps.Answering.{SaysPlan}
-use Rattle.ql_answers.specs.steps.Turning.{Answered, left_of}
+use Rattle.ql_answers.specs.Sessions.{CanHave, Committing, Decides, Happened, NoMemory, Nothing, Read, after_plan, next_of, reply_takes_memory, shows_rows, told_by}
+use Rattle.ql_answers.specs.States.{status_of, telling}
+use Rattle.ql_answers.specs.declared.meta.Meta.{Meta}
+use Rattle.ql_answers.specs.steps.Answering.{Says}
+use Rattle.ql_answers.specs.steps.Turning.{left_of}
 
 pub can_left : (plan : Plan) (happened : Happened) → CanHave plan happened → CanHave (left_of plan happened) happened
 can_left (Agree turn) happened can = can
@@ -37,7 +39,7 @@ decides_left (Commit place turn) happened reply decides = decides
 
 -- a plan that shows rows changes nothing
 shows_left : (plan : Plan) (happened : Happened) (state : State) → shows_rows (left_of plan happened) ≡ true
-    → (reply_takes_memory plan ≡ true) × (next_of plan happened state ≡ state) × (left_of plan happened ≡ plan)
+    → (reply_takes_memory plan ≡ true) × (after_plan plan happened state ≡ state) × (left_of plan happened ≡ plan)
 shows_left (Agree turn) happened state shows = absurd (false≢true shows)
 shows_left (Show set) happened state shows = (refl, refl, refl)
 shows_left (Search place selection) happened state shows = (refl, refl, refl)
@@ -49,13 +51,28 @@ shows_left (Keep place txn affected) (Committing outcome) state shows = absurd (
 shows_left (Put place txn counted) happened state shows = absurd (false≢true shows)
 shows_left (Commit place turn) happened state shows = absurd (false≢true shows)
 
-pub answered : {T E : Type 0} (plan left : Plan) (happened : Happened) (more : Bool) (status : ℕ) (before after : State) (written now : Written) (result : Result T E)
-    → after ≡ next_of plan happened before → left ≡ left_of plan happened → status ≡ status_of after more → SaysPlan left happened status result written now
-    → Answered plan happened more result before after left written now
-answered plan left happened more status before after written now (Ok done) turns is has says =
-    let Said : Plan → Type 0 = λ p. Decides p happened says.0 in
-    (says.0, decides_left plan happened says.0 (subst Said is says.1), turns, says.2 ∙ ap (λ (n : ℕ). replied written n says.0) has)
-answered plan left happened more status before after written now (Err e) turns is has says =
+-- what SHOW META tells is no part of a status
+status_told : (told : Option Meta) (state : State) (more : Bool) → status_of (telling told state) more ≡ status_of state more
+status_told None state more = refl
+status_told (Some meta) state more = refl
+
+-- a reply was written
+pub answered : (plan left : Plan) (happened : Happened) (more : Bool) (status : ℕ) (told : Option Meta) (before after last : State) (written now : Written)
+    → after ≡ after_plan plan happened before → left ≡ left_of plan happened → status ≡ status_of after more → Says left happened status told written now → last ≡ telling told after
+    → (reply : Reply) × Decides plan happened reply × (last ≡ next_of plan happened reply before) × (now ≡ replied written (status_of last more) reply)
+answered plan left happened more status told before after last written now turns is has says tells =
+    let Said : Plan → Type 0 = λ p. Decides p happened says.0 in (
+      says.0,
+      decides_left plan happened says.0 (subst Said is says.1),
+      tells ∙ ap (λ (t : Option Meta). telling t after) says.3 ∙ ap (telling (told_by says.0)) turns,
+      says.2 ∙ ap (λ (n : ℕ). replied written n says.0) (has ∙ sym (ap (λ (s : State). status_of s more) tells ∙ status_told told after more)),
+    )
+
+-- memory was refused to what is shown
+pub unanswered : (plan left : Plan) (happened : Happened) (before after : State) (written now : Written)
+    → after ≡ after_plan plan happened before → left ≡ left_of plan happened → (shows_rows left ≡ true) × (happened ≢ NoMemory) × (now ≡ written)
+    → (reply_takes_memory plan ≡ true) × (happened ≢ NoMemory) × (after ≡ before) × (left ≡ plan) × (now ≡ written)
+unanswered plan left happened before after written now turns is says =
     let Shows : Plan → Type 0 = λ p. shows_rows p ≡ true in
     let stays = shows_left plan happened before (subst Shows is says.0) in
     (stays.0, says.1, turns ∙ stays.1, is ∙ stays.2, says.2)

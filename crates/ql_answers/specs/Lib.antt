@@ -10,6 +10,8 @@ pub mod Transactions
 pub mod Writing
 -- replies and their packets
 pub mod Replies
+-- what SHOW META tells
+pub mod Metas
 -- SELECT from an index
 pub mod Reading
 -- SHOW, DESCRIBE, and SELECT of a variable

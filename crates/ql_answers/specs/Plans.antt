@@ -14,7 +14,7 @@ use Rattle.ql_refusals.specs.Refusals.{Refused, not_offered, transaction_open, v
 use Rattle.ql_answers.specs.declared.state.State.{State}
 use Rattle.ql_answers.specs.Pending.{PendingValue}
 use Rattle.ql_answers.specs.Reading.{WantsSearch, RefusesSelect}
-use Rattle.ql_answers.specs.Showing.{variable, variables, current_database, databases, warnings, tables, description}
+use Rattle.ql_answers.specs.Showing.{variable, variables, current_database, databases, meta_set, warnings, tables, description}
 use Rattle.ql_answers.specs.States.{is_open}
 use Rattle.ql_answers.specs.Transactions.{clearing, commit_of, killing, write_fault, written}
 use Rattle.ql_answers.specs.Writing.{WantsStore, RefusesStore}
@@ -50,6 +50,7 @@ Wants confs state statements.ShowTables plan = plan ≡ Show (tables confs)
 Wants confs state statements.ShowWarnings plan = plan ≡ Show warnings
 Wants confs state statements.ShowVariables plan = plan ≡ Show (variables state.autocommit)
 Wants confs state statements.ShowDatabases plan = plan ≡ Show databases
+Wants confs state statements.ShowMeta plan = plan ≡ Show (meta_set state.meta)
 Wants confs state statement plan = ⊥
 
 -- A job on an index is refused by its index, or at last as not offered.
@@ -89,7 +90,7 @@ Refuses confs state (statements.OptimizeIndex index) refusal = RefusesJob confs 
 Refuses confs state (statements.TruncateRtindex index) refusal = RefusesTruncate confs state index refusal
 Refuses confs state (statements.Describe index) refusal = index_fault confs index ≡ Some refusal
 Refuses confs state (statements.ShowIndexStatus index) refusal = index_fault confs index ≡ Some refusal
-Refuses confs state statements.ShowMeta refusal = refusal ≡ not_offered
+Refuses confs state statements.ShowMeta refusal = ⊥
 Refuses confs state statements.ShowTables refusal = ⊥
 Refuses confs state statements.ShowWarnings refusal = ⊥
 Refuses confs state statements.ShowVariables refusal = ⊥
@@ -112,5 +113,4 @@ TakesMemory state (statements.SetOther scope target value) = ⊥
 TakesMemory state (statements.FlushRamchunk index) = ⊥
 TakesMemory state (statements.FlushRtindex index) = ⊥
 TakesMemory state (statements.OptimizeIndex index) = ⊥
-TakesMemory state statements.ShowMeta = ⊥
 TakesMemory state statement = Unit {0}

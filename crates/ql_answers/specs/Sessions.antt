@@ -23,15 +23,18 @@ use Rattle.ql_answers.specs.declared.plan.Plan.TheVariants.{Agree, Show, Search,
 use Rattle.ql_answers.specs.Plans.{Wants, Refuses, TakesMemory}
 use Rattle.ql_refusals.specs.Refusals.{Refused, no_memory, duplicate_id, index_full}
 use Rattle.doc_search.specs.declared.question.Question.{Question}
-use Rattle.doc_search.specs.Searches.{AreShown, IsAskedOf}
-use Rattle.row_select.specs.declared.row.Row.{Row}
-use Rattle.ql_answers.specs.Reading.{set_of}
+use Rattle.doc_search.specs.Searches.{IsAskedOf}
+use Rattle.table_search.specs.Tables.{AreTables}
+use Rattle.table_search.specs.declared.found.Found.{Found}
+use Rattle.ql_answers.specs.Metas.{meta_of}
+use Rattle.ql_answers.specs.declared.meta.Meta.{Meta}
+use Rattle.ql_answers.specs.Reading.{found_sets}
 use Rattle.ql_answers.specs.declared.state.State.{State}
 use Rattle.ql_answers.specs.Showing.{index_status}
-use Rattle.ql_answers.specs.States.{finished, kept, pending_txn, status_of, turned}
+use Rattle.ql_answers.specs.States.{finished, kept, pending_txn, status_of, telling, turned}
 use Rattle.ql_answers.specs.Transactions.{affected}
 use Rattle.reply_rows.specs.Written.{Written}
-use Rattle.ql_answers.specs.Replies.{Reply, Done, Shows, Fails, replied}
+use Rattle.ql_answers.specs.Replies.{Reply, Done, Shows, Finds, Fails, replied}
 
 -- A session, with what the statement that it is at wants, from `need` to `reply`.
 pub record Standing : Type 0 where
@@ -115,26 +118,36 @@ Decides plan NoMemory reply = reply ≡ Fails no_memory
 Decides (Agree turn) Nothing reply = reply ≡ Done 0
 Decides (Show set) Nothing reply = reply ≡ Shows set
 Decides (Search place selection) (Read front) reply =
-    (rows : List Row) × AreShown selection.question (all_living front.layers) rows × (reply ≡ Shows (set_of selection.shown rows))
+    (found : Found) × AreTables selection.asked (all_living front.layers) found
+    × (reply ≡ Finds (found_sets selection found) (meta_of selection.asked found (all_living front.layers)))
 Decides (Status place) (Read front) reply = reply ≡ Shows (index_status (finite.len (live front)) (disk_count front))
 Decides (Keep place txn affected) Nothing reply = reply ≡ Done affected
 Decides (Put place txn counted) (Committing outcome) reply = reply ≡ reply_to_commit counted (length txn.ops) outcome
 Decides (Commit place turn) (Committing outcome) reply = reply ≡ reply_to_commit counting.Nothing 0 outcome
 Decides plan happened reply = ⊥
 
--- what a session is after a plan, by what happened
-abbrev pub next_of : Plan → Happened → State → State
-next_of (Agree turn) Nothing state = turned turn state
-next_of (Keep place txn affected) Nothing state = kept place txn.ops state
-next_of (Commit place turn) (Committing outcome) state = finished turn outcome state
-next_of plan happened state = state
+-- what becomes of the transaction after a plan, by what happened
+abbrev pub after_plan : Plan → Happened → State → State
+after_plan (Agree turn) Nothing state = turned turn state
+after_plan (Keep place txn affected) Nothing state = kept place txn.ops state
+after_plan (Commit place turn) (Committing outcome) state = finished turn outcome state
+after_plan plan happened state = state
+
+-- what SHOW META tells anew by a reply
+abbrev pub told_by : Reply → Option Meta
+told_by (Finds sets meta) = Some meta
+told_by reply = None
+
+-- what a session is after a plan, by what happened and what was replied
+abbrev pub next_of : Plan → Happened → Reply → State → State
+next_of plan happened reply state = telling (told_by reply) (after_plan plan happened state)
 
 -- This can happen to a plan.
 abbrev pub CanHave : Plan → Happened → Type 0
 CanHave plan NoMemory = Unit {0}
 CanHave (Agree turn) Nothing = Unit {0}
 CanHave (Show set) Nothing = Unit {0}
-CanHave (Search place selection) (Read front) = CanSearch selection.question front
+CanHave (Search place selection) (Read front) = CanSearch selection.asked.question front
 CanHave (Status place) (Read front) = Unit {0}
 CanHave (Keep place txn affected) Nothing = Unit {0}
 CanHave (Put place txn counted) (Committing outcome) = Unit {0}
@@ -165,6 +178,6 @@ Needs confs old statement (Err (causes.Fault refusal)) new = Refuses confs old.s
 abbrev pub Replied : {T E : Type 0} → Standing → Happened → Bool → Result T E → Written → Written → Standing → Type 0
 Replied old happened more (Ok done) before after new =
     (plan : Plan) × (reply : Reply) × (old.plan ≡ Some plan) × Decides plan happened reply × (after ≡ replied before (status_of new.state more) reply)
-    × (new ≡ at_rest (next_of plan happened old.state))
+    × (new ≡ at_rest (next_of plan happened reply old.state))
 Replied old happened more (Err e) before after new =
     (plan : Plan) × (old.plan ≡ Some plan) × (reply_takes_memory plan ≡ true) × (happened ≢ NoMemory) × (after ≡ before) × (new ≡ old)

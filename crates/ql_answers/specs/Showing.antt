@@ -1,6 +1,6 @@
 -- What SHOW, DESCRIBE and SELECT of a variable show. "SHOW TABLES syntax", "DESCRIBE syntax" and "SELECT @@system_variable
 -- syntax" of the manual.
-use Rattle.std.specs.Prelude.{ℕ, Bool, decimal, List, [], ◌∷◌, ◌++◌, map, take, codes, Option, Some, None, if◌then◌else◌}
+use Rattle.std.specs.Prelude.{ℕ, ◌+◌, Bool, decimal, List, [], ◌∷◌, ◌++◌, map, take, codes, Option, Some, None, if◌then◌else◌}
 use Rattle.std.specs.Str.{bytes_eq}
 use Rattle.doc_types.specs.declared.schema.Schema.{Schema}
 use Rattle.doc_types.specs.declared.schema.AttrKind.{AttrKind}
@@ -10,6 +10,8 @@ use Rattle.reply_rows.specs.declared.result_set.ResultSet.{ResultSet}
 use Rattle.ql_columns.specs.Columns.{id_name}
 use Rattle.ql_answers.specs.Replies.{texts, single, pair}
 use Rattle.mysql_wire.specs.declared.rows.Cell.{Cell}
+use Rattle.table_search.specs.declared.keywords.WordDocs.{WordDocs}
+use Rattle.ql_answers.specs.declared.meta.Meta.{Meta}
 
 -- the value of a system variable: empty, but for the version's comment
 abbrev pub variable_value : List ℕ → List ℕ
@@ -65,3 +67,31 @@ description_rows schema =
 
 abbrev pub description : Schema → ResultSet
 description schema = texts (codes "Field" ∷ codes "Type" ∷ []) (description_rows schema)
+
+-- a name with a number in brackets
+abbrev pub numbered : List ℕ → ℕ → List ℕ
+numbered name number = name ++ decimal number ++ codes "]"
+
+-- a word of a SELECT, and the number of documents that have it
+abbrev pub keyword_row : ℕ → WordDocs → List Cell
+keyword_row number word = pair (numbered (codes "keyword[") number) word.word
+
+abbrev pub docs_row : ℕ → WordDocs → List Cell
+docs_row number word = pair (numbered (codes "docs[") number) (decimal word.docs)
+
+-- its words, numbered on from here
+abbrev pub word_rows : ℕ → List WordDocs → List (List Cell)
+word_rows from [] = []
+word_rows from (word ∷ words) = keyword_row from word ∷ docs_row from word ∷ word_rows (from + 1) words
+
+abbrev pub meta_rows : Meta → List (List Cell)
+meta_rows meta = pair (codes "total") (decimal meta.total) ∷ pair (codes "total_found") (decimal meta.total_found) ∷ word_rows 0 meta.words
+
+-- what is told of the last SELECT, if there was one
+abbrev pub told_rows : Option Meta → List (List Cell)
+told_rows None = []
+told_rows (Some meta) = meta_rows meta
+
+-- SHOW META
+abbrev pub meta_set : Option Meta → ResultSet
+meta_set told = texts (codes "Variable_name" ∷ codes "Value" ∷ []) (told_rows told)

@@ -1,4 +1,4 @@
--- The state of a session, which statements change: AUTOCOMMIT, and the transaction that is open. "BEGIN, COMMIT, and ROLLBACK
+-- The state of a session, which statements change: AUTOCOMMIT, the transaction that is open, and what SHOW META tells. "BEGIN, COMMIT, and ROLLBACK
 -- syntax" and "SET syntax" of the manual.
 use Rattle.std.specs.Prelude.{ℕ, ◌+◌, List, [], ◌++◌, Bool, true, false, ◌&&◌, ◌||◌, not, Option, Some, None, is_some, if◌then◌else◌}
 use Rattle.doc_types.specs.declared.transactions.Txn.{Txn}
@@ -6,13 +6,14 @@ use Rattle.doc_types.specs.declared.transactions.TxnOp.{TxnOp}
 use Rattle.commit_outcomes.specs.declared.outcome.CommitOutcome.{CommitOutcome}
 use Rattle.commit_outcomes.specs.declared.outcome.CommitOutcome.TheVariants as outcomes
 use Rattle.ql_answers.specs.Pending.{PendingValue}
+use Rattle.ql_answers.specs.declared.meta.Meta.{Meta}
 use Rattle.ql_answers.specs.declared.state.State.{State}
 use Rattle.ql_answers.specs.declared.turn.Turn.{Turn}
 use Rattle.ql_answers.specs.declared.turn.Turn.TheVariants.{Stays, Opens, Ends, Sets}
 
 -- the state in which a session begins
 abbrev pub new_state : State
-new_state = record { autocommit = true; opened = false; pending = None }
+new_state = record { autocommit = true; opened = false; pending = None; meta = None }
 
 -- a transaction is open: BEGIN opened it, or an operation is pending
 abbrev pub is_open : State → Bool
@@ -37,14 +38,14 @@ kept place ops state = record state { pending = Some (record { place = place; op
 
 -- the transaction is over: what was pending is pending no more
 abbrev pub ended : State → State
-ended state = record { autocommit = state.autocommit; opened = false; pending = None }
+ended state = record { autocommit = state.autocommit; opened = false; pending = None; meta = state.meta }
 
 -- what becomes of the transaction
 abbrev pub turned : Turn → State → State
 turned Stays state = state
-turned Opens state = record { autocommit = state.autocommit; opened = true; pending = None }
+turned Opens state = record { autocommit = state.autocommit; opened = true; pending = None; meta = state.meta }
 turned Ends state = ended state
-turned (Sets true) state = record { autocommit = true; opened = false; pending = None }
+turned (Sets true) state = record { autocommit = true; opened = false; pending = None; meta = state.meta }
 turned (Sets false) state = record state { autocommit = false }
 
 -- what is pending, as a transaction
@@ -56,3 +57,8 @@ pending_txn (Some pending) = Some (record { ops = pending.ops })
 abbrev pub finished : Turn → CommitOutcome → State → State
 finished turn (outcomes.Committed removed) state = turned turn state
 finished turn outcome state = ended state
+
+-- the session once SHOW META tells something anew, if it does
+abbrev pub telling : Option Meta → State → State
+telling None state = state
+telling (Some meta) state = record { autocommit = state.autocommit; opened = state.opened; pending = state.pending; meta = Some meta }

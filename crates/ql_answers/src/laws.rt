@@ -10,9 +10,9 @@ ghost use Rattle.ql_answers.specs.Replies.{Reply};
 ghost use Rattle.ql_answers.specs.Sessions.{AreAlike, Decides, Happened, next_of};
 ghost use Rattle.ql_answers.specs.declared.state.State.{State};
 
-use doc_search::a_search_shows_one_list;
 use ql_insert::an_insert_has_one_answer;
 use ql_select::a_select_has_one_answer;
+use table_search::a_select_finds_the_same;
 
 /// A statement wants one thing or is refused for one reason, and never both.
 pub fn a_statement_has_one_plan()
@@ -29,7 +29,7 @@ pub fn a_statement_has_one_plan()
 /// chunks are on the disk.
 pub fn a_plan_has_one_reply()
     ensures reply { (plan : Plan) (happened other : Happened) (a b : Reply) → AreAlike plan happened other → Decides plan happened a → Decides plan other b → a ≡ b }
-    ensures state { (plan : Plan) (happened other : Happened) (state : State) → AreAlike plan happened other → next_of plan happened state ≡ next_of plan other state }
+    ensures state { (plan : Plan) (happened other : Happened) (reply : Reply) (state : State) → AreAlike plan happened other → next_of plan happened reply state ≡ next_of plan other reply state }
 {
-    a_search_shows_one_list();
+    a_select_finds_the_same();
 }

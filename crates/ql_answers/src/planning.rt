@@ -6,13 +6,12 @@ ghost use Rattle.ql_answers.specs.steps.Planning.{Planned, PlansAutocommit, Plan
 use crate::indexes::{Catalog, served};
 use crate::plan::Plan;
 use crate::showing::{
-    current_database, databases, description, tables, variable, variables, warnings,
+    current_database, databases, description, meta, tables, variable, variables, warnings,
 };
 use crate::state::State;
 use crate::turn::Turn;
 use crate::writing::{plan_delete, plan_insert, plan_truncate};
 use ql_refusals::{Refusal, not_offered, value_out_of_range};
-use ql_select::is_grouped;
 use ql_tree::{Select, Statement};
 use reply_rows::ResultSet;
 use srch_base::{Items, Name, NoMemory, Or};
@@ -65,7 +64,7 @@ pub(crate) fn plan<T: Catalog>(
         Statement::FlushRamchunk(index)
         | Statement::FlushRtindex(index)
         | Statement::OptimizeIndex(index) => plan_job(catalog, index.as_bytes()),
-        Statement::ShowMeta => Err(Or::Fault(not_offered())),
+        Statement::ShowMeta => show(meta(alloc, &state.meta)),
     }
 }
 
@@ -121,9 +120,6 @@ fn show(set: Result<ResultSet, NoMemory>) -> Result<Plan, Or<Refusal>>
 fn plan_select<T: Catalog>(alloc: Global, catalog: &T, select: &Select) -> Result<Plan, Or<Refusal>>
     ensures { PlansSelect (T.confs catalog.now) select.now result }
 {
-    if is_grouped(select) {
-        return Err(Or::Fault(not_offered()));
-    }
     let index = served(catalog, select.index.as_bytes())?;
     let selection = ql_select::select(alloc, catalog.conf(index), select)?;
     Ok(Plan::Search { index, selection })

@@ -1,33 +1,36 @@
 //! What is replied to a plan by what happened, a function for each kind of event: OK with the number of rows, a refusal,
 //! or a result set. Only events that the plan can have come here, so that no reply is made up for others. Result sets alone
 //! take memory.
-ghost use Rattle.std.specs.Prelude.{◌≡◌};
+ghost use Rattle.std.specs.Prelude.{◌≡◌, IfOk, None};
 ghost use Rattle.reply_rows.specs.Written.{IsOpen};
+ghost use Rattle.doc_types.specs.Snapshots.{all_living};
+ghost use Rattle.ql_answers.specs.Metas.{max_matches, meta_of};
 ghost use Rattle.ql_answers.specs.Replies.{replied};
 ghost use Rattle.ql_answers.specs.Sessions.{CanHave, Committing, Nothing, Read, happened_by, reply_to_commit};
 ghost use Rattle.ql_answers.specs.steps.Answering.{Says, SaysPlan};
 
 use crate::event::Event;
-use crate::found::FoundRows;
+use crate::found::put_found;
+use crate::meta::Meta;
 use crate::plan::{Counted, Plan, affected};
 use crate::refusing::put_refusal;
 use crate::showing::index_status;
 use commit_outcomes::CommitOutcome;
-use doc_search::search;
 use doc_types::{Chunk, Snapshot};
 use ql_refusals::{duplicate_id, index_full, no_memory};
 use reply_rows::Replies;
 use srch_base::NoMemory;
 use std::alloc::Global;
+use table_search::{Asked, Found, Table, find_tables, word_docs};
 
-/// Replies to a plan.
+/// Replies to a plan, and gives what SHOW META tells from then on, where that is something else.
 pub(crate) fn say<C: Chunk>(
     alloc: Global,
     plan: &Plan,
     event: &Event<'_, C>,
     status: u16,
     replies: &mut Replies,
-) -> Result<(), NoMemory>
+) -> Result<Option<Meta>, NoMemory>
     requires can { CanHave plan.now (happened_by event.now) }
     requires open { IsOpen replies.old }
     ensures { SaysPlan plan.now (happened_by event.now) status result replies.old replies.new }
@@ -36,12 +39,12 @@ pub(crate) fn say<C: Chunk>(
         Event::Nothing => say_nothing(alloc, plan, status, replies),
         Event::NoMemory => {
             put_refusal(&no_memory(), replies);
-            Ok(())
+            Ok(None)
         }
         Event::Read(snapshot) => say_read(alloc, plan, snapshot, status, replies),
         Event::Commit(outcome) => {
             say_commit(plan, *outcome, status, replies);
-            Ok(())
+            Ok(None)
         }
     }
 }
@@ -51,7 +54,7 @@ fn say_nothing(
     plan: &Plan,
     status: u16,
     replies: &mut Replies,
-) -> Result<(), NoMemory>
+) -> Result<Option<Meta>, NoMemory>
     requires can { CanHave plan.now Nothing }
     requires open { IsOpen replies.old }
     ensures { SaysPlan plan.now Nothing status result replies.old replies.new }
@@ -59,12 +62,15 @@ fn say_nothing(
     match plan {
         Plan::Agree(_) => {
             replies.put_ok(0, status);
-            Ok(())
+            Ok(None)
         }
-        Plan::Show(set) => replies.put_set(alloc, set, status),
+        Plan::Show(set) => {
+            replies.put_set(alloc, set, status)?;
+            Ok(None)
+        }
         Plan::Keep { affected, .. } => {
             replies.put_ok(*affected, status);
-            Ok(())
+            Ok(None)
         }
         Plan::Search { .. } | Plan::Status { .. } | Plan::Put { .. } | Plan::Commit { .. } => {
             unreachable!()
@@ -78,24 +84,23 @@ fn say_read<C: Chunk>(
     snapshot: &Snapshot<C>,
     status: u16,
     replies: &mut Replies,
-) -> Result<(), NoMemory>
+) -> Result<Option<Meta>, NoMemory>
     requires can { CanHave plan.now (Read snapshot.now) }
     requires open { IsOpen replies.old }
     ensures { SaysPlan plan.now (Read snapshot.now) status result replies.old replies.new }
 {
     match plan {
         Plan::Search { selection, .. } => {
-            let rows = search(alloc, &selection.question, snapshot)?;
-            let found = FoundRows {
-                shown: selection.shown.as_slice(),
-                rows: rows.as_slice(),
-            };
-            replies.put_table(alloc, &found, status)
+            let found = find_tables(alloc, &selection.asked, snapshot)?;
+            let meta = meta_of(alloc, &selection.asked, &found, snapshot)?;
+            put_found(alloc, selection, &found, status, replies)?;
+            Ok(Some(meta))
         }
         Plan::Status { .. } => {
             let documents = u64::from(snapshot.live_count());
             let set = index_status(alloc, documents, u64::from(snapshot.disk_chunks()))?;
-            replies.put_set(alloc, &set, status)
+            replies.put_set(alloc, &set, status)?;
+            Ok(None)
         }
         Plan::Agree(_)
         | Plan::Show(_)
@@ -105,10 +110,37 @@ fn say_read<C: Chunk>(
     }
 }
 
+/// What SHOW META tells of a SELECT.
+fn meta_of<C: Chunk>(
+    alloc: Global,
+    asked: &Asked,
+    found: &Found,
+    snapshot: &Snapshot<C>,
+) -> Result<Meta, NoMemory>
+    ensures { IfOk result (λ meta. meta ≡ meta_of asked.now found.now (all_living snapshot.now.layers)) }
+{
+    let total_found = found.total_found;
+    Ok(Meta {
+        total: total_found.min(u64::from(max_matches(asked))),
+        total_found,
+        words: word_docs(alloc, &asked.question.query, snapshot)?,
+    })
+}
+
+/// How many rows or groups there are for the page.
+fn max_matches(asked: &Asked) -> u32
+    ensures { result ≡ max_matches asked.now }
+{
+    match &asked.table {
+        Table::Rows => asked.question.page.max_matches,
+        Table::Groups(table) => table.page.page.max_matches,
+    }
+}
+
 fn say_commit(plan: &Plan, outcome: CommitOutcome, status: u16, replies: &mut Replies)
     requires can { CanHave plan.now (Committing outcome) }
     requires open { IsOpen replies.old }
-    ensures { Says plan.now (Committing outcome) status replies.old replies.new }
+    ensures { Says plan.now (Committing outcome) status None replies.old replies.new }
 {
     match plan {
         Plan::Put { txn, counted, .. } => {

@@ -1,11 +1,12 @@
 //! What SHOW, DESCRIBE and SELECT of a variable show; docs/cases/statements.md has each as a client sees it. Clients ask
 //! for variables, databases and warnings when they connect: what isn't there is shown as an empty text or as no row, and
 //! they go on.
-ghost use Rattle.std.specs.Prelude.{◌≡◌, ◌++◌, IfOk, codes, map};
+ghost use Rattle.std.specs.Prelude.{◌≡◌, ◌+◌, ◌++◌, [], ◌∷◌, IfOk, OnOk, codes, map};
 ghost use Rattle.ql_answers.specs.Replies.{pair};
-ghost use Rattle.ql_answers.specs.Showing.{current_database, databases, description, description_rows, index_status, kind_text, tables, variable, variable_value, variables, warnings};
+ghost use Rattle.ql_answers.specs.Showing.{current_database, databases, description, description_rows, docs_row, index_status, keyword_row, kind_text, meta_rows, meta_set, numbered, tables, variable, variable_value, variables, warnings, word_rows};
 
 use crate::indexes::Catalog;
+use crate::meta::Meta;
 use crate::text_sets::{pair, single, text_columns};
 use doc_types::{AttrKind, Schema};
 use itoa::Buffer;
@@ -14,6 +15,7 @@ use ql_columns::ID;
 use reply_rows::ResultSet;
 use srch_base::{Items, NoMemory};
 use std::alloc::Global;
+use table_search::WordDocs;
 
 /// SELECT of a system variable.
 pub(crate) fn variable(
@@ -173,4 +175,85 @@ fn kind_text(kind: AttrKind) -> &'static [u8]
         AttrKind::Bigint => b"bigint",
         AttrKind::Timestamp => b"timestamp",
     }
+}
+
+/// SHOW META: a row for each number, and two for each word. Before the first SELECT there is none.
+pub(crate) fn meta(alloc: Global, told: &Option<Meta>) -> Result<ResultSet, NoMemory>
+    ensures { IfOk result (λ set. set ≡ meta_set told.now) }
+{
+    let columns = text_columns(alloc, &[b"Variable_name", b"Value"])?;
+    let rows = match told {
+        Some(meta) => meta_rows(alloc, meta)?,
+        None => Items::new(Vec::new(alloc)),
+    };
+    Ok(ResultSet { columns, rows })
+}
+
+fn meta_rows(alloc: Global, meta: &Meta) -> Result<Items<Items<Cell>>, NoMemory>
+    ensures { IfOk result (λ rows. rows ≡ meta_rows meta.now) }
+{
+    let mut number = Buffer::new();
+    let mut rows = Vec::new(alloc);
+    rows.push(pair(alloc, b"total", number.format(meta.total).as_bytes())?)?;
+    rows.push(pair(
+        alloc,
+        b"total_found",
+        number.format(meta.total_found).as_bytes(),
+    )?)?;
+    put_words(alloc, meta.words.as_slice(), 0, &mut rows)?;
+    Ok(Items::new(rows))
+}
+
+/// Appends two rows for each word, numbered on from this. It calls itself once for each word, of which a query has at most 255.
+fn put_words(
+    alloc: Global,
+    words: &[WordDocs],
+    from: u64,
+    rows: &mut Vec<Items<Cell>>,
+) -> Result<(), NoMemory>
+    ensures { OnOk result (rows.new.items ≡ rows.old.items ++ word_rows from words.now) }
+{
+    match words.split_first() {
+        None => Ok(()),
+        Some((first, rest)) => {
+            put_word(alloc, first, from, rows)?;
+            let next = next_number(from)?;
+            put_words(alloc, rest, next, rows)
+        }
+    }
+}
+
+fn next_number(number: u64) -> Result<u64, NoMemory>
+    ensures { IfOk result (λ next. next ≡ number + 1) }
+{
+    number.checked_add(1).ok_or(NoMemory)
+}
+
+/// Appends the two rows of a word.
+fn put_word(
+    alloc: Global,
+    word: &WordDocs,
+    number: u64,
+    rows: &mut Vec<Items<Cell>>,
+) -> Result<(), NoMemory>
+    ensures { OnOk result (rows.new.items ≡ rows.old.items ++ keyword_row number word.now ∷ [] ++ docs_row number word.now ∷ []) }
+{
+    let mut docs = Buffer::new();
+    let keyword = numbered(alloc, b"keyword[", number)?;
+    rows.push(pair(alloc, keyword.as_slice(), word.word.as_bytes())?)?;
+    let counted = numbered(alloc, b"docs[", number)?;
+    rows.push(pair(alloc, counted.as_slice(), docs.format(word.docs).as_bytes())?)?;
+    Ok(())
+}
+
+/// A name with a number in brackets, of which the first stands in the name.
+fn numbered(alloc: Global, name: &[u8], number: u64) -> Result<Vec<u8>, NoMemory>
+    ensures { IfOk result (λ text. text.items ≡ numbered name.now number) }
+{
+    let mut digits = Buffer::new();
+    let mut text = Vec::new(alloc);
+    text.extend_from_slice(name)?;
+    text.extend_from_slice(digits.format(number).as_bytes())?;
+    text.extend_from_slice(b"]")?;
+    Ok(text)
 }

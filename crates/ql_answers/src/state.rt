@@ -1,8 +1,9 @@
-//! The state of a session: AUTOCOMMIT, and its transaction.
+//! The state of a session: AUTOCOMMIT, its transaction, and what SHOW META tells.
 ghost use Rattle.std.specs.Prelude.{◌≡◌, [], IsSome, None, OnErr, OnOk, Some};
-ghost use Rattle.ql_answers.specs.States.{ended, finished, is_alone, is_open, kept, new_state, pending_txn, status_of, turned};
+ghost use Rattle.ql_answers.specs.States.{ended, finished, is_alone, is_open, kept, new_state, pending_txn, status_of, telling, turned};
 ghost use Rattle.ql_answers.specs.Transactions.{write_fault};
 
+use crate::meta::Meta;
 use crate::pending::Pending;
 use crate::turn::Turn;
 use commit_outcomes::CommitOutcome;
@@ -20,6 +21,8 @@ pub struct State {
     pub opened: bool,
     /// What waits for a commit.
     pub pending: Option<Pending>,
+    /// What SHOW META tells.
+    pub meta: Option<Meta>,
 }
 
 impl State {
@@ -31,6 +34,7 @@ impl State {
             autocommit: true,
             opened: false,
             pending: None,
+            meta: None,
         }
     }
 
@@ -92,6 +96,15 @@ impl State {
         match outcome {
             CommitOutcome::Committed { .. } => self.turn(turn),
             CommitOutcome::Duplicate { .. } | CommitOutcome::Full(_) => self.end(),
+        }
+    }
+
+    /// SHOW META tells this from now on, if it is anything.
+    pub(crate) fn tell(&mut self, told: Option<Meta>)
+        ensures { self.new ≡ telling told self.old }
+    {
+        if let Some(meta) = told {
+            self.meta = Some(meta);
         }
     }
 

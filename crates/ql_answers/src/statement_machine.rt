@@ -142,7 +142,9 @@ fn answer<C: Chunk>(
     ensures { Answered plan.old (happened_by event.now) more result state.old state.new plan.new replies.old replies.new }
 {
     turn(alloc, state, plan, event)?;
-    say(alloc, plan, event, state.status(more), replies)
+    let told = say(alloc, plan, event, state.status(more), replies)?;
+    state.tell(told);
+    Ok(())
 }
 
 /// Changes the state as what came of a plan says. Operations that are pending from now on leave the plan.

@@ -99,11 +99,17 @@ wrong_number = refused (codes "wrong number of values")
 abbrev pub second_match : Refused
 second_match = refused (codes "second MATCH")
 
+abbrev pub group_by_missing : Refused
+group_by_missing = refused (codes "GROUP BY is missing")
+
 abbrev pub too_many_columns : Refused
 too_many_columns = refused (codes "too many columns")
 
 abbrev pub too_many_sort_keys : Refused
 too_many_sort_keys = refused (codes "too many sort keys")
+
+abbrev pub too_many_facets : Refused
+too_many_facets = refused (codes "too many facets")
 
 abbrev pub max_matches_out_of_range : Refused
 max_matches_out_of_range = refused (codes "max_matches out of range")

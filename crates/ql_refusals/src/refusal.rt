@@ -2,7 +2,7 @@
 //! table.
 ghost use Rattle.std.specs.Prelude.{◌≡◌, ◌+◌, ◌≤◌, ◌++◌, [], codes, length, decimal};
 ghost use Rattle.query_grammar.specs.FaultTexts.{name_text};
-ghost use Rattle.ql_refusals.specs.Refusals.{bad_query as bad_query_row, bad_syntax as bad_syntax_row, bad_token as bad_token_row, column_is_field as column_is_field_row, column_is_no_field as column_is_no_field_row, column_twice as column_twice_row, duplicate_id as duplicate_id_row, full_text, id_missing as id_missing_row, id_out_of_range as id_out_of_range_row, index_full as index_full_row, max_matches_out_of_range as max_matches_out_of_range_row, no_memory as no_memory_row, not_offered as not_offered_row, offset_not_below as offset_not_below_row, other_index as other_index_row, ranker_not_offered as ranker_not_offered_row, refused, second_match as second_match_row, shown, state_of, too_many_columns as too_many_columns_row, too_many_operations as too_many_operations_row, too_many_positions as too_many_positions_row, too_many_sort_keys as too_many_sort_keys_row, transaction_open as transaction_open_row, transaction_too_large as transaction_too_large_row, unknown_column as unknown_column_row, unknown_index as unknown_index_row, unknown_option as unknown_option_row, value_out_of_range as value_out_of_range_row, wrong_kind as wrong_kind_row, wrong_number as wrong_number_row};
+ghost use Rattle.ql_refusals.specs.Refusals.{bad_query as bad_query_row, bad_syntax as bad_syntax_row, bad_token as bad_token_row, column_is_field as column_is_field_row, column_is_no_field as column_is_no_field_row, column_twice as column_twice_row, duplicate_id as duplicate_id_row, full_text, group_by_missing as group_by_missing_row, id_missing as id_missing_row, id_out_of_range as id_out_of_range_row, index_full as index_full_row, max_matches_out_of_range as max_matches_out_of_range_row, no_memory as no_memory_row, not_offered as not_offered_row, offset_not_below as offset_not_below_row, other_index as other_index_row, ranker_not_offered as ranker_not_offered_row, refused, second_match as second_match_row, shown, state_of, too_many_columns as too_many_columns_row, too_many_facets as too_many_facets_row, too_many_operations as too_many_operations_row, too_many_positions as too_many_positions_row, too_many_sort_keys as too_many_sort_keys_row, transaction_open as transaction_open_row, transaction_too_large as transaction_too_large_row, unknown_column as unknown_column_row, unknown_index as unknown_index_row, unknown_option as unknown_option_row, value_out_of_range as value_out_of_range_row, wrong_kind as wrong_kind_row, wrong_number as wrong_number_row};
 
 use arrayvec::ArrayVec;
 use commit_outcomes::{Full, FullKind};
@@ -283,6 +283,13 @@ pub fn second_match() -> Refusal
     Refusal::plain(WRONG, b"second MATCH")
 }
 
+/// A SELECT speaks of groups, and says of none.
+pub fn group_by_missing() -> Refusal
+    ensures { result ≡ group_by_missing_row }
+{
+    Refusal::plain(WRONG, b"GROUP BY is missing")
+}
+
 /// A SELECT shows more columns than it may.
 pub fn too_many_columns() -> Refusal
     ensures { result ≡ too_many_columns_row }
@@ -295,6 +302,13 @@ pub fn too_many_sort_keys() -> Refusal
     ensures { result ≡ too_many_sort_keys_row }
 {
     Refusal::plain(WRONG, b"too many sort keys")
+}
+
+/// A SELECT has more facets than it may.
+pub fn too_many_facets() -> Refusal
+    ensures { result ≡ too_many_facets_row }
+{
+    Refusal::plain(WRONG, b"too many facets")
 }
 
 /// The option `max_matches` is a number that it can't be.

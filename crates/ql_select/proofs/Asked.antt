@@ -2,7 +2,6 @@
 use Rattle.std.proofs.Common.{sym, subst}
 use Rattle.std.proofs.lemmas.Str.{IsUtf8-from_is_utf8}
 use Rattle.index_conf.specs.declared.conf.IndexConf.{IndexConf}
-use Rattle.doc_search.specs.declared.question.Question.{Question}
 use Rattle.doc_search.specs.Searches.{IsAskedOf}
 use Rattle.doc_types.specs.Schemas.{IsSchema}
 use Rattle.query_read.proofs.QueryKeys.{few_when_read, numbered_when_read}
@@ -10,6 +9,7 @@ use Rattle.op_eval.specs.Numbered.{IsNumbered}
 use Rattle.op_eval.proofs.NumberedHits.{numbers_kept}
 use Rattle.ql_tree.specs.declared.select.Select.{Select}
 use Rattle.ql_select.specs.declared.selection.Selection.{Selection}
+use Rattle.ql_select.specs.Names.{names_of}
 use Rattle.ql_select.specs.Parts.{match_text}
 use Rattle.ql_select.specs.Selections.{Selects, setting}
 use Rattle.ql_select.proofs.Questions.{is_asked}
@@ -26,8 +26,8 @@ numbered_query conf select selection selects =
       numbers = numbered_when_read (setting conf) text selects.query utf8 selects.reads;
     }
 
-pub selection_is_asked : (conf : IndexConf) (select : Select) (selection : Selection) → IsSchema conf.schema → Selects conf select selection → IsAskedOf conf.schema selection.question
+pub selection_is_asked : (conf : IndexConf) (select : Select) (selection : Selection) → IsSchema conf.schema → Selects conf select selection → IsAskedOf conf.schema selection.asked.question
 selection_is_asked conf select selection schema selects =
-    subst (λ (question : Question). IsAskedOf conf.schema question) (sym selects.question)
-    (is_asked conf select selects.query schema selects.good
+    subst (λ (s : Selection). IsAskedOf conf.schema s.asked.question) (sym selects.means)
+    (is_asked conf select (names_of conf.schema select) selects.query schema selects.good
     (numbers_kept conf.schema selects.query (numbered_query conf select selection selects)))

@@ -11,10 +11,10 @@ use Rattle.query_read.specs.QueryFault.{QueryFault}
 use Rattle.query_tree.specs.declared.query.Query.{Query}
 use Rattle.query_read.specs.Queries.{ReadsQuery}
 use Rattle.ql_select.specs.declared.selection.Selection.{Selection}
-use Rattle.ql_select.specs.Columns.{columns_shown}
 use Rattle.ql_select.specs.Faults.{select_fault}
+use Rattle.ql_select.specs.Names.{names_of}
 use Rattle.ql_select.specs.Parts.{match_text}
-use Rattle.ql_select.specs.Selections.{MeansOr, RefusesText, question_of, setting}
+use Rattle.ql_select.specs.Selections.{MeansOr, RefusesText, selection_of, setting}
 use Rattle.ql_select.specs.steps.Texts.{ReadsText}
 
 refuted : (b : Bool) → (b ≡ true → ⊥) → b ≡ false
@@ -36,12 +36,5 @@ pub refused_text : (conf : IndexConf) (select : Select) (end : Or Refused) → s
 refused_text conf select NoMemory good reads = tt
 refused_text conf select (Fault refusal) good reads = inr (good, reads)
 
-pub meant : (conf : IndexConf) (select : Select) (query : Query) (selection : Selection) → select_fault conf.schema select ≡ None → ReadsText conf (match_text select.conds) (Ok query) → selection.question ≡ question_of conf select query → selection.shown ≡ columns_shown conf.schema select.items → MeansOr conf select (Ok selection)
-meant conf select query selection good reads question shown = record {
-  good = good;
-  text = reads.0;
-  query = query;
-  reads = reads.1;
-  question = question;
-  shown = shown;
-}
+pub meant : (conf : IndexConf) (select : Select) (query : Query) (selection : Selection) → select_fault conf.schema select ≡ None → ReadsText conf (match_text select.conds) (Ok query) → selection ≡ selection_of conf select (names_of conf.schema select) query → MeansOr conf select (Ok selection)
+meant conf select query selection good reads means = record { good = good; text = reads.0; query = query; reads = reads.1; means = means }

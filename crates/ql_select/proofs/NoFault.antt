@@ -1,51 +1,90 @@
 -- What holds of a SELECT with no fault: its page, its options and the names in it are within their limits.
-use Rattle.std.proofs.Common.{◌≡◌, ℕ, ◌<◌, ◌≤◌, List, [], ◌∷◌, ◌-◌, Bool, true, false, cond, Option, Some, None, reverse, length, unwrap_or, sym, refl, ap, subst, arith}
+use Rattle.std.proofs.Common.{◌≡◌, ℕ, ◌<◌, ◌≤◌, List, [], ◌∷◌, ◌-◌, ◌+◌, ◌^◌, Bool, true, false, cond, Option, Some, None, reverse, length, unwrap_or, sym, refl, ap, subst, arith}
 use Rattle.std.specs.Prelude.{All, nat_le, nat_lt, ◌&&◌}
-use Rattle.std.specs.List.{find, count_by, sum_by}
+use Rattle.std.specs.List.{find, count_by, flat_map, sum_by}
 use Rattle.std.specs.Option.{option_map}
 use Rattle.std.specs.Str.{bytes_eq}
 use Rattle.std.proofs.lemmas.Bool.{and_parts, leb-true, ltb-true}
+use Rattle.std.proofs.lemmas.List.Sums.{sum_by-cons}
 use Rattle.std.proofs.lemmas.List.Elements.{All-nil, All-head, All-tail, All-weaker}
 use Rattle.std.proofs.lemmas.Option.{none-some}
-use Rattle.std.proofs.lemmas.List.{get_or-reverse, length-reverse}
+use Rattle.std.proofs.lemmas.List.{get_or-reverse, length-map, length-reverse}
 use Rattle.std.proofs.lemmas.Slice.Eq.{bytes_eq-Decides}
 use Rattle.doc_types.specs.declared.schema.Schema.{Schema}
 use Rattle.ql_tree.specs.declared.select.OptionValue.{OptionValue}
 use Rattle.ql_tree.specs.declared.select.OptionValue.TheVariants as values
 use Rattle.ql_tree.specs.declared.select.Select.{Select}
+use Rattle.ql_tree.specs.declared.select.SelectItem.{SelectItem}
+use Rattle.ql_tree.specs.declared.select.SelectItem.TheVariants as items
 use Rattle.ql_tree.specs.declared.select.SelectOption.{SelectOption}
 use Rattle.ql_columns.specs.declared.columns.IndexColumn.{IndexColumn}
 use Rattle.ql_columns.specs.declared.columns.IndexColumn.TheVariants as targets
 use Rattle.ql_columns.specs.Columns.{column_named}
-use Rattle.ql_refusals.specs.Refusals.{first_of, unless, column_is_no_field, value_out_of_range, second_match, too_many_columns, too_many_sort_keys, max_matches_out_of_range, offset_not_below}
+use Rattle.ql_refusals.specs.Refusals.{first_of, unless, column_is_no_field, value_out_of_range, second_match, group_by_missing, too_many_columns, max_matches_out_of_range, offset_not_below}
 use Rattle.ql_refusals.proofs.FirstFault.{first_none, first_of_none, unless_none}
-use Rattle.ql_select.specs.declared.faults.Pass.TheVariants.{Names, Kinds}
-use Rattle.ql_select.specs.declared.limits.TheConstants.{MAX_COLUMNS, MAX_SORT_KEYS, MAX_MATCHES}
-use Rattle.ql_select.specs.Faults.{is_match, item_fault, cond_fault, key_fault, limits_fault, option_fault, option_name_fault, page_fault, parts_fault, select_fault, target_weight_fault, weight_fault, width}
+use Rattle.ql_select.specs.declared.faults.Pass.TheVariants.{Kinds}
+use Rattle.ql_select.specs.declared.first_fault.FaultClass.TheVariants.{Kind, Limit}
+use Rattle.ql_select.specs.declared.names.Names.{Names}
+use Rattle.ql_select.specs.declared.limits.TheConstants.{MAX_COLUMNS, MAX_MATCHES}
+use Rattle.ql_select.specs.Faults.{facet_faults, faults_of, has_groups, is_match, limits_fault, option_fault, options_faults, page_fault, select_fault, sizes_fault, target_weight_fault, weight_fault, width}
+use Rattle.ql_select.specs.FirstFaults.{fault_in}
+use Rattle.ql_select.specs.Names.{item_source, names_of}
 use Rattle.ql_select.specs.Options.{field_weights_option, last_value, max_matches_of, weights_in}
 use Rattle.ql_select.specs.Parts.{limits}
+use Rattle.ql_select.proofs.FirstFaults.{both_nil, fault_in_none, none_left}
 
 -- ---- the parts of a SELECT with no fault
 
-pub kinds_none : (schema : Schema) (select : Select) → select_fault schema select ≡ None → parts_fault Kinds schema select ≡ None
-kinds_none schema select e =
-    let later = (first_none (first_of option_name_fault select.options) _ e).1 in
-    let after = (first_none (parts_fault Names schema select) _ later).1 in
-    (first_none (parts_fault Kinds schema select) _ after).0
-
-pub limits_none : (schema : Schema) (select : Select) → select_fault schema select ≡ None → limits_fault schema select ≡ None
-limits_none schema select e =
-    let later = (first_none (first_of option_name_fault select.options) _ e).1 in
-    let after = (first_none (parts_fault Names schema select) _ later).1 in
-    (first_none (parts_fault Kinds schema select) _ after).1
+-- its limits, its facets and what comes before them
+last_none : (schema : Schema) (select : Select) → select_fault schema select ≡ None → (limits_fault schema select ≡ None) × (first_of (option_fault Kinds schema) select.options ≡ None)
+last_none schema select e =
+    let parts = both_nil _ (fault_in Limit (limits_fault schema select)) (none_left (faults_of schema select) e) in
+    let rest = both_nil _ (flat_map (facet_faults schema) select.facets) parts.0 in
+    let options = both_nil _ (options_faults schema select.options) rest.0 in
+    let kinds = both_nil _ (fault_in Kind (first_of (option_fault Kinds schema) select.options)) options.1 in
+    (fault_in_none Limit _ parts.1, fault_in_none Kind _ kinds.1)
 
 pub options_none : (schema : Schema) (select : Select) → select_fault schema select ≡ None → All (λ option. option_fault Kinds schema option ≡ None) select.options
-options_none schema select e =
-    let parts = kinds_none schema select e in
-    let conds = (first_none (first_of (item_fault Kinds schema) select.items) _ parts).1 in
-    let keys = (first_none (first_of (cond_fault Kinds schema) select.conds) _ conds).1 in
-    first_of_none (option_fault Kinds schema) select.options
-    (first_none (first_of (λ key. key_fault Kinds schema select.items key.by) select.order) _ keys).1
+options_none schema select e = first_of_none (option_fault Kinds schema) select.options (last_none schema select e).1
+
+-- the sizes of its parts, and its page
+sizes_none : (schema : Schema) (select : Select) → select_fault schema select ≡ None → (sizes_fault schema select ≡ None) × (page_fault (limits select.limit).0 (max_matches_of select.options) ≡ None)
+sizes_none schema select e =
+    let groups = (first_none (unless (nat_le (count_by is_match select.conds) 1) second_match) _ (last_none schema select e).0).1 in
+    let sizes = (first_none (unless (has_groups select) group_by_missing) _ groups).1 in
+    first_none (sizes_fault schema select) _ sizes
+
+-- ---- the list
+
+-- each item shows a column or more
+wide : (schema : Schema) (item : SelectItem) → 1 ≤ width schema item
+wide schema items.All = omega arith
+wide schema (items.One expr alias) = omega arith
+
+at_least : (schema : Schema) (list : List SelectItem) → length list ≤ sum_by (width schema) list
+at_least schema [] = omega arith
+at_least schema (item ∷ list) =
+    let both : sum_by (width schema) (item ∷ list) ≡ width schema item + sum_by (width schema) list = sum_by-cons (width schema) item list in
+    let one = wide schema item in
+    let rest = at_least schema list in
+    omega (arith, both, one, rest)
+
+pub short_list : (schema : Schema) (select : Select) → select_fault schema select ≡ None → length select.items ≤ MAX_COLUMNS
+short_list schema select e =
+    let none = (first_none (unless (nat_le (sum_by (width schema) select.items) MAX_COLUMNS) too_many_columns) _ (sizes_none schema select e).0).0 in
+    let few = leb-true (sum_by (width schema) select.items) MAX_COLUMNS (unless_none _ too_many_columns none) in
+    let all = at_least schema select.items in
+    omega (arith, few, all)
+
+pub few_items : (schema : Schema) (select : Select) → select_fault schema select ≡ None → length select.items < 2 ^ 16
+few_items schema select e =
+    let short = short_list schema select e in
+    omega (arith, short)
+
+pub few_sources : (schema : Schema) (select : Select) (names : Names) → select_fault schema select ≡ None → names ≡ names_of schema select → length names.sources < 2 ^ 16
+few_sources schema select names e same =
+    subst (λ (n : Names). length n.sources < 2 ^ 16) (sym same)
+    (subst (λ n. n < 2 ^ 16) (sym (length-map select.items (item_source schema))) (few_items schema select e))
 
 -- ---- the page
 
@@ -59,12 +98,7 @@ page_none offset max_matches e =
     (leb-true 1 max_matches range.0, leb-true max_matches MAX_MATCHES range.1, ltb-true offset max_matches (unless_none (nat_lt offset max_matches) (offset_not_below offset max_matches) both.1))
 
 pub is_page : (schema : Schema) (select : Select) → select_fault schema select ≡ None → IsPage (limits select.limit).0 (max_matches_of select.options)
-is_page schema select e =
-    let fault = limits_none schema select e in
-    let columns = (first_none (unless (nat_le (count_by is_match select.conds) 1) second_match) _ fault).1 in
-    let keys = (first_none (unless (nat_le (sum_by (width schema) select.items) MAX_COLUMNS) too_many_columns) _ columns).1 in
-    let page = (first_none (unless (nat_le (length select.order) MAX_SORT_KEYS) too_many_sort_keys) _ keys).1 in
-    page_none (limits select.limit).0 (max_matches_of select.options) page
+is_page schema select e = page_none (limits select.limit).0 (max_matches_of select.options) (sizes_none schema select e).1
 
 -- ---- the weights
 

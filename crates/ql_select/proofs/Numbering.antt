@@ -7,7 +7,7 @@ use Rattle.doc_types.specs.declared.schema.AttrKind.{AttrKind}
 use Rattle.row_select.specs.declared.row.ColumnRef.TheVariants.{Id}
 use Rattle.ql_columns.specs.Columns.{id_name}
 use Rattle.ql_select.specs.declared.selection.Shown.{Shown}
-use Rattle.ql_select.specs.Columns.{attr_shown, shown_as}
+use Rattle.ql_select.specs.Columns.{attr_shown, row_shown}
 
 -- elements with their numbers, and one more
 map_numbered : {X Y : Type 0} (f : ℕ × X → Y) (n : ℕ) (xs : List X) (x : X) → map f (enumerate_from n (xs ++ x ∷ [])) ≡ map f (enumerate_from n xs) ++ f (n + length xs, x) ∷ []
@@ -26,8 +26,8 @@ map_more_numbered f xs i x below is =
     ∙ ap (λ k. map f (enumerate_from 0 (take i xs)) ++ f (k, x) ∷ []) count
 
 -- what `*` shows, as far as one attribute more
-pub shown_more : (schema : Schema) (start shown new : List Shown) (attr : List ℕ × AttrKind) (place : ℕ) → place < length schema.attrs → attr ≡ get_or schema.attrs place attr → shown ≡ start ++ shown_as schema id_name Id ∷ map (attr_shown schema) (enumerate_from 0 (take place schema.attrs)) → new ≡ shown ++ attr_shown schema (place, attr) ∷ [] → new ≡ start ++ shown_as schema id_name Id ∷ map (attr_shown schema) (enumerate_from 0 (take (place + 1) schema.attrs))
+pub shown_more : (schema : Schema) (start shown new : List Shown) (attr : List ℕ × AttrKind) (place : ℕ) → place < length schema.attrs → attr ≡ get_or schema.attrs place attr → shown ≡ start ++ row_shown schema id_name Id ∷ map (attr_shown schema) (enumerate_from 0 (take place schema.attrs)) → new ≡ shown ++ attr_shown schema (place, attr) ∷ [] → new ≡ start ++ row_shown schema id_name Id ∷ map (attr_shown schema) (enumerate_from 0 (take (place + 1) schema.attrs))
 shown_more schema start shown new attr place below is before after =
     after ∙ ap (λ list. list ++ attr_shown schema (place, attr) ∷ []) before
     ∙ append_assoc start _ _
-    ∙ ap (λ list. start ++ shown_as schema id_name Id ∷ list) (sym (map_more_numbered (attr_shown schema) schema.attrs place attr below is))
+    ∙ ap (λ list. start ++ row_shown schema id_name Id ∷ list) (sym (map_more_numbered (attr_shown schema) schema.attrs place attr below is))

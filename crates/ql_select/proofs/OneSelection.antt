@@ -1,10 +1,10 @@
 -- A SELECT means one thing or is refused for one reason, since the text of its MATCH is one query or has one first fault.
-use Rattle.std.proofs.Common.{◌≡◌, ℕ, List, Option, true, sym, ap, subst, ◌∙◌, inl, inr}
+use Rattle.std.proofs.Common.{◌≡◌, ℕ, List, Option, true, sym, ap, ◌∙◌, inl, inr}
 use Rattle.std.specs.Prelude.{Ok, Err}
 use Rattle.std.specs.Str.{IsUtf8, is_utf8}
 use Rattle.std.proofs.lemmas.Bool.{false≢true}
 use Rattle.std.proofs.lemmas.Str.{IsUtf8-from_is_utf8}
-use Rattle.srch_base.specs.declared.faults.Or.TheVariants.{Fault}
+use Rattle.srch_base.specs.declared.faults.Or.TheVariants as ends
 use Rattle.index_conf.specs.declared.conf.IndexConf.{IndexConf}
 use Rattle.ql_tree.specs.declared.select.Select.{Select}
 use Rattle.ql_refusals.specs.Refusals.{Refused, bad_query}
@@ -15,10 +15,12 @@ use Rattle.query_read.specs.Queries.{IsRefused, IsValue, ReadsQuery}
 use Rattle.query_read.specs.Marks.{Setting, marks_of}
 use Rattle.query_read.specs.Piece.{Piece}
 use Rattle.query_read.specs.Pieces.{ArePieces}
+use Rattle.ql_select.specs.declared.first_fault.Fault.{Fault}
 use Rattle.ql_select.specs.declared.selection.Selection.{Selection}
 use Rattle.ql_select.specs.Faults.{select_fault}
+use Rattle.ql_select.specs.Names.{names_of}
 use Rattle.ql_select.specs.Parts.{match_text}
-use Rattle.ql_select.specs.Selections.{RefusesSelection, RefusesText, Selects, question_of, setting}
+use Rattle.ql_select.specs.Selections.{RefusesSelection, RefusesText, Selects, selection_of, setting}
 
 module _
     (has_pieces : (fold : ℕ → Option ℕ) (text : List ℕ) → IsUtf8 text → (pieces : List Piece) × ArePieces fold text pieces)
@@ -31,12 +33,12 @@ module _
       let (pieces, are) = has_pieces setting.fold text (IsUtf8-from_is_utf8 text utf8) in
       one_query setting text pieces a b (one pieces are) (two pieces are)
 
-  not_read : (setting : Setting) (text : List ℕ) (query : Query) (fault : QueryFault) → is_utf8 text ≡ true → ReadsQuery setting text (Ok query) → ReadsQuery setting text (Err (Fault fault)) → ⊥
+  not_read : (setting : Setting) (text : List ℕ) (query : Query) (fault : QueryFault) → is_utf8 text ≡ true → ReadsQuery setting text (Ok query) → ReadsQuery setting text (Err (ends.Fault fault)) → ⊥
   not_read setting text query fault utf8 one two =
       let (pieces, are) = has_pieces setting.fold text (IsUtf8-from_is_utf8 text utf8) in
       no_fault setting text pieces query fault (one pieces are) (two pieces are)
 
-  one_first : (setting : Setting) (text : List ℕ) (a b : QueryFault) → is_utf8 text ≡ true → ReadsQuery setting text (Err (Fault a)) → ReadsQuery setting text (Err (Fault b)) → a ≡ b
+  one_first : (setting : Setting) (text : List ℕ) (a b : QueryFault) → is_utf8 text ≡ true → ReadsQuery setting text (Err (ends.Fault a)) → ReadsQuery setting text (Err (ends.Fault b)) → a ≡ b
   one_first setting text a b utf8 one two =
       let read = IsUtf8-from_is_utf8 text utf8 in
       let (pieces, are) = has_pieces setting.fold text read in
@@ -57,16 +59,15 @@ module _
   pub one_selection : (conf : IndexConf) (select : Select) (a b : Selection) → Selects conf select a → Selects conf select b → a ≡ b
   one_selection conf select a b one two =
       let query : one.query ≡ two.query = one_read (setting conf) (match_text select.conds) one.query two.query one.text one.reads two.reads in
-      let questions : a.question ≡ b.question = one.question ∙ ap (question_of conf select) query ∙ sym two.question in
-      let columns : a.shown ≡ b.shown = one.shown ∙ sym two.shown in
-      λ i. record { question = questions i; shown = columns i }
+      one.means ∙ ap (selection_of conf select (names_of conf.schema select)) query ∙ sym two.means
 
   pub one_selection_fault : (conf : IndexConf) (select : Select) (a b : Refused) → RefusesSelection conf select a → RefusesSelection conf select b → a ≡ b
-  one_selection_fault conf select a b (inl fault) (inl fault') = one_value (select_fault conf.schema select) a b fault fault'
-  one_selection_fault conf select a b (inl fault) (inr (good, text)) = absurd (not_both (select_fault conf.schema select) a good fault)
-  one_selection_fault conf select a b (inr (good, text)) (inl fault) = absurd (not_both (select_fault conf.schema select) b good fault)
+  one_selection_fault conf select a b (inl (fault, is, says)) (inl (fault', is', says')) =
+      says ∙ ap (λ (f : Fault). f.refusal) (one_value (select_fault conf.schema select) fault fault' is is') ∙ sym says'
+  one_selection_fault conf select a b (inl (fault, is, says)) (inr (good, text)) = absurd (not_both (select_fault conf.schema select) fault good is)
+  one_selection_fault conf select a b (inr (good, text)) (inl (fault, is, says)) = absurd (not_both (select_fault conf.schema select) fault good is)
   one_selection_fault conf select a b (inr (good, text)) (inr (good', text')) = one_refused_text conf (match_text select.conds) a b text text'
 
   pub not_refused_selection : (conf : IndexConf) (select : Select) (selection : Selection) (refusal : Refused) → Selects conf select selection → RefusesSelection conf select refusal → ⊥
-  not_refused_selection conf select selection refusal selects (inl fault) = not_both (select_fault conf.schema select) refusal selects.good fault
+  not_refused_selection conf select selection refusal selects (inl (fault, is, says)) = not_both (select_fault conf.schema select) fault selects.good is
   not_refused_selection conf select selection refusal selects (inr (good, text)) = not_refused_text conf (match_text select.conds) selects.query refusal selects.text selects.reads text

@@ -13,6 +13,7 @@ use Rattle.op_eval.specs.Numbered.{IsNumbered}
 use Rattle.op_eval.specs.Sentences.{query_for}
 use Rattle.ql_tree.specs.declared.select.Select.{Select}
 use Rattle.query_tree.specs.declared.query.Query.{Query}
+use Rattle.ql_select.specs.declared.names.Names.{Names}
 use Rattle.ql_select.specs.Faults.{select_fault}
 use Rattle.ql_select.specs.Options.{field_weights_option, last_value, weight_for, weights_in}
 use Rattle.ql_select.specs.Selections.{question_of}
@@ -30,8 +31,8 @@ weight_ranged : (list : List (List ℕ × ℕ)) (field : List ℕ) → All IsWei
 weight_ranged list field all = ranged_one list field all (find (λ given. bytes_eq given.0 field) list) refl
 
 -- the question of a SELECT with no fault is asked of its index, if the keywords of the query are numbered
-pub is_asked : (conf : IndexConf) (select : Select) (query : Query) → IsSchema conf.schema → select_fault conf.schema select ≡ None → IsNumbered (query_for conf.schema query) → IsAskedOf conf.schema (question_of conf select query)
-is_asked conf select query schema good numbered =
+pub is_asked : (conf : IndexConf) (select : Select) (names : Names) (query : Query) → IsSchema conf.schema → select_fault conf.schema select ≡ None → IsNumbered (query_for conf.schema query) → IsAskedOf conf.schema (question_of conf select names query)
+is_asked conf select names query schema good numbered =
     let given : List (List ℕ × ℕ) = weights_in (last_value select.options field_weights_option) in
     let all = are_weights conf.schema select good in
     record {

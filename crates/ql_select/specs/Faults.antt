@@ -1,64 +1,112 @@
--- What is wrong with a SELECT, by its text and the columns of its index: the names of its options; the other names, from left
--- to right; kinds and ranges, from left to right; and then the limits, in this order.
-use Rattle.std.specs.Prelude.{ℕ, ◌+◌, List, [], ◌∷◌, ◌++◌, length, Bool, true, false, nat_le, nat_lt, ◌&&◌, is_some, Option, Some, None, if◌then◌else◌}
-use Rattle.std.specs.List.{list_any, count_by, sum_by}
+-- What is wrong with a SELECT, by its text and the columns of its index, in the order of the text: the names of its options and
+-- other names, and kinds and ranges; and at last the limits, in their own order. The first class of these that has a fault decides.
+use Rattle.std.specs.Prelude.{ℕ, ◌+◌, List, [], ◌∷◌, ◌++◌, length, Bool, true, false, nat_le, nat_lt, ◌&&◌, ◌||◌, ◌==◌, not, is_some, Option, Some, None, if◌then◌else◌}
+use Rattle.std.specs.List.{flat_map, list_any, count_by, sum_by}
 use Rattle.std.specs.Str.{bytes_eq}
 use Rattle.doc_types.specs.declared.schema.Schema.{Schema}
 use Rattle.ql_tree.specs.declared.select.Cond.{Cond}
 use Rattle.ql_tree.specs.declared.select.Cond.TheVariants as conds
+use Rattle.ql_tree.specs.declared.select.FacetPart.{FacetPart}
+use Rattle.ql_tree.specs.declared.select.Having.{Having}
 use Rattle.ql_tree.specs.declared.select.OptionValue.{OptionValue}
 use Rattle.ql_tree.specs.declared.select.OptionValue.TheVariants as values
 use Rattle.ql_tree.specs.declared.select.Select.{Select}
+use Rattle.ql_tree.specs.declared.select.SelectExpr.{SelectExpr}
 use Rattle.ql_tree.specs.declared.select.SelectExpr.TheVariants as exprs
 use Rattle.ql_tree.specs.declared.select.SelectItem.{SelectItem}
 use Rattle.ql_tree.specs.declared.select.SelectItem.TheVariants as items
 use Rattle.ql_tree.specs.declared.select.SelectOption.{SelectOption}
+use Rattle.ql_tree.specs.declared.select.SortKey.{SortKey}
 use Rattle.ql_tree.specs.declared.select.SortName.{SortName}
-use Rattle.ql_tree.specs.declared.select.SortName.TheVariants as keys
+use Rattle.ql_tree.specs.declared.select.SortName.TheVariants as sorts
 use Rattle.ql_columns.specs.declared.columns.IndexColumn.{IndexColumn}
 use Rattle.ql_columns.specs.declared.columns.IndexColumn.TheVariants as targets
 use Rattle.ql_columns.specs.Columns.{name_fault, column_named}
-use Rattle.ql_refusals.specs.Refusals.{Refused, first, first_of, unless, unknown_column, unknown_option, ranker_not_offered, column_is_field, column_is_no_field, wrong_kind, value_out_of_range, second_match, too_many_columns, too_many_sort_keys, max_matches_out_of_range, offset_not_below}
+use Rattle.ql_refusals.specs.Refusals.{Refused, first, first_of, unless, unknown_column, unknown_option, ranker_not_offered, column_is_field, column_is_no_field, wrong_kind, value_out_of_range, second_match, group_by_missing, too_many_columns, too_many_sort_keys, too_many_facets, max_matches_out_of_range, offset_not_below}
 use Rattle.ql_select.specs.declared.faults.Pass.{Pass}
 use Rattle.ql_select.specs.declared.faults.Pass.TheVariants.{Names, Kinds}
-use Rattle.ql_select.specs.declared.limits.TheConstants.{MAX_COLUMNS, MAX_SORT_KEYS, MAX_MATCHES}
-use Rattle.ql_select.specs.Names.{is_alias}
+use Rattle.ql_select.specs.declared.first_fault.Fault.{Fault}
+use Rattle.ql_select.specs.declared.first_fault.FaultClass.TheVariants as classes
+use Rattle.ql_select.specs.declared.limits.TheConstants.{MAX_COLUMNS, MAX_FACETS, MAX_MATCHES, MAX_SORT_KEYS}
+use Rattle.ql_select.specs.Facets.{is_count}
+use Rattle.ql_select.specs.FirstFaults.{fault_in, first_fault}
+use Rattle.ql_select.specs.Names.{aliased}
 use Rattle.ql_select.specs.Options.{ranker_option, max_matches_option, field_weights_option, is_option, ranker_named, max_matches_of}
 use Rattle.ql_select.specs.Parts.{limits}
 
 -- ---- names of columns, and their kinds
 
--- what is wrong with a column that is named: it isn't there; or, looked at after all names, it is a field
-abbrev pub target_fault : Pass → List ℕ → Option IndexColumn → Option Refused
-target_fault Names name None = Some (unknown_column name)
-target_fault Names name (Some target) = None
-target_fault Kinds name (Some (targets.Field field)) = Some (column_is_field name)
-target_fault Kinds name target = None
+-- what is wrong with a column that is named: it isn't there, or it is a field
+abbrev pub target_faults : List ℕ → Option IndexColumn → List Fault
+target_faults name None = record { class = classes.Name; refusal = unknown_column name } ∷ []
+target_faults name (Some targets.Id) = []
+target_faults name (Some (targets.Field field)) = record { class = classes.Kind; refusal = column_is_field name } ∷ []
+target_faults name (Some (targets.Attr attr)) = []
 
 -- what is wrong with a name of a column
-abbrev pub column_fault : Pass → Schema → List ℕ → Option Refused
-column_fault pass schema name = target_fault pass name (column_named schema name)
+abbrev pub column_faults : Schema → List ℕ → List Fault
+column_faults schema name = target_faults name (column_named schema name)
+
+-- what is wrong with an expression
+abbrev pub expr_faults : Schema → SelectExpr → List Fault
+expr_faults schema (exprs.Column name) = column_faults schema name
+expr_faults schema exprs.CountAll = []
+expr_faults schema (exprs.CountDistinct name) = column_faults schema name
+expr_faults schema (exprs.Least name) = column_faults schema name
+expr_faults schema (exprs.Greatest name) = column_faults schema name
+expr_faults schema (exprs.Sum name) = column_faults schema name
+expr_faults schema exprs.Weight = []
+expr_faults schema exprs.GroupBy = []
 
 -- what is wrong with an item of the list
-abbrev pub item_fault : Pass → Schema → SelectItem → Option Refused
-item_fault pass schema (items.One (exprs.Column name) alias) = column_fault pass schema name
-item_fault pass schema item = None
+abbrev pub item_faults : Schema → SelectItem → List Fault
+item_faults schema items.All = []
+item_faults schema (items.One expr alias) = expr_faults schema expr
 
 -- what is wrong with a condition
-abbrev pub cond_fault : Pass → Schema → Cond → Option Refused
-cond_fault pass schema (conds.Match text) = None
-cond_fault pass schema (conds.Compare name op value) = column_fault pass schema name
-cond_fault pass schema (conds.Among name values negated) = column_fault pass schema name
-cond_fault pass schema (conds.Between name low high) = column_fault pass schema name
+abbrev pub cond_faults : Schema → Cond → List Fault
+cond_faults schema (conds.Match text) = []
+cond_faults schema (conds.Compare name op value) = column_faults schema name
+cond_faults schema (conds.Among name values negated) = column_faults schema name
+cond_faults schema (conds.Between name low high) = column_faults schema name
 
--- what is wrong with a name of ORDER BY: nothing, if it is an alias
-abbrev pub named_key_fault : Pass → Schema → List SelectItem → List ℕ → Option Refused
-named_key_fault pass schema list name = if is_alias list name then None else column_fault pass schema name
+-- what is wrong with a part that is a name
+abbrev pub name_faults : Schema → Option (List ℕ) → List Fault
+name_faults schema None = []
+name_faults schema (Some name) = column_faults schema name
 
--- what is wrong with a key of ORDER BY
-abbrev pub key_fault : Pass → Schema → List SelectItem → SortName → Option Refused
-key_fault pass schema list (keys.Column name) = named_key_fault pass schema list name
-key_fault pass schema list key = None
+-- what is wrong with a name that may be an alias of an item at some place: nothing, if it is
+abbrev pub unless_aliased : Schema → List ℕ → Option ℕ → List Fault
+unless_aliased schema name None = column_faults schema name
+unless_aliased schema name (Some place) = []
+
+-- what is wrong with a key of an order, or with what HAVING looks at; in an order within groups only aliases of rows count
+abbrev pub key_faults : Schema → Bool → List SelectItem → SortName → List Fault
+key_faults schema rows list (sorts.Column name) = unless_aliased schema name (aliased rows list name)
+key_faults schema rows list sorts.Weight = []
+key_faults schema rows list sorts.CountAll = []
+
+abbrev pub sort_faults : Schema → Bool → List SelectItem → SortKey → List Fault
+sort_faults schema rows list key = key_faults schema rows list key.by
+
+-- what is wrong with HAVING
+abbrev pub having_faults : Schema → List SelectItem → Option Having → List Fault
+having_faults schema list None = []
+having_faults schema list (Some having) = key_faults schema false list having.left
+
+-- the order of a facet names the facet's own column
+abbrev pub facet_key_fault : List ℕ → SortName → Option Refused
+facet_key_fault column (sorts.Column name) = unless (bytes_eq name column) (unknown_column name)
+facet_key_fault column sorts.Weight = None
+facet_key_fault column sorts.CountAll = None
+
+abbrev pub facet_order_fault : List ℕ → Option SortKey → Option Refused
+facet_order_fault column None = None
+facet_order_fault column (Some key) = facet_key_fault column key.by
+
+-- what is wrong with a facet
+abbrev pub facet_faults : Schema → FacetPart → List Fault
+facet_faults schema part = column_faults schema part.column ++ fault_in classes.Name (facet_order_fault part.column part.order)
 
 -- ---- options
 
@@ -114,20 +162,49 @@ option_fault pass schema option =
     else if bytes_eq option.name field_weights_option then field_weights_fault pass schema option.value
     else None
 
--- ---- the whole
+-- what is wrong with the options: their names, the names in their values, and kinds and ranges
+abbrev pub options_faults : Schema → List SelectOption → List Fault
+options_faults schema options =
+    fault_in classes.OptionName (first_of option_name_fault options)
+    ++ fault_in classes.Name (first_of (option_fault Names schema) options)
+    ++ fault_in classes.Kind (first_of (option_fault Kinds schema) options)
 
--- what is wrong with names, or with kinds and ranges, from left to right
-abbrev pub parts_fault : Pass → Schema → Select → Option Refused
-parts_fault pass schema select =
-    first (first_of (item_fault pass schema) select.items)
-    (first (first_of (cond_fault pass schema) select.conds)
-    (first (first_of (λ key. key_fault pass schema select.items key.by) select.order)
-    (first_of (option_fault pass schema) select.options)))
+-- ---- limits
 
 -- the condition is a MATCH
 abbrev pub is_match : Cond → Bool
 is_match (conds.Match text) = true
 is_match cond = false
+
+-- the expression is a value of several rows
+abbrev pub is_aggregate : SelectExpr → Bool
+is_aggregate (exprs.Column name) = false
+is_aggregate exprs.Weight = false
+is_aggregate exprs.GroupBy = false
+is_aggregate expr = true
+
+abbrev pub lists_aggregate : SelectItem → Bool
+lists_aggregate items.All = false
+lists_aggregate (items.One expr alias) = is_aggregate expr
+
+-- the item is GROUPBY()
+abbrev pub lists_key : SelectItem → Bool
+lists_key (items.One exprs.GroupBy alias) = true
+lists_key item = false
+
+-- the SELECT speaks of the groups of a column: WITHIN, GROUPBY()
+abbrev pub wants_column : Select → Bool
+wants_column select = not (length select.within == 0) || list_any lists_key select.items
+
+-- the SELECT speaks of groups: HAVING, COUNT(*) in ORDER BY
+abbrev pub wants_groups : Select → Bool
+wants_groups select = is_some select.having || list_any (λ key. is_count key.by) select.order
+
+-- GROUP BY is there where it is wanted; where groups are wanted, an aggregate in the list does too, for one group of all rows
+abbrev pub has_groups : Select → Bool
+has_groups select =
+    is_some select.group
+    || (not (wants_column select) && (not (wants_groups select) || list_any lists_aggregate select.items))
 
 -- how many columns an item shows: `*` the id and the attributes, any other item one
 abbrev pub width : Schema → SelectItem → ℕ
@@ -140,16 +217,35 @@ page_fault offset max_matches =
     first (unless (nat_le 1 max_matches && nat_le max_matches MAX_MATCHES) max_matches_out_of_range)
     (unless (nat_lt offset max_matches) (offset_not_below offset max_matches))
 
--- what passes a limit
+-- which part is longer than it may be: the list, an order, the facets
+abbrev pub sizes_fault : Schema → Select → Option Refused
+sizes_fault schema select =
+    first (unless (nat_le (sum_by (width schema) select.items) MAX_COLUMNS) too_many_columns)
+    (first (unless (nat_le (length select.order) MAX_SORT_KEYS && nat_le (length select.within) MAX_SORT_KEYS) too_many_sort_keys)
+    (unless (nat_le (length select.facets) MAX_FACETS) too_many_facets))
+
+-- what is missing, or passes a limit
 abbrev pub limits_fault : Schema → Select → Option Refused
 limits_fault schema select =
     first (unless (nat_le (count_by is_match select.conds) 1) second_match)
-    (first (unless (nat_le (sum_by (width schema) select.items) MAX_COLUMNS) too_many_columns)
-    (first (unless (nat_le (length select.order) MAX_SORT_KEYS) too_many_sort_keys)
-    (page_fault (limits select.limit).0 (max_matches_of select.options))))
+    (first (unless (has_groups select) group_by_missing)
+    (first (sizes_fault schema select) (page_fault (limits select.limit).0 (max_matches_of select.options))))
 
--- the first fault of a SELECT but for those of its MATCH
-abbrev pub select_fault : Schema → Select → Option Refused
-select_fault schema select =
-    first (first_of option_name_fault select.options)
-    (first (parts_fault Names schema select) (first (parts_fault Kinds schema select) (limits_fault schema select)))
+-- ---- the whole
+
+-- what is wrong with a SELECT, in the order of the text, and then by its limits
+abbrev pub faults_of : Schema → Select → List Fault
+faults_of schema select =
+    flat_map (item_faults schema) select.items
+    ++ flat_map (cond_faults schema) select.conds
+    ++ name_faults schema select.group
+    ++ flat_map (sort_faults schema true select.items) select.within
+    ++ having_faults schema select.items select.having
+    ++ flat_map (sort_faults schema false select.items) select.order
+    ++ options_faults schema select.options
+    ++ flat_map (facet_faults schema) select.facets
+    ++ fault_in classes.Limit (limits_fault schema select)
+
+-- the fault of a SELECT that decides, but for those of its MATCH
+abbrev pub select_fault : Schema → Select → Option Fault
+select_fault schema select = first_fault (faults_of schema select)

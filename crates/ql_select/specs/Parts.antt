@@ -1,7 +1,6 @@
--- The conditions, the order and the page that a SELECT states. "SELECT syntax" of the manual.
-use Rattle.std.specs.Prelude.{ℕ, List, [], ◌∷◌, Bool, true, false, min, Option, Some, None, unwrap_or}
-use Rattle.std.specs.List.{filter_map}
-use Rattle.std.specs.Option.{option_map}
+-- The conditions and the page that a SELECT states. "SELECT syntax" of the manual.
+use Rattle.std.specs.Prelude.{ℕ, List, [], ◌∷◌, min, Option, Some, None}
+use Rattle.std.specs.List.{flat_map}
 use Rattle.doc_types.specs.declared.schema.Schema.{Schema}
 use Rattle.ql_tree.specs.declared.select.Comparison.{Comparison}
 use Rattle.ql_tree.specs.declared.select.Comparison.TheVariants as comparisons
@@ -9,19 +8,14 @@ use Rattle.ql_tree.specs.declared.select.Cond.{Cond}
 use Rattle.ql_tree.specs.declared.select.Cond.TheVariants as conds
 use Rattle.ql_tree.specs.declared.select.LimitPart.{LimitPart}
 use Rattle.ql_tree.specs.declared.select.Select.{Select}
-use Rattle.ql_tree.specs.declared.select.SelectItem.{SelectItem}
-use Rattle.ql_tree.specs.declared.select.SortKey.{SortKey}
 use Rattle.row_select.specs.declared.filter.CompareOp.{CompareOp}
 use Rattle.row_select.specs.declared.filter.CompareOp.TheVariants as operators
 use Rattle.row_select.specs.declared.filter.Filter.{Filter}
 use Rattle.row_select.specs.declared.filter.Filter.TheVariants as filters
-use Rattle.row_select.specs.declared.order.Order.{Order}
 use Rattle.row_select.specs.declared.page.Page.{Page}
-use Rattle.row_select.specs.declared.row.ColumnRef.{ColumnRef}
-use Rattle.row_select.specs.declared.row.ColumnRef.TheVariants as columns
 use Rattle.ql_select.specs.declared.limits.TheConstants.{DEFAULT_COUNT}
-use Rattle.ql_select.specs.Names.{column_of, key_column}
 use Rattle.ql_select.specs.Options.{max_matches_of}
+use Rattle.ql_select.specs.Targets.{column_of}
 
 -- ---- conditions
 
@@ -39,29 +33,15 @@ operator comparisons.Greater = operators.Greater
 operator comparisons.AtMost = operators.AtMost
 operator comparisons.AtLeast = operators.AtLeast
 
--- a condition on a column; MATCH is none
-abbrev pub filter_of : Schema → Cond → Option Filter
-filter_of schema (conds.Match text) = None
-filter_of schema (conds.Compare name op value) = option_map (λ column. filters.Compare column (operator op) value) (column_of schema name)
-filter_of schema (conds.Among name values negated) = option_map (λ column. filters.Among column values negated) (column_of schema name)
-filter_of schema (conds.Between name low high) = option_map (λ column. filters.Between column low high) (column_of schema name)
+-- what a condition asks of a column; MATCH asks nothing of columns
+abbrev pub cond_filters : Schema → Cond → List Filter
+cond_filters schema (conds.Match text) = []
+cond_filters schema (conds.Compare name op value) = filters.Compare (column_of schema name) (operator op) value ∷ []
+cond_filters schema (conds.Among name values negated) = filters.Among (column_of schema name) values negated ∷ []
+cond_filters schema (conds.Between name low high) = filters.Between (column_of schema name) low high ∷ []
 
 abbrev pub filters_of : Schema → List Cond → List Filter
-filters_of schema conds = filter_map (filter_of schema) conds
-
--- ---- the order
-
--- a key with its column, and whether it descends: not, if nothing is said
-abbrev pub key_of : Schema → List SelectItem → SortKey → Option (ColumnRef × Bool)
-key_of schema items key = option_map (λ column. (column, unwrap_or key.descending false)) (key_column schema items key.by)
-
--- the keys of the order: the weight, descending, if nothing is said
-abbrev pub keys_of : Schema → List SelectItem → List SortKey → List (ColumnRef × Bool)
-keys_of schema items [] = (columns.Weight, true) ∷ []
-keys_of schema items (key ∷ keys) = filter_map (key_of schema items) (key ∷ keys)
-
-abbrev pub order_of : Schema → Select → Order
-order_of schema select = record { keys = keys_of schema select.items select.order }
+filters_of schema conds = flat_map (cond_filters schema) conds
 
 -- ---- the page
 
@@ -70,12 +50,12 @@ abbrev pub limits_of : ℕ → Option ℕ → ℕ × ℕ
 limits_of count None = (0, count)
 limits_of offset (Some count) = (offset, count)
 
--- the same of a SELECT: the first `DEFAULT_COUNT`, if nothing is said
+-- the same of a SELECT or a facet: the first `DEFAULT_COUNT`, if nothing is said
 abbrev pub limits : Option LimitPart → ℕ × ℕ
 limits None = (0, DEFAULT_COUNT)
 limits (Some part) = limits_of part.first part.second
 
--- the page: there are no more than `max_matches` rows, so none is cut off by asking for no more
+-- the page of documents or groups: there are no more than `max_matches` of them, so none is cut off by asking for no more
 abbrev pub page_of : Select → Page
 page_of select = record {
   offset = (limits select.limit).0;

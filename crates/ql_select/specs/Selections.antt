@@ -4,6 +4,7 @@ use Rattle.std.specs.Str.{is_utf8}
 use Rattle.srch_base.specs.declared.faults.Or.{Or}
 use Rattle.srch_base.specs.declared.faults.Or.TheVariants.{NoMemory, Fault}
 use Rattle.query_read.specs.Spans.{folded}
+use Rattle.doc_types.specs.declared.schema.Schema.{Schema}
 use Rattle.index_conf.specs.declared.conf.IndexConf.{IndexConf}
 use Rattle.doc_search.specs.declared.question.Question.{Question}
 use Rattle.op_eval.specs.Sentences.{query_for}
@@ -13,36 +14,56 @@ use Rattle.query_read.specs.QueryFault.{QueryFault}
 use Rattle.query_tree.specs.declared.query.Query.{Query}
 use Rattle.query_read.specs.Queries.{ReadsQuery}
 use Rattle.query_read.specs.Marks.{Setting, setting_of}
+use Rattle.table_search.specs.declared.asked.Asked.{Asked}
+use Rattle.ql_select.specs.declared.first_fault.Fault.{Fault as SelectFault}
+use Rattle.ql_select.specs.declared.names.Names.{Names}
 use Rattle.ql_select.specs.declared.selection.Selection.{Selection}
 use Rattle.ql_select.specs.Columns.{columns_shown}
 use Rattle.ql_select.specs.Faults.{select_fault}
+use Rattle.ql_select.specs.Groups.{row_order, table_of}
+use Rattle.ql_select.specs.Names.{names_of}
 use Rattle.ql_select.specs.Options.{ranker_of, weights_of}
-use Rattle.ql_select.specs.Parts.{filters_of, match_text, order_of, page_of}
+use Rattle.ql_select.specs.Parts.{match_text, page_of}
 
 -- what the texts of an index are read by
 abbrev pub setting : IndexConf → Setting
 setting conf = setting_of (folded conf.charset) conf.schema
 
--- what a SELECT asks of the documents: this query, and what its other parts say
-abbrev pub question_of : IndexConf → Select → Query → Question
-question_of conf select query = record {
+-- what a SELECT with these names asks of the documents: this query, and what its other parts say
+abbrev pub question_of : IndexConf → Select → Names → Query → Question
+question_of conf select names query = record {
   query = query_for conf.schema query;
   ranker = ranker_of select.options;
   weights = record { list = weights_of conf.schema select.options };
-  filters = filters_of conf.schema select.conds;
-  order = order_of conf.schema select;
+  filters = names.filters;
+  order = row_order names;
   page = page_of select;
   attrs = length conf.schema.attrs;
 }
 
--- A SELECT that nothing is wrong with means this: its question, with the query that its text is, and the columns that it shows.
+-- what it asks of the index: the search, the rows or groups of what that finds, and the facets
+abbrev pub asked_of : IndexConf → Select → Names → Query → Asked
+asked_of conf select names query = record {
+  question = question_of conf select names query;
+  table = table_of names (page_of select);
+  facets = names.facets;
+}
+
+-- what a SELECT with these names means: what it asks, and the columns of what it shows
+abbrev pub selection_of : IndexConf → Select → Names → Query → Selection
+selection_of conf select names query = record {
+  asked = asked_of conf select names query;
+  shown = columns_shown conf.schema names.group select.items;
+  facets = names.facet_columns;
+}
+
+-- A SELECT that nothing is wrong with means this, with the query that its text is.
 pub record Selects (conf : IndexConf) (select : Select) (selection : Selection) : Type 0 where
   pub good : select_fault conf.schema select ≡ None
   pub text : is_utf8 (match_text select.conds) ≡ true
   pub query : Query
   pub reads : ReadsQuery (setting conf) (match_text select.conds) (Ok query)
-  pub question : selection.question ≡ question_of conf select query
-  pub shown : selection.shown ≡ columns_shown conf.schema select.items
+  pub means : selection ≡ selection_of conf select (names_of conf.schema select) query
 
 -- A SELECT is refused for the text of its MATCH: it is no query. No text of a statement has bytes that aren't UTF-8.
 abbrev pub RefusesText : IndexConf → List ℕ → Refused → Type 0
@@ -50,11 +71,14 @@ RefusesText conf text refusal =
     ((is_utf8 text ≡ false) × (refusal ≡ wrong_kind (codes "match")))
     ⊎ ((is_utf8 text ≡ true) × ((fault : QueryFault) × ReadsQuery (setting conf) text (Err (Fault fault)) × (refusal ≡ bad_query fault)))
 
+-- A SELECT is refused for its first fault.
+abbrev pub RefusesNames : Schema → Select → Refused → Type 0
+RefusesNames schema select refusal = (fault : SelectFault) × (select_fault schema select ≡ Some fault) × (refusal ≡ fault.refusal)
+
 -- Why a SELECT is refused by the index that it names.
 abbrev pub RefusesSelection : IndexConf → Select → Refused → Type 0
 RefusesSelection conf select refusal =
-    (select_fault conf.schema select ≡ Some refusal)
-    ⊎ ((select_fault conf.schema select ≡ None) × RefusesText conf (match_text select.conds) refusal)
+    RefusesNames conf.schema select refusal ⊎ ((select_fault conf.schema select ≡ None) × RefusesText conf (match_text select.conds) refusal)
 
 -- what is answered to a SELECT by the index that it names; without memory nothing is said
 abbrev pub MeansOr : IndexConf → Select → Result Selection (Or Refused) → Type 0

@@ -1,8 +1,12 @@
 //! The conditions of a SELECT: its MATCH, and those on columns.
-ghost use Rattle.std.specs.Prelude.{◌≡◌, IfOk, ◌<◌, ◌^◌, length};
-ghost use Rattle.ql_select.specs.Parts.{filter_of, filters_of, match_text, operator};
+ghost use Rattle.std.specs.Prelude.{◌≡◌, ◌++◌, IfOk, OnOk, ◌<◌, ◌^◌, length, fold};
+ghost use Rattle.std.specs.List.{flat_map};
+ghost use Rattle.ql_select.specs.Faults.{cond_faults};
+ghost use Rattle.ql_select.specs.FirstFaults.{sooner};
+ghost use Rattle.ql_select.specs.Parts.{cond_filters, filters_of, match_text, operator};
 
-use crate::names::column_of;
+use crate::first_fault::FirstFault;
+use crate::targets::column_of;
 use doc_types::Schema;
 use ql_tree::{Comparison, Cond};
 use row_select::{CompareOp, Filter};
@@ -26,56 +30,56 @@ pub(crate) fn filters_of(
     alloc: Global,
     schema: &Schema,
     conds: &[Cond],
+    faults: &mut FirstFault,
 ) -> Result<Items<Filter>, NoMemory>
     requires few { length schema.now.attrs < 2 ^ 16 }
-    ensures { IfOk result (λ filters. filters ≡ filters_of schema.now conds.now) }
+    ensures filters { IfOk result (λ filters. filters ≡ filters_of schema.now conds.now) }
+    ensures faults { OnOk result (faults.new.fault ≡ fold sooner faults.old.fault (flat_map (cond_faults schema.now) conds.now)) }
 {
     let mut filters = Vec::new(alloc);
     'conds: for cond in conds {
-        if let Some(filter) = filter_of(schema, cond)? {
-            filters.push(filter)?;
-        }
+        put_filter(schema, cond, &mut filters, faults)?;
     }
     Ok(Items::new(filters))
 }
 
-/// A condition on a column; MATCH is none.
-fn filter_of(schema: &Schema, cond: &Cond) -> Result<Option<Filter>, NoMemory>
+/// Appends what a condition asks of a column.
+fn put_filter(
+    schema: &Schema,
+    cond: &Cond,
+    filters: &mut Vec<Filter>,
+    faults: &mut FirstFault,
+) -> Result<(), NoMemory>
     requires few { length schema.now.attrs < 2 ^ 16 }
-    ensures { IfOk result (λ filter. filter ≡ filter_of schema.now cond.now) }
+    ensures filters { OnOk result (filters.new.items ≡ filters.old.items ++ cond_filters schema.now cond.now) }
+    ensures faults { OnOk result (faults.new.fault ≡ fold sooner faults.old.fault (cond_faults schema.now cond.now)) }
 {
-    Ok(match cond {
-        Cond::Match(_) => None,
-        Cond::Compare { name, op, value } => {
-            column_of(schema, name.as_bytes()).map(|column| Filter::Compare {
-                column,
-                op: operator(*op),
-                value: *value,
-            })
-        }
+    match cond {
+        Cond::Match(_) => {}
+        Cond::Compare { name, op, value } => filters.push(Filter::Compare {
+            column: column_of(schema, name.as_bytes(), faults),
+            op: operator(*op),
+            value: *value,
+        })?,
         Cond::Among {
             name,
             values,
             negated,
-        } => match column_of(schema, name.as_bytes()) {
-            Some(column) => Some(Filter::Among {
-                column,
-                values: values.clone()?,
-                negated: *negated,
-            }),
-            None => None,
-        },
-        Cond::Between { name, low, high } => {
-            column_of(schema, name.as_bytes()).map(|column| Filter::Between {
-                column,
-                low: *low,
-                high: *high,
-            })
-        }
-    })
+        } => filters.push(Filter::Among {
+            column: column_of(schema, name.as_bytes(), faults),
+            values: values.clone()?,
+            negated: *negated,
+        })?,
+        Cond::Between { name, low, high } => filters.push(Filter::Between {
+            column: column_of(schema, name.as_bytes(), faults),
+            low: *low,
+            high: *high,
+        })?,
+    }
+    Ok(())
 }
 
-fn operator(op: Comparison) -> CompareOp
+pub(crate) fn operator(op: Comparison) -> CompareOp
     ensures { result ≡ operator op }
 {
     match op {

@@ -1,24 +1,23 @@
-//! What is wrong with a SELECT: the names of its options, the other names, and kinds and ranges, each from left to right.
-ghost use Rattle.std.specs.Prelude.{◌≡◌, [], IfOk};
+//! What is wrong with the options of a SELECT: their names, the names in their values, and kinds and ranges, each from left to
+//! right.
+ghost use Rattle.std.specs.Prelude.{◌≡◌, [], fold};
 ghost use Rattle.ql_refusals.specs.Refusals.{first_of};
-ghost use Rattle.ql_select.specs.Faults.{column_fault, cond_fault, field_weights_fault, is_weighed, item_fault, key_fault, max_matches_fault, named_key_fault, option_fault, option_name_fault, parts_fault, ranker_fault, select_fault, weight_fault, weight_names_fault};
+ghost use Rattle.ql_select.specs.FirstFaults.{sooner};
+ghost use Rattle.ql_select.specs.Faults.{field_weights_fault, is_weighed, max_matches_fault, option_fault, option_name_fault, options_faults, ranker_fault, weight_fault, weight_names_fault};
 
-use crate::aliases::Aliases;
-use crate::limits::limits_fault;
+use crate::first_fault::{FaultClass, FirstFault};
 use crate::options::{
     FIELD_WEIGHTS_OPTION, MAX_MATCHES_OPTION, RANKER_OPTION, is_option, ranker_named,
 };
 use doc_types::Schema;
 use ql_columns::{IndexColumn, column_named, name_fault};
 use ql_refusals::{
-    Refusal, column_is_field, column_is_no_field, ranker_not_offered, unknown_column,
-    unknown_option, value_out_of_range, wrong_kind,
+    Refusal, column_is_no_field, ranker_not_offered, unknown_option, value_out_of_range, wrong_kind,
 };
-use ql_tree::{Cond, OptionValue, Select, SelectExpr, SelectItem, SelectOption, SortKey, SortName};
-use srch_base::{Name, NoMemory};
-use std::alloc::Global;
+use ql_tree::{OptionValue, SelectOption};
+use srch_base::Name;
 
-/// What a SELECT is gone over for.
+/// What an option's value is gone over for.
 #[derive(Clone, Copy)]
 pub enum Pass {
     /// Whether each name is there.
@@ -27,35 +26,22 @@ pub enum Pass {
     Kinds,
 }
 
-/// The first fault of a SELECT but for those of its MATCH.
-pub(crate) fn select_fault(
-    alloc: Global,
-    schema: &Schema,
-    select: &Select,
-) -> Result<Option<Refusal>, NoMemory>
-    ensures { IfOk result (λ fault. fault ≡ select_fault schema.now select.now) }
+/// Takes note of what is wrong with the options.
+pub(crate) fn note_options(schema: &Schema, options: &[SelectOption], faults: &mut FirstFault)
+    ensures { faults.new.fault ≡ fold sooner faults.old.fault (options_faults schema.now options.now) }
 {
-    let aliases = Aliases::of(alloc, select.items.as_slice())?;
-    Ok(first_fault(schema, select, &aliases))
+    faults.note_any(FaultClass::OptionName, option_names_fault(options));
+    faults.note_any(
+        FaultClass::Name,
+        options_fault(Pass::Names, schema, options),
+    );
+    faults.note_any(
+        FaultClass::Kind,
+        options_fault(Pass::Kinds, schema, options),
+    );
 }
 
-/// The same, with the aliases of its list.
-fn first_fault(schema: &Schema, select: &Select, aliases: &Aliases<'_>) -> Option<Refusal>
-    requires { aliases.now ≡ select.now.items }
-    ensures { result ≡ select_fault schema.now select.now }
-{
-    if let Some(refusal) = option_names_fault(select.options.as_slice()) {
-        return Some(refusal);
-    }
-    if let Some(refusal) = parts_fault(Pass::Names, schema, select, aliases) {
-        return Some(refusal);
-    }
-    if let Some(refusal) = parts_fault(Pass::Kinds, schema, select, aliases) {
-        return Some(refusal);
-    }
-    limits_fault(schema, select)
-}
-
+/// The first option whose name none has.
 fn option_names_fault(options: &[SelectOption]) -> Option<Refusal>
     ensures { result ≡ first_of option_name_fault options.now }
 {
@@ -72,111 +58,7 @@ fn option_name_fault(option: &SelectOption) -> Option<Refusal>
     }
 }
 
-/// What is wrong with the parts of a SELECT, from left to right.
-fn parts_fault(
-    pass: Pass,
-    schema: &Schema,
-    select: &Select,
-    aliases: &Aliases<'_>,
-) -> Option<Refusal>
-    requires { aliases.now ≡ select.now.items }
-    ensures { result ≡ parts_fault pass schema.now select.now }
-{
-    if let Some(refusal) = items_fault(pass, schema, select.items.as_slice()) {
-        return Some(refusal);
-    }
-    if let Some(refusal) = conds_fault(pass, schema, select.conds.as_slice()) {
-        return Some(refusal);
-    }
-    if let Some(refusal) = keys_fault(pass, schema, aliases, select.order.as_slice()) {
-        return Some(refusal);
-    }
-    options_fault(pass, schema, select.options.as_slice())
-}
-
-/// What is wrong with a column that is named.
-fn column_fault(pass: Pass, schema: &Schema, name: &[u8]) -> Option<Refusal>
-    ensures { result ≡ column_fault pass schema.now name.now }
-{
-    match (pass, column_named(schema, name)) {
-        (Pass::Names, None) => Some(unknown_column(name)),
-        (Pass::Kinds, Some(IndexColumn::Field(_))) => Some(column_is_field(name)),
-        _ => None,
-    }
-}
-
-fn items_fault(pass: Pass, schema: &Schema, items: &[SelectItem]) -> Option<Refusal>
-    ensures { result ≡ first_of (item_fault pass schema.now) items.now }
-{
-    items.iter().find_map(|item| item_fault(pass, schema, item))
-}
-
-fn item_fault(pass: Pass, schema: &Schema, item: &SelectItem) -> Option<Refusal>
-    ensures { result ≡ item_fault pass schema.now item.now }
-{
-    match item {
-        SelectItem::One {
-            expr: SelectExpr::Column(name),
-            ..
-        } => column_fault(pass, schema, name.as_bytes()),
-        _ => None,
-    }
-}
-
-fn conds_fault(pass: Pass, schema: &Schema, conds: &[Cond]) -> Option<Refusal>
-    ensures { result ≡ first_of (cond_fault pass schema.now) conds.now }
-{
-    conds.iter().find_map(|cond| cond_fault(pass, schema, cond))
-}
-
-fn cond_fault(pass: Pass, schema: &Schema, cond: &Cond) -> Option<Refusal>
-    ensures { result ≡ cond_fault pass schema.now cond.now }
-{
-    match cond {
-        Cond::Match(_) => None,
-        Cond::Compare { name, .. } | Cond::Among { name, .. } | Cond::Between { name, .. } => {
-            column_fault(pass, schema, name.as_bytes())
-        }
-    }
-}
-
-fn keys_fault(
-    pass: Pass,
-    schema: &Schema,
-    aliases: &Aliases<'_>,
-    keys: &[SortKey],
-) -> Option<Refusal>
-    ensures { result ≡ first_of (λ key. key_fault pass schema.now aliases.now key.by) keys.now }
-{
-    keys.iter()
-        .find_map(|key| key_fault(pass, schema, aliases, &key.by))
-}
-
-fn key_fault(pass: Pass, schema: &Schema, aliases: &Aliases<'_>, by: &SortName) -> Option<Refusal>
-    ensures { result ≡ key_fault pass schema.now aliases.now by.now }
-{
-    match by {
-        SortName::Column(name) => named_key_fault(pass, schema, aliases, name.as_bytes()),
-        SortName::Weight | SortName::CountAll => None,
-    }
-}
-
-/// What is wrong with a name of ORDER BY; one that is an alias is right.
-fn named_key_fault(
-    pass: Pass,
-    schema: &Schema,
-    aliases: &Aliases<'_>,
-    name: &[u8],
-) -> Option<Refusal>
-    ensures { result ≡ named_key_fault pass schema.now aliases.now name.now }
-{
-    if aliases.has(name) {
-        None
-    } else {
-        column_fault(pass, schema, name)
-    }
-}
-
+/// The first fault of the options' values.
 fn options_fault(pass: Pass, schema: &Schema, options: &[SelectOption]) -> Option<Refusal>
     ensures { result ≡ first_of (option_fault pass schema.now) options.now }
 {

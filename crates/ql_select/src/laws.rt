@@ -1,11 +1,15 @@
 //! Laws of what a SELECT means. Each function does nothing but call the laws on texts that it rests on; its contract is the law.
-ghost use Rattle.std.specs.Prelude.{◌≡◌};
+ghost use Rattle.std.specs.Prelude.{◌≡◌, [], None, Some};
 ghost use Rattle.doc_types.specs.Schemas.{IsSchema};
+ghost use Rattle.doc_types.specs.declared.schema.Schema.{Schema};
 ghost use Rattle.index_conf.specs.declared.conf.IndexConf.{IndexConf};
 ghost use Rattle.doc_search.specs.Searches.{IsAskedOf};
 ghost use Rattle.ql_tree.specs.declared.select.Select.{Select};
 ghost use Rattle.ql_select.specs.declared.selection.Selection.{Selection};
 ghost use Rattle.ql_refusals.specs.Refusals.{Refused};
+ghost use Rattle.ql_select.specs.declared.first_fault.Fault.{Fault};
+ghost use Rattle.ql_select.specs.Faults.{faults_of, select_fault};
+ghost use Rattle.ql_select.specs.FirstFaults.{IsFirstFault};
 ghost use Rattle.ql_select.specs.Selections.{RefusesSelection, Selects};
 
 use query_read::{
@@ -14,7 +18,14 @@ use query_read::{
 
 /// What a SELECT means is a question to the index that it names: a search over rows of its columns answers it.
 pub fn a_selection_is_asked_of_its_index()
-    ensures { (conf : IndexConf) (select : Select) (selection : Selection) → IsSchema conf.schema → Selects conf select selection → IsAskedOf conf.schema selection.question }
+    ensures { (conf : IndexConf) (select : Select) (selection : Selection) → IsSchema conf.schema → Selects conf select selection → IsAskedOf conf.schema selection.asked.question }
+{}
+
+/// The fault that decides is one of all that are wrong with a SELECT, and the first of them by class and place; and where nothing
+/// decides, nothing is wrong.
+pub fn a_refusal_is_the_first_fault()
+    ensures first { (schema : Schema) (select : Select) (fault : Fault) → select_fault schema select ≡ Some fault → IsFirstFault (faults_of schema select) fault }
+    ensures none { (schema : Schema) (select : Select) → select_fault schema select ≡ None → faults_of schema select ≡ [] }
 {}
 
 /// A SELECT means one thing or is refused for one reason, and never both.

@@ -1,17 +1,18 @@
 //! The limits of a SELECT, and its page. "SELECT syntax" of the manual: LIMIT and the option `max_matches`.
 ghost use Rattle.std.specs.Prelude.{◌≡◌, ◌≤◌, ◌<◌, ◌^◌, ◌-◌, min};
-ghost use Rattle.std.specs.List.{count_by, sum_by};
-ghost use Rattle.ql_select.specs.Faults.{is_match, limits_fault, page_fault, width};
+ghost use Rattle.std.specs.List.{count_by, list_any, sum_by};
+ghost use Rattle.ql_select.specs.Facets.{is_count};
+ghost use Rattle.ql_select.specs.Faults.{has_groups, is_aggregate, is_match, limits_fault, lists_aggregate, lists_key, page_fault, sizes_fault, wants_column, wants_groups, width};
 ghost use Rattle.ql_select.specs.Options.{max_matches_of};
 ghost use Rattle.ql_select.specs.Parts.{limits, page_of};
 
 use crate::options::max_matches_of;
 use doc_types::Schema;
 use ql_refusals::{
-    Refusal, max_matches_out_of_range, offset_not_below, second_match, too_many_columns,
-    too_many_sort_keys,
+    Refusal, group_by_missing, max_matches_out_of_range, offset_not_below, second_match,
+    too_many_columns, too_many_facets, too_many_sort_keys,
 };
-use ql_tree::{Cond, LimitPart, Select, SelectItem};
+use ql_tree::{Cond, LimitPart, Select, SelectExpr, SelectItem, SortKey, SortName};
 use row_select::Page;
 
 /// The most columns of a result set.
@@ -20,7 +21,10 @@ pub const MAX_COLUMNS: usize = 128;
 /// The most keys of an order.
 pub const MAX_SORT_KEYS: usize = 5;
 
-/// The most rows that `max_matches` lets exist for the page.
+/// The most facets of a SELECT.
+pub const MAX_FACETS: usize = 16;
+
+/// The most rows or groups that `max_matches` lets exist for the page.
 pub const MAX_MATCHES: u64 = 100_000;
 
 /// The rows that are shown where no LIMIT says how many.
@@ -33,16 +37,109 @@ pub(crate) fn limits_fault(schema: &Schema, select: &Select) -> Option<Refusal>
     if count_matches(select.conds.as_slice()) > 1 {
         return Some(second_match());
     }
-    if count_columns(schema, select.items.as_slice()) > MAX_COLUMNS {
-        return Some(too_many_columns());
+    if !has_groups(select) {
+        return Some(group_by_missing());
     }
-    if select.order.len() > MAX_SORT_KEYS {
-        return Some(too_many_sort_keys());
+    if let Some(refusal) = sizes_fault(schema, select) {
+        return Some(refusal);
     }
     page_fault(
         limits(select.limit).0,
         max_matches_of(select.options.as_slice()),
     )
+}
+
+/// Which part of a SELECT is longer than it may be.
+fn sizes_fault(schema: &Schema, select: &Select) -> Option<Refusal>
+    ensures { result ≡ sizes_fault schema.now select.now }
+{
+    if count_columns(schema, select.items.as_slice()) > MAX_COLUMNS {
+        Some(too_many_columns())
+    } else if select.order.len() > MAX_SORT_KEYS || select.within.len() > MAX_SORT_KEYS {
+        Some(too_many_sort_keys())
+    } else if select.facets.len() > MAX_FACETS {
+        Some(too_many_facets())
+    } else {
+        None
+    }
+}
+
+/// Whether GROUP BY is there where it is wanted.
+fn has_groups(select: &Select) -> bool
+    ensures { result ≡ has_groups select.now }
+{
+    if select.group.is_some() {
+        return true;
+    }
+    !wants_column(select) && (!wants_groups(select) || has_aggregate(select.items.as_slice()))
+}
+
+/// Whether the SELECT speaks of the groups of a column.
+fn wants_column(select: &Select) -> bool
+    ensures { result ≡ wants_column select.now }
+{
+    select.within.len() != 0 || has_key(select.items.as_slice())
+}
+
+/// Whether the SELECT speaks of groups, be it of one of all rows.
+fn wants_groups(select: &Select) -> bool
+    ensures { result ≡ wants_groups select.now }
+{
+    select.having.is_some() || orders_count(select.order.as_slice())
+}
+
+fn has_key(items: &[SelectItem]) -> bool
+    ensures { result ≡ list_any lists_key items.now }
+{
+    items.iter().any(|item| lists_key(item))
+}
+
+fn has_aggregate(items: &[SelectItem]) -> bool
+    ensures { result ≡ list_any lists_aggregate items.now }
+{
+    items.iter().any(|item| lists_aggregate(item))
+}
+
+fn orders_count(keys: &[SortKey]) -> bool
+    ensures { result ≡ list_any (λ key. is_count key.by) keys.now }
+{
+    keys.iter().any(|key| is_count(key))
+}
+
+fn lists_key(item: &SelectItem) -> bool
+    ensures { result ≡ lists_key item.now }
+{
+    matches!(
+        item,
+        SelectItem::One {
+            expr: SelectExpr::GroupBy,
+            ..
+        }
+    )
+}
+
+fn lists_aggregate(item: &SelectItem) -> bool
+    ensures { result ≡ lists_aggregate item.now }
+{
+    match item {
+        SelectItem::All => false,
+        SelectItem::One { expr, .. } => is_aggregate(expr),
+    }
+}
+
+fn is_aggregate(expr: &SelectExpr) -> bool
+    ensures { result ≡ is_aggregate expr.now }
+{
+    !matches!(
+        expr,
+        SelectExpr::Column(_) | SelectExpr::Weight | SelectExpr::GroupBy
+    )
+}
+
+fn is_count(key: &SortKey) -> bool
+    ensures { result ≡ is_count key.now.by }
+{
+    matches!(key.by, SortName::CountAll)
 }
 
 /// How many conditions are a MATCH.
@@ -93,7 +190,7 @@ fn page_fault(offset: u64, max_matches: u64) -> Option<Refusal>
 }
 
 /// How many rows are passed over, and how many follow at most.
-fn limits(part: Option<LimitPart>) -> (u64, u64)
+pub(crate) fn limits(part: Option<LimitPart>) -> (u64, u64)
     ensures { result ≡ limits part }
 {
     match part {

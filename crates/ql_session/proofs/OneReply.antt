@@ -48,9 +48,10 @@ module _
   one_reply confs old statement event a b x y layers (inl (r, refuses, is, says, stays)) (inr (inr (takes, is', says', stays'))) = absurd (two_events event is is')
   one_reply confs old statement event a b x y layers (inr (inl (plan, wants, meets, decides, next))) (inl (r, refuses, is, says, stays)) = absurd (never_both confs old statement plan r wants refuses)
   one_reply confs old statement event a b x y layers (inr (inl (plan, wants, meets, decides, next))) (inr (inl (other, wants', meets', decides', next'))) =
-      let same : other ≡ plan = one_plan confs old statement other plan wants' wants in (
-        one_decided plan (told documents event) (told documents event) a b (alike_itself plan (told documents event) layers) decides (subst (λ (p : Plan). Decides p (told documents event) b) same decides'),
-        next ∙ ap (λ (p : Plan). next_of p (told documents event) old) (sym same) ∙ sym next',
+      let same : other ≡ plan = one_plan confs old statement other plan wants' wants in
+      let says : a ≡ b = one_decided plan (told documents event) (told documents event) a b (alike_itself plan (told documents event) layers) decides (subst (λ (p : Plan). Decides p (told documents event) b) same decides') in (
+        says,
+        next ∙ ap (λ (p : Plan). next_of p (told documents event) a old) (sym same) ∙ ap (λ (r : Reply). next_of other (told documents event) r old) says ∙ sym next',
       )
   one_reply confs old statement event a b x y layers (inr (inl (plan, wants, meets, decides, next))) (inr (inr (takes, is, says, stays))) =
       absurd (never_met F (need_of plan) (pending_of old plan) (subst (λ (e : Event F). Meets (need_of plan) (pending_of old plan) e) is meets))

@@ -95,6 +95,7 @@ good confs state statements.ShowTables plan wants = (inr tt, sound_as confs stat
 good confs state statements.ShowWarnings plan wants = (inr tt, sound_as confs state plan (Show _) wants tt)
 good confs state statements.ShowVariables plan wants = (inr tt, sound_as confs state plan (Show _) wants tt)
 good confs state statements.ShowDatabases plan wants = (inr tt, sound_as confs state plan (Show _) wants tt)
+good confs state statements.ShowMeta plan wants = (inr tt, sound_as confs state plan (Show _) wants tt)
 good confs state statement plan wants = absurd wants
 
 -- such a statement takes memory where something is asked for

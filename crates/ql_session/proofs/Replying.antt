@@ -130,7 +130,7 @@ can_read confs state (Search at selection) place front conf e sound here schema 
     let same : at ≡ place = cc in
     let both : Some sound.0 ≡ Some conf = sym (subst (λ (p : ℕ). slice_get confs p ≡ Some sound.0) same sound.1) ∙ here in
     let is : sound.0 ≡ conf = ap (λ (o : Option IndexConf). unwrap_or o conf) both in
-    (conf.schema, subst (λ (c : IndexConf). IsSchema c.schema → IsAskedOf c.schema selection.question) is sound.2 schema, rows)
+    (conf.schema, subst (λ (c : IndexConf). IsSchema c.schema → IsAskedOf c.schema selection.asked.question) is sound.2 schema, rows)
 can_read confs state (Status at) place front conf e sound here schema rows = tt
 can_read confs state (Keep at txn affected) place front conf e sound here schema rows = absurd cc
 can_read confs state (Put at txn counted) place front conf e sound here schema rows = absurd cc
@@ -181,7 +181,7 @@ is_pending confs statement standing place at =
 
 -- ---- what was said
 -- after want of memory the session is as before
-same_after : (plan : Plan) (state : State) → next_of plan happenings.NoMemory state ≡ state
+same_after : (plan : Plan) (state : State) → next_of plan happenings.NoMemory (Fails no_memory) state ≡ state
 same_after (Agree turn) state = refl
 same_after (Show set) state = refl
 same_after (Search place selection) state = refl
@@ -269,7 +269,10 @@ module _ {D F : Type 0} (confs : D → List IndexConf) (words : StoreWords D F) 
       let (reply, says, put) = said_of standing at.plan happenings.NoMemory more new out longer at.at replies in
       let takes : TakesMemory standing.state statement = takes_by_need (confs before) standing.state statement at.plan at.wants (λ none. some (sym at.is ∙ none)) in
       let told : (reply ≡ Fails no_memory) × (new ≡ standing.state) = elim says [
-        | inl h ↦ (without_memory at.plan reply h.0, h.1 ∙ same_after at.plan standing.state)
+        | inl h ↦ (
+          without_memory at.plan reply h.0,
+          h.1 ∙ ap (λ (r : Reply). next_of at.plan happenings.NoMemory r standing.state) (without_memory at.plan reply h.0) ∙ same_after at.plan standing.state,
+        )
         | inr h ↦ (h.1, h.2)
       ] in
       runs_want before after standing.state new statement reply more out longer takes told.0 told.1 settles same put

@@ -203,7 +203,7 @@ module _
       (one_refusal : (confs : List IndexConf) (state : State) (statement : Statement) (a b : Refused) → Refuses confs state statement a → Refuses confs state statement b → a ≡ b)
       (never_both : (confs : List IndexConf) (state : State) (statement : Statement) (plan : Plan) (refusal : Refused) → Wants confs state statement plan → Refuses confs state statement refusal → ⊥)
       (one_decided : (plan : Plan) (happened other : Happened) (a b : Reply) → AreAlike plan happened other → Decides plan happened a → Decides plan other b → a ≡ b)
-      (one_next : (plan : Plan) (happened other : Happened) (state : State) → AreAlike plan happened other → next_of plan happened state ≡ next_of plan other state) where
+      (one_next : (plan : Plan) (happened other : Happened) (reply : Reply) (state : State) → AreAlike plan happened other → next_of plan happened reply state ≡ next_of plan other reply state) where
     one_reply : (confs : List IndexConf) (state : State) (statement : Statement) (event event' : Event) (a b : Reply) (x y : State) (old old' new new' : Tables) → Alike old old' → event ≢ NoMemory → event' ≢ NoMemory
         → RepliesTo confs state statement event a x → RepliesTo confs state statement event' b y → Follows old event new → Follows old' event' new' → (a ≡ b) × (x ≡ y) × HaveSameRows new new'
     one_reply confs state statement event event' a b x y old old' new new' alike memory memory' (inl (r, refuses, is, says, stays)) (inl (s, refuses', is', says', stays')) follows follows' = (
@@ -218,9 +218,11 @@ module _
     one_reply confs state statement event event' a b x y old old' new new' alike memory memory' (inr (inl (plan, wants, meets, decides, next))) (inr (inl (other, wants', meets', decides', next'))) follows follows' =
         let same : other ≡ plan = one_plan confs state statement other plan wants' wants in
         let it : Meets (need_of plan) (pending_of state plan) event' = subst (λ (p : Plan). Meets (need_of p) (pending_of state p) event') same meets' in
-        let both = met_alike (need_of plan) (pending_of state plan) event event' old old' new new' alike meets it follows follows' in (
-          one_decided plan (tells event) (tells event') a b (both.alike plan) decides (subst (λ (p : Plan). Decides p (tells event') b) same decides'),
-          next ∙ one_next plan (tells event) (tells event') state (both.alike plan) ∙ ap (λ (p : Plan). next_of p (tells event') state) (sym same) ∙ sym next',
+        let both = met_alike (need_of plan) (pending_of state plan) event event' old old' new new' alike meets it follows follows' in
+        let says : a ≡ b = one_decided plan (tells event) (tells event') a b (both.alike plan) decides (subst (λ (p : Plan). Decides p (tells event') b) same decides') in (
+          says,
+          next ∙ one_next plan (tells event) (tells event') a state (both.alike plan) ∙ ap (λ (p : Plan). next_of p (tells event') a state) (sym same)
+              ∙ ap (λ (r : Reply). next_of other (tells event') r state) says ∙ sym next',
           both.rows,
         )
     one_reply confs state statement event event' a b x y old old' new new' alike memory memory' (inr (inr (takes, is, says, stays))) replies follows follows' = absurd (memory is)

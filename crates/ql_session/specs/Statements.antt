@@ -64,7 +64,7 @@ IsRefused confs old statement event reply new =
 abbrev pub IsMet : {F : Type 0} → (F → SnapshotValue) → List IndexConf → State → Statement → Event F → Reply → State → Type 0
 IsMet documents confs old statement event reply new =
     (plan : Plan) × Wants confs old statement plan × Meets (need_of plan) (pending_of old plan) event
-    × Decides plan (told documents event) reply × (new ≡ next_of plan (told documents event) old)
+    × Decides plan (told documents event) reply × (new ≡ next_of plan (told documents event) reply old)
 
 -- The statement takes memory, and that was refused.
 abbrev pub IsWithoutMemory : {F : Type 0} → State → Statement → Event F → Reply → State → Type 0

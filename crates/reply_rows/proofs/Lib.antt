@@ -2,3 +2,5 @@
 pub mod Numbering
 -- how long the shortest replies are
 pub mod Short
+-- result sets one after another
+pub mod Following

@@ -3,18 +3,19 @@
 //! What was done is answered OK, and what can't be done is refused, also where no memory is left. So the buffer has room
 //! kept in it: 1,024 bytes hold 32 OKs of 24 bytes at most and a refusal of 256. Result sets take memory, and leave the
 //! room as they found it.
-ghost use Rattle.std.specs.Prelude.{◌≡◌, ◌+◌, ◌-◌, ◌%◌, ◌≤◌, [], ◌∷◌, ◌++◌, IfOk, OnOk, OnErr, false, true, length, vec_capacity};
+ghost use Rattle.std.specs.Prelude.{◌≡◌, ◌+◌, ◌-◌, ◌%◌, ◌≤◌, [], ◌∷◌, ◌++◌, IfOk, OnOk, OnErr, false, true, length, map, vec_capacity};
 ghost use Rattle.mysql_wire.specs.Replies.{ok_payload, err_payload, eof_payload};
-ghost use Rattle.reply_rows.specs.ResultSets.{set_payloads};
+ghost use Rattle.reply_rows.specs.ResultSets.{sets_payloads};
 ghost use Rattle.reply_rows.specs.Written.{IsOpen, begun, then_reply};
 
 use crate::result_set::ResultSet;
 use crate::table::Table;
-use crate::writing::append_table;
+use crate::writing::append_tables;
 use mysql_wire::{Small, eof_packet, err_packet, ok_packet};
 use srch_base::NoMemory;
 use std::alloc::Global;
 use std::marker::Model;
+use std::slice;
 
 /// The size that the buffer begins with, in bytes.
 const ROOM: usize = 1024;
@@ -150,25 +151,26 @@ impl Replies {
     /// A result set. After an `Err` the replies are as they were.
     pub fn put_set(&mut self, alloc: Global, set: &ResultSet, status: u16) -> Result<(), NoMemory>
         requires { IsOpen self.old }
-        ensures ok { OnOk result (self.new ≡ then_reply self.old (set_payloads status set.now) false) }
+        ensures ok { OnOk result (self.new ≡ then_reply self.old (sets_payloads status (set.now ∷ [])) false) }
         ensures err { OnErr result (self.new ≡ self.old) }
     {
-        self.put_table(alloc, set, status)
+        self.put_tables(alloc, slice::from_ref(set), status)
     }
 
-    /// What is shown as a result set. One buffer serves all payloads, so that a row takes no memory of its own. After an `Err`
-    /// the replies are as they were.
-    pub fn put_table<T: Table>(
+    /// What is shown as result sets, one after another, as one reply: all but the last say by their status that another follows.
+    /// One buffer serves all payloads of a set, so that a row takes no memory of its own. After an `Err` the replies are as they
+    /// were.
+    pub fn put_tables<T: Table>(
         &mut self,
         alloc: Global,
-        table: &T,
+        tables: &[T],
         status: u16,
     ) -> Result<(), NoMemory>
         requires { IsOpen self.old }
-        ensures ok { OnOk result (self.new ≡ then_reply self.old (set_payloads status (T.set table.now)) false) }
+        ensures ok { OnOk result (self.new ≡ then_reply self.old (sets_payloads status (map T.set tables.now)) false) }
         ensures err { OnErr result (self.new ≡ self.old) }
     {
-        self.next = append_table(alloc, table, self.next, status, &mut self.out)?;
+        self.next = append_tables(alloc, tables, self.next, status, &mut self.out)?;
         self.room -= 1;
         Ok(())
     }

@@ -1,9 +1,9 @@
 //! The packets of result sets.
-ghost use Rattle.std.specs.Prelude.{◌≡◌, ◌+◌, ◌≤◌, ◌++◌, [], ◌∷◌, map, OnOk, OnErr, IfOk, vec_len, vec_capacity};
+ghost use Rattle.std.specs.Prelude.{◌≡◌, ◌+◌, ◌≤◌, ◌++◌, [], ◌∷◌, map, OnOk, OnErr, IfOk, vec_len, vec_capacity, if◌then◌else◌};
 ghost use Rattle.mysql_wire.specs.Replies.{eof_payload};
 ghost use Rattle.mysql_wire.specs.Packets.{packets_from, sequence_after};
 ghost use Rattle.mysql_wire.specs.Rows.{column_payload, row_payload};
-ghost use Rattle.reply_rows.specs.ResultSets.{set_payloads};
+ghost use Rattle.reply_rows.specs.ResultSets.{followed, set_payloads, sets_payloads};
 ghost use Rattle.reply_rows.specs.steps.Appending.{Appends};
 
 use crate::table::Table;
@@ -14,25 +14,26 @@ use std::alloc::Global;
 /// A payload of this many bytes would go on in another packet, so none reaches it ("Sending More Than 16Mb").
 const SPLIT_LENGTH: usize = 16_777_215;
 
-/// Appends what is shown as a result set, its packets numbered on from `seq`, and gives the number of the packet after them. After
-/// an `Err` the bytes are as they were; the spare room afterwards is at least what it was before.
+/// Appends what is shown as result sets, one after another, their packets numbered on from `seq`, and gives the number of the
+/// packet after them. All but the last say by their status that another follows. After an `Err` the bytes are as they were; the
+/// spare room afterwards is at least what it was before.
 ///
-/// One buffer serves all payloads, so that a row takes no memory of its own.
-pub(crate) fn append_table<T: Table>(
+/// One buffer serves all payloads of a set, so that a row takes no memory of its own.
+pub(crate) fn append_tables<T: Table>(
     alloc: Global,
-    table: &T,
+    tables: &[T],
     seq: u8,
     status: u16,
     out: &mut Vec<u8>,
 ) -> Result<u8, NoMemory>
-    ensures ok { IfOk result (λ next. (next ≡ sequence_after seq (set_payloads status (T.set table.now))) × (out.new.items ≡ out.old.items ++ packets_from seq (set_payloads status (T.set table.now)))) }
+    ensures ok { IfOk result (λ next. (next ≡ sequence_after seq (sets_payloads status (map T.set tables.now))) × (out.new.items ≡ out.old.items ++ packets_from seq (sets_payloads status (map T.set tables.now)))) }
     ensures err { OnErr result (out.new.items ≡ out.old.items) }
     ensures room { vec_capacity out.old + vec_len out.new ≤ vec_capacity out.new + vec_len out.old }
     ensures capacity { vec_capacity out.old ≤ vec_capacity out.new }
 {
     let before = out.len();
     let spare = out.capacity() - before;
-    match write_and_reserve(alloc, table, seq, status, spare, out) {
+    match write_and_reserve(alloc, tables, seq, status, spare, out) {
         Ok(next) => Ok(next),
         Err(NoMemory) => {
             out.truncate(before);
@@ -43,19 +44,58 @@ pub(crate) fn append_table<T: Table>(
 
 fn write_and_reserve<T: Table>(
     alloc: Global,
-    table: &T,
+    tables: &[T],
     seq: u8,
     status: u16,
     spare: usize,
     out: &mut Vec<u8>,
 ) -> Result<u8, NoMemory>
-    ensures appends { Appends result seq (set_payloads status (T.set table.now)) out.old.items out.new.items }
+    ensures appends { Appends result seq (sets_payloads status (map T.set tables.now)) out.old.items out.new.items }
     ensures room { OnOk result (vec_len out.new + spare ≤ vec_capacity out.new) }
     ensures capacity { vec_capacity out.old ≤ vec_capacity out.new }
 {
-    let next = write_set(alloc, table, seq, status, out)?;
+    let next = write_sets(alloc, tables, seq, status, out)?;
     out.reserve_exact(spare)?;
     Ok(next)
+}
+
+/// Appends result sets, or a prefix of their packets. It calls itself once for each.
+fn write_sets<T: Table>(
+    alloc: Global,
+    tables: &[T],
+    seq: u8,
+    status: u16,
+    out: &mut Vec<u8>,
+) -> Result<u8, NoMemory>
+    ensures appends { Appends result seq (sets_payloads status (map T.set tables.now)) out.old.items out.new.items }
+    ensures capacity { vec_capacity out.old ≤ vec_capacity out.new }
+{
+    match tables.split_first() {
+        None => Ok(seq),
+        Some((table, rest)) => {
+            let own = own_status(status, rest.is_empty());
+            let next = write_set(alloc, table, seq, own, out)?;
+            write_sets(alloc, rest, next, status, out)
+        }
+    }
+}
+
+/// The status of a result set: that of the last one, or one that says that another follows.
+fn own_status(status: u16, last: bool) -> u16
+    ensures { result ≡ if last then status else followed status }
+{
+    if last { status } else { followed(status) }
+}
+
+/// A status that also says that another result set follows.
+fn followed(status: u16) -> u16
+    ensures { result ≡ followed status }
+{
+    if status >> 3 & 1 == 1 {
+        status
+    } else {
+        status + 8
+    }
 }
 
 /// Appends a result set, or a prefix of its packets.

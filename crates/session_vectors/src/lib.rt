@@ -6,6 +6,18 @@ mod commands;
 #[cfg(test)]
 mod finding;
 #[cfg(test)]
+mod groups;
+#[cfg(test)]
+mod groups_documents;
+#[cfg(test)]
+mod groups_facets;
+#[cfg(test)]
+mod groups_made;
+#[cfg(test)]
+mod groups_refused;
+#[cfg(test)]
+mod groups_shown;
+#[cfg(test)]
 mod inserting;
 #[cfg(test)]
 mod lines;

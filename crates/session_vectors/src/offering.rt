@@ -4,7 +4,6 @@ use std::test::Fail;
 
 /// Statements of the grammar that aren't offered yet, and the refusals that come before that.
 const NOT_OFFERED: &str = r#"
-SHOW META ⇒ ERR 1064 42000 not offered yet
 FLUSH RAMCHUNK rt ⇒ ERR 1064 42000 not offered yet
 FLUSH RTINDEX rt ⇒ ERR 1064 42000 not offered yet
 OPTIMIZE INDEX rt ⇒ ERR 1064 42000 not offered yet
@@ -12,13 +11,8 @@ FLUSH RAMCHUNK nosuch ⇒ ERR 1064 42000 unknown index 'nosuch'
 FLUSH RTINDEX nosuch ⇒ ERR 1064 42000 unknown index 'nosuch'
 OPTIMIZE INDEX nosuch ⇒ ERR 1064 42000 unknown index 'nosuch'
 FLUSH RAMCHUNK other ⇒ ERR 1064 42000 not offered yet
-SELECT id FROM rt WHERE MATCH('a') GROUP BY gid ⇒ ERR 1064 42000 not offered yet
-SELECT id FROM rt WHERE MATCH('a') FACET gid ⇒ ERR 1064 42000 not offered yet
-SELECT COUNT(*) FROM rt ⇒ ERR 1064 42000 not offered yet
 FLUSH RTINDEX other ⇒ ERR 1064 42000 not offered yet
 OPTIMIZE INDEX other ⇒ ERR 1064 42000 not offered yet
-SELECT id FROM rt WHERE MATCH('a') WITHIN GROUP ORDER BY id ⇒ ERR 1064 42000 not offered yet
-SELECT id FROM rt WHERE MATCH('a') HAVING id > 1 ⇒ ERR 1064 42000 not offered yet
 "#;
 
 #[test]
@@ -28,6 +22,12 @@ fn other_statements_are_not_offered_yet(rt: HostRuntime) -> Result<(), Fail> {
 
 /// SELECTs of an index without documents, and their refusals.
 const WITHOUT_DOCUMENTS: &str = r#"
+SHOW META ⇒ Variable_name, Value
+SELECT id FROM rt WHERE MATCH('a') GROUP BY gid ⇒ id
+SELECT id FROM rt WHERE MATCH('a') FACET gid ⇒ id; gid, count(*)
+SELECT id FROM rt WHERE MATCH('a') WITHIN GROUP ORDER BY id ⇒ ERR 1064 42000 GROUP BY is missing
+SELECT id FROM rt WHERE MATCH('a') HAVING id > 1 ⇒ ERR 1064 42000 GROUP BY is missing
+SELECT COUNT(*) FROM rt ⇒ count(*)
 SELECT id FROM rt ⇒ id
 SELECT id FROM nosuch ⇒ ERR 1064 42000 unknown index 'nosuch'
 SELECT * FROM nosuch WHERE MATCH('a') ⇒ ERR 1064 42000 unknown index 'nosuch'

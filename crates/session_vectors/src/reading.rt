@@ -162,17 +162,33 @@ fn kind_by_name(name: &[u8]) -> ColumnKind {
             return kind;
         }
     }
+    for (start, kind) in CALLS {
+        if name.starts_with(start.as_bytes()) {
+            return kind;
+        }
+    }
     ColumnKind::Text
 }
 
 /// The columns of the index `rt` with their kinds. What SHOW and DESCRIBE show is text.
-const KINDS: [(&str, ColumnKind); 6] = [
+const KINDS: [(&str, ColumnKind); 10] = [
     ("id", ColumnKind::Unsigned),
     ("weight()", ColumnKind::Unsigned),
+    ("count(*)", ColumnKind::Unsigned),
+    ("min(id)", ColumnKind::Unsigned),
+    ("max(id)", ColumnKind::Unsigned),
+    ("groupby()", ColumnKind::Whole),
     ("gid", ColumnKind::Uint),
     ("price", ColumnKind::Whole),
     ("flag", ColumnKind::Uint),
     ("seen", ColumnKind::Uint),
+];
+
+/// The functions of columns with their kinds, by how their names begin; a sum is text.
+const CALLS: [(&str, ColumnKind); 3] = [
+    ("count(distinct ", ColumnKind::Unsigned),
+    ("min(", ColumnKind::Whole),
+    ("max(", ColumnKind::Whole),
 ];
 
 fn kind_text(kind: ColumnKind) -> &'static [u8] {

@@ -51,34 +51,6 @@ SELECT id FROM rt OPTION ranker ⇒ ERR 1064 42000 syntax error at 31
 SELECT WEIGHT(*) FROM rt ⇒ ERR 1064 42000 syntax error at 14
 SELECT ID() FROM rt ⇒ ERR 1064 42000 syntax error at 9
 SELECT id AS `weight()` FROM rt ⇒ ERR 1064 42000 bad character at 13
-SELECT COUNT(*) FROM rt ⇒ ERR 1064 42000 not offered yet
-SELECT COUNT(DISTINCT gid) FROM rt ⇒ ERR 1064 42000 not offered yet
-SELECT MIN(gid) FROM rt ⇒ ERR 1064 42000 not offered yet
-SELECT id, MAX(price) AS m FROM rt ⇒ ERR 1064 42000 not offered yet
-SELECT SUM(price) FROM rt ⇒ ERR 1064 42000 not offered yet
-SELECT GROUPBY() FROM rt ⇒ ERR 1064 42000 not offered yet
-SELECT id FROM rt GROUP BY gid ⇒ ERR 1064 42000 not offered yet
-SELECT id FROM rt WITHIN GROUP ORDER BY id ⇒ ERR 1064 42000 not offered yet
-SELECT id FROM rt HAVING id > 1 ⇒ ERR 1064 42000 not offered yet
-SELECT id FROM rt HAVING COUNT(*) > 1 ⇒ ERR 1064 42000 not offered yet
-SELECT id FROM rt ORDER BY COUNT(*) ⇒ ERR 1064 42000 not offered yet
-SELECT id FROM rt ORDER BY id, COUNT(*) DESC ⇒ ERR 1064 42000 not offered yet
-SELECT id FROM rt FACET gid ⇒ ERR 1064 42000 not offered yet
-SELECT id FROM rt FACET gid ORDER BY COUNT(*) DESC LIMIT 2, 3 ⇒ ERR 1064 42000 not offered yet
-SELECT id FROM rt FACET id FACET id FACET id FACET id FACET id FACET id FACET id FACET id FACET id FACET id FACET id FACET id FACET id FACET id FACET id FACET id FACET id ⇒ ERR 1064 42000 not offered yet
-SELECT COUNT(*) FROM other ⇒ ERR 1064 42000 not offered yet
-SELECT COUNT(*) FROM nosuch ⇒ ERR 1064 42000 not offered yet
-SELECT MIN(nosuch), SUM(title) FROM nosuch ⇒ ERR 1064 42000 not offered yet
-SELECT GROUPBY() FROM nosuch ⇒ ERR 1064 42000 not offered yet
-SELECT nosuch FROM nosuch GROUP BY nosuch ⇒ ERR 1064 42000 not offered yet
-SELECT id FROM nosuch WITHIN GROUP ORDER BY id ⇒ ERR 1064 42000 not offered yet
-SELECT id FROM nosuch HAVING x = 1 ⇒ ERR 1064 42000 not offered yet
-SELECT id FROM nosuch ORDER BY COUNT(*) ⇒ ERR 1064 42000 not offered yet
-SELECT id FROM nosuch OPTION nosuch=1 FACET nosuch ⇒ ERR 1064 42000 not offered yet
-SELECT COUNT(*) FROM rt OPTION nosuch=1 ⇒ ERR 1064 42000 not offered yet
-SELECT id, nosuch FROM rt GROUP BY gid ⇒ ERR 1064 42000 not offered yet
-SELECT title FROM rt FACET gid ⇒ ERR 1064 42000 not offered yet
-SELECT id FROM rt WHERE MATCH('"') ORDER BY COUNT(*) LIMIT 1000, 1 ⇒ ERR 1064 42000 not offered yet
 SELECT id FROM nosuch ⇒ ERR 1064 42000 unknown index 'nosuch'
 SELECT id FROM NoSuch ⇒ ERR 1064 42000 unknown index 'nosuch'
 SELECT id FROM `Select` ⇒ ERR 1064 42000 unknown index 'select'

@@ -1,5 +1,5 @@
 //! Texts and bytes as the tables write them: `⟨07 00⟩` are bytes. `⟨x × n⟩` is x written n times, with `, ` between, or with a
-//! blank where x ends with `;`. In it `#` is the number of the copy, from 1 on; `⟨x × m..n⟩` has the numbers from m to n.
+//! blank where x ends with `;` or begins with `FACET`. In it `#` is the number of the copy, from 1 on; `⟨x × m..n⟩` has the numbers from m to n.
 use itoa::Buffer;
 use std::alloc::Global;
 use std::test::Fail;
@@ -22,7 +22,8 @@ fn push_copies(bytes: &mut Vec<u8>, part: &str, numbers: &str) -> Result<(), Fai
     let (first, last) = numbers.split_once("..").unwrap_or(("1", numbers));
     let first = first.parse::<u32>().or(Err("no number"))?;
     let last = last.parse::<u32>().or(Err("no number"))?;
-    let between: &[u8] = if part.ends_with(';') { b" " } else { b", " };
+    let apart = part.ends_with(';') || part.starts_with("FACET");
+    let between: &[u8] = if apart { b" " } else { b", " };
     for at in first..=last {
         if at > first {
             bytes.extend_from_slice(between)?;

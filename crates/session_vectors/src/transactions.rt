@@ -1,4 +1,5 @@
 //! Runs scripts of packets and what is replied to them, as docs/cases/transactions.md tells it.
+use crate::groups_documents::DOCUMENTS;
 use crate::running::{Client, Clients, TWO, told_of, try_told};
 use crate::spelling::written_out;
 use crate::transactions_begun::BEGUN;
@@ -49,17 +50,39 @@ fn try_sent(alloc: Global, clients: &mut Clients, line: &str) -> Result<(), Fail
     }
 }
 
-/// Sends the packets of a script in new sessions over new indexes. Its first line is its name.
-fn try_script(alloc: Global, script: &str) -> Result<(), Fail> {
-    let mut clients = Clients::over(alloc, TWO)?;
+/// The packets that add the documents of this name, behind a line with it.
+fn documents(name: &str) -> Result<&'static str, Fail> {
+    for script in DOCUMENTS.split("\n# ").skip(1) {
+        if script.lines().next() == Some(name) {
+            return Ok(script);
+        }
+    }
+    Err("no such documents".into())
+}
+
+/// Sends the packets that stand behind the first line.
+fn try_packets(alloc: Global, clients: &mut Clients, script: &str) -> Result<(), Fail> {
     for line in script.lines().skip(1) {
-        try_sent(alloc, &mut clients, line)?;
+        try_sent(alloc, clients, line)?;
     }
     Ok(())
 }
 
+/// Sends the packets of a script in new sessions over new indexes, after those of the documents that it names. Its first line is
+/// its name.
+fn try_script(alloc: Global, script: &str) -> Result<(), Fail> {
+    let mut clients = Clients::over(alloc, TWO)?;
+    let (_, packets) = script.split_once('\n').ok_or("a script without packets")?;
+    let Some(over) = packets.strip_prefix("over ") else {
+        return try_packets(alloc, &mut clients, script);
+    };
+    let (over, _) = over.split_once('\n').ok_or("documents alone")?;
+    try_packets(alloc, &mut clients, documents(over)?)?;
+    try_packets(alloc, &mut clients, packets)
+}
+
 /// The same for each script of a table.
-fn try_table(alloc: Global, table: &str) -> Result<(), Fail> {
+pub(crate) fn try_table(alloc: Global, table: &str) -> Result<(), Fail> {
     for script in table.split("\n# ").skip(1) {
         try_script(alloc, script)?;
     }

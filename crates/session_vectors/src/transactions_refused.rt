@@ -158,10 +158,7 @@ A: FLUSH RAMCHUNK rt ⇒ ERR 1064 42000 not offered yet
 A: FLUSH RTINDEX other ⇒ ERR 1064 42000 not offered yet
 A: OPTIMIZE INDEX rt ⇒ ERR 1064 42000 not offered yet
 A: OPTIMIZE INDEX nosuch ⇒ ERR 1064 42000 unknown index 'nosuch'
-A: SHOW META ⇒ ERR 1064 42000 not offered yet
-A: SELECT COUNT(*) FROM rt ⇒ ERR 1064 42000 not offered yet
-A: SELECT id FROM nosuch FACET id ⇒ ERR 1064 42000 not offered yet
 A: COM_PING ⇒ 3: OK 0
-A: INSERT INTO rt (id) VALUES (2); SHOW META; COMMIT ⇒ 11: OK 1; ERR 1064 42000 not offered yet
+A: INSERT INTO rt (id) VALUES (2); FLUSH RTINDEX rt; COMMIT ⇒ 11: OK 1; ERR 1064 42000 not offered yet
 A: SELECT id FROM rt; COMMIT; SELECT id FROM rt ⇒ 11: id; OK 0; id | 1 | 2
 "#;

@@ -5,7 +5,7 @@ use Rattle.ql_answers.specs.declared.plan.Plan.{Plan}
 use Rattle.ql_answers.specs.declared.plan.Plan.TheVariants.{Keep}
 use Rattle.ql_answers.specs.declared.state.State.{State}
 use Rattle.ql_answers.specs.Replies.{Reply, replied}
-use Rattle.ql_answers.specs.Sessions.{Decides, Happened, NoMemory, Nothing, next_of, reply_takes_memory}
+use Rattle.ql_answers.specs.Sessions.{Decides, Happened, NoMemory, Nothing, after_plan, next_of, reply_takes_memory}
 use Rattle.ql_answers.specs.States.{status_of}
 use Rattle.ql_answers.specs.Transactions.{write_fault}
 
@@ -25,12 +25,12 @@ left_of plan happened = plan
 
 -- The state has turned as what happened says; or memory for what is kept was refused, and nothing has changed.
 abbrev pub Turned : {T E : Type 0} → Plan → Happened → Result T E → State → State → Plan → Type 0
-Turned plan happened (Ok done) before after left = (after ≡ next_of plan happened before) × (left ≡ left_of plan happened)
+Turned plan happened (Ok done) before after left = (after ≡ after_plan plan happened before) × (left ≡ left_of plan happened)
 Turned plan happened (Err e) before after left = (reply_takes_memory plan ≡ true) × (happened ≢ NoMemory) × (after ≡ before) × (left ≡ plan)
 
 -- The same with the reply that was written; or memory was refused, and nothing has changed.
 abbrev pub Answered : {T E : Type 0} → Plan → Happened → Bool → Result T E → State → State → Plan → Written → Written → Type 0
 Answered plan happened more (Ok done) before after left written now =
-    (reply : Reply) × Decides plan happened reply × (after ≡ next_of plan happened before) × (now ≡ replied written (status_of after more) reply)
+    (reply : Reply) × Decides plan happened reply × (after ≡ next_of plan happened reply before) × (now ≡ replied written (status_of after more) reply)
 Answered plan happened more (Err e) before after left written now =
     (reply_takes_memory plan ≡ true) × (happened ≢ NoMemory) × (after ≡ before) × (left ≡ plan) × (now ≡ written)

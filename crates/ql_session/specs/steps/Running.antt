@@ -37,7 +37,7 @@ ReadsText text (Err (causes.Fault refusal)) = RefusesText text refusal
 -- refused, and nothing changed.
 abbrev pub Says : Plan → State → Happened → Reply → State → Type 0
 Says plan old happened reply new =
-    (Decides plan happened reply × (new ≡ next_of plan happened old)) ⊎ ((reply_takes_memory plan ≡ true) × (reply ≡ Fails no_memory) × (new ≡ old))
+    (Decides plan happened reply × (new ≡ next_of plan happened reply old)) ⊎ ((reply_takes_memory plan ≡ true) × (reply ≡ Fails no_memory) × (new ≡ old))
 
 -- The session is at a statement, and this is what that needs.
 pub record IsAt (confs : List IndexConf) (statement : Statement) (standing : Standing) (need : Need) : Type 0 where

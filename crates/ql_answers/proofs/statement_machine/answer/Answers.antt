@@ -1,7 +1,7 @@
 use Rattle.std.proofs.Common.{subst, sym}
 use Rattle.ql_answers.specs.declared.plan.Plan.{Plan}
 use Rattle.ql_answers.specs.Sessions.{CanHave, happened_by}
-use Rattle.ql_answers.proofs.Turned.{answered, can_left}
+use Rattle.ql_answers.proofs.Turned.{answered, can_left, unanswered}
 use Rattle.ql_answers.proofs.statement_machine.answer.Goals as goal
 
 pub say-requires-clause-can : goal.say-requires-clause-can
@@ -12,5 +12,5 @@ say-requires-clause-can g c =
 
 pub returns : goal.returns
 returns g c =
-    answered c.args.plan.now c.turn.new.plan (happened_by c.args.event.now) c.args.more c.status.result c.args.state.now c.turn.new.state c.args.replies.now c.say.new.replies c.say.result
-    c.in_ok-turn.ensures.0 c.in_ok-turn.ensures.1 c.status.ensures c.say.ensures
+    answered c.args.plan.now c.turn.new.plan (happened_by c.args.event.now) c.args.more c.status.result c.in_ok-told.told c.args.state.now c.turn.new.state c.tell.new.self c.args.replies.now c.say.new.replies
+    c.in_ok-turn.ensures.0 c.in_ok-turn.ensures.1 c.status.ensures c.in_ok-told.ensures c.tell.ensures

@@ -1,9 +1,0 @@
-use Rattle.std.proofs.Common.{◌≡◌, ◌++◌, map, take}
-use Rattle.mysql_wire.specs.Rows.{row_payload}
-use Rattle.mysql_wire.specs.declared.rows.Cell.TheVariants.{Whole}
-use Rattle.row_select.specs.Columns.{column_value}
-use Rattle.ql_answers.proofs.found.put_cells.Given as goal
-
-abbrev pub invariant-columns : goal.invariant-columns
-invariant-columns l =
-    l.payload.items ≡ l.initial.payload.items ++ row_payload (map (λ one. Whole (column_value one.from l.row)) (take l.one-index l.shown))

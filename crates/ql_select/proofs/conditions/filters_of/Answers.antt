@@ -1,7 +1,0 @@
-use Rattle.std.proofs.Common.{arith}
-use Rattle.std.proofs.lemmas.Grind.{common_steps}
-use Rattle.std.proofs.lemmas.List.Elements.{filter_map-append}
-use Rattle.ql_select.proofs.conditions.filters_of.Goals as goal
-
-pub conds-preserved : goal.conds-preserved
-conds-preserved c = grind (arith, common_steps, filter_map-append)

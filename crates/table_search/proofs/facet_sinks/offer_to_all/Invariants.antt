@@ -1,0 +1,6 @@
+use Rattle.group_facet.proofs.Beside.{IsAmid}
+use Rattle.table_search.proofs.Offered.{GoesOn}
+use Rattle.table_search.proofs.facet_sinks.offer_to_all.Given as goal
+
+abbrev pub invariant-loop-counts : goal.invariant-loop-counts
+invariant-loop-counts l = IsAmid (GoesOn l.row) l.fn.list l.counts-index l.list
