@@ -1,12 +1,10 @@
-//! The program `searchd`: the top call over the standard streams.
+//! The program `searchd`: the top call over files, the standard streams and the network.
 #![tactic(auto)]
 
 ghost use Rattle.std.specs.Prelude.{◌≡◌};
 
+mod lent_doors;
 mod real_host;
-mod retrying;
-mod std_door;
-mod std_line;
 #[cfg(test)]
 mod tests;
 

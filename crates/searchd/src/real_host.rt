@@ -1,48 +1,55 @@
-//! The host of the program: files, the standard streams, and one door over them. What a file holds and where a print goes
-//! is trusted; what is proved is the count of faults, what is requested, given and handed back, and how much of a file is
-//! read.
-ghost use Rattle.std.specs.Prelude.{◌≡◌, ◌≤◌, ◌+◌, ◌++◌, [], Some, length, take, option_to_list, IfOk, IfSome};
+//! The host of the program: files, the standard streams, and doors over these streams or over a listener. What a file holds and
+//! where a print goes is trusted; what is proved is the count of faults, what is requested, given and handed back, and how much of a
+//! file is read.
+ghost use Rattle.std.specs.Prelude.{◌≡◌, ◌≤◌, ◌+◌, ◌++◌, [], Some, length, map, take, IfOk, IfSome};
+ghost use Rattle.std.specs.List.{All};
+ghost use Rattle.client_doors.specs.Fresh.{IsFresh};
 
-use crate::std_door::StdDoor;
+use crate::lent_doors::LentDoors;
+use client_doors::{ClientDoor, listening_doors, standard_door};
 use searchd_top::{Host, Requests, Stream};
 use srch_base::{Failed, OpenFault};
 use std::alloc::Global;
 use std::fs;
 use std::io::{self, ErrorKind, Read, Stderr, Stdin, Stdout, Write};
+use std::net::{Net, TcpListener, TcpStream};
 use std::rt::Files;
 
-/// The host of the program: files, the standard streams, and one door over them. It knows no text beforehand and
-/// doesn't record what is printed, but it records what is requested.
+/// The host of the program. It knows no text beforehand and doesn't record what is printed, but it records what is requested.
 #[derive(Drop)]
 pub struct RealHost<R> {
-    files: R,
+    outside: R,
     alloc: Global,
     input: Stdin,
     output: Stdout,
     errors: Stderr,
     requests: Requests,
-    gave: Option<StdDoor>,
-    back: Option<StdDoor>,
+    lent: LentDoors,
     faults: u64,
     out_faults: u64,
     error_faults: u64,
 }
 
 impl<R> RealHost<R> {
-    pub fn new(files: R, alloc: Global, input: Stdin, output: Stdout, errors: Stderr) -> RealHost<R>
-        ensures gave { option_to_list result.gave ≡ [] }
-        ensures back { option_to_list result.back ≡ [] }
+    pub fn new(
+        outside: R,
+        alloc: Global,
+        input: Stdin,
+        output: Stdout,
+        errors: Stderr,
+    ) -> RealHost<R>
+        ensures gave { result.lent.gave.items ≡ [] }
+        ensures back { result.lent.back.items ≡ [] }
         ensures requests { result.requests ≡ Some [] }
     {
         RealHost {
-            files,
+            outside,
             alloc,
             input,
             output,
             errors,
             requests: Requests::new(alloc),
-            gave: None,
-            back: None,
+            lent: LentDoors::new(alloc),
             faults: 0,
             out_faults: 0,
             error_faults: 0,
@@ -50,19 +57,19 @@ impl<R> RealHost<R> {
     }
 }
 
-impl<R: Files> Host for RealHost<R> {
-    ghost use Rattle.std.specs.Prelude.{None};
+impl<R: Files + Net<Listener = TcpListener, Stream = TcpStream>> Host for RealHost<R> {
+    ghost use Rattle.std.specs.Prelude.{None, map};
     ghost use Rattle.searchd_top.specs.Printing.{of_stream};
 
-    type Entry = StdDoor;
+    type Entry = ClientDoor;
 
     ghost text = { λ _ _. None };
 
     ghost printed = { λ _ _. None };
 
-    ghost doors_given = { λ host. option_to_list host.gave };
+    ghost doors_given = { λ host. map (λ door. door.value) host.lent.gave.items };
 
-    ghost doors_back = { λ host. option_to_list host.back };
+    ghost doors_back = { λ host. map (λ door. door.value) host.lent.back.items };
 
     ghost faults = { λ host. host.faults };
 
@@ -72,7 +79,7 @@ impl<R: Files> Host for RealHost<R> {
 
     fn read_text(&mut self, path: &str, limit: u32) -> Result<Vec<u8>, OpenFault> {
         self.requests.add_text(path);
-        match read_file(self.alloc, &self.files, path, limit) {
+        match read_file(self.alloc, &self.outside, path, limit) {
             Ok(bytes) => Ok(bytes),
             Err(error) if error.kind() == ErrorKind::OutOfMemory => Err(OpenFault::NoMemory),
             Err(_) => {
@@ -100,27 +107,45 @@ impl<R: Files> Host for RealHost<R> {
         }
     }
 
-    /// Fails but for one door over the standard streams, once.
-    fn doors(&mut self, listen: Option<&str>, n: u32) -> Result<Vec<StdDoor>, OpenFault> {
+    /// Fails but for doors over a listener, or for one over the standard streams, where no door was given before.
+    fn doors(&mut self, listen: Option<&str>, n: u32) -> Result<Vec<ClientDoor>, OpenFault> {
         self.requests.add_doors(listen, n);
-        if listen.is_some() || n != 1 || self.gave.is_some() {
-            self.faults = self.faults.saturating_add(1);
-            return Err(OpenFault::Failed);
+        match self.open_doors(listen, n) {
+            Ok(doors) => {
+                self.lent.give(doors.as_slice())?;
+                Ok(doors)
+            }
+            Err(error) if error.kind() == ErrorKind::OutOfMemory => Err(OpenFault::NoMemory),
+            Err(_) => {
+                self.faults = self.faults.saturating_add(1);
+                Err(OpenFault::Failed)
+            }
         }
-        let door = StdDoor::new(self.input, self.output);
-        let mut doors = Vec::new(self.alloc);
-        doors.push(door)?;
-        self.gave = Some(door);
-        Ok(doors)
     }
 
-    fn give_doors(&mut self, mut doors: Vec<StdDoor>)
-        requires { length (option_to_list self.old.back) + length doors.items ≤ length (option_to_list self.old.gave) }
-        ensures back { option_to_list self.new.back ≡ option_to_list self.old.back ++ doors.items }
-        ensures rest { self.new ≡ record self.old { back = self.new.back } }
+    fn give_doors(&mut self, doors: Vec<ClientDoor>)
+        requires { length (map (λ door. door.value) self.old.lent.back.items) + length doors.items ≤ length (map (λ door. door.value) self.old.lent.gave.items) }
+        ensures lent { map (λ door. door.value) self.new.lent.back.items ≡ map (λ door. door.value) self.old.lent.back.items ++ doors.items }
+        ensures gave { self.new.lent.gave.items ≡ self.old.lent.gave.items }
+        ensures rest { self.new ≡ record self.old { lent = self.new.lent } }
     {
-        if let Some(door) = doors.pop() {
-            self.back = Some(door);
+        self.lent.take_back(doors.as_slice());
+    }
+}
+
+impl<R: Net<Listener = TcpListener, Stream = TcpStream>> RealHost<R> {
+    /// So many doors over a listener at an address, or one over the standard streams.
+    fn open_doors(&self, listen: Option<&str>, n: u32) -> io::Result<Vec<ClientDoor>>
+        ensures { IfOk result (λ doors. (length doors.items ≡ n) × All IsFresh doors.items) }
+    {
+        match listen {
+            Some(address) => listening_doors(&self.outside, self.alloc, address, n),
+            None if n == 1 && self.lent.is_empty() => {
+                let mut doors = Vec::new(self.alloc);
+                doors.push(standard_door(self.alloc, self.input, self.output))?;
+                Ok(doors)
+            }
+            None => Err(io::Error::from(ErrorKind::AddrInUse)),
         }
     }
 }

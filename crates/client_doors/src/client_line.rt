@@ -1,32 +1,30 @@
-//! The connection over the standard streams, neither through a buffer: a reply is on its way when its write returns.
+//! The connection to one client.
 ghost use Rattle.std.specs.Prelude.{◌≡◌, false};
 
+use crate::client_stream::ClientStream;
 use crate::retrying;
 use srch_base::{Failed, Link};
-use std::io::{Stdin, Stdout};
 
-/// The connection over the standard streams: it reads standard input and writes standard output, neither through a buffer.
+/// The connection to one client.
 ///
 /// A read takes what is there. A read or a write that a signal interrupts is made again. The connection records no bytes.
-#[derive(Clone, Copy)]
-pub struct StdLine {
-    input: Stdin,
-    output: Stdout,
+#[derive(Drop)]
+pub struct ClientLine {
+    stream: ClientStream,
     ended: bool,
     read_faults: u64,
     write_faults: u64,
 }
 
-impl StdLine {
+impl ClientLine {
     /// The connection from its beginning: nothing was read or written over it.
-    pub fn new(input: Stdin, output: Stdout) -> StdLine
+    pub(crate) fn new(stream: ClientStream) -> ClientLine
         ensures open { result.ended ≡ false }
         ensures reads { result.read_faults ≡ 0 }
         ensures writes { result.write_faults ≡ 0 }
     {
-        StdLine {
-            input,
-            output,
+        ClientLine {
+            stream,
             ended: false,
             read_faults: 0,
             write_faults: 0,
@@ -34,7 +32,7 @@ impl StdLine {
     }
 }
 
-impl Link for StdLine {
+impl Link for ClientLine {
     ghost use Rattle.std.specs.Prelude.{None};
 
     ghost read_bytes = { λ _. None };
@@ -48,7 +46,7 @@ impl Link for StdLine {
     ghost write_faults = { λ line. line.write_faults };
 
     fn read(&mut self, into: &mut [u8]) -> Result<usize, Failed> {
-        match retrying::read(&mut self.input, into) {
+        match retrying::read(&mut self.stream, into) {
             Ok(count) => {
                 self.ended = self.ended || count == 0 && !into.is_empty();
                 Ok(count)
@@ -61,7 +59,7 @@ impl Link for StdLine {
     }
 
     fn write(&mut self, piece: &[u8]) -> Result<usize, Failed> {
-        match retrying::write(&mut self.output, piece) {
+        match retrying::write(&mut self.stream, piece) {
             Ok(count) if count > 0 || piece.is_empty() => Ok(count),
             _ => {
                 self.write_faults = self.write_faults.saturating_add(1);

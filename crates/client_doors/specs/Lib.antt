@@ -1,0 +1,2 @@
+-- doors at their beginning
+pub mod Fresh

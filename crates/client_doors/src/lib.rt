@@ -1,0 +1,15 @@
+//! Where the program's clients come from: the standard streams, or a listener over TCP that the doors of its workers share.
+#![tactic(auto)]
+
+mod client_door;
+mod client_line;
+mod client_stream;
+mod opening;
+mod retrying;
+#[cfg(test)]
+mod tests;
+
+pub use client_door::ClientDoor;
+pub use client_line::ClientLine;
+pub use client_stream::{ClientStream, PATIENCE_SECONDS};
+pub use opening::{listening_doors, standard_door};
