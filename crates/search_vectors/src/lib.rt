@@ -11,3 +11,5 @@ mod program;
 mod ranked;
 #[cfg(test)]
 mod requests;
+#[cfg(test)]
+mod selftest;

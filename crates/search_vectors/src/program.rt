@@ -18,7 +18,7 @@ const STATUSES: [(&str, usize, &[u32], Status, &[u8]); 17] = [
     ("serve --config f", 1, &[], Status::Usage, BAD),
     ("serve --config f --listen a", 1, &[], Status::Usage, BAD),
     ("check --config f", 1, &[], Status::Usage, BAD),
-    ("selftest --number 1 --docs 2", 1, &[], Status::Usage, BAD),
+    ("selftest --number 1 --docs 0", 1, &[], Status::Usage, BAD),
     ("session --config -f", 1, &[], Status::Usage, BAD),
     ("session --conf f", 1, &[], Status::Usage, BAD),
     ("session --config f g", 1, &[], Status::Usage, BAD),

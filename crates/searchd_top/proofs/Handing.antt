@@ -128,12 +128,12 @@ module _ {H D K : Type 0} (host : HostWords H D K) (door : DoorWords D K) (link 
       → SaysServing status door requests before now doors after → Says status texts (Some (session file)) door (ReadText file ∷ requests) before now doors after
   says_served texts file bytes conf Done requests before now doors after read is (asked, still, one, work) = (ap (λ (list : List Request). ReadText file ∷ list) asked, still, one, work)
   says_served texts file bytes conf HostFault requests before now doors after read is (asked, failed) =
-      inr (
+      inr (inl (
         conf.indexes,
         record { bytes = bytes; read = record { file = file; named = refl; read = read }; conf = conf; is = is; has = refl },
         ap (λ (list : List Request). ReadText file ∷ list) asked,
         failed,
-      )
+      ))
   says_served texts file bytes conf NoMemory requests before now doors after read is (count, asked) = (suc count, ap (λ (list : List Request). ReadText file ∷ list) asked)
   says_served texts file bytes conf Usage requests before now doors after read is says = absurd says
   says_served texts file bytes conf (Config line kind) requests before now doors after read is says = absurd says

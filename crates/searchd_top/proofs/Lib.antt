@@ -1,3 +1,5 @@
 pub mod Handing
 pub mod Copies
 pub mod Lines
+pub mod Outputs
+pub mod Words

@@ -7,7 +7,7 @@ abbrev pub built : Mode → Option Mode
 built (session config) = Some (session config)
 built (serve config listen workers sessions) = None
 built (check config) = None
-built (selftest number docs) = None
+built (selftest number docs) = Some (selftest number docs)
 
 -- the mode that the words ask for, none where they are no mode or one that isn't built
 abbrev pub asked : List (List ℕ) → Option Mode

@@ -6,6 +6,8 @@ pub mod Configuring
 pub mod Statuses
 -- what is printed on the two streams
 pub mod Printing
+-- what a run prints
+pub mod Output
 -- things that are given out and handed back
 pub mod Lending
 -- what a host is asked for

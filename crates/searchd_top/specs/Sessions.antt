@@ -1,5 +1,5 @@
 -- What a run does with its doors and connections, and why it ends so.
-use Rattle.std.specs.Prelude.{◌≡◌, ◌⊎◌, ℕ, ◌≤◌, List, [], ◌∷◌, ◌++◌, Option, true, length, take}
+use Rattle.std.specs.Prelude.{◌≡◌, ◌⊎◌, ℕ, ◌≤◌, List, [], ◌∷◌, ◌++◌, Option, Some, true, length, take}
 use Rattle.std.specs.List.{AllZip}
 use Rattle.srch_base.specs.Counts.{Rose}
 use Rattle.srch_base.specs.declared.link.Link.{Ghosts as LinkWords}
@@ -10,9 +10,10 @@ use Rattle.ql_session.specs.Machines.{FollowAll}
 use Rattle.ql_session.specs.Session.{Session}
 use Rattle.srch_base.specs.Moves.{Moves}
 use Rattle.ql_session.specs.LinkEnd.{LinkEnd}
-use Rattle.command_line.specs.Modes.{Mode}
+use Rattle.command_line.specs.Modes.{Mode, session}
 use Rattle.searchd_top.specs.Configuring.{Texts, IsConfigured, IsMisconfigured}
 use Rattle.searchd_top.specs.Lending.{HandsBack, SomeZip}
+use Rattle.searchd_top.specs.Output.{PrintsOutput}
 use Rattle.searchd_top.specs.Requests.{Requested, requests_of}
 use Rattle.searchd_top.specs.declared.host.Host.{Ghosts as HostWords}
 use Rattle.searchd_top.specs.declared.requests.Request.{Request}
@@ -52,15 +53,21 @@ abbrev pub ServingFailed : {D K : Type 0} → Texts → Option Mode → DoorWord
 ServingFailed texts mode door requests before now doors after =
     (indexes : List IndexConf) × IsConfigured texts mode indexes × (requests ≡ requests_of mode) × (Rose before now ⊎ SomeZip (DoorFailed door) doors after)
 
+-- how many doors a mode takes
+abbrev pub doors_of : Option Mode → ℕ
+doors_of (Some (session config)) = 1
+doors_of mode = 0
+
 -- What a status says of the mode and the host's texts, of the requests that were made of the host and its count of faults, and of its doors before and after.
 abbrev pub Says : {D K : Type 0} → Status → Texts → Option Mode → DoorWords D K → List Request → ℕ → ℕ → List D → List D → Type 0
 Says Done texts mode door requests before now doors after =
-    (requests ≡ requests_of mode) × (now ≡ before) × (length doors ≡ 1) × AllZip (DidWork door) doors after
+    (requests ≡ requests_of mode) × (now ≡ before) × (length doors ≡ doors_of mode) × AllZip (DidWork door) doors after
 Says Usage texts mode door requests before now doors after = (requests ≡ []) × (now ≡ before) × (doors ≡ [])
 Says (Config line kind) texts mode door requests before now doors after =
     (requests ≡ take 1 (requests_of mode)) × (now ≡ before) × (doors ≡ []) × IsMisconfigured texts mode (record { line = line; kind = kind })
 Says HostFault texts mode door requests before now doors after =
     ((doors ≡ []) × TextFailed mode requests before now) ⊎ ServingFailed texts mode door requests before now doors after
+    ⊎ (PrintsOutput mode × (requests ≡ []) × (now ≡ before) × (doors ≡ []))
 Says NoMemory texts mode door requests before now doors after = (count : ℕ) × (requests ≡ take count (requests_of mode))
 
 -- No door was taken, or the mode's file is a configuration, by whose indexes each door was served.

@@ -1,10 +1,11 @@
 //! The top call: the words of the command line are looked at first, then the configuration is read, then a door is asked
 //! for and its connection served. The first refusal decides the status, and its line is printed to the errors.
-ghost use Rattle.std.specs.Prelude.{◌≡◌, ◌↔◌, ◌≤◌, [], ◌∷◌, Some, None, length, map, string_bytes};
+ghost use Rattle.std.specs.Prelude.{◌≡◌, ◌↔◌, ◌≤◌, [], ◌∷◌, Some, None, IfOk, length, map, string_bytes};
 ghost use Rattle.index_conf.specs.Soundness.{IsSound};
-ghost use Rattle.command_line.specs.Modes.{session};
+ghost use Rattle.command_line.specs.Modes.{selftest, session};
 ghost use Rattle.searchd_top.specs.CommandLine.{asked};
 ghost use Rattle.searchd_top.specs.Statuses.{line_of};
+ghost use Rattle.searchd_top.specs.Output.{PrintsAll, Tells, selftest_lines};
 ghost use Rattle.searchd_top.specs.Printing.{Reports};
 ghost use Rattle.searchd_top.specs.Requests.{Requested};
 ghost use Rattle.searchd_top.specs.Sessions.{Runs};
@@ -16,6 +17,7 @@ use command_line::{Mode, read_mode};
 use conf_text::{ConfFault, MAX_CONF_BYTES, read_conf};
 use index_conf::Conf;
 use ql_session::PlainTables;
+use self_test::{Unexpected, run_in_memory};
 use srch_base::{Failed, NoMemory, Or};
 use std::alloc::Global;
 
@@ -24,12 +26,14 @@ use std::alloc::Global;
 /// `session --config F` reads the configuration in the file F and serves one connection by its indexes, from no documents; the
 /// documents that it commits are gone with the call. A connection may end in any way: the status is about the configuration, the
 /// host and its door alone.
+///
+/// `selftest --number S --docs N` writes N documents that S stands for to a session in memory, asks for them, and prints what
+/// was found to the output.
 pub fn searchd<H: Host>(alloc: Global, words: &[String], host: &mut H) -> Status
     requires { length (H.doors_back host.old) ≤ length (H.doors_given host.old) }
     ensures usage { (result ≡ Status.Usage) ↔ (asked (map string_bytes words.now) ≡ None) }
     ensures runs { Runs H.Host H.Entry.Door H.Entry.Line.Link (asked (map string_bytes words.now)) result host.old host.new }
-    ensures prints { Reports (line_of result) (H.printed host.old) (H.printed host.new) (H.print_faults host.old Stream.Err) (H.print_faults host.new Stream.Err) }
-    ensures quiet { H.print_faults host.new Stream.Out ≡ H.print_faults host.old Stream.Out }
+    ensures prints { PrintsAll (asked (map string_bytes words.now)) result (H.printed host.old) (H.printed host.new) (H.print_faults host.old) (H.print_faults host.new) }
 {
     let status = run(alloc, words, host);
     report(status, host);
@@ -41,15 +45,54 @@ fn run<H: Host>(alloc: Global, words: &[String], host: &mut H) -> Status
     requires { length (H.doors_back host.old) ≤ length (H.doors_given host.old) }
     ensures usage { (result ≡ Status.Usage) ↔ (asked (map string_bytes words.now) ≡ None) }
     ensures runs { Runs H.Host H.Entry.Door H.Entry.Line.Link (asked (map string_bytes words.now)) result host.old host.new }
-    ensures prints { H.printed host.new ≡ H.printed host.old }
-    ensures print_count { H.print_faults host.new ≡ H.print_faults host.old }
+    ensures tells { Tells (asked (map string_bytes words.now)) result (H.printed host.old) (H.printed host.new) (H.print_faults host.old Stream.Out) (H.print_faults host.new Stream.Out) }
+    ensures quiet { H.print_faults host.new Stream.Err ≡ H.print_faults host.old Stream.Err }
 {
     match read_mode(words) {
         Some(Mode::Session { config }) => run_session(alloc, config, host),
         Some(Mode::Serve { .. }) => Status::Usage,
         Some(Mode::Check { .. }) => Status::Usage,
-        Some(Mode::Selftest { .. }) => Status::Usage,
+        Some(Mode::Selftest { number, docs }) => run_selftest(alloc, number, docs, host),
         None => Status::Usage,
+    }
+}
+
+/// Runs a selftest in memory, and prints what it says to the output.
+fn run_selftest<H: Host>(alloc: Global, number: u32, docs: u32, host: &mut H) -> Status
+    ensures runs { Runs H.Host H.Entry.Door H.Entry.Line.Link (Some (selftest number docs)) result host.old host.new }
+    ensures asked { ¬ (result ≡ Status.Usage) }
+    ensures tells { Tells (Some (selftest number docs)) result (H.printed host.old) (H.printed host.new) (H.print_faults host.old Stream.Out) (H.print_faults host.new Stream.Out) }
+    ensures quiet { H.print_faults host.new Stream.Err ≡ H.print_faults host.old Stream.Err }
+{
+    match selftest_lines(alloc, number, docs) {
+        Ok(lines) => print_lines(number, docs, &lines, host),
+        Err(NoMemory) => Status::NoMemory,
+    }
+}
+
+/// Prints the lines of a selftest to the output.
+fn print_lines<H: Host>(number: u32, docs: u32, lines: &str, host: &mut H) -> Status
+    requires { lines.now ≡ selftest_lines number docs }
+    ensures runs { Runs H.Host H.Entry.Door H.Entry.Line.Link (Some (selftest number docs)) result host.old host.new }
+    ensures asked { ¬ (result ≡ Status.Usage) }
+    ensures tells { Tells (Some (selftest number docs)) result (H.printed host.old) (H.printed host.new) (H.print_faults host.old Stream.Out) (H.print_faults host.new Stream.Out) }
+    ensures quiet { H.print_faults host.new Stream.Err ≡ H.print_faults host.old Stream.Err }
+{
+    match host.print(Stream::Out, lines.as_bytes()) {
+        Ok(()) => Status::Done,
+        Err(Failed) => Status::HostFault,
+    }
+}
+
+/// The lines of a selftest. A reply that isn't the one that it has to be is answered as want of memory: no other refusal
+/// can come.
+#[tactic(auto, unfolding(crate::specs::Output::selftest_lines))]
+fn selftest_lines(alloc: Global, number: u32, docs: u32) -> Result<String, NoMemory>
+    ensures { IfOk result (λ lines. string_bytes lines ≡ selftest_lines number docs) }
+{
+    match run_in_memory(alloc, number, docs) {
+        Ok(summary) => Ok(format!(in alloc; "{summary}")?),
+        Err(Or::NoMemory | Or::Fault(Unexpected)) => Err(NoMemory),
     }
 }
 
@@ -58,8 +101,8 @@ fn run_session<H: Host>(alloc: Global, file: &str, host: &mut H) -> Status
     requires { length (H.doors_back host.old) ≤ length (H.doors_given host.old) }
     ensures runs { Runs H.Host H.Entry.Door H.Entry.Line.Link (Some (session file.now)) result host.old host.new }
     ensures asked { ¬ (result ≡ Status.Usage) }
-    ensures prints { H.printed host.new ≡ H.printed host.old }
-    ensures print_count { H.print_faults host.new ≡ H.print_faults host.old }
+    ensures tells { Tells (Some (session file.now)) result (H.printed host.old) (H.printed host.new) (H.print_faults host.old Stream.Out) (H.print_faults host.new Stream.Out) }
+    ensures quiet { H.print_faults host.new Stream.Err ≡ H.print_faults host.old Stream.Err }
 {
     match configure(alloc, file, host) {
         Ok(conf) => serve(alloc, conf, host),

@@ -1,0 +1,8 @@
+-- the documents that a number stands for
+pub mod Documents
+-- what is written and asked
+pub mod Texts
+-- what a scan of the documents finds
+pub mod Summaries
+-- what a session is asked, and what it replies
+pub mod Asking
