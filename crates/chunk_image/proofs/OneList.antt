@@ -58,7 +58,7 @@ one_list (w ∷ ws) (v ∷ vs) aw av to back =
     ]) in
     cc
 
-one_words : (rows : List DocRow) (ws vs : List (List ℕ)) → AreWordsOf rows ws → AreWordsOf rows vs → ws ≡ vs
+pub one_words : (rows : List DocRow) (ws vs : List (List ℕ)) → AreWordsOf rows ws → AreWordsOf rows vs → ws ≡ vs
 one_words rows ws vs are its =
     one_list ws vs are.ascend its.ascend
     (λ x here. its.all x (All-contains (λ word. 0 < length (rows_with word rows)) ws x are.each here))

@@ -8,6 +8,7 @@ use crate::row_answers::told_row;
 use crate::word_answers::told_word;
 use any_chunk::AnyChunk;
 use doc_types::{Chunk, PlainChunk};
+use image_chunk::RamChunk;
 use srch_base::NoMemory;
 use std::alloc::Global;
 use std::test::Fail;
@@ -76,6 +77,14 @@ pub(crate) fn the_chunk(alloc: Global) -> Result<PlainChunk, NoMemory>
     let rows = rows(alloc)?;
     let chunk = PlainChunk::build(alloc, rows)?;
     Ok(chunk)
+}
+
+/// The image of the documents, in memory.
+fn the_image(alloc: Global) -> Result<RamChunk, NoMemory>
+    ensures { IfOk result (λ chunk. All HasColumns chunk.image.image.0.0) }
+{
+    let rows = rows(alloc)?;
+    RamChunk::build(alloc, rows)
 }
 
 /// A chunk without rows.
@@ -182,5 +191,38 @@ fn a_chunk_may_have_no_row(rt: HostRuntime) -> Result<(), Fail> {
     assert!(rt; !has_absent(&chunk));
     assert_eq!(rt; chunk.find(1), None);
     assert_eq!(rt; chunk.start(b"hello"), None);
+    Ok(())
+}
+
+#[test]
+fn an_image_answers_by_its_rows(rt: HostRuntime) -> Result<(), Fail> {
+    let ram = the_image(rt.alloc())?;
+    let chunk = ram.as_image();
+    assert_eq!(rt; chunk.rows(), 10);
+    assert_eq!(rt; chunk.fields(), 3);
+    assert_eq!(rt; first_other_row(rt.alloc(), chunk)?, None);
+    assert_eq!(rt; first_other_id(chunk), None);
+    Ok(())
+}
+
+#[test]
+fn an_image_answers_by_its_words(rt: HostRuntime) -> Result<(), Fail> {
+    let ram = the_image(rt.alloc())?;
+    let chunk = ram.as_image();
+    assert_eq!(rt; chunk.words(), 30);
+    assert_eq!(rt; first_other_word(rt.alloc(), chunk)?, None);
+    assert!(rt; !has_absent(chunk));
+    Ok(())
+}
+
+#[test]
+fn an_image_may_have_no_row(rt: HostRuntime) -> Result<(), Fail> {
+    let ram = RamChunk::build(rt.alloc(), Vec::new(rt.alloc()))?;
+    let chunk = ram.as_image();
+    assert_eq!(rt; chunk.rows(), 0);
+    assert_eq!(rt; chunk.fields(), 0);
+    assert_eq!(rt; chunk.words(), 0);
+    assert!(rt; !has_absent(chunk));
+    assert_eq!(rt; chunk.as_bytes().len(), 32);
     Ok(())
 }

@@ -1,0 +1,4 @@
+-- whose image the bytes are
+pub mod Images
+-- where cursors stand
+pub mod Places
