@@ -1,6 +1,6 @@
 -- What is found in documents: a word in those that have it, a phrase of two words in those where they stand next to each other
 -- in this order ("Extended query syntax" of the manual), a group where a document has it.
-use Rattle.std.specs.Prelude.{ℕ, zero, suc, ◌+◌, ◌%◌, ◌==◌, ◌&&◌, ◌||◌, List, [], ◌∷◌, ◌++◌, Bool, false, length, codes, decimal, if◌then◌else◌}
+use Rattle.std.specs.Prelude.{ℕ, zero, suc, ◌+◌, ◌%◌, ◌==◌, ◌&&◌, ◌||◌, List, [], ◌∷◌, ◌++◌, Bool, true, false, length, codes, decimal, if◌then◌else◌}
 use Rattle.std.specs.List.{filter, list_any}
 use Rattle.self_test.specs.declared.generator.Document.{Document}
 use Rattle.self_test.specs.declared.summary.Count.{Count}

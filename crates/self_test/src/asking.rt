@@ -48,9 +48,7 @@ impl Client {
     {
         self.replies.begin(1);
         let query = Command::Query(text.as_bytes());
-        let _end = self
-            .session
-            .step_over(self.alloc, tables, query, &mut self.replies);
+        let _end = self.session.step_over(self.alloc, tables, query, &mut self.replies);
     }
 
     /// Asks a text that is to be answered OK, with so many rows affected and this status.
@@ -76,11 +74,7 @@ impl Client {
     }
 
     /// Asks a text, and gives how many rows were replied.
-    pub(crate) fn count_rows<T: TableStore>(
-        &mut self,
-        tables: &mut T,
-        text: &str,
-    ) -> Result<u32, Or<Unexpected>>
+    pub(crate) fn count_rows<T: TableStore>(&mut self, tables: &mut T, text: &str) -> Result<u32, Or<Unexpected>>
         requires fits { Fits (T.confs tables.old) self.old.session }
         ensures asks { IfOk result (λ rows. HasRows T.confs T.words text.now rows self.old.session tables.old self.new.session tables.new) }
         ensures fits { Fits (T.confs tables.new) self.new.session }

@@ -1,6 +1,6 @@
 //! The documents of a selftest: a linear congruential generator draws their words and their groups, so that a number stands
 //! for the same documents wherever it is tried.
-ghost use Rattle.std.specs.Prelude.{◌≡◌, ◌%◌, ◌^◌, ◌<◌, IfOk, length};
+ghost use Rattle.std.specs.Prelude.{◌≡◌, ◌%◌, ◌<◌, IfOk};
 ghost use Rattle.self_test.specs.Documents.{next, drawn, document_from, after_document, documents_from};
 
 use std::alloc::{AllocError, Global};
@@ -64,8 +64,7 @@ impl Draws {
 
 /// The first `docs` documents that a number stands for.
 pub fn documents(alloc: Global, number: u32, docs: u32) -> Result<Vec<Document>, AllocError>
-    ensures are { IfOk result (λ all. all.items ≡ documents_from number docs) }
-    ensures few { IfOk result (λ all. length all.items < 2 ^ 32) }
+    ensures { IfOk result (λ all. all.items ≡ documents_from number docs) }
 {
     let mut draws = Draws { x: number };
     let mut documents = Vec::with_capacity(alloc, docs as usize)?;

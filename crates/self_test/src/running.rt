@@ -1,8 +1,13 @@
 //! A selftest: the documents are written by statements, 100 a transaction, and then asked for.
-ghost use Rattle.std.specs.Prelude.{◌≡◌, ◌<◌, ◌^◌, IfOk, length};
+ghost use Rattle.std.specs.Prelude.{◌≡◌, ◌<◌, ◌^◌, IfOk, List, OnOk, length};
+ghost use Rattle.index_conf.specs.declared.conf.IndexConf.{IndexConf};
+ghost use Rattle.ql_answers.specs.States.{new_state};
 ghost use Rattle.ql_session.specs.Fitting.{Fits};
+ghost use Rattle.ql_session.specs.Tables.{Tables, empty_tables, in_memory};
 ghost use Rattle.self_test.specs.Documents.{documents_from};
-ghost use Rattle.self_test.specs.Summaries.{summary_of};
+ghost use Rattle.self_test.specs.Summaries.{many, summary_of};
+ghost use Rattle.self_test.specs.Texts.{opening, closing, texts_of, texts_from};
+ghost use Rattle.self_test.specs.Asking.{AreDone, CountBelow, Shows};
 
 use crate::asking::Client;
 use crate::generator::{Document, documents};
@@ -10,7 +15,7 @@ use crate::summary::{Count, Summary, scan};
 use crate::texts::{write_count, write_insert};
 use conf_text::read_conf;
 use ql_session::{PlainTables, TableStore};
-use srch_base::Or;
+use srch_base::{NoMemory, Or};
 use std::alloc::Global;
 
 /// How many documents a transaction writes.
@@ -18,7 +23,6 @@ const PER_TRANSACTION: u32 = 100;
 
 /// The status of a reply while a transaction is open, and otherwise. AUTOCOMMIT is 1.
 const IN_TRANSACTION: u16 = 3;
-
 const AUTOCOMMIT: u16 = 2;
 
 /// A reply isn't the one that it has to be.
@@ -27,7 +31,8 @@ pub struct Unexpected;
 
 /// Runs a selftest over an index `t` in memory, with the field `title` and the attribute `gid`.
 pub fn run_in_memory(alloc: Global, number: u32, docs: u32) -> Result<Summary, Or<Unexpected>>
-    ensures { IfOk result (λ summary. summary ≡ summary_of (documents_from number docs)) }
+    ensures is { IfOk result (λ summary. summary ≡ summary_of (documents_from number docs)) }
+    ensures shows { IfOk result (λ summary. (indexes : List IndexConf) × (left : Tables) × Shows (λ tables. tables.confs) in_memory (documents_from number docs) summary (empty_tables indexes) left) }
 {
     let Ok(conf) = read_conf(alloc, configuration()) else {
         return Err(Or::Fault(Unexpected));
@@ -50,6 +55,7 @@ pub fn run<T: TableStore>(
     docs: u32,
 ) -> Result<Summary, Or<Unexpected>>
     ensures is { IfOk result (λ summary. summary ≡ summary_of (documents_from number docs)) }
+    ensures shows { IfOk result (λ summary. Shows T.confs T.words (documents_from number docs) summary tables.old tables.new) }
     ensures confs { T.confs tables.new ≡ T.confs tables.old }
 {
     let documents = documents(alloc, number, docs)?;
@@ -62,12 +68,9 @@ pub fn run<T: TableStore>(
 }
 
 /// Writes documents, and asks a session what it finds of them.
-fn found<T: TableStore>(
-    alloc: Global,
-    tables: &mut T,
-    documents: &[Document],
-) -> Result<Summary, Or<Unexpected>>
+fn found<T: TableStore>(alloc: Global, tables: &mut T, documents: &[Document]) -> Result<Summary, Or<Unexpected>>
     requires { length documents.now < 2 ^ 32 }
+    ensures shows { IfOk result (λ summary. Shows T.confs T.words documents.now summary tables.old tables.new) }
     ensures confs { T.confs tables.new ≡ T.confs tables.old }
 {
     let mut client = Client::new(alloc)?;
@@ -82,6 +85,7 @@ fn found<T: TableStore>(
 }
 
 /// Writes documents with the ids from 1 on.
+#[tactic(none)]
 fn write<T: TableStore>(
     client: &mut Client,
     tables: &mut T,
@@ -90,6 +94,7 @@ fn write<T: TableStore>(
 ) -> Result<(), Or<Unexpected>>
     requires few { length documents.now < 2 ^ 32 }
     requires fits { Fits (T.confs tables.old) client.old.session }
+    ensures done { OnOk result (AreDone T.confs T.words (texts_from (length documents.now) 1 documents.now) client.old.session tables.old client.new.session tables.new) }
     ensures fits { Fits (T.confs tables.new) client.new.session }
     ensures confs { T.confs tables.new ≡ T.confs tables.old }
 {
@@ -108,8 +113,10 @@ fn write<T: TableStore>(
 }
 
 /// Begins a transaction before its first document.
+#[tactic(auto, unfolding(crate::specs::Asking::AreDone))]
 fn begin<T: TableStore>(client: &mut Client, tables: &mut T, id: u32) -> Result<(), Or<Unexpected>>
     requires fits { Fits (T.confs tables.old) client.old.session }
+    ensures done { OnOk result (AreDone T.confs T.words (opening id) client.old.session tables.old client.new.session tables.new) }
     ensures fits { Fits (T.confs tables.new) client.new.session }
     ensures confs { T.confs tables.new ≡ T.confs tables.old }
 {
@@ -120,6 +127,7 @@ fn begin<T: TableStore>(client: &mut Client, tables: &mut T, id: u32) -> Result<
 }
 
 /// Commits a transaction after its last document.
+#[tactic(auto, unfolding(crate::specs::Asking::AreDone))]
 fn commit<T: TableStore>(
     client: &mut Client,
     tables: &mut T,
@@ -127,6 +135,7 @@ fn commit<T: TableStore>(
     id: u32,
 ) -> Result<(), Or<Unexpected>>
     requires fits { Fits (T.confs tables.old) client.old.session }
+    ensures done { OnOk result (AreDone T.confs T.words (closing last id) client.old.session tables.old client.new.session tables.new) }
     ensures fits { Fits (T.confs tables.new) client.new.session }
     ensures confs { T.confs tables.new ≡ T.confs tables.old }
 {
@@ -137,6 +146,7 @@ fn commit<T: TableStore>(
 }
 
 /// Asks how many rows there are of all that is counted.
+#[tactic(none)]
 fn count<T: TableStore>(
     client: &mut Client,
     tables: &mut T,
@@ -144,6 +154,7 @@ fn count<T: TableStore>(
     count: Count,
 ) -> Result<u64, Or<Unexpected>>
     requires fits { Fits (T.confs tables.old) client.old.session }
+    ensures counts { IfOk result (λ rows. CountBelow T.confs T.words count (many count) rows client.old.session tables.old client.new.session tables.new) }
     ensures fits { Fits (T.confs tables.new) client.new.session }
     ensures confs { T.confs tables.new ≡ T.confs tables.old }
 {

@@ -24,16 +24,8 @@ impl fmt::Display for Summary {
     ghost output = { λ summary. Some (lines_of summary) };
 
     fn fmt<W: fmt::Write>(&self, f: &mut fmt::Formatter<W>) -> fmt::Result {
-        let Summary {
-            documents,
-            words,
-            pairs,
-            groups,
-        } = *self;
-        write!(
-            f,
-            "documents {documents}\nwords {words}\npairs {pairs}\ngroups {groups}\n"
-        )
+        let Summary { documents, words, pairs, groups } = *self;
+        write!(f, "documents {documents}\nwords {words}\npairs {pairs}\ngroups {groups}\n")
     }
 }
 

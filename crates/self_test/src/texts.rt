@@ -9,11 +9,7 @@ use std::fmt::Write;
 
 /// Writes the INSERT of a document with this id.
 #[tactic(auto, unfolding(crate::specs::Texts::insert_text))]
-pub(crate) fn write_insert(
-    text: &mut String,
-    id: u32,
-    document: &Document,
-) -> Result<(), AllocError>
+pub(crate) fn write_insert(text: &mut String, id: u32, document: &Document) -> Result<(), AllocError>
     ensures { OnOk result (string_bytes text.new ≡ insert_text id document.now) }
 {
     let [first, second, third, fourth] = document.title;

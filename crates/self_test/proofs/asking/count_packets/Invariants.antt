@@ -1,4 +1,4 @@
-use Rattle.std.proofs.Common.{◌+◌, ◌≤◌, length}
+use Rattle.std.proofs.Common.{◌≡◌, ◌+◌, ◌≤◌, length, None}
 use Rattle.self_test.proofs.Talking.{Taken}
 use Rattle.self_test.proofs.asking.count_packets.Given as goal
 
