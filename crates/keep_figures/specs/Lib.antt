@@ -1,0 +1,2 @@
+-- what a keeper is between commits
+pub mod Ready
