@@ -1,13 +1,15 @@
 -- What a commit makes of a store.
-use Rattle.std.proofs.Common.{◌≡◌, ℕ, List, [], ◌∷◌, false, map, take, refl, sym, ap, subst, ◌∙◌, arith, All}
+use Rattle.std.proofs.Common.{◌≡◌, ◌<◌, ◌+◌, ℕ, List, [], ◌∷◌, ◌++◌, false, map, length, take, drop, refl, sym, ap, subst, ◌∙◌, arith, All, length-append}
 use Rattle.std.specs.FinMap as finite
 use Rattle.std.specs.List.{filter}
-use Rattle.std.proofs.lemmas.List.Elements.{All-append, All-cons, All-filter, All-map, All-nil, All-take}
+use Rattle.std.proofs.lemmas.List.{get_or-append-add}
+use Rattle.std.proofs.lemmas.List.Elements.{All-append, All-cons, All-filter, All-head, All-drop, All-map, All-nil, All-take}
+use Rattle.std.proofs.lemmas.List.Sorted.{All-permutation}
 use Rattle.doc_types.specs.declared.documents.DocRow.{DocRow}
 use Rattle.doc_types.specs.declared.schema.Schema.{Schema}
 use Rattle.doc_types.specs.declared.transactions.TxnOp.{TxnOp}
-use Rattle.doc_types.specs.Documents.{AreRowsOf}
-use Rattle.doc_types.specs.Snapshots.{AreLayers, LayerValue, SnapshotValue, all_living, live}
+use Rattle.doc_types.specs.Documents.{AreRowsOf, IsDocOf}
+use Rattle.doc_types.specs.Snapshots.{AreLayers, IsLayer, LayerValue, SnapshotValue, all_living, live}
 use Rattle.doc_types.specs.Transactions.{IsOpOf}
 use Rattle.doc_types.proofs.Changes.{accepted}
 use Rattle.commit_outcomes.specs.declared.outcome.TheConstants.{MAX_DOCUMENTS}
