@@ -79,3 +79,15 @@ one_outcome ops old other new left (outcomes.Full full) (outcomes.Committed remo
 one_outcome ops old other new left (outcomes.Full full) (outcomes.Duplicate id) same one two = absurd (not_refused ops old other one.0.changes one.0.removed id same one.0.verdict two.0)
 one_outcome ops old other new left (outcomes.Full full) (outcomes.Full its) same one two =
     (ap outcomes.Full (same_full ops old other full its same one.0 two.0), left_alike old other new left one.1 two.1 same)
+one_outcome ops old other new left (outcomes.Committed removed) outcomes.Refused same one two = absurd two
+one_outcome ops old other new left (outcomes.Committed removed) (outcomes.InDoubt doubt) same one two = absurd two
+one_outcome ops old other new left (outcomes.Committed removed) (outcomes.Strayed numbers) same one two = absurd two
+one_outcome ops old other new left (outcomes.Duplicate id) outcomes.Refused same one two = absurd two
+one_outcome ops old other new left (outcomes.Duplicate id) (outcomes.InDoubt doubt) same one two = absurd two
+one_outcome ops old other new left (outcomes.Duplicate id) (outcomes.Strayed numbers) same one two = absurd two
+one_outcome ops old other new left (outcomes.Full full) outcomes.Refused same one two = absurd two
+one_outcome ops old other new left (outcomes.Full full) (outcomes.InDoubt doubt) same one two = absurd two
+one_outcome ops old other new left (outcomes.Full full) (outcomes.Strayed numbers) same one two = absurd two
+one_outcome ops old other new left outcomes.Refused b same one two = absurd one
+one_outcome ops old other new left (outcomes.InDoubt doubt) b same one two = absurd one
+one_outcome ops old other new left (outcomes.Strayed numbers) b same one two = absurd one

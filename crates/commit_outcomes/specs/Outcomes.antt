@@ -52,13 +52,17 @@ pub record IsFull (limit : ℕ) (ops : List TxnOp) (old : SnapshotValue) (full :
   pub above : limit < finite.len (changed old changes)
   pub says : full ≡ record { what = Documents; at = finite.len (live old); need = finite.len (changed old changes) - finite.len (live old) }
 
--- What a commit of these operations leaves, by its outcome.
+-- What a commit of these operations leaves of documents in memory, by its outcome. A disk may fail or a worker stray where a store
+-- has a disk: documents in memory never have the outcomes of these.
 abbrev pub Leaves : List TxnOp → SnapshotValue → CommitOutcome → SnapshotValue → Type 0
 Leaves ops old (outcomes.Committed removed) new = Accepts ops old removed new
 Leaves ops old (outcomes.Duplicate id) new = (verdict ops (live old) ≡ verdicts.Duplicate id) × (new ≡ old)
 Leaves ops old (outcomes.Full full) new = IsFull MAX_DOCUMENTS ops old full × (new ≡ old)
+Leaves ops old outcomes.Refused new = ⊥
+Leaves ops old (outcomes.InDoubt doubt) new = ⊥
+Leaves ops old (outcomes.Strayed numbers) new = ⊥
 
--- What a store answers to a commit, and what it leaves: after want of memory all is as before.
+-- What a store in memory answers to a commit, and what it leaves: after want of memory all is as before.
 abbrev pub Commits : {E : Type 0} → List TxnOp → SnapshotValue → Result CommitOutcome E → SnapshotValue → Type 0
 Commits ops old (Ok outcome) new = Leaves ops old outcome new
 Commits ops old (Err e) new = new ≡ old

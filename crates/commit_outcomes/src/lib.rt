@@ -3,6 +3,8 @@
 
 mod laws;
 mod outcome;
+mod strayed;
 
 pub use laws::a_commit_has_one_outcome;
-pub use outcome::{CommitOutcome, Full, FullKind, MAX_DOCUMENTS};
+pub use outcome::{CommitOutcome, Doubt, Full, FullKind, MAX_DOCUMENTS};
+pub use strayed::Strayed;

@@ -1,11 +1,13 @@
 //! The outcomes of a commit. A store tells one, a session replies by it, and the definitions say by it what is left: so a new
 //! outcome is a row in each of them.
 
+use crate::strayed::Strayed;
+
 /// The most documents that live in one index.
 pub const MAX_DOCUMENTS: u64 = 4_194_304;
 
 /// What became of a commit for which there was memory.
-#[derive(Clone, Copy, PartialEq, Eq)]
+#[derive(Clone, Copy)]
 pub enum CommitOutcome {
     /// It was made; so many ids that it kills were there.
     Committed { removed: u32 },
@@ -13,6 +15,21 @@ pub enum CommitOutcome {
     Duplicate { id: u64 },
     /// It was refused as a whole: a limit of the index would be passed.
     Full(Full),
+    /// The disk failed before anything of it could take effect: it never will.
+    Refused,
+    /// It waits: it takes effect with the next call that settles it, or by a crash, or never.
+    InDoubt(Doubt),
+    /// It was refused as a whole: what a worker and the index count of the history contradicts each other.
+    Strayed(Strayed),
+}
+
+/// Why a commit is in doubt.
+#[derive(Clone, Copy)]
+pub enum Doubt {
+    /// The disk failed while the gate of its record was opened.
+    Disk,
+    /// It is on the disk for good, and publishing it found no memory.
+    Memory,
 }
 
 /// The limit of an index that would be passed.
@@ -28,6 +45,10 @@ pub struct Full {
 /// What there can't be more of in an index.
 #[derive(Clone, Copy, PartialEq, Eq)]
 pub enum FullKind {
+    /// Bytes of the log.
+    Log,
     /// Documents that live.
     Documents,
+    /// Numbers of commits.
+    Numbers,
 }

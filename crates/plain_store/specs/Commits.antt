@@ -11,5 +11,4 @@ use Rattle.layer_joins.specs.Joins.{Joins}
 -- The layers after a commit are those that the commit makes of the layers before, of which the last ones may be joined.
 abbrev pub KeepsLayers : List TxnOp → SnapshotValue → CommitOutcome → SnapshotValue → Type 0
 KeepsLayers ops old (outcomes.Committed removed) new = (committed : SnapshotValue) × Applies MAX_DOCUMENTS ops old removed committed × Joins committed.layers new.layers
-KeepsLayers ops old (outcomes.Duplicate id) new = Unit {0}
-KeepsLayers ops old (outcomes.Full full) new = Unit {0}
+KeepsLayers ops old outcome new = Unit {0}

@@ -27,6 +27,7 @@ use Rattle.srch_base.specs.declared.faults.Or.TheVariants.{Fault}
 use Rattle.chunk_store.specs.declared.disk.Disk.{Ghosts as DiskWords}
 use Rattle.commit_outcomes.specs.Outcomes.{IsFull, changed}
 use Rattle.commit_outcomes.specs.declared.outcome.Full.{Full}
+use Rattle.commit_outcomes.specs.declared.outcome.FullKind.TheVariants as limits
 use Rattle.commit_outcomes.specs.declared.outcome.TheConstants.{MAX_DOCUMENTS}
 use Rattle.gate_log.specs.declared.log.GateLog.{GateLog}
 use Rattle.gate_log.specs.declared.records.LogRecord.{LogRecord}
@@ -46,8 +47,6 @@ use Rattle.step_line.specs.Lines.{LineValue, MayFollow, kept_by, with_waiting}
 use Rattle.store_steps.specs.Batches.{Batch, IsBatchOf, batch_of, op_of, record_of, txn_of}
 use Rattle.store_steps.specs.Kept.{Has}
 use Rattle.store_steps.specs.Refusals.{batch_length, full_documents, full_numbers, full_of, is_put, most_log}
-use Rattle.store_steps.specs.declared.limits.StoreFull.{StoreFull}
-use Rattle.store_steps.specs.declared.limits.StoreLimit.TheVariants as limits
 use Rattle.store_steps.specs.declared.limits.TheConstants.{LAST_COMMIT, MOST_LOG, MOST_LOG_BY_REMOVALS}
 use Rattle.store_steps.proofs.Keeping.{none_next}
 use Rattle.store_keep.specs.Commits.{front_of}
@@ -145,7 +144,7 @@ if_none true x other is = absurd (cc (is))
 if_none false x other is = (refl, is)
 
 -- the limits one by one
-pub by_log : (base : Base) (steps : List Step) (changes : List Change) (full : StoreFull) → full_log base steps changes ≡ Some full → full_of base steps changes ≡ Some full
+pub by_log : (base : Base) (steps : List Step) (changes : List Change) (full : Full) → full_log base steps changes ≡ Some full → full_of base steps changes ≡ Some full
 by_log base steps changes full is =
     elim (nat_lt (most_log changes) (log_at base steps + batch_length changes)) as (λ b. cond b (Some (record { what = limits.Log; at = log_at base steps; need = batch_length changes })) None ≡ Some full → cond b (Some (record { what = limits.Log; at = log_at base steps; need = batch_length changes })) (full_documents (last_snapshot base steps) changes) ≡ Some full) [
       | true ↦ λ is. is
@@ -172,26 +171,17 @@ by_documents base steps changes is many =
 
 -- what is answered to a commit after which there would be too many documents
 module _ (base : Base) (steps : List Step) (ops : List TxnOp) (full : Full) (is : IsFull MAX_DOCUMENTS ops (last_snapshot base steps) full) where
-  abbrev IsSaid : StoreFull → Type 0
+  abbrev IsSaid : Full → Type 0
   IsSaid said = (changes : List Change) × (removed : ℕ) × (verdict ops (live (last_snapshot base steps)) ≡ Accepted changes removed) × (full_of base steps changes ≡ Some said)
 
   those : is.changes ≡ map change_of ops
   those = accepted (λ id. finite.contains_key (live (last_snapshot base steps)) id) ops is.changes is.removed is.verdict
 
-  pub log_said : (said : StoreFull) → Some said ≡ full_log base steps (map change_of ops) → IsSaid said
+  pub log_said : (said : Full) → Some said ≡ full_log base steps (map change_of ops) → IsSaid said
   log_said said log = (is.changes, is.removed, is.verdict, by_log base steps is.changes said (ap (full_log base steps) those ∙ sym log))
 
-  pub documents_said : None ≡ full_log base steps (map change_of ops) → IsSaid (record { what = limits.Documents; at = full.at; need = full.need })
-  documents_said log =
-      let at : finite.len (live (last_snapshot base steps)) ≡ full.at = sym (ap (λ (f : Full). f.at) is.says) in
-      let need : finite.len (changed (last_snapshot base steps) is.changes) - finite.len (live (last_snapshot base steps)) ≡ full.need = sym (ap (λ (f : Full). f.need) is.says) in (
-        is.changes,
-        is.removed,
-        is.verdict,
-        by_documents base steps is.changes (ap (full_log base steps) those ∙ sym log) is.above
-            ∙ ap (λ (n : ℕ). Some (record { what = limits.Documents; at = n; need = finite.len (changed (last_snapshot base steps) is.changes) - finite.len (live (last_snapshot base steps)) })) at
-            ∙ ap (λ (n : ℕ). Some (record { what = limits.Documents; at = full.at; need = n })) need,
-      )
+  pub documents_said : None ≡ full_log base steps (map change_of ops) → IsSaid full
+  documents_said log = (is.changes, is.removed, is.verdict, by_documents base steps is.changes (ap (full_log base steps) those ∙ sym log) is.above ∙ ap Some (sym is.says))
 
 -- there aren't too many documents after a commit that was accepted
 pub few_after : (base : Base) (steps : List Step) (ops : List TxnOp) (removed : ℕ) (next : SnapshotValue) → Applies MAX_DOCUMENTS ops (last_snapshot base steps) removed next → finite.len (changed (last_snapshot base steps) (map change_of ops)) ≤ MAX_DOCUMENTS
@@ -200,7 +190,7 @@ few_after base steps ops removed next applies =
     omega (arith, ap finite.len (applies.rows ∙ ap (changed (last_snapshot base steps)) same), applies.few)
 
 -- it may pass another limit
-pub other_said : (base : Base) (steps : List Step) (ops : List TxnOp) (removed : ℕ) (next : SnapshotValue) (said : StoreFull) → Applies MAX_DOCUMENTS ops (last_snapshot base steps) removed next → Some said ≡ full_of base steps (map change_of ops)
+pub other_said : (base : Base) (steps : List Step) (ops : List TxnOp) (removed : ℕ) (next : SnapshotValue) (said : Full) → Applies MAX_DOCUMENTS ops (last_snapshot base steps) removed next → Some said ≡ full_of base steps (map change_of ops)
     → (changes : List Change) × (more : ℕ) × (verdict ops (live (last_snapshot base steps)) ≡ Accepted changes more) × (full_of base steps changes ≡ Some said)
 other_said base steps ops removed next said applies is =
     let same = accepted (λ id. finite.contains_key (live (last_snapshot base steps)) id) ops applies.changes removed applies.verdict in

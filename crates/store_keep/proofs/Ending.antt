@@ -1,6 +1,7 @@
 -- A commit that was entered, and then settled or not.
 use Rattle.std.proofs.Common.{◌≡◌, inl, inr, ⊎_elim, ℕ, ◌+◌, ◌≤◌, ◌<◌, ◌^◌, List, [], ◌∷◌, ◌++◌, Option, Some, None, Result, Ok, Err, refl, sym, ◌∙◌, ap, subst, arith, length}
 use Rattle.chunk_store.specs.declared.disk.Disk.{Ghosts as DiskWords}
+use Rattle.commit_outcomes.specs.declared.outcome.Doubt.TheVariants as doubts
 use Rattle.doc_types.specs.declared.schema.Schema.{Schema}
 use Rattle.gate_log.specs.declared.log.GateLog.{GateLog}
 use Rattle.step_history.specs.History.{Base, Step, made_by}
@@ -16,7 +17,6 @@ use Rattle.store_keep.specs.declared.preparing.Prepared.{Prepared}
 use Rattle.store_keep.specs.declared.fault.CommitFault.{CommitFault}
 use Rattle.store_keep.specs.declared.fault.CommitFault.TheVariants as faults
 use Rattle.store_keep.specs.declared.fault.Committed.{Committed}
-use Rattle.store_keep.specs.declared.fault.Doubt.TheVariants as doubts
 
 -- settled or not, the line has the same steps with the one that waits
 pub same_entered : {J : Type 0} (mid new : LineValue) (counted after : TokenValue) (number removed between now : ℕ) (log : GateLog) (r : Result (Committed J) (CommitFault J)) → Finishes mid counted number removed between r new log after now → entered new ≡ entered mid

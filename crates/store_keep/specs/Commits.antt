@@ -7,6 +7,8 @@ use Rattle.srch_base.specs.declared.faults.Failed.{Failed}
 use Rattle.srch_base.specs.declared.faults.Or.{Or}
 use Rattle.srch_base.specs.declared.faults.Or.TheVariants as causes
 use Rattle.chunk_store.specs.Images.{Image}
+use Rattle.commit_outcomes.specs.declared.outcome.Doubt.TheVariants as doubts
+use Rattle.commit_outcomes.specs.declared.strayed.Strayed.{Strayed}
 use Rattle.doc_types.specs.Commits.{Accepted, Change, Duplicate, Entry, verdict}
 use Rattle.doc_types.specs.Snapshots.{SnapshotValue, live}
 use Rattle.doc_types.specs.declared.schema.Schema.{Schema}
@@ -19,11 +21,9 @@ use Rattle.step_tokens.specs.Tokens.{TokenValue}
 use Rattle.store_steps.specs.Answers.{Becomes}
 use Rattle.store_steps.specs.Kept.{Gives}
 use Rattle.store_steps.specs.Refusals.{full_of, stray_of}
-use Rattle.store_steps.specs.declared.strayed.Strayed.{Strayed}
 use Rattle.store_keep.specs.declared.fault.CommitFault.{CommitFault}
 use Rattle.store_keep.specs.declared.fault.CommitFault.TheVariants as faults
 use Rattle.store_keep.specs.declared.fault.Committed.{Committed}
-use Rattle.store_keep.specs.declared.fault.Doubt.TheVariants as doubts
 
 -- the published history of a line
 abbrev pub front_of : LineValue → FrontValue

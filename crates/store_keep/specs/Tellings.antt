@@ -5,12 +5,12 @@ use Rattle.std.specs.Option.{option_or}
 use mathlib.Core.List.{IsPrefix}
 use Rattle.srch_base.specs.declared.faults.Or.{Or}
 use Rattle.srch_base.specs.declared.faults.Or.TheVariants as causes
+use Rattle.commit_outcomes.specs.declared.strayed.Strayed.{Strayed}
 use Rattle.step_book.specs.Fronts.{FrontValue}
 use Rattle.step_history.specs.History.{Base}
 use Rattle.step_line.specs.Lines.{LineValue, kept_by}
 use Rattle.step_tokens.specs.Tokens.{TokenValue}
 use Rattle.store_steps.specs.Refusals.{stray_of}
-use Rattle.store_steps.specs.declared.strayed.Strayed.{Strayed}
 use Rattle.store_keep.specs.Commits.{front_of}
 
 -- the tokens are of the index

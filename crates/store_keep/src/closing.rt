@@ -7,11 +7,11 @@ ghost use Rattle.store_keep.specs.Tellings.{AreOfIndex, AreTokensOf, IsTold, Tel
 use crate::keeper::Keeper;
 use crate::kept::Kept;
 use chunk_store::Disk;
+use commit_outcomes::Strayed;
 use srch_base::Or;
 use std::sync::Wait;
 use step_book::Naming;
 use step_tokens::{Note, Token, learn};
-use store_steps::Strayed;
 
 /// Tells each token a history.
 fn tell_all<J: Naming>(tokens: &mut [Token<J>], note: &Note<J>)

@@ -13,12 +13,12 @@ use crate::fault::{CommitFault, Committed};
 use crate::keeper::Keeper;
 use crate::kept::Kept;
 use chunk_store::Disk;
+use commit_outcomes::Strayed;
 use doc_types::Txn;
 use srch_base::{Failed, Or};
 use std::sync::Wait;
 use step_book::Naming;
 use step_tokens::{Token, learn};
-use store_steps::Strayed;
 
 impl<D: Disk, J: Naming> Kept<D, J> {
     /// Settles what waits, and teaches the token the history.

@@ -1,10 +1,11 @@
 //! What the calls of a keeper answer.
 
+use commit_outcomes::{Doubt, Full, Strayed};
 use srch_base::{Failed, NoMemory, OpenFault};
 use std::alloc::{AllocError, AllocFailed};
 use step_book::Naming;
 use step_tokens::Note;
-use store_steps::{Damage, StoreFull, Strayed};
+use store_steps::Damage;
 use thiserror::Error;
 
 /// Why a store isn't opened.
@@ -37,20 +38,11 @@ pub enum CommitFault<J: Naming> {
     /// The id of an insertion was there.
     Duplicate { id: u64, note: Note<J> },
     /// A limit would be passed.
-    Full { full: StoreFull, note: Note<J> },
+    Full { full: Full, note: Note<J> },
     /// The disk failed before anything of the commit could take effect: it never will.
     Refused,
     /// It waits: it takes effect with the next call that settles it, or by a crash, or never.
     InDoubt(Doubt),
-}
-
-/// Why a commit is in doubt.
-#[derive(Clone, Copy, PartialEq, Eq)]
-pub enum Doubt {
-    /// The disk failed while the gate of its record was opened.
-    Disk,
-    /// It is on the disk for good, and publishing it found no memory.
-    Memory,
 }
 
 impl From<OpenFault> for StoreFault {

@@ -9,13 +9,13 @@ ghost use Rattle.store_keep.specs.Names.{IsNamed, first_tokens};
 use crate::kept::Kept;
 use crate::opening::Opened;
 use chunk_store::Disk;
+use commit_outcomes::Strayed;
 use srch_base::NoMemory;
 use std::alloc::Global;
 use std::sync::Wait;
 use step_book::Naming;
 use step_line::Line;
 use step_tokens::Token;
-use store_steps::Strayed;
 
 /// The keeper of one index. It isn't let go of: end it by `close`.
 pub struct Keeper<D: Disk, J: Naming> {

@@ -16,7 +16,8 @@ mod opening;
 mod preparing;
 mod settling;
 
-pub use fault::{CommitFault, Committed, Doubt, StoreFault};
+pub use commit_outcomes::Doubt;
+pub use fault::{CommitFault, Committed, StoreFault};
 pub use keeper::Keeper;
 pub use laws::a_crash_between_calls_leaves_the_documents;
 pub use opening::Opened;

@@ -8,10 +8,11 @@ ghost use Rattle.store_keep.specs.Commits.{Ends, GivesEntered, Makes, front_of};
 ghost use Rattle.store_keep.specs.Keepers.{Keeps};
 ghost use Rattle.store_keep.specs.steps.Stages.{Enters, Finishes};
 
-use crate::fault::{CommitFault, Committed, Doubt};
+use crate::fault::{CommitFault, Committed};
 use crate::kept::Kept;
 use crate::preparing::Prepared;
 use chunk_store::Disk;
+use commit_outcomes::Doubt;
 use doc_types::Txn;
 use srch_base::{Failed, Or};
 use std::sync::Wait;

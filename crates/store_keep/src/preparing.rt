@@ -26,7 +26,7 @@ use crate::kept::Kept;
 use crate::numbers::numbers_fit;
 use any_chunk::AnyChunk;
 use chunk_store::Disk;
-use commit_outcomes::{Full, MAX_DOCUMENTS};
+use commit_outcomes::{Full, FullKind, MAX_DOCUMENTS};
 use doc_bytes::put_txn;
 use doc_types::{Snapshot, Txn, TxnOp, txn_bytes};
 use gate_log::Staged;
@@ -37,7 +37,7 @@ use std::alloc::Global;
 use std::sync::Arc;
 use step_book::{Made, Naming};
 use step_line::Pending;
-use store_steps::{LAST_COMMIT, MOST_LOG, MOST_LOG_BY_REMOVALS, StoreFull, StoreLimit};
+use store_steps::{LAST_COMMIT, MOST_LOG, MOST_LOG_BY_REMOVALS};
 
 /// A commit that has all its memory: its record, and the step that it makes.
 #[derive(Drop)]
@@ -101,7 +101,7 @@ fn record_of(alloc: Global, number: u64, txn: &Txn) -> Result<Staged, NoMemory>
 
 impl<D: Disk, J: Naming> Kept<D, J> {
     /// Whether the log has no room for the record of a transaction. No memory holds a transaction whose length can't be counted.
-    fn log_full(&self, txn: &Txn) -> Result<Option<StoreFull>, NoMemory>
+    fn log_full(&self, txn: &Txn) -> Result<Option<Full>, NoMemory>
         requires end { self.now.log.end ≡ log_at (J.base self.now.line.index) self.now.line.history }
         ensures { IfOk result (λ full. full ≡ full_log (J.base self.now.line.index) self.now.line.history (map change_of txn.now.ops)) }
     {
@@ -110,24 +110,24 @@ impl<D: Disk, J: Naming> Kept<D, J> {
         if at.saturating_add(need) <= most_log(txn) {
             return Ok(None);
         }
-        let what = StoreLimit::Log;
-        Ok(Some(StoreFull { what, at, need }))
+        let what = FullKind::Log;
+        Ok(Some(Full { what, at, need }))
     }
 
     /// Whether the numbers of commits have ended.
-    fn numbers_full(&self) -> Option<StoreFull>
+    fn numbers_full(&self) -> Option<Full>
         ensures { result ≡ full_numbers (last_snapshot (J.base self.now.line.index) self.now.line.history) }
     {
         let at = self.line.snapshot().number;
         if at < LAST_COMMIT {
             return None;
         }
-        let what = StoreLimit::Numbers;
-        Some(StoreFull { what, at, need: 1 })
+        let what = FullKind::Numbers;
+        Some(Full { what, at, need: 1 })
     }
 
     /// The limit that a commit of a transaction would pass, where there aren't too many documents.
-    fn full(&self, txn: &Txn) -> Result<Option<StoreFull>, NoMemory>
+    fn full(&self, txn: &Txn) -> Result<Option<Full>, NoMemory>
         requires end { self.now.log.end ≡ log_at (J.base self.now.line.index) self.now.line.history }
         requires few { finite.len (changed (last_snapshot (J.base self.now.line.index) self.now.line.history) (map change_of txn.now.ops)) ≤ MAX_DOCUMENTS }
         ensures { IfOk result (λ full. full ≡ full_of (J.base self.now.line.index) self.now.line.history (map change_of txn.now.ops)) }
@@ -214,15 +214,10 @@ impl<D: Disk, J: Naming> Kept<D, J> {
         requires full { IsFull MAX_DOCUMENTS txn.now.ops (last_snapshot (J.base self.now.line.index) self.now.line.history) full }
         ensures { Refuses (J.base self.now.line.index) self.now.line txn.now.ops result }
     {
-        let Full { at, need, .. } = full;
-        let what = StoreLimit::Documents;
         let note = self.line.note();
         match self.log_full(txn) {
             Ok(Some(full)) => CommitFault::Full { full, note },
-            Ok(None) => CommitFault::Full {
-                full: StoreFull { what, at, need },
-                note,
-            },
+            Ok(None) => CommitFault::Full { full, note },
             Err(NoMemory) => CommitFault::NoMemory,
         }
     }

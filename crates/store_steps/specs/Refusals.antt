@@ -5,15 +5,15 @@ use Rattle.std.specs.FinMap as finite
 use Rattle.doc_types.specs.Commits.{Change, Put, Kill, Clear}
 use Rattle.doc_types.specs.Snapshots.{SnapshotValue, live}
 use Rattle.commit_outcomes.specs.Outcomes.{changed}
+use Rattle.commit_outcomes.specs.declared.outcome.Full.{Full}
+use Rattle.commit_outcomes.specs.declared.outcome.FullKind.TheVariants as limits
 use Rattle.commit_outcomes.specs.declared.outcome.TheConstants.{MAX_DOCUMENTS}
+use Rattle.commit_outcomes.specs.declared.strayed.Strayed.{Strayed}
 use Rattle.step_history.specs.History.{Base, Step, last_snapshot, place_of}
 use Rattle.step_history.specs.Logs.{change_length, log_at}
 use Rattle.step_line.specs.Lines.{LineValue, kept_by}
 use Rattle.step_tokens.specs.Tokens.{TokenValue}
-use Rattle.store_steps.specs.declared.limits.StoreFull.{StoreFull}
-use Rattle.store_steps.specs.declared.limits.StoreLimit.TheVariants as limits
 use Rattle.store_steps.specs.declared.limits.TheConstants.{LAST_COMMIT, MOST_LOG, MOST_LOG_BY_REMOVALS}
-use Rattle.store_steps.specs.declared.strayed.Strayed.{Strayed}
 
 -- The place of a history: it is that of the snapshot at opening, and one more for each step. It is kept in 64 bits.
 abbrev pub place_at : Base → List Step → ℕ
@@ -46,13 +46,13 @@ abbrev pub batch_length : List Change → ℕ
 batch_length changes = 13 + (4 + sum_by change_length changes)
 
 -- the limit that a commit of these changes would pass, the first of three
-abbrev pub full_numbers : SnapshotValue → Option StoreFull
+abbrev pub full_numbers : SnapshotValue → Option Full
 full_numbers before = if nat_lt LAST_COMMIT (before.number + 1) then Some (record { what = limits.Numbers; at = before.number; need = 1 }) else None
 
-abbrev pub full_documents : SnapshotValue → List Change → Option StoreFull
+abbrev pub full_documents : SnapshotValue → List Change → Option Full
 full_documents before changes =
     if nat_lt MAX_DOCUMENTS (finite.len (changed before changes)) then Some (record { what = limits.Documents; at = finite.len (live before); need = finite.len (changed before changes) - finite.len (live before) }) else full_numbers before
 
-abbrev pub full_of : Base → List Step → List Change → Option StoreFull
+abbrev pub full_of : Base → List Step → List Change → Option Full
 full_of base steps changes =
     if nat_lt (most_log changes) (log_at base steps + batch_length changes) then Some (record { what = limits.Log; at = log_at base steps; need = batch_length changes }) else full_documents (last_snapshot base steps) changes

@@ -5,11 +5,10 @@
 mod damage;
 mod laws;
 mod limits;
-mod strayed;
 
+pub use commit_outcomes::Strayed;
 pub use damage::{Damage, DamageKind, MOST_OPENED_CHUNKS};
 pub use laws::{
     another_length_is_damage, no_open_slot_stands_for_no_document, the_example_has_these_bytes,
 };
-pub use limits::{LAST_COMMIT, MOST_LOG, MOST_LOG_BY_REMOVALS, StoreFull, StoreLimit};
-pub use strayed::Strayed;
+pub use limits::{LAST_COMMIT, MOST_LOG, MOST_LOG_BY_REMOVALS};

@@ -4,6 +4,7 @@ use Rattle.srch_base.specs.Counts.{Rose}
 use Rattle.srch_base.specs.declared.faults.Failed.{Failed}
 use Rattle.srch_base.specs.declared.faults.Or.{Or}
 use Rattle.srch_base.specs.declared.faults.Or.TheVariants as causes
+use Rattle.commit_outcomes.specs.declared.outcome.Doubt.TheVariants as doubts
 use Rattle.doc_types.specs.Commits.{Entry}
 use Rattle.doc_types.specs.Snapshots.{SnapshotValue}
 use Rattle.doc_types.specs.declared.schema.Schema.{Schema}
@@ -20,7 +21,6 @@ use Rattle.store_keep.specs.Commits.{Learns, Refuses, front_of}
 use Rattle.store_keep.specs.declared.fault.CommitFault.{CommitFault}
 use Rattle.store_keep.specs.declared.fault.CommitFault.TheVariants as faults
 use Rattle.store_keep.specs.declared.fault.Committed.{Committed}
-use Rattle.store_keep.specs.declared.fault.Doubt.TheVariants as doubts
 use Rattle.store_keep.specs.declared.preparing.Prepared.{Prepared}
 
 -- The step is a commit that may follow these steps, and the record is its entry's. The log has room for it.
