@@ -14,7 +14,10 @@ use std::alloc::Global;
 use std::mem;
 
 /// A layer becomes one with those behind it as soon as they have so many times its rows.
-const FAN_IN: u64 = 15;
+const FAN_IN: u64 = 7;
+
+/// The most layers in memory that are left as they are.
+const MOST_LAYERS: usize = 32;
 
 /// How many rows of the layers live.
 fn live_count<C: Chunk>(layers: &[Layer<C>]) -> u64
@@ -42,7 +45,8 @@ fn is_on_disk<C: Chunk>(layer: &Layer<C>) -> bool
 
 /// Where the layers behind the last one on a disk begin.
 fn first_in_memory<C: Chunk>(layers: &[Layer<C>]) -> usize
-    ensures { (start : ℕ) → result ≤ start → AreInMemory start layers.now }
+    ensures memory { (start : ℕ) → result ≤ start → AreInMemory start layers.now }
+    ensures within { result ≤ length layers.now }
 {
     let mut first = layers.len();
     while first > 0 && !is_on_disk(&layers[first - 1]) {
@@ -51,13 +55,11 @@ fn first_in_memory<C: Chunk>(layers: &[Layer<C>]) -> usize
     first
 }
 
-/// The first layer that is to become one with all behind it, if there is one.
-fn merge_start<C: Chunk>(layers: &[Layer<C>]) -> Option<usize>
+/// The first layer from this one on that it is cheap by now to put together with all behind it, if there is one.
+fn cheap_start<C: Chunk>(layers: &[Layer<C>], first: usize) -> Option<usize>
     requires { length layers.now < 2 ^ 16 }
-    ensures start { IfSome result (λ start. start < length layers.now) }
-    ensures memory { IfSome result (λ start. AreInMemory start layers.now) }
+    ensures { IfSome result (λ start. (first ≤ start) × (start < length layers.now)) }
 {
-    let first = first_in_memory(layers);
     let mut behind = live_count(layers);
     for (index, layer) in layers.iter().enumerate() {
         let rows = u64::from(layer.live_count());
@@ -68,6 +70,25 @@ fn merge_start<C: Chunk>(layers: &[Layer<C>]) -> Option<usize>
         }
     }
     None
+}
+
+/// The first layer that is to become one with all behind it, if there is one.
+fn merge_start<C: Chunk>(layers: &[Layer<C>]) -> Option<usize>
+    requires { length layers.now < 2 ^ 16 }
+    ensures start { IfSome result (λ start. start < length layers.now) }
+    ensures memory { IfSome result (λ start. AreInMemory start layers.now) }
+{
+    let first = first_in_memory(layers);
+    let cheap = cheap_start(layers, first);
+    if layers.len() - first <= MOST_LAYERS {
+        return cheap;
+    }
+    // With one layer in place of those from here on, just so many are left.
+    let most = first + MOST_LAYERS - 1;
+    match cheap {
+        Some(start) => Some(start.min(most)),
+        None => Some(most),
+    }
 }
 
 /// Appends a copy of the row of this number, unless it is dead.
