@@ -48,6 +48,7 @@ fn told(alloc: Global, store: &mut PlainStore, id: u64) -> Result<String, Fail>
         Ok(CommitOutcome::Committed { removed }) => format!(in alloc; "{removed} removed")?,
         Ok(CommitOutcome::Duplicate { id }) => format!(in alloc; "{id} is there")?,
         Ok(CommitOutcome::Full(_)) => format!(in alloc; "full")?,
+        Ok(_) => format!(in alloc; "an outcome of a disk")?,
         Err(_) => format!(in alloc; "no memory")?,
     })
 }

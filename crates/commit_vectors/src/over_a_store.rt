@@ -45,6 +45,7 @@ fn told(alloc: Global, store: &mut PlainStore, line: &str) -> Result<String, Fai
         }
         Ok(CommitOutcome::Duplicate { id }) => duplicate_told(alloc, id),
         Ok(CommitOutcome::Full(full)) => full_told(alloc, full),
+        Ok(_) => Err(Fail::from("an outcome of a disk")),
         Err(_) => Err(Fail::from("no memory")),
     }
 }

@@ -2,6 +2,7 @@
 use Rattle.std.proofs.Common.{◌≡◌, ℕ, Option, None, sym, subst, refl}
 use Rattle.commit_outcomes.specs.declared.outcome.CommitOutcome.{CommitOutcome}
 use Rattle.commit_outcomes.specs.declared.outcome.CommitOutcome.TheVariants as outcomes
+use Rattle.commit_outcomes.specs.declared.outcome.Doubt.TheVariants as doubts
 use Rattle.reply_rows.specs.Written.{Written}
 use Rattle.ql_answers.specs.declared.meta.Meta.{Meta}
 use Rattle.ql_answers.specs.declared.plan.Counted.{Counted}
@@ -31,6 +32,14 @@ says_commit plan given counted rows (outcomes.Duplicate id) status before after 
     says_from plan given (Committing (outcomes.Duplicate id)) (reply_to_commit counted rows (outcomes.Duplicate id)) status before after is decides said
 says_commit plan given counted rows (outcomes.Full full) status before after is decides said =
     says_from plan given (Committing (outcomes.Full full)) (reply_to_commit counted rows (outcomes.Full full)) status before after is decides said
+says_commit plan given counted rows outcomes.Refused status before after is decides said =
+    says_from plan given (Committing outcomes.Refused) (reply_to_commit counted rows outcomes.Refused) status before after is decides said
+says_commit plan given counted rows (outcomes.InDoubt doubts.Disk) status before after is decides said =
+    says_from plan given (Committing (outcomes.InDoubt doubts.Disk)) (reply_to_commit counted rows (outcomes.InDoubt doubts.Disk)) status before after is decides said
+says_commit plan given counted rows (outcomes.InDoubt doubts.Memory) status before after is decides said =
+    says_from plan given (Committing (outcomes.InDoubt doubts.Memory)) (reply_to_commit counted rows (outcomes.InDoubt doubts.Memory)) status before after is decides said
+says_commit plan given counted rows (outcomes.Strayed numbers) status before after is decides said =
+    says_from plan given (Committing (outcomes.Strayed numbers)) (reply_to_commit counted rows (outcomes.Strayed numbers)) status before after is decides said
 
 -- want of memory is told whatever the plan is
 pub no_memory_decides : (plan : Plan) → Decides plan NoMemory (Fails no_memory)

@@ -8,6 +8,7 @@ use Rattle.doc_types.specs.Documents.{AreRowsOf}
 use Rattle.doc_types.specs.Snapshots.{AreLayers, SnapshotValue, all_living, live}
 use Rattle.commit_outcomes.specs.declared.outcome.CommitOutcome.{CommitOutcome}
 use Rattle.commit_outcomes.specs.declared.outcome.CommitOutcome.TheVariants as outcomes
+use Rattle.commit_outcomes.specs.declared.outcome.Doubt.TheVariants as doubts
 use Rattle.srch_base.specs.declared.faults.Or.{Or}
 use Rattle.srch_base.specs.declared.faults.Or.TheVariants as causes
 use Rattle.index_conf.specs.declared.conf.IndexConf.{IndexConf}
@@ -21,7 +22,7 @@ use Rattle.ql_answers.specs.declared.plan.Counted.{Counted}
 use Rattle.ql_answers.specs.declared.plan.Counted.TheVariants as counting
 use Rattle.ql_answers.specs.declared.plan.Plan.TheVariants.{Agree, Show, Search, Status, Keep, Put, Commit}
 use Rattle.ql_answers.specs.Plans.{Wants, Refuses, TakesMemory}
-use Rattle.ql_refusals.specs.Refusals.{Refused, no_memory, duplicate_id, index_full}
+use Rattle.ql_refusals.specs.Refusals.{Refused, disk_failed, disk_in_doubt, duplicate_id, index_full, memory_in_doubt, no_memory, strayed}
 use Rattle.doc_search.specs.declared.question.Question.{Question}
 use Rattle.doc_search.specs.Searches.{IsAskedOf}
 use Rattle.table_search.specs.Tables.{AreTables}
@@ -111,6 +112,10 @@ abbrev pub reply_to_commit : Counted → ℕ → CommitOutcome → Reply
 reply_to_commit counted rows (outcomes.Committed removed) = Done (affected counted rows removed)
 reply_to_commit counted rows (outcomes.Duplicate id) = Fails (duplicate_id id)
 reply_to_commit counted rows (outcomes.Full full) = Fails (index_full full)
+reply_to_commit counted rows outcomes.Refused = Fails disk_failed
+reply_to_commit counted rows (outcomes.InDoubt doubts.Disk) = Fails disk_in_doubt
+reply_to_commit counted rows (outcomes.InDoubt doubts.Memory) = Fails memory_in_doubt
+reply_to_commit counted rows (outcomes.Strayed numbers) = Fails (strayed numbers)
 
 -- What is replied to a plan by what happened.
 abbrev pub Decides : Plan → Happened → Reply → Type 0

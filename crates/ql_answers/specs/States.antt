@@ -53,7 +53,8 @@ abbrev pub pending_txn : Option PendingValue → Option Txn
 pending_txn None = None
 pending_txn (Some pending) = Some (record { ops = pending.ops })
 
--- the session once what is pending was to be committed: a commit that was refused ends the transaction
+-- the session once what is pending was to be committed: a commit that was refused, or is in doubt, ends the transaction too, and that
+-- is all it does
 abbrev pub finished : Turn → CommitOutcome → State → State
 finished turn (outcomes.Committed removed) state = turned turn state
 finished turn outcome state = ended state

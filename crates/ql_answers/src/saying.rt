@@ -15,9 +15,11 @@ use crate::meta::Meta;
 use crate::plan::{Counted, Plan, affected};
 use crate::refusing::put_refusal;
 use crate::showing::index_status;
-use commit_outcomes::CommitOutcome;
+use commit_outcomes::{CommitOutcome, Doubt};
 use doc_types::{Chunk, Snapshot};
-use ql_refusals::{duplicate_id, index_full, no_memory};
+use ql_refusals::{
+    disk_failed, disk_in_doubt, duplicate_id, index_full, memory_in_doubt, no_memory, strayed,
+};
 use reply_rows::Replies;
 use srch_base::NoMemory;
 use std::alloc::Global;
@@ -172,5 +174,9 @@ fn reply_to_commit(
         }
         CommitOutcome::Duplicate { id } => put_refusal(&duplicate_id(id), replies),
         CommitOutcome::Full(full) => put_refusal(&index_full(full), replies),
+        CommitOutcome::Refused => put_refusal(&disk_failed(), replies),
+        CommitOutcome::InDoubt(Doubt::Disk) => put_refusal(&disk_in_doubt(), replies),
+        CommitOutcome::InDoubt(Doubt::Memory) => put_refusal(&memory_in_doubt(), replies),
+        CommitOutcome::Strayed(numbers) => put_refusal(&strayed(numbers), replies),
     }
 }

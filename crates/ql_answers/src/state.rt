@@ -89,13 +89,17 @@ impl State {
         }
     }
 
-    /// What is pending was committed, with this outcome. One that was refused ends the transaction.
+    /// What is pending was to be committed, with this outcome. A commit that isn't acknowledged ends the transaction too.
     pub(crate) fn finish(&mut self, turn: Turn, outcome: CommitOutcome)
         ensures { self.new ≡ finished turn outcome self.old }
     {
         match outcome {
             CommitOutcome::Committed { .. } => self.turn(turn),
-            CommitOutcome::Duplicate { .. } | CommitOutcome::Full(_) => self.end(),
+            CommitOutcome::Duplicate { .. }
+            | CommitOutcome::Full(_)
+            | CommitOutcome::Refused
+            | CommitOutcome::InDoubt(_)
+            | CommitOutcome::Strayed(_) => self.end(),
         }
     }
 

@@ -9,7 +9,8 @@ use Rattle.query_grammar.specs.FaultTexts.{fault_text as query_text}
 use Rattle.query_grammar.specs.declared.fault.QueryFault.{QueryFault}
 use Rattle.commit_outcomes.specs.declared.outcome.Full.{Full}
 use Rattle.commit_outcomes.specs.declared.outcome.FullKind.{FullKind}
-use Rattle.commit_outcomes.specs.declared.outcome.FullKind.TheVariants.{Documents}
+use Rattle.commit_outcomes.specs.declared.outcome.FullKind.TheVariants.{Documents, Log, Numbers}
+use Rattle.commit_outcomes.specs.declared.strayed.Strayed.{Strayed}
 
 -- why a statement is refused: a code of the protocol, and a text
 pub record Refused : Type 0 where
@@ -18,7 +19,7 @@ pub record Refused : Type 0 where
 
 -- the SQL state of a code
 abbrev pub state_of : ℕ → List ℕ
-state_of code = if code == 1037 then codes "HY001" else codes "42000"
+state_of code = if code == 1037 then codes "HY001" else (if code == 1105 then codes "HY000" else codes "42000")
 
 -- a statement that is wrong, or can't be run
 abbrev pub refused : List ℕ → Refused
@@ -144,7 +145,26 @@ duplicate_id id = refused (codes "duplicate id " ++ decimal id)
 
 -- what an index is full of
 abbrev pub full_text : FullKind → List ℕ
+full_text Log = codes "log"
 full_text Documents = codes "documents"
+full_text Numbers = codes "numbers"
 
 abbrev pub index_full : Full → Refused
 index_full full = refused (full_text full.what ++ codes " full at " ++ decimal full.at ++ codes " needs " ++ decimal full.need)
+
+-- the numbers that contradict each other: how far a worker has seen the history and how far it goes, how many commits the worker made
+-- and how many of its commits the index has
+abbrev pub strayed : Strayed → Refused
+strayed numbers = refused (codes "history at " ++ decimal numbers.seen ++ codes " of " ++ decimal numbers.place ++ codes ", commits " ++ decimal numbers.made ++ codes " of " ++ decimal numbers.kept)
+
+-- the disk failed, and nothing of the commit takes effect
+abbrev pub disk_failed : Refused
+disk_failed = record { code = 1105; text = codes "disk fault: nothing was changed" }
+
+-- the disk failed, and the commit takes effect later or never
+abbrev pub disk_in_doubt : Refused
+disk_in_doubt = record { code = 1105; text = codes "disk fault: commit in doubt" }
+
+-- memory was refused, and the commit, which is on the disk, takes effect later
+abbrev pub memory_in_doubt : Refused
+memory_in_doubt = record { code = 1037; text = codes "out of memory: commit in doubt" }

@@ -1,11 +1,10 @@
 //! Why a statement is refused: a code of the protocol and a text, made by one named function for each text of the manual's
-//! table.
+//! table. Here are those that come before the store is asked.
 ghost use Rattle.std.specs.Prelude.{◌≡◌, ◌+◌, ◌≤◌, ◌++◌, [], codes, length, decimal};
 ghost use Rattle.query_grammar.specs.FaultTexts.{name_text};
-ghost use Rattle.ql_refusals.specs.Refusals.{bad_query as bad_query_row, bad_syntax as bad_syntax_row, bad_token as bad_token_row, column_is_field as column_is_field_row, column_is_no_field as column_is_no_field_row, column_twice as column_twice_row, duplicate_id as duplicate_id_row, full_text, group_by_missing as group_by_missing_row, id_missing as id_missing_row, id_out_of_range as id_out_of_range_row, index_full as index_full_row, max_matches_out_of_range as max_matches_out_of_range_row, no_memory as no_memory_row, not_offered as not_offered_row, offset_not_below as offset_not_below_row, other_index as other_index_row, ranker_not_offered as ranker_not_offered_row, refused, second_match as second_match_row, shown, state_of, too_many_columns as too_many_columns_row, too_many_facets as too_many_facets_row, too_many_operations as too_many_operations_row, too_many_positions as too_many_positions_row, too_many_sort_keys as too_many_sort_keys_row, transaction_open as transaction_open_row, transaction_too_large as transaction_too_large_row, unknown_column as unknown_column_row, unknown_index as unknown_index_row, unknown_option as unknown_option_row, value_out_of_range as value_out_of_range_row, wrong_kind as wrong_kind_row, wrong_number as wrong_number_row};
+ghost use Rattle.ql_refusals.specs.Refusals.{bad_query as bad_query_row, bad_syntax as bad_syntax_row, bad_token as bad_token_row, column_is_field as column_is_field_row, column_is_no_field as column_is_no_field_row, column_twice as column_twice_row, group_by_missing as group_by_missing_row, id_missing as id_missing_row, id_out_of_range as id_out_of_range_row, max_matches_out_of_range as max_matches_out_of_range_row, no_memory as no_memory_row, not_offered as not_offered_row, offset_not_below as offset_not_below_row, other_index as other_index_row, ranker_not_offered as ranker_not_offered_row, refused, second_match as second_match_row, shown, state_of, too_many_columns as too_many_columns_row, too_many_facets as too_many_facets_row, too_many_operations as too_many_operations_row, too_many_positions as too_many_positions_row, too_many_sort_keys as too_many_sort_keys_row, transaction_open as transaction_open_row, transaction_too_large as transaction_too_large_row, unknown_column as unknown_column_row, unknown_index as unknown_index_row, unknown_option as unknown_option_row, value_out_of_range as value_out_of_range_row, wrong_kind as wrong_kind_row, wrong_number as wrong_number_row};
 
 use arrayvec::ArrayVec;
-use commit_outcomes::{Full, FullKind};
 use itoa::Buffer;
 use ql_grammar::{ParseFault, ParseKind};
 use ql_lex::LexFault;
@@ -21,10 +20,13 @@ pub const MAX_REFUSAL_BYTES: usize = 200;
 const SHOWN: usize = 64;
 
 /// The code of a statement that is wrong, or can't be run: `ER_PARSE_ERROR`.
-const WRONG: u16 = 1064;
+pub(crate) const WRONG: u16 = 1064;
 
 /// The code of want of memory: `ER_OUTOFMEMORY`.
-const MEMORY: u16 = 1037;
+pub(crate) const MEMORY: u16 = 1037;
+
+/// The code of a disk that failed: `ER_UNKNOWN_ERROR`.
+pub(crate) const DISK: u16 = 1105;
 
 /// Why a statement is refused. It lies in place: making one takes no memory.
 #[derive(Drop)]
@@ -55,6 +57,8 @@ impl Refusal {
     {
         if self.code == MEMORY {
             *b"HY001"
+        } else if self.code == DISK {
+            *b"HY000"
         } else {
             *b"42000"
         }
@@ -69,7 +73,7 @@ impl Refusal {
     }
 
     /// A text alone.
-    fn plain(code: u16, text: &[u8]) -> Refusal
+    pub(crate) fn plain(code: u16, text: &[u8]) -> Refusal
         requires { length text.now ≤ 200 }
         ensures { result ≡ record { code = code; text = text.now } }
     {
@@ -89,7 +93,7 @@ impl Refusal {
     }
 
     /// A text with a number at its end.
-    fn numbered(prefix: &[u8], number: u64) -> Refusal
+    pub(crate) fn numbered(prefix: &[u8], number: u64) -> Refusal
         requires { length prefix.now ≤ 136 }
         ensures { result ≡ refused (prefix.now ++ decimal number) }
     {
@@ -107,7 +111,7 @@ impl Refusal {
     }
 
     /// The text goes on with a part.
-    fn then(mut self, part: &[u8]) -> Refusal
+    pub(crate) fn then(mut self, part: &[u8]) -> Refusal
         requires { length self.text + length part.now ≤ 200 }
         ensures { result ≡ record { code = self.code; text = self.text ++ part.now } }
     {
@@ -116,7 +120,7 @@ impl Refusal {
     }
 
     /// The text goes on with a number.
-    fn then_number(self, number: u64) -> Refusal
+    pub(crate) fn then_number(self, number: u64) -> Refusal
         requires { length self.text ≤ 160 }
         ensures value { result ≡ record { code = self.code; text = self.text ++ decimal number } }
         ensures short { length result.text ≤ length self.text + 40 }
@@ -372,32 +376,4 @@ pub fn transaction_too_large() -> Refusal
     ensures { result ≡ transaction_too_large_row }
 {
     Refusal::plain(WRONG, b"transaction above 8388608 bytes")
-}
-
-/// A document with the id is there, or was put by the same statement.
-pub fn duplicate_id(id: u64) -> Refusal
-    ensures { result ≡ duplicate_id_row id }
-{
-    Refusal::numbered(b"duplicate id ", id)
-}
-
-/// What an index is full of.
-fn full_text(kind: FullKind) -> &'static [u8]
-    ensures value { result.now ≡ full_text kind }
-    ensures short { length result.now ≤ 16 }
-{
-    match kind {
-        FullKind::Documents => b"documents",
-    }
-}
-
-/// A limit of the index would be passed.
-pub fn index_full(full: Full) -> Refusal
-    ensures { result ≡ index_full_row full }
-{
-    Refusal::plain(WRONG, full_text(full.what))
-        .then(b" full at ")
-        .then_number(full.at)
-        .then(b" needs ")
-        .then_number(full.need)
 }

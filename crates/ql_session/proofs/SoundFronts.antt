@@ -46,6 +46,9 @@ left_sound : (ops : List TxnOp) (before front : SnapshotValue) (outcome : Commit
 left_sound ops before front (outcomes.Committed removed) sound accepts = accepts.layers
 left_sound ops before front (outcomes.Duplicate id) sound (refuses, same) = subst IsSound (sym same) sound
 left_sound ops before front (outcomes.Full full) sound (is, same) = subst IsSound (sym same) sound
+left_sound ops before front outcomes.Refused sound leaves = absurd leaves
+left_sound ops before front (outcomes.InDoubt doubt) sound leaves = absurd leaves
+left_sound ops before front (outcomes.Strayed numbers) sound leaves = absurd leaves
 
 pub one_event : (old : Tables) (event : Event) (new : Tables) → AreSound old → Follows old event new → HasLayers (told in_memory.documents event) × AreSound new
 one_event old (Configured confs) new sound (is, same) = (tt, sound_as old new same sound)

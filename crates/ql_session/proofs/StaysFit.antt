@@ -32,6 +32,9 @@ fits_finished : (confs : List IndexConf) (state : State) (turn : Turn) (outcome 
 fits_finished confs state turn (outcomes.Committed removed) fits = fits_turned confs state turn fits
 fits_finished confs state turn (outcomes.Duplicate id) fits = tt
 fits_finished confs state turn (outcomes.Full full) fits = tt
+fits_finished confs state turn outcomes.Refused fits = tt
+fits_finished confs state turn (outcomes.InDoubt doubt) fits = tt
+fits_finished confs state turn (outcomes.Strayed numbers) fits = tt
 
 fits_plan : (confs : List IndexConf) (state : State) (plan : Plan) (happened : Happened) → IsSoundPlan confs state plan → Fits confs state → Fits confs (after_plan plan happened state)
 fits_plan confs state (Agree turn) Nothing sound fits = fits_turned confs state turn fits
