@@ -1,5 +1,6 @@
 -- The counts of workers' commits.
-use Rattle.std.proofs.Common.{◌≡◌, ℕ, ◌+◌, ◌-◌, ◌≤◌, ◌<◌, ◌^◌, ◌==◌, true, false, cond, length, List, [], ◌∷◌, ◌++◌, refl, sym, ap, ◌∙◌, arith, slice_index_or, set, length-set, ◌⊎◌, inl, inr, ⊎_elim, Option, None, Some}
+use Rattle.std.proofs.Common.{◌≡◌, ℕ, ◌+◌, ◌-◌, ◌≤◌, ◌<◌, ◌^◌, ◌==◌, true, false, cond, length, List, [], ◌∷◌, ◌++◌, refl, sym, ap, ◌∙◌, arith, slice_index_or, set, length-set, ◌⊎◌, inl, inr, ⊎_elim, Option, None, Some, All, subst}
+use Rattle.std.proofs.lemmas.List.Elements.{All-push}
 use Rattle.std.proofs.lemmas.Bool.Decides.{nat_tests}
 use Rattle.std.proofs.lemmas.List.{get_or-set_same, get_or-set_other}
 use Rattle.step_history.specs.History.{Step, Commit, Reshape, made_by}
@@ -86,3 +87,14 @@ counts_with counts new history step (Some worker) is whose by are k l =
     let among = is_among (length counts) worker step by (sym whose) in
     let long : length new ≡ length counts = ap length is ∙ length-set counts (worker - 1) (slice_index_or counts (worker - 1) 0 + 1) in
     rw is (counted counts history step worker among.0 among.1 (sym whose) are k (omega (arith, l, long)))
+
+long_as : (worker : Option ℕ) (counts : List ℕ) → length (one_more worker counts) ≡ length counts
+long_as None counts = refl
+long_as (Some worker) counts = length-set counts (worker - 1) (slice_index_or counts (worker - 1) 0 + 1)
+
+-- each commit is by one of the workers, that of the step that waits from now on too
+pub all_by_with : (counts new : List ℕ) (history : List Step) (step : Step) (worker : Option ℕ) → new ≡ one_more worker counts → IsBy (length counts) step
+    → All (IsBy (length counts)) history
+    → All (IsBy (length new)) (history ++ step ∷ [])
+all_by_with counts new history step worker is by all =
+    subst (λ n. All (IsBy n) (history ++ step ∷ [])) (sym (ap length is ∙ long_as worker counts)) (All-push (IsBy (length counts)) history step all by)

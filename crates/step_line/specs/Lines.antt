@@ -1,7 +1,7 @@
 -- Lines: the writing end of an index.
-use Rattle.std.specs.Prelude.{ℕ, ◌+◌, ◌<◌, ◌≤◌, ◌^◌, List, [], ◌∷◌, ◌++◌, length, Option, None, Some}
+use Rattle.std.specs.Prelude.{ℕ, ◌+◌, ◌<◌, ◌≤◌, ◌^◌, List, [], ◌∷◌, ◌++◌, length, Option, None, Some, All, IfSome}
 use Rattle.doc_types.specs.declared.schema.Schema.{Schema}
-use Rattle.step_history.specs.History.{Base, Step, Commit, Reshape, AreOf, Follows, made_by, snapshot_of}
+use Rattle.step_history.specs.History.{Base, Step, Commit, Reshape, AreOf, Follows, IsGood, made_by, snapshot_of}
 use Rattle.step_book.specs.Fronts.{FrontValue}
 
 -- Of which index it is, how many workers commit, the published steps, and the step that waits to be published, if one does.
@@ -51,3 +51,17 @@ step_in (Some pending) = Some pending.step
 abbrev pub IsBy : ℕ → Step → Type 0
 IsBy workers (Commit entry snapshot) = (0 < entry.worker) × (entry.worker ≤ workers)
 IsBy workers (Reshape job through snapshot) = Unit {0}
+
+-- each commit of a line is by one of its workers, the one that waits included
+abbrev pub AreBy : LineValue → Type 0
+AreBy line = All (IsBy line.workers) (entered line)
+
+-- what waits, if a step does, may be published next
+abbrev pub MayWait : Schema → Base → LineValue → Type 0
+MayWait schema base line = IfSome line.waiting (MayFollow schema base line.history)
+
+-- A line of an index: the history is good, what waits may be published next, and all commits are by the line's workers.
+pub record IsLine (schema : Schema) (base : Base) (line : LineValue) : Type 0 where
+  pub good : IsGood schema base line.history
+  pub next : MayWait schema base line
+  pub by : AreBy line

@@ -3,7 +3,7 @@
 ghost use Rattle.std.specs.Prelude.{◌≡◌, ◌<◌, ◌≤◌, [], None, Some, OnErr, OnOk, IfOk};
 ghost use Rattle.std.specs.Arc.{arc_value};
 ghost use Rattle.step_history.specs.History.{last_snapshot};
-ghost use Rattle.step_line.specs.Lines.{IsBy, kept_by, new_line, settled};
+ghost use Rattle.step_line.specs.Lines.{IsBy, IsLine, kept_by, new_line, settled};
 
 use crate::counting::count_step;
 use crate::pending::Pending;
@@ -33,14 +33,14 @@ impl<J: Naming> Model for Line<J> {
     ghost use Rattle.std.specs.Prelude.{◌≡◌, length};
     ghost use Rattle.std.specs.Arc.{arc_value};
     ghost use Rattle.step_history.specs.History.{last_snapshot};
-    ghost use Rattle.step_line.specs.Lines.{LineValue, step_in};
+    ghost use Rattle.step_line.specs.Lines.{AreBy, LineValue, MayWait, step_in};
     ghost use Rattle.step_line.specs.steps.Queues.{AreCounts, Waits};
 
     ghost Value = { LineValue };
 
     ghost view = { λ l. record { index = l.front.index; workers = length l.counts.items; history = l.front.steps; waiting = step_in l.waiting } };
 
-    ghost invariant = { λ l. (l.end.desk.shown.value ≡ record { index = l.front.index; snapshot = last_snapshot (J.base l.front.index) l.front.steps; book = J.book l.front.index; steps = l.front.steps }) × (arc_value l.snapshot ≡ last_snapshot (J.base l.front.index) l.front.steps) × (l.book.index ≡ l.front.index) × Waits l.front l.waiting × AreCounts l.counts.items (record { index = l.front.index; workers = length l.counts.items; history = l.front.steps; waiting = step_in l.waiting }) };
+    ghost invariant = { λ l. (l.end.desk.shown.value ≡ record { index = l.front.index; snapshot = last_snapshot (J.base l.front.index) l.front.steps; book = J.book l.front.index; steps = l.front.steps }) × (arc_value l.snapshot ≡ last_snapshot (J.base l.front.index) l.front.steps) × (l.book.index ≡ l.front.index) × Waits l.front l.waiting × AreCounts l.counts.items (record { index = l.front.index; workers = length l.counts.items; history = l.front.steps; waiting = step_in l.waiting }) × MayWait (J.schema l.front.index) (J.base l.front.index) (record { index = l.front.index; workers = length l.counts.items; history = l.front.steps; waiting = step_in l.waiting }) × AreBy (record { index = l.front.index; workers = length l.counts.items; history = l.front.steps; waiting = step_in l.waiting }) };
 }
 
 impl<J: Naming> Line<J> {
@@ -89,8 +89,10 @@ impl<J: Naming> Line<J> {
 
     /// A note of it.
     pub fn note(&self) -> Note<J>
-        ensures { result ≡ record { index = self.now.index; steps = self.now.history } }
+        ensures note { result ≡ record { index = self.now.index; steps = self.now.history } }
+        ensures line { IsLine (J.schema self.now.index) (J.base self.now.index) self.now }
     {
+        let _steps = self.front.len();
         Note::of(&self.front)
     }
 

@@ -61,7 +61,7 @@ impl<J: Naming> Pending<J> {
     /// The worker whose commit it is. None where it is the end of a job.
     pub(crate) fn worker(&self) -> Option<u32>
         ensures worker { result ≡ worker_of self.now.step }
-        ensures room { length self.now.from.steps + 1 < 2 ^ 63 }
+        ensures may { MayFollow (J.schema self.now.from.index) (J.base self.now.from.index) self.now.from.steps self.now.step }
     {
         self.made.worker()
     }

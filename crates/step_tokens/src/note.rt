@@ -1,5 +1,6 @@
 //! What one session tells another: the history that it has seen.
-ghost use Rattle.std.specs.Prelude.{◌≡◌};
+ghost use Rattle.std.specs.Prelude.{◌≡◌, length};
+ghost use Rattle.step_history.specs.History.{IsGood};
 
 use std::marker::Model;
 use step_book::{Front, Naming};
@@ -33,5 +34,13 @@ impl<J: Naming> Note<J> {
         ensures { result ≡ self.now.index }
     {
         self.front.index()
+    }
+
+    /// How many steps it tells. They are a good history.
+    pub fn len(&self) -> u64
+        ensures length { result ≡ length self.now.steps }
+        ensures good { IsGood (J.schema self.now.index) (J.base self.now.index) self.now.steps }
+    {
+        self.front.len()
     }
 }

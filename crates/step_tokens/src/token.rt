@@ -79,9 +79,10 @@ impl<J: Naming> Token<J> {
         self.worker
     }
 
-    /// How many steps it has seen.
+    /// How many steps it has seen. They are a good history.
     pub fn len(&self) -> u64
-        ensures { result ≡ length self.now.seen }
+        ensures length { result ≡ length self.now.seen }
+        ensures good { IsGood (J.schema self.now.index) (J.base self.now.index) self.now.seen }
     {
         self.front.len()
     }

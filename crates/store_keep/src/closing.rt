@@ -2,6 +2,7 @@
 ghost use Rattle.std.specs.Prelude.{◌≡◌};
 ghost use Rattle.std.specs.List.{AllZip};
 ghost use Rattle.step_history.specs.History.{place_of};
+ghost use Rattle.step_line.specs.Lines.{IsLine};
 ghost use Rattle.store_keep.specs.Tellings.{AreOfIndex, AreTokensOf, IsTold, TellsAll, first_stray};
 
 use crate::keeper::Keeper;
@@ -45,15 +46,16 @@ impl<D: Disk, J: Naming> Keeper<D, J> {
     pub fn newest(&self, tokens: &mut [Token<J>]) -> Result<Note<J>, Or<Strayed>>
         requires tokens { AreTokensOf self.now.kept.line tokens.old }
         requires first { self.now.first ≡ place_of (J.base self.now.kept.line.index).opening }
-        ensures { TellsAll (J.base self.now.kept.line.index) self.now.kept.line self.now.strayed tokens.old result tokens.new }
+        ensures tells { TellsAll (J.base self.now.kept.line.index) self.now.kept.line self.now.strayed tokens.old result tokens.new }
+        ensures line { IsLine (J.schema self.now.kept.line.index) (J.base self.now.kept.line.index) self.now.kept.line }
     {
+        let note = self.kept.line.note();
         if let Some(strayed) = self.strayed {
             return Err(Or::Fault(strayed));
         }
         if let Some(strayed) = self.first_stray(tokens) {
             return Err(Or::Fault(strayed));
         }
-        let note = self.kept.line.note();
         tell_all(tokens, &note);
         Ok(note)
     }

@@ -1,7 +1,7 @@
-use Rattle.std.proofs.Common.{◌≡◌, ◌<◌, ◌^◌, ◌+◌, ◌-◌, ◌∙◌, sym, ap, subst, arith, length}
+use Rattle.std.proofs.Common.{◌≡◌, ◌<◌, ◌^◌, ◌+◌, ◌-◌, ◌∙◌, sym, ap, subst, arith, length, All}
 use Rattle.step_history.specs.History.{made_by}
-use Rattle.step_line.specs.Lines.{LineValue, IsBy, with_waiting}
-use Rattle.step_line.proofs.CommitCounts.{counts_with, has_room, is_among}
+use Rattle.step_line.specs.Lines.{LineValue, IsBy, MayFollow, with_waiting}
+use Rattle.step_line.proofs.CommitCounts.{all_by_with, counts_with, has_room, is_among}
 use Rattle.step_line.proofs.line.Line.put.Goals as goal
 
 pub count_step-requires-clause-among : goal.count_step-requires-clause-among
@@ -15,7 +15,7 @@ count_step-requires-clause-room g c worker is =
     let none = ap (λ (v : LineValue). v.waiting) c.self.view_is ∙ c.requires.none in
     let among = is_among (length counts) worker c.args.pending.step (subst (λ (v : LineValue). IsBy v.workers c.args.pending.step) (sym c.self.view_is) c.requires.by) (sym c.worker-worker.ensures.worker ∙ is) in
     let from : c.args.pending.from ≡ c.self.inside.front = c.requires.from ∙ ap (λ (v : LineValue). record { index = v.index; steps = v.history }) (sym c.self.view_is) in
-    let few : length steps + 1 < 2 ^ 63 = rw from at c.worker-worker.ensures.room in
+    let few : length steps + 1 < 2 ^ 63 = rw from at c.worker-worker.ensures.may.room in
     let some = among.0 in
     let most = among.1 in
     has_room counts steps (worker - 1) few (omega (arith, some, most)) (λ k h. c.self.invariant.4 k h ∙ ap (λ w. made_by (k + 1) (with_waiting steps w)) none)
@@ -23,12 +23,18 @@ count_step-requires-clause-room g c worker is =
 pub invariant_of-self : goal.invariant_of-self
 invariant_of-self g c =
     let steps = c.self.inside.front.steps in
-    let none = ap (λ (v : LineValue). v.waiting) c.self.view_is ∙ c.requires.none in (
+    let none = ap (λ (v : LineValue). v.waiting) c.self.view_is ∙ c.requires.none in
+    let from : c.args.pending.from ≡ c.self.inside.front = c.requires.from ∙ ap (λ (v : LineValue). record { index = v.index; steps = v.history }) (sym c.self.view_is) in
+    let next : MayFollow (g.J.Naming.schema c.self.inside.front.index) (g.J.Naming.base c.self.inside.front.index) steps c.args.pending.step = rw from at c.worker-worker.ensures.may in (
       c.self.invariant.0,
       c.self.invariant.1,
       c.self.invariant.2,
-      c.requires.from ∙ ap (λ (v : LineValue). record { index = v.index; steps = v.history }) (sym c.self.view_is),
+      from,
       counts_with c.self.inside.counts.items c.count_step.new.counts.items steps c.args.pending.step c.worker-worker.result c.count_step.ensures c.worker-worker.ensures.worker
           (subst (λ (v : LineValue). IsBy v.workers c.args.pending.step) (sym c.self.view_is) c.requires.by)
           (λ k h. c.self.invariant.4 k h ∙ ap (λ w. made_by (k + 1) (with_waiting steps w)) none),
+      next,
+      all_by_with c.self.inside.counts.items c.count_step.new.counts.items steps c.args.pending.step c.worker-worker.result c.count_step.ensures
+          (subst (λ (v : LineValue). IsBy v.workers c.args.pending.step) (sym c.self.view_is) c.requires.by)
+          (subst (λ w. All (IsBy (length c.self.inside.counts.items)) (with_waiting steps w)) none c.self.invariant.6),
     )

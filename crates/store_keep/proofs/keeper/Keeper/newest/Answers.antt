@@ -12,8 +12,8 @@ tell_all-requires g c =
     let note : c.note-note.result ≡ front_of line = search rules in
     subst (λ (n : FrontValue). AreOfIndex n.index c.args.tokens.now) (sym note) (of_index line c.args.tokens.now c.requires.tokens)
 
-pub returns : goal.returns
-returns g c =
+pub returns-clause-tells : goal.returns-clause-tells
+returns-clause-tells g c =
     let line = c.args.self.now.kept.line in
     let held : c.args.self.now.strayed ≡ None = search rules in
     let none : first_stray (g.J.Naming.base line.index) line c.args.tokens.now ≡ None = search rules in
