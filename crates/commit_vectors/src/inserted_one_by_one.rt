@@ -8,7 +8,7 @@ use std::alloc::Global;
 use std::test::Fail;
 
 /// Ids that are inserted one by one. A commit is told by its number, the shape, which stays in memory, and how many layers there
-/// are: fifteen layers behind one of their size make one of them all.
+/// are: seven layers behind one of their size make one of them all.
 const INSERTED: [(u64, &str); 19] = [
     (5, "1 0 1"),
     (5, "5 is there"),
@@ -18,17 +18,17 @@ const INSERTED: [(u64, &str); 19] = [
     (6, "5 0 5"),
     (4, "6 0 6"),
     (3, "7 0 7"),
-    (2, "8 0 8"),
-    (1, "9 0 9"),
-    (20, "10 0 10"),
-    (19, "11 0 11"),
-    (18, "12 0 12"),
-    (17, "13 0 13"),
-    (16, "14 0 14"),
-    (15, "15 0 15"),
-    (14, "16 0 1"),
+    (2, "8 0 1"),
+    (1, "9 0 2"),
+    (20, "10 0 3"),
+    (19, "11 0 4"),
+    (18, "12 0 5"),
+    (17, "13 0 6"),
+    (16, "14 0 7"),
+    (15, "15 0 8"),
+    (14, "16 0 2"),
     (9, "9 is there"),
-    (30, "17 0 2"),
+    (30, "17 0 3"),
 ];
 
 /// What inserting the id tells.

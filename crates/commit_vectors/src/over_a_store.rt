@@ -9,7 +9,7 @@ use std::alloc::Global;
 use std::test::Fail;
 
 /// A transaction and what becomes of it, as over layers. A layer more than half of whose rows are dead becomes one with those
-/// behind it, and so does one with fifteen times its living rows behind it.
+/// behind it, and so does one with seven times its living rows behind it.
 const COMMITS: &str = "
 +1 +2 +3 +4 +5 ⇒ 0 removed, 1 / 1@1 2@1 3@1 4@1 5@1
 -1 -2 ⇒ 2 removed, 2 / (1@1) (2@1) 3@1 4@1 5@1
@@ -25,8 +25,8 @@ const COMMITS: &str = "
 -3 -9 +1 ⇒ 1 is there
 -1 -3 +9 ⇒ 9 is there
 -1 =3 ⇒ 1 removed, 11 / 4@6 / (3@8) 9@10 / 3@11
-+10 +11 +12 +13 +14 +15 +16 +17 +18 +19 +20 +21 ⇒ 0 removed, 12 / 4@6 / (3@8) 9@10 / 3@11 / 10@12 11@12 12@12 13@12 14@12 15@12 16@12 17@12 18@12 19@12 20@12 21@12
-+22 ⇒ 0 removed, 13 / 3@11 4@6 9@10 10@12 11@12 12@12 13@12 14@12 15@12 16@12 17@12 18@12 19@12 20@12 21@12 22@13
++10 +11 +12 +13 ⇒ 0 removed, 12 / 4@6 / (3@8) 9@10 / 3@11 / 10@12 11@12 12@12 13@12
++22 ⇒ 0 removed, 13 / 3@11 4@6 9@10 10@12 11@12 12@12 13@12 22@13
 * +1 ⇒ 0 removed, 14 / 1@14
 * ⇒ 0 removed, 15
 ";
