@@ -79,6 +79,7 @@ impl Past {
 }
 
 /// A line without steps, which has no name yet.
+#[derive(Drop)]
 pub struct NewBook {
     head: Word<Mark, u64, Law>,
     past: Past,

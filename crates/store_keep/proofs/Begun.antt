@@ -132,6 +132,8 @@ begun_found words schema root old new found state_is read tells steps root_is lo
         places = λ id row got.
             ap (λ (ls : List LayerValue). list_any (λ row. row.doc.id == id) (all_living ls)) (no_disk snapshot.layers loaded.memory)
             ∙ sym (ap not (lt-ltb 0 row.born (loaded.newer id row got)));
+        chunks = says.chunks;
+        few = omega arith;
         records_are = records;
       };
       kept = λ hides. record {

@@ -210,6 +210,8 @@ found_is words schema root state old new logs found state_is good slots looks re
             places = λ id row got.
                 ap (λ (ls : List LayerValue). list_any (λ row. row.doc.id == id) (all_living ls)) (no_disk snapshot.layers loads.snapshot.memory)
                 ∙ sym (ap not (lt-ltb state.through row.born (loads.snapshot.newer id row got)));
+            chunks = chunks;
+            few = omega arith;
             records_are = omega (arith, loads.records_are, count_from state.through numbers.first (batches_in schema records) numbers.from numbers.low (omega (arith, numbers.last, loads.reach)), numbers.last, loads.snapshot.number_is, ap (λ (bs : List Batch). length (above state.through bs)) same);
           };
       kept = λ hides.

@@ -30,3 +30,5 @@ pub mod RootFound
 pub mod FirstFiles
 -- an index that was begun
 pub mod Begun
+-- chunks of a snapshot that are on the disk
+pub mod Counted

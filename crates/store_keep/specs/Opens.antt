@@ -10,11 +10,12 @@ use Rattle.doc_types.specs.declared.schema.Schema.{Schema}
 use Rattle.doc_types.specs.Snapshots.{SnapshotValue, live}
 use Rattle.root_slots.specs.Slots.{IsRoot, slots_of}
 use Rattle.step_history.specs.History.{AreOf, Base}
-use Rattle.step_history.specs.Places.{on_disk}
+use Rattle.step_history.specs.Places.{disk_chunks, on_disk}
 use Rattle.store_steps.specs.Batches.{Batch}
 use Rattle.store_steps.specs.Damage.{IsDamaged}
 use Rattle.store_steps.specs.Directory.{Directory, Holds, StandsFor, number_in, rows_in, taken, through_in}
 use Rattle.store_steps.specs.Kept.{IsKept}
+use Rattle.store_steps.specs.declared.damage.TheConstants.{MOST_OPENED_CHUNKS}
 use Rattle.store_keep.specs.declared.fault.StoreFault.{StoreFault}
 use Rattle.store_keep.specs.declared.fault.StoreFault.TheVariants as faults
 use Rattle.store_keep.specs.declared.opening.Opened.{Opened}
@@ -28,14 +29,22 @@ abbrev pub taken_in : Option Directory → List Batch
 taken_in None = []
 taken_in (Some dir) = taken dir
 
+-- the rows of each chunk
+abbrev pub chunks_in : Option Directory → List (List DocRow)
+chunks_in None = []
+chunks_in (Some dir) = dir.chunks
+
 -- The snapshot is what the image stands for: its rows by the number of the last commit. A row lives on the disk exactly where the
--- chunks have it, and so many records of logs were read that they don't have.
+-- chunks have it, the chunks on the disk are those of the files, no more than are opened, and so many records of logs were read that
+-- they don't have.
 pub record IsFoundIn (schema : Schema) (snapshot : SnapshotValue) (records : ℕ) (x : Image) : Type 0 where
   pub found : Option Directory
   pub holds : Holds schema found x
   pub rows : rows_in found ≡ live snapshot
   pub number : number_in found ≡ snapshot.number
   pub places : (id : ℕ) (row : DocRow) → finite.get (live snapshot) id ≡ Some row → on_disk snapshot id ≡ not (nat_lt (through_in found) row.born)
+  pub chunks : chunks_in found ≡ disk_chunks snapshot
+  pub few : length (chunks_in found) ≤ MOST_OPENED_CHUNKS
   pub records_are : records ≡ length (taken_in found)
 
 -- where the history of a store begins: its snapshot, and the end of its log

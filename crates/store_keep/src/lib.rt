@@ -12,6 +12,7 @@ mod laws;
 mod loading;
 mod making;
 mod numbers;
+mod opened;
 mod opening;
 mod preparing;
 mod settling;

@@ -40,6 +40,7 @@ const FIRST_LOG: u32 = 2;
 const MOST_TEXT: usize = 65_535;
 
 /// A store that was opened and has no name yet.
+#[derive(Drop)]
 pub struct Opened<D: Disk> {
     pub(crate) disk: D,
     pub(crate) root: Root,

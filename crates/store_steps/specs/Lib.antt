@@ -4,6 +4,8 @@ pub mod Batches
 pub mod Directory
 -- what is wrong with them
 pub mod Damage
+-- and in which words that is told
+pub mod DamageTexts
 -- what a disk keeps of a history
 pub mod Kept
 -- when a commit is refused

@@ -1,5 +1,9 @@
 //! What is wrong with the files of an index.
+ghost use Rattle.std.specs.Prelude.{◌≡◌};
+ghost use Rattle.store_steps.specs.DamageTexts.{damage_text};
 
+use std::error;
+use std::fmt;
 use thiserror::Error;
 
 /// The most chunks of a root that is opened. Chunks on a disk can't be opened yet.
@@ -15,27 +19,50 @@ pub struct Damage {
 }
 
 /// How.
-#[derive(Clone, Copy, Debug, PartialEq, Eq, Error)]
+#[derive(Clone, Copy, Debug, PartialEq, Eq)]
 pub enum DamageKind {
     /// An open slot ends before its state does.
-    #[error("root length")]
     RootLength,
     /// A field of an open slot's state breaks the layout, or something follows the last field; or there are more chunks than are
     /// opened.
-    #[error("root state")]
     RootState,
     /// The root's columns aren't those of the configuration.
-    #[error("root schema")]
     RootSchema,
-    #[error("log missing")]
     LogMissing,
     /// A record, or the gate behind it, isn't whole.
-    #[error("record length")]
     RecordLength,
     /// The number of a record isn't the next one.
-    #[error("record number")]
     RecordNumber,
     /// A record holds no transaction of the schema.
-    #[error("record payload")]
     RecordPayload,
 }
+
+impl DamageKind {
+    /// The kind in words.
+    pub fn text(self) -> &'static str
+        ensures { result.now ≡ damage_text self }
+    {
+        match self {
+            DamageKind::RootLength => "root length",
+            DamageKind::RootState => "root state",
+            DamageKind::RootSchema => "root schema",
+            DamageKind::LogMissing => "log missing",
+            DamageKind::RecordLength => "record length",
+            DamageKind::RecordNumber => "record number",
+            DamageKind::RecordPayload => "record payload",
+        }
+    }
+}
+
+impl fmt::Display for DamageKind {
+    ghost use Rattle.std.specs.Prelude.{Some};
+    ghost use Rattle.store_steps.specs.DamageTexts.{damage_text};
+
+    ghost output = { λ kind. Some (damage_text kind) };
+
+    fn fmt<W: fmt::Write>(&self, f: &mut fmt::Formatter<W>) -> fmt::Result {
+        f.write_str(self.text())
+    }
+}
+
+impl error::Error for DamageKind {}
