@@ -2,8 +2,7 @@
 ghost use Rattle.std.specs.Prelude.{◌≡◌};
 ghost use Rattle.store_steps.specs.DamageTexts.{damage_text};
 
-use std::error;
-use std::fmt;
+use std::{error, fmt};
 use thiserror::Error;
 
 /// The most chunks of a root that is opened. Chunks on a disk can't be opened yet.
