@@ -44,6 +44,14 @@ module _ {H S D K : Type 0} (host : HostWords H S D K) (store : DiskWords S) (do
     inl (record { idle = idle_asking host [] old old (asks_nothing host old); says = (none, refl, refl) }),
   )
 
+  -- there was no memory to read the words
+  pub runs_unread : (mode : Option Mode) (old : H) → Runs host store door link mode NoMemory old old
+  runs_unread mode old = (
+    asking host [] old old,
+    does_asking host [] old old (asks_nothing host old),
+    inl (record { idle = idle_asking host [] old old (asks_nothing host old); says = (0, refl) }),
+  )
+
   -- the mode's file gave no configuration
   pub runs_unconfigured : (mode : Option Mode) (file : List ℕ) (status : Status) (old new : H) → file_of mode ≡ Some file → Configures (host.text old file) (Err status) (host.faults old) (host.faults new)
       → Asks host old new (ReadText file ∷ []) → Runs host store door link mode status old new
