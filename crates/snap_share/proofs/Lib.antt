@@ -1,0 +1,6 @@
+-- what a commit says of its token alone
+pub mod Sharing
+-- how an engine ends
+pub mod Ending
+-- an engine may be shared by threads
+pub mod Crossing
