@@ -1,0 +1,90 @@
+//! Workers of one engine at once, each in a thread of its own: all their commits are in the one history, and each reads at least
+//! its own.
+ghost use Rattle.std.specs.Prelude.{◌≡◌, All};
+ghost use Rattle.share_vectors.specs.Users.{IsUser, plain};
+ghost use Rattle.store_keep.specs.Opens.{IsOpened, base_of};
+
+use crate::commits::{insert, schema};
+use chunk_store::MemoryDisk;
+use snap_share::{Engine, Token, snapshot};
+use srch_base::NoMemory;
+use std::alloc::Global;
+use std::marker::Brand;
+use std::process::Abort;
+use std::sync::Wait;
+use std::test::Fail;
+use std::thread::{Threads, for_each_mut};
+use step_book::Naming;
+use store_keep::Opened;
+
+/// How many workers commit.
+const WORKERS: u32 = 3;
+
+/// How many commits each of them makes.
+const COMMITS: u32 = 100;
+
+/// Makes a worker's commits, and reads behind each.
+fn work<J: Naming, R: Wait>(
+    rt: &R,
+    alloc: Global,
+    engine: &Engine<MemoryDisk, J>,
+    token: &mut Token<J>,
+)
+    requires { IsUser J.schema engine.now token.old }
+    ensures { IsUser J.schema engine.now token.new }
+{
+    let first = u64::from(token.worker()) << 32;
+    for count in 0..COMMITS {
+        let _ = insert(rt, alloc, engine, token, first | u64::from(count));
+        let _ = snapshot(token);
+    }
+}
+
+/// Lets all workers commit at once.
+fn work_all<J: Naming + Send + Sync, R: Threads + Wait + Sync>(
+    rt: &R,
+    alloc: Global,
+    engine: &Engine<MemoryDisk, J>,
+    tokens: &mut [Token<J>],
+)
+    requires { All (IsUser J.schema engine.now) tokens.old }
+    ensures { All (IsUser J.schema engine.now) tokens.new }
+{
+    for_each_mut(rt, tokens, WORKERS as usize, &|_: usize, token: &mut Token<J>| {
+        work(rt, alloc, engine, token)
+    });
+}
+
+fn run<J: Naming + Send + Sync, R: Threads + Wait + Abort + Sync>(
+    rt: &R,
+    alloc: Global,
+    opened: Opened<MemoryDisk>,
+) -> Result<(), Fail>
+    requires book { opened.book.past.seen.book ≡ J.book 0 }
+    requires base { J.base 0 ≡ base_of opened }
+    requires columns { J.schema 0 ≡ plain }
+    requires opened { IsOpened MemoryDisk.Disk plain opened }
+{
+    let (engine, mut tokens) = match Engine::<MemoryDisk, J>::named(rt, alloc, opened, 0, WORKERS) {
+        Ok(named) => named,
+        Err(_) => return Err(NoMemory)?,
+    };
+    work_all(rt, alloc, &engine, tokens.as_mut_slice());
+    let (_disk, told) = engine.close(rt, tokens.as_mut_slice());
+    let all = u64::from(WORKERS * COMMITS);
+    assert!(rt; told.is_ok_and(|note| note.len() == all));
+    for token in tokens.iter() {
+        assert_eq!(rt; (token.len(), token.made()), (all, u64::from(COMMITS)));
+    }
+    Ok(())
+}
+
+#[test]
+fn workers_commit_at_once(rt: HostRuntime) -> Result<(), Fail> {
+    let alloc = rt.alloc();
+    let schema = schema(alloc)?;
+    match Opened::open(alloc, MemoryDisk::new(alloc, Vec::new(alloc)), &schema) {
+        Ok(opened) => run::<Brand, _>(&rt, alloc, opened),
+        Err(_) => Err(NoMemory)?,
+    }
+}

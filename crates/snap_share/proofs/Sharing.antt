@@ -1,0 +1,178 @@
+-- What a commit says of its token alone: the keeper's words, without the keeper.
+use Rattle.std.proofs.Common.{◌≡◌, ◌⊎◌, inl, inr, ⊎_elim, ℕ, ◌+◌, ◌≤◌, ◌==◌, List, [], ◌∷◌, ◌++◌, length, Option, Some, None, Result, Ok, Err, refl, sym, ◌∙◌, ap, subst, arith, length-append, IfSome}
+use Rattle.std.proofs.lemmas.Bool.Decides.{nat_tests}
+use mathlib.Core.List.{IsPrefix}
+use Rattle.commit_outcomes.specs.declared.outcome.Doubt.TheVariants as doubts
+use Rattle.commit_outcomes.specs.declared.strayed.Strayed.{Strayed}
+use Rattle.doc_types.specs.Commits.{Duplicate, Entry, verdict}
+use Rattle.doc_types.specs.Snapshots.{SnapshotValue, live}
+use Rattle.doc_types.specs.declared.schema.Schema.{Schema}
+use Rattle.doc_types.specs.declared.transactions.TxnOp.{TxnOp}
+use Rattle.gate_log.specs.declared.log.GateLog.{GateLog}
+use Rattle.step_book.specs.Fronts.{FrontValue}
+use Rattle.step_book.proofs.Prefixes.{prefix_self, prefix_trans, prefix_whole}
+use Rattle.step_history.specs.History.{Base, Step, Commit, IsGood, last_snapshot, made_by}
+use Rattle.step_history.proofs.Counts.{add_up}
+use Rattle.step_line.specs.Lines.{LineValue, entered, settled, with_waiting}
+use Rattle.step_tokens.specs.Tokens.{TokenValue}
+use Rattle.store_steps.specs.Answers.{Becomes}
+use Rattle.store_keep.specs.Commits.{Commits, Ends, IsAfter, IsCommit, IsStray, IsUnsettled, Learns, front_of, strayed_after}
+use Rattle.store_keep.specs.declared.fault.CommitFault.{CommitFault}
+use Rattle.store_keep.specs.declared.fault.CommitFault.TheVariants as faults
+use Rattle.store_keep.specs.declared.fault.Committed.{Committed}
+use Rattle.store_keep.proofs.Straying.{counts_alike, seen_within}
+use Rattle.snap_share.specs.Answers.{Advances, Answers, Contradicts, HasContradicted, IsAcknowledged, IsInDoubt, IsNoteOf, IsOverLimit, seen_by}
+
+-- a token of the same index and worker, with so many commits
+same_but : (old new : TokenValue) (made : ℕ) → new.index ≡ old.index → new.worker ≡ old.worker → new.made ≡ made → new ≡ record old { seen = new.seen; made = made }
+same_but old new made index worker is =
+    ap (λ (i : ℕ). record { index = i; worker = new.worker; seen = new.seen; made = new.made }) index
+    ∙ ap (λ (w : ℕ). record { index = old.index; worker = w; seen = new.seen; made = new.made }) worker
+    ∙ ap (λ (m : ℕ). record { index = old.index; worker = old.worker; seen = new.seen; made = m }) is
+
+-- a token that learnt a history which is no shorter than what it had seen has seen exactly that one
+learnt_is : (old new : TokenValue) (made : ℕ) (steps : List Step) → Learns old new made steps → length old.seen ≤ length steps → new ≡ record old { seen = steps; made = made }
+learnt_is old new made steps learns longer =
+    let seen : new.seen ≡ steps = ⊎_elim (λ (same : new.seen ≡ old.seen). same ∙ sym (prefix_whole steps old.seen (subst (λ (s : List Step). IsPrefix steps s) same learns.told) longer)) (λ (is : new.seen ≡ steps). is) learns.one in
+    same_but old new made learns.index learns.worker learns.made_is
+    ∙ ap (λ (s : List Step). record { index = old.index; worker = old.worker; seen = s; made = made }) seen
+
+within : (steps : List Step) (waiting : Option Step) → length steps ≤ length (with_waiting steps waiting)
+within steps None = omega arith
+within steps (Some step) = omega (arith, length-append steps (step ∷ []))
+
+own_one : (worker : ℕ) (entry : Entry) (next : SnapshotValue) → entry.worker ≡ worker → made_by worker (Commit entry next ∷ []) ≡ 1
+own_one worker entry next own = let h : (entry.worker == worker) ≡ true = grind (arith, nat_tests) in rw h refl
+
+-- nothing was done
+pub stays : (schema : Schema) (base : Base) (token : TokenValue) → IsGood schema base token.seen → Advances schema base token token token.made
+stays schema base token good = record { is = refl; seen = prefix_self token.seen; good = good }
+
+-- of what a keeper holds after a commit, some token is contradicted too
+pub holds_so : {J : Type 0} (base : ℕ → Base) (line : LineValue) (token : TokenValue) (worker : ℕ) (ops : List TxnOp) (before : ℕ) (held : Option Strayed) (result : Result (Committed J) (CommitFault J)) (new : LineValue) (log : GateLog) (after : TokenValue) (now : ℕ)
+    → Commits {J = J} (base line.index) line token worker ops before result new log after now
+    → IfSome held (HasContradicted (base line.index))
+    → IfSome (strayed_after {J = J} held result) (HasContradicted (base line.index))
+holds_so {J} base line token worker ops before held (Ok made) new log after now commits holds = holds
+holds_so {J} base line token worker ops before held (Err faults.NoMemory) new log after now commits holds = holds
+holds_so {J} base line token worker ops before (Some strayed) (Err (faults.Strayed numbers)) new log after now commits holds = holds
+holds_so {J} base line token worker ops before None (Err (faults.Strayed numbers)) new log after now commits holds =
+    (token, ⊎_elim
+    (λ (stray : IsStray {J = J} (base line.index) line token before (Err (faults.Strayed numbers)) new after now). let same : stray.numbers ≡ numbers = cc (stray.answer) in (line, stray.strays ∙ ap (λ (s : Strayed). Some s) same))
+    (λ rest. ⊎_elim
+      (λ (unsettled : IsUnsettled {J = J} (base line.index) line token before (Err (faults.Strayed numbers)) new after now). ⊎_elim (λ (none : Err (faults.Strayed numbers) ≡ Err faults.NoMemory). absurd (cc (none))) (λ refused. absurd (cc (refused.0))) unsettled.answer)
+      (λ (later : IsAfter {J = J} (base line.index) line token worker ops before (Err (faults.Strayed numbers)) new log after now). absurd later.ends)
+      rest)
+    commits)
+holds_so {J} base line token worker ops before held (Err (faults.Duplicate id note)) new log after now commits holds = holds
+holds_so {J} base line token worker ops before held (Err (faults.Full full note)) new log after now commits holds = holds
+holds_so {J} base line token worker ops before held (Err faults.Refused) new log after now commits holds = holds
+holds_so {J} base line token worker ops before held (Err (faults.InDoubt doubt)) new log after now commits holds = holds
+
+module _ (schema : Schema) (base : Base) (line : LineValue) (token : TokenValue) (worker : ℕ) (ops : List TxnOp) (own : token.worker ≡ worker) (of : token.index ≡ line.index) (begins : IsPrefix token.seen line.history) (counts : token.made ≡ made_by token.worker line.history) where
+  -- the token, once it has seen the line's history
+  moved : (after : TokenValue) (made : ℕ) → after ≡ record token { seen = line.history; made = made } → IsGood schema base after.seen → Advances schema base token after made
+  moved after made is good = record {
+    is = is ∙ ap (λ (s : List Step). record token { seen = s; made = made }) (sym (ap (λ (t : TokenValue). t.seen) is));
+    seen = subst (λ (t : TokenValue). IsPrefix token.seen t.seen) (sym is) begins;
+    good = good;
+  }
+
+  -- a commit behind the line is its worker's next one
+  next_seq : (removed number : ℕ) (step : Step) (is : IsCommit base line worker ops removed number step) → is.entry.seq ≡ token.made + 1
+  next_seq removed number step is =
+      is.becomes.follows.seq ∙ ap (λ (w : ℕ). made_by w line.history + 1) (is.becomes.by ∙ sym own) ∙ ap (λ (m : ℕ). m + 1) (sym counts)
+
+  becomes_own : (removed number : ℕ) (step : Step) (is : IsCommit base line worker ops removed number step) → Becomes base line.history token.worker ops is.entry is.snapshot removed
+  becomes_own removed number step is = subst (λ (w : ℕ). Becomes base line.history w ops is.entry is.snapshot removed) (sym own) is.becomes
+
+  -- a note of the line is one of the token
+  noted : (after : TokenValue) (note : FrontValue) → after ≡ record token { seen = line.history } → note ≡ front_of line → IsNoteOf after note
+  noted after note is told =
+      subst (λ (t : TokenValue). IsNoteOf t note) (sym is) (record { is = told ∙ ap (λ (i : ℕ). record { index = i; steps = line.history }) (sym of); counts = sym counts })
+
+  in_doubt : (removed number : ℕ) (step : Step) (after : TokenValue) (is : IsCommit base line worker ops removed number step) → after ≡ record token { seen = line.history; made = token.made + 1 } → IsInDoubt base ops after
+  in_doubt removed number step after is same =
+      subst (λ (t : TokenValue). IsInDoubt base ops t) (sym same)
+      (record { entry = is.entry; snapshot = is.snapshot; removed = removed; becomes = becomes_own removed number step is; seq = next_seq removed number step is; counts = ap (λ (m : ℕ). m + 1) (sym counts) })
+
+module _ {J : Type 0} (schema : Schema) (base : Base) (line : LineValue) (token : TokenValue) (worker : ℕ) (ops : List TxnOp) (own : token.worker ≡ worker) (of : token.index ≡ line.index) (begins : IsPrefix token.seen line.history) (counts : token.made ≡ made_by token.worker line.history) where
+  acknowledged : (made : Committed J) (number removed : ℕ) (step : Step) (new : LineValue) (after : TokenValue) (is : IsCommit base line worker ops removed number step) → new ≡ settled (record line { waiting = Some step }) → made.note ≡ front_of new → made.number ≡ number → made.removed ≡ removed
+      → Learns (record token { seen = line.history }) after (token.made + 1) new.history → IsGood schema base after.seen → Advances schema base token after (token.made + 1) × IsNoteOf after made.note × IsAcknowledged {J = J} base token ops made after
+  acknowledged made number removed step new after is line_is note number_is removed_is learns good =
+      let commit : Step = Commit is.entry is.snapshot in
+      let all : new.history ≡ line.history ++ commit ∷ [] = ap (λ (l : LineValue). l.history) line_is ∙ ap (λ (s : Step). line.history ++ s ∷ []) is.is in
+      let learns' : Learns (record token { seen = line.history }) after (token.made + 1) (line.history ++ commit ∷ []) = subst (λ (s : List Step). Learns (record token { seen = line.history }) after (token.made + 1) s) all learns in
+      let same : after ≡ record token { seen = line.history ++ commit ∷ []; made = token.made + 1 } = learnt_is (record token { seen = line.history }) after (token.made + 1) (line.history ++ commit ∷ []) learns' (omega (arith, length-append line.history (commit ∷ []))) in
+      let front : front_of new ≡ record { index = token.index; steps = line.history ++ commit ∷ [] } = ap front_of line_is ∙ ap (λ (s : Step). record { index = line.index; steps = line.history ++ s ∷ [] }) is.is ∙ ap (λ (i : ℕ). record { index = i; steps = line.history ++ commit ∷ [] }) (sym of) in
+      let one : made_by token.worker (commit ∷ []) ≡ 1 = own_one token.worker is.entry is.snapshot (is.becomes.by ∙ sym own) in
+      let sum : made_by token.worker (line.history ++ commit ∷ []) ≡ made_by token.worker line.history + made_by token.worker (commit ∷ []) = add_up token.worker line.history (commit ∷ []) in
+      (
+        record {
+          is = same ∙ ap (λ (s : List Step). record token { seen = s; made = token.made + 1 }) (sym (ap (λ (t : TokenValue). t.seen) same));
+          seen = subst (λ (t : TokenValue). IsPrefix token.seen t.seen) (sym same) (prefix_trans token.seen line.history (line.history ++ commit ∷ []) begins (commit ∷ [], refl));
+          good = good;
+        },
+        subst (λ (t : TokenValue). IsNoteOf t made.note) (sym same) (record { is = note ∙ front; counts = omega (arith, one, sum, counts) }),
+        subst (λ (t : TokenValue). IsAcknowledged {J = J} base token ops made t) (sym same) (record {
+          earlier = line.history;
+          entry = is.entry;
+          snapshot = is.snapshot;
+          last = refl;
+          before = begins;
+          becomes = subst (λ (r : ℕ). Becomes base line.history token.worker ops is.entry is.snapshot r) (sym removed_is) (becomes_own schema base line token worker ops own of begins counts removed number step is);
+          number = number_is ∙ is.number_is;
+          seq = next_seq schema base line token worker ops own of begins counts removed number step is;
+        }),
+      )
+
+  -- what a commit says behind a line in which nothing waits, of a token that has seen all of it
+  ends_so : (before now : ℕ) (result : Result (Committed J) (CommitFault J)) (new : LineValue) (log : GateLog) (after : TokenValue) → Ends {J = J} base line (record token { seen = line.history }) worker ops before result new log after now → IsGood schema base after.seen → Answers {J = J} schema base token ops result after
+  ends_so before now (Ok made) new log after ends good = acknowledged made ends.1 ends.0 ends.2 new after ends.3 ends.4.0 ends.4.1 ends.4.2 ends.4.3 ends.4.4 good
+  ends_so before now (Err faults.NoMemory) new log after ends good = moved schema base line token worker ops own of begins counts after token.made ends.token_is good
+  ends_so before now (Err (faults.Strayed strayed)) new log after ends good = absurd ends
+  ends_so before now (Err (faults.Duplicate id note)) new log after ends good = (
+    moved schema base line token worker ops own of begins counts after token.made ends.0.token_is good,
+    noted schema base line token worker ops own of begins counts after note ends.0.token_is ends.1.1,
+    subst (λ (t : TokenValue). verdict ops (live (last_snapshot base t.seen)) ≡ Duplicate id) (sym ends.0.token_is) ends.1.0,
+  )
+  ends_so before now (Err (faults.Full full note)) new log after ends good = (
+    moved schema base line token worker ops own of begins counts after token.made ends.0.token_is good,
+    noted schema base line token worker ops own of begins counts after note ends.0.token_is ends.1.1,
+    subst (λ (t : TokenValue). IsOverLimit base ops full t) (sym ends.0.token_is) (record { changes = ends.1.0.0; removed = ends.1.0.1; verdict = ends.1.0.2; over = ends.1.0.3 }),
+  )
+  ends_so before now (Err faults.Refused) new log after ends good = moved schema base line token worker ops own of begins counts after token.made ends.4.1 good
+  ends_so before now (Err (faults.InDoubt doubts.Disk)) new log after ends good = (moved schema base line token worker ops own of begins counts after (token.made + 1) ends.4.1 good, in_doubt schema base line token worker ops own of begins counts ends.0 ends.1 ends.2 after ends.3 ends.4.1)
+  ends_so before now (Err (faults.InDoubt doubts.Memory)) new log after ends good = (moved schema base line token worker ops own of begins counts after (token.made + 1) ends.4.1 good, in_doubt schema base line token worker ops own of begins counts ends.0 ends.1 ends.2 after ends.3 ends.4.1)
+
+stray_so : {J : Type 0} (schema : Schema) (base : Base) (line : LineValue) (token : TokenValue) (ops : List TxnOp) (before : ℕ) (result : Result (Committed J) (CommitFault J)) (new : LineValue) (after : TokenValue) (now : ℕ) → IsStray {J = J} base line token before result new after now → Answers {J = J} schema base token ops result after
+stray_so {J} schema base line token ops before result new after now is =
+    subst (λ (r : Result (Committed J) (CommitFault J)). Answers {J = J} schema base token ops r after) (sym is.answer) (is.same.token_is, (line, is.strays))
+
+unsettled_so : {J : Type 0} (schema : Schema) (base : Base) (line : LineValue) (token : TokenValue) (ops : List TxnOp) (before : ℕ) (result : Result (Committed J) (CommitFault J)) (new : LineValue) (after : TokenValue) (now : ℕ) → IsUnsettled {J = J} base line token before result new after now → IsGood schema base after.seen → Answers {J = J} schema base token ops result after
+unsettled_so {J} schema base line token ops before result new after now is good =
+    let moved : Advances schema base token after token.made = record { is = same_but token after token.made is.learns.index is.learns.worker is.learns.made_is; seen = is.learns.seen; good = good } in
+    ⊎_elim
+    (λ none. subst (λ (r : Result (Committed J) (CommitFault J)). Answers {J = J} schema base token ops r after) (sym none) moved)
+    (λ refused. subst (λ (r : Result (Committed J) (CommitFault J)). Answers {J = J} schema base token ops r after) (sym refused.0) moved)
+    is.answer
+
+after_so : {J : Type 0} (schema : Schema) (base : Base) (line : LineValue) (token : TokenValue) (worker : ℕ) (ops : List TxnOp) (before : ℕ) (result : Result (Committed J) (CommitFault J)) (new : LineValue) (log : GateLog) (after : TokenValue) (now : ℕ) → token.index ≡ line.index → token.worker ≡ worker
+    → IsAfter {J = J} base line token worker ops before result new log after now → IsGood schema base after.seen → Answers {J = J} schema base token ops result after
+after_so {J} schema base line token worker ops before result new log after now of own is good =
+    let longer : length token.seen ≤ length (entered line) = let a = seen_within base line token is.none in let b = within line.history line.waiting in omega (arith, a, b) in
+    let taught : is.taught ≡ record token { seen = entered line } = learnt_is token is.taught token.made (entered line) is.learns longer in
+    let begins : IsPrefix token.seen (entered line) = subst (λ (t : TokenValue). IsPrefix token.seen t.seen) taught is.learns.seen in
+    ends_so {J = J} schema base (settled line) token worker ops own of begins (counts_alike base line token is.none) is.between now result new log after
+    (subst (λ (t : TokenValue). Ends {J = J} base (settled line) t worker ops is.between result new log after now) taught is.ends)
+    good
+
+-- what a commit says of its token
+pub answers_so : {J : Type 0} (schema : ℕ → Schema) (base : ℕ → Base) (line : LineValue) (token : TokenValue) (worker : ℕ) (ops : List TxnOp) (before : ℕ) (result : Result (Committed J) (CommitFault J)) (new : LineValue) (log : GateLog) (after : TokenValue) (now : ℕ) → token.index ≡ line.index → token.worker ≡ worker
+    → Commits {J = J} (base line.index) line token worker ops before result new log after now → IsGood (schema line.index) (base line.index) after.seen → Answers {J = J} (schema token.index) (base token.index) token ops result after
+answers_so {J} schema base line token worker ops before result new log after now of own commits good =
+    subst (λ (i : ℕ). Answers {J = J} (schema i) (base i) token ops result after) (sym of)
+    (⊎_elim
+    (λ stray. stray_so {J = J} (schema line.index) (base line.index) line token ops before result new after now stray)
+    (λ rest. ⊎_elim (λ unsettled. unsettled_so {J = J} (schema line.index) (base line.index) line token ops before result new after now unsettled good) (λ later. after_so {J = J} (schema line.index) (base line.index) line token worker ops before result new log after now of own later good) rest)
+    commits)

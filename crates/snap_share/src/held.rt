@@ -1,0 +1,106 @@
+//! What is under the lock: the keeper, which is sound whenever the lock is free.
+ghost use Rattle.std.specs.Prelude.{◌≡◌, ◌<◌, None};
+ghost use Rattle.doc_types.specs.Schemas.{IsSchema};
+ghost use Rattle.doc_types.specs.Transactions.{IsTxnOf};
+ghost use Rattle.step_line.specs.Lines.{new_line};
+ghost use Rattle.store_keep.specs.Keepers.{IsSound};
+ghost use Rattle.store_keep.specs.Tellings.{AreTokensOf};
+ghost use Rattle.snap_share.specs.Closings.{Closes};
+ghost use Rattle.snap_share.specs.Answers.{Answers};
+
+use chunk_store::Disk;
+use commit_outcomes::Strayed;
+use doc_types::Txn;
+use srch_base::Or;
+use std::marker::Model;
+use std::sync::Wait;
+use step_book::Naming;
+use step_tokens::{Note, Token};
+use store_keep::{CommitFault, Committed, Keeper, a_crash_between_calls_leaves_the_documents};
+
+/// The keeper of an index between calls. Contracts see the number of the index.
+pub(crate) struct Held<D: Disk, J: Naming> {
+    keeper: Keeper<D, J>,
+    /// Of which index it is, and how many workers it knows.
+    index: u16,
+    workers: u32,
+}
+
+impl<D: Disk, J: Naming> Model for Held<D, J> {
+    ghost use Rattle.std.specs.Prelude.{◌≡◌, ℕ, IfSome};
+    ghost use Rattle.store_keep.specs.Keepers.{IsSound};
+    ghost use Rattle.snap_share.specs.Answers.{HasContradicted};
+
+    ghost Value = { ℕ };
+
+    ghost view = { λ held. held.index };
+
+    ghost invariant = { λ held. (held.index ≡ held.keeper.kept.line.index) × (held.workers ≡ held.keeper.kept.line.workers) × IsSound D.Disk (λ index. J.schema index) (λ index. J.base index) held.keeper × IfSome held.keeper.strayed (HasContradicted (J.base held.index)) };
+}
+
+impl<D: Disk, J: Naming> Held<D, J> {
+    /// A keeper that is sound.
+    pub(crate) fn new(keeper: Keeper<D, J>, index: u16, workers: u32) -> Held<D, J>
+        requires index { index ≡ keeper.kept.line.index }
+        requires workers { workers ≡ keeper.kept.line.workers }
+        requires sound { IsSound D.Disk J.schema J.base keeper }
+        requires none { keeper.strayed ≡ None }
+    {
+        Held {
+            keeper,
+            index,
+            workers,
+        }
+    }
+
+    /// Commits a transaction of a worker. That the token is of another index, or of no worker here, can't come, and is answered as
+    /// want of memory.
+    #[tactic(auto, using(crate::proofs::Sharing::answers_so, crate::proofs::Sharing::stays, crate::proofs::Sharing::holds_so))]
+    pub(crate) fn commit<R: Wait>(
+        &mut self,
+        rt: &R,
+        worker: u32,
+        token: &mut Token<J>,
+        txn: &Txn,
+    ) -> Result<Committed<J>, CommitFault<J>>
+        requires own { (token.old.worker ≡ worker) × (0 < worker) }
+        requires of { IsSchema (J.schema token.old.index) × IsTxnOf (J.schema token.old.index) txn.now }
+        ensures { Answers (J.schema token.old.index) (J.base token.old.index) token.old txn.now.ops result token.new }
+    {
+        let result = if token.index() == self.index && worker <= self.workers {
+            self.keeper.commit(rt, worker, token, txn)
+        } else {
+            Err(CommitFault::NoMemory)
+        };
+        // The clause of a token's length says that what it has seen is good.
+        let _steps = token.len();
+        result
+    }
+
+    /// Tells all tokens the whole history, and gives the disk back. That it is the keeper of another index can't come, and is
+    /// answered as want of memory.
+    #[tactic(auto, using(crate::proofs::Ending::of_line, crate::proofs::Ending::closes_so))]
+    pub(crate) fn close<R: Wait>(
+        self,
+        rt: &R,
+        index: u16,
+        workers: u32,
+        tokens: &mut [Token<J>],
+    ) -> (D, Result<Note<J>, Or<Strayed>>)
+        requires { AreTokensOf (new_line index workers) tokens.old }
+        ensures { Closes D.Disk (J.schema index) (J.base index) index workers tokens.old result.0 result.1 tokens.new }
+    {
+        let Held {
+            keeper,
+            index: own,
+            workers: known,
+        } = self;
+        a_crash_between_calls_leaves_the_documents(&keeper);
+        let told = if own == index && known == workers {
+            keeper.newest(tokens)
+        } else {
+            Err(Or::NoMemory)
+        };
+        (keeper.close(rt), told)
+    }
+}

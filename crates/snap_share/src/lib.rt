@@ -1,0 +1,9 @@
+//! The engine of one index, as all workers share it: its keeper behind a lock, and what stands outside of it.
+#![tactic(auto)]
+
+mod engine;
+mod held;
+
+pub use engine::Engine;
+pub use step_tokens::{Note, Token, learn, snapshot};
+pub use store_keep::{CommitFault, Committed, Doubt};
