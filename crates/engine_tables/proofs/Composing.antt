@@ -30,7 +30,7 @@ module _ {D J : Type 0} (confs : List IndexConf) (stores : List (Opened D)) (non
   can_go_on indexes nothing more few =
       let many = as_many in
       let room : IsRoomFor indexes made.workers made.ending =
-        subst (λ (w : ℕ). IsRoomFor indexes w made.ending) (sym of.workers_are) (subst (λ (e : EndingValue). IsRoomFor indexes none.workers e) (sym of.ending_is) nothing.room) in
+      subst (λ (w : ℕ). IsRoomFor indexes w made.ending) (sym of.workers_are) (subst (λ (e : EndingValue). IsRoomFor indexes none.workers e) (sym of.ending_is) nothing.room) in
       record {
         placed = subst (λ (w : ℕ). ArePlaced w (map (λ (table : TableValue). table.engine) made.tables.items)) (sym of.workers_are) (subst (λ (engines : List EngineValue). ArePlaced none.workers engines) (sym of.engines_are) (placed_over none.workers stores));
         seats_are = of.seats_are ∙ ap (λ (n : ℕ). new_seats n none.workers) (sym many) ∙ ap (λ (w : ℕ). new_seats (length made.tables.items) w) (sym of.workers_are);
@@ -70,9 +70,9 @@ module _ {D J : Type 0} (confs : List IndexConf) (stores : List (Opened D)) (non
             ⊎_elim
             (λ (has : HasEnded words schema base place made.workers [] ended). inr (subst (λ (w : ℕ). HasEnded words schema base place w [] ended) of.workers_are has))
             (λ (here : (place ≡ length made.tables.items) × (ended.disk ≡ store.disk)).
-              let last : slice_get (stores ++ store ∷ []) place ≡ Some store = get_end stores store place (here.0 ∙ many) in
-              let same : store ≡ opened = cc (last, at) in
-              inl (here.1 ∙ ap (λ (s : Opened D). s.disk) same))
+            let last : slice_get (stores ++ store ∷ []) place ≡ Some store = get_end stores store place (here.0 ∙ many) in
+            let same : store ≡ opened = cc (last, at) in
+            inl (here.1 ∙ ap (λ (s : Opened D). s.disk) same))
             (stops.each place ended got);
       }
 
@@ -84,14 +84,14 @@ module _ {D J : Type 0} (words : DiskWords D) (schema : ℕ → Schema) (base : 
     each = λ place opened its at got.
         ⊎_elim
         (λ (last : (place ≡ length all) × (its ≡ ended)).
-          let here : slice_get (stores ++ store ∷ []) place ≡ Some store = get_end stores store place (last.0 ∙ back.many) in
-          let same : store ≡ opened = cc (here, at) in
-          inl (ap (λ (e : Ended D J). e.disk) last.1 ∙ is ∙ ap (λ (s : Opened D). s.disk) same))
+        let here : slice_get (stores ++ store ∷ []) place ≡ Some store = get_end stores store place (last.0 ∙ back.many) in
+        let same : store ≡ opened = cc (here, at) in
+        inl (ap (λ (e : Ended D J). e.disk) last.1 ∙ is ∙ ap (λ (s : Opened D). s.disk) same))
         (λ (earlier : slice_get all place ≡ Some its).
-          ⊎_elim
-          (λ (end : (place ≡ length stores) × (opened ≡ store)). absurd (omega (arith, end.0, back.many, slice_get_within all place its earlier)))
-          (λ (before : slice_get stores place ≡ Some opened). back.each place opened its before earlier)
-          (get_more_cases stores store opened place at))
+        ⊎_elim
+        (λ (end : (place ≡ length stores) × (opened ≡ store)). absurd (omega (arith, end.0, back.many, slice_get_within all place its earlier)))
+        (λ (before : slice_get stores place ≡ Some opened). back.each place opened its before earlier)
+        (get_more_cases stores store opened place at))
         (get_more_cases all ended its place got);
   }
 

@@ -67,11 +67,11 @@ module _ {D J : Type 0} (words : DiskWords D) (schema : ℕ → Schema) (base : 
     each = λ place its at.
         ⊎_elim
         (λ (same : (place ≡ length all) × (its ≡ ended)).
-          let here : place ≡ last = same.0 ∙ have.many in
-          subst (λ (e : Ended D J). HasEnded words schema base place workers (tokens_at place seats) e) (sym same.1)
-          (subst (λ (k : ℕ). HasEnded words schema base k workers (tokens_at k seats) ended) (sym here) has))
+        let here : place ≡ last = same.0 ∙ have.many in
+        subst (λ (e : Ended D J). HasEnded words schema base place workers (tokens_at place seats) e) (sym same.1)
+        (subst (λ (k : ℕ). HasEnded words schema base k workers (tokens_at k seats) ended) (sym here) has))
         (λ (earlier : slice_get all place ≡ Some its).
-          let before : place < last = omega (arith, slice_get_within all place its earlier, have.many) in
-          subst (λ (tokens : List TokenValue). HasEnded words schema base place workers tokens its) (earlier_stay place last workers seats before of) (have.each place its earlier))
+        let before : place < last = omega (arith, slice_get_within all place its earlier, have.many) in
+        subst (λ (tokens : List TokenValue). HasEnded words schema base place workers tokens its) (earlier_stay place last workers seats before of) (have.each place its earlier))
         (get_more_cases all ended its place at);
   }

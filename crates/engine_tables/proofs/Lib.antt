@@ -10,3 +10,7 @@ pub mod Endings
 pub mod Makings
 -- all engines from those before the last one
 pub mod Composing
+-- what stands at a place of engines and tokens
+pub mod Looking
+-- a worker's store between its calls
+pub mod Sitting

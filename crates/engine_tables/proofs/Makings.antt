@@ -63,17 +63,17 @@ module _ {D : Type 0} (words : DiskWords D) (book : ℕ → Book) (schema : ℕ 
 
   pub named_last : AreNamed words book schema base (confs ++ conf ∷ []) (stores ++ store ∷ []) → AreServed (confs ++ conf ∷ []) → IsNamedAt words book schema base (length confs) conf store
   named_last named served =
-    let here : slice_get (confs ++ conf ∷ []) (length confs) ≡ Some conf = get_end confs conf (length confs) refl in
-    let there : slice_get (stores ++ store ∷ []) (length confs) ≡ Some store = get_end stores store (length confs) (sym (as_long named)) in
-    let is_schema : IsSchema conf.schema = all_end (λ (c : IndexConf). IsSchema c.schema) confs conf served.schemas in
-    record {
-      columns = named.columns (length confs) conf here;
-      served = is_schema;
-      zones = subst AreZones (sym (all_end (λ (c : IndexConf). c.rules.zones ≡ c.schema.zones) confs conf served.zones)) is_schema.zones;
-      book_is = named.books (length confs) store there;
-      base_is = named.bases (length confs) store there;
-      opened = named.opened (length confs) store there;
-    }
+      let here : slice_get (confs ++ conf ∷ []) (length confs) ≡ Some conf = get_end confs conf (length confs) refl in
+      let there : slice_get (stores ++ store ∷ []) (length confs) ≡ Some store = get_end stores store (length confs) (sym (as_long named)) in
+      let is_schema : IsSchema conf.schema = all_end (λ (c : IndexConf). IsSchema c.schema) confs conf served.schemas in
+      record {
+        columns = named.columns (length confs) conf here;
+        served = is_schema;
+        zones = subst AreZones (sym (all_end (λ (c : IndexConf). c.rules.zones ≡ c.schema.zones) confs conf served.zones)) is_schema.zones;
+        book_is = named.books (length confs) store there;
+        base_is = named.bases (length confs) store there;
+        opened = named.opened (length confs) store there;
+      }
 
 -- engines over stores
 

@@ -13,9 +13,9 @@ use Rattle.store_keep.specs.declared.fault.CommitFault.TheVariants as faults
 use Rattle.store_keep.specs.declared.fault.Committed.{Committed}
 use Rattle.snap_share.specs.Answers.{Advances, Answers, IsAcknowledged, IsNoteOf, seen_by}
 use Rattle.engine_tables.specs.Outcomes.{IsMade, Tells, outcome_of}
-use Rattle.engine_tables.specs.Tokens.{AreInOrder, TokensValue}
+use Rattle.engine_tables.specs.Tokens.{TokensValue}
 use Rattle.engine_tables.specs.Workers.{CommitsBy, GrowAll, Grows}
-use Rattle.engine_tables.proofs.Using.{grow_at, with_token}
+use Rattle.engine_tables.proofs.Using.{IsUsed, grow_at, with_token}
 
 note_of : (token : TokenValue) (note : FrontValue) → IsNoteOf token note → IsNoteOf token (seen_by token)
 note_of token note is = record { is = refl; counts = is.counts }
@@ -61,28 +61,31 @@ module _ {J : Type 0} (schema : Schema) (base : Base) (old : TokenValue) (ops : 
   stays_own (Err faults.Refused) says = kept schema base old new old.made says
   stays_own (Err (faults.InDoubt doubt)) says = kept schema base old new (old.made + 1) says.0
 
-module _ {J : Type 0} (schema : ℕ → Schema) (base : ℕ → Base) (old : TokensValue) (place : ℕ) (before after : TokenValue) (ops : List TxnOp) (answer : Result (Committed J) (CommitFault J)) (order : AreInOrder old) (at : slice_get old.list place ≡ Some before) (says : Answers {J = J} (schema place) (base place) before ops answer after) where
+module _ {J : Type 0} (schema : ℕ → Schema) (base : ℕ → Base) (view old : TokensValue) (place : ℕ) (before after : TokenValue) (ops : List TxnOp) (answer : Result (Committed J) (CommitFault J)) (used : IsUsed view old place before after) (says : Answers {J = J} (schema place) (base place) before ops answer after) where
   -- what a commit by one of the tokens is to the store
-  pub commits_so : (result : Result CommitOutcome NoMemory) → result ≡ outcome_of {J = J} answer → IsGood (schema place) (base place) after.seen
-      → IfOk result (λ outcome. (front : FrontValue) × CommitsBy schema base old place ops outcome front (with_token old place after))
+  pub commits_so : (result : Result CommitOutcome NoMemory) → result ≡ outcome_of {J = J} answer → IsGood (schema after.index) (base after.index) after.seen
+      → IfOk result (λ outcome. (front : FrontValue) × CommitsBy schema base old place ops outcome front (with_token view place after))
   commits_so (Ok outcome) is good =
-      let own = order.each place before at in (
+      let own = used.order.each place before used.at in
+      let index : after.index ≡ place = used.index ∙ own.0 in (
         seen_by after,
         record {
           before = before;
           after = after;
-          at = at;
-          own = own.1;
-          left = refl;
+          at = subst (λ (t : TokensValue). slice_get t.list place ≡ Some before) used.view_is used.at;
+          own = own.1 ∙ ap (λ (t : TokensValue). t.worker) used.view_is;
+          left = ap (λ (t : TokensValue). with_token t place after) used.view_is;
           is = refl;
-          of = (stays_own {J = J} (schema place) (base place) before ops after answer says).0 ∙ own.0;
-          good = good;
+          of = index;
+          good = subst (λ (i : ℕ). IsGood (schema i) (base i) after.seen) index good;
           tells = tells_so {J = J} (schema place) (base place) before ops after answer outcome says (sym is);
         },
       )
   commits_so (Err none) is good = tt
 
   -- after want of memory the token may have seen more
-  pub fails_so : (result : Result CommitOutcome NoMemory) → result ≡ outcome_of {J = J} answer → OnErr result (GrowAll old (with_token old place after))
+  pub fails_so : (result : Result CommitOutcome NoMemory) → result ≡ outcome_of {J = J} answer → OnErr result (GrowAll old (with_token view place after))
   fails_so (Ok outcome) is = tt
-  fails_so (Err none) is = grow_at old place before after at (grown_so {J = J} (schema place) (base place) before ops after answer none says (sym is))
+  fails_so (Err none) is =
+      subst (λ (o : TokensValue). GrowAll o (with_token view place after)) used.view_is
+      (grow_at view place before after used.at (grown_so {J = J} (schema place) (base place) before ops after answer none says (sym is)))

@@ -37,8 +37,8 @@ pub made_one : (worker : ℕ) (earlier : List Step) (entry : Entry) (snapshot : 
 made_one worker earlier entry snapshot own = ap length (by_one worker earlier entry snapshot own) ∙ length-append (commits_by worker earlier) (entry ∷ [])
 
 -- of one list cut twice at one length, what is left is the same
-pub same_rest : {A : Type 0} (xs ys as bs : List A) → xs ++ as ≡ ys ++ bs → length xs ≡ length ys → as ≡ bs
-same_rest [] [] as bs same long = same
-same_rest [] (y ∷ ys) as bs same long = absurd (omega (arith, long))
-same_rest (x ∷ xs) [] as bs same long = absurd (omega (arith, long))
-same_rest (x ∷ xs) (y ∷ ys) as bs same long = same_rest xs ys as bs (cc same) (omega (arith, long))
+pub same_rest : {A : Type 0} (xs ys left right : List A) → xs ++ left ≡ ys ++ right → length xs ≡ length ys → left ≡ right
+same_rest [] [] left right same long = same
+same_rest [] (y ∷ ys) left right same long = absurd (omega (arith, long))
+same_rest (x ∷ xs) [] left right same long = absurd (omega (arith, long))
+same_rest (x ∷ xs) (y ∷ ys) left right same long = same_rest xs ys left right (cc same) (omega (arith, long))

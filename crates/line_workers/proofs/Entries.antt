@@ -158,7 +158,7 @@ module _ (base : Base) (index : ℕ) where
       let worker : mid.worker ≡ old.worker = same_worker old mid old.made goes in
       let later = on front rest (ap (λ (w : ℕ). commits_by w history) worker ∙ cut) (long ∙ sym (has_made old mid old.made goes)) in
       subst (λ (w : ℕ). AreEntriesOf base w (attempts_on index (event ∷ events)) rest) worker
-      (subst (λ (as : List (Event FrontValue)). AreEntriesOf base mid.worker as rest) (sym (attempt_skipped index event events none)) later)
+      (subst (λ (es : List (Event FrontValue)). AreEntriesOf base mid.worker es rest) (sym (attempt_skipped index event events none)) later)
 
   entries_made : (old mid : TokenValue) (event : Event FrontValue) (events : List (Event FrontValue)) (history : List Step) (front rest : List Entry) (ops : List TxnOp) (removed : ℕ)
       → event ≡ Commit index ops (outcomes.Committed removed) (seen_by mid) → Goes old mid (old.made + 1) → IsCommit base old ops removed mid → IsPrefix mid.seen history
@@ -179,7 +179,7 @@ module _ (base : Base) (index : ℕ) where
               (omega (arith, length-append front (made.entry ∷ []), long, count)) in
       let entry : IsEntryOf base W event made.entry = subst (λ (e : Event FrontValue). IsEntryOf base W e made.entry) (sym is) (record { earlier = made.earlier; snapshot = made.snapshot; last = made.last; becomes = made.becomes }) in
       subst (λ (es : List Entry). AreEntriesOf base W (attempts_on index (event ∷ events)) es) rest_is
-      (subst (λ (as : List (Event FrontValue)). AreEntriesOf base W as (made.entry ∷ own.0)) (sym (attempt_taken index event events (made_attempt index ops removed (seen_by mid) event is)))
+      (subst (λ (es : List (Event FrontValue)). AreEntriesOf base W es (made.entry ∷ own.0)) (sym (attempt_taken index event events (made_attempt index ops removed (seen_by mid) event is)))
       (entry, subst (λ (w : ℕ). AreEntriesOf base w (attempts_on index events) own.0) worker later))
 
   entries_doubted : (old mid : TokenValue) (event : Event FrontValue) (events : List (Event FrontValue)) (history : List Step) (front rest : List Entry) (ops : List TxnOp) (doubt : Doubt)
@@ -193,7 +193,7 @@ module _ (base : Base) (index : ℕ) where
       let none : attempts_on index events ≡ [] =
               ⊎_elim (λ (no : attempts_on index events ≡ []). no)
               (λ (up : mid.made + length (attempts_on index events) ≤ made_by mid.worker history + 1). none_left (attempts_on index events) (omega (arith, up, own, count, size, long))) few in
-      subst (λ (as : List (Event FrontValue)). AreEntriesOf base old.worker as []) (sym (attempt_taken index event events (doubted_attempt index ops doubt (seen_by mid) event is)))
+      subst (λ (es : List (Event FrontValue)). AreEntriesOf base old.worker es []) (sym (attempt_taken index event events (doubted_attempt index ops doubt (seen_by mid) event is)))
       (subst (λ (e : Event FrontValue). IsDoubtful e) (sym is) tt, none)
   entries_doubted old mid event events history front (entry ∷ rest) ops doubt is goes few cut long on =
       let worker : mid.worker ≡ old.worker = same_worker old mid (old.made + 1) goes in
@@ -201,7 +201,7 @@ module _ (base : Base) (index : ℕ) where
       let later = on (front ++ entry ∷ []) rest
               (ap (λ (w : ℕ). commits_by w history) worker ∙ cut ∙ sym (append_assoc front (entry ∷ []) rest))
               (omega (arith, length-append front (entry ∷ []), long, count)) in
-      subst (λ (as : List (Event FrontValue)). AreEntriesOf base old.worker as (entry ∷ rest)) (sym (attempt_taken index event events (doubted_attempt index ops doubt (seen_by mid) event is)))
+      subst (λ (es : List (Event FrontValue)). AreEntriesOf base old.worker es (entry ∷ rest)) (sym (attempt_taken index event events (doubted_attempt index ops doubt (seen_by mid) event is)))
       (subst (λ (e : Event FrontValue). IsEntryOf base old.worker e entry) (sym is) tt, subst (λ (w : ℕ). AreEntriesOf base w (attempts_on index events) rest) worker later)
 
   entries_one : (old mid : TokenValue) (event : Event FrontValue) (events : List (Event FrontValue)) (history : List Step) (front rest : List Entry) → Moved base index old event mid → IsPrefix mid.seen history

@@ -1,9 +1,10 @@
 -- Seats before the workers begin, once they have ended, and once their tokens were collected.
-use Rattle.std.proofs.Common.{◌≡◌, ◌⊎◌, ⊎_elim, ℕ, zero, suc, ◌+◌, ◌≤◌, ◌<◌, List, [], ◌∷◌, ◌++◌, length, map, Option, Some, None, get_or, slice_get, refl, sym, ap, subst, ◌∙◌, arith, length-append, length-map}
+use Rattle.std.proofs.Common.{◌≡◌, ◌⊎◌, ⊎_elim, ℕ, zero, suc, ◌+◌, ◌≤◌, ◌<◌, List, [], ◌∷◌, ◌++◌, length, map, Option, Some, None, get_or, slice_get, refl, sym, ap, subst, ◌∙◌, arith, length-append}
 use Rattle.std.specs.Prelude.{All}
 use Rattle.std.specs.List.{AllByRecursion, AllZip, flat_map}
 use Rattle.std.specs.Option.{option_map, option_to_list}
 use Rattle.std.proofs.lemmas.Bool.{cases_lt}
+use Rattle.std.proofs.lemmas.List.{length-map}
 use Rattle.std.proofs.lemmas.List.Elements.{All-from_recursion}
 use Rattle.std.proofs.lemmas.Option.{get_or_from_slice_get, slice_get-get_or, slice_get-map, slice_get_within}
 use Rattle.srch_base.specs.declared.door.Door.{Ghosts as DoorWords}
@@ -61,44 +62,44 @@ place_of_all : {X : Type 0} (P : X → Type 0) (xs : List X) (place : ℕ) (x : 
 place_of_all {X} P xs place x all at = subst (λ (y : X). P y) (get_or_from_slice_get xs place x x at) (all place x (slice_get_within xs place x at))
 
 module _ {E K J : Type 0} (door : DoorWords E K) (link : LinkWords K) (schema : ℕ → Schema) (base : ℕ → Base) (engines : EnginesValue) (sessions : ℕ) where
-  pub all_seated : (seats : List (Seat E J)) → AreReady door engines sessions seats → length seats ≡ engines.workers
+  pub all_seated : (seats : List (Seat E J K)) → AreReady door engines sessions seats → length seats ≡ engines.workers
   all_seated seats ready =
-      sym (length-map (λ (seat : Seat E J). seat.tokens) seats) ∙ ap length ready.tokens ∙ length-map Some (new_seats (length engines.confs) engines.workers) ∙ many_seats (length engines.confs) engines.workers
+      sym (length-map (λ (seat : Seat E J K). seat.tokens) seats) ∙ ap length ready.tokens ∙ length-map Some (new_seats (length engines.confs) engines.workers) ∙ many_seats (length engines.confs) engines.workers
 
   -- the worker at a place has its first tokens
-  begins_with : (seats : List (Seat E J)) → AreReady door engines sessions seats → (place : ℕ) (seat : Seat E J) → slice_get seats place ≡ Some seat → seat.tokens ≡ Some (first_tokens engines.confs (place + 1))
+  begins_with : (seats : List (Seat E J K)) → AreReady door engines sessions seats → (place : ℕ) (seat : Seat E J K) → slice_get seats place ≡ Some seat → seat.tokens ≡ Some (first_tokens engines.confs (place + 1))
   begins_with seats ready place seat at =
       let news = new_seats (length engines.confs) engines.workers in
       let below : place < engines.workers = omega (arith, slice_get_within seats place seat at, all_seated seats ready) in
-      let left : slice_get (map (λ (s : Seat E J). s.tokens) seats) place ≡ Some (seat.tokens) = slice_get-map (λ (s : Seat E J). s.tokens) seats place ∙ ap (option_map (λ (s : Seat E J). s.tokens)) at in
+      let left : slice_get (map (λ (s : Seat E J K). s.tokens) seats) place ≡ Some (seat.tokens) = slice_get-map (λ (s : Seat E J K). s.tokens) seats place ∙ ap (option_map (λ (s : Seat E J K). s.tokens)) at in
       let right : slice_get (map Some news) place ≡ Some (Some (first_tokens engines.confs (place + 1))) =
               slice_get-map Some news place ∙ ap (option_map Some) (seat_at (length engines.confs) engines.workers place below) in
       some_is (seat.tokens) (Some (first_tokens engines.confs (place + 1))) (sym left ∙ ap (λ (ts : List (Option TokensValue)). slice_get ts place) ready.tokens ∙ right)
 
-  pub can_work : (seats : List (Seat E J)) → AreReady door engines sessions seats → All (CanWork door engines) seats
+  pub can_work : (seats : List (Seat E J K)) → AreReady door engines sessions seats → All (CanWork door engines) seats
   can_work seats ready = all_by_places (CanWork door engines) seats (λ place seat at.
       let below : place < engines.workers = omega (arith, slice_get_within seats place seat at, all_seated seats ready) in
       record {
         had = first_tokens engines.confs (place + 1);
         is = begins_with seats ready place seat at;
         sits = record { many = many_tokens (place + 1) (length engines.confs); above = omega arith; within = omega arith };
-        within = place_of_all (λ (s : Seat E J). length (door.returned s.door) ≤ length (door.given s.door)) seats place seat ready.doors at;
+        within = place_of_all (λ (s : Seat E J K). length (door.returned s.door) ≤ length (door.given s.door)) seats place seat ready.doors at;
       })
 
-  abbrev Worked : Seat E J → Seat E J → Type 0
+  abbrev Worked : Seat E J K → Seat E J K → Type 0
   Worked = HasWorked door link schema base engines sessions
 
-  services_of : (olds mids : List (Seat E J)) → AllZip Worked olds mids → List (List (Service K FrontValue))
+  services_of : (olds mids : List (Seat E J K)) → AllZip Worked olds mids → List (List (Service K FrontValue))
   services_of [] mids all = []
   services_of (old ∷ olds) [] all = []
   services_of (old ∷ olds) (mid ∷ mids) all = all.0.services ∷ services_of olds mids all.1
 
-  lefts_of : (olds mids : List (Seat E J)) → AllZip Worked olds mids → List TokensValue
+  lefts_of : (olds mids : List (Seat E J K)) → AllZip Worked olds mids → List TokensValue
   lefts_of [] mids all = []
   lefts_of (old ∷ olds) [] all = []
   lefts_of (old ∷ olds) (mid ∷ mids) all = all.0.left ∷ lefts_of olds mids all.1
 
-  collects : (olds mids : List (Seat E J)) (all : AllZip Worked olds mids) → collected mids ≡ lefts_of olds mids all
+  collects : (olds mids : List (Seat E J K)) (all : AllZip Worked olds mids) → collected mids ≡ lefts_of olds mids all
   unfolding lefts_of
   collects [] [] all = refl
   collects [] (mid ∷ mids) all = absurd all
@@ -106,17 +107,17 @@ module _ {E K J : Type 0} (door : DoorWords E K) (link : LinkWords K) (schema : 
   collects (old ∷ olds) (mid ∷ mids) all =
       ap (λ (o : Option TokensValue). option_to_list o ++ collected mids) all.0.leaves ∙ ap (λ (ls : List TokensValue). all.0.left ∷ ls) (collects olds mids all.1)
 
-  sit_left : (olds mids : List (Seat E J)) (all : AllZip Worked olds mids) → AllByRecursion (SitsAt engines) (lefts_of olds mids all)
+  sit_left : (olds mids : List (Seat E J K)) (all : AllZip Worked olds mids) → AllByRecursion (SitsAt engines) (lefts_of olds mids all)
   unfolding lefts_of
   sit_left [] mids all = tt
   sit_left (old ∷ olds) [] all = tt
   sit_left (old ∷ olds) (mid ∷ mids) all = (all.0.sits, sit_left olds mids all.1)
 
-  pub sit_all : (olds mids : List (Seat E J)) → AllZip Worked olds mids → All (SitsAt engines) (collected mids)
+  pub sit_all : (olds mids : List (Seat E J K)) → AllZip Worked olds mids → All (SitsAt engines) (collected mids)
   sit_all olds mids all = subst (λ (ls : List TokensValue). All (SitsAt engines) ls) (sym (collects olds mids all)) (All-from_recursion (SitsAt engines) (lefts_of olds mids all) (sit_left olds mids all))
 
   -- a worker that began with its first tokens, once these were taken away
-  works_first : (worker : ℕ) (old mid new : Seat E J) (worked : Worked old mid) → IsSameSeat mid new → old.tokens ≡ Some (first_tokens engines.confs worker)
+  works_first : (worker : ℕ) (old mid new : Seat E J K) (worked : Worked old mid) → IsSameSeat mid new → old.tokens ≡ Some (first_tokens engines.confs worker)
       → Works door link schema base engines.confs engines.workers sessions worked.services (first_tokens engines.confs worker) worked.left old new
   works_first worker old mid new worked same first =
       let had : worked.had ≡ first_tokens engines.confs worker = some_is worked.had (first_tokens engines.confs worker) (sym worked.is ∙ first) in
@@ -129,7 +130,7 @@ module _ {E K J : Type 0} (door : DoorWords E K) (link : LinkWords K) (schema : 
         counts = works.counts;
       }
 
-  all_work : (worker : ℕ) (olds mids news : List (Seat E J)) (all : AllZip Worked olds mids) → AllZip IsSameSeat mids news → ((place : ℕ) (seat : Seat E J) → slice_get olds place ≡ Some seat → seat.tokens ≡ Some (first_tokens engines.confs (worker + place)))
+  all_work : (worker : ℕ) (olds mids news : List (Seat E J K)) (all : AllZip Worked olds mids) → AllZip IsSameSeat mids news → ((place : ℕ) (seat : Seat E J K) → slice_get olds place ≡ Some seat → seat.tokens ≡ Some (first_tokens engines.confs (worker + place)))
       → AllWork door link schema base engines.confs engines.workers sessions worker (services_of olds mids all) (lefts_of olds mids all) olds news
   unfolding services_of lefts_of
   all_work worker [] [] [] all same first = tt
@@ -143,7 +144,7 @@ module _ {E K J : Type 0} (door : DoorWords E K) (link : LinkWords K) (schema : 
   )
 
   -- All workers have worked, their tokens were collected, and each engine has ended with them.
-  pub served_so : {D : Type 0} (disk : DiskWords D) (olds mids news : List (Seat E J)) (ends : List (Ended D J)) → AreReady door engines sessions olds → AllZip Worked olds mids → AllZip IsSameSeat mids news
+  pub served_so : {D : Type 0} (disk : DiskWords D) (olds mids news : List (Seat E J K)) (ends : List (Ended D J)) → AreReady door engines sessions olds → AllZip Worked olds mids → AllZip IsSameSeat mids news
       → HaveEnded disk schema base (length engines.confs) engines.workers (collected mids) ends → IsServed disk door link schema base engines.confs sessions olds news ends
   served_so disk olds mids news ends ready all same ended =
       let many : length olds ≡ engines.workers = all_seated olds ready in

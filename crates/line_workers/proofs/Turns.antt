@@ -4,7 +4,11 @@ use Rattle.srch_base.specs.Counts.{Rose}
 use Rattle.srch_base.specs.declared.door.Door.{Ghosts as DoorWords}
 use Rattle.srch_base.specs.declared.link.Link.{Ghosts as LinkWords}
 use Rattle.index_conf.specs.declared.conf.IndexConf.{IndexConf}
-use Rattle.ql_session.specs.Events.{StoreWords}
+use Rattle.srch_base.specs.Moves.{Moves}
+use Rattle.ql_session.specs.Events.{Event, Follows, StoreWords}
+use Rattle.ql_session.specs.LinkEnd.{LinkEnd}
+use Rattle.ql_session.specs.Machines.{FollowAll}
+use Rattle.ql_session.specs.Session.{IsSession}
 use Rattle.line_workers.specs.Lines.{Service, ServesLine, ServesLines, ServesDoor, connection_of}
 use Rattle.line_workers.specs.declared.serving.SeatEnd.TheVariants as ends
 use Rattle.line_workers.specs.declared.serving.Next.TheVariants as nexts
@@ -13,6 +17,31 @@ use Rattle.line_workers.specs.steps.Turns.{HasServed, ServesNext, TakesLine, Tak
 map_then : {A B : Type 0} (f : A → B) (xs : List A) (x : A) → map f (xs ++ x ∷ []) ≡ map f xs ++ f x ∷ []
 map_then f [] x = refl
 map_then {A} {B} f (y ∷ xs) x = ap (λ (ys : List B). f y ∷ ys) (map_then f xs x)
+
+-- a line that was served, with its events
+pub serves_line : {K D F : Type 0} (link : LinkWords K) (confs : D → List IndexConf) (words : StoreWords D F) (connection : ℕ) (line back : K) (end : LinkEnd) (old new : D)
+    → Moves link line back (λ before now read written. (events : List (Event F)) × IsSession words.documents connection before now read written end events × FollowAll (Follows confs words) old events new)
+    → (service : Service K F) × ServesLine link confs words connection service old new × (service.line ≡ line) × (service.back ≡ back)
+serves_line link confs words connection line back end old new moves = (
+  record { line = line; back = back; events = moves.holds.0 },
+  (
+    (
+      end,
+      record {
+        read = moves.read;
+        written = moves.written;
+        tells_read = moves.tells_read;
+        tells_written = moves.tells_written;
+        reads_later = moves.reads_later;
+        writes_later = moves.writes_later;
+        holds = moves.holds.1;
+      },
+    ),
+    moves.holds.2,
+  ),
+  refl,
+  refl,
+)
 
 module _ {E K D F : Type 0} (door : DoorWords E K) (link : LinkWords K) (confs : D → List IndexConf) (words : StoreWords D F) (workers worker : ℕ) where
   lines_then : (line : ℕ) (services : List (Service K F)) (service : Service K F) (old mid new : D) → ServesLines link confs words workers worker line services old mid

@@ -1,8 +1,9 @@
 -- What all workers' lines were shown and told of an index, and its history.
-use Rattle.std.proofs.Common.{◌≡◌, ◌⊎◌, inl, inr, ⊎_elim, ℕ, zero, suc, ◌+◌, ◌≤◌, ◌<◌, List, [], ◌∷◌, ◌++◌, length, map, Option, Some, None, Result, Ok, slice_get, refl, sym, ap, subst, ◌∙◌, arith, length-append, length-map}
+use Rattle.std.proofs.Common.{◌≡◌, ◌⊎◌, inl, inr, ⊎_elim, ℕ, zero, suc, ◌+◌, ◌≤◌, ◌<◌, List, [], ◌∷◌, ◌++◌, length, map, Option, Some, None, Result, Ok, slice_get, refl, sym, ap, subst, ◌∙◌, arith, length-append}
 use Rattle.std.specs.Prelude.{All}
 use Rattle.std.specs.List.{AllByRecursion, AllZip}
 use Rattle.std.proofs.lemmas.Bool.{cases_lt}
+use Rattle.std.proofs.lemmas.List.{length-map}
 use Rattle.std.proofs.lemmas.List.Elements.{All-from_recursion, recursion_from_All}
 use Rattle.std.proofs.lemmas.Option.{slice_get-map, slice_get_within}
 use mathlib.Core.List.{IsPrefix}
@@ -47,7 +48,7 @@ worker_follows door link schema base confs workers worker sessions services old 
     lines_follow link (λ (tables : WorkerValue). tables.confs) (by_tokens schema base) workers worker 1 services (record { confs = confs; tokens = had }) (record { confs = confs; tokens = left }) serves.serves
 
 -- A worker has seen its fronts, and counts its commits.
-pub works_so : {E K J : Type 0} (door : DoorWords E K) (link : LinkWords K) (schema : ℕ → Schema) (base : ℕ → Base) (confs : List IndexConf) (workers sessions : ℕ) (services : List (Service K FrontValue)) (had left : TokensValue) (old new : Seat E J)
+pub works_so : {E K J : Type 0} (door : DoorWords E K) (link : LinkWords K) (schema : ℕ → Schema) (base : ℕ → Base) (confs : List IndexConf) (workers sessions : ℕ) (services : List (Service K FrontValue)) (had left : TokensValue) (old new : Seat E J K)
     → ServesDoor door link (λ tables. tables.confs) (by_tokens schema base) workers had.worker sessions services old.door new.door new.end (record { confs = confs; tokens = had }) (record { confs = confs; tokens = left })
     → Works door link schema base confs workers sessions services had left old new
 works_so door link schema base confs workers sessions services had left old new serves =
@@ -99,11 +100,11 @@ module _ {D E K J : Type 0} (disk : DiskWords D) (door : DoorWords E K) (link : 
   pub record AtPlace (worker : ℕ) (services : List (Service K FrontValue)) (lefts : List TokensValue) (place : ℕ) : Type 0 where
     pub left : TokensValue
     pub at : slice_get lefts place ≡ Some left
-    pub old : Seat E J
-    pub new : Seat E J
+    pub old : Seat E J K
+    pub new : Seat E J K
     pub works : Works door link schema base confs workers sessions services (first_tokens confs worker) left old new
 
-  at_place : (worker : ℕ) (services : List (List (Service K FrontValue))) (lefts : List TokensValue) (olds news : List (Seat E J)) (place : ℕ) (own : List (Service K FrontValue)) → AllWork door link schema base confs workers sessions worker services lefts olds news
+  at_place : (worker : ℕ) (services : List (List (Service K FrontValue))) (lefts : List TokensValue) (olds news : List (Seat E J K)) (place : ℕ) (own : List (Service K FrontValue)) → AllWork door link schema base confs workers sessions worker services lefts olds news
       → slice_get services place ≡ Some own → AtPlace (worker + place) own lefts place
   at_place worker [] lefts olds news place own work at = absurd (cc at)
   at_place worker (s ∷ services) [] olds news place own work at = absurd work
@@ -127,7 +128,7 @@ module _ {D E K J : Type 0} (disk : DiskWords D) (door : DoorWords E K) (link : 
         works = subst (λ (w : ℕ). Works door link schema base confs workers sessions own (first_tokens confs w) later.left later.old later.new) (omega arith) later.works;
       }
 
-  all_served : (worker : ℕ) (services : List (List (Service K FrontValue))) (lefts : List TokensValue) (olds news : List (Seat E J)) → AllWork door link schema base confs workers sessions worker services lefts olds news → length services ≡ length olds
+  all_served : (worker : ℕ) (services : List (List (Service K FrontValue))) (lefts : List TokensValue) (olds news : List (Seat E J K)) → AllWork door link schema base confs workers sessions worker services lefts olds news → length services ≡ length olds
   all_served worker [] [] [] [] work = refl
   all_served worker [] [] [] (n ∷ news) work = absurd work
   all_served worker [] [] (o ∷ olds) news work = absurd work
@@ -160,7 +161,7 @@ module _ {D E K J : Type 0} (disk : DiskWords D) (door : DoorWords E K) (link : 
       of_history (base index) index (new_token index worker) moved.new events line.history moved.moves refl all.before (omega (arith, up, kept))
 
   -- the one history of an index whose end gave a note
-  pub one_history : (services : List (List (Service K FrontValue))) (lefts : List TokensValue) (olds news : List (Seat E J)) (ends : List (Ended D J)) → length olds ≡ workers → AllWork door link schema base confs workers sessions 1 services lefts olds news
+  pub one_history : (services : List (List (Service K FrontValue))) (lefts : List TokensValue) (olds news : List (Seat E J K)) (ends : List (Ended D J)) → length olds ≡ workers → AllWork door link schema base confs workers sessions 1 services lefts olds news
       → HaveEnded disk schema base (length confs) workers lefts ends → (index : ℕ) (end : Ended D J) (note : FrontValue) → slice_get ends index ≡ Some end → end.answer ≡ Ok note
       → IsOneHistory (schema index) (base index) index note.steps (map events_of services)
   one_history services lefts olds news ends many work ended index end note at answered =

@@ -18,7 +18,7 @@ use Rattle.line_workers.specs.declared.seat.Seat.{Seat}
 
 -- All workers served at most so many lines each, and then each index ended with all their tokens of it. Where its end gave a note,
 -- the note tells the one history of the index: all that the lines were shown and told is of it.
-pub record IsServed {D E K J : Type 0} (disk : DiskWords D) (door : DoorWords E K) (link : LinkWords K) (schema : ℕ → Schema) (base : ℕ → Base) (confs : List IndexConf) (sessions : ℕ) (old new : List (Seat E J)) (ends : List (Ended D J)) : Type 0 where
+pub record IsServed {D E K J : Type 0} (disk : DiskWords D) (door : DoorWords E K) (link : LinkWords K) (schema : ℕ → Schema) (base : ℕ → Base) (confs : List IndexConf) (sessions : ℕ) (old new : List (Seat E J K)) (ends : List (Ended D J)) : Type 0 where
   pub services : List (List (Service K FrontValue))
   pub left : List TokensValue
   pub works : AllWork door link schema base confs (length old) sessions 1 services left old new

@@ -19,7 +19,7 @@ use std::thread::{Threads, for_each_mut};
 use step_book::Naming;
 
 /// Each worker works in a thread of its own, as far as the system gives threads: without them they work in turn.
-fn work_all<D: Disk + Send, E: Door + Send, J: Naming, R: Threads + Wait + Sync>(
+fn work_all<D: Disk + Send, E: Door + Send, J: Naming + Send + Sync, R: Threads + Wait + Sync>(
     rt: &R,
     alloc: Global,
     engines: &Engines<D, J>,
@@ -90,7 +90,7 @@ fn end_engines<D: Disk, E: Door, J: Naming, R: Wait>(
 /// only that line.
 ///
 /// Where the system gives no threads, the workers work in turn: then the second one begins once the first one's door has ended.
-pub fn serve_all<D: Disk + Send, E: Door + Send, J: Naming, R: Threads + Wait + Sync>(
+pub fn serve_all<D: Disk + Send, E: Door + Send, J: Naming + Send + Sync, R: Threads + Wait + Sync>(
     rt: &R,
     alloc: Global,
     engines: Engines<D, J>,

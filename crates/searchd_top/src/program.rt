@@ -9,11 +9,13 @@ ghost use Rattle.searchd_top.specs.steps.Sides.{KeepsLent};
 
 use crate::checking::run_check;
 use crate::self_testing::run_selftest;
-use crate::serving::run_session;
+use crate::serving::{run_serve, run_session};
 use crate::{Host, Status, Stream};
 use command_line::{Mode, read_mode};
 use srch_base::Failed;
 use std::alloc::Global;
+use std::sync::Wait;
+use std::thread::Threads;
 
 /// Does what the words ask. `words` are those after the program's name.
 ///
@@ -28,20 +30,30 @@ use std::alloc::Global;
 /// was found to the output.
 ///
 /// Each store and door that the host gives is handed back.
-pub fn searchd<H: Host>(alloc: Global, words: &[String], host: &mut H) -> Status
+pub fn searchd<H: Host, R: Threads + Wait + Sync>(
+    rt: &R,
+    alloc: Global,
+    words: &[String],
+    host: &mut H,
+) -> Status
     requires stores { length (H.stores_back host.old) ≤ length (H.stores_given host.old) }
     requires doors { length (H.doors_back host.old) ≤ length (H.doors_given host.old) }
     ensures usage { (result ≡ Status.Usage) ↔ (asked (map string_bytes words.now) ≡ None) }
     ensures runs { Runs H.Host H.Store.Disk H.Entry.Door H.Entry.Line.Link (asked (map string_bytes words.now)) result host.old host.new }
     ensures prints { IsReported (line_of result) (H.printed host.old Stream.Err) (H.printed host.new Stream.Err) (H.print_faults host.old Stream.Err) (H.print_faults host.new Stream.Err) }
 {
-    let status = run(alloc, words, host);
+    let status = run(rt, alloc, words, host);
     report(&status, host);
     status
 }
 
 /// Runs the mode that the words ask for. A mode that isn't built yet is Usage, as words are that ask for none.
-fn run<H: Host>(alloc: Global, words: &[String], host: &mut H) -> Status
+fn run<H: Host, R: Threads + Wait + Sync>(
+    rt: &R,
+    alloc: Global,
+    words: &[String],
+    host: &mut H,
+) -> Status
     requires stores { length (H.stores_back host.old) ≤ length (H.stores_given host.old) }
     requires doors { length (H.doors_back host.old) ≤ length (H.doors_given host.old) }
     ensures usage { (result ≡ Status.Usage) ↔ (asked (map string_bytes words.now) ≡ None) }
@@ -51,8 +63,13 @@ fn run<H: Host>(alloc: Global, words: &[String], host: &mut H) -> Status
     ensures quiet { H.print_faults host.new Stream.Err ≡ H.print_faults host.old Stream.Err }
 {
     match read_mode(words) {
-        Some(Mode::Session { config }) => run_session(alloc, config, host),
-        Some(Mode::Serve { .. }) => Status::Usage,
+        Some(Mode::Session { config }) => run_session(rt, alloc, config, host),
+        Some(Mode::Serve {
+            config,
+            listen,
+            workers,
+            sessions,
+        }) => run_serve(rt, alloc, config, listen, workers, sessions, host),
         Some(Mode::Check { config }) => run_check(alloc, config, host),
         Some(Mode::Selftest { number, docs }) => run_selftest(alloc, number, docs, host),
         None => Status::Usage,

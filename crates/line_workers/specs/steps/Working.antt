@@ -15,14 +15,14 @@ use Rattle.line_workers.specs.Workers.{Works}
 use Rattle.line_workers.specs.declared.seat.Seat.{Seat}
 
 -- The seat has tokens of these engines, and its door got back no more lines than it gave.
-pub record CanWork {E K J : Type 0} (door : DoorWords E K) (engines : EnginesValue) (seat : Seat E J) : Type 0 where
+pub record CanWork {E K J : Type 0} (door : DoorWords E K) (engines : EnginesValue) (seat : Seat E J K) : Type 0 where
   pub had : TokensValue
   pub is : seat.tokens ≡ Some had
   pub sits : SitsAt engines had
   pub within : length (door.returned seat.door) ≤ length (door.given seat.door)
 
 -- Its worker has worked with the tokens that it had.
-pub record HasWorked {E K J : Type 0} (door : DoorWords E K) (link : LinkWords K) (schema : ℕ → Schema) (base : ℕ → Base) (engines : EnginesValue) (sessions : ℕ) (old new : Seat E J) : Type 0 where
+pub record HasWorked {E K J : Type 0} (door : DoorWords E K) (link : LinkWords K) (schema : ℕ → Schema) (base : ℕ → Base) (engines : EnginesValue) (sessions : ℕ) (old new : Seat E J K) : Type 0 where
   pub had : TokensValue
   pub left : TokensValue
   pub is : old.tokens ≡ Some had
@@ -32,10 +32,10 @@ pub record HasWorked {E K J : Type 0} (door : DoorWords E K) (link : LinkWords K
   pub works : Works door link schema base engines.confs engines.workers sessions services had left old new
 
 -- the tokens of all seats
-abbrev pub collected : {E J : Type 0} → List (Seat E J) → List TokensValue
+abbrev pub collected : {E K J : Type 0} → List (Seat E J K) → List TokensValue
 collected seats = flat_map (λ seat. option_to_list seat.tokens) seats
 
 -- Its tokens were taken away, and nothing else.
-pub record IsSameSeat {E J : Type 0} (old new : Seat E J) : Type 0 where
+pub record IsSameSeat {E K J : Type 0} (old new : Seat E J K) : Type 0 where
   pub door : new.door ≡ old.door
   pub end : new.end ≡ old.end
