@@ -1,5 +1,5 @@
 -- All engines from those of the stores before the last one, and what comes back where it stops.
-use Rattle.std.proofs.Common.{◌≡◌, ◌⊎◌, inl, inr, ⊎_elim, ℕ, ◌+◌, ◌<◌, ◌≤◌, ◌^◌, List, [], ◌∷◌, ◌++◌, Some, length, map, slice_get, refl, ap, sym, subst, ◌∙◌, arith, length-append, vec_capacity}
+use Rattle.std.proofs.Common.{◌≡◌, ◌⊎◌, inl, inr, ⊎_elim, ℕ, ◌+◌, ◌<◌, ◌≤◌, ◌^◌, List, [], ◌∷◌, ◌++◌, Some, length, map, slice_get, refl, ap, sym, subst, ◌∙◌, arith, length-append, vec_capacity, Vec, Global}
 use Rattle.std.proofs.lemmas.List.{length-map}
 use Rattle.std.proofs.lemmas.Option.{slice_get-map, slice_get_within}
 use Rattle.std.specs.List.{enumerate_from}
@@ -16,7 +16,9 @@ use Rattle.engine_tables.specs.Names.{IsRoomFor}
 use Rattle.engine_tables.specs.Tokens.{TokensValue, new_seats}
 use Rattle.engine_tables.specs.declared.ended.Ended.{Ended}
 use Rattle.engine_tables.specs.declared.making.Made.{Made}
-use Rattle.engine_tables.specs.steps.Makings.{CanGoOn, IsMadeOf, IsNext, IsNone, StopsAt}
+use Rattle.engine_tables.specs.declared.making.Making.{Making}
+use Rattle.engine_tables.specs.declared.making.Making.TheVariants.{Going, Stopped}
+use Rattle.engine_tables.specs.steps.Makings.{CanGoOn, IsMadeOf, IsNext, IsNone, Makes, MakesOne, StopsAt}
 use Rattle.engine_tables.proofs.Makings.{engines_more, placed_over}
 use Rattle.engine_tables.proofs.Places.{get_end, get_more_cases}
 
@@ -120,3 +122,31 @@ module _ {D J : Type 0} (words : DiskWords D) (schema : ℕ → Schema) (base : 
         (λ (earlier : slice_get all place ≡ Some its). inl (have.each place its earlier))
         (get_more_cases all ended its place at);
   }
+
+pub none_less : {D J : Type 0} (none : Made D J) (indexes fewer : ℕ) → fewer ≤ indexes → IsNone indexes none → IsNone fewer none
+none_less none indexes fewer less is = record {
+  tables_are = is.tables_are;
+  seats_are = is.seats_are;
+  some = is.some;
+  fits = omega (arith, is.fits);
+  room = record { indexes_fit = omega (arith, is.room.indexes_fit); workers_fit = is.room.workers_fit; none = is.room.none };
+}
+
+module _ {D J : Type 0} (words : DiskWords D) (schema : ℕ → Schema) (base : ℕ → Base) (confs before : List IndexConf) (conf : IndexConf) (stores earlier : List (Opened D)) (store : Opened D) (none : Made D J) (confs_is : confs ≡ before ++ conf ∷ []) (stores_is : stores ≡ earlier ++ store ∷ []) where
+  as_given : (result : Making D J) → Makes words schema base (before ++ conf ∷ []) (earlier ++ store ∷ []) none result → Makes words schema base confs stores none result
+  as_given result makes =
+      subst (λ (cs : List IndexConf). Makes words schema base cs stores none result) (sym confs_is) (subst (λ (ss : List (Opened D)). Makes words schema base (before ++ conf ∷ []) ss none result) (sym stores_is) makes)
+
+  -- all are made with the last one
+  pub makes_all : (made : Made D J) (result : Making D J) → length earlier ≡ length before → IsMadeOf before earlier none made → MakesOne words schema base made conf store result → Makes words schema base confs stores none result
+  makes_all made (Going next) long of one = as_given (Going next) (made_more before earlier none made of conf store next long one)
+  makes_all made (Stopped ended) long of one =
+      as_given (Stopped ended) (stops_back before earlier none made of words schema base store ended.items long one.0, omega (arith, one.1, ap (λ (e : EndingValue). e.indexes) of.ending_is))
+
+  -- it had stopped before the last one
+  pub makes_back : (ended left : Vec (Ended D J) Global) (last : Ended D J) → last.disk ≡ store.disk → left.items ≡ ended.items ++ last ∷ [] → vec_capacity left ≡ vec_capacity ended → ComeBack words schema base none.workers earlier ended.items × (none.ending.indexes ≤ vec_capacity ended) → Makes words schema base confs stores none (Stopped left)
+  makes_back ended left last is items capacity back =
+      as_given (Stopped left) (
+        subst (λ (es : List (Ended D J)). ComeBack words schema base none.workers (earlier ++ store ∷ []) es) (sym items) (back_more words schema base none.workers earlier store ended.items last is back.0),
+        omega (arith, back.1, capacity),
+      )

@@ -4,3 +4,5 @@ mod Counting
 mod Entries
 mod Whole
 mod Turns
+mod Seated
+mod Standing

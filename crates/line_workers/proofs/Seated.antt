@@ -157,5 +157,5 @@ module _ {E K J : Type 0} (door : DoorWords E K) (link : LinkWords K) (schema : 
         left = lefts;
         works = subst (λ (n : ℕ). AllWork door link schema base engines.confs n sessions 1 (services_of olds mids all) lefts olds news) (sym many) works;
         ended = subst (λ (n : ℕ). HaveEnded disk schema base (length engines.confs) n lefts ends) (sym many) over;
-        histories = λ index end note at answered. one_history disk door link schema base engines.confs engines.workers sessions (services_of olds mids all) lefts olds news ends many works over index end note at answered;
+        histories = λ index end note at answered. one_history J door link schema base engines.confs engines.workers sessions disk (services_of olds mids all) lefts olds news ends many works over index end note at answered;
       }

@@ -95,7 +95,13 @@ by_workers workers [] more all = tt
 by_workers workers (Commit entry s ∷ steps) more all = (all.0, by_workers workers steps more all.1)
 by_workers workers (Reshape job through s ∷ steps) more all = by_workers workers steps more all.1
 
-module _ {D E K J : Type 0} (disk : DiskWords D) (door : DoorWords E K) (link : LinkWords K) (schema : ℕ → Schema) (base : ℕ → Base) (confs : List IndexConf) (workers sessions : ℕ) where
+-- the lines of a worker whose events these are
+services_at : {K : Type 0} (services : List (List (Service K FrontValue))) (place : ℕ) (own : List (Event FrontValue)) → slice_get (map events_of services) place ≡ Some own → (s : List (Service K FrontValue)) × (slice_get services place ≡ Some s) × (events_of s ≡ own)
+services_at [] place own at = absurd (cc at)
+services_at (s ∷ services) zero own at = (s, refl, some_is (events_of s) own at)
+services_at (s ∷ services) (suc place) own at = services_at services place own at
+
+module _ {E K : Type 0} (J : Type 0) (door : DoorWords E K) (link : LinkWords K) (schema : ℕ → Schema) (base : ℕ → Base) (confs : List IndexConf) (workers sessions : ℕ) where
   -- what the worker of a place did
   pub record AtPlace (worker : ℕ) (services : List (Service K FrontValue)) (lefts : List TokensValue) (place : ℕ) : Type 0 where
     pub left : TokensValue
@@ -138,12 +144,6 @@ module _ {D E K J : Type 0} (disk : DiskWords D) (door : DoorWords E K) (link : 
   all_served worker (s ∷ services) (l ∷ lefts) (o ∷ olds) [] work = absurd work
   all_served worker (s ∷ services) (l ∷ lefts) (o ∷ olds) (n ∷ news) work = ap suc (all_served (worker + 1) services lefts olds news work.1)
 
-  -- the lines of a worker whose events these are
-  services_at : (services : List (List (Service K FrontValue))) (place : ℕ) (own : List (Event FrontValue)) → slice_get (map events_of services) place ≡ Some own → (s : List (Service K FrontValue)) × (slice_get services place ≡ Some s) × (events_of s ≡ own)
-  services_at [] place own at = absurd (cc at)
-  services_at (s ∷ services) zero own at = (s, refl, some_is (events_of s) own at)
-  services_at (s ∷ services) (suc place) own at = services_at services place own at
-
   -- what a worker was shown and told is of the history of a line that its token has seen whole
   of_line : (index worker : ℕ) (line : LineValue) (services : List (Service K FrontValue)) (lefts : List TokensValue) (place : ℕ) (after : List TokenValue) → index < length confs → AllZip (HasSeenAll line) (tokens_at index lefts) after
       → AtPlace worker services lefts place → IsOfHistory (base index) index line.history worker (events_of services)
@@ -161,10 +161,10 @@ module _ {D E K J : Type 0} (disk : DiskWords D) (door : DoorWords E K) (link : 
       of_history (base index) index (new_token index worker) moved.new events line.history moved.moves refl all.before (omega (arith, up, kept))
 
   -- the one history of an index whose end gave a note
-  pub one_history : (services : List (List (Service K FrontValue))) (lefts : List TokensValue) (olds news : List (Seat E J K)) (ends : List (Ended D J)) → length olds ≡ workers → AllWork door link schema base confs workers sessions 1 services lefts olds news
+  pub one_history : {D : Type 0} (disk : DiskWords D) (services : List (List (Service K FrontValue))) (lefts : List TokensValue) (olds news : List (Seat E J K)) (ends : List (Ended D J)) → length olds ≡ workers → AllWork door link schema base confs workers sessions 1 services lefts olds news
       → HaveEnded disk schema base (length confs) workers lefts ends → (index : ℕ) (end : Ended D J) (note : FrontValue) → slice_get ends index ≡ Some end → end.answer ≡ Ok note
       → IsOneHistory (schema index) (base index) index note.steps (map events_of services)
-  one_history services lefts olds news ends many work ended index end note at answered =
+  one_history disk services lefts olds news ends many work ended index end note at answered =
       let closes = (ended.each index end at).1 in
       let told = subst (λ (r : Result FrontValue (Or Strayed)). Closes disk (schema index) (base index) index workers (tokens_at index lefts) end.disk r (ended.each index end at).0) answered closes in
       let line : LineValue = told.0 in

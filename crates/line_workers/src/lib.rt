@@ -9,6 +9,8 @@ mod serving;
 mod working;
 
 pub use all::{serve_all, serve_in_turn};
-pub use laws::{a_worker_alone_sees_its_commits, each_commit_stands_once, each_entry_was_asked_for};
+pub use laws::{
+    a_worker_alone_sees_its_commits, each_commit_stands_once, each_entry_was_asked_for,
+};
 pub use seat::Seat;
 pub use serving::{SeatEnd, serve_lines};

@@ -2,10 +2,10 @@
 use Rattle.std.specs.Prelude.{ℕ, List, Option, Some, None, option_and_then}
 use Rattle.command_line.specs.Modes.{Mode, mode, session, serve, check, selftest}
 
--- The modes that are built, a row for each. The others ask for nothing yet.
+-- The modes that are built, a row for each.
 abbrev pub built : Mode → Option Mode
 built (session config) = Some (session config)
-built (serve config listen workers sessions) = None
+built (serve config listen workers sessions) = Some (serve config listen workers sessions)
 built (check config) = Some (check config)
 built (selftest number docs) = Some (selftest number docs)
 

@@ -19,9 +19,9 @@ use std::thread::Threads;
 
 /// Does what the words ask. `words` are those after the program's name.
 ///
-/// `session --config F` reads the configuration in the file F and serves one connection by its indexes, from no documents; the
-/// documents that it commits are gone with the call. A connection may end in any way: the status is about the configuration, the
-/// host and its door alone.
+/// `session --config F` reads the configuration in the file F, opens the store of each index, and serves one line over the standard
+/// streams. `serve --config F --listen A --workers N --sessions M` does so with N workers at once over a listener, each of which serves
+/// at most M lines. A line may end in any way: the status is about the configuration, the host, its stores and doors alone.
 ///
 /// `check --config F` opens the store of each index, and once all are open prints a line of each to the output: how many
 /// documents, chunks and records of its log it has. A store without an index is made one without documents.
@@ -47,7 +47,7 @@ pub fn searchd<H: Host, R: Threads + Wait + Sync>(
     status
 }
 
-/// Runs the mode that the words ask for. A mode that isn't built yet is Usage, as words are that ask for none.
+/// Runs the mode that the words ask for. Words that ask for none are Usage.
 fn run<H: Host, R: Threads + Wait + Sync>(
     rt: &R,
     alloc: Global,

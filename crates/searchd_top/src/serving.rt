@@ -1,8 +1,20 @@
 //! Serving: the stores of all indexes are opened, then doors are asked for, and workers serve the lines of each. However they end,
 //! stores and doors are handed back.
+ghost use Rattle.std.specs.Prelude.{◌≡◌, ◌+◌, ◌*◌, ◌^◌, ◌<◌, ◌≤◌, ◌++◌, [], All, IfOk, Some, None, length, map, option_copied, vec_capacity};
+ghost use Rattle.command_line.specs.Modes.{serve, session};
+ghost use Rattle.engine_tables.specs.Names.{AreServed};
+ghost use Rattle.index_conf.specs.Soundness.{IsSound};
+ghost use Rattle.served_stores.specs.Stores.{AreStores};
+ghost use Rattle.searchd_top.specs.Requests.{door_requests, store_requests};
+ghost use Rattle.searchd_top.specs.Runs.{Runs};
+ghost use Rattle.searchd_top.specs.Sessions.{ServesIndexes};
+ghost use Rattle.searchd_top.specs.Statuses.{NamesIndex};
+ghost use Rattle.searchd_top.specs.steps.Servings.{AreNames, HandsAllBack, SaysEnds, ServesOpened, plan_of};
+ghost use Rattle.searchd_top.specs.steps.Sides.{AreTexts, DoesBy, HandsBack, KeepsPrints};
+
 use crate::configuring::configure;
 use crate::opening::{give_up, hand_back, open_stores};
-use crate::{Host, Status};
+use crate::{Host, Status, Stream};
 use chunk_store::Disk;
 use index_conf::{Conf, IndexConf};
 use served_stores::{IndexEnd, Outcome, Served, serve_stores};
@@ -12,33 +24,28 @@ use std::sync::Wait;
 use std::thread::Threads;
 use store_keep::Opened;
 
-/// How many doors there are and where they are, and how many lines each may give.
-#[derive(Clone, Copy)]
-struct Doors<'a> {
-    listen: Option<&'a str>,
-    workers: u32,
-    sessions: u32,
-}
-
 /// Reads the configuration, and serves one line over the standard streams by its indexes.
 pub(crate) fn run_session<H: Host, R: Threads + Wait + Sync>(
     rt: &R,
     alloc: Global,
     file: &str,
     host: &mut H,
-) -> Status {
-    let doors = Doors {
-        listen: None,
-        workers: 1,
-        sessions: 1,
-    };
+) -> Status
+    requires stores { length (H.stores_back host.old) ≤ length (H.stores_given host.old) }
+    requires doors { length (H.doors_back host.old) ≤ length (H.doors_given host.old) }
+    ensures runs { Runs H.Host H.Store.Disk H.Entry.Door H.Entry.Line.Link (Some (session file.now)) result host.old host.new }
+    ensures asked { ¬ (result ≡ Status.Usage) }
+    ensures names { NamesIndex result }
+    ensures errors { H.printed host.new Stream.Err ≡ H.printed host.old Stream.Err }
+    ensures quiet { H.print_faults host.new Stream.Err ≡ H.print_faults host.old Stream.Err }
+{
     match configure(alloc, file, host) {
-        Ok(conf) => serve(rt, alloc, conf, doors, host),
+        Ok(conf) => serve(rt, alloc, conf, None, 1, 1, host),
         Err(status) => status,
     }
 }
 
-/// Reads the configuration, and serves lines over a listener by its indexes.
+/// Reads the configuration, and serves lines over a listener by its indexes: so many workers at once, each so many lines.
 pub(crate) fn run_serve<H: Host, R: Threads + Wait + Sync>(
     rt: &R,
     alloc: Global,
@@ -47,14 +54,19 @@ pub(crate) fn run_serve<H: Host, R: Threads + Wait + Sync>(
     workers: u32,
     sessions: u32,
     host: &mut H,
-) -> Status {
-    let doors = Doors {
-        listen: Some(listen),
-        workers,
-        sessions,
-    };
+) -> Status
+    requires stores { length (H.stores_back host.old) ≤ length (H.stores_given host.old) }
+    requires doors { length (H.doors_back host.old) ≤ length (H.doors_given host.old) }
+    requires some { 0 < workers }
+    requires numbers { workers * sessions < 2 ^ 32 }
+    ensures runs { Runs H.Host H.Store.Disk H.Entry.Door H.Entry.Line.Link (Some (serve file.now listen.now workers sessions)) result host.old host.new }
+    ensures asked { ¬ (result ≡ Status.Usage) }
+    ensures names { NamesIndex result }
+    ensures errors { H.printed host.new Stream.Err ≡ H.printed host.old Stream.Err }
+    ensures quiet { H.print_faults host.new Stream.Err ≡ H.print_faults host.old Stream.Err }
+{
     match configure(alloc, file, host) {
-        Ok(conf) => serve(rt, alloc, conf, doors, host),
+        Ok(conf) => serve(rt, alloc, conf, Some(listen), workers, sessions, host),
         Err(status) => status,
     }
 }
@@ -64,12 +76,28 @@ fn serve<H: Host, R: Threads + Wait + Sync>(
     rt: &R,
     alloc: Global,
     conf: Conf,
-    doors: Doors,
+    listen: Option<&str>,
+    workers: u32,
+    sessions: u32,
     host: &mut H,
-) -> Status {
+) -> Status
+    requires sound { IsSound conf }
+    requires paths { AreTexts conf.indexes }
+    requires stores { length (H.stores_back host.old) ≤ length (H.stores_given host.old) }
+    requires doors { length (H.doors_back host.old) ≤ length (H.doors_given host.old) }
+    requires some { 0 < workers }
+    requires numbers { workers * sessions < 2 ^ 32 }
+    ensures serves { DoesBy H.Host host.old host.new (ServesIndexes H.Store.Disk H.Entry.Door H.Entry.Line.Link conf.indexes (plan_of (option_copied listen.entry) workers sessions) (store_requests conf.indexes ++ door_requests (plan_of (option_copied listen.entry) workers sessions)) result) }
+    ensures asked { ¬ (result ≡ Status.Usage) }
+    ensures names { NamesIndex result }
+    ensures prints { KeepsPrints H.Host host.old host.new }
+{
     let mut opened = Vec::new(alloc);
     match open_stores(alloc, conf.indexes.as_slice(), &mut opened, host) {
-        Ok(()) => serve_opened(rt, alloc, conf.indexes.into_vec(), opened, doors, host),
+        Ok(()) => {
+            let indexes = conf.indexes.into_vec();
+            serve_opened(rt, alloc, indexes, opened, listen, workers, sessions, host)
+        }
         Err(stop) => give_up(opened, stop, host),
     }
 }
@@ -80,18 +108,29 @@ fn serve_opened<H: Host, R: Threads + Wait + Sync>(
     alloc: Global,
     indexes: Vec<IndexConf>,
     opened: Vec<Opened<H::Store>>,
-    doors: Doors,
+    listen: Option<&str>,
+    workers: u32,
+    sessions: u32,
     host: &mut H,
-) -> Status {
+) -> Status
+    requires opened { AreStores H.Store.Disk indexes.items opened.items }
+    requires served { AreServed indexes.items }
+    requires stores { length (H.stores_back host.old) + length opened.items ≤ length (H.stores_given host.old) }
+    requires doors { length (H.doors_back host.old) ≤ length (H.doors_given host.old) }
+    requires some { 0 < workers }
+    requires numbers { workers * sessions < 2 ^ 32 }
+    ensures serves { ServesOpened H.Host H.Store.Disk H.Entry.Door H.Entry.Line.Link indexes.items (plan_of (option_copied listen.entry) workers sessions) opened.items result host.old host.new }
+    ensures asked { ¬ (result ≡ Status.Usage) }
+    ensures names { NamesIndex result }
+    ensures prints { KeepsPrints H.Host host.old host.new }
+{
     match room_for(alloc, &indexes) {
-        Ok((names, room)) => match host.doors(doors.listen, doors.workers) {
+        Ok((names, room)) => match host.doors(listen, workers) {
             Ok(given) => {
-                let sessions = doors.sessions;
                 let served = serve_stores(rt, alloc, indexes, opened, given, sessions, room);
                 hand_all_back(alloc, &names, served, host)
             }
             Err(fault) => {
-                room.destroy_empty();
                 hand_back(opened, host);
                 Status::from(fault)
             }
@@ -107,13 +146,24 @@ fn serve_opened<H: Host, R: Threads + Wait + Sync>(
 fn room_for<S: Disk>(
     alloc: Global,
     indexes: &[IndexConf],
-) -> Result<(Vec<Name>, Vec<IndexEnd<S>>), NoMemory> {
+) -> Result<(Vec<Name>, Vec<IndexEnd<S>>), NoMemory>
+    ensures names { IfOk result (λ made. AreNames indexes.now made.0.items) }
+    ensures room { IfOk result (λ made. (made.1.items ≡ []) × (length indexes.now ≤ vec_capacity made.1)) }
+{
+    let names = names_of(alloc, indexes)?;
+    let room = Vec::with_capacity(alloc, indexes.len())?;
+    Ok((names, room))
+}
+
+/// The names of indexes.
+fn names_of(alloc: Global, indexes: &[IndexConf]) -> Result<Vec<Name>, NoMemory>
+    ensures { IfOk result (λ names. AreNames indexes.now names.items) }
+{
     let mut names = Vec::new(alloc);
     for index in indexes {
         names.push(Name::from_slice(alloc, index.schema.name.as_bytes())?)?;
     }
-    let room = Vec::with_capacity(alloc, indexes.len())?;
-    Ok((names, room))
+    Ok(names)
 }
 
 /// Hands all stores and doors back, and says how it went.
@@ -122,7 +172,14 @@ fn hand_all_back<H: Host>(
     names: &[Name],
     served: Served<H::Store, H::Entry>,
     host: &mut H,
-) -> Status {
+) -> Status
+    requires stores { length (H.stores_back host.old) + length served.ends.items ≤ length (H.stores_given host.old) }
+    requires doors { length (H.doors_back host.old) + length served.doors.items ≤ length (H.doors_given host.old) }
+    ensures hands { HandsAllBack H.Host names.now served result host.old host.new }
+    ensures asked { ¬ (result ≡ Status.Usage) }
+    ensures names { NamesIndex result }
+    ensures prints { KeepsPrints H.Host host.old host.new }
+{
     let Served {
         doors,
         ends,
@@ -140,7 +197,11 @@ fn hand_all_back<H: Host>(
 
 /// What the run ends with by how its indexes ended, where no door failed: the first one whose history strayed decides, then want of
 /// memory.
-fn status_of_ends<S: Disk>(alloc: Global, names: &[Name], ends: &[IndexEnd<S>]) -> Status {
+fn status_of_ends<S: Disk>(alloc: Global, names: &[Name], ends: &[IndexEnd<S>]) -> Status
+    ensures says { SaysEnds names.now (map (λ end. end.answer) ends.now) result }
+    ensures asked { ¬ (result ≡ Status.Usage) }
+    ensures names { NamesIndex result }
+{
     match (names.split_first(), ends.split_first()) {
         (Some((name, names)), Some((end, ends))) => match &end.answer {
             Ok(()) => status_of_ends(alloc, names, ends),
@@ -161,7 +222,11 @@ fn status_of_ends<S: Disk>(alloc: Global, names: &[Name], ends: &[IndexEnd<S>]) 
 }
 
 /// Hands back what is left of stores, in the order in which they were opened.
-fn hand_ends_back<H: Host>(ends: Vec<IndexEnd<H::Store>>, host: &mut H) {
+fn hand_ends_back<H: Host>(ends: Vec<IndexEnd<H::Store>>, host: &mut H)
+    requires { length (H.stores_back host.old) + length ends.items ≤ length (H.stores_given host.old) }
+    ensures back { HandsBack H.Host (map (λ end. end.disk) ends.items) host.old host.new }
+    ensures prints { KeepsPrints H.Host host.old host.new }
+{
     'ends: for end in ends {
         let IndexEnd {
             disk,

@@ -1,4 +1,8 @@
 //! What is left of indexes, without the names that they were served under.
+ghost use Rattle.std.specs.Prelude.{◌≡◌, ◌≤◌, [], Err, length, map, vec_capacity};
+ghost use Rattle.srch_base.specs.declared.faults.Or.TheVariants.{NoMemory};
+ghost use Rattle.served_stores.specs.Serving.{end_of};
+
 use chunk_store::Disk;
 use commit_outcomes::Strayed;
 use engine_tables::Ended;
@@ -18,7 +22,11 @@ pub struct IndexEnd<D: Disk> {
 pub(crate) fn without_notes<D: Disk, J: Naming>(
     mut ended: Vec<Ended<D, J>>,
     room: Vec<IndexEnd<D>>,
-) -> Vec<IndexEnd<D>> {
+) -> Vec<IndexEnd<D>>
+    requires room { (room.items ≡ []) × (length ended.items ≤ vec_capacity room) }
+    ensures ends { result.items ≡ map end_of ended.items }
+    ensures room { vec_capacity result ≡ vec_capacity room }
+{
     match ended.pop() {
         None => {
             ended.destroy_empty();
@@ -39,7 +47,11 @@ pub(crate) fn without_notes<D: Disk, J: Naming>(
 pub(crate) fn unserved<D: Disk>(
     mut stores: Vec<Opened<D>>,
     room: Vec<IndexEnd<D>>,
-) -> Vec<IndexEnd<D>> {
+) -> Vec<IndexEnd<D>>
+    requires room { (room.items ≡ []) × (length stores.items ≤ vec_capacity room) }
+    ensures ends { result.items ≡ map (λ store. record { disk = store.disk; answer = Err NoMemory }) stores.items }
+    ensures room { vec_capacity result ≡ vec_capacity room }
+{
     match stores.pop() {
         None => {
             stores.destroy_empty();

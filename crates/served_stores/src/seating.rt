@@ -1,4 +1,7 @@
 //! Workers at their seats: doors and tokens are put together, and the doors come back.
+ghost use Rattle.std.specs.Prelude.{◌≡◌, ◌≤◌, [], Some, length, map, vec_capacity};
+ghost use Rattle.served_stores.specs.Serving.{some_failed};
+
 use engine_tables::Tokens;
 use line_workers::{Seat, SeatEnd};
 use srch_base::Door;
@@ -9,7 +12,15 @@ pub(crate) fn sit_down<E: Door, J: Naming>(
     doors: &mut Vec<E>,
     tokens: &mut Vec<Tokens<J>>,
     seats: &mut Vec<Seat<E, J>>,
-) {
+)
+    requires many { length tokens.old.items ≡ length doors.old.items }
+    requires room { (seats.old.items ≡ []) × (length doors.old.items ≤ vec_capacity seats.old) }
+    ensures doors { map (λ seat. seat.door) seats.new.items ≡ doors.old.items }
+    ensures tokens { map (λ seat. seat.tokens) seats.new.items ≡ map Some tokens.old.items }
+    ensures empty { doors.new.items ≡ [] }
+    ensures keeps { vec_capacity doors.new ≡ vec_capacity doors.old }
+    ensures room { vec_capacity seats.new ≡ vec_capacity seats.old }
+{
     if let Some(door) = doors.pop() {
         let own = tokens.take_last();
         sit_down(doors, tokens, seats);
@@ -25,7 +36,12 @@ pub(crate) fn sit_down<E: Door, J: Naming>(
 pub(crate) fn stand_up<E: Door, J: Naming>(
     mut seats: Vec<Seat<E, J>>,
     doors: &mut Vec<E>,
-) -> bool {
+) -> bool
+    requires room { (doors.old.items ≡ []) × (length seats.items ≤ vec_capacity doors.old) }
+    ensures doors { doors.new.items ≡ map (λ seat. seat.door) seats.items }
+    ensures failed { result ≡ some_failed seats.items }
+    ensures room { vec_capacity doors.new ≡ vec_capacity doors.old }
+{
     match seats.pop() {
         None => {
             seats.destroy_empty();

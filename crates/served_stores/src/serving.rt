@@ -1,4 +1,10 @@
 //! All indexes of a configuration, served by all workers.
+ghost use Rattle.std.specs.Prelude.{◌≡◌, ◌<◌, ◌≤◌, ◌⊎◌, ◌*◌, ◌^◌, [], All, IfOk, length, vec_capacity};
+ghost use Rattle.engine_tables.specs.Names.{AreNamed, AreServed, IsRoomFor};
+ghost use Rattle.engine_tables.specs.Tokens.{new_seats};
+ghost use Rattle.served_stores.specs.Serving.{HasNone, HasServed, Serves, outcome_of};
+ghost use Rattle.served_stores.specs.Stores.{AreStores};
+
 use crate::IndexEnd;
 use crate::ends::{unserved, without_notes};
 use crate::seating::{sit_down, stand_up};
@@ -34,6 +40,17 @@ pub struct Served<D: Disk, E> {
     pub outcome: Outcome,
 }
 
+/// How it went where workers began.
+fn outcome_of(failed: bool) -> Outcome
+    ensures { result ≡ outcome_of failed }
+{
+    if failed {
+        Outcome::HostFault
+    } else {
+        Outcome::Done
+    }
+}
+
 /// Serves over engines that have the names.
 fn serve_engines<D: Disk + Send, E: Door + Send, J: Naming + Send + Sync, R: Threads + Wait + Sync>(
     rt: &R,
@@ -43,7 +60,16 @@ fn serve_engines<D: Disk + Send, E: Door + Send, J: Naming + Send + Sync, R: Thr
     sessions: u32,
     mut seats: Vec<Seat<E, J>>,
     room: Vec<IndexEnd<D>>,
-) -> Served<D, E> {
+) -> Served<D, E>
+    requires workers { named.engines.workers ≡ length doors.items }
+    requires tokens { named.seats.items ≡ new_seats (length named.engines.confs) named.engines.workers }
+    requires ending { IsRoomFor (length named.engines.confs) named.engines.workers named.ending }
+    requires doors { All (λ door. length (E.returned door) ≤ length (E.given door)) doors.items }
+    requires numbers { length doors.items * sessions < 2 ^ 32 }
+    requires seats { (seats.items ≡ []) × (length doors.items ≤ vec_capacity seats) }
+    requires room { (room.items ≡ []) × (length named.engines.confs ≤ vec_capacity room) }
+    ensures { HasServed D.Disk E.Door E.Line.Link J.schema J.base named.engines.confs sessions doors.items result }
+{
     let Named {
         engines,
         seats: mut tokens,
@@ -55,7 +81,7 @@ fn serve_engines<D: Disk + Send, E: Door + Send, J: Naming + Send + Sync, R: Thr
     Served {
         doors,
         ends: without_notes(ended, room),
-        outcome: if failed { Outcome::HostFault } else { Outcome::Done },
+        outcome: outcome_of(failed),
     }
 }
 
@@ -64,7 +90,11 @@ fn seats_for<D: Disk, E: Door, J: Naming>(
     alloc: Global,
     indexes: usize,
     workers: usize,
-) -> Result<(Vec<Seat<E, J>>, Ending<D, J>), NoMemory> {
+) -> Result<(Vec<Seat<E, J>>, Ending<D, J>), NoMemory>
+    requires { workers < 2 ^ 32 }
+    ensures seats { IfOk result (λ made. (made.0.items ≡ []) × (workers ≤ vec_capacity made.0)) }
+    ensures ending { IfOk result (λ made. IsRoomFor indexes workers made.1) }
+{
     let seats = Vec::with_capacity(alloc, workers)?;
     match Ending::new(alloc, indexes, workers as u32) {
         Ok(ending) => Ok((seats, ending)),
@@ -84,7 +114,15 @@ fn serve_named<D: Disk + Send, E: Door + Send, J: Naming + Send + Sync, R: Threa
     doors: Vec<E>,
     sessions: u32,
     room: Vec<IndexEnd<D>>,
-) -> Served<D, E> {
+) -> Served<D, E>
+    requires named { AreNamed D.Disk J.book J.schema J.base confs.items stores.items }
+    requires served { AreServed confs.items }
+    requires doors { All (λ door. length (E.returned door) ≤ length (E.given door)) doors.items }
+    requires some { (0 < length doors.items) × (length doors.items < 2 ^ 32) }
+    requires numbers { length doors.items * sessions < 2 ^ 32 }
+    requires room { (room.items ≡ []) × (length confs.items ≤ vec_capacity room) }
+    ensures { HasServed D.Disk E.Door E.Line.Link J.schema J.base confs.items sessions doors.items result ⊎ HasNone D.Disk J.schema J.base stores.items doors.items result }
+{
     let workers = doors.len() as u32;
     match seats_for(alloc, stores.len(), doors.len()) {
         Ok((seats, ending)) => {
@@ -120,6 +158,14 @@ pub fn serve_stores<D: Disk + Send, E: Door + Send, R: Threads + Wait + Sync>(
     doors: Vec<E>,
     sessions: u32,
     room: Vec<IndexEnd<D>>,
-) -> Served<D, E> {
+) -> Served<D, E>
+    requires stores { AreStores D.Disk confs.items stores.items }
+    requires served { AreServed confs.items }
+    requires doors { All (λ door. length (E.returned door) ≤ length (E.given door)) doors.items }
+    requires some { (0 < length doors.items) × (length doors.items < 2 ^ 32) }
+    requires numbers { length doors.items * sessions < 2 ^ 32 }
+    requires room { (room.items ≡ []) × (length confs.items ≤ vec_capacity room) }
+    ensures { Serves D.Disk E.Door E.Line.Link confs.items stores.items sessions doors.items result }
+{
     serve_named::<D, E, Brand, R>(rt, alloc, confs, stores, doors, sessions, room)
 }
