@@ -1,11 +1,16 @@
 //! Checks of indexes over disks in memory: a line of each index where all can be opened, and otherwise why the first one can't. The
 //! bytes of the files, the words of damage and the lines are those of the manual and of docs/FILES.md.
+ghost use Rattle.std.specs.Prelude.{All, IfOk};
+ghost use Rattle.store_keep.specs.Opens.{HidesNothing};
+
 use crate::hosts::run_over;
 use chunk_store::{Disk, MemoryDisk};
 use searchd_top::Stream;
 use srch_base::Text;
 use std::alloc::Global;
+use std::sync::Wait;
 use std::test::Fail;
+use std::thread::Threads;
 
 /// What the check is of, ` | `, the indexes with `+` between them, ` | `, the calls of the host that fail, and ` ⇒ ` with the exit
 /// status, how many stores came back, and what was printed to the output and then to the errors, `;` for the end of a line.
@@ -64,7 +69,9 @@ fn failing_calls(alloc: Global, store: &str) -> Result<Vec<u64>, Fail> {
 }
 
 /// The disk of a store.
-fn disk_of(alloc: Global, store: &str) -> Result<MemoryDisk, Fail> {
+fn disk_of(alloc: Global, store: &str) -> Result<MemoryDisk, Fail>
+    ensures { IfOk result (HidesNothing MemoryDisk.Disk) }
+{
     let mut disk = MemoryDisk::new(alloc, failing_calls(alloc, store)?);
     for word in store.split(' ') {
         if let Some((file, bytes)) = word.split_once('=') {
@@ -75,7 +82,9 @@ fn disk_of(alloc: Global, store: &str) -> Result<MemoryDisk, Fail> {
 }
 
 /// The stores of the indexes that have one.
-fn stores_of(alloc: Global, indexes: &str) -> Result<Vec<(Text, MemoryDisk)>, Fail> {
+fn stores_of(alloc: Global, indexes: &str) -> Result<Vec<(Text, MemoryDisk)>, Fail>
+    ensures { IfOk result (λ stores. All (λ store. HidesNothing MemoryDisk.Disk store.1) stores.items) }
+{
     let mut stores = Vec::new(alloc);
     for index in indexes.split(" + ").filter(|index| !index.starts_with('-')) {
         let name = index.split(' ').next().ok_or("no name")?;
@@ -106,9 +115,15 @@ fn put_printed(printed: &[u8], told: &mut String) -> Result<(), Fail> {
 }
 
 /// What a check of indexes comes to.
-fn told(alloc: Global, indexes: &str, failing: &str) -> Result<String, Fail> {
+fn told<R: Threads + Wait + Sync>(
+    rt: &R,
+    alloc: Global,
+    indexes: &str,
+    failing: &str,
+) -> Result<String, Fail> {
     let text = configuration(alloc, indexes)?;
     let (status, host) = run_over(
+        rt,
         alloc,
         "check --config searchd.conf",
         text.as_bytes(),
@@ -124,11 +139,11 @@ fn told(alloc: Global, indexes: &str, failing: &str) -> Result<String, Fail> {
 }
 
 /// Fails where a check of a line comes to something else.
-fn try_line(alloc: Global, line: &str) -> Result<(), Fail> {
+fn try_line<R: Threads + Wait + Sync>(rt: &R, alloc: Global, line: &str) -> Result<(), Fail> {
     let (case, wanted) = line.split_once("⇒ ").ok_or("a line without an arrow")?;
     let (about, case) = case.split_once(" | ").ok_or("a line without indexes")?;
     let (indexes, failing) = case.split_once(" | ").ok_or("a line without calls")?;
-    let found = told(alloc, indexes, failing.trim_end())?;
+    let found = told(rt, alloc, indexes, failing.trim_end())?;
     if found.as_str() != wanted {
         return Err(Fail::new(format!(in alloc; "{about} ⇒ {found}, wanted: {wanted}")?));
     }
@@ -138,7 +153,7 @@ fn try_line(alloc: Global, line: &str) -> Result<(), Fail> {
 #[test]
 fn a_check_prints_a_line_of_each_index(rt: HostRuntime) -> Result<(), Fail> {
     for line in CHECKS.lines().skip(1) {
-        try_line(rt.alloc(), line)?;
+        try_line(&rt, rt.alloc(), line)?;
     }
     Ok(())
 }

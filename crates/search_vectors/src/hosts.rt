@@ -1,9 +1,14 @@
 //! Hosts in memory on which the tests run the program: one file, some stores and doors, and the numbers of the calls that fail.
+ghost use Rattle.std.specs.Prelude.{All, IfOk};
+ghost use Rattle.store_keep.specs.Opens.{HidesNothing};
+
 use chunk_store::MemoryDisk;
 use searchd_top::{MemoryHost, Status, searchd};
 use srch_base::{ListDoor, MemoryLink, Text};
 use std::alloc::Global;
+use std::sync::Wait;
 use std::test::Fail;
+use std::thread::Threads;
 
 /// The words of a session.
 pub(crate) const SESSION: &str = "session --config searchd.conf";
@@ -40,30 +45,49 @@ pub(crate) fn one_door(alloc: Global, lines: Vec<MemoryLink>) -> Result<Vec<List
     Ok(doors)
 }
 
-/// Runs what the words of a text ask, on a host with these doors and this text in its file, whose calls of these numbers fail.
-/// Gives the status, and the host as it is then.
-pub(crate) fn run(
+/// The paths of the indexes that the known texts name.
+const PATHS: [&[u8]; 3] = [b".", b"data/shop", b"data/rt"];
+
+/// An empty store for each of the paths.
+fn empty_stores(alloc: Global) -> Result<Vec<(Text, MemoryDisk)>, Fail>
+    ensures { IfOk result (λ stores. All (λ store. HidesNothing MemoryDisk.Disk store.1) stores.items) }
+{
+    let mut stores = Vec::new(alloc);
+    for path in PATHS {
+        let disk = MemoryDisk::new(alloc, Vec::new(alloc));
+        stores.push((Text::from_slice(alloc, path)?, disk))?;
+    }
+    Ok(stores)
+}
+
+/// Runs what the words of a text ask, on a host with these doors, an empty store for each known index, and this text in its file, whose
+/// calls of these numbers fail. Gives the status, and the host as it is then.
+pub(crate) fn run<R: Threads + Wait + Sync>(
+    rt: &R,
     alloc: Global,
     words: &str,
     text: &[u8],
     doors: Vec<ListDoor>,
     failing: &[u32],
 ) -> Result<(Status, MemoryHost), Fail> {
-    run_over(alloc, words, text, Vec::new(alloc), doors, failing)
+    run_over(rt, alloc, words, text, empty_stores(alloc)?, doors, failing)
 }
 
-/// The same on a host that has stores too, each with its path.
-pub(crate) fn run_over(
+/// The same on a host that has these stores, each with its path.
+pub(crate) fn run_over<R: Threads + Wait + Sync>(
+    rt: &R,
     alloc: Global,
     words: &str,
     text: &[u8],
     stores: Vec<(Text, MemoryDisk)>,
     doors: Vec<ListDoor>,
     failing: &[u32],
-) -> Result<(Status, MemoryHost), Fail> {
+) -> Result<(Status, MemoryHost), Fail>
+    requires { All (λ store. HidesNothing MemoryDisk.Disk store.1) stores.items }
+{
     let failing = Vec::from_slice(alloc, failing)?;
     let mut host = MemoryHost::new(alloc, files(alloc, text)?, stores, doors, failing)?;
     let words = words_of(alloc, words)?;
-    let status = searchd(alloc, words.as_slice(), &mut host);
+    let status = searchd(rt, alloc, words.as_slice(), &mut host);
     Ok((status, host))
 }

@@ -1,15 +1,21 @@
-//! What a run requests of its host: nothing where the words are wrong, the text alone where it is no configuration, and else, of a
-//! session one door over the standard streams as well, and of a check the stores of the indexes in the order of the configuration.
+//! What a run requests of its host: nothing where the words are wrong, the text alone where it is no configuration, and else the stores
+//! of the indexes in the order of the configuration; then a session one door over the standard streams, and serving doors at a port.
 use crate::hosts::{PLAIN, SESSION, one_door, run};
 use searchd_top::Request;
 use std::alloc::Global;
+use std::sync::Wait;
 use std::test::Fail;
+use std::thread::Threads;
 
-/// The requests of a run: the path of each text, `in` and the path of each store, and the number of doors over the standard streams
-/// of each other request.
-fn requests_of(alloc: Global, words: &str, text: &[u8]) -> Result<Vec<String>, Fail> {
+/// The requests of a run: the path of each text, `in` and the path of each store, and the number of doors of each other request, with their address where they have one.
+fn requests_of<R: Threads + Wait + Sync>(
+    rt: &R,
+    alloc: Global,
+    words: &str,
+    text: &[u8],
+) -> Result<Vec<String>, Fail> {
     let doors = one_door(alloc, Vec::new(alloc))?;
-    let (_, host) = run(alloc, words, text, doors, &[])?;
+    let (_, host) = run(rt, alloc, words, text, doors, &[])?;
     let mut shown = Vec::new(alloc);
     for request in host.requests().ok_or("no record")? {
         shown.push(match request {
@@ -19,17 +25,30 @@ fn requests_of(alloc: Global, words: &str, text: &[u8]) -> Result<Vec<String>, F
                 format!(in alloc; "in {path}")?
             }
             Request::OpenDoors(None, count) => format!(in alloc; "{count}")?,
-            Request::OpenDoors(Some(_), _) => String::from_str(alloc, "a port")?,
+            Request::OpenDoors(Some(address), count) => {
+                let address = String::from_utf8(Vec::from_slice(alloc, address.as_bytes())?)?;
+                format!(in alloc; "{count} at {address}")?
+            },
         })?;
     }
     Ok(shown)
 }
 
-/// The words, the text of the file, and the requests. No host has a store, so none is asked for behind the first.
-const REQUESTS: [(&str, &[u8], &[&str]); 5] = [
+/// The words, the text of the file, and the requests. No host has a store at `data/b`, so none is asked for behind it.
+const REQUESTS: [(&str, &[u8], &[&str]); 7] = [
     ("session", PLAIN, &[]),
     (SESSION, b"indx", &["searchd.conf"]),
-    (SESSION, PLAIN, &["searchd.conf", "1"]),
+    (SESSION, PLAIN, &["searchd.conf", "in .", "1"]),
+    (
+        "serve --config searchd.conf --listen port --workers 1",
+        PLAIN,
+        &["searchd.conf", "in .", "1 at port"],
+    ),
+    (
+        "serve --listen port --config searchd.conf",
+        PLAIN,
+        &["searchd.conf", "in .", "4 at port"],
+    ),
     ("check --config searchd.conf", b"indx", &["searchd.conf"]),
     (
         "check --config searchd.conf",
@@ -39,9 +58,9 @@ const REQUESTS: [(&str, &[u8], &[&str]); 5] = [
 ];
 
 /// The number of the first run with other requests.
-fn first_other(alloc: Global) -> Result<Option<usize>, Fail> {
+fn first_other<R: Threads + Wait + Sync>(rt: &R, alloc: Global) -> Result<Option<usize>, Fail> {
     for (at, (words, text, want)) in REQUESTS.iter().enumerate() {
-        let requests = requests_of(alloc, words, text)?;
+        let requests = requests_of(rt, alloc, words, text)?;
         let same = requests
             .iter()
             .map(|request| request.as_str())
@@ -55,6 +74,6 @@ fn first_other(alloc: Global) -> Result<Option<usize>, Fail> {
 
 #[test]
 fn a_run_requests_its_file_and_more(rt: HostRuntime) -> Result<(), Fail> {
-    assert_eq!(rt; first_other(rt.alloc())?, None);
+    assert_eq!(rt; first_other(&rt, rt.alloc())?, None);
     Ok(())
 }

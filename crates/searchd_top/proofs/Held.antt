@@ -1,5 +1,5 @@
 -- Stores in hand: one more is opened, opening stops, and all are handed back.
-use Rattle.std.proofs.Common.{◌≡◌, ℕ, suc, ◌+◌, ◌≤◌, List, [], ◌∷◌, ◌++◌, arith, refl, sym, ap, subst, ◌∙◌, inl, inr, length, map, take, append-nil, append_assoc, length-append}
+use Rattle.std.proofs.Common.{◌≡◌, ℕ, suc, ◌+◌, ◌≤◌, List, [], ◌∷◌, ◌++◌, arith, rules, refl, sym, ap, subst, ◌∙◌, inl, inr, length, map, take, append-nil, append_assoc, length-append}
 use Rattle.std.specs.Prelude.{Option, Some, None, Result, Ok, Err, option_to_list}
 use Rattle.std.specs.Arc.{arc_value}
 use Rattle.std.specs.FinMap as finite
@@ -18,7 +18,7 @@ use Rattle.store_keep.specs.declared.fault.StoreFault.{StoreFault}
 use Rattle.store_keep.specs.declared.fault.StoreFault.TheVariants as faults
 use Rattle.store_keep.specs.declared.opening.Opened.{Opened}
 use Rattle.searchd_top.specs.Openings.{AreOpenedFrom, IsOpenedFrom, Leaves}
-use Rattle.searchd_top.specs.Checks.{AreOpen, ChecksIndexes, HasFiles, Holdings, IsOpen, SaysUngiven, SaysUnopened, Stops, check_lines}
+use Rattle.searchd_top.specs.Checks.{AreOpen, ChecksIndexes, HasFiles, Holdings, IsOpen, SaysUngiven, SaysUnopened, Stops, StopsAt, check_lines}
 use Rattle.searchd_top.specs.Deeds.{Count, Deeds, Does}
 use Rattle.searchd_top.specs.Lending.{CountsOpening, Lends, Lent, back_of, given_of}
 use Rattle.searchd_top.specs.Output.{SaysLines}
@@ -37,21 +37,25 @@ use Rattle.searchd_top.proofs.Doing.{requested_then, then_nothing}
 
 -- ---- what a store has
 
+same_holdings : {documents d chunks c records r : ℕ} → documents ≡ d → chunks ≡ c → records ≡ r
+    → record { documents = documents; chunks = chunks; records = records } ≡ record { documents = d; chunks = c; records = r }
+same_holdings {documents} {d} {chunks} {c} {records} {r} same as so =
+    ap (λ (n : ℕ). record { documents = n; chunks = chunks; records = records }) same
+    ∙ ap (λ (n : ℕ). record { documents = d; chunks = n; records = records }) as
+    ∙ ap (λ (n : ℕ). record { documents = d; chunks = c; records = n }) so
+
 -- what was found in files is what they hold
 pub has_files : {S : Type 0} (opened : Opened S) (schema : Schema) (image : Image) → IsFoundIn schema (arc_value opened.snapshot) opened.records image → HasFiles schema (holdings_of opened) image
 has_files opened schema image found = record {
   found = found.found;
   holds = found.holds;
   few = found.few;
-  is =
-      ap (λ (rows : Rows). record { documents = finite.len rows; chunks = (holdings_of opened).chunks; records = opened.records }) (sym found.rows)
-      ∙ ap (λ (chunks : List (List DocRow)). record { documents = finite.len _; chunks = length chunks; records = opened.records }) (sym found.chunks)
-      ∙ ap (λ (records : ℕ). record { documents = finite.len _; chunks = length _; records = records }) found.records_are;
+  is = same_holdings (ap (λ (rows : Rows). finite.len rows) (sym found.rows)) (ap (λ (chunks : List (List DocRow)). length chunks) (sym found.chunks)) found.records_are;
 }
 
 -- ---- lists of stores in hand
 
-lents_of : {S : Type 0} → List S → List (Opened S) → List (Lent S)
+abbrev pub lents_of : {S : Type 0} → List S → List (Opened S) → List (Lent S)
 lents_of [] opened = []
 lents_of (given ∷ stores) [] = []
 lents_of (given ∷ stores) (opened ∷ others) = record { given = given; back = opened.disk } ∷ lents_of stores others
@@ -104,9 +108,9 @@ module _ {S : Type 0} (store : DiskWords S) where
 -- ---- opening
 
 -- what is said of a host that gave no store
-pub says_ungiven : {T : Type 0} (fault : OpenFault) (before now : ℕ) → CountsOpening {T = T} (Err fault) before now → SaysUngiven (status_of fault) (record { before = before; now = now })
-says_ungiven opening.NoMemory before now cause = cause
-says_ungiven opening.Failed before now cause = cause.1
+pub says_ungiven : (T : Type 0) (fault : OpenFault) (before now : ℕ) → CountsOpening {T = T} (Err fault) before now → SaysUngiven (status_of fault) (record { before = before; now = now })
+says_ungiven T opening.NoMemory before now cause = cause
+says_ungiven T opening.Failed before now cause = cause.1
 
 -- what is said of a store that can't be opened
 pub says_unopened : {S : Type 0} (store : DiskWords S) (index : IndexConf) (given back : S) (fault : StoreFault) (status : Status) → SaysFault index.schema.name fault status
@@ -290,9 +294,10 @@ module _ {H S D K : Type 0} (host : HostWords H S D K) (store : DiskWords S) whe
       )
 
   -- opening stopped, and all stores were handed back
-  pub checks_stopped : (indexes : List IndexConf) (stop : Stop S) (after : List (Opened S)) (old mid new : H) → StopsOpening host store indexes stop [] after old mid → KeepsDoors host old mid → KeepsPrints host old mid
-      → HandsBack host (disks_of after ++ option_to_list stop.store) mid new → KeepsPrints host mid new → DoesBy host old new (ChecksIndexes store indexes (store_requests indexes) stop.status)
-  checks_stopped indexes stop after old mid new stops doors prints hands silent =
+  pub stopped : (indexes : List IndexConf) (stop : Stop S) (after : List (Opened S)) (old mid new : H) → StopsOpening host store indexes stop [] after old mid → KeepsDoors host old mid → KeepsPrints host old mid
+      → HandsBack host (disks_of after ++ option_to_list stop.store) mid new → KeepsPrints host mid new
+      → DoesBy host old new (λ deeds. (deeds.doors ≡ []) × StopsAt store indexes (store_requests indexes) stop.status deeds)
+  stopped indexes stop after old mid new stops doors prints hands silent =
       let held : AreOpenedFrom store stops.front stops.given after = subst (λ (list : List (Opened S)). AreOpenedFrom store stops.front stops.given list) (sym stops.holds) stops.held in
       let lent : List (Lent S) = lents_of stops.given after in
       let deeds : Deeds S D = record {
@@ -319,9 +324,8 @@ module _ {H S D K : Type 0} (host : HostWords H S D K) (store : DiskWords S) whe
       } in (
         deeds,
         does,
+        refl,
         record {
-          doors = refl;
-          checks = inr (record {
             before = stops.front;
             index = stops.index;
             after = stops.rest;
@@ -335,6 +339,11 @@ module _ {H S D K : Type 0} (host : HostWords H S D K) (store : DiskWords S) whe
             asked = refl;
             output = refl;
             print_faults = ap (λ (counts : _). counts Out) silent.print_count ∙ ap (λ (counts : _). counts Out) prints.print_count;
-          });
         },
       )
+
+  pub checks_stopped : (indexes : List IndexConf) (stop : Stop S) (after : List (Opened S)) (old mid new : H) → StopsOpening host store indexes stop [] after old mid → KeepsDoors host old mid → KeepsPrints host old mid
+      → HandsBack host (disks_of after ++ option_to_list stop.store) mid new → KeepsPrints host mid new → DoesBy host old new (ChecksIndexes store indexes (store_requests indexes) stop.status)
+  checks_stopped indexes stop after old mid new stops doors prints hands silent =
+      let (deeds, does, none, stops) = stopped indexes stop after old mid new stops doors prints hands silent in
+      (deeds, does, record { doors = none; checks = inr stops })

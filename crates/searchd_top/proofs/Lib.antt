@@ -3,5 +3,8 @@ pub mod Doing
 pub mod Held
 pub mod Lines
 pub mod PathTexts
+pub mod Putting
 pub mod Running
+pub mod Serving
+pub mod StorePlaces
 pub mod Words

@@ -1,6 +1,8 @@
 -- What words ask for, by the mode that was read of them.
-use Rattle.std.proofs.Common.{◌≡◌, ℕ, List, sym, ap, ◌∙◌}
-use Rattle.std.specs.Prelude.{Option, option_map, option_and_then}
+use Rattle.std.proofs.Common.{◌≡◌, ◌<◌, ◌≤◌, ℕ, List, refl, sym, ap, subst, arith, ◌∙◌}
+use Rattle.std.specs.Prelude.{⊤, Bool, true, false, ◌&&◌, nat_le, Option, Some, None, option_map, option_and_then, if◌then◌else◌}
+use Rattle.std.specs.Str.Parse.{digits_value}
+use Rattle.command_line.specs.Modes.{is_number, number_or, within}
 use Rattle.command_line.specs.Modes as modes
 use Rattle.command_line.specs.Reading.{said}
 use Rattle.command_line.specs.declared.mode.Mode.{Mode}
@@ -11,3 +13,37 @@ pub asked_is : (words : List (List ℕ)) (read value : Option Mode) → option_m
     → asked words ≡ option_and_then built (option_map said value)
 asked_is words read value says is =
     ap (λ (mode : Option modes.Mode). option_and_then built mode) (sym says ∙ ap (λ (mode : Option Mode). option_map said mode) is)
+
+-- ---- numbers in their ranges
+
+-- the numbers of a mode with workers
+InRange : Option modes.Mode → Type 0
+InRange (Some (modes.serve config listen workers sessions)) = (0 < workers) × (workers ≤ 64) × (sessions ≤ 1000000)
+InRange (Some (modes.session config)) = ⊤
+InRange (Some (modes.check config)) = ⊤
+InRange (Some (modes.selftest number docs)) = ⊤
+InRange None = ⊤
+
+if_range : (b : Bool) (x y : Option modes.Mode) → InRange x → InRange y → InRange (if b then x else y)
+if_range true x y here there = here
+if_range false x y here there = there
+
+then_range : {A : Type 0} (f : A → Option modes.Mode) (o : Option A) → ((a : A) → o ≡ Some a → InRange (f a)) → InRange (option_and_then f o)
+unfolding InRange
+then_range f None each = tt
+then_range f (Some a) each = each a refl
+
+if_some : (b : Bool) (o : Option ℕ) (a : ℕ) → (if b then o else None) ≡ Some a → (b ≡ true) × (o ≡ Some a)
+if_some true o a is = (refl, is)
+if_some false o a is = let clash : None ≡ Some a = is in absurd (cc clash)
+
+within_range : (low high number a : ℕ) → within low high number ≡ Some a → (low ≤ a) × (a ≤ high)
+within_range low high number a is =
+    let found = if_some (nat_le low number && nat_le number high) (Some number) a is in
+    let same : number ≡ a = cc (found.1) in
+    let test : (nat_le low number && nat_le number high) ≡ true = found.0 in
+    subst (λ (n : ℕ). (low ≤ n) × (n ≤ high)) same (grind arith)
+
+or_range : (default low high : ℕ) (o : Option (List ℕ)) (a : ℕ) → low ≤ default → default ≤ high → number_or default low high o ≡ Some a → (low ≤ a) × (a ≤ high)
+or_range default low high None a least most is = let same : default ≡ a = cc (is) in subst (λ (n : ℕ). (low ≤ n) × (n ≤ high)) same (least, most)
+or_range default low high (Some text) a least most is = within_range low high (digits_value 10 text) a (if_some (is_number text) (within low high (digits_value 10 text)) a is).1

@@ -1,9 +1,8 @@
 //! How a run ended, with its exit status and its line, in one table (docs/MANUAL.md). The line is in place: want of
 //! memory can be reported without memory.
 ghost use Rattle.std.specs.Prelude.{◌≡◌, ◌+◌, ◌≤◌, ◌++◌, codes, length};
-ghost use Rattle.commit_outcomes.specs.declared.strayed.Strayed.{Strayed as AnyStrayed};
 ghost use Rattle.doc_types.specs.declared.schema.TheConstants.{MAX_NAME_BYTES};
-ghost use Rattle.searchd_top.specs.Statuses.{NamesIndex, code_of, line_of};
+ghost use Rattle.searchd_top.specs.Statuses.{NamesIndex, code_of, line_of, strayed_line};
 ghost use Rattle.searchd_top.specs.steps.Lines.{beginning_of};
 
 use arrayvec::ArrayVec;
@@ -24,7 +23,10 @@ pub enum Status {
     /// The words aren't those that the program knows.
     Usage,
     /// The file isn't a configuration: its first fault is of this kind, at this line, counted from 1.
-    Config { line: u32, kind: ConfKind },
+    Config {
+        line: u32,
+        kind: ConfKind,
+    },
     /// The host failed, or a door, or a store as it was opened.
     HostFault,
     /// The files of an index can't be read: this is the first place that is wrong.
@@ -36,7 +38,10 @@ pub enum Status {
     },
     NoMemory,
     /// What workers and an index count of its history contradicts each other.
-    Strayed { index: Name, strayed: Strayed },
+    Strayed {
+        index: Name,
+        strayed: Strayed,
+    },
 }
 
 impl Status {
@@ -133,7 +138,7 @@ fn put_damage(
 fn put_strayed(line: &mut ArrayVec<u8, MAX_LINE_BYTES>, index: &Name)
     requires begins { line.old.items ≡ codes "searchd: index " }
     requires short { length index.now ≤ MAX_NAME_BYTES }
-    ensures { (strayed : AnyStrayed) → line.new.items ≡ line_of (Status.Strayed index.now strayed) }
+    ensures { line.new.items ≡ strayed_line index.now }
 {
     put(line, index.as_bytes());
     put(line, b": history strayed\n");

@@ -1,7 +1,8 @@
 -- What is said of seats and of what is left of engines depends on no names.
-use Rattle.std.proofs.Common.{◌≡◌, inl, inr, ℕ, zero, suc, ◌+◌, List, [], ◌∷◌, Some, refl, sym, ap, subst, ◌∙◌, length, map, slice_get, length-map}
-use Rattle.std.specs.Prelude.{Option, None, Result, Ok, Err, ◌||◌}
+use Rattle.std.proofs.Common.{◌≡◌, inl, inr, ℕ, zero, suc, ◌+◌, List, [], ◌∷◌, Some, refl, sym, ap, subst, ◌∙◌, length, map, slice_get}
+use Rattle.std.specs.Prelude.{Bool, Option, None, Result, Ok, Err, ◌||◌}
 use Rattle.std.specs.List.{list_any}
+use Rattle.std.proofs.lemmas.List.{length-map}
 use Rattle.std.specs.Option.{option_map}
 use Rattle.chunk_store.specs.declared.disk.Disk.{Ghosts as DiskWords}
 use Rattle.commit_outcomes.specs.declared.strayed.Strayed.{Strayed}
@@ -23,12 +24,12 @@ use Rattle.srch_base.specs.declared.link.Link.{Ghosts as LinkWords}
 use Rattle.step_book.specs.Fronts.{FrontValue}
 use Rattle.step_history.specs.History.{Base}
 use Rattle.store_keep.specs.declared.opening.Opened.{Opened}
-use Rattle.served_stores.specs.Serving.{AnyEnded, AnySeat, end_of, some_failed}
+use Rattle.served_stores.specs.Serving.{AnyEnded, AnySeat, end_of, is_failed, some_failed}
 
-pub any_seat : {E K J : Type 0} → Seat E J K → AnySeat E K
+abbrev pub any_seat : {E K J : Type 0} → Seat E J K → AnySeat E K
 any_seat seat = record { door = seat.door; tokens = seat.tokens; end = seat.end }
 
-pub any_ended : {D J : Type 0} → Ended D J → AnyEnded D
+abbrev pub any_ended : {D J : Type 0} → Ended D J → AnyEnded D
 any_ended ended = record { disk = ended.disk; answer = ended.answer }
 
 -- what stands at a place of a list that is a map of another one
@@ -47,7 +48,7 @@ same_ends (e ∷ ended) = ap (λ (list : List _). end_of e ∷ list) (same_ends 
 
 pub same_failed : {E K J : Type 0} (seats : List (Seat E J K)) → some_failed (map any_seat seats) ≡ some_failed seats
 same_failed [] = refl
-same_failed (seat ∷ seats) = ap (λ (rest : _). _ || rest) (same_failed seats)
+same_failed (seat ∷ seats) = ap (λ (rest : Bool). is_failed seat.end || rest) (same_failed seats)
 
 module _ {E K J : Type 0} (door : DoorWords E K) (link : LinkWords K) (schema : ℕ → Schema) (base : ℕ → Base) (confs : List IndexConf) where
   all_work_any : (workers sessions worker : ℕ) (services : List (List (Service K FrontValue))) (lefts : List TokensValue) (olds news : List (Seat E J K)) → AllWork door link schema base confs workers sessions worker services lefts olds news
@@ -68,9 +69,9 @@ module _ {E K J : Type 0} (door : DoorWords E K) (link : LinkWords K) (schema : 
   pub served_any : {D : Type 0} (disk : DiskWords D) (sessions : ℕ) (olds news : List (Seat E J K)) (ends : List (Ended D J)) → IsServed disk door link schema base confs sessions olds news ends
       → IsServed disk door link schema base confs sessions (map any_seat olds) (map any_seat news) (map any_ended ends)
   served_any {D} disk sessions olds news ends is =
-      let many : length (map any_seat olds) ≡ length olds = length-map any_seat olds in
+      let many : length (map any_seat olds) ≡ length olds = length-map olds any_seat in
       let each : (n : ℕ) → HaveEnded disk schema base (length confs) n is.left ends → HaveEnded disk schema base (length confs) n is.left (map any_ended ends) = λ n ended. record {
-        many = length-map any_ended ends ∙ ended.many;
+        many = length-map ends any_ended ∙ ended.many;
         each = λ place end at.
             let found = mapped_at any_ended ends place end at in
             subst (λ (e : AnyEnded D). HasEnded disk schema base place n (tokens_at place is.left) e) found.1.1 (ended.each place found.0 found.1.0);
@@ -89,8 +90,8 @@ module _ {E K J : Type 0} (door : DoorWords E K) (link : LinkWords K) (schema : 
 -- What came back did, whatever the names are.
 pub back_any : {D J : Type 0} (disk : DiskWords D) (schema : ℕ → Schema) (base : ℕ → Base) (workers : ℕ) (stores : List (Opened D)) (all : List (Ended D J)) → ComeBack disk schema base workers stores all
     → ComeBack disk schema base workers stores (map any_ended all)
-back_any {D} disk schema base workers stores all back = record {
-  many = length-map any_ended all ∙ back.many;
+back_any {D} {J} disk schema base workers stores all back = record {
+  many = length-map all any_ended ∙ back.many;
   each = λ place opened ended of at.
       let found = mapped_at any_ended all place ended at in
       subst (λ (e : AnyEnded D). ComesBack disk schema base workers place opened e) found.1.1 (come (back.each place opened found.0 of found.1.0));
@@ -101,7 +102,7 @@ back_any {D} disk schema base workers stores all back = record {
     come (inr ended) = inr ended
 
 -- the disk of a store that wasn't served
-pub unserved_of : {D : Type 0} → Opened D → AnyEnded D
+abbrev pub unserved_of : {D : Type 0} → Opened D → AnyEnded D
 unserved_of store = record { disk = store.disk; answer = Err Or.NoMemory }
 
 pub unserved_ends : {D : Type 0} (stores : List (Opened D)) → map end_of (map unserved_of stores) ≡ map (λ (store : Opened D). record { disk = store.disk; answer = Err Or.NoMemory }) stores
@@ -110,7 +111,7 @@ unserved_ends (store ∷ stores) = ap (λ (list : List _). end_of (unserved_of s
 
 pub unserved_back : {D : Type 0} (disk : DiskWords D) (schema : ℕ → Schema) (base : ℕ → Base) (workers : ℕ) (stores : List (Opened D)) → ComeBack disk schema base workers stores (map unserved_of stores)
 unserved_back {D} disk schema base workers stores = record {
-  many = length-map unserved_of stores;
+  many = length-map stores unserved_of;
   each = λ place opened ended of at.
       let found = mapped_at unserved_of stores place ended at in
       let same : found.0 ≡ opened = cc (found.1.0, of) in

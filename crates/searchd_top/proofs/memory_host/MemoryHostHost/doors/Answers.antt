@@ -12,8 +12,8 @@ returns-clause-within c =
     let same : c.extend_from_slice.new.self.items ≡ e.0 = cc in
     subst (λ (doors : List Lines). All IsLent doors) (sym same) (copies_lent _ e.0 e.2)
 
-pub returns-clause-gives : goal.returns-clause-gives
-returns-clause-gives c =
+pub returns-clause-gives_doors : goal.returns-clause-gives_doors
+returns-clause-gives_doors c =
     let e = c.in_ok-extend_from_slice.ensures.items in
     let at = c.self-2.inside.at in
     let doors : List Lines = c.self-2.inside.doors.items in
