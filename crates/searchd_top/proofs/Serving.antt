@@ -7,13 +7,16 @@ use Rattle.chunk_store.specs.declared.disk.Disk.{Ghosts as DiskWords}
 use Rattle.commit_outcomes.specs.declared.strayed.Strayed.{Strayed as AnyStrayed}
 use Rattle.doc_types.specs.declared.schema.Schema.{Schema}
 use Rattle.engine_tables.specs.Endings.{ComeBack}
+use Rattle.engine_tables.specs.Names.{AreServed}
 use Rattle.engine_tables.specs.Tokens.{TokensValue}
+use Rattle.index_conf.specs.Soundness.{IsSound}
+use Rattle.index_conf.specs.declared.conf.Conf.{Conf}
 use Rattle.index_conf.specs.declared.conf.IndexConf.{IndexConf}
 use Rattle.line_workers.specs.Lines.{Service}
 use Rattle.line_workers.specs.Served.{IsServed}
 use Rattle.line_workers.specs.Workers.{AllWork}
 use Rattle.served_stores.specs.Serving.{AnyEnded, AnySeat, HasNone, HasServed, Serves, end_of, outcome_of, some_failed, told}
-use Rattle.served_stores.specs.Stores.{AreNamesOf}
+use Rattle.served_stores.specs.Stores.{AreNamesOf, AreStores}
 use Rattle.served_stores.specs.steps.Picks.{base_at, no_base, no_schema, schema_at}
 use Rattle.served_stores.specs.declared.ends.IndexEnd.{IndexEnd}
 use Rattle.served_stores.specs.declared.serving.Outcome.{Outcome}
@@ -28,7 +31,7 @@ use Rattle.srch_base.specs.declared.link.Link.{Ghosts as LinkWords}
 use Rattle.srch_base.specs.Told.{then_bytes}
 use Rattle.step_book.specs.Fronts.{FrontValue}
 use Rattle.step_history.specs.History.{Base}
-use Rattle.store_keep.specs.Opens.{base_of}
+use Rattle.store_keep.specs.Opens.{IsOpened, base_of}
 use Rattle.store_keep.specs.declared.opening.Opened.{Opened}
 use Rattle.searchd_top.specs.Checks.{StopsAt}
 use Rattle.searchd_top.specs.Deeds.{Count, Deeds, Does, HasRisen}
@@ -285,6 +288,33 @@ module _ {H S D K : Type 0} (host : HostWords H S D K) (store : DiskWords S) (do
   held_many (index ∷ indexes) [] opened held = absurd held
   held_many (index ∷ indexes) (g ∷ given) [] held = absurd held
   held_many (index ∷ indexes) (g ∷ given) (o ∷ opened) held = ap suc (held_many indexes given opened held.1)
+
+  opened_at : (indexes : List IndexConf) (given : List S) (opened : List (Opened S)) → AreOpenedFrom store indexes given opened → (place : ℕ) (conf : IndexConf) (its : Opened S) → slice_get indexes place ≡ Some conf → slice_get opened place ≡ Some its
+      → IsOpened store conf.schema its
+  opened_at [] given opened held place conf its of at = absurd (cc of)
+  opened_at (index ∷ indexes) [] opened held place conf its of at = absurd held
+  opened_at (index ∷ indexes) (g ∷ given) [] held place conf its of at = absurd held
+  opened_at (index ∷ indexes) (g ∷ given) (o ∷ opened) held zero conf its of at =
+      subst (λ (c : IndexConf). IsOpened store c.schema its) (cc of) (subst (λ (s : Opened S). IsOpened store index.schema s) (cc at) held.0.opened)
+  opened_at (index ∷ indexes) (g ∷ given) (o ∷ opened) held (suc place) conf its of at = opened_at indexes given opened held.1 place conf its of at
+
+  as_many : (indexes : List IndexConf) (given : List S) (opened : List (Opened S)) → AreOpenedFrom store indexes given opened → length opened ≡ length indexes
+  as_many [] [] [] held = refl
+  as_many [] (g ∷ given) opened held = absurd held
+  as_many [] [] (o ∷ opened) held = absurd held
+  as_many (index ∷ indexes) [] opened held = absurd held
+  as_many (index ∷ indexes) (g ∷ given) [] held = absurd held
+  as_many (index ∷ indexes) (g ∷ given) (o ∷ opened) held = ap suc (as_many indexes given opened held.1)
+
+  -- the stores that were opened can be served
+  pub are_stores : (indexes : List IndexConf) (after : List (Opened S)) (old new : H) → OpensAll host store indexes [] after old new → AreStores store indexes after
+  are_stores indexes after old new opens =
+      let held : AreOpenedFrom store indexes opens.given after = subst (λ (list : List (Opened S)). AreOpenedFrom store indexes opens.given list) (sym opens.holds) opens.held in
+      record { many = as_many indexes opens.given after held; opened = opened_at indexes opens.given after held }
+
+  -- and so can the configuration
+  pub are_served : (conf : Conf) → IsSound conf → AreServed conf.indexes
+  are_served conf sound = record { few = omega (arith, sound.few); schemas = sound.schemas; zones = sound.zones }
 
   -- the stores of all indexes were opened, and then served
   pub serves_opened : (indexes : List IndexConf) (plan : Plan) (after : List (Opened S)) (status : Status) (old mid new : H) → OpensAll host store indexes [] after old mid → KeepsDoors host old mid → KeepsPrints host old mid

@@ -1,6 +1,6 @@
 -- What words ask for, by the mode that was read of them.
-use Rattle.std.proofs.Common.{◌≡◌, ◌<◌, ◌≤◌, ℕ, List, refl, sym, ap, subst, arith, ◌∙◌}
-use Rattle.std.specs.Prelude.{⊤, Bool, true, false, ◌&&◌, nat_le, Option, Some, None, option_map, option_and_then, if◌then◌else◌}
+use Rattle.std.proofs.Common.{◌≡◌, ◌<◌, ◌≤◌, lit≤, ℕ, List, refl, sym, ap, subst, arith, ◌∙◌}
+use Rattle.std.specs.Prelude.{⊤, codes, Bool, true, false, ◌&&◌, nat_le, Option, Some, None, option_map, option_and_then, if◌then◌else◌}
 use Rattle.std.specs.Str.Parse.{digits_value}
 use Rattle.command_line.specs.Modes.{is_number, number_or, within}
 use Rattle.command_line.specs.Modes as modes
@@ -47,3 +47,22 @@ within_range low high number a is =
 or_range : (default low high : ℕ) (o : Option (List ℕ)) (a : ℕ) → low ≤ default → default ≤ high → number_or default low high o ≡ Some a → (low ≤ a) × (a ≤ high)
 or_range default low high None a least most is = let same : default ≡ a = cc (is) in subst (λ (n : ℕ). (low ≤ n) × (n ≤ high)) same (least, most)
 or_range default low high (Some text) a least most is = within_range low high (digits_value 10 text) a (if_some (is_number text) (within low high (digits_value 10 text)) a is).1
+
+-- what the words say, through each choice of the definition
+by_range : (names : List (List ℕ)) (of : modes.Values → Option modes.Mode) (words : List (List ℕ)) → ((value : modes.Values) → InRange (of value)) → InRange (modes.by_options names of words)
+unfolding InRange
+by_range names of words each = then_range (λ (list : List modes.Pair). if modes.are_options names list then of (λ name. modes.value_of name list) else None) (modes.pairs words)
+    (λ list is. if_range (modes.are_options names list) (of (λ name. modes.value_of name list)) None (each (λ name. modes.value_of name list)) tt)
+
+serve_range : (value : modes.Values) → InRange (modes.serve_of value)
+unfolding InRange
+serve_range value =
+    then_range _ (value (codes "--config")) (λ config is.
+    then_range _ (value (codes "--listen")) (λ listen is.
+    then_range _ (number_or 4 1 64 (value (codes "--workers"))) (λ workers some.
+    mapped (number_or 1000000 1 1000000 (value (codes "--sessions"))) config listen workers (or_range 4 1 64 (value (codes "--workers")) workers (lit≤ tt) (lit≤ tt) some)
+        (λ sessions that. or_range 1000000 1 1000000 (value (codes "--sessions")) sessions (lit≤ tt) (lit≤ tt) that))))
+  where
+    mapped : (o : Option ℕ) (config listen : List ℕ) (workers : ℕ) → (1 ≤ workers) × (workers ≤ 64) → ((sessions : ℕ) → o ≡ Some sessions → (1 ≤ sessions) × (sessions ≤ 1000000)) → InRange (option_map (λ sessions. modes.serve config listen workers sessions) o)
+    mapped None config listen workers some each = tt
+    mapped (Some sessions) config listen workers some each = (omega (arith, some.0), some.1, (each sessions refl).1)
