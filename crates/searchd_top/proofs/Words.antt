@@ -1,6 +1,7 @@
 -- What words ask for, by the mode that was read of them.
-use Rattle.std.proofs.Common.{◌≡◌, ◌<◌, ◌≤◌, lit≤, ℕ, List, refl, sym, ap, subst, arith, ◌∙◌}
+use Rattle.std.proofs.Common.{◌≡◌, ◌<◌, ◌≤◌, lit≤, ℕ, List, [], ◌∷◌, refl, sym, ap, subst, arith, ◌∙◌}
 use Rattle.std.specs.Prelude.{⊤, codes, Bool, true, false, ◌&&◌, nat_le, Option, Some, None, option_map, option_and_then, if◌then◌else◌}
+use Rattle.std.specs.Str.{bytes_eq}
 use Rattle.std.specs.Str.Parse.{digits_value}
 use Rattle.command_line.specs.Modes.{is_number, number_or, within}
 use Rattle.command_line.specs.Modes as modes
@@ -66,3 +67,19 @@ serve_range value =
     mapped : (o : Option ℕ) (config listen : List ℕ) (workers : ℕ) → (1 ≤ workers) × (workers ≤ 64) → ((sessions : ℕ) → o ≡ Some sessions → (1 ≤ sessions) × (sessions ≤ 1000000)) → InRange (option_map (λ sessions. modes.serve config listen workers sessions) o)
     mapped None config listen workers some each = tt
     mapped (Some sessions) config listen workers some each = (omega (arith, some.0), some.1, (each sessions refl).1)
+
+mapped_range : {A : Type 0} (f : A → modes.Mode) (o : Option A) → ((a : A) → InRange (Some (f a))) → InRange (option_map f o)
+unfolding InRange
+mapped_range f None each = tt
+mapped_range f (Some a) each = each a
+
+pub mode_range : (words : List (List ℕ)) → InRange (modes.mode words)
+unfolding InRange
+mode_range [] = tt
+mode_range (name ∷ words) =
+    if_range (bytes_eq name (codes "session")) _ _ (by_range modes.session_options modes.session_of words (λ value. mapped_range modes.session (value (codes "--config")) (λ a. tt)))
+    (if_range (bytes_eq name (codes "serve")) _ _ (by_range modes.serve_options modes.serve_of words serve_range)
+    (if_range (bytes_eq name (codes "check")) _ _ (by_range modes.check_options modes.check_of words (λ value. mapped_range modes.check (value (codes "--config")) (λ a. tt)))
+    (if_range (bytes_eq name (codes "selftest")) _ _ (by_range modes.selftest_options modes.selftest_of words
+        (λ value. then_range _ (modes.number_of 0 2147483647 (value (codes "--number"))) (λ number is. mapped_range (λ (docs : ℕ). modes.selftest number docs) (modes.number_of 1 100000 (value (codes "--docs"))) (λ a. tt))))
+        tt)))
