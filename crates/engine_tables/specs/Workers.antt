@@ -2,6 +2,7 @@
 -- once a token finds it.
 use Rattle.std.specs.Prelude.{◌≡◌, ℕ, List, Some, slice_get, slice_set}
 use Rattle.std.specs.List.{AllZip}
+use mathlib.Core.List.{IsPrefix}
 use Rattle.commit_outcomes.specs.declared.outcome.CommitOutcome.{CommitOutcome}
 use Rattle.doc_types.specs.declared.schema.Schema.{Schema}
 use Rattle.doc_types.specs.Snapshots.{AreLayers, SnapshotValue}
@@ -10,7 +11,7 @@ use Rattle.index_conf.specs.declared.conf.IndexConf.{IndexConf}
 use Rattle.step_book.specs.Fronts.{FrontValue}
 use Rattle.step_history.specs.History.{Base, IsGood, last_snapshot}
 use Rattle.step_tokens.specs.Tokens.{TokenValue}
-use Rattle.snap_share.specs.Answers.{Advances, seen_by}
+use Rattle.snap_share.specs.Answers.{seen_by}
 use Rattle.ql_session.specs.Events.{StoreWords}
 use Rattle.engine_tables.specs.Outcomes.{Tells}
 use Rattle.engine_tables.specs.Tokens.{TokensValue}
@@ -24,9 +25,10 @@ pub record WorkerValue : Type 0 where
 abbrev pub documents_of : (ℕ → Base) → FrontValue → SnapshotValue
 documents_of base front = last_snapshot (base front.index) front.steps
 
--- The token has seen what it had seen, or a history that goes on from there, and counts as many commits.
-abbrev pub Grows : TokenValue → TokenValue → Type 0
-Grows old new = Advances old new old.made
+-- The token has seen what it had seen, or a history that goes on from there. Nothing else of it changed.
+pub record Grows (old new : TokenValue) : Type 0 where
+  pub is : new ≡ record old { seen = new.seen }
+  pub seen : IsPrefix old.seen new.seen
 
 -- all tokens of a worker
 abbrev pub GrowAll : TokensValue → TokensValue → Type 0
@@ -52,7 +54,7 @@ pub record CommitsBy (schema : ℕ → Schema) (base : ℕ → Base) (old : Toke
   pub is : front ≡ seen_by after
   pub of : front.index ≡ place
   pub good : IsGood (schema place) (base place) front.steps
-  pub tells : Tells (base place) before ops outcome after
+  pub tells : Tells (schema place) (base place) before ops outcome after
 
 -- A worker's engines as a store: a front is a history that its token has seen.
 abbrev pub by_tokens : (ℕ → Schema) → (ℕ → Base) → StoreWords WorkerValue FrontValue
