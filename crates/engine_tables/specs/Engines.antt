@@ -5,6 +5,11 @@ use Rattle.index_conf.specs.declared.conf.IndexConf.{IndexConf}
 use Rattle.store_keep.specs.declared.opening.Opened.{Opened}
 use Rattle.snap_share.specs.Engines.{EngineValue}
 
+-- An index as it is configured, and its engine.
+pub record TableValue : Type 0 where
+  pub conf : IndexConf
+  pub engine : EngineValue
+
 -- The indexes as they are configured, the engine of each, in the same order, and for how many workers they are.
 pub record EnginesValue : Type 0 where
   pub confs : List IndexConf

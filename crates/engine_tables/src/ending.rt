@@ -3,9 +3,12 @@
 ghost use Rattle.std.specs.Prelude.{◌≡◌, ◌≤◌, ◌<◌, ◌+◌, ◌++◌, ◌∷◌, [], All, IfOk, length, map, vec_capacity};
 ghost use Rattle.std.specs.List.{flat_map};
 ghost use Rattle.std.specs.Option.{option_to_list};
+ghost use Rattle.step_line.specs.Lines.{new_line};
+ghost use Rattle.store_keep.specs.Tellings.{AreTokensOf};
 ghost use Rattle.engine_tables.specs.Endings.{CanEnd, HaveEnded};
 ghost use Rattle.engine_tables.specs.Engines.{ArePlaced};
-ghost use Rattle.engine_tables.specs.steps.Lasts.{AreFull, last_token, shortened};
+ghost use Rattle.engine_tables.specs.steps.Lasts.{last_token, shortened};
+ghost use Rattle.engine_tables.specs.Tokens.{AreOf};
 
 use crate::table::Table;
 use crate::{Ended, Engines, Tokens};
@@ -67,17 +70,25 @@ impl<D: Disk, J: Naming> Ending<D, J> {
 }
 
 /// Moves each worker's last token behind those that are there.
-fn take_column<J: Naming>(seats: &mut [Tokens<J>], column: &mut Vec<Token<J>>)
-    requires { length column.old.items + length seats.old ≤ vec_capacity column.old }
+fn take_column<J: Naming>(
+    place: usize,
+    workers: u32,
+    seats: &mut [Tokens<J>],
+    column: &mut Vec<Token<J>>,
+)
+    requires of { All (AreOf (place + 1) workers) seats.old }
+    requires tokens { AreTokensOf (new_line place workers) column.old.items }
+    requires room { length column.old.items + length seats.old ≤ vec_capacity column.old }
     ensures column { column.new.items ≡ column.old.items ++ flat_map last_token seats.old }
     ensures seats { seats.new ≡ map shortened seats.old }
+    ensures tokens { AreTokensOf (new_line place workers) column.new.items }
     ensures room { vec_capacity column.new ≡ vec_capacity column.old }
 {
     if let Some((tokens, others)) = seats.split_first_mut() {
         if let Some(token) = tokens.pop() {
             column.push_reserved(token);
         }
-        take_column(others, column);
+        take_column(place, workers, others, column);
     }
 }
 
@@ -91,10 +102,10 @@ pub(crate) fn end_all<D: Disk, J: Naming, R: Wait>(
     ended: Vec<Ended<D, J>>,
 ) -> Vec<Ended<D, J>>
     requires placed { ArePlaced workers (map (λ table. table.engine) tables.items) }
-    requires seats { All (AreFull (length tables.items) workers) seats.items }
+    requires seats { All (AreOf (length tables.items) workers) seats.items }
     requires column { (column.items ≡ []) × (length seats.items ≤ vec_capacity column) }
     requires room { (ended.items ≡ []) × (length tables.items ≤ vec_capacity ended) }
-    ensures ended { HaveEnded D.Disk J.schema J.base (length tables.items) seats.items result.items }
+    ensures ended { HaveEnded D.Disk J.schema J.base (length tables.items) workers seats.items result.items }
     ensures room { vec_capacity result ≡ vec_capacity ended }
 {
     match tables.pop() {
@@ -103,8 +114,8 @@ pub(crate) fn end_all<D: Disk, J: Naming, R: Wait>(
             ended
         }
         Some(table) => {
-            take_column(seats.as_mut_slice(), &mut column);
-            let Table { conf: _conf, engine } = table;
+            take_column(tables.len(), workers, seats.as_mut_slice(), &mut column);
+            let engine = table.into_engine();
             let (disk, answer) = engine.close(rt, column.as_mut_slice());
             column.clear();
             let mut ended = end_all(rt, tables, workers, seats, column, ended);
@@ -119,7 +130,7 @@ impl<D: Disk, J: Naming> Engines<D, J> {
     /// or why there is none, in the order of the configuration. It waits for those who still read.
     pub fn close<R: Wait>(self, rt: &R, ending: Ending<D, J>) -> Vec<Ended<D, J>>
         requires { CanEnd self ending }
-        ensures { HaveEnded D.Disk J.schema J.base (length self.confs) ending.seats result.items }
+        ensures { HaveEnded D.Disk J.schema J.base (length self.confs) self.workers ending.seats result.items }
     {
         let Engines { tables, workers } = self;
         let Ending {

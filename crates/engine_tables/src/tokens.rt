@@ -1,11 +1,13 @@
 //! A worker's tokens: one of each index. With them it reads, which takes neither a lock nor an engine, and commits.
-ghost use Rattle.std.specs.Prelude.{◌≡◌, ◌<◌, ◌≤◌, length, IfOk, OnErr};
+ghost use Rattle.std.specs.Prelude.{◌≡◌, ◌<◌, ◌≤◌, ◌+◌, ◌++◌, ◌∷◌, [], length, IfOk, IfSome, OnErr, OnOk};
+ghost use Rattle.std.specs.Option.{option_to_list};
 ghost use Rattle.std.specs.Arc.{arc_value};
 ghost use Rattle.doc_types.specs.Schemas.{IsSchema};
 ghost use Rattle.doc_types.specs.Snapshots.{AreLayers};
 ghost use Rattle.doc_types.specs.Transactions.{IsTxnOf};
 ghost use Rattle.step_book.specs.Fronts.{FrontValue};
 ghost use Rattle.engine_tables.specs.Workers.{CommitsBy, GrowAll, HasSeen, documents_of};
+ghost use Rattle.engine_tables.specs.steps.Lasts.{last_token, shortened};
 
 use crate::outcomes::outcome_of;
 use any_chunk::AnyChunk;
@@ -44,6 +46,35 @@ fn is_sound(snapshot: &Snapshot<AnyChunk>)
 }
 
 impl<J: Naming> Tokens<J> {
+    /// A worker's tokens of no index.
+    pub(crate) fn none(alloc: Global, worker: u32) -> Tokens<J>
+        ensures { result ≡ record { worker = worker; list = [] } }
+    {
+        Tokens {
+            worker,
+            list: Vec::new(alloc),
+        }
+    }
+
+    /// Puts the worker's token of the next index behind those that are there.
+    pub(crate) fn push(&mut self, token: Token<J>) -> Result<(), NoMemory>
+        requires next { token.index ≡ length self.old.list }
+        requires own { token.worker ≡ self.old.worker }
+        ensures { OnOk result (self.new ≡ record self.old { list = self.old.list ++ token ∷ [] }) }
+    {
+        self.list.push(token)?;
+        Ok(())
+    }
+
+    /// Takes the token of the last index away.
+    pub(crate) fn pop(&mut self) -> Option<Token<J>>
+        ensures last { option_to_list result ≡ last_token self.old }
+        ensures own { IfSome result (λ token. (token.index + 1 ≡ length self.old.list) × (token.worker ≡ self.old.worker)) }
+        ensures left { self.new ≡ shortened self.old }
+    {
+        self.list.pop()
+    }
+
     /// Whose they are.
     pub fn worker(&self) -> u32
         ensures { result ≡ self.now.worker }

@@ -98,13 +98,9 @@ impl<'a, D: Disk, J: Naming, R: Wait> TableStore for WorkerTables<'a, D, J, R> {
         self.tokens.read(place)
     }
 
-    fn commit(
-        &mut self,
-        _alloc: Global,
-        place: u16,
-        txn: &Txn,
-    ) -> Result<CommitOutcome, NoMemory> {
+    fn commit(&mut self, _alloc: Global, place: u16, txn: &Txn) -> Result<CommitOutcome, NoMemory> {
         let engines = self.engines;
-        self.tokens.commit(self.rt, engines.engine(place), place, txn)
+        self.tokens
+            .commit(self.rt, engines.engine(place), place, txn)
     }
 }
