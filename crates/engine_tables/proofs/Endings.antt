@@ -1,5 +1,6 @@
 -- How engines end: the last tokens of all workers are taken, and what each end leaves stands at the place of its index.
 use Rattle.std.proofs.Common.{◌≡◌, ◌⊎◌, inl, inr, ⊎_elim, ℕ, zero, suc, ◌+◌, ◌-◌, ◌<◌, ◌≤◌, List, [], ◌∷◌, ◌++◌, All, Result, Ok, Err, Some, length, map, slice_get, refl, ap, sym, subst, ◌∙◌, arith, length-append, length-take, add-one}
+use Rattle.std.proofs.lemmas.List.{length-map, map-append}
 use Rattle.std.proofs.lemmas.List.Elements.{All-cons, All-head, All-nil, All-tail}
 use Rattle.std.proofs.lemmas.Option.{slice_get_within}
 use Rattle.std.specs.List.{flat_map}
@@ -10,15 +11,16 @@ use Rattle.step_history.specs.History.{Base}
 use Rattle.step_line.specs.Lines.{new_line}
 use Rattle.step_tokens.specs.Tokens.{TokenValue}
 use Rattle.store_keep.specs.Tellings.{AreTokensOf}
-use Rattle.engine_tables.specs.Endings.{HasEnded, HaveEnded}
-use Rattle.engine_tables.specs.Tokens.{AreInOrder, AreOf, TokensValue, tokens_at}
+use Rattle.snap_share.specs.Closings.{Closes}
+use Rattle.snap_share.specs.Engines.{EngineValue}
+use Rattle.engine_tables.specs.Endings.{EndingValue, HasEnded, HaveEnded}
+use Rattle.engine_tables.specs.Engines.{ArePlaced, EnginesValue, TableValue}
+use Rattle.engine_tables.specs.Tokens.{AreOf, SitsAt, TokensValue, tokens_at}
 use Rattle.engine_tables.specs.declared.ended.Ended.{Ended}
 use Rattle.engine_tables.specs.steps.Lasts.{last_token, shortened}
-use Rattle.engine_tables.proofs.Places.{get_more_cases, get_take, get_taken}
-
--- tokens of which the last one was taken stay in order
-pub in_order_before : (tokens : TokensValue) → AreInOrder tokens → AreInOrder (shortened tokens)
-in_order_before tokens order = record { each = λ k token at. order.each k token (get_take tokens.list (length tokens.list - 1) k token at) }
+use Rattle.engine_tables.proofs.Looking.{engines_in}
+use Rattle.engine_tables.proofs.Makings.{placed_before}
+use Rattle.engine_tables.proofs.Places.{get_end, get_more_cases, get_taken}
 
 -- one index less
 pub of_before : (indexes workers : ℕ) (tokens : TokensValue) → AreOf (indexes + 1) workers tokens → AreOf indexes workers (shortened tokens)
@@ -75,3 +77,47 @@ module _ {D J : Type 0} (words : DiskWords D) (schema : ℕ → Schema) (base : 
         subst (λ (tokens : List TokenValue). HasEnded words schema base place workers tokens its) (earlier_stay place last workers seats before of) (have.each place its earlier))
         (get_more_cases all ended its place at);
   }
+
+-- the last one of the engines that are left
+pub record IsLast (workers : ℕ) (tables front : List TableValue) (last : TableValue) : Type 0 where
+  pub index : last.engine.index ≡ length front
+  pub own : last.engine.workers ≡ workers
+  pub before : ArePlaced workers (map (λ table. table.engine) front)
+  pub many : length tables ≡ length front + 1
+
+pub is_last : (workers : ℕ) (tables front : List TableValue) (last : TableValue) → tables ≡ front ++ last ∷ [] → ArePlaced workers (map (λ table. table.engine) tables) → IsLast workers tables front last
+is_last workers tables front last is placed =
+    let same : map (λ (t : TableValue). t.engine) tables ≡ map (λ (t : TableValue). t.engine) front ++ last.engine ∷ [] = ap (map (λ (t : TableValue). t.engine)) is ∙ map-append (λ (t : TableValue). t.engine) front (last ∷ []) in
+    let all : ArePlaced workers (map (λ (t : TableValue). t.engine) front ++ last.engine ∷ []) = subst (ArePlaced workers) same placed in
+    let here = all.each (length front) last.engine (get_end (map (λ (t : TableValue). t.engine) front) last.engine (length front) (sym (length-map front (λ (t : TableValue). t.engine)))) in
+    record { index = here.0; own = here.1; before = placed_before workers (map (λ (t : TableValue). t.engine) front) last.engine all; many = omega (arith, ap length is, length-append front (last ∷ [])) }
+
+-- the earlier engines have ended, and then the last one
+pub end_one : {D J : Type 0} (words : DiskWords D) (schema : ℕ → Schema) (base : ℕ → Base) (workers count last : ℕ) (seats left : List TokensValue) (before all : List (Ended D J)) (ended : Ended D J) (tokens new : List TokenValue) (engine : EngineValue)
+    → count ≡ last + 1
+    → All (AreOf count workers) seats
+    → left ≡ map shortened seats
+    → tokens ≡ flat_map last_token seats
+    → engine.index ≡ last
+    → engine.workers ≡ workers
+    → HaveEnded words schema base last workers left before
+    → Closes words (schema engine.index) (base engine.index) engine.index engine.workers tokens ended.disk ended.answer new
+    → all ≡ before ++ ended ∷ []
+    → HaveEnded words schema base count workers seats all
+end_one {D} {J} words schema base workers count last seats left before all ended tokens new engine count_is of left_is tokens_are index own have closes all_is =
+    let of' : All (AreOf (last + 1) workers) seats = subst (λ (n : ℕ). All (AreOf n workers) seats) count_is of in
+    let told : tokens ≡ tokens_at last seats = tokens_are ∙ lasts_are last workers seats of' in
+    let closed : Closes words (schema last) (base last) last workers (tokens_at last seats) ended.disk ended.answer new =
+    subst (λ (ts : List TokenValue). Closes words (schema last) (base last) last workers ts ended.disk ended.answer new) told
+    (subst (λ (w : ℕ). Closes words (schema last) (base last) last w tokens ended.disk ended.answer new) own
+    (subst (λ (i : ℕ). Closes words (schema i) (base i) i engine.workers tokens ended.disk ended.answer new) index closes)) in
+    let whole : HaveEnded words schema base (last + 1) workers seats (before ++ ended ∷ []) =
+    last_ended {D = D} {J = J} words schema base workers last seats before ended of' (subst (λ (s : List TokensValue). HaveEnded words schema base last workers s before) left_is have) (new, closed) in
+    subst (λ (n : ℕ). HaveEnded words schema base n workers seats all) (sym count_is) (subst (λ (es : List (Ended D J)). HaveEnded words schema base (last + 1) workers seats es) (sym all_is) whole)
+
+-- tokens of engines that end are of their indexes and workers
+pub all_sit : (tables : List TableValue) (workers : ℕ) (engines : EnginesValue) (inside : List TokensValue) (indexes most : ℕ) (ending : EndingValue) → engines_in tables workers ≡ engines → record { indexes = indexes; workers = most; seats = inside } ≡ ending → All (SitsAt engines) ending.seats → All (AreOf (length tables) workers) inside
+all_sit tables workers engines inside indexes most ending is ending_is sit =
+    let here : All (SitsAt engines) inside = subst (λ (e : EndingValue). All (SitsAt engines) e.seats) (sym ending_is) sit in
+    let of : All (AreOf (length (map (λ (t : TableValue). t.conf) tables)) workers) inside = subst (λ (v : EnginesValue). All (SitsAt v) inside) (sym is) here in
+    subst (λ (n : ℕ). All (AreOf n workers) inside) (length-map tables (λ (t : TableValue). t.conf)) of

@@ -14,3 +14,5 @@ pub mod Composing
 pub mod Looking
 -- a worker's store between its calls
 pub mod Sitting
+-- how tokens are dealt to workers
+pub mod Dealing

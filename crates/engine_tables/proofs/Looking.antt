@@ -1,7 +1,8 @@
 -- What stands at a place of the engines, and what is taken from the end of a worker's tokens.
-use Rattle.std.proofs.Common.{◌≡◌, ℕ, ◌+◌, ◌-◌, ◌<◌, List, [], ◌∷◌, ◌++◌, Option, Some, None, IfSome, length, map, slice_get, slice_index_or, refl, ap, sym, subst, ◌∙◌, arith}
+use Rattle.std.proofs.Common.{◌≡◌, ℕ, ◌+◌, ◌-◌, ◌<◌, List, [], ◌∷◌, ◌++◌, Some, length, map, slice_get, take, slice_index_or, refl, ap, sym, subst, ◌∙◌, arith, length-append}
+use Rattle.std.proofs.Math.Seq.{take-append_seam}
 use Rattle.std.proofs.lemmas.List.{length-map}
-use Rattle.std.proofs.lemmas.Option.{slice_get-get_or, slice_get-map, slice_get_read, slice_get_within}
+use Rattle.std.proofs.lemmas.Option.{slice_get-map, slice_get_read}
 use Rattle.std.specs.Option.{option_map, option_to_list}
 use Rattle.index_conf.specs.declared.conf.IndexConf.{IndexConf}
 use Rattle.snap_share.specs.Engines.{EngineValue}
@@ -9,7 +10,7 @@ use Rattle.step_book.proofs.Prefixes.{prefix_get}
 use Rattle.step_tokens.specs.Tokens.{TokenValue}
 use Rattle.engine_tables.specs.Engines.{ArePlaced, EnginesValue, TableValue}
 use Rattle.engine_tables.specs.Tokens.{AreInOrder, TokensValue}
-use Rattle.engine_tables.specs.steps.Lasts.{last_token}
+use Rattle.engine_tables.proofs.Places.{get_end}
 
 -- the table is that of the index at this place
 pub record IsAt (engines : EnginesValue) (place : ℕ) (table : TableValue) : Type 0 where
@@ -41,26 +42,19 @@ is_at tables workers n place engines table is long placed within read =
 pub in_order_front : (worker : ℕ) (list front rest : List TokenValue) → list ≡ front ++ rest → AreInOrder (record { worker = worker; list = list }) → AreInOrder (record { worker = worker; list = front })
 in_order_front worker list front rest is order = record { each = λ k token at. order.each k token (prefix_get front list k token (rest, sym is) at) }
 
--- what is taken from the end is the last one
-pub last_is : (list front : List TokenValue) (found : Option TokenValue) (n : ℕ) → n ≡ length list → list ≡ front ++ option_to_list found → ((d : TokenValue) → 0 < n → found ≡ Some (slice_index_or list (n - 1) d)) → option_to_list found ≡ option_to_list (slice_get list (length list - 1))
-last_is [] [] None n long is value = refl
-last_is [] [] (Some token) n long is value = absurd (cc (is))
-last_is [] (x ∷ front) found n long is value = absurd (cc (is))
-last_is (x ∷ list) front found n long is value =
-    let last : found ≡ Some (slice_index_or (x ∷ list) (n - 1) x) = value x (omega (arith, long)) in
-    let same : found ≡ Some (slice_index_or (x ∷ list) (length (x ∷ list) - 1) x) = subst (λ (k : ℕ). found ≡ Some (slice_index_or (x ∷ list) (k - 1) x)) long last in
-    ap option_to_list (same ∙ sym (slice_get-get_or (x ∷ list) (length (x ∷ list) - 1) x (omega arith)))
+-- what is taken from the end is the last one, and what is left stands before it
+pub last_is : (list front : List TokenValue) (last : TokenValue) → list ≡ front ++ last ∷ [] → option_to_list (slice_get list (length list - 1)) ≡ last ∷ []
+last_is list front last is =
+    ap option_to_list (subst (λ (l : List TokenValue). slice_get l (length l - 1) ≡ Some last) (sym is) (get_end front last (length (front ++ last ∷ []) - 1) (omega (arith, length-append front (last ∷ [])))))
 
-same_option : (a b : Option TokenValue) → option_to_list a ≡ option_to_list b → a ≡ b
-same_option None None is = refl
-same_option None (Some y) is = absurd (cc (is))
-same_option (Some x) None is = absurd (cc (is))
-same_option (Some x) (Some y) is = ap (λ (t : TokenValue). Some t) (cc (is))
+pub front_is : (list front : List TokenValue) (last : TokenValue) → list ≡ front ++ last ∷ [] → front ≡ take (length list - 1) list
+front_is list front last is =
+    let short : length front ≡ length list - 1 = omega (arith, ap length is, length-append front (last ∷ [])) in
+    sym (take-append_seam front (last ∷ [])) ∙ ap (λ (k : ℕ). take k (front ++ last ∷ [])) short ∙ ap (λ (l : List TokenValue). take (length list - 1) l) (sym is)
 
 -- it is of the last index, and the worker's
-pub last_own : (tokens : TokensValue) (found : Option TokenValue) → AreInOrder tokens → option_to_list found ≡ last_token tokens → IfSome found (λ token. (token.index + 1 ≡ length tokens.list) × (token.worker ≡ tokens.worker))
-last_own tokens None order is = tt
-last_own tokens (Some token) order is =
-    let at : slice_get tokens.list (length tokens.list - 1) ≡ Some token = sym (same_option (Some token) (slice_get tokens.list (length tokens.list - 1)) is) in
-    let own = order.each (length tokens.list - 1) token at in
-    (omega (arith, own.0, slice_get_within tokens.list (length tokens.list - 1) token at), own.1)
+pub last_own : (tokens : TokensValue) (front : List TokenValue) (last : TokenValue) → AreInOrder tokens → tokens.list ≡ front ++ last ∷ [] → (last.index + 1 ≡ length tokens.list) × (last.worker ≡ tokens.worker)
+last_own tokens front last order is =
+    let at : slice_get tokens.list (length front) ≡ Some last = subst (λ (l : List TokenValue). slice_get l (length front) ≡ Some last) (sym is) (get_end front last (length front) refl) in
+    let own = order.each (length front) last at in
+    (omega (arith, own.0, ap length is, length-append front (last ∷ [])), own.1)

@@ -117,7 +117,7 @@ placed_before workers engines engine placed = record { each = λ k its at. place
 
 -- tokens of workers
 
-length_new : (worker indexes : ℕ) → length (new_tokens worker indexes) ≡ indexes
+pub length_new : (worker indexes : ℕ) → length (new_tokens worker indexes) ≡ indexes
 length_new worker zero = refl
 length_new worker (suc indexes) = omega (arith, length-append (new_tokens worker indexes) (new_token indexes worker ∷ []), length_new worker indexes)
 

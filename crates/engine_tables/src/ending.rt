@@ -85,9 +85,8 @@ fn take_column<J: Naming>(
     ensures room { vec_capacity column.new ≡ vec_capacity column.old }
 {
     if let Some((tokens, others)) = seats.split_first_mut() {
-        if let Some(token) = tokens.pop() {
-            column.push_reserved(token);
-        }
+        let token = tokens.take_last();
+        column.push_reserved(token);
         take_column(place, workers, others, column);
     }
 }

@@ -1,6 +1,5 @@
 //! A worker's tokens: one of each index. With them it reads, which takes neither a lock nor an engine, and commits.
-ghost use Rattle.std.specs.Prelude.{◌≡◌, ◌<◌, ◌≤◌, ◌+◌, ◌++◌, ◌∷◌, [], length, IfOk, IfSome, OnErr, OnOk};
-ghost use Rattle.std.specs.Option.{option_to_list};
+ghost use Rattle.std.specs.Prelude.{◌≡◌, ◌<◌, ◌≤◌, ◌+◌, ◌++◌, ◌∷◌, [], length, IfOk, OnErr, OnOk};
 ghost use Rattle.std.specs.Arc.{arc_value};
 ghost use Rattle.doc_types.specs.Schemas.{IsSchema};
 ghost use Rattle.doc_types.specs.Snapshots.{AreLayers};
@@ -67,12 +66,14 @@ impl<J: Naming> Tokens<J> {
     }
 
     /// Takes the token of the last index away.
-    pub(crate) fn pop(&mut self) -> Option<Token<J>>
-        ensures last { option_to_list result ≡ last_token self.old }
-        ensures own { IfSome result (λ token. (token.index + 1 ≡ length self.old.list) × (token.worker ≡ self.old.worker)) }
+    pub(crate) fn take_last(&mut self) -> Token<J>
+        requires { 0 < length self.old.list }
+        ensures last { last_token self.old ≡ result ∷ [] }
+        ensures index { result.index + 1 ≡ length self.old.list }
+        ensures worker { result.worker ≡ self.old.worker }
         ensures left { self.new ≡ shortened self.old }
     {
-        self.list.pop()
+        self.list.take_last()
     }
 
     /// Whose they are.
