@@ -36,6 +36,13 @@ impl<D: Disk, J: Naming> Engines<D, J> {
         self.tables.len() as u16
     }
 
+    /// For how many workers they are.
+    pub fn workers(&self) -> u32
+        ensures { result ≡ self.now.workers }
+    {
+        self.workers
+    }
+
     /// How the index at a place below `count` is configured.
     pub fn conf(&self, place: u16) -> &IndexConf
         requires { place < length self.now.confs }
