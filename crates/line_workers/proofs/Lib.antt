@@ -1,0 +1,6 @@
+mod Places
+mod Moving
+mod Counting
+mod Entries
+mod Whole
+mod Turns
