@@ -4,3 +4,6 @@ mod Counting
 mod Entries
 mod Whole
 mod Turns
+mod Working
+mod Seated
+mod Standing

@@ -191,6 +191,17 @@ module _ (schema : ℕ → Schema) (base : ℕ → Base) (index : ℕ) where
         ap (λ (t : TokensValue). length t.list) made.left ∙ length-set mid.tokens.list place made.after ∙ sym (zip_long Grows old.tokens.list mid.tokens.list follows.1.1.1),
       )
 
+  one_confs : (old new : WorkerValue) (event : Event FrontValue) → Leads old event new → new.confs ≡ old.confs
+  one_confs old new (Configured confs) follows = ap (λ (w : WorkerValue). w.confs) follows.1
+  one_confs old new Nothing follows = ap (λ (w : WorkerValue). w.confs) follows
+  one_confs old new NoMemory follows = follows.0
+  one_confs old new (Read place front) follows = follows.0.0
+  one_confs old new (Commit place ops outcome front) follows = follows.2.0 ∙ follows.1.0
+
+  pub same_confs : (old new : WorkerValue) (events : List (Event FrontValue)) → FollowAll Leads old events new → new.confs ≡ old.confs
+  same_confs old new [] follows = ap (λ (w : WorkerValue). w.confs) follows
+  same_confs old new (event ∷ events) follows = same_confs follows.0 new events follows.2 ∙ one_confs old follows.0 event follows.1
+
   pub same_shape : (old new : WorkerValue) (events : List (Event FrontValue)) → FollowAll Leads old events new → (new.tokens.worker ≡ old.tokens.worker) × (length new.tokens.list ≡ length old.tokens.list)
   same_shape old new [] follows = (ap (λ (w : WorkerValue). w.tokens.worker) follows, ap (λ (w : WorkerValue). length w.tokens.list) follows)
   same_shape old new (event ∷ events) follows =

@@ -64,7 +64,7 @@ place_of_all {X} P xs place x all at = subst (λ (y : X). P y) (get_or_from_slic
 module _ {E K J : Type 0} (door : DoorWords E K) (link : LinkWords K) (schema : ℕ → Schema) (base : ℕ → Base) (engines : EnginesValue) (sessions : ℕ) where
   pub all_seated : (seats : List (Seat E J K)) → AreReady door engines sessions seats → length seats ≡ engines.workers
   all_seated seats ready =
-      sym (length-map (λ (seat : Seat E J K). seat.tokens) seats) ∙ ap length ready.tokens ∙ length-map Some (new_seats (length engines.confs) engines.workers) ∙ many_seats (length engines.confs) engines.workers
+      sym (length-map seats (λ (seat : Seat E J K). seat.tokens)) ∙ ap length ready.tokens ∙ length-map (new_seats (length engines.confs) engines.workers) Some ∙ many_seats (length engines.confs) engines.workers
 
   -- the worker at a place has its first tokens
   begins_with : (seats : List (Seat E J K)) → AreReady door engines sessions seats → (place : ℕ) (seat : Seat E J K) → slice_get seats place ≡ Some seat → seat.tokens ≡ Some (first_tokens engines.confs (place + 1))

@@ -176,11 +176,11 @@ module _ {E K : Type 0} (J : Type 0) (door : DoorWords E K) (link : LinkWords K)
       let steps : note.steps ≡ line.history = ap (λ (f : FrontValue). f.steps) told.2 in
       subst (λ (s : List Step). IsOneHistory (schema index) (base index) index s (map events_of services)) (sym steps) (record {
         good = told.1.is.good;
-        each = λ place own at.
-            let found = services_at services place own at in
+        each = λ place own own_at.
+            let found = services_at services place own own_at in
             subst (λ (es : List (Event FrontValue)). IsOfHistory (base index) index line.history (place + 1) es) found.2
             (of_line index (place + 1) line found.0 lefts place (ended.each index end at).0 below told.3
                 (subst (λ (w : ℕ). AtPlace w found.0 lefts place) (omega arith) (at_place 1 services lefts olds news place found.0 work found.1)));
-        others = subst (λ (n : ℕ). All (λ (entry : Entry). (0 < entry.worker) × (entry.worker ≤ n)) (commits line.history)) (sym (length-map events_of services ∙ size))
+        others = subst (λ (n : ℕ). All (λ (entry : Entry). (0 < entry.worker) × (entry.worker ≤ n)) (commits line.history)) (sym (length-map services (events_of {K = K} {F = FrontValue}) ∙ size))
             (All-from_recursion (λ (entry : Entry). (0 < entry.worker) × (entry.worker ≤ workers)) (commits line.history) (by_workers workers line.history (published line.history line.waiting).0 by));
       })

@@ -19,13 +19,15 @@ use std::thread::{Threads, for_each_mut};
 use step_book::Naming;
 
 /// Each worker works in a thread of its own, as far as the system gives threads: without them they work in turn.
-fn work_all<D: Disk + Send, E: Door + Send, J: Naming, R: Threads + Wait + Sync>(
+fn work_all<D: Disk + Send, E: Door + Send, J: Naming + Send + Sync, R: Threads + Wait + Sync>(
     rt: &R,
     alloc: Global,
     engines: &Engines<D, J>,
     sessions: u32,
     seats: &mut [Seat<E, J>],
 )
+where
+    E::Line: Send,
     requires can { All (CanWork E.Door engines.now) seats.old }
     requires numbers { engines.now.workers * sessions < 2 ^ 32 }
     ensures { AllZip (HasWorked E.Door E.Line.Link J.schema J.base engines.now sessions) seats.old seats.new }
@@ -90,7 +92,7 @@ fn end_engines<D: Disk, E: Door, J: Naming, R: Wait>(
 /// only that line.
 ///
 /// Where the system gives no threads, the workers work in turn: then the second one begins once the first one's door has ended.
-pub fn serve_all<D: Disk + Send, E: Door + Send, J: Naming, R: Threads + Wait + Sync>(
+pub fn serve_all<D: Disk + Send, E: Door + Send, J: Naming + Send + Sync, R: Threads + Wait + Sync>(
     rt: &R,
     alloc: Global,
     engines: Engines<D, J>,
@@ -98,6 +100,8 @@ pub fn serve_all<D: Disk + Send, E: Door + Send, J: Naming, R: Threads + Wait + 
     sessions: u32,
     seats: &mut [Seat<E, J>],
 ) -> Vec<Ended<D, J>>
+where
+    E::Line: Send,
     requires ready { AreReady E.Door engines sessions seats.old }
     requires room { IsRoomFor (length engines.confs) engines.workers ending }
     ensures { IsServed D.Disk E.Door E.Line.Link J.schema J.base engines.confs sessions seats.old seats.new result.items }
