@@ -90,9 +90,9 @@ module _ (base : Base) (index : ℕ) where
   begun old new [] runs = All-nil (OnFront index (λ (front : FrontValue). IsPrefix front.steps new.seen))
   begun old new (event ∷ events) runs =
       All-cons (OnFront index (λ (front : FrontValue). IsPrefix front.steps new.seen)) event events
-        (on_front index (λ (front : FrontValue). front ≡ seen_by runs.0) (λ (front : FrontValue). IsPrefix front.steps new.seen)
-            (λ front is. subst (λ (f : FrontValue). IsPrefix f.steps new.seen) (sym is) (run_seen runs.0 new events runs.2)) event (shown old runs.0 event runs.1))
-        (begun runs.0 new events runs.2)
+      (on_front index (λ (front : FrontValue). front ≡ seen_by runs.0) (λ (front : FrontValue). IsPrefix front.steps new.seen)
+      (λ front is. subst (λ (f : FrontValue). IsPrefix f.steps new.seen) (sym is) (run_seen runs.0 new events runs.2)) event (shown old runs.0 event runs.1))
+      (begun runs.0 new events runs.2)
 
   bounded_before : (old new : TokenValue) (event : Event FrontValue) → Moved base index old event new → made_by new.worker new.seen ≤ new.made → made_by old.worker old.seen ≤ old.made
   bounded_before old new event (Looked goes none shows) fits =
@@ -121,21 +121,21 @@ module _ (base : Base) (index : ℕ) where
       let skipped = attempt_skipped index event events none in
       let own : made_by mid.worker history ≡ made_by old.worker history = ap (λ (w : ℕ). made_by w history) (same_worker old mid old.made goes) in
       ⊎_elim (λ (no : attempts_on index events ≡ []). inl (skipped ∙ no))
-          (λ (up : mid.made + length (attempts_on index events) ≤ made_by mid.worker history + 1). inr (omega (arith, up, own, ap length skipped, has_made old mid old.made goes))) rest
+      (λ (up : mid.made + length (attempts_on index events) ≤ made_by mid.worker history + 1). inr (omega (arith, up, own, ap length skipped, has_made old mid old.made goes))) rest
   low_one old mid event events history (Made ops removed is goes made) begins rest =
       let taken = ap length (attempt_taken index event events (made_attempt index ops removed (seen_by mid) event is)) in
       let own : made_by mid.worker history ≡ made_by old.worker history = ap (λ (w : ℕ). made_by w history) (same_worker old mid (old.made + 1) goes) in
       let count = has_made old mid (old.made + 1) goes in
       let up = made_up mid.worker mid.seen history begins in
       inr (⊎_elim (λ (no : attempts_on index events ≡ []). omega (arith, own, taken, count, up, made.counts, ap length no))
-          (λ (so : mid.made + length (attempts_on index events) ≤ made_by mid.worker history + 1). omega (arith, so, own, taken, count)) rest)
+      (λ (so : mid.made + length (attempts_on index events) ≤ made_by mid.worker history + 1). omega (arith, so, own, taken, count)) rest)
   low_one old mid event events history (Doubted ops doubt is goes waits) begins rest =
       let taken = ap length (attempt_taken index event events (doubted_attempt index ops doubt (seen_by mid) event is)) in
       let own : made_by mid.worker history ≡ made_by old.worker history = ap (λ (w : ℕ). made_by w history) (same_worker old mid (old.made + 1) goes) in
       let count = has_made old mid (old.made + 1) goes in
       let up = made_up mid.worker mid.seen history begins in
       inr (⊎_elim (λ (no : attempts_on index events ≡ []). omega (arith, own, taken, count, up, waits, ap length no))
-          (λ (so : mid.made + length (attempts_on index events) ≤ made_by mid.worker history + 1). omega (arith, so, own, taken, count)) rest)
+      (λ (so : mid.made + length (attempts_on index events) ≤ made_by mid.worker history + 1). omega (arith, so, own, taken, count)) rest)
 
   -- where commits were acknowledged or are in doubt, the history has an entry for each, but for one at most
   low : (old new : TokenValue) (events : List (Event FrontValue)) (history : List Step) → Runs old events new → IsPrefix new.seen history
@@ -175,8 +175,8 @@ module _ (base : Base) (index : ℕ) where
       let size : made_by W mid.seen ≡ length earlier + 1 = ap length ends ∙ length-append earlier (made.entry ∷ []) in
       let rest_is : made.entry ∷ own.0 ≡ rest = same_rest earlier front (made.entry ∷ own.0) rest whole (omega (arith, counts, size, count, long)) in
       let later = on (front ++ made.entry ∷ []) own.0
-              (ap (λ (w : ℕ). commits_by w history) worker ∙ cut ∙ ap (λ (es : List Entry). front ++ es) (sym rest_is) ∙ sym (append_assoc front (made.entry ∷ []) own.0))
-              (omega (arith, length-append front (made.entry ∷ []), long, count)) in
+      (ap (λ (w : ℕ). commits_by w history) worker ∙ cut ∙ ap (λ (es : List Entry). front ++ es) (sym rest_is) ∙ sym (append_assoc front (made.entry ∷ []) own.0))
+      (omega (arith, length-append front (made.entry ∷ []), long, count)) in
       let entry : IsEntryOf base W event made.entry = subst (λ (e : Event FrontValue). IsEntryOf base W e made.entry) (sym is) (record { earlier = made.earlier; snapshot = made.snapshot; last = made.last; becomes = made.becomes }) in
       subst (λ (es : List Entry). AreEntriesOf base W (attempts_on index (event ∷ events)) es) rest_is
       (subst (λ (es : List (Event FrontValue)). AreEntriesOf base W es (made.entry ∷ own.0)) (sym (attempt_taken index event events (made_attempt index ops removed (seen_by mid) event is)))
@@ -191,16 +191,16 @@ module _ (base : Base) (index : ℕ) where
       let count : mid.made ≡ old.made + 1 = has_made old mid (old.made + 1) goes in
       let size : made_by old.worker history ≡ length front + 0 = ap length cut ∙ length-append front [] in
       let none : attempts_on index events ≡ [] =
-              ⊎_elim (λ (no : attempts_on index events ≡ []). no)
-              (λ (up : mid.made + length (attempts_on index events) ≤ made_by mid.worker history + 1). none_left (attempts_on index events) (omega (arith, up, own, count, size, long))) few in
+      ⊎_elim (λ (no : attempts_on index events ≡ []). no)
+      (λ (up : mid.made + length (attempts_on index events) ≤ made_by mid.worker history + 1). none_left (attempts_on index events) (omega (arith, up, own, count, size, long))) few in
       subst (λ (es : List (Event FrontValue)). AreEntriesOf base old.worker es []) (sym (attempt_taken index event events (doubted_attempt index ops doubt (seen_by mid) event is)))
       (subst (λ (e : Event FrontValue). IsDoubtful e) (sym is) tt, none)
   entries_doubted old mid event events history front (entry ∷ rest) ops doubt is goes few cut long on =
       let worker : mid.worker ≡ old.worker = same_worker old mid (old.made + 1) goes in
       let count : mid.made ≡ old.made + 1 = has_made old mid (old.made + 1) goes in
       let later = on (front ++ entry ∷ []) rest
-              (ap (λ (w : ℕ). commits_by w history) worker ∙ cut ∙ sym (append_assoc front (entry ∷ []) rest))
-              (omega (arith, length-append front (entry ∷ []), long, count)) in
+      (ap (λ (w : ℕ). commits_by w history) worker ∙ cut ∙ sym (append_assoc front (entry ∷ []) rest))
+      (omega (arith, length-append front (entry ∷ []), long, count)) in
       subst (λ (es : List (Event FrontValue)). AreEntriesOf base old.worker es (entry ∷ rest)) (sym (attempt_taken index event events (doubted_attempt index ops doubt (seen_by mid) event is)))
       (subst (λ (e : Event FrontValue). IsEntryOf base old.worker e entry) (sym is) tt, subst (λ (w : ℕ). AreEntriesOf base w (attempts_on index events) rest) worker later)
 
@@ -225,7 +225,7 @@ module _ (base : Base) (index : ℕ) where
       let on_worker : new.worker ≡ mid.worker = run_worker mid new events runs.2 in
       let same : made_by mid.worker history ≡ made_by old.worker history = ap (λ (w : ℕ). made_by w history) (sym on_worker ∙ worker) in
       entries_one old mid event events history front rest runs.1 (prefix_trans mid.seen new.seen history (run_seen mid new events runs.2) begins) (low mid new events history runs.2 begins) cut long
-          (λ front rest cut long. entries_so mid new events history front rest runs.2 begins (omega (arith, same, fits)) cut long)
+      (λ front rest cut long. entries_so mid new events history front rest runs.2 begins (omega (arith, same, fits)) cut long)
 
   own_at : (old before_it at_it new : TokenValue) (before : List (Event FrontValue)) (event : Event FrontValue) (later : List (Event FrontValue)) → old.made ≡ 0
       → Runs old before before_it → Moved base index before_it event at_it → Runs at_it later new → made_by new.worker new.seen ≤ new.made
@@ -237,8 +237,8 @@ module _ (base : Base) (index : ℕ) where
       let same : made_by at_it.worker at_it.seen ≡ made_by old.worker at_it.seen = ap (λ (w : ℕ). made_by w at_it.seen) worker in
       let so = entries_so old at_it (before ++ event ∷ []) at_it.seen [] (commits_by old.worker at_it.seen) whole (prefix_self at_it.seen) (omega (arith, few, same)) refl (sym zero) in
       on_front index (λ (front : FrontValue). front ≡ seen_by at_it) (λ (front : FrontValue). AreEntriesOf base old.worker (attempts_on index (before ++ event ∷ [])) (commits_by old.worker front.steps))
-          (λ front is. subst (λ (f : FrontValue). AreEntriesOf base old.worker (attempts_on index (before ++ event ∷ [])) (commits_by old.worker f.steps)) (sym is) so)
-          event (shown before_it at_it event moved)
+      (λ front is. subst (λ (f : FrontValue). AreEntriesOf base old.worker (attempts_on index (before ++ event ∷ [])) (commits_by old.worker f.steps)) (sym is) so)
+      event (shown before_it at_it event moved)
 
   -- What a worker was shown and told is of a history that begins with all that its token has seen in the end, where the token counts
   -- no fewer commits than the history has entries of the worker.

@@ -152,8 +152,8 @@ module _ (schema : ℕ → Schema) (base : ℕ → Base) (index : ℕ) where
       (subst (λ (f : FrontValue). IsMoved (base index) index token (Commit place ops outcome f) (set mid.tokens.list place made.after)) (sym made.is)
       (subst (λ (p : ℕ). IsMoved (base index) index token (Commit p ops outcome (seen_by made.after)) (set mid.tokens.list p made.after)) (sym here)
       (commit_here (schema index) (base index) index token taught made.before made.after mid.tokens.list ops outcome first at
-          (subst (λ (p : ℕ). slice_get mid.tokens.list p ≡ Some made.before) here made.at)
-          (subst (λ (p : ℕ). Tells (schema p) (base p) made.before ops outcome made.after) here made.tells))))
+      (subst (λ (p : ℕ). slice_get mid.tokens.list p ≡ Some made.before) here made.at)
+      (subst (λ (p : ℕ). Tells (schema p) (base p) made.before ops outcome made.after) here made.tells))))
   commit_moves mid new token taught place ops outcome front first at made (inr apart) =
       subst (λ (after : List TokenValue). IsMoved (base index) index token (Commit place ops outcome front) after) (sym (ap (λ (t : TokensValue). t.list) made.left))
       (commit_elsewhere (base index) index place token taught made.after mid.tokens.list ops outcome front first at apart)

@@ -45,15 +45,15 @@ seat_at : (indexes workers place : ℕ) → place < workers → slice_get (new_s
 seat_at indexes zero place below = absurd (omega arith)
 seat_at indexes (suc workers) place below =
     ⊎_elim
-      (λ (less : place < workers).
-          prefix_get (new_seats indexes workers) (new_seats indexes (suc workers)) place (tokens_of indexes (place + 1)) (tokens_of indexes (suc workers) ∷ [], refl) (seat_at indexes workers place less))
-      (λ (up : workers ≤ place).
-          let here : place ≡ workers = omega arith in
-          let next : suc workers ≡ place + 1 = omega (arith, here) in
-          let size : length (new_seats indexes workers) ≡ place = many_seats indexes workers ∙ sym here in
-          subst (λ (w : ℕ). slice_get (new_seats indexes (suc workers)) place ≡ Some (tokens_of indexes w)) next
-          (subst (λ (k : ℕ). slice_get (new_seats indexes (suc workers)) k ≡ Some (tokens_of indexes (suc workers))) size (get_last (new_seats indexes workers) (tokens_of indexes (suc workers)))))
-      (cases_lt place workers)
+    (λ (less : place < workers).
+    prefix_get (new_seats indexes workers) (new_seats indexes (suc workers)) place (tokens_of indexes (place + 1)) (tokens_of indexes (suc workers) ∷ [], refl) (seat_at indexes workers place less))
+    (λ (up : workers ≤ place).
+    let here : place ≡ workers = omega arith in
+    let next : suc workers ≡ place + 1 = omega (arith, here) in
+    let size : length (new_seats indexes workers) ≡ place = many_seats indexes workers ∙ sym here in
+    subst (λ (w : ℕ). slice_get (new_seats indexes (suc workers)) place ≡ Some (tokens_of indexes w)) next
+    (subst (λ (k : ℕ). slice_get (new_seats indexes (suc workers)) k ≡ Some (tokens_of indexes (suc workers))) size (get_last (new_seats indexes workers) (tokens_of indexes (suc workers)))))
+    (cases_lt place workers)
 
 all_by_places : {X : Type 0} (P : X → Type 0) (xs : List X) → ((place : ℕ) (x : X) → slice_get xs place ≡ Some x → P x) → All P xs
 all_by_places P xs each = λ k d below. each k (get_or xs k d) (slice_get-get_or xs k d below)
@@ -73,7 +73,7 @@ module _ {E K J : Type 0} (door : DoorWords E K) (link : LinkWords K) (schema : 
       let below : place < engines.workers = omega (arith, slice_get_within seats place seat at, all_seated seats ready) in
       let left : slice_get (map (λ (s : Seat E J K). s.tokens) seats) place ≡ Some (seat.tokens) = slice_get-map (λ (s : Seat E J K). s.tokens) seats place ∙ ap (option_map (λ (s : Seat E J K). s.tokens)) at in
       let right : slice_get (map Some news) place ≡ Some (Some (first_tokens engines.confs (place + 1))) =
-              slice_get-map Some news place ∙ ap (option_map Some) (seat_at (length engines.confs) engines.workers place below) in
+      slice_get-map Some news place ∙ ap (option_map Some) (seat_at (length engines.confs) engines.workers place below) in
       some_is (seat.tokens) (Some (first_tokens engines.confs (place + 1))) (sym left ∙ ap (λ (ts : List (Option TokensValue)). slice_get ts place) ready.tokens ∙ right)
 
   pub can_work : (seats : List (Seat E J K)) → AreReady door engines sessions seats → All (CanWork door engines) seats
@@ -122,7 +122,7 @@ module _ {E K J : Type 0} (door : DoorWords E K) (link : LinkWords K) (schema : 
   works_first worker old mid new worked same first =
       let had : worked.had ≡ first_tokens engines.confs worker = some_is worked.had (first_tokens engines.confs worker) (sym worked.is ∙ first) in
       let works : Works door link schema base engines.confs engines.workers sessions worked.services (first_tokens engines.confs worker) worked.left old mid =
-              subst (λ (t : TokensValue). Works door link schema base engines.confs engines.workers sessions worked.services t worked.left old mid) had worked.works in
+      subst (λ (t : TokensValue). Works door link schema base engines.confs engines.workers sessions worked.services t worked.left old mid) had worked.works in
       record {
         serves = subst (λ (d : E). ServesDoor door link (λ tables. tables.confs) (by_tokens schema base) engines.workers worker sessions worked.services old.door d new.end (record { confs = engines.confs; tokens = first_tokens engines.confs worker }) (record { confs = engines.confs; tokens = worked.left })) (sym same.door)
             (subst (λ (e : SeatEnd). ServesDoor door link (λ tables. tables.confs) (by_tokens schema base) engines.workers worker sessions worked.services old.door mid.door e (record { confs = engines.confs; tokens = first_tokens engines.confs worker }) (record { confs = engines.confs; tokens = worked.left })) (sym same.end) works.serves);
@@ -150,7 +150,7 @@ module _ {E K J : Type 0} (door : DoorWords E K) (link : LinkWords K) (schema : 
       let many : length olds ≡ engines.workers = all_seated olds ready in
       let lefts : List TokensValue = lefts_of olds mids all in
       let works : AllWork door link schema base engines.confs engines.workers sessions 1 (services_of olds mids all) lefts olds news =
-              all_work 1 olds mids news all same (λ place seat at. subst (λ (w : ℕ). seat.tokens ≡ Some (first_tokens engines.confs w)) (omega arith) (begins_with olds ready place seat at)) in
+      all_work 1 olds mids news all same (λ place seat at. subst (λ (w : ℕ). seat.tokens ≡ Some (first_tokens engines.confs w)) (omega arith) (begins_with olds ready place seat at)) in
       let over : HaveEnded disk schema base (length engines.confs) engines.workers lefts ends = subst (λ (ls : List TokensValue). HaveEnded disk schema base (length engines.confs) engines.workers ls ends) (collects olds mids all) ended in
       record {
         services = services_of olds mids all;

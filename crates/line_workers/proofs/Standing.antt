@@ -174,11 +174,11 @@ alone schema base index history own before event later one is =
     let of : IsOfHistory base index history 1 own = one.each 0 own refl in
     let by = recursion_from_All (λ (e : Entry). (0 < e.worker) × (e.worker ≤ 1)) (commits history) one.others in
     let begins = amid (OnFront index (λ (front : FrontValue). IsPrefix front.steps history)) before event later
-            (subst (λ (es : List (Event FrontValue)). AllByRecursion (OnFront index (λ (front : FrontValue). IsPrefix front.steps history)) es) is (recursion_from_All (OnFront index (λ (front : FrontValue). IsPrefix front.steps history)) own of.begins)) in
+    (subst (λ (es : List (Event FrontValue)). AllByRecursion (OnFront index (λ (front : FrontValue). IsPrefix front.steps history)) es) is (recursion_from_All (OnFront index (λ (front : FrontValue). IsPrefix front.steps history)) own of.begins)) in
     on_both index (λ (front : FrontValue). IsPrefix front.steps history) (λ (front : FrontValue). AreEntriesOf base 1 (attempts_on index (before ++ event ∷ [])) (commits_by 1 front.steps))
-        (λ (front : FrontValue). AreEntriesOf base 1 (attempts_on index (before ++ event ∷ [])) (commits front.steps))
-        (λ front begins entries.
-            let cut : commits front.steps ++ commits begins.0 ≡ commits history = sym (commits_then front.steps begins.0) ∙ ap (λ (s : List Step). commits s) begins.1 in
-            let all = one_worker (commits front.steps) (commits begins.0) (subst (λ (es : List Entry). AllByRecursion (λ (e : Entry). (0 < e.worker) × (e.worker ≤ 1)) es) (sym cut) by) in
-            subst (λ (es : List Entry). AreEntriesOf base 1 (attempts_on index (before ++ event ∷ [])) es) (all_own 1 (commits front.steps) all) entries)
-        event begins (of.own before event later is)
+    (λ (front : FrontValue). AreEntriesOf base 1 (attempts_on index (before ++ event ∷ [])) (commits front.steps))
+    (λ front begins entries.
+    let cut : commits front.steps ++ commits begins.0 ≡ commits history = sym (commits_then front.steps begins.0) ∙ ap (λ (s : List Step). commits s) begins.1 in
+    let all = one_worker (commits front.steps) (commits begins.0) (subst (λ (es : List Entry). AllByRecursion (λ (e : Entry). (0 < e.worker) × (e.worker ≤ 1)) es) (sym cut) by) in
+    subst (λ (es : List Entry). AreEntriesOf base 1 (attempts_on index (before ++ event ∷ [])) es) (all_own 1 (commits front.steps) all) entries)
+    event begins (of.own before event later is)

@@ -83,7 +83,7 @@ module _ {E K D F : Type 0} (door : DoorWords E K) (link : LinkWords K) (confs :
             let gives = ap length takes.given ∙ length-append (door.given mid) (takes.service.line ∷ []) in
             let gets = ap length takes.returned ∙ length-append (door.returned mid) (takes.service.back ∷ []) in
             omega (arith, gives, gets, so_far.within)
-        );
+            );
       }
 
   -- as many as the worker may serve

@@ -77,12 +77,12 @@ pub first_token : (worker n i : ℕ) → i < n → slice_get (new_tokens worker 
 first_token worker zero i below = absurd (omega arith)
 first_token worker (suc n) i below =
     ⊎_elim
-      (λ (less : i < n). prefix_get (new_tokens worker n) (new_tokens worker (suc n)) i (new_token i worker) (new_token n worker ∷ [], refl) (first_token worker n i less))
-      (λ (up : n ≤ i).
-          let same : i ≡ n = omega arith in
-          subst (λ (k : ℕ). slice_get (new_tokens worker (suc n)) k ≡ Some (new_token k worker)) (sym same)
-          (subst (λ (k : ℕ). slice_get (new_tokens worker (suc n)) k ≡ Some (new_token n worker)) (many_tokens worker n) (get_last (new_tokens worker n) (new_token n worker))))
-      (cases_lt i n)
+    (λ (less : i < n). prefix_get (new_tokens worker n) (new_tokens worker (suc n)) i (new_token i worker) (new_token n worker ∷ [], refl) (first_token worker n i less))
+    (λ (up : n ≤ i).
+    let same : i ≡ n = omega arith in
+    subst (λ (k : ℕ). slice_get (new_tokens worker (suc n)) k ≡ Some (new_token k worker)) (sym same)
+    (subst (λ (k : ℕ). slice_get (new_tokens worker (suc n)) k ≡ Some (new_token n worker)) (many_tokens worker n) (get_last (new_tokens worker n) (new_token n worker))))
+    (cases_lt i n)
 
 -- the published history begins all that was entered
 published : (steps : List Step) (waiting : Option Step) → IsPrefix steps (with_waiting steps waiting)
@@ -171,8 +171,8 @@ module _ {E K : Type 0} (J : Type 0) (door : DoorWords E K) (link : LinkWords K)
       let below : index < length confs = omega (arith, slice_get_within ends index end at, ended.many) in
       let size : length services ≡ workers = all_served 1 services lefts olds news work ∙ many in
       let by : AllByRecursion (IsBy workers) (line.history ++ (published line.history line.waiting).0) =
-              subst (λ (steps : List Step). AllByRecursion (IsBy workers) steps) (sym (published line.history line.waiting).1)
-              (subst (λ (n : ℕ). AllByRecursion (IsBy n) (entered line)) told.1.workers_are (recursion_from_All (IsBy line.workers) (entered line) told.1.is.by)) in
+      subst (λ (steps : List Step). AllByRecursion (IsBy workers) steps) (sym (published line.history line.waiting).1)
+      (subst (λ (n : ℕ). AllByRecursion (IsBy n) (entered line)) told.1.workers_are (recursion_from_All (IsBy line.workers) (entered line) told.1.is.by)) in
       let steps : note.steps ≡ line.history = ap (λ (f : FrontValue). f.steps) told.2 in
       subst (λ (s : List Step). IsOneHistory (schema index) (base index) index s (map events_of services)) (sym steps) (record {
         good = told.1.is.good;
@@ -180,7 +180,7 @@ module _ {E K : Type 0} (J : Type 0) (door : DoorWords E K) (link : LinkWords K)
             let found = services_at services place own own_at in
             subst (λ (es : List (Event FrontValue)). IsOfHistory (base index) index line.history (place + 1) es) found.2
             (of_line index (place + 1) line found.0 lefts place (ended.each index end at).0 below told.3
-                (subst (λ (w : ℕ). AtPlace w found.0 lefts place) (omega arith) (at_place 1 services lefts olds news place found.0 work found.1)));
+            (subst (λ (w : ℕ). AtPlace w found.0 lefts place) (omega arith) (at_place 1 services lefts olds news place found.0 work found.1)));
         others = subst (λ (n : ℕ). All (λ (entry : Entry). (0 < entry.worker) × (entry.worker ≤ n)) (commits line.history)) (sym (length-map services (events_of {K = K} {F = FrontValue}) ∙ size))
             (All-from_recursion (λ (entry : Entry). (0 < entry.worker) × (entry.worker ≤ workers)) (commits line.history) (by_workers workers line.history (published line.history line.waiting).0 by));
       })

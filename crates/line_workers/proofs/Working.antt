@@ -28,10 +28,10 @@ module _ {E K J : Type 0} (door : DoorWords E K) (link : LinkWords K) (schema : 
   worked_so old new had before after workers worker services is sits leaves begins many own serves =
       let start : WorkerValue = record { confs = engines.confs; tokens = had } in
       let here : Serves engines.workers had.worker services old new start after =
-              subst (λ (b : WorkerValue). Serves engines.workers had.worker services old new b after) begins
-              (subst (λ (w : ℕ). Serves w had.worker services old new before after) many (subst (λ (w : ℕ). Serves workers w services old new before after) own serves)) in
+      subst (λ (b : WorkerValue). Serves engines.workers had.worker services old new b after) begins
+      (subst (λ (w : ℕ). Serves w had.worker services old new before after) many (subst (λ (w : ℕ). Serves workers w services old new before after) own serves)) in
       let follows : FollowAll (Leads schema base 0) start (events_of services) after =
-              lines_follow link (λ (tables : WorkerValue). tables.confs) (by_tokens schema base) engines.workers had.worker 1 services start after here.serves in
+      lines_follow link (λ (tables : WorkerValue). tables.confs) (by_tokens schema base) engines.workers had.worker 1 services start after here.serves in
       let confs : after.confs ≡ engines.confs = same_confs schema base 0 start after (events_of services) follows in
       let shape = same_shape schema base 0 start after (events_of services) follows in
       let ends : after ≡ record { confs = engines.confs; tokens = after.tokens } = ap (λ (cs : List IndexConf). record { confs = cs; tokens = after.tokens }) confs in

@@ -26,7 +26,7 @@ connection_of workers worker line = workers * (line - 1) + worker
 abbrev pub ServesLine : {K D F : Type 0} → LinkWords K → (D → List IndexConf) → StoreWords D F → ℕ → Service K F → D → D → Type 0
 ServesLine link confs words connection service old new =
     ((end : LinkEnd) × Moves link service.line service.back (λ before now read written.
-        IsSession words.documents connection before now read written end service.events))
+    IsSession words.documents connection before now read written end service.events))
     × FollowAll (Follows confs words) old service.events new
 
 -- So were a worker's lines served, the first of which is its line of this number: each begins where the one before left the store.

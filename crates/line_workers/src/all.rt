@@ -33,9 +33,14 @@ where
     ensures { AllZip (HasWorked E.Door E.Line.Link J.schema J.base engines.now sessions) seats.old seats.new }
 {
     let threads = seats.len().max(1);
-    for_each_mut(rt, seats, threads, &|_: usize, seat: &mut Seat<E, J>| {
-        work(rt, alloc, engines, sessions, seat);
-    });
+    for_each_mut(
+        rt,
+        seats,
+        threads,
+        &|_: usize, seat: &mut Seat<E, J>| {
+            work(rt, alloc, engines, sessions, seat);
+        },
+    );
 }
 
 /// The workers work one after another.

@@ -2,8 +2,8 @@
 ghost use Rattle.std.specs.Prelude.{◌<◌, ◌^◌, ◌*◌};
 ghost use Rattle.line_workers.specs.steps.Working.{CanWork, HasWorked};
 
-use crate::serving::serve_lines;
 use crate::Seat;
+use crate::serving::serve_lines;
 use chunk_store::Disk;
 use engine_tables::{Engines, WorkerTables};
 use srch_base::Door;
@@ -29,6 +29,13 @@ pub(crate) fn work<D: Disk, E: Door, J: Naming, R: Wait>(
     let worker = tokens.worker();
     let workers = engines.workers();
     let mut tables = WorkerTables::over(rt, engines, tokens);
-    seat.end = serve_lines(alloc, &mut tables, workers, worker, sessions, &mut seat.door);
+    seat.end = serve_lines(
+        alloc,
+        &mut tables,
+        workers,
+        worker,
+        sessions,
+        &mut seat.door,
+    );
     seat.tokens = Some(tables.into_tokens());
 }
