@@ -5,9 +5,10 @@
 
 starts the daemon with eight workers over an empty folder, and then the programs of scripts/clients together. Each adds N
 documents of its own (100 if nothing is said) with quotes, backslashes, line feeds and Cyrillic letters in their texts,
-and meanwhile asks for them; rolls a transaction back and commits one; is refused a document that is there; and deletes.
-It fails at the first reply that isn't what it wrote. At the end all documents are counted by a client of this script's
-own. It prints a line for each, one with `skipped` where its package isn't there, and the status is 1 where one failed.
+and meanwhile asks for them; rolls a transaction back and commits one; is refused a document that is there; takes a page
+with a facet; and deletes. It fails at the first reply that isn't what it wrote. At the end all documents are counted by a
+client of this script's own. It prints a line for each, one with `skipped` where its package isn't there, and the status
+is 1 where one failed.
 """
 
 import argparse

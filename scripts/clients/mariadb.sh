@@ -30,6 +30,9 @@ expect "the refusal" "$refused" "ERROR 1064 (42000) at line 1: duplicate id"
 least=$(echo "SELECT id, price FROM rt WHERE MATCH('mariadb') ORDER BY price ASC LIMIT 1;" | run | tr '\t' ' ')
 expect "the least price" "$least" "$((first + count + 2)) -$((count + 2))"
 
+page=$(echo "SELECT id FROM rt WHERE MATCH('mariadb') ORDER BY id ASC LIMIT 1 FACET gid;" | run | tr '\t\n' '  ')
+expect "the page and the facet" "$page" "$((first + 1)) 0 $((count + 2)) "
+
 echo "DELETE FROM rt WHERE id = $((first + count + 2));" | run
 expect "found after the DELETE" "$(found mariadb | run | wc -l)" $((count + 1))
 echo "mariadb: $((count + 1)) documents"

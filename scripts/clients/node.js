@@ -45,6 +45,10 @@ async function main() {
   const [row] = await query("SELECT id, price FROM rt WHERE MATCH('node') ORDER BY price ASC LIMIT 1");
   expect("the least price", `${row.id} ${row.price}`, `${first + count + 2} ${-count - 2}`);
 
+  const [page, facet] = await query("SELECT id FROM rt WHERE MATCH('node') LIMIT 1 FACET gid");
+  expect("the page", page.length, 1);
+  expect("the facet", `${facet[0].gid} ${facet[0]["count(*)"]}`, `0 ${count + 2}`);
+
   expect("deleted", (await query("DELETE FROM rt WHERE id = ?", [first + count + 2])).affectedRows, 1);
   expect("found after the DELETE", await found("node"), count + 1);
   console.log(`node: ${count + 1} documents`);

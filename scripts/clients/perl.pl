@@ -52,6 +52,13 @@ expect("the refusal's text", $db->errstr =~ /duplicate id/ ? "duplicate id" : $d
 my ($id, $price) = $db->selectrow_array("SELECT id, price FROM rt WHERE MATCH('perl') ORDER BY price ASC LIMIT 1");
 expect("the least price", "$id $price", join " ", $first + $count + 2, -$count - 2);
 
+my $page = $db->prepare("SELECT id FROM rt WHERE MATCH('perl') LIMIT 1 FACET gid");
+$page->execute();
+expect("the page", scalar @{ $page->fetchall_arrayref }, 1);
+$page->more_results;
+expect("the facet", join(" ", @{ $page->fetchrow_arrayref }), "0 " . ($count + 2));
+$page->finish;
+
 my $delete = $db->prepare("DELETE FROM rt WHERE id = ?");
 $delete->bind_param(1, $first + $count + 2, DBI::SQL_BIGINT);
 expect("deleted", $delete->execute(), 1);

@@ -53,6 +53,11 @@ try {
 $row = $db->query("SELECT id, price FROM rt WHERE MATCH('php') ORDER BY price ASC LIMIT 1")->fetch_assoc();
 expect('the least price', "$row[id] $row[price]", ($first + $count + 2) . ' -' . ($count + 2));
 
+$page = $db->query("SELECT id FROM rt WHERE MATCH('php') LIMIT 1 FACET gid");
+expect('the page', $page->num_rows, 1);
+$db->next_result();
+expect('the facet', implode(' ', $db->store_result()->fetch_row()), '0 ' . ($count + 2));
+
 $db->query('DELETE FROM rt WHERE id = ' . ($first + $count + 2));
 expect('deleted', $db->affected_rows, 1);
 expect('found after the DELETE', found($db, 'php'), $count + 1);

@@ -48,6 +48,10 @@ except pymysql.MySQLError as refused:
 cursor.execute("SELECT id, price FROM rt WHERE MATCH('pymysql') ORDER BY price ASC LIMIT 1")
 expect("the least price", cursor.fetchone(), (first + count + 2, -count - 2))
 
+expect("the page", cursor.execute("SELECT id FROM rt WHERE MATCH('pymysql') LIMIT 1 FACET gid"), 1)
+cursor.nextset()
+expect("the facet", cursor.fetchall(), ((0, count + 2),))
+
 expect("deleted", cursor.execute("DELETE FROM rt WHERE id = %s", (first + count + 2,)), 1)
 expect("found after the DELETE", found("pymysql"), count + 1)
 print(f"pymysql: {count + 1} documents")

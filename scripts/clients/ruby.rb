@@ -43,6 +43,10 @@ end
 row = DB.query("SELECT id, price FROM rt WHERE MATCH('ruby') ORDER BY price ASC LIMIT 1").first
 expect("the least price", row, { "id" => FIRST + COUNT + 2, "price" => -COUNT - 2 })
 
+expect("the page", DB.query("SELECT id FROM rt WHERE MATCH('ruby') LIMIT 1 FACET gid").count, 1)
+DB.next_result
+expect("the facet", DB.store_result.first, { "gid" => 0, "count(*)" => COUNT + 2 })
+
 DB.query("DELETE FROM rt WHERE id = #{FIRST + COUNT + 2}")
 expect("deleted", DB.affected_rows, 1)
 expect("found after the DELETE", found("ruby"), COUNT + 1)
