@@ -29,7 +29,7 @@ from array import array
 from pathlib import Path
 
 import hundred_words as documents
-from daemon import Daemon, processor, resident
+from daemon import Daemon, Ended, processor, resident
 from mysql_client import Client, Lost, Refused
 
 READS = [
@@ -87,7 +87,7 @@ def write(port, first, begin, seconds, options):
     while time.time() < begin + seconds:
         text = documents.insert(range(first, first + options.rows))
         wait_until(due)
-        if told.ask(client, text, options.rows) and told.refused == 0:
+        if told.ask(client, text, options.rows):
             first += options.rows
         due = max(due + pause, time.time() - 1)
     client.quit()
@@ -145,7 +145,7 @@ def measure(port, pid, options):
     worked = processor(pid) - worked
     told = {"read": [], "write": []}
     for _ in range(options.readers + options.writers):
-        kind, one = results.get()
+        kind, one = results.get(timeout=300)
         told[kind].append(one)
     after = int(client.query("SELECT COUNT(*) FROM rt").rows[0][0])
     client.quit()
@@ -181,8 +181,7 @@ def options():
     return found
 
 
-def main():
-    given = options()
+def tried(given):
     if given.port:
         return measure(given.port, given.pid, given)
     with tempfile.TemporaryDirectory() as folder:
@@ -195,6 +194,14 @@ def main():
             return measure(daemon.port, daemon.process.pid, given)
         finally:
             daemon.kill()
+
+
+def main():
+    try:
+        return tried(options())
+    except (Ended, Lost, Refused) as error:
+        print("wrong:", error)
+        return 1
 
 
 if __name__ == "__main__":
