@@ -163,11 +163,10 @@ class Writer(threading.Thread):
 
     def doubled(self):
         """An INSERT of new documents and of one that is there, which is refused whole."""
-        there = list(self.place.documents)
-        if not there:
+        if not self.place.documents:
             return []
         numbers = [number for number in self.ids() if number not in self.place.documents]
-        numbers.insert(self.draws.randrange(len(numbers) + 1), self.draws.choice(there))
+        numbers.insert(self.draws.randrange(len(numbers) + 1), self.draws.choice(list(self.place.documents)))
         return [(self.rows("INSERT", {number: self.document() for number in numbers}), [REFUSED])]
 
     def transaction(self):
@@ -196,14 +195,13 @@ class Writer(threading.Thread):
 
     def dropped(self):
         """A transaction whose commit is refused for an id that is there."""
-        there = list(self.place.documents)
-        if not there:
+        if not self.place.documents:
             return []
-        text, _ = self.statement([number for number in self.ids() if number != there[0]] or [there[0]], {})
-        twice = self.rows("INSERT", {there[0]: self.document()})
-        if text.startswith("DELETE"):
-            text = self.rows("REPLACE", {there[0]: self.document()})
-        return [("BEGIN", [{}]), (text, [{}]), (twice, [{}]), ("COMMIT", [REFUSED])]
+        there = self.draws.choice(list(self.place.documents))
+        others = [number for number in self.ids() if number != there]
+        texts = [self.statement(others, {})[0]] if others else []
+        texts.append(self.rows("INSERT", {there: self.document()}))
+        return [("BEGIN", [{}]), *((text, [{}]) for text in texts), ("COMMIT", [REFUSED])]
 
     def truncate(self):
         return [(f"TRUNCATE RTINDEX {self.place.index}", [None])]
