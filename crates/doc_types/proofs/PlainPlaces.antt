@@ -1,5 +1,5 @@
 -- How the place of a cursor of a plain chunk moves.
-use Rattle.std.proofs.Common.{◌≡◌, ℕ, ◌+◌, ◌<◌, ◌≤◌, List, [], Option, Some, None, length, refl, sym, ap, subst, ◌∙◌, arith, IsSomeAnd, slice_get, get_or, drop}
+use Rattle.std.proofs.Common.{◌≡◌, ℕ, ◌+◌, ◌<◌, ◌≤◌, ◌^◌, List, [], Option, Some, None, length, refl, sym, ap, subst, ◌∙◌, arith, IsSomeAnd, slice_get, get_or, drop}
 use Rattle.std.proofs.lemmas.List.{drop-drop, length-drop}
 use Rattle.std.proofs.Math.ListN.{drop_of_length-le}
 use Rattle.std.specs.List.{position}
@@ -10,7 +10,7 @@ use Rattle.std.proofs.lemmas.Option.{slice_get-get_or}
 use Rattle.doc_types.specs.declared.documents.DocRow.{DocRow}
 use Rattle.doc_types.specs.declared.plain_index.WordRows.{WordRows}
 use Rattle.doc_types.specs.Chunks.{next_place, first_place, rows_with}
-use Rattle.doc_types.specs.steps.PlainIndex.{place_of, place_in, StandsIn, IsEntryOf, IsIndex}
+use Rattle.doc_types.specs.steps.PlainIndex.{place_of, place_in, row_at, StandsAt, StandsIn, IsEntryOf, IsIndex}
 
 pub moved_on : (found : Option WordRows) (entry : WordRows) (n : ℕ) → found ≡ Some entry → place_of found (n + 1) ≡ next_place (place_of found n)
 moved_on found entry n e = rw e (ap (λ rows. record { word = entry.word; ahead = rows }) (sym (drop-drop 1 n entry.rows)))
@@ -24,14 +24,16 @@ some_left found entry n e below none =
     let left : length (drop n entry.rows) ≡ 0 = ap length (rw e at none) in
     omega (arith, below, left, length-drop n entry.rows)
 
-pub still_stands : (found : Option WordRows) (entry : WordRows) (n : ℕ) → found ≡ Some entry → n < length entry.rows → IsSomeAnd found (λ its. n + 1 ≤ length its.rows)
-still_stands found entry n e below = rw e (omega arith)
+pub still_stands : (found : Option WordRows) (entry : WordRows) (n : ℕ) → found ≡ Some entry → n < length entry.rows → IsSomeAnd found (λ its. StandsAt its.rows (n + 1) (row_at entry.rows (n + 1)))
+still_stands found entry n e below = rw e (record { within = omega arith; here = refl })
 
 -- what is so of the entry that a search for a word found
 pub record Starts (rows : List DocRow) (index : List WordRows) (word : List ℕ) (n : ℕ) : Type 0 where
   pub some : 0 < length (rows_with word rows)
-  pub stands : StandsIn index (record { word = n; at = 0; index = 0 })
-  pub place : place_in index (record { word = n; at = 0; index = 0 }) ≡ first_place word rows
+  pub few : length (get_or index n (record { word = []; rows = [] })).rows < 2 ^ 32
+  pub count : length (get_or index n (record { word = []; rows = [] })).rows ≡ length (rows_with word rows)
+  pub stands : (row : ℕ) → row ≡ row_at (get_or index n (record { word = []; rows = [] })).rows 0 → StandsIn index (record { word = n; at = 0; index = row })
+  pub place : (row : ℕ) → place_in index (record { word = n; at = 0; index = row }) ≡ first_place word rows
 
 starting : (rows : List DocRow) (index : List WordRows) (word : List ℕ) (n : ℕ) → IsIndex rows index → position (λ entry. bytes_eq entry.word word) index ≡ Some n → Starts rows index word n
 starting rows index word n is found =
@@ -44,8 +46,10 @@ starting rows index word n is found =
     let all : entry.rows ≡ rows_with word rows = kept.is ∙ ap (λ w. rows_with w rows) same in
     record {
       some = subst (λ xs. 0 < length xs) all kept.some;
-      stands = rw there (omega arith);
-      place = rw there (λ i. record { word = same i; ahead = all i });
+      few = kept.few;
+      count = ap length all;
+      stands = λ row at. rw there (record { within = omega arith; here = at });
+      place = λ row. rw there (λ i. record { word = same i; ahead = all i });
     }
 
 -- the same for what was found in a slice of the index
