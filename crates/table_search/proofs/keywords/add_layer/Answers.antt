@@ -13,9 +13,9 @@ returns-in-Some g c =
     let word : List ℕ = c.args.word.now in
     let docs : g.C.Chunk.content c.deref-chunk.result.now ≡ c.args.layer.now.rows =
     ap g.C.Chunk.content c.deref-chunk.ensures ∙ ap (λ (its : LayerValue). its.rows) c.layer.view_is in
-    let dead : c.as_slice.result.now ≡ c.args.layer.now.dead = c.as_slice.ensures ∙ c.deref.ensures ∙ ap (λ (its : LayerValue). its.dead) c.layer.view_is in
+    let dead : c.as_slice-dead.result.now ≡ c.args.layer.now.dead = c.as_slice-dead.ensures ∙ c.deref.ensures ∙ ap (λ (its : LayerValue). its.dead) c.layer.view_is in
     subst (λ (n : ℕ). IfOk c.add_rows.result (λ more. more ≡ c.args.docs + n))
-    (ap (λ (place : CursorPlace). count_by (lives_among c.as_slice.result.now) place.ahead) c.in-Some.ensures.first.1
+    (ap (λ (place : CursorPlace). count_by (lives_among c.as_slice-dead.result.now) place.ahead) c.in-Some.ensures.first.1
     ∙ ap (λ (numbers : List ℕ). count_by (lives_among numbers) (rows_with word (g.C.Chunk.content c.deref-chunk.result.now))) dead
     ∙ ap (λ (rows : List DocRow). count_by (lives_among c.args.layer.now.dead) (rows_with word rows)) docs
     ∙ sym (by_numbers word c.args.layer.now))
