@@ -17,4 +17,4 @@ returns-clause-found c = (λ _. (starts_at _ _ _ _ _ c.args.self.now.indexed c.a
 pub returns-clause-first : goal.returns-clause-first
 returns-clause-first c =
     let its = starts_at _ _ _ _ _ c.args.self.now.indexed c.as_slice.ensures (sym c.entry_of.ensures ∙ c.in_ok-found.was) in
-    (its.stands, its.place)
+    (its.stands _ (search rules), its.place _)
