@@ -1,5 +1,8 @@
-pub mod Handing
 pub mod Copies
+pub mod Doing
+pub mod Held
 pub mod Lines
-pub mod Outputs
+pub mod OneServed
+pub mod PathTexts
+pub mod Running
 pub mod Words

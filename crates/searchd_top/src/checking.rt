@@ -1,16 +1,16 @@
 //! A check: the stores of all indexes are opened, and a line of each is printed.
-ghost use Rattle.std.specs.Prelude.{◌≡◌, ◌≤◌, ◌++◌, Some, IfOk, OnOk, decimal, length, map};
+ghost use Rattle.std.specs.Prelude.{◌≡◌, ◌+◌, ◌≤◌, ◌++◌, Some, IfOk, OnOk, decimal, length, map};
 ghost use Rattle.index_conf.specs.Soundness.{IsSound};
 ghost use Rattle.command_line.specs.Modes.{check};
 ghost use Rattle.searchd_top.specs.Checks.{ChecksIndexes, check_line, check_lines};
 ghost use Rattle.searchd_top.specs.Requests.{store_requests};
 ghost use Rattle.searchd_top.specs.Runs.{Runs};
 ghost use Rattle.searchd_top.specs.Statuses.{NamesIndex};
-ghost use Rattle.searchd_top.specs.steps.Openings.{holdings_of};
-ghost use Rattle.searchd_top.specs.steps.Sides.{AreTexts, DoesBy};
+ghost use Rattle.searchd_top.specs.steps.Openings.{disks_of, holdings_of};
+ghost use Rattle.searchd_top.specs.steps.Sides.{AreTexts, DoesBy, HandsBack, PrintsOut};
 
 use crate::configuring::configure;
-use crate::opening::{hand_back, open_stores};
+use crate::opening::{give_up, hand_back, open_stores};
 use crate::printing::print_output;
 use crate::{Host, Status, Stream};
 use chunk_store::Disk;
@@ -49,21 +49,31 @@ fn check<H: Host>(alloc: Global, conf: &Conf, host: &mut H) -> Status
     let indexes = conf.indexes.as_slice();
     let mut opened = Vec::new(alloc);
     match open_stores(alloc, indexes, &mut opened, host) {
-        Ok(()) => {
-            let lines = lines_of(alloc, indexes, &opened);
-            hand_back(opened, host);
-            match lines {
-                Ok(lines) => print_output(&lines, host),
-                Err(NoMemory) => Status::NoMemory,
-            }
-        }
-        Err(stop) => {
-            hand_back(opened, host);
-            if let Some(store) = stop.store {
-                host.give_back(store);
-            }
-            stop.status
-        }
+        Ok(()) => print_checked(alloc, indexes, opened, host),
+        Err(stop) => give_up(opened, stop, host),
+    }
+}
+
+/// Hands the stores of indexes back, and prints what each has.
+fn print_checked<H: Host>(
+    alloc: Global,
+    indexes: &[IndexConf],
+    opened: Vec<Opened<H::Store>>,
+    host: &mut H,
+) -> Status
+    requires { length (H.stores_back host.old) + length opened.items ≤ length (H.stores_given host.old) }
+    ensures back { HandsBack H.Host (disks_of opened.items) host.old host.new }
+    ensures prints { PrintsOut H.Host result (check_lines indexes.now (map holdings_of opened.items)) host.old host.new }
+    ensures asked { ¬ (result ≡ Status.Usage) }
+    ensures names { NamesIndex result }
+    ensures errors { H.printed host.new Stream.Err ≡ H.printed host.old Stream.Err }
+    ensures quiet { H.print_faults host.new Stream.Err ≡ H.print_faults host.old Stream.Err }
+{
+    let lines = lines_of(alloc, indexes, &opened);
+    hand_back(opened, host);
+    match lines {
+        Ok(lines) => print_output(&lines, host),
+        Err(NoMemory) => Status::NoMemory,
     }
 }
 

@@ -1,9 +1,9 @@
 //! The stores of indexes are opened one after the other, and handed back. The first that can't be opened ends the run.
-ghost use Rattle.std.specs.Prelude.{◌≡◌, ◌+◌, ◌≤◌, ◌++◌, [], ◌∷◌, All, IfErr, length};
+ghost use Rattle.std.specs.Prelude.{◌≡◌, ◌+◌, ◌≤◌, ◌++◌, [], ◌∷◌, All, IfErr, length, option_to_list};
 ghost use Rattle.std.specs.Str.{IsUtf8};
 ghost use Rattle.doc_types.specs.Schemas.{IsSchema};
 ghost use Rattle.searchd_top.specs.steps.Openings.{KeepsDoors, OpensStores, SaysFault, disks_of};
-ghost use Rattle.searchd_top.specs.steps.Sides.{AreTexts, KeepsPrints};
+ghost use Rattle.searchd_top.specs.steps.Sides.{AreTexts, HandsBack, KeepsPrints};
 ghost use Rattle.searchd_top.specs.Statuses.{NamesIndex};
 
 use crate::{Host, Status, Stream};
@@ -118,15 +118,32 @@ fn status_of(alloc: Global, index: &IndexConf, fault: StoreFault) -> Status
 /// Hands stores back, in the order in which they were opened.
 pub(crate) fn hand_back<H: Host>(opened: Vec<Opened<H::Store>>, host: &mut H)
     requires { length (H.stores_back host.old) + length opened.items ≤ length (H.stores_given host.old) }
-    ensures takes { H.stores_back host.new ≡ H.stores_back host.old ++ disks_of opened.items }
-    ensures gives { H.stores_given host.new ≡ H.stores_given host.old }
-    ensures gives_doors { H.doors_given host.new ≡ H.doors_given host.old }
-    ensures takes_doors { H.doors_back host.new ≡ H.doors_back host.old }
-    ensures asks { H.requests host.new ≡ H.requests host.old }
-    ensures count { H.faults host.new ≡ H.faults host.old }
+    ensures back { HandsBack H.Host (disks_of opened.items) host.old host.new }
     ensures prints { KeepsPrints H.Host host.old host.new }
 {
     'stores: for store in opened {
         host.give_back(store.into_disk());
+    }
+}
+
+/// Hands all stores back, and behind those that are open the one at which opening stopped.
+pub(crate) fn give_up<H: Host>(
+    opened: Vec<Opened<H::Store>>,
+    stop: Stop<H::Store>,
+    host: &mut H,
+) -> Status
+    requires { length (H.stores_back host.old) + length opened.items + length (option_to_list stop.store) ≤ length (H.stores_given host.old) }
+    ensures status { result ≡ stop.status }
+    ensures back { HandsBack H.Host (disks_of opened.items ++ option_to_list stop.store) host.old host.new }
+    ensures prints { KeepsPrints H.Host host.old host.new }
+{
+    let Stop { status, store } = stop;
+    hand_back(opened, host);
+    match store {
+        Some(store) => {
+            host.give_back(store);
+            status
+        }
+        None => status,
     }
 }

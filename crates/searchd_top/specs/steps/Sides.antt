@@ -1,5 +1,5 @@
 -- What calls do to a host, side by side, and the configuration that is read.
-use Rattle.std.specs.Prelude.{◌≡◌, ⊤, ℕ, List, Option, Result, Ok, Err, All}
+use Rattle.std.specs.Prelude.{◌≡◌, ⊤, ℕ, List, ◌++◌, Option, Result, Ok, Err, All}
 use Rattle.std.specs.Str.{IsUtf8}
 use Rattle.srch_base.specs.Counts.{Rose}
 use Rattle.srch_base.specs.Told.{then_bytes}
@@ -29,6 +29,15 @@ pub record KeepsLent {H S D K : Type 0} (host : HostWords H S D K) (old new : H)
 pub record KeepsPrints {H S D K : Type 0} (host : HostWords H S D K) (old new : H) : Type 0 where
   pub prints : host.printed new ≡ host.printed old
   pub print_count : host.print_faults new ≡ host.print_faults old
+
+-- These stores were handed back, and nothing else was given, handed back or asked for.
+pub record HandsBack {H S D K : Type 0} (host : HostWords H S D K) (stores : List S) (old new : H) : Type 0 where
+  pub takes_stores : host.stores_back new ≡ host.stores_back old ++ stores
+  pub gives_stores : host.stores_given new ≡ host.stores_given old
+  pub gives_doors : host.doors_given new ≡ host.doors_given old
+  pub takes_doors : host.doors_back new ≡ host.doors_back old
+  pub asks : host.requests new ≡ host.requests old
+  pub count : host.faults new ≡ host.faults old
 
 -- It was asked for something, and nothing was lent or printed.
 pub record Asks {H S D K : Type 0} (host : HostWords H S D K) (old new : H) (requests : List Request) : Type 0 where
