@@ -35,6 +35,12 @@ fn refusal<H: Host>(host: &mut H, path: &str) -> Option<OpenFault> {
     host.open_store(path).err()
 }
 
+/// Why no second store is given over a folder while the first one is out.
+fn refusal_beside<H: Host>(host: &mut H, path: &str) -> Option<OpenFault> {
+    let _store = host.open_store(path).ok();
+    refusal(host, path)
+}
+
 #[test]
 fn a_folder_is_made_for_an_index(rt: HostRuntime) -> Result<(), Fail> {
     let alloc = rt.alloc();
@@ -46,6 +52,7 @@ fn a_folder_is_made_for_an_index(rt: HostRuntime) -> Result<(), Fail> {
     assert_eq!(rt; refusal(&mut host, path.as_str()), None);
     assert_eq!(rt; refusal(&mut host, below.as_str()), None);
     assert_eq!(rt; fs::exists(&rt, below.as_str())?, true);
+    assert_eq!(rt; refusal_beside(&mut host, path.as_str()), Some(OpenFault::Failed));
     fs::remove_dir_all(&rt, path.as_str())?;
     Ok(())
 }
