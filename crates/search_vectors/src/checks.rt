@@ -21,21 +21,21 @@ another length in the log | one 0=010100000000000000240000000c006669656c64207469
 the columns of another index | one 0=010100000000000000230000000b006669656c6420626f64790a00000000000000000300000000000000020000000000 2=00 | ⇒ 5, 1 back: searchd: index one: file 0 at 13: root schema;
 no log | one 1=010100000000000000240000000c006669656c64207469746c650a00000000000000000300000000000000020000000000 | ⇒ 5, 1 back: searchd: index one: file 2 at 0: log missing;
 two, in the order of the configuration | two + one 0=010100000000000000240000000c006669656c64207469746c650a00000000000000000300000000000000020000000000 2=012300000001000000000000000100000001070000000000000002000000000568656c6c6f0005776f726c640000000000 | ⇒ 0, 2 back: two: 0 documents, 0 disk chunks, 0 log records;one: 1 documents, 0 disk chunks, 1 log records;
-the second is damaged | one + two 0=01 | ⇒ 5, 2 back: searchd: index two: file 0 at 0: root length;
-both are | one 0=01 + two 0=010100000000000000240000000c006669656c64207469746c650a00000000000000000300000000000000020000000000 | ⇒ 5, 1 back: searchd: index one: file 0 at 0: root length;
-the first is, and the second can't be opened | one 0=01 + -two | ⇒ 5, 1 back: searchd: index one: file 0 at 0: root length;
-the first can't be opened | -one + two 0=01 | ⇒ 4, 0 back: searchd: host fault;
+the second is damaged | one + two 0=01010000000000000024000000 | ⇒ 5, 2 back: searchd: index two: file 0 at 0: root length;
+both are | one 0=01010000000000000024000000 + two 0=010100000000000000240000000c006669656c64207469746c650a00000000000000000300000000000000020000000000 | ⇒ 5, 1 back: searchd: index one: file 0 at 0: root length;
+the first is, and the second can't be opened | one 0=01010000000000000024000000 + -two | ⇒ 5, 1 back: searchd: index one: file 0 at 0: root length;
+the first can't be opened | -one + two 0=01010000000000000024000000 | ⇒ 4, 0 back: searchd: host fault;
 the second can't | one + -two | ⇒ 4, 1 back: searchd: host fault;
 the text can't be read | one | 1 ⇒ 4, 0 back: searchd: host fault;
 the call for the store fails | one | 2 ⇒ 4, 0 back: searchd: host fault;
 the call for the second one | one + two | 3 ⇒ 4, 1 back: searchd: host fault;
 the print to the output | one + two | 4 ⇒ 4, 2 back: searchd: host fault;
 both prints | one + two | 4 5 ⇒ 4, 2 back: 
-the print of a damage | one 0=01 | 3 ⇒ 5, 1 back: 
+the print of a damage | one 0=01010000000000000024000000 | 3 ⇒ 5, 1 back: 
 the store fails | one !1 + two | ⇒ 4, 1 back: searchd: host fault;
 the second store fails | one + two !2 | ⇒ 4, 2 back: searchd: host fault;
 a store fails as its index is begun | one !9 | ⇒ 4, 1 back: searchd: host fault;
-a name of 64 bytes | n234567890123456789012345678901234567890123456789012345678901234 0=01 | ⇒ 5, 1 back: searchd: index n234567890123456789012345678901234567890123456789012345678901234: file 0 at 0: root length;
+a name of 64 bytes | n234567890123456789012345678901234567890123456789012345678901234 0=01010000000000000024000000 | ⇒ 5, 1 back: searchd: index n234567890123456789012345678901234567890123456789012345678901234: file 0 at 0: root length;
 "#;
 
 /// A configuration of these indexes.
