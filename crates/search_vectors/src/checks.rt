@@ -42,7 +42,11 @@ a name of 64 bytes | n2345678901234567890123456789012345678901234567890123456789
 fn configuration(alloc: Global, indexes: &str) -> Result<String, Fail> {
     let mut text = String::new(alloc);
     for index in indexes.split(" + ") {
-        let name = index.trim_start_matches('-').split(' ').next().ok_or("no name")?;
+        let name = index
+            .trim_start_matches('-')
+            .split(' ')
+            .next()
+            .ok_or("no name")?;
         write!(
             text,
             "index {name} {{\ntype = rt\npath = {name}\nrt_field = title\n}}\n"
@@ -68,7 +72,11 @@ fn disk_of(alloc: Global, store: &str) -> Result<MemoryDisk, Fail> {
     let mut disk = MemoryDisk::new(alloc, failing_calls(alloc, store)?);
     for word in store.split(' ') {
         if let Some((file, bytes)) = word.split_once('=') {
-            disk.write(file.parse::<u32>()?, 0, &hex::decode(alloc, bytes.as_bytes())?)?;
+            disk.write(
+                file.parse::<u32>()?,
+                0,
+                &hex::decode(alloc, bytes.as_bytes())?,
+            )?;
         }
     }
     Ok(disk)

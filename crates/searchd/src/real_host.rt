@@ -65,8 +65,7 @@ impl<R> RealHost<R> {
 }
 
 impl<R: Files<File = File> + Net<Listener = TcpListener, Stream = TcpStream> + Copy + Send> Host
-    for RealHost<R>
-{
+    for RealHost<R> {
     ghost use Rattle.std.specs.Prelude.{None, map};
     ghost use Rattle.searchd_top.specs.Printing.{of_stream};
 

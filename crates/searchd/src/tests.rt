@@ -52,7 +52,10 @@ fn a_folder_is_made_for_an_index(rt: HostRuntime) -> Result<(), Fail> {
     assert_eq!(rt; refusal(&mut host, path.as_str()), None);
     assert_eq!(rt; refusal(&mut host, below.as_str()), None);
     assert_eq!(rt; fs::exists(&rt, below.as_str())?, true);
-    assert_eq!(rt; refusal_beside(&mut host, path.as_str()), Some(OpenFault::Failed));
+    assert_eq!(rt;
+        refusal_beside(&mut host, path.as_str()),
+        Some(OpenFault::Failed)
+    );
     fs::remove_dir_all(&rt, path.as_str())?;
     Ok(())
 }

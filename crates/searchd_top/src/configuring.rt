@@ -9,11 +9,7 @@ use srch_base::Or;
 use std::alloc::Global;
 
 /// The configuration in a file.
-pub(crate) fn configure<H: Host>(
-    alloc: Global,
-    file: &str,
-    host: &mut H,
-) -> Result<Conf, Status>
+pub(crate) fn configure<H: Host>(alloc: Global, file: &str, host: &mut H) -> Result<Conf, Status>
     ensures configures { Configures (H.text host.old file.now) result (H.faults host.old) (H.faults host.new) }
     ensures asks { Asks H.Host host.old host.new (Request.ReadText file.now ∷ []) }
 {

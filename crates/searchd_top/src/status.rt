@@ -24,7 +24,10 @@ pub enum Status {
     /// The words aren't those that the program knows.
     Usage,
     /// The file isn't a configuration: its first fault is of this kind, at this line, counted from 1.
-    Config { line: u32, kind: ConfKind },
+    Config {
+        line: u32,
+        kind: ConfKind,
+    },
     /// The host failed, or a door, or a store as it was opened.
     HostFault,
     /// The files of an index can't be read: this is the first place that is wrong.
@@ -36,7 +39,10 @@ pub enum Status {
     },
     NoMemory,
     /// What workers and an index count of its history contradicts each other.
-    Strayed { index: Name, strayed: Strayed },
+    Strayed {
+        index: Name,
+        strayed: Strayed,
+    },
 }
 
 impl Status {
