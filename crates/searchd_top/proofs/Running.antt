@@ -4,17 +4,19 @@ use Rattle.std.specs.Prelude.{Option, Some, None, Ok, Err, take}
 use Rattle.srch_base.specs.declared.link.Link.{Ghosts as LinkWords}
 use Rattle.srch_base.specs.declared.door.Door.{Ghosts as DoorWords}
 use Rattle.chunk_store.specs.declared.disk.Disk.{Ghosts as DiskWords}
+use Rattle.srch_base.specs.Told.{then_bytes}
 use Rattle.command_line.specs.Modes.{Mode, selftest}
 use Rattle.index_conf.specs.declared.conf.Conf.{Conf}
 use Rattle.searchd_top.specs.CommandLine.{file_of}
 use Rattle.searchd_top.specs.Configuring.{AreIndexes, Texts}
 use Rattle.searchd_top.specs.Deeds.{Deeds, Does}
-use Rattle.searchd_top.specs.Printing.{Reports}
+use Rattle.searchd_top.specs.Printing.{IsLinePrinted, IsReported, Reports}
 use Rattle.searchd_top.specs.Requests.{text_requests}
 use Rattle.searchd_top.specs.Runs.{IsRefused, Runs, SaysRefused, Works}
 use Rattle.searchd_top.specs.Selftests.{PrintsSelftest, selftest_lines}
 use Rattle.searchd_top.specs.declared.host.Host.{Ghosts as HostWords}
-use Rattle.searchd_top.specs.declared.host.Stream.TheVariants.{Out}
+use Rattle.searchd_top.specs.declared.host.Stream.{Stream}
+use Rattle.searchd_top.specs.declared.host.Stream.TheVariants.{Out, Err as Errors}
 use Rattle.searchd_top.specs.declared.requests.Request.{Request}
 use Rattle.searchd_top.specs.declared.requests.Request.TheVariants.{ReadText}
 use Rattle.searchd_top.specs.declared.status.Status.{Status}
@@ -106,3 +108,12 @@ module _ {H S D K : Type 0} (host : HostWords H S D K) (store : DiskWords S) (do
     does_then host old between new deeds does lent same still (reports.out ∙ then_nothing (host.printed between Out)) quiet,
     says,
   )
+
+-- the line of a status went to the errors, to which nothing was printed before
+pub reported : (line : List ℕ) (old between new : Stream → Option (List ℕ)) (before mid now : ℕ) → between Errors ≡ old Errors → mid ≡ before → Reports line between new mid now
+    → IsReported line (old Errors) (new Errors) before now
+reported line old between new before mid now same still (front, is, reports) = (
+  front,
+  subst (λ (n : ℕ). IsLinePrinted line front n now) still is,
+  reports.errors ∙ ap (λ (told : Option (List ℕ)). then_bytes told front) same,
+)
