@@ -3,7 +3,7 @@ use Rattle.std.proofs.Common.{◌≡◌, ℕ, suc, ◌+◌, ◌≤◌, List, [],
 use Rattle.std.specs.Prelude.{Option, Some, None, Result, Ok, Err, option_to_list}
 use Rattle.std.specs.Arc.{arc_value}
 use Rattle.std.specs.FinMap as finite
-use Rattle.std.proofs.lemmas.List.{map-append}
+use Rattle.std.proofs.lemmas.List.{length-map, map-append}
 use Rattle.chunk_store.specs.Images.{Image, Told}
 use Rattle.chunk_store.specs.declared.disk.Disk.{Ghosts as DiskWords}
 use Rattle.doc_types.specs.declared.documents.DocRow.{DocRow}
@@ -29,12 +29,19 @@ use Rattle.searchd_top.specs.declared.opening.Stop.{Stop}
 use Rattle.searchd_top.specs.declared.requests.Request.{Request}
 use Rattle.searchd_top.specs.declared.requests.Request.TheVariants.{OpenStore}
 use Rattle.searchd_top.specs.declared.status.Status.{Status}
-use Rattle.searchd_top.specs.declared.status.Status.TheVariants.{HostFault, Damaged, NoMemory}
+use Rattle.searchd_top.specs.declared.status.Status.TheVariants.{Done, Usage, Config, HostFault, Damaged, NoMemory, Strayed}
 use Rattle.searchd_top.specs.steps.Openings.{AreHeld, KeepsDoors, OpensAll, OpensStores, SaysFault, StopsOpening, disks_of, holdings_of}
 use Rattle.searchd_top.specs.steps.Sides.{DoesBy, HandsBack, KeepsPrints, PrintsOut}
 use Rattle.searchd_top.proofs.Doing.{requested_then, then_nothing}
 
 -- ---- what a store has
+
+same_holdings : {documents d chunks c records r : ℕ} → documents ≡ d → chunks ≡ c → records ≡ r
+    → ◌≡◌ {A = Holdings} (record { documents = documents; chunks = chunks; records = records }) (record { documents = d; chunks = c; records = r })
+same_holdings {documents} {d} {chunks} {c} {records} {r} one two three =
+    ap (λ (n : ℕ). record { documents = n; chunks = chunks; records = records }) one
+    ∙ ap (λ (n : ℕ). record { documents = d; chunks = n; records = records }) two
+    ∙ ap (λ (n : ℕ). record { documents = d; chunks = c; records = n }) three
 
 -- what was found in files is what they hold
 pub has_files : {S : Type 0} (opened : Opened S) (schema : Schema) (image : Image) → IsFoundIn schema (arc_value opened.snapshot) opened.records image → HasFiles schema (holdings_of opened) image
@@ -42,15 +49,12 @@ has_files opened schema image found = record {
   found = found.found;
   holds = found.holds;
   few = found.few;
-  is =
-      ap (λ (rows : Rows). record { documents = finite.len rows; chunks = (holdings_of opened).chunks; records = opened.records }) (sym found.rows)
-      ∙ ap (λ (chunks : List (List DocRow)). record { documents = finite.len _; chunks = length chunks; records = opened.records }) (sym found.chunks)
-      ∙ ap (λ (records : ℕ). record { documents = finite.len _; chunks = length _; records = records }) found.records_are;
+  is = same_holdings (ap (λ (rows : Rows). finite.len rows) (sym found.rows)) (ap (λ (chunks : List (List DocRow)). length chunks) (sym found.chunks)) found.records_are;
 }
 
 -- ---- lists of stores in hand
 
-lents_of : {S : Type 0} → List S → List (Opened S) → List (Lent S)
+abbrev pub lents_of : {S : Type 0} → List S → List (Opened S) → List (Lent S)
 lents_of [] opened = []
 lents_of (given ∷ stores) [] = []
 lents_of (given ∷ stores) (opened ∷ others) = record { given = given; back = opened.disk } ∷ lents_of stores others
@@ -99,8 +103,12 @@ module _ {S : Type 0} (store : DiskWords S) where
 
 -- ---- opening
 
+pub no_index : (indexes : List IndexConf) → length indexes ≡ 0 → indexes ≡ []
+no_index [] none = refl
+no_index (index ∷ indexes) none = absurd (omega (arith, none))
+
 -- what is said of a host that gave no store
-pub says_ungiven : {T : Type 0} (fault : OpenFault) (before now : ℕ) → CountsOpening {T = T} (Err fault) before now → SaysUngiven (status_of fault) (record { before = before; now = now })
+pub says_ungiven : (fault : OpenFault) (before now : ℕ) → CountsOpening {T = ℕ} (Err fault) before now → SaysUngiven (status_of fault) (record { before = before; now = now })
 says_ungiven opening.NoMemory before now cause = cause
 says_ungiven opening.Failed before now cause = cause.1
 
@@ -112,9 +120,13 @@ says_unopened store index given back faults.DiskFault status says damage cause =
 says_unopened store index given back (faults.Damaged found) status says damage cause = by status says
   where
     by : (status : Status) → SaysFault index.schema.name (faults.Damaged found) status → SaysUnopened store index (record { given = given; back = back }) status
-    by NoMemory says = tt
-    by (Damaged name file place kind) says = search rules
-    by status says = search rules
+    by NoMemory is = tt
+    by Done is = subst (λ (s : Status). SaysUnopened store index (record { given = given; back = back }) s) (sym is) (refl, damage)
+    by Usage is = subst (λ (s : Status). SaysUnopened store index (record { given = given; back = back }) s) (sym is) (refl, damage)
+    by (Config line kind) is = subst (λ (s : Status). SaysUnopened store index (record { given = given; back = back }) s) (sym is) (refl, damage)
+    by HostFault is = subst (λ (s : Status). SaysUnopened store index (record { given = given; back = back }) s) (sym is) (refl, damage)
+    by (Damaged name file place kind) is = subst (λ (s : Status). SaysUnopened store index (record { given = given; back = back }) s) (sym is) (refl, damage)
+    by (Strayed name strayed) is = subst (λ (s : Status). SaysUnopened store index (record { given = given; back = back }) s) (sym is) (refl, damage)
 
 module _ {H S D K : Type 0} (host : HostWords H S D K) (store : DiskWords S) where
   -- one was opened, and then the others
@@ -237,6 +249,39 @@ module _ {H S D K : Type 0} (host : HostWords H S D K) (store : DiskWords S) whe
     asked = asked;
     still = refl;
   }
+
+  -- no store was open before
+  pub opens_first : (indexes list : List IndexConf) (before after : List (Opened S)) (old mid : H) → list ≡ indexes → before ≡ [] → OpensAll host store list before after old mid → OpensAll host store indexes [] after old mid
+  opens_first indexes list before after old mid same none opens =
+      subst (λ (l : List IndexConf). OpensAll host store l [] after old mid) same (subst (λ (b : List (Opened S)). OpensAll host store list b after old mid) none opens)
+
+  pub stops_from : (indexes list : List IndexConf) (stop : Stop S) (before after : List (Opened S)) (old mid : H) → list ≡ indexes → before ≡ [] → StopsOpening host store list stop before after old mid
+      → StopsOpening host store indexes stop [] after old mid
+  stops_from indexes list stop before after old mid same none stops =
+      subst (λ (l : List IndexConf). StopsOpening host store l stop [] after old mid) same (subst (λ (b : List (Opened S)). StopsOpening host store list stop b after old mid) none stops)
+
+  -- as many stores were given as are in hand
+  pub room_all : (indexes : List IndexConf) (after : List (Opened S)) (old mid : H) → OpensAll host store indexes [] after old mid → KeepsDoors host old mid → length (host.stores_back old) ≤ length (host.stores_given old)
+      → length (host.stores_back mid) + length after ≤ length (host.stores_given mid)
+  room_all indexes after old mid opens doors within =
+      omega (arith, within, ap length doors.takes_stores, ap length opens.gives, length-append (host.stores_given old) opens.given, ap length opens.holds, held_count store indexes opens.given opens.opened opens.held)
+
+  pub room_stopped : (indexes : List IndexConf) (stop : Stop S) (after : List (Opened S)) (old mid : H) → StopsOpening host store indexes stop [] after old mid → KeepsDoors host old mid
+      → length (host.stores_back old) ≤ length (host.stores_given old) → length (host.stores_back mid) + length after + length (option_to_list stop.store) ≤ length (host.stores_given mid)
+  room_stopped indexes stop after old mid stops doors within =
+      omega (
+        arith,
+        within,
+        ap length doors.takes_stores,
+        ap length stops.gives,
+        length-append (host.stores_given old) (stops.given ++ given_of stops.last),
+        length-append stops.given (given_of stops.last),
+        length-map stops.last (λ (lent : Lent S). lent.given),
+        length-map stops.last (λ (lent : Lent S). lent.back),
+        ap length stops.hands,
+        ap length stops.holds,
+        held_count store stops.front stops.given stops.opened stops.held
+      )
 
   both_given : (xs ys : List (Lent S)) → given_of (xs ++ ys) ≡ given_of xs ++ given_of ys
   both_given xs ys = map-append (λ (lent : Lent S). lent.given) xs ys

@@ -4,5 +4,7 @@ pub mod Held
 pub mod Lines
 pub mod OneServed
 pub mod PathTexts
+pub mod Putting
 pub mod Running
+pub mod StorePlaces
 pub mod Words

@@ -1,5 +1,6 @@
 -- A host over memory: what it holds, and what each call makes of it.
-use Rattle.std.specs.Prelude.{◌+◌, ◌-◌, ◌==◌, ◌||◌, ℕ, List, [], ◌∷◌, ◌++◌, Bool, nat_lt, Option, Some, is_none, find, option_map, option_map_or, Result, Ok, Err, length, take}
+use Rattle.std.specs.Prelude.{◌+◌, ◌-◌, ◌==◌, ◌||◌, ℕ, List, [], ◌∷◌, ◌++◌, Bool, nat_lt, Option, Some, is_none, find, option_map, Result, Ok, Err, length, take}
+use Rattle.std.specs.Option.{option_map_or}
 use Rattle.std.specs.Str.{bytes_eq}
 use Rattle.std.specs.List.{list_any, position, remove}
 use Rattle.srch_base.specs.Memory.{Lines, one_more}

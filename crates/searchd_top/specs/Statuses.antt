@@ -19,6 +19,10 @@ pub record Shown : Type 0 where
   -- what is printed to the errors
   pub printed : List ℕ
 
+-- the line of an index whose history strayed
+abbrev pub strayed_line : List ℕ → List ℕ
+strayed_line index = line (codes "searchd: index " ++ index ++ codes ": history strayed")
+
 -- the table of statuses
 abbrev pub shown : Status → Shown
 shown Done = record { code = 0; printed = [] }
@@ -28,7 +32,7 @@ shown HostFault = record { code = 4; printed = line (codes "searchd: host fault"
 shown (Damaged index file place kind) =
     record { code = 5; printed = line (codes "searchd: index " ++ index ++ codes ": file " ++ decimal file ++ codes " at " ++ decimal place ++ codes ": " ++ damage_text kind) }
 shown NoMemory = record { code = 6; printed = line (codes "searchd: out of memory") }
-shown (Strayed index strayed) = record { code = 7; printed = line (codes "searchd: index " ++ index ++ codes ": history strayed") }
+shown (Strayed index strayed) = record { code = 7; printed = strayed_line index }
 
 -- the exit status
 abbrev pub code_of : Status → ℕ

@@ -1,6 +1,6 @@
 //! A host over memory, which records all that was printed, requested, given and handed back, and fails the calls whose numbers it was
 //! given.
-ghost use Rattle.std.specs.Prelude.{◌≡◌, ◌+◌, ◌≤◌, ◌++◌, ◌==◌, [], ◌∷◌, length, map, take, drop, is_err, option_copied, IfOk, IfNone, IfSome, OnOk, OnErr, IsTrue, IsErr, MatchResult, Some};
+ghost use Rattle.std.specs.Prelude.{◌≡◌, ◌+◌, ◌<◌, ◌≤◌, ◌++◌, ◌==◌, [], ◌∷◌, length, map, take, drop, is_err, option_copied, IfOk, IfNone, IfSome, OnOk, OnErr, IsTrue, IsErr, MatchResult, Some};
 ghost use Rattle.std.specs.List.{All, list_any};
 ghost use Rattle.srch_base.specs.Counts.{Rose};
 ghost use Rattle.srch_base.specs.Memory.{one_more, lines_given};
@@ -8,7 +8,7 @@ ghost use Rattle.searchd_top.specs.Configuring.{AreReadOf};
 ghost use Rattle.searchd_top.specs.Printing.{PrintsLine, CountsPrint, other};
 ghost use Rattle.searchd_top.specs.Lending.{IsWithin, CountsOpening, says_failed};
 ghost use Rattle.searchd_top.specs.Requests.{Requested};
-ghost use Rattle.searchd_top.specs.HostMemory.{host_over, text_of, printed_to, with_printed, with_print_fault, print_faults_of, printed_of, doors_of, fails_next, gives_none, opens_none, reads_none, store_at, stores_without, after_print, after_doors, after_read, after_store};
+ghost use Rattle.searchd_top.specs.HostMemory.{host_over, text_of, printed_to, with_printed, with_print_fault, print_faults_of, printed_of, doors_of, fails_next, gives_none, opens_none, reads_none, store_at, store_place, stores_without, after_print, after_doors, after_read, after_store};
 
 use crate::{Host, Request, Requests, Stream};
 use chunk_store::MemoryDisk;
@@ -47,9 +47,13 @@ pub struct MemoryHost {
 
 impl Model for MemoryHost {
     ghost use Rattle.std.specs.Prelude.{◌≤◌, ◌+◌, length, map, vec_capacity};
+    ghost use Rattle.std.specs.Coded.{codes};
+    ghost use Rattle.chunk_store.specs.contracts.memory_disk.MemoryDisk as disk;
     ghost use Rattle.searchd_top.specs.HostMemory.{HostMemory};
 
     ghost Value = { HostMemory };
+
+    ghost coded = { Prim.hlevel (codes, disk.the_row.coded) };
 
     ghost view = { λ a. record {
       texts = a.texts.items;
@@ -182,19 +186,30 @@ impl MemoryHost {
             .map(|(_, text)| text.as_bytes())
     }
 
+    /// The place of the first store with this path.
+    fn store_place(&self, path: &str) -> Option<usize>
+        ensures place { result ≡ store_place self.now.stores path.now }
+        ensures within { IfSome result (λ place. place < length self.now.stores) }
+    {
+        self.stores
+            .iter()
+            .position(|(name, _)| name.as_bytes() == path.as_bytes())
+    }
+
     /// Gives the first store with this path, and notes that it was given.
     fn take_store(&mut self, path: &str) -> Option<MemoryDisk>
         ensures taken { result ≡ store_at self.old.stores path.now }
         ensures some { IfSome result (λ store. self.new ≡ record self.old { stores = stores_without self.old.stores path.now; stores_given = self.old.stores_given ++ store ∷ [] }) }
         ensures none { IfNone result (self.new ≡ self.old) }
     {
-        let place = self
-            .stores
-            .iter()
-            .position(|(name, _)| name.as_bytes() == path.as_bytes())?;
-        let (_path, store) = self.stores.remove(place);
-        self.stores_given.push_reserved(Snapshot::of(&store));
-        Some(store)
+        match self.store_place(path) {
+            Some(place) => {
+                let (_path, store) = self.stores.remove(place);
+                self.stores_given.push_reserved(Snapshot::of(&store));
+                Some(store)
+            }
+            None => None,
+        }
     }
 
     /// Counts one more fault.

@@ -1,9 +1,8 @@
 //! How a run ended, with its exit status and its line, in one table (docs/MANUAL.md). The line is in place: want of
 //! memory can be reported without memory.
 ghost use Rattle.std.specs.Prelude.{◌≡◌, ◌+◌, ◌≤◌, ◌++◌, codes, length};
-ghost use Rattle.commit_outcomes.specs.declared.strayed.Strayed.{Strayed as AnyStrayed};
 ghost use Rattle.doc_types.specs.declared.schema.TheConstants.{MAX_NAME_BYTES};
-ghost use Rattle.searchd_top.specs.Statuses.{NamesIndex, code_of, line_of};
+ghost use Rattle.searchd_top.specs.Statuses.{NamesIndex, code_of, line_of, strayed_line};
 ghost use Rattle.searchd_top.specs.steps.Lines.{beginning_of};
 
 use arrayvec::ArrayVec;
@@ -139,10 +138,11 @@ fn put_damage(
 fn put_strayed(line: &mut ArrayVec<u8, MAX_LINE_BYTES>, index: &Name)
     requires begins { line.old.items ≡ codes "searchd: index " }
     requires short { length index.now ≤ MAX_NAME_BYTES }
-    ensures { (strayed : AnyStrayed) → line.new.items ≡ line_of (Status.Strayed index.now strayed) }
+    ensures { line.new.items ≡ strayed_line index.now }
 {
     put(line, index.as_bytes());
-    put(line, b": history strayed\n");
+    put(line, b": history strayed");
+    put(line, b"\n");
 }
 
 impl From<OpenFault> for Status {

@@ -1,6 +1,7 @@
 use Rattle.std.proofs.Common.{map, string_bytes, ◌∙◌, ap, subst, sym}
 use Rattle.searchd_top.specs.CommandLine.{asked}
 use Rattle.searchd_top.specs.Statuses.{line_of}
+use Rattle.searchd_top.specs.declared.host.Stream.TheVariants.{Err as Errors}
 use Rattle.searchd_top.proofs.Running.{reported, runs_reported}
 use Rattle.searchd_top.proofs.program.searchd.Goals as goal
 
@@ -10,4 +11,7 @@ returns-clause-runs g c =
     c.args.host.now c.run-status.new.host c.report.new.host c.run-status.ensures.runs c.report.ensures.lent c.report.ensures.asks c.report.ensures.count _ _ c.report.ensures.prints c.report.ensures.quiet
 
 pub returns-clause-prints : goal.returns-clause-prints
-returns-clause-prints g c = reported _ _ _ _ _ _ _ c.run-status.ensures.errors c.run-status.ensures.quiet c.report.ensures.prints
+returns-clause-prints g c =
+    reported (line_of c.run-status.result) (g.H.Host.printed c.args.host.now) (g.H.Host.printed c.run-status.new.host) (g.H.Host.printed c.report.new.host)
+    (g.H.Host.print_faults c.args.host.now Errors) (g.H.Host.print_faults c.run-status.new.host Errors) (g.H.Host.print_faults c.report.new.host Errors)
+    c.run-status.ensures.errors c.run-status.ensures.quiet c.report.ensures.prints
