@@ -280,7 +280,7 @@ module _ {H S D K : Type 0} (host : HostWords H S D K) (store : DiskWords S) whe
         length-map stops.last (λ (lent : Lent S). lent.back),
         ap length stops.hands,
         ap length stops.holds,
-        held_count store stops.front stops.given stops.opened stops.held
+        held_count store stops.front stops.given stops.opened stops.held,
       )
 
   both_given : (xs ys : List (Lent S)) → given_of (xs ++ ys) ≡ given_of xs ++ given_of ys

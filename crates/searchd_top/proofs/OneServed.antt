@@ -1,5 +1,5 @@
 -- The one door of a session: none was given, or it was served and handed back.
-use Rattle.std.proofs.Common.{◌≡◌, ◌⊎◌, ℕ, List, [], ◌∷◌, ◌++◌, All, arith, refl, sym, ap, subst, ◌∙◌, inl, inr, append-nil}
+use Rattle.std.proofs.Common.{◌≡◌, ◌⊎◌, ℕ, List, [], ◌∷◌, ◌++◌, All, arith, rules, refl, sym, ap, subst, ◌∙◌, inl, inr, append-nil}
 use Rattle.std.specs.Prelude.{Contains, Err, length}
 use Rattle.std.proofs.lemmas.List.Elements.{All-cons, All-nil}
 use Rattle.srch_base.specs.declared.link.Link.{Ghosts as LinkWords}
@@ -53,6 +53,9 @@ module _ {H S D K : Type 0} (host : HostWords H S D K) (door : DoorWords D K) (l
   worked (Damaged index file place kind) d d' says = absurd says
   worked (Strayed index strayed) d d' says = absurd says
 
+  alone : (lent : Lent D) → Contains (lent ∷ []) lent
+  alone lent = search rules
+
   -- what is said of it
   says_one : (status : Status) (deeds : Deeds S D) (d d' : D) → deeds.requests ≡ one_door → deeds.doors ≡ record { given = d; back = d' } ∷ [] → deeds.faults.now ≡ deeds.faults.before
       → SaysOfDoor status door d d' → SaysDoors door one_door status deeds
@@ -64,10 +67,8 @@ module _ {H S D K : Type 0} (host : HostWords H S D K) (door : DoorWords D K) (l
         (All-cons (λ (lent : Lent D). DidWork door lent.given lent.back) (record { given = d; back = d' }) [] says (All-nil (λ (lent : Lent D). DidWork door lent.given lent.back))),
   )
   says_one HostFault deeds d d' asked one still says =
-      (asked, inr (record { given = d; back = d' }, subst (λ (doors : List (Lent D)). Contains doors (record { given = d; back = d' })) (sym one) (here d d'), says))
-    where
-      here : (d d' : D) → Contains (record { given = d; back = d' } ∷ []) (record { given = d; back = d' })
-      here d d' = search rules
+      let lent : Lent D = record { given = d; back = d' } in
+      (asked, inr (lent, subst (λ (doors : List (Lent D)). Contains doors lent) (sym one) (alone lent), says))
   says_one NoMemory deeds d d' asked one still says = absurd says
   says_one Usage deeds d d' asked one still says = absurd says
   says_one (Config line kind) deeds d d' asked one still says = absurd says
