@@ -12,36 +12,34 @@ use client_doors::{ClientDoor, listening_doors, standard_door};
 use searchd_top::{Host, Requests, Stream};
 use srch_base::{Failed, OpenFault};
 use std::alloc::Global;
-use std::fs::{self, File};
+use std::fs;
 use std::io::{self, ErrorKind, Read, Stderr, Stdin, Stdout, Write};
-use std::net::{Net, TcpListener, TcpStream};
 use std::rt::Files;
-use std::slice;
 
 /// The host of the program. It knows no text beforehand and doesn't record what is printed, but it records what is requested.
 #[derive(Drop)]
-pub struct RealHost<R> {
-    outside: R,
+pub struct RealHost {
+    outside: HostRuntime,
     alloc: Global,
     input: Stdin,
     output: Stdout,
     errors: Stderr,
     requests: Requests,
-    stores: Lent<DirDisk<R>>,
+    stores: Lent<DirDisk<HostRuntime>>,
     doors: Lent<ClientDoor>,
     faults: u64,
     out_faults: u64,
     error_faults: u64,
 }
 
-impl<R> RealHost<R> {
+impl RealHost {
     pub fn new(
-        outside: R,
+        outside: HostRuntime,
         alloc: Global,
         input: Stdin,
         output: Stdout,
         errors: Stderr,
-    ) -> RealHost<R>
+    ) -> RealHost
         ensures gave_stores { result.stores.gave.items ≡ [] }
         ensures took_stores { result.stores.back.items ≡ [] }
         ensures gave_doors { result.doors.gave.items ≡ [] }
@@ -64,12 +62,11 @@ impl<R> RealHost<R> {
     }
 }
 
-impl<R: Files<File = File> + Net<Listener = TcpListener, Stream = TcpStream> + Copy + Send> Host
-    for RealHost<R> {
+impl Host for RealHost {
     ghost use Rattle.std.specs.Prelude.{None, map};
     ghost use Rattle.searchd_top.specs.Printing.{of_stream};
 
-    type Store = DirDisk<R>;
+    type Store = DirDisk<HostRuntime>;
 
     type Entry = ClientDoor;
 
@@ -123,11 +120,11 @@ impl<R: Files<File = File> + Net<Listener = TcpListener, Stream = TcpStream> + C
 
     /// The store over the folder of this path, which is made where it isn't there. Fails where its parent isn't there, or a store over
     /// it is out already, also of another program.
-    fn open_store(&mut self, path: &str) -> Result<DirDisk<R>, OpenFault> {
+    fn open_store(&mut self, path: &str) -> Result<DirDisk<HostRuntime>, OpenFault> {
         self.requests.add_store(path);
         match open_folder(self.outside, self.alloc, path) {
             Ok(store) => {
-                self.stores.give(slice::from_ref(&store))?;
+                self.stores.give_one(&store)?;
                 Ok(store)
             }
             Err(OpenFault::NoMemory) => Err(OpenFault::NoMemory),
@@ -138,13 +135,13 @@ impl<R: Files<File = File> + Net<Listener = TcpListener, Stream = TcpStream> + C
         }
     }
 
-    fn give_back(&mut self, store: DirDisk<R>)
+    fn give_back(&mut self, store: DirDisk<HostRuntime>)
         requires { length (map (λ store. store.value) self.old.stores.back.items) + 1 ≤ length (map (λ store. store.value) self.old.stores.gave.items) }
         ensures took { map (λ store. store.value) self.new.stores.back.items ≡ map (λ store. store.value) self.old.stores.back.items ++ store ∷ [] }
         ensures gave { self.new.stores.gave.items ≡ self.old.stores.gave.items }
         ensures rest { self.new ≡ record self.old { stores = self.new.stores } }
     {
-        self.stores.take_back(slice::from_ref(&store));
+        self.stores.take_one_back(&store);
     }
 
     /// Fails but for doors over a listener, or for one over the standard streams, where no door was given before.
@@ -173,7 +170,7 @@ impl<R: Files<File = File> + Net<Listener = TcpListener, Stream = TcpStream> + C
     }
 }
 
-impl<R: Net<Listener = TcpListener, Stream = TcpStream>> RealHost<R> {
+impl RealHost {
     /// So many doors over a listener at an address, or one over the standard streams.
     fn open_doors(&self, listen: Option<&str>, n: u32) -> io::Result<Vec<ClientDoor>>
         ensures { IfOk result (λ doors. (length doors.items ≡ n) × All IsFresh doors.items) }
@@ -191,11 +188,11 @@ impl<R: Net<Listener = TcpListener, Stream = TcpStream>> RealHost<R> {
 }
 
 /// The disk over a folder, which is made where it isn't there.
-fn open_folder<R: Files<File = File> + Copy + Send>(
-    files: R,
+fn open_folder(
+    files: HostRuntime,
     alloc: Global,
     path: &str,
-) -> Result<DirDisk<R>, OpenFault> {
+) -> Result<DirDisk<HostRuntime>, OpenFault> {
     match make_folder(&files, path) {
         Ok(()) => DirDisk::open(files, alloc, path),
         Err(error) if error.kind() == ErrorKind::OutOfMemory => Err(OpenFault::NoMemory),

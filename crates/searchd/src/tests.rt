@@ -7,7 +7,7 @@ use std::fs;
 use std::test::Fail;
 
 /// A host over the system.
-fn host(rt: HostRuntime) -> RealHost<HostRuntime> {
+fn host(rt: HostRuntime) -> RealHost {
     let (input, output, errors) = (rt.stdin(), rt.stdout(), rt.stderr());
     RealHost::new(rt, rt.alloc(), input, output, errors)
 }

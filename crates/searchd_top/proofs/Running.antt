@@ -12,12 +12,11 @@ use Rattle.searchd_top.specs.Configuring.{AreIndexes, Texts}
 use Rattle.searchd_top.specs.Deeds.{Deeds, Does}
 use Rattle.searchd_top.specs.Printing.{IsLinePrinted, IsReported, Reports}
 use Rattle.searchd_top.specs.Requests.{text_requests}
-use Rattle.searchd_top.specs.Runs.{IsRefused, Runs, SaysRefused, Works}
-use Rattle.searchd_top.specs.Selftests.{PrintsSelftest, selftest_lines}
+use Rattle.searchd_top.specs.Runs.{Runs, SaysRefused, Works}
+use Rattle.searchd_top.specs.Selftests.{selftest_lines}
 use Rattle.searchd_top.specs.declared.host.Host.{Ghosts as HostWords}
 use Rattle.searchd_top.specs.declared.host.Stream.{Stream}
 use Rattle.searchd_top.specs.declared.host.Stream.TheVariants.{Out, Err as Errors}
-use Rattle.searchd_top.specs.declared.requests.Request.{Request}
 use Rattle.searchd_top.specs.declared.requests.Request.TheVariants.{ReadText}
 use Rattle.searchd_top.specs.declared.status.Status.{Status}
 use Rattle.searchd_top.specs.declared.status.Status.TheVariants.{Done, Usage, Config, HostFault, Damaged, NoMemory, Strayed}

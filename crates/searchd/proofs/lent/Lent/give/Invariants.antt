@@ -2,7 +2,7 @@ use Rattle.std.proofs.Common.{◌≡◌, ◌≤◌, ◌+◌, ◌++◌, length, m
 use Rattle.searchd.proofs.lent.Lent.give.Given as goal
 
 abbrev pub invariant-things : goal.invariant-things
-invariant-things l = record {
+invariant-things g l = record {
   gave : map (λ thing. thing.value) l.self.gave.items ≡ map (λ thing. thing.value) l.initial.self.gave.items ++ take l.thing-index l.things;
   count : length l.self.gave.items ≡ length l.initial.self.gave.items + l.thing-index;
   back : l.self.back.items ≡ l.initial.self.back.items;
