@@ -1,8 +1,12 @@
 //! A selftest: the documents are written by statements, 100 a transaction, and then asked for.
-ghost use Rattle.std.specs.Prelude.{◌≡◌, ◌<◌, ◌^◌, IfOk, length};
+ghost use Rattle.std.specs.Prelude.{◌≡◌, ◌<◌, ◌^◌, IfOk, List, OnOk, length};
+ghost use Rattle.index_conf.specs.declared.conf.IndexConf.{IndexConf};
 ghost use Rattle.ql_session.specs.Fitting.{Fits};
+ghost use Rattle.ql_session.specs.Tables.{Tables, empty_tables, in_memory};
+ghost use Rattle.self_test.specs.Asking.{AreCounted, AreDone, Shows};
 ghost use Rattle.self_test.specs.Documents.{documents_from};
-ghost use Rattle.self_test.specs.Summaries.{summary_of};
+ghost use Rattle.self_test.specs.Summaries.{many, summary_of};
+ghost use Rattle.self_test.specs.Texts.{closing, opening, texts_from};
 
 use crate::asking::Client;
 use crate::generator::{Document, documents};
@@ -27,7 +31,8 @@ pub struct Unexpected;
 
 /// Runs a selftest over an index `t` in memory, with the field `title` and the attribute `gid`.
 pub fn run_in_memory(alloc: Global, number: u32, docs: u32) -> Result<Summary, Or<Unexpected>>
-    ensures { IfOk result (λ summary. summary ≡ summary_of (documents_from number docs)) }
+    ensures is { IfOk result (λ summary. summary ≡ summary_of (documents_from number docs)) }
+    ensures shows { IfOk result (λ summary. (indexes : List IndexConf) × (left : Tables) × Shows (λ tables. tables.confs) in_memory (documents_from number docs) summary (empty_tables indexes) left) }
 {
     let Ok(conf) = read_conf(alloc, configuration()) else {
         return Err(Or::Fault(Unexpected));
@@ -50,6 +55,7 @@ pub fn run<T: TableStore>(
     docs: u32,
 ) -> Result<Summary, Or<Unexpected>>
     ensures is { IfOk result (λ summary. summary ≡ summary_of (documents_from number docs)) }
+    ensures shows { IfOk result (λ summary. Shows T.confs T.words (documents_from number docs) summary tables.old tables.new) }
     ensures confs { T.confs tables.new ≡ T.confs tables.old }
 {
     let documents = documents(alloc, number, docs)?;
@@ -68,6 +74,7 @@ fn found<T: TableStore>(
     documents: &[Document],
 ) -> Result<Summary, Or<Unexpected>>
     requires { length documents.now < 2 ^ 32 }
+    ensures shows { IfOk result (λ summary. Shows T.confs T.words documents.now summary tables.old tables.new) }
     ensures confs { T.confs tables.new ≡ T.confs tables.old }
 {
     let mut client = Client::new(alloc)?;
@@ -90,6 +97,7 @@ fn write<T: TableStore>(
 ) -> Result<(), Or<Unexpected>>
     requires few { length documents.now < 2 ^ 32 }
     requires fits { Fits (T.confs tables.old) client.old.session }
+    ensures done { OnOk result (AreDone T.confs T.words (texts_from (length documents.now) 1 documents.now) client.old.session tables.old client.new.session tables.new) }
     ensures fits { Fits (T.confs tables.new) client.new.session }
     ensures confs { T.confs tables.new ≡ T.confs tables.old }
 {
@@ -110,6 +118,7 @@ fn write<T: TableStore>(
 /// Begins a transaction before its first document.
 fn begin<T: TableStore>(client: &mut Client, tables: &mut T, id: u32) -> Result<(), Or<Unexpected>>
     requires fits { Fits (T.confs tables.old) client.old.session }
+    ensures done { OnOk result (AreDone T.confs T.words (opening id) client.old.session tables.old client.new.session tables.new) }
     ensures fits { Fits (T.confs tables.new) client.new.session }
     ensures confs { T.confs tables.new ≡ T.confs tables.old }
 {
@@ -127,6 +136,7 @@ fn commit<T: TableStore>(
     id: u32,
 ) -> Result<(), Or<Unexpected>>
     requires fits { Fits (T.confs tables.old) client.old.session }
+    ensures done { OnOk result (AreDone T.confs T.words (closing last id) client.old.session tables.old client.new.session tables.new) }
     ensures fits { Fits (T.confs tables.new) client.new.session }
     ensures confs { T.confs tables.new ≡ T.confs tables.old }
 {
@@ -144,6 +154,7 @@ fn count<T: TableStore>(
     count: Count,
 ) -> Result<u64, Or<Unexpected>>
     requires fits { Fits (T.confs tables.old) client.old.session }
+    ensures counts { IfOk result (λ rows. AreCounted T.confs T.words count (many count) rows client.old.session tables.old client.new.session tables.new) }
     ensures fits { Fits (T.confs tables.new) client.new.session }
     ensures confs { T.confs tables.new ≡ T.confs tables.old }
 {
