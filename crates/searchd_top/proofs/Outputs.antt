@@ -2,7 +2,7 @@
 use Rattle.std.proofs.Common.{◌≡◌, ℕ, List, [], refl, sym, ap, subst, ◌∙◌, append-nil}
 use Rattle.std.specs.Prelude.{Option, Some, None}
 use Rattle.srch_base.specs.Told.{then_bytes}
-use Rattle.command_line.specs.Modes.{Mode, selftest, session}
+use Rattle.command_line.specs.Modes.{Mode, check, selftest, serve, session}
 use Rattle.searchd_top.specs.Output.{PrintsAll, SaysOutput, Tells}
 use Rattle.searchd_top.specs.Printing.{Prints, Reports}
 use Rattle.searchd_top.specs.Statuses.{line_of}
@@ -50,3 +50,11 @@ none_tells mode status old before none =
 -- a selftest that has no memory prints nothing
 pub refused_tells : (number docs : ℕ) (old : Stream → Option (List ℕ)) (before : ℕ) → Tells (Some (selftest number docs)) NoMemory old old before before
 refused_tells number docs old before = ([], (refl, refl), quiet_prints old old refl)
+
+-- words that there was no memory to read print nothing
+pub unread_tells : (mode : Option Mode) (old : Stream → Option (List ℕ)) (before : ℕ) → Tells mode NoMemory old old before before
+unread_tells None old before = ([], (refl, refl), quiet_prints old old refl)
+unread_tells (Some (session file)) old before = ([], (refl, refl), quiet_prints old old refl)
+unread_tells (Some (serve file listen workers sessions)) old before = ([], (refl, refl), quiet_prints old old refl)
+unread_tells (Some (check file)) old before = ([], (refl, refl), quiet_prints old old refl)
+unread_tells (Some (selftest number docs)) old before = ([], (refl, refl), quiet_prints old old refl)

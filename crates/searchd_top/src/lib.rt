@@ -3,6 +3,7 @@
 
 mod host;
 mod memory_host;
+mod modes;
 mod program;
 mod requests;
 mod serving;

@@ -11,6 +11,7 @@ ghost use Rattle.searchd_top.specs.Requests.{Requested};
 ghost use Rattle.searchd_top.specs.Sessions.{Runs};
 ghost use Rattle.searchd_top.specs.steps.Halves.{Configures, ServesBy};
 
+use crate::modes::is_built;
 use crate::serving::serve_one;
 use crate::{Host, Request, Status, Stream};
 use command_line::{Mode, read_mode};
@@ -48,7 +49,14 @@ fn run<H: Host>(alloc: Global, words: &[String], host: &mut H) -> Status
     ensures tells { Tells (asked (map string_bytes words.now)) result (H.printed host.old) (H.printed host.new) (H.print_faults host.old Stream.Out) (H.print_faults host.new Stream.Out) }
     ensures quiet { H.print_faults host.new Stream.Err ≡ H.print_faults host.old Stream.Err }
 {
-    match read_mode(words) {
+    if !is_built(words) {
+        return Status::Usage;
+    }
+    let mode = match read_mode(alloc, words) {
+        Ok(mode) => mode,
+        Err(NoMemory) => return Status::NoMemory,
+    };
+    match mode {
         Some(Mode::Session { config }) => run_session(alloc, config, host),
         Some(Mode::Serve { .. }) => Status::Usage,
         Some(Mode::Check { .. }) => Status::Usage,
