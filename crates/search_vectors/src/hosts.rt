@@ -1,4 +1,5 @@
-//! Hosts in memory on which the tests run the program: one file, some doors, and the numbers of the calls that fail.
+//! Hosts in memory on which the tests run the program: one file, some stores and doors, and the numbers of the calls that fail.
+use chunk_store::MemoryDisk;
 use searchd_top::{MemoryHost, Status, searchd};
 use srch_base::{ListDoor, MemoryLink, Text};
 use std::alloc::Global;
@@ -48,8 +49,20 @@ pub(crate) fn run(
     doors: Vec<ListDoor>,
     failing: &[u32],
 ) -> Result<(Status, MemoryHost), Fail> {
+    run_over(alloc, words, text, Vec::new(alloc), doors, failing)
+}
+
+/// The same on a host that has stores too, each with its path.
+pub(crate) fn run_over(
+    alloc: Global,
+    words: &str,
+    text: &[u8],
+    stores: Vec<(Text, MemoryDisk)>,
+    doors: Vec<ListDoor>,
+    failing: &[u32],
+) -> Result<(Status, MemoryHost), Fail> {
     let failing = Vec::from_slice(alloc, failing)?;
-    let mut host = MemoryHost::new(alloc, files(alloc, text)?, doors, failing)?;
+    let mut host = MemoryHost::new(alloc, files(alloc, text)?, stores, doors, failing)?;
     let words = words_of(alloc, words)?;
     let status = searchd(alloc, words.as_slice(), &mut host);
     Ok((status, host))

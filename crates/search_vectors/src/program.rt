@@ -12,12 +12,14 @@ const BAD: &[u8] = b"searchd: bad arguments\n";
 const FAULT: &[u8] = b"searchd: host fault\n";
 
 /// The words, how many doors without a line the host has, its calls that fail, the status, and what is printed to the errors.
-const STATUSES: [(&str, usize, &[u32], Status, &[u8]); 17] = [
+const STATUSES: [(&str, usize, &[u32], Status, &[u8]); 19] = [
     ("", 1, &[], Status::Usage, BAD),
     ("session --config", 1, &[], Status::Usage, BAD),
     ("serve --config f", 1, &[], Status::Usage, BAD),
     ("serve --config f --listen a", 1, &[], Status::Usage, BAD),
-    ("check --config f", 1, &[], Status::Usage, BAD),
+    ("check", 1, &[], Status::Usage, BAD),
+    ("check --config", 1, &[], Status::Usage, BAD),
+    ("check --config f", 1, &[], Status::HostFault, FAULT),
     ("selftest --number 1 --docs 0", 1, &[], Status::Usage, BAD),
     ("session --config -f", 1, &[], Status::Usage, BAD),
     ("session --conf f", 1, &[], Status::Usage, BAD),

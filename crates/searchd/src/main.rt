@@ -3,7 +3,8 @@
 
 ghost use Rattle.std.specs.Prelude.{◌≡◌};
 
-mod lent_doors;
+mod folders;
+mod lent;
 mod real_host;
 #[cfg(test)]
 mod tests;

@@ -1,5 +1,10 @@
-pub mod Handing
 pub mod Copies
+pub mod Doing
+pub mod Held
 pub mod Lines
-pub mod Outputs
+pub mod OneServed
+pub mod PathTexts
+pub mod Putting
+pub mod Running
+pub mod StorePlaces
 pub mod Words

@@ -6,9 +6,17 @@ use Rattle.command_line.specs.Modes.{Mode, mode, session, serve, check, selftest
 abbrev pub built : Mode → Option Mode
 built (session config) = Some (session config)
 built (serve config listen workers sessions) = None
-built (check config) = None
+built (check config) = Some (check config)
 built (selftest number docs) = Some (selftest number docs)
 
 -- the mode that the words ask for, none where they are no mode or one that isn't built
 abbrev pub asked : List (List ℕ) → Option Mode
 asked words = option_and_then built (mode words)
+
+-- the file of a mode's configuration
+abbrev pub file_of : Option Mode → Option (List ℕ)
+file_of (Some (session config)) = Some config
+file_of (Some (serve config listen workers sessions)) = Some config
+file_of (Some (check config)) = Some config
+file_of (Some (selftest number docs)) = None
+file_of None = None

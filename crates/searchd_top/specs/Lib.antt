@@ -6,14 +6,20 @@ pub mod Configuring
 pub mod Statuses
 -- what is printed on the two streams
 pub mod Printing
--- what a run prints
-pub mod Output
 -- things that are given out and handed back
 pub mod Lending
 -- what a host is asked for
 pub mod Requests
--- what a run does with its doors and connections
+-- what a run does through its host
+pub mod Deeds
+-- what a status says of lines that go to the output
+pub mod Output
+-- what each mode does
 pub mod Sessions
+pub mod Checks
+pub mod Selftests
+-- a run of any mode
+pub mod Runs
 -- a host over memory
 pub mod HostMemory
 pub mod steps

@@ -44,3 +44,7 @@ IsLinePrinted line front before now = (front ≡ line) ⊎ (StartsWith line fron
 -- The line was printed to the errors, or a prefix of it and the count of failed prints to the errors rose. Nothing was printed to the output.
 abbrev pub Reports : List ℕ → (Stream → Option (List ℕ)) → (Stream → Option (List ℕ)) → ℕ → ℕ → Type 0
 Reports line old new before now = (front : List ℕ) × IsLinePrinted line front before now × Prints Errors front old new
+
+-- The line went to the errors, or a prefix of it and the count of failed prints to the errors rose.
+abbrev pub IsReported : List ℕ → Option (List ℕ) → Option (List ℕ) → ℕ → ℕ → Type 0
+IsReported line old new before now = (front : List ℕ) × IsLinePrinted line front before now × (new ≡ then_bytes old front)

@@ -1,8 +1,9 @@
--- Requests to a host: for the texts of files, and for doors to clients.
-use Rattle.std.specs.Prelude.{◌≡◌, ⊤, List, [], ◌∷◌, ◌++◌, Option, Some, None}
-use Rattle.command_line.specs.Modes.{Mode, session}
+-- Requests to a host: for the texts of files, for the stores of indexes, and for doors to clients.
+use Rattle.std.specs.Prelude.{◌≡◌, ⊤, ℕ, List, [], ◌∷◌, ◌++◌, Option, Some, None, map}
+use Rattle.command_line.specs.Modes.{Mode, session, check}
+use Rattle.index_conf.specs.declared.conf.IndexConf.{IndexConf}
 use Rattle.searchd_top.specs.declared.requests.Request.{Request}
-use Rattle.searchd_top.specs.declared.requests.Request.TheVariants.{ReadText, OpenDoors}
+use Rattle.searchd_top.specs.declared.requests.Request.TheVariants.{ReadText, OpenStore, OpenDoors}
 
 -- These were the requests between two states of a host, where it records them. A host may stop recording.
 abbrev pub Requested : Option (List Request) → Option (List Request) → List Request → Type 0
@@ -10,7 +11,21 @@ Requested before None requests = ⊤
 Requested None (Some all) requests = ⊥
 Requested (Some earlier) (Some all) requests = all ≡ earlier ++ requests
 
--- The requests of a mode, in this order: of a session the text of its file, and one door over the standard streams.
-abbrev pub requests_of : Option Mode → List Request
-requests_of (Some (session file)) = ReadText file ∷ OpenDoors None 1 ∷ []
-requests_of mode = []
+-- for the text of a run's file, if it has one
+abbrev pub text_requests : Option (List ℕ) → List Request
+text_requests None = []
+text_requests (Some file) = ReadText file ∷ []
+
+-- for the stores of indexes
+abbrev pub store_requests : List IndexConf → List Request
+store_requests indexes = map (λ index. OpenStore index.path) indexes
+
+-- for one door over the standard streams
+abbrev pub one_door : List Request
+one_door = OpenDoors None 1 ∷ []
+
+-- The requests of a mode once its indexes are known, a row for each: the stores in the order of the configuration, and then the doors.
+abbrev pub later_requests : Option Mode → List IndexConf → List Request
+later_requests (Some (session file)) indexes = one_door
+later_requests (Some (check file)) indexes = store_requests indexes
+later_requests mode indexes = []

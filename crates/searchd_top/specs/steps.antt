@@ -1,2 +1,7 @@
 pub mod Lines
-pub mod Halves
+-- what calls leave of a host
+pub mod Sides
+-- a session's one door
+pub mod OneDoor
+-- stores that are opened one after the other
+pub mod Openings

@@ -1,10 +1,15 @@
 //! The top call of the daemon: what its words ask is done through a host, and a status says how it went.
 #![tactic(auto)]
 
+mod checking;
+mod configuring;
 mod host;
 mod memory_host;
+mod opening;
+mod printing;
 mod program;
 mod requests;
+mod self_testing;
 mod serving;
 mod status;
 

@@ -1,5 +1,6 @@
-//! A host over memory, which records all that was printed and requested, and fails the calls whose numbers it was given.
-ghost use Rattle.std.specs.Prelude.{◌≡◌, ◌+◌, ◌≤◌, ◌++◌, ◌==◌, [], ◌∷◌, length, map, take, drop, is_err, option_copied, IfOk, OnOk, OnErr, IsTrue, IsErr, MatchResult};
+//! A host over memory, which records all that was printed, requested, given and handed back, and fails the calls whose numbers it was
+//! given.
+ghost use Rattle.std.specs.Prelude.{◌≡◌, ◌+◌, ◌<◌, ◌≤◌, ◌++◌, ◌==◌, [], ◌∷◌, length, map, take, drop, is_err, option_copied, IfOk, IfNone, IfSome, OnOk, OnErr, IsTrue, IsErr, MatchResult, Some};
 ghost use Rattle.std.specs.List.{All, list_any};
 ghost use Rattle.srch_base.specs.Counts.{Rose};
 ghost use Rattle.srch_base.specs.Memory.{one_more, lines_given};
@@ -7,24 +8,30 @@ ghost use Rattle.searchd_top.specs.Configuring.{AreReadOf};
 ghost use Rattle.searchd_top.specs.Printing.{PrintsLine, CountsPrint, other};
 ghost use Rattle.searchd_top.specs.Lending.{IsWithin, CountsOpening, says_failed};
 ghost use Rattle.searchd_top.specs.Requests.{Requested};
-ghost use Rattle.searchd_top.specs.HostMemory.{host_over, text_of, printed_to, with_printed, with_print_fault, print_faults_of, printed_of, doors_of, fails_next, opens_none, reads_none, after_print, after_doors, after_read};
+ghost use Rattle.searchd_top.specs.HostMemory.{host_over, text_of, printed_to, with_printed, with_print_fault, print_faults_of, printed_of, doors_of, fails_next, gives_none, opens_none, reads_none, store_at, store_place, stores_without, after_print, after_doors, after_read, after_store};
 
 use crate::{Host, Request, Requests, Stream};
+use chunk_store::MemoryDisk;
 use srch_base::{Failed, ListDoor, NoMemory, OpenFault, Text};
 use std::alloc::Global;
 use std::marker::Model;
+use std::snapshot::Snapshot;
 
-/// A host over memory, which records all that was printed and requested. It is for tests and for trying things out.
+/// A host over memory, which records all that was printed, requested, given and handed back. It is for tests and for trying things
+/// out.
 ///
-/// Its calls for texts and doors and its prints are counted together from 1, and those whose numbers it was given fail:
-/// they give and print nothing, and raise the count. A call for a text that isn't there or for more doors than are left
-/// fails as well, and so does a print that no memory is left for.
+/// Its calls for texts, stores and doors and its prints are counted together from 1, and those whose numbers it was given fail:
+/// they give and print nothing, and raise the count. A call for a text or a store that isn't there or for more doors than are left
+/// fails as well, and so does a print that no memory is left for. Each store is given once.
 ///
 /// Contracts see it as a `HostMemory`.
 #[derive(Drop)]
 pub struct MemoryHost {
     alloc: Global,
     texts: Vec<(Text, Text)>,
+    stores: Vec<(Text, MemoryDisk)>,
+    stores_given: Vec<Snapshot<MemoryDisk>>,
+    stores_back: Vec<MemoryDisk>,
     doors: Vec<ListDoor>,
     at: usize,
     back: Vec<ListDoor>,
@@ -39,13 +46,20 @@ pub struct MemoryHost {
 }
 
 impl Model for MemoryHost {
-    ghost use Rattle.std.specs.Prelude.{◌≤◌, length, vec_capacity};
+    ghost use Rattle.std.specs.Prelude.{◌≤◌, ◌+◌, length, map, vec_capacity};
+    ghost use Rattle.std.specs.Coded.{codes};
+    ghost use Rattle.chunk_store.specs.contracts.memory_disk.MemoryDisk as disk;
     ghost use Rattle.searchd_top.specs.HostMemory.{HostMemory};
 
     ghost Value = { HostMemory };
 
+    ghost coded = { Prim.hlevel (codes, disk.the_row.coded) };
+
     ghost view = { λ a. record {
       texts = a.texts.items;
+      stores = a.stores.items;
+      stores_given = map (λ store. store.value) a.stores_given.items;
+      stores_back = a.stores_back.items;
       doors = a.doors.items;
       at = a.at;
       back = a.back.items;
@@ -59,23 +73,28 @@ impl Model for MemoryHost {
       error_faults = a.error_faults;
     } };
 
-    ghost invariant = { λ a. (a.at ≤ length a.doors.items) × (length a.doors.items ≤ vec_capacity a.back) };
+    ghost invariant = { λ a. (a.at ≤ length a.doors.items) × (length a.doors.items ≤ vec_capacity a.back)
+        × (length a.stores.items + length a.stores_given.items ≤ vec_capacity a.stores_given) × (length a.stores.items + length a.stores_given.items ≤ vec_capacity a.stores_back) };
 }
 
 impl MemoryHost {
-    /// A host with these files, each a path and a text, that gives these doors in their order, a copy of each. The calls
-    /// with the numbers `failing` fail.
+    /// A host with these files, each a path and a text, that gives these stores, each by its path, and these doors in their order, a
+    /// copy of each. The calls with the numbers `failing` fail.
     pub fn new(
         alloc: Global,
         texts: Vec<(Text, Vec<u8>)>,
+        stores: Vec<(Text, MemoryDisk)>,
         doors: Vec<ListDoor>,
         failing: Vec<u32>,
     ) -> Result<MemoryHost, NoMemory>
-        ensures { IfOk result (λ host. host ≡ host_over (map (λ file. (file.0, file.1.items)) texts.items) doors.items failing.items) }
+        ensures { IfOk result (λ host. host ≡ host_over (map (λ file. (file.0, file.1.items)) texts.items) stores.items doors.items failing.items) }
     {
         Ok(MemoryHost {
             alloc,
             texts: kept(alloc, texts)?,
+            stores_given: Vec::with_capacity(alloc, stores.len())?,
+            stores_back: Vec::with_capacity(alloc, stores.len())?,
+            stores,
             back: Vec::with_capacity(alloc, doors.len())?,
             doors,
             at: 0,
@@ -100,6 +119,13 @@ impl MemoryHost {
         }
     }
 
+    /// The stores that were handed back so far, in that order.
+    pub fn stores_back(&self) -> &[MemoryDisk]
+        ensures { result.now ≡ self.now.stores_back }
+    {
+        self.stores_back.as_slice()
+    }
+
     /// The doors that were handed back so far, in that order.
     pub fn doors_back(&self) -> &[ListDoor]
         ensures { result.now ≡ self.now.back }
@@ -120,6 +146,14 @@ impl MemoryHost {
         ensures rest { self.new ≡ record self.old { requests = self.new.requests } }
     {
         self.requests.add_text(path);
+    }
+
+    /// Records a request for the store at a path.
+    fn keep_store_request(&mut self, path: &str)
+        ensures asks { Requested self.old.requests self.new.requests (Request.OpenStore path.now ∷ []) }
+        ensures rest { self.new ≡ record self.old { requests = self.new.requests } }
+    {
+        self.requests.add_store(path);
     }
 
     /// Records a request for doors.
@@ -150,6 +184,32 @@ impl MemoryHost {
             .iter()
             .find(|(name, _)| name.as_bytes() == path.as_bytes())
             .map(|(_, text)| text.as_bytes())
+    }
+
+    /// The place of the first store with this path.
+    fn store_place(&self, path: &str) -> Option<usize>
+        ensures place { result ≡ store_place self.now.stores path.now }
+        ensures within { IfSome result (λ place. place < length self.now.stores) }
+    {
+        self.stores
+            .iter()
+            .position(|(name, _)| name.as_bytes() == path.as_bytes())
+    }
+
+    /// Gives the first store with this path, and notes that it was given.
+    fn take_store(&mut self, path: &str) -> Option<MemoryDisk>
+        ensures taken { result ≡ store_at self.old.stores path.now }
+        ensures some { IfSome result (λ store. self.new ≡ record self.old { stores = stores_without self.old.stores path.now; stores_given = self.old.stores_given ++ store ∷ [] }) }
+        ensures none { IfNone result (self.new ≡ self.old) }
+    {
+        match self.store_place(path) {
+            Some(place) => {
+                let (_path, store) = self.stores.remove(place);
+                self.stores_given.push_reserved(Snapshot::of(&store));
+                Some(store)
+            }
+            None => None,
+        }
     }
 
     /// Counts one more fault.
@@ -190,11 +250,17 @@ impl MemoryHost {
 }
 
 impl Host for MemoryHost {
+    type Store = MemoryDisk;
+
     type Entry = ListDoor;
 
     ghost text = { text_of };
 
     ghost printed = { printed_of };
+
+    ghost stores_given = { λ h. h.stores_given };
+
+    ghost stores_back = { λ h. h.stores_back };
 
     ghost doors_given = { doors_of };
 
@@ -241,6 +307,32 @@ impl Host for MemoryHost {
         }
     }
 
+    /// Fails exactly where this call's number is one of those, or no store with this path is left.
+    fn open_store(&mut self, path: &str) -> Result<MemoryDisk, OpenFault>
+        ensures fails { says_failed result ≡ gives_none self.old path.now }
+        ensures asks { Requested self.old.requests self.new.requests (Request.OpenStore path.now ∷ []) }
+        ensures opens { IfOk result (λ store. store_at self.old.stores path.now ≡ Some store) }
+        ensures after { self.new ≡ record (after_store self.old path.now result) { requests = self.new.requests } }
+        ensures gives_stores { MatchResult result (λ store. self.new.stores_given ≡ self.old.stores_given ++ store ∷ []) (λ fault. self.new.stores_given ≡ self.old.stores_given) }
+        ensures cause { CountsOpening result self.old.faults self.new.faults }
+    {
+        self.keep_store_request(path);
+        if self.next_fails() {
+            return Err(OpenFault::from(self.fail()));
+        }
+        match self.take_store(path) {
+            Some(store) => Ok(store),
+            None => Err(OpenFault::from(self.fail())),
+        }
+    }
+
+    fn give_back(&mut self, store: MemoryDisk)
+        requires { length self.old.stores_back + 1 ≤ length self.old.stores_given }
+        ensures { self.new ≡ record self.old { stores_back = self.old.stores_back ++ store ∷ [] } }
+    {
+        self.stores_back.push_reserved(store);
+    }
+
     /// Fails exactly where this call's number is one of those, or fewer doors are left.
     fn doors(&mut self, listen: Option<&str>, n: u32) -> Result<Vec<ListDoor>, OpenFault>
         ensures fails { says_failed result ≡ opens_none self.old n }
@@ -249,7 +341,7 @@ impl Host for MemoryHost {
         ensures after { self.new ≡ record (after_doors self.old n result) { requests = self.new.requests } }
         ensures count { IfOk result (λ doors. length doors.items ≡ n) }
         ensures within { IfOk result (λ doors. All (IsWithin (λ door. door.returned) lines_given) doors.items) }
-        ensures gives { MatchResult result (λ doors. doors_of self.new ≡ doors_of self.old ++ doors.items) (λ fault. doors_of self.new ≡ doors_of self.old) }
+        ensures gives_doors { MatchResult result (λ doors. doors_of self.new ≡ doors_of self.old ++ doors.items) (λ fault. doors_of self.new ≡ doors_of self.old) }
         ensures cause { CountsOpening result self.old.faults self.new.faults }
     {
         self.keep_door_request(listen, n);

@@ -12,6 +12,8 @@ use std::marker::Model;
 pub enum Request {
     /// The text that a path names.
     ReadText(Text),
+    /// The store in the folder that a path names.
+    OpenStore(Text),
     /// So many doors: with an address over its listener, and otherwise over the standard streams.
     OpenDoors(Option<Text>, u32),
 }
@@ -56,6 +58,14 @@ impl Requests {
     {
         let path = Text::from_slice(self.alloc, path.as_bytes());
         self.add(path.map(Request::ReadText));
+    }
+
+    /// Records a request for the store at a path.
+    pub fn add_store(&mut self, path: &str)
+        ensures { Requested self.old self.new (Request.OpenStore path.now ∷ []) }
+    {
+        let path = Text::from_slice(self.alloc, path.as_bytes());
+        self.add(path.map(Request::OpenStore));
     }
 
     /// Records a request for doors.

@@ -2,9 +2,11 @@
 use Rattle.std.specs.Prelude.{ℕ, List, codes}
 use Rattle.searchd_top.specs.Statuses.{line_of}
 use Rattle.searchd_top.specs.declared.status.Status.{Status}
-use Rattle.searchd_top.specs.declared.status.Status.TheVariants.{Config}
+use Rattle.searchd_top.specs.declared.status.Status.TheVariants.{Config, Damaged, Strayed}
 
--- the line, or what stands before the place of a configuration's fault
+-- the line, or what stands before the place of a configuration's fault or before the name of an index
 abbrev pub beginning_of : Status → List ℕ
 beginning_of (Config number kind) = codes "searchd: config line "
+beginning_of (Damaged index file place kind) = codes "searchd: index "
+beginning_of (Strayed index strayed) = codes "searchd: index "
 beginning_of status = line_of status

@@ -1,0 +1,25 @@
+use Rattle.std.proofs.Common.{ℕ, List, subst}
+use Rattle.conf_text.specs.Confs.{IsConfOf, IsFaultOf}
+use Rattle.searchd_top.proofs.Lines.{fault_read}
+use Rattle.searchd_top.proofs.PathTexts.{paths_are_texts}
+use Rattle.searchd_top.proofs.configuring.configure.Goals as goal
+
+pub returns-in-Ok-read_conf-clause-configures : goal.returns-in-Ok-read_conf-clause-configures
+returns-in-Ok-read_conf-clause-configures g c =
+    let is : IsConfOf c.in-Ok.text.items c.in-Ok-read_conf.conf = subst (λ (bytes : List ℕ). IsConfOf bytes c.in-Ok-read_conf.conf) c.as_slice.ensures.value c.in-Ok-read_conf.ensures.reads in (
+      c.in-Ok.text.items,
+      c.in-Ok.ensures.reads,
+      is,
+      c.in-Ok-read_conf.ensures.sound,
+      paths_are_texts c.in-Ok.text.items c.in-Ok-read_conf.conf is,
+      c.in-Ok.ensures.cause,
+    )
+
+pub returns-clause-configures : goal.returns-clause-configures
+returns-clause-configures g c = (
+  c.in-Ok.text.items,
+  c.in-Ok.ensures.reads,
+  subst (λ (bytes : List ℕ). IsFaultOf bytes c.in-Err-Fault.field-0-0) c.as_slice.ensures.value
+      (fault_read c.as_slice.result.now c.in-Err-Fault.field-0 c.in-Err-Fault.field-0-0 c.in-Err-Fault.field-0-is c.in-Err-Fault.ensures.reads),
+  c.in-Ok.ensures.cause,
+)
