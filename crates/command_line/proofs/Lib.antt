@@ -1,3 +1,11 @@
 pub mod Lists
 pub mod Numbers
 pub mod Pairing
+pub mod Walking
+pub mod RowsRead
+pub mod Accepting
+pub mod Commanding
+pub mod Optional
+pub mod ConfigRead
+pub mod ServeRead
+pub mod SelftestRead

@@ -1,10 +1,13 @@
 -- Numbers written in digits.
-use Rattle.std.proofs.Common.{◌≡◌, ◌≤◌, ◌<◌, ◌&&◌, ◌==◌, ◌^◌, ℕ, Bool, cond, true, false, not, refl, sym, subst, true≢false, arith, List, [], ◌∷◌, length, Some, None, nat_le}
+use Rattle.std.proofs.Common.{◌≡◌, ◌∙◌, ◌≤◌, ◌<◌, ◌&&◌, ◌==◌, ◌^◌, ℕ, Bool, cond, true, false, not, refl, sym, ap, subst, true≢false, arith, List, [], ◌∷◌, length, Some, None, nat_le, le-leb}
 use Rattle.std.specs.Char.{is_ascii_digit}
 use Rattle.std.specs.List.{list_all}
-use Rattle.std.specs.Str.Parse.{AllDigits, IsNumeral, digits_value, without_leading_plus}
+use Rattle.std.specs.Str.Parse.{AllDigits, IsNumeral, digits_value, without_leading_plus, ParsesUnsigned}
 use Rattle.std.proofs.lemmas.Bool.{and_parts, leb-true, eqb-true}
 use Rattle.std.proofs.lemmas.Str.{digit_value_digit}
+use Rattle.std.specs.Prelude.{Option, Result, Ok, Err}
+use Rattle.clap.specs.Matches.{ReadsOne}
+use Rattle.clap.specs.Values.{IsUnsignedIn}
 use Rattle.command_line.specs.Modes.{is_number, number_in}
 
 digits_all : (bytes : List ℕ) → list_all is_ascii_digit bytes ≡ true → AllDigits 10 bytes
@@ -50,3 +53,41 @@ number_refused text low high is below refused = by (nat_le (digits_value 10 text
         let small : digits_value 10 text < 2 ^ 32 = omega (arith, leb-true (digits_value 10 text) high e, below) in
         absurd (refused (subst (λ (t : List ℕ). IsNumeral 10 t × (digits_value 10 t < 2 ^ 32)) (sym plain.1) (plain.0, small)))
     by false e = sym (rw (number, e) (none (nat_le low (digits_value 10 text))))
+
+-- ---- as `clap` takes them
+
+-- a number that is taken is in its range
+pub taken_number : (text : List ℕ) (low high : ℕ) → is_number text ≡ true → IsUnsignedIn low high text
+    → (number_in low high text ≡ Some (digits_value 10 text)) × (digits_value 10 text ≤ high)
+taken_number text low high number is =
+    let plain = is_numeral text number in
+    let above : low ≤ digits_value 10 text = subst (λ (t : List ℕ). low ≤ digits_value 10 t) plain.1 is.2 in
+    let below : digits_value 10 text ≤ high = subst (λ (t : List ℕ). digits_value 10 t ≤ high) plain.1 is.3 in
+    (rw (number, le-leb low (digits_value 10 text) above, le-leb (digits_value 10 text) high below) refl, below)
+
+-- a number in its range is taken
+pub number_taken : (text : List ℕ) (low high n : ℕ) → number_in low high text ≡ Some n → high < 2 ^ 64 → IsUnsignedIn low high text
+number_taken text low high n e small = by (is_number text) refl e
+  where
+    inside : (a b : Bool) → cond (a && b) (Some (digits_value 10 text)) None ≡ Some n → (a ≡ true) × (b ≡ true)
+    inside true true e = (refl, refl)
+    inside true false e = cc
+    inside false b e = cc
+
+    by : (b : Bool) → is_number text ≡ b → cond b (Rattle.command_line.specs.Modes.within low high (digits_value 10 text)) None ≡ Some n → IsUnsignedIn low high text
+    by false is e = cc
+    by true is e =
+        let plain = is_numeral text is in
+        let both = inside (nat_le low (digits_value 10 text)) (nat_le (digits_value 10 text) high) e in
+        let above : low ≤ digits_value 10 text = leb-true low (digits_value 10 text) both.0 in
+        let below : digits_value 10 text ≤ high = leb-true (digits_value 10 text) high both.1 in
+        subst (λ (t : List ℕ). IsNumeral 10 t × (digits_value 10 t < 2 ^ 64) × (low ≤ digits_value 10 t) × (digits_value 10 t ≤ high)) (sym plain.1)
+        (plain.0, omega arith, above, below)
+
+-- the number that is read of its text
+pub number_read : {E : Type 0} (G : List ℕ → Result ℕ E → Type 0) (text : List ℕ) (number : ℕ) (r : Option ℕ) → ReadsOne G text r
+    → ((t : List ℕ) (x : Result ℕ E) → G t x → ParsesUnsigned 32 10 t x)
+    → IsNumeral 10 (without_leading_plus text) → digits_value 10 (without_leading_plus text) ≡ number → number < 2 ^ 32 → r ≡ Some number
+number_read G text number (Some v) reads only numeral value small = ap Some ((only text (Ok v) reads).1 ∙ value)
+number_read G text number None reads only numeral value small =
+    absurd (only text (Err reads.0) reads.1 (numeral, rw value small))

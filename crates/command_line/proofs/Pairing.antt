@@ -1,20 +1,20 @@
 -- Words that are options, as pairs.
 use Rattle.std.proofs.Common.{◌≡◌, ◌∙◌, ◌&&◌, ◌||◌, ℕ, Bool, cond, true, false, not, refl, sym, ap, ap₂, subst, true≢false, List, [], ◌∷◌, Option, Some, None}
-use Rattle.std.specs.Prelude.{option_map, option_and_then, find}
-use Rattle.std.specs.Option.{option_map_or}
+use Rattle.std.specs.Prelude.{Result, Ok, Err, IfErr, codes, option_map, option_and_then, find}
+use Rattle.std.specs.Option.{is_some, option_map_or}
 use Rattle.std.specs.List.{list_any}
 use Rattle.std.specs.Str.{bytes_eq}
-use Rattle.command_line.specs.Modes.{Mode, Pair, Values, are_options, by_options, has_option, may_be_value, pairs, value_of}
-use Rattle.command_line.specs.steps.Words.{are_options_in, has_option_in, is_option_before, value_in}
+use Rattle.command_line.specs.Modes.{Mode, Pair, Values, are_options, by_options, has_option, may_be_value, pairs, session_options, value_of}
+use Rattle.command_line.specs.steps.Words.{are_options_in, config_in, has_option_in, is_option_before, value_in}
 
-some_is : {A : Type 0} (x y : A) → Some x ≡ Some y → x ≡ y
+pub some_is : {A : Type 0} (x y : A) → Some x ≡ Some y → x ≡ y
 some_is x y e = ap (λ o. cased o x) e
   where
     cased : {A : Type 0} → Option A → A → A
     cased None d = d
     cased (Some z) d = z
 
-no_some : {A : Type 0} (x : A) → None ≡ Some x → ⊥
+pub no_some : {A : Type 0} (x : A) → None ≡ Some x → ⊥
 no_some x e = true≢false (sym (ap (λ o. Rattle.std.specs.Option.is_some o) e))
 
 -- what holds of pairs by one more
@@ -75,13 +75,29 @@ by_words names words of = by (pairs words) refl ∙ ap (λ b. cond b (of (λ nam
     by None is = refl
     by (Some list) is = ap (λ (values : Values). cond (are_options names list) (of values) None) (λ i name. sym (value_is name words list is) i)
 
-pub options_read : (names words : List (List ℕ)) (of : Values → Option Mode) (mode : Option Mode) → true ≡ are_options_in names words
-    → mode ≡ of (λ name. value_in name words) → mode ≡ by_options names of words
-options_read names words of mode e h =
-    let is : are_options_in names words ≡ true = sym e in
-    h ∙ sym (by_words names words of ∙ ap (λ b. cond b (of (λ name. value_in name words)) None) is)
+-- options that have the form are the values, and others are nothing
+pub formed : (names words : List (List ℕ)) (of : Values → Option Mode) → are_options_in names words ≡ true → by_options names of words ≡ of (λ name. value_in name words)
+formed names words of e = by_words names words of ∙ ap (λ b. cond b (of (λ name. value_in name words)) None) e
 
-pub no_options : (names words : List (List ℕ)) (of : Values → Option Mode) → false ≡ are_options_in names words → None ≡ by_options names of words
-no_options names words of e =
-    let is : are_options_in names words ≡ false = sym e in
-    sym (by_words names words of ∙ ap (λ b. cond b (of (λ name. value_in name words)) None) is)
+pub unformed : (names words : List (List ℕ)) (of : Values → Option Mode) → are_options_in names words ≡ false → by_options names of words ≡ None
+unformed names words of e = by_words names words of ∙ ap (λ b. cond b (of (λ name. value_in name words)) None) e
+
+-- a mode with one option is its value
+pub config_mode : (make : List ℕ → Mode) (words : List (List ℕ)) → by_options session_options (λ value. option_map make (value (codes "--config"))) words ≡ option_map make (config_in words)
+config_mode make words = by_words session_options words (λ value. option_map make (value (codes "--config"))) ∙ by (are_options_in session_options words)
+  where
+    by : (b : Bool) → cond b (option_map make (value_in (codes "--config") words)) None ≡ option_map make (cond b (value_in (codes "--config") words) None)
+    by true = refl
+    by false = refl
+
+pub no_mode : {A : Type 0} (o : Option A) → is_some o ≡ false → None ≡ o
+no_mode None e = refl
+no_mode (Some x) e = absurd (true≢false e)
+
+pub is_made : {A B : Type 0} (f : A → B) (o : Option A) → is_some (option_map f o) ≡ is_some o
+is_made f None = refl
+is_made f (Some x) = refl
+
+pub if_err : {T E : Type 0} (r : Result T E) (P : Type 0) → P → IfErr r (λ _. P)
+if_err (Ok x) P p = tt
+if_err (Err e) P p = p

@@ -1,1 +1,4 @@
 pub mod Words
+pub mod Options
+pub mod Commands
+pub mod Found

@@ -4,7 +4,7 @@ ghost use Rattle.std.specs.List.{list_all, list_any};
 ghost use Rattle.std.specs.Char.{is_ascii_digit};
 ghost use Rattle.std.specs.Str.{bytes_eq};
 ghost use Rattle.command_line.specs.Modes.{is_number, may_be_value, number_in, within};
-ghost use Rattle.command_line.specs.steps.Words.{are_options_in, has_option_in, is_option_before, value_in};
+ghost use Rattle.command_line.specs.steps.Words.{are_options_in, has_option_in, is_numeral_in, is_option_before, value_in};
 
 /// Whether the words are options of these names, each once at most, with their values.
 pub(crate) fn are_options(names: &[&str], words: &[String]) -> bool
@@ -90,6 +90,16 @@ pub(crate) fn value_of<'a>(words: &'a [String], name: &str) -> Option<&'a str>
         rest = more;
     }
     None
+}
+
+/// Whether the value of the option of this name, where there is one, is digits alone.
+pub(crate) fn is_numeral(words: &[String], name: &str) -> bool
+    ensures { result ≡ is_numeral_in name.now (map string_bytes words.now) }
+{
+    match value_of(words, name) {
+        Some(text) => is_number(text.as_bytes()),
+        None => true,
+    }
 }
 
 /// Whether there are digits alone, and at least one.

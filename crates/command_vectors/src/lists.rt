@@ -32,7 +32,7 @@ fn mode_told(alloc: Global, mode: Mode) -> Result<String, Fail> {
 /// What the words of a line stand for.
 fn told(alloc: Global, line: &str) -> Result<String, Fail> {
     let words = words_of(alloc, line)?;
-    match read_mode(words.as_slice()) {
+    match read_mode(alloc, words.as_slice())? {
         Some(mode) => mode_told(alloc, mode),
         None => Ok(String::from_str(alloc, "Usage")?),
     }

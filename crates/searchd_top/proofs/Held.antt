@@ -13,13 +13,13 @@ use Rattle.index_conf.specs.declared.conf.IndexConf.{IndexConf}
 use Rattle.srch_base.specs.declared.faults.OpenFault.{OpenFault}
 use Rattle.srch_base.specs.declared.faults.OpenFault.TheVariants as opening
 use Rattle.srch_base.specs.Told.{then_bytes}
-use Rattle.store_keep.specs.Opens.{HasStoreCause, IsFoundIn, SaysDamage}
+use Rattle.store_keep.specs.Opens.{HasStoreCause, HidesNothing, IsFoundIn, LeavesBegun, SaysDamage}
 use Rattle.store_keep.specs.declared.fault.StoreFault.{StoreFault}
 use Rattle.store_keep.specs.declared.fault.StoreFault.TheVariants as faults
 use Rattle.store_keep.specs.declared.opening.Opened.{Opened}
-use Rattle.searchd_top.specs.Checks.{AreOpen, ChecksIndexes, HasFiles, Holdings, Leaves, SaysUngiven, SaysUnopened, Stops, check_lines}
-use Rattle.searchd_top.specs.Deeds.{Deeds, Does}
-use Rattle.searchd_top.specs.Lending.{CountsOpening, Lent, back_of, given_of}
+use Rattle.searchd_top.specs.Checks.{AreOpen, ChecksIndexes, HasFiles, Holdings, IsOpen, Leaves, SaysUngiven, SaysUnopened, Stops, check_lines}
+use Rattle.searchd_top.specs.Deeds.{Count, Deeds, Does}
+use Rattle.searchd_top.specs.Lending.{CountsOpening, Lends, Lent, back_of, given_of}
 use Rattle.searchd_top.specs.Output.{SaysLines}
 use Rattle.searchd_top.specs.Requests.{Requested, store_requests}
 use Rattle.searchd_top.specs.Statuses.{status_of}

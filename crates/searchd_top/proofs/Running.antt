@@ -12,11 +12,12 @@ use Rattle.searchd_top.specs.Configuring.{AreIndexes, Texts}
 use Rattle.searchd_top.specs.Deeds.{Deeds, Does}
 use Rattle.searchd_top.specs.Printing.{IsLinePrinted, IsReported, Reports}
 use Rattle.searchd_top.specs.Requests.{text_requests}
-use Rattle.searchd_top.specs.Runs.{Runs, SaysRefused, Works}
-use Rattle.searchd_top.specs.Selftests.{selftest_lines}
+use Rattle.searchd_top.specs.Runs.{IsRefused, Runs, SaysRefused, Works}
+use Rattle.searchd_top.specs.Selftests.{PrintsSelftest, selftest_lines}
 use Rattle.searchd_top.specs.declared.host.Host.{Ghosts as HostWords}
 use Rattle.searchd_top.specs.declared.host.Stream.{Stream}
 use Rattle.searchd_top.specs.declared.host.Stream.TheVariants.{Out, Err as Errors}
+use Rattle.searchd_top.specs.declared.requests.Request.{Request}
 use Rattle.searchd_top.specs.declared.requests.Request.TheVariants.{ReadText}
 use Rattle.searchd_top.specs.declared.status.Status.{Status}
 use Rattle.searchd_top.specs.declared.status.Status.TheVariants.{Done, Usage, Config, HostFault, Damaged, NoMemory, Strayed}
@@ -41,6 +42,14 @@ module _ {H S D K : Type 0} (host : HostWords H S D K) (store : DiskWords S) (do
     asking host [] old old,
     does_asking host [] old old (asks_nothing host old),
     inl (record { idle = idle_asking host [] old old (asks_nothing host old); says = (none, refl, refl) }),
+  )
+
+  -- there was no memory to read the words
+  pub runs_unread : (mode : Option Mode) (old : H) → Runs host store door link mode NoMemory old old
+  runs_unread mode old = (
+    asking host [] old old,
+    does_asking host [] old old (asks_nothing host old),
+    inl (record { idle = idle_asking host [] old old (asks_nothing host old); says = (0, refl) }),
   )
 
   -- the mode's file gave no configuration

@@ -37,11 +37,11 @@ abbrev pub CountsPrint : {T E : Type 0} → Result T E → Stream → (Stream �
 CountsPrint (Ok x) to before now = (now to ≡ before to) × (now (other to) ≡ before (other to))
 CountsPrint (Err e) to before now = (before to ≤ now to) × Rose (before to) (now to) × (now (other to) ≡ before (other to))
 
--- What was printed is the line, or a prefix of it and the count of failed prints rose.
+-- What was printed is the line, and no print failed; or a prefix of it, and the count of failed prints rose.
 abbrev pub IsLinePrinted : List ℕ → List ℕ → ℕ → ℕ → Type 0
-IsLinePrinted line front before now = (front ≡ line) ⊎ (StartsWith line front × Rose before now)
+IsLinePrinted line front before now = ((front ≡ line) × (now ≡ before)) ⊎ (StartsWith line front × Rose before now)
 
--- The line was printed to the errors, or a prefix of it and the count of failed prints to the errors rose. Nothing was printed to the output.
+-- The line was printed to the errors and no print to them failed, or a prefix of it and the count of failed prints to them rose. Nothing was printed to the output.
 abbrev pub Reports : List ℕ → (Stream → Option (List ℕ)) → (Stream → Option (List ℕ)) → ℕ → ℕ → Type 0
 Reports line old new before now = (front : List ℕ) × IsLinePrinted line front before now × Prints Errors front old new
 

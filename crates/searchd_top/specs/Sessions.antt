@@ -1,5 +1,5 @@
 -- What a session does over the indexes of its configuration: one connection of one door is served.
-use Rattle.std.specs.Prelude.{◌≡◌, ◌⊎◌, ℕ, ◌≤◌, List, [], ◌∷◌, ◌++◌, true, length, take, All, Contains}
+use Rattle.std.specs.Prelude.{◌≡◌, ◌⊎◌, ℕ, ◌≤◌, List, [], ◌∷◌, ◌++◌, Some, true, length, take, All, Contains}
 use Rattle.srch_base.specs.Counts.{Rose}
 use Rattle.srch_base.specs.Moves.{Moves}
 use Rattle.srch_base.specs.declared.link.Link.{Ghosts as LinkWords}

@@ -8,11 +8,12 @@ ghost use Rattle.searchd_top.specs.Runs.{Runs};
 ghost use Rattle.searchd_top.specs.steps.Sides.{KeepsLent};
 
 use crate::checking::run_check;
+use crate::modes::is_built;
 use crate::self_testing::run_selftest;
 use crate::serving::run_session;
 use crate::{Host, Status, Stream};
 use command_line::{Mode, read_mode};
-use srch_base::Failed;
+use srch_base::{Failed, NoMemory};
 use std::alloc::Global;
 
 /// Does what the words ask. `words` are those after the program's name.
@@ -50,7 +51,14 @@ fn run<H: Host>(alloc: Global, words: &[String], host: &mut H) -> Status
     ensures errors { H.printed host.new Stream.Err ≡ H.printed host.old Stream.Err }
     ensures quiet { H.print_faults host.new Stream.Err ≡ H.print_faults host.old Stream.Err }
 {
-    match read_mode(words) {
+    if !is_built(words) {
+        return Status::Usage;
+    }
+    let mode = match read_mode(alloc, words) {
+        Ok(mode) => mode,
+        Err(NoMemory) => return Status::NoMemory,
+    };
+    match mode {
         Some(Mode::Session { config }) => run_session(alloc, config, host),
         Some(Mode::Serve { .. }) => Status::Usage,
         Some(Mode::Check { config }) => run_check(alloc, config, host),

@@ -1,16 +1,25 @@
-use Rattle.std.proofs.Common.{◌≡◌, true, false, map, option_map, string_bytes}
-use Rattle.command_line.specs.Modes.{check_of, check_options}
-use Rattle.command_line.specs.Reading.{said}
-use Rattle.command_line.specs.steps.Words.{are_options_in}
-use Rattle.command_line.proofs.Pairing.{options_read, no_options}
+use Rattle.std.proofs.Common.{◌∙◌, sym, ap, map, string_bytes}
+use Rattle.std.specs.Prelude.{Option, option_map, ℕ, List}
+use Rattle.std.specs.Option.{is_some}
+use Rattle.std.specs.Borrow.{Bor}
+use Rattle.command_line.specs.Modes.{check}
+use Rattle.command_line.specs.steps.Words.{config_in}
+use Rattle.command_line.proofs.Pairing.{config_mode, if_err, is_made}
 use Rattle.command_line.proofs.reading.check.Goals as goal
 
-pub returns-then-are_options : goal.returns-then-are_options
-returns-then-are_options c =
-    let is : true ≡ are_options_in check_options (map string_bytes c.args.words.now) = c.if-are_options.ensures in
-    options_read check_options (map string_bytes c.args.words.now) check_of (option_map said c.check_of.result) is c.check_of.ensures
+pub returns-in_err-file-clause-scarce : goal.returns-in_err-file-clause-scarce
+returns-in_err-file-clause-scarce c =
+    let words = map string_bytes c.args.words.now in
+    if_err c.from_residual.result _ (ap (λ o. is_some o) (config_mode check words) ∙ is_made check (config_in words) ∙ c.in_err-file.ensures.scarce)
 
-pub returns-else-are_options : goal.returns-else-are_options
-returns-else-are_options c =
-    let is : false ≡ are_options_in check_options (map string_bytes c.args.words.now) = c.if-are_options.ensures in
-    no_options check_options (map string_bytes c.args.words.now) check_of is
+pub returns-in-Some-clause-reads : goal.returns-in-Some-clause-reads
+returns-in-Some-clause-reads c =
+    let words = map string_bytes c.args.words.now in
+    let text = λ (file : Option (Bor (List ℕ))). option_map (λ (text : Bor (List ℕ)). text.now) file in
+    ap (option_map check) (sym (ap text c.in-Some.is) ∙ c.in_ok-file.ensures.reads) ∙ sym (config_mode check words)
+
+pub returns-in-None-clause-reads : goal.returns-in-None-clause-reads
+returns-in-None-clause-reads c =
+    let words = map string_bytes c.args.words.now in
+    let text = λ (file : Option (Bor (List ℕ))). option_map (λ (text : Bor (List ℕ)). text.now) file in
+    ap (option_map check) (sym (ap text c.in-None.is) ∙ c.in_ok-file.ensures.reads) ∙ sym (config_mode check words)

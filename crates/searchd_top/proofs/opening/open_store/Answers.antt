@@ -1,5 +1,5 @@
-use Rattle.std.proofs.Common.{◌∷◌, ◌++◌, List, [], sym, ap, subst, ◌∙◌}
-use Rattle.std.specs.Prelude.{Some}
+use Rattle.std.proofs.Common.{◌≡◌, ◌∷◌, ◌++◌, List, [], refl, sym, ap, subst, ◌∙◌}
+use Rattle.std.specs.Prelude.{None, Some}
 use Rattle.store_keep.proofs.Begun.{same_leaves}
 use Rattle.store_keep.specs.declared.opening.Opened.{Opened}
 use Rattle.searchd_top.specs.Checks.{SaysUngiven}

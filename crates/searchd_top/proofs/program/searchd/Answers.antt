@@ -1,4 +1,4 @@
-use Rattle.std.proofs.Common.{map, string_bytes}
+use Rattle.std.proofs.Common.{map, string_bytes, ◌∙◌, ap, subst, sym}
 use Rattle.searchd_top.specs.CommandLine.{asked}
 use Rattle.searchd_top.specs.Statuses.{line_of}
 use Rattle.searchd_top.specs.declared.host.Stream.TheVariants.{Err as Errors}

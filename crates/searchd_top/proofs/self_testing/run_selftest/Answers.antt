@@ -1,4 +1,4 @@
-use Rattle.std.proofs.Common.{subst, ◌∙◌, ℕ, List}
+use Rattle.std.proofs.Common.{subst, sym, ◌∙◌, ℕ, List}
 use Rattle.searchd_top.proofs.Running.{runs_printed, runs_unprinted}
 use Rattle.searchd_top.specs.steps.Sides.{PrintsOut}
 use Rattle.searchd_top.proofs.self_testing.run_selftest.Goals as goal

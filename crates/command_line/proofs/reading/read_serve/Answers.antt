@@ -1,0 +1,18 @@
+use Rattle.std.proofs.Common.{map, string_bytes}
+use Rattle.clap.specs.Words.{app_of, found_of, rows_of}
+use Rattle.command_line.specs.Modes.{serve_of}
+use Rattle.command_line.specs.steps.Words.{value_in}
+use Rattle.command_line.proofs.ServeRead.{serve_refused, serve_taken}
+use Rattle.command_line.proofs.reading.read_serve.Goals as goal
+
+pub returns-in-Some : goal.returns-in-Some
+returns-in-Some c =
+    let words = map string_bytes c.args.words.now in
+    let both = rw c.in-Some.is at c.in_ok-found.ensures in
+    c.serve_of.ensures (serve_of (λ name. value_in name words))
+    (serve_taken (app_of c.in_ok-command.command) words (rows_of (found_of c.in-Some.matches)) c.in_ok-command.ensures c.requires both.0 both.1)
+
+pub returns-in-None : goal.returns-in-None
+returns-in-None c =
+    let refused = rw c.in-None.is at c.in_ok-found.ensures in
+    serve_refused (app_of c.in_ok-command.command) (map string_bytes c.args.words.now) c.in_ok-command.ensures c.requires refused
