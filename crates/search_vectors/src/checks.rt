@@ -61,7 +61,7 @@ fn failing_calls(alloc: Global, store: &str) -> Result<Vec<u64>, Fail> {
     let mut calls = Vec::new(alloc);
     for word in store.split(' ') {
         if let Some(call) = word.strip_prefix('!') {
-            calls.push(files as u64 + call.parse::<u64>()?)?;
+            calls.push(call.parse::<u64>()?.saturating_add(files as u64))?;
         }
     }
     Ok(calls)
