@@ -3,7 +3,6 @@ use Rattle.std.proofs.Common.{◌≡◌, ℕ, ◌≤◌, List, [], ◌∷◌, Op
 use Rattle.std.specs.Option.{option_or}
 use Rattle.srch_base.specs.declared.faults.Or.{Or}
 use Rattle.srch_base.specs.declared.faults.Or.TheVariants as causes
-use Rattle.chunk_store.specs.Images.{Image}
 use Rattle.chunk_store.specs.declared.disk.Disk.{Ghosts as DiskWords}
 use Rattle.commit_outcomes.specs.declared.strayed.Strayed.{Strayed}
 use Rattle.doc_types.specs.declared.schema.Schema.{Schema}
@@ -11,11 +10,10 @@ use Rattle.step_book.specs.Fronts.{FrontValue}
 use Rattle.step_history.specs.History.{Base}
 use Rattle.step_line.specs.Lines.{IsLine, LineValue, new_line}
 use Rattle.step_tokens.specs.Tokens.{TokenValue}
-use Rattle.store_steps.specs.Kept.{GivesEither}
 use Rattle.store_steps.specs.Refusals.{stray_of}
 use Rattle.store_keep.specs.Tellings.{AreTokensOf, TellsAll, first_stray}
 use Rattle.snap_share.specs.Answers.{HasContradicted}
-use Rattle.snap_share.specs.Closings.{Closes}
+use Rattle.snap_share.specs.Closings.{Closes, Keeps}
 
 -- tokens of an index and its workers are those of its line
 pub of_line : (index workers : ℕ) (line : LineValue) (tokens : List TokenValue) → index ≡ line.index → workers ≡ line.workers → AreTokensOf (new_line index workers) tokens → AreTokensOf line tokens
@@ -38,17 +36,19 @@ answered : (base : Base) (line : LineValue) (held : Option Strayed) (tokens : Li
 answered base line None tokens strayed holds first = first_does base line tokens strayed first
 answered base line (Some numbers) tokens strayed holds first = let same : numbers ≡ strayed = cc (first) in subst (HasContradicted base) same holds
 
-closes_at : {D : Type 0} (words : DiskWords D) (schema : Schema) (base : Base) (line : LineValue) (held : Option Strayed) (old new : List TokenValue) (disk : D) (result : Result FrontValue (Or Strayed)) → ((x : Image) → words.may_leave disk x → GivesEither schema base line.history line.waiting x)
-    → IfSome held (HasContradicted base) → IsLine schema base line → TellsAll base line held old result new → Closes words schema base line.index line.workers old disk result new
+-- what a keeper tells and leaves
+closes_at : {D : Type 0} (words : DiskWords D) (schema : ℕ → Schema) (base : ℕ → Base) (line : LineValue) (held : Option Strayed) (old new : List TokenValue) (disk : D) (result : Result FrontValue (Or Strayed)) → Keeps words (schema line.index) (base line.index) disk line
+    → IfSome held (HasContradicted (base line.index)) → IsLine (schema line.index) (base line.index) line → TellsAll (base line.index) line held old result new → Closes words schema base line.index line.workers old disk result new
 closes_at words schema base line held old new disk (Ok note) gives holds is tells = (line, record { index_is = refl; workers_are = refl; is = is; gives = gives }, tells.2, tells.3)
-closes_at words schema base line held old new disk (Err (causes.Fault strayed)) gives holds is tells = ((line, record { index_is = refl; workers_are = refl; is = is; gives = gives }), tells.1, answered base line held old strayed holds tells.0)
+closes_at words schema base line held old new disk (Err (causes.Fault strayed)) gives holds is tells =
+    ((line, record { index_is = refl; workers_are = refl; is = is; gives = gives }), tells.1, answered (base line.index) line held old strayed holds tells.0)
 closes_at words schema base line held old new disk (Err causes.NoMemory) gives holds is tells = absurd tells
 
--- what a keeper tells and leaves, at the number of the index
+-- and at the number of the index
 pub closes_so : {D : Type 0} (words : DiskWords D) (schema : ℕ → Schema) (base : ℕ → Base) (index workers : ℕ) (line : LineValue) (held : Option Strayed) (old new : List TokenValue) (disk : D) (result : Result FrontValue (Or Strayed)) → index ≡ line.index → workers ≡ line.workers
-    → ((x : Image) → words.may_leave disk x → GivesEither (schema line.index) (base line.index) line.history line.waiting x) → IfSome held (HasContradicted (base line.index)) → IsLine (schema line.index) (base line.index) line
-    → TellsAll (base line.index) line held old result new → Closes words (schema index) (base index) index workers old disk result new
+    → Keeps words (schema line.index) (base line.index) disk line → IfSome held (HasContradicted (base line.index)) → IsLine (schema line.index) (base line.index) line
+    → TellsAll (base line.index) line held old result new → Closes words schema base index workers old disk result new
 closes_so words schema base index workers line held old new disk result index_is workers_are gives holds is tells =
-    subst (λ (i : ℕ). Closes words (schema i) (base i) i workers old disk result new) (sym index_is)
-    (subst (λ (n : ℕ). Closes words (schema line.index) (base line.index) line.index n old disk result new) (sym workers_are)
-    (closes_at words (schema line.index) (base line.index) line held old new disk result gives holds is tells))
+    subst (λ (i : ℕ). Closes words schema base i workers old disk result new) (sym index_is)
+    (subst (λ (n : ℕ). Closes words schema base line.index n old disk result new) (sym workers_are)
+    (closes_at words schema base line held old new disk result gives holds is tells))

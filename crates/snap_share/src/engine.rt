@@ -115,7 +115,7 @@ impl<D: Disk, J: Naming> Engine<D, J> {
         tokens: &mut [Token<J>],
     ) -> (D, Result<Note<J>, Or<Strayed>>)
         requires { AreTokensOf (new_line self.index self.workers) tokens.old }
-        ensures { Closes D.Disk (J.schema self.index) (J.base self.index) self.index self.workers tokens.old result.0 result.1 tokens.new }
+        ensures { Closes D.Disk J.schema J.base self.index self.workers tokens.old result.0 result.1 tokens.new }
     {
         let Engine {
             index,

@@ -88,7 +88,7 @@ impl<D: Disk, J: Naming> Held<D, J> {
         tokens: &mut [Token<J>],
     ) -> (D, Result<Note<J>, Or<Strayed>>)
         requires { AreTokensOf (new_line index workers) tokens.old }
-        ensures { Closes D.Disk (J.schema index) (J.base index) index workers tokens.old result.0 result.1 tokens.new }
+        ensures { Closes D.Disk J.schema J.base index workers tokens.old result.0 result.1 tokens.new }
     {
         let Held {
             keeper,
