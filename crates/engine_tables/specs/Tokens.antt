@@ -1,0 +1,40 @@
+-- Tokens: a worker's tokens of all indexes.
+use Rattle.std.specs.Prelude.{◌≡◌, ◌<◌, ◌≤◌, ℕ, zero, suc, List, [], ◌∷◌, ◌++◌, length, Some, slice_get}
+use Rattle.std.specs.List.{flat_map}
+use Rattle.std.specs.Option.{option_to_list}
+use Rattle.step_tokens.specs.Tokens.{TokenValue}
+use Rattle.store_keep.specs.Names.{new_token}
+use Rattle.engine_tables.specs.Engines.{EnginesValue}
+
+-- Whose they are, and a token of each index, in their order.
+pub record TokensValue : Type 0 where
+  pub worker : ℕ
+  pub list : List TokenValue
+
+-- Each is of the index at its place, and the worker's.
+pub record AreInOrder (tokens : TokensValue) : Type 0 where
+  pub each : (place : ℕ) (token : TokenValue) → slice_get tokens.list place ≡ Some token → (token.index ≡ place) × (token.worker ≡ tokens.worker)
+
+-- They are of one of so many workers, one of each of so many indexes.
+pub record AreOf (indexes workers : ℕ) (tokens : TokensValue) : Type 0 where
+  pub many : length tokens.list ≡ indexes
+  pub above : 0 < tokens.worker
+  pub within : tokens.worker ≤ workers
+
+-- they are of one of the workers of these engines, one of each
+abbrev pub SitsAt : EnginesValue → TokensValue → Type 0
+SitsAt engines = AreOf (length engines.confs) engines.workers
+
+-- a worker's tokens of so many indexes, which have seen no step
+abbrev pub new_tokens : ℕ → ℕ → List TokenValue
+new_tokens worker zero = []
+new_tokens worker (suc indexes) = new_tokens worker indexes ++ new_token indexes worker ∷ []
+
+-- such tokens for each of so many workers, from worker 1 on
+abbrev pub new_seats : ℕ → ℕ → List TokensValue
+new_seats indexes zero = []
+new_seats indexes (suc workers) = new_seats indexes workers ++ record { worker = suc workers; list = new_tokens (suc workers) indexes } ∷ []
+
+-- the tokens of the index at a place, of one worker after the other
+abbrev pub tokens_at : ℕ → List TokensValue → List TokenValue
+tokens_at place seats = flat_map (λ seat. option_to_list (slice_get seat.list place)) seats

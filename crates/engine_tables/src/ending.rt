@@ -1,0 +1,144 @@
+//! How engines end: each with the tokens of all workers, which are collected where there was room for them before the workers
+//! began.
+ghost use Rattle.std.specs.Prelude.{◌≡◌, ◌≤◌, ◌<◌, ◌+◌, ◌++◌, ◌∷◌, [], All, IfOk, length, map, vec_capacity};
+ghost use Rattle.std.specs.List.{flat_map};
+ghost use Rattle.std.specs.Option.{option_to_list};
+ghost use Rattle.step_line.specs.Lines.{new_line};
+ghost use Rattle.store_keep.specs.Tellings.{AreTokensOf};
+ghost use Rattle.engine_tables.specs.Endings.{CanEnd, HaveEnded};
+ghost use Rattle.engine_tables.specs.Engines.{ArePlaced};
+ghost use Rattle.engine_tables.specs.steps.Lasts.{last_token, shortened};
+ghost use Rattle.engine_tables.specs.Tokens.{AreOf};
+
+use crate::table::Table;
+use crate::{Ended, Engines, Tokens};
+use chunk_store::Disk;
+use snap_share::Token;
+use srch_base::NoMemory;
+use std::alloc::Global;
+use std::marker::Model;
+use std::sync::Wait;
+use step_book::Naming;
+
+/// Where the tokens of workers that have ended are collected, with room for all and for what their engines leave.
+pub struct Ending<D: Disk, J: Naming> {
+    pub(crate) indexes: usize,
+    pub(crate) workers: usize,
+    pub(crate) seats: Vec<Tokens<J>>,
+    /// One index's tokens of all workers.
+    pub(crate) column: Vec<Token<J>>,
+    pub(crate) ended: Vec<Ended<D, J>>,
+}
+
+impl<D: Disk, J: Naming> Model for Ending<D, J> {
+    ghost use Rattle.std.specs.Prelude.{◌≡◌, ◌≤◌, [], length, vec_capacity};
+    ghost use Rattle.engine_tables.specs.Endings.{EndingValue};
+    ghost use Rattle.engine_tables.specs.steps.Rooms.{HasRoom};
+
+    ghost Value = { EndingValue };
+
+    ghost view = { λ e. record { indexes = e.indexes; workers = e.workers; seats = e.seats.items } };
+
+    ghost invariant = { λ e. HasRoom e.indexes e.workers (vec_capacity e.seats) (vec_capacity e.column) (vec_capacity e.ended) × (length e.seats.items ≤ e.workers) × (e.column.items ≡ []) × (e.ended.items ≡ []) };
+}
+
+impl<D: Disk, J: Naming> Ending<D, J> {
+    /// Room for so many indexes and workers.
+    pub fn new(alloc: Global, indexes: usize, workers: u32) -> Result<Ending<D, J>, NoMemory>
+        ensures { IfOk result (λ ending. ending ≡ record { indexes = indexes; workers = workers; seats = [] }) }
+    {
+        let workers = workers as usize;
+        let seats = Vec::with_capacity(alloc, workers)?;
+        let column = Vec::with_capacity(alloc, workers)?;
+        let ended = Vec::with_capacity(alloc, indexes)?;
+        Ok(Ending {
+            indexes,
+            workers,
+            seats,
+            column,
+            ended,
+        })
+    }
+
+    /// Puts the tokens of a worker that has ended behind those that are there.
+    pub fn put(&mut self, tokens: Tokens<J>)
+        requires { length self.old.seats < self.old.workers }
+        ensures { self.new ≡ record self.old { seats = self.old.seats ++ tokens ∷ [] } }
+    {
+        self.seats.push_reserved(tokens);
+    }
+}
+
+/// Moves each worker's last token behind those that are there.
+fn take_column<J: Naming>(
+    place: usize,
+    workers: u32,
+    seats: &mut [Tokens<J>],
+    column: &mut Vec<Token<J>>,
+)
+    requires of { All (AreOf (place + 1) workers) seats.old }
+    requires tokens { AreTokensOf (new_line place workers) column.old.items }
+    requires room { length column.old.items + length seats.old ≤ vec_capacity column.old }
+    ensures column { column.new.items ≡ column.old.items ++ flat_map last_token seats.old }
+    ensures seats { seats.new ≡ map shortened seats.old }
+    ensures tokens { AreTokensOf (new_line place workers) column.new.items }
+    ensures room { vec_capacity column.new ≡ vec_capacity column.old }
+{
+    if let Some((tokens, others)) = seats.split_first_mut() {
+        let token = tokens.take_last();
+        column.push_reserved(token);
+        take_column(place, workers, others, column);
+    }
+}
+
+/// Ends all engines, the last one first, each with the last tokens that are left.
+pub(crate) fn end_all<D: Disk, J: Naming, R: Wait>(
+    rt: &R,
+    mut tables: Vec<Table<D, J>>,
+    workers: u32,
+    mut seats: Vec<Tokens<J>>,
+    mut column: Vec<Token<J>>,
+    ended: Vec<Ended<D, J>>,
+) -> Vec<Ended<D, J>>
+    requires placed { ArePlaced workers (map (λ table. table.engine) tables.items) }
+    requires seats { All (AreOf (length tables.items) workers) seats.items }
+    requires column { (column.items ≡ []) × (length seats.items ≤ vec_capacity column) }
+    requires room { (ended.items ≡ []) × (length tables.items ≤ vec_capacity ended) }
+    ensures ended { HaveEnded D.Disk J.schema J.base (length tables.items) workers seats.items result.items }
+    ensures room { vec_capacity result ≡ vec_capacity ended }
+{
+    match tables.pop() {
+        None => {
+            tables.destroy_empty();
+            ended
+        }
+        Some(table) => {
+            take_column(tables.len(), workers, seats.as_mut_slice(), &mut column);
+            let engine = table.into_engine();
+            let (disk, answer) = engine.close(rt, column.as_mut_slice());
+            column.clear();
+            let mut ended = end_all(rt, tables, workers, seats, column, ended);
+            ended.push_reserved(Ended { disk, answer });
+            ended
+        }
+    }
+}
+
+impl<D: Disk, J: Naming> Engines<D, J> {
+    /// Ends all engines with the tokens of their workers, which have ended: of each there is its disk, and a note of the whole history
+    /// or why there is none, in the order of the configuration. It waits for those who still read.
+    pub fn close<R: Wait>(self, rt: &R, ending: Ending<D, J>) -> Vec<Ended<D, J>>
+        requires { CanEnd self ending }
+        ensures { HaveEnded D.Disk J.schema J.base (length self.confs) self.workers ending.seats result.items }
+    {
+        let Engines { tables, workers } = self;
+        let Ending {
+            indexes: _indexes,
+            workers: _workers,
+            seats,
+            column,
+            ended,
+        } = ending;
+        end_all(rt, tables, workers, seats, column, ended)
+    }
+}
