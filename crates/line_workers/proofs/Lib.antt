@@ -1,0 +1,14 @@
+mod Places
+mod Moving
+mod Counting
+mod Entries
+mod Whole
+mod Turns
+mod Worked
+mod Seated
+mod Standing
+mod Plainly
+mod Repeated
+mod Collected
+mod Crossing
+mod Rows

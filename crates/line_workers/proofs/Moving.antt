@@ -1,0 +1,246 @@
+-- What the events of a worker's lines do to its token of one index.
+use Rattle.std.proofs.Common.{◌≡◌, ◌⊎◌, inl, inr, ℕ, ◌+◌, ◌==◌, ◌&&◌, Bool, true, false, List, [], ◌∷◌, ◌++◌, length, length-set, set, Some, slice_get, refl, sym, ap, subst, ◌∙◌}
+use Rattle.std.proofs.lemmas.Bool.{and_left, and_right, cases_eq, ne_eqb}
+use mathlib.Core.List.{IsPrefix}
+use Rattle.srch_base.specs.declared.link.Link.{Ghosts as LinkWords}
+use Rattle.commit_outcomes.specs.declared.outcome.CommitOutcome.{CommitOutcome}
+use Rattle.commit_outcomes.specs.declared.outcome.CommitOutcome.TheVariants as outcomes
+use Rattle.commit_outcomes.specs.declared.outcome.Doubt.{Doubt}
+use Rattle.doc_types.specs.declared.schema.Schema.{Schema}
+use Rattle.doc_types.specs.declared.transactions.TxnOp.{TxnOp}
+use Rattle.doc_types.specs.Commits.{Entry}
+use Rattle.doc_types.specs.Snapshots.{SnapshotValue}
+use Rattle.index_conf.specs.declared.conf.IndexConf.{IndexConf}
+use Rattle.step_book.specs.Fronts.{FrontValue}
+use Rattle.step_book.proofs.Prefixes.{prefix_self, prefix_trans}
+use Rattle.step_history.specs.History.{Base, Step, made_by}
+use Rattle.step_history.specs.History as history
+use Rattle.step_tokens.specs.Tokens.{TokenValue}
+use Rattle.store_steps.specs.Answers.{Becomes}
+use Rattle.snap_share.specs.Answers.{Advances, seen_by}
+use Rattle.ql_session.specs.Events.{Event, Configured, Nothing, NoMemory, Read, Commit, Follows, StoreWords}
+use Rattle.ql_session.specs.Machines.{FollowAll}
+use Rattle.engine_tables.specs.Outcomes.{Tells}
+use Rattle.engine_tables.specs.Tokens.{TokensValue}
+use Rattle.engine_tables.specs.Workers.{CommitsBy, Grows, WorkerValue, by_tokens}
+use Rattle.line_workers.specs.Attempts.{OnFront, events_of, has_note, is_attempt, is_noted, may_stand}
+use Rattle.line_workers.specs.Lines.{Service, ServesLines}
+use Rattle.line_workers.proofs.Places.{get_set_other, get_set_same, some_is, zip_at, zip_long}
+
+-- The token has seen what it had seen, or more, and counts so many commits.
+pub record Goes (old new : TokenValue) (made : ℕ) : Type 0 where
+  pub is : new ≡ record old { seen = new.seen; made = made }
+  pub seen : IsPrefix old.seen new.seen
+
+-- As many entries of what the token has seen are its worker's as the token counts.
+abbrev pub HasAll : TokenValue → Type 0
+HasAll token = made_by token.worker token.seen ≡ token.made
+
+-- A commit of these operations ends what the token has seen. As many entries of that are its worker's as the token counts.
+pub record IsCommit (base : Base) (old : TokenValue) (ops : List TxnOp) (removed : ℕ) (new : TokenValue) : Type 0 where
+  pub earlier : List Step
+  pub entry : Entry
+  pub snapshot : SnapshotValue
+  pub last : new.seen ≡ earlier ++ history.Commit entry snapshot ∷ []
+  pub before : IsPrefix old.seen earlier
+  pub becomes : Becomes base earlier old.worker ops entry snapshot removed
+  pub counts : HasAll new
+
+-- What one event does to a token of the index at this place: it may have seen more, made a commit, or left one in doubt.
+pub data Moved (base : Base) (index : ℕ) (old : TokenValue) (event : Event FrontValue) (new : TokenValue) : Type 0 where
+  Looked : Goes old new old.made → is_attempt index event ≡ false → (is_noted index event ≡ true → HasAll new) → OnFront index (λ front. front ≡ seen_by new) event → Moved base index old event new
+  Made : (ops : List TxnOp) (removed : ℕ) → event ≡ Commit index ops (outcomes.Committed removed) (seen_by new) → Goes old new (old.made + 1) → IsCommit base old ops removed new → Moved base index old event new
+  Doubted : (ops : List TxnOp) (doubt : Doubt) → event ≡ Commit index ops (outcomes.InDoubt doubt) (seen_by new) → Goes old new (old.made + 1) → made_by new.worker new.seen + 1 ≡ new.made → Moved base index old event new
+
+-- it went on, and then once more
+pub go_then : (a b c : TokenValue) (made : ℕ) → Goes a b a.made → Goes b c made → Goes a c made
+go_then a b c made first next = record {
+  is = next.is ∙ ap (λ (t : TokenValue). record t { seen = c.seen; made = made }) first.is;
+  seen = prefix_trans a.seen b.seen c.seen first.seen next.seen;
+}
+
+pub stays : (token : TokenValue) → Goes token token token.made
+stays token = record { is = refl; seen = prefix_self token.seen }
+
+grown : (old new : TokenValue) → Grows old new → Goes old new old.made
+grown old new grows = record { is = grows.is; seen = grows.seen }
+
+advanced : (schema : Schema) (base : Base) (old new : TokenValue) (made : ℕ) → Advances schema base old new made → Goes old new made
+advanced schema base old new made advances = record { is = advances.is; seen = advances.seen }
+
+pub same_worker : (a b : TokenValue) (made : ℕ) → Goes a b made → b.worker ≡ a.worker
+same_worker a b made goes = ap (λ (t : TokenValue). t.worker) goes.is
+
+pub has_made : (a b : TokenValue) (made : ℕ) → Goes a b made → b.made ≡ made
+has_made a b made goes = ap (λ (t : TokenValue). t.made) goes.is
+
+one_made : (a b c : TokenValue) → Goes a b a.made → Goes b c (b.made + 1) → Goes a c (a.made + 1)
+one_made a b c first next = go_then a b c (a.made + 1) first (subst (λ (n : ℕ). Goes b c (n + 1)) (has_made a b a.made first) next)
+
+none_made : (a b c : TokenValue) → Goes a b a.made → Goes b c b.made → Goes a c a.made
+none_made a b c first next = go_then a b c a.made first (subst (λ (n : ℕ). Goes b c n) (has_made a b a.made first) next)
+
+-- a commit by a token that had seen more before
+commit_after : (base : Base) (a b c : TokenValue) (ops : List TxnOp) (removed : ℕ) → Goes a b a.made → IsCommit base b ops removed c → IsCommit base a ops removed c
+commit_after base a b c ops removed first made = record {
+  earlier = made.earlier;
+  entry = made.entry;
+  snapshot = made.snapshot;
+  last = made.last;
+  before = prefix_trans a.seen b.seen made.earlier first.seen made.before;
+  becomes = subst (λ (w : ℕ). Becomes base made.earlier w ops made.entry made.snapshot removed) (same_worker a b a.made first) made.becomes;
+  counts = made.counts;
+}
+
+-- both are true
+second_true : (a b : Bool) → (a && b) ≡ true → b ≡ true
+second_true true b both = both
+second_true false b both = absurd (cc both)
+
+looked : (base : Base) (index : ℕ) (old mid new : TokenValue) (ops : List TxnOp) (outcome : CommitOutcome) → may_stand outcome ≡ false → (has_note outcome ≡ true → HasAll new) → Goes old mid old.made → Goes mid new mid.made
+    → Moved base index old (Commit index ops outcome (seen_by new)) new
+looked base index old mid new ops outcome none tells first next =
+    Looked (none_made old mid new first next) (and_right (index == index) (may_stand outcome) none) (λ noted. tells (second_true (index == index) (has_note outcome) noted)) (λ here. refl)
+
+-- a commit to the index by its token, which had seen more before
+told_here : (schema : Schema) (base : Base) (index : ℕ) (old mid new : TokenValue) (ops : List TxnOp) (outcome : CommitOutcome) → Goes old mid old.made → Tells schema base mid ops outcome new
+    → Moved base index old (Commit index ops outcome (seen_by new)) new
+told_here schema base index old mid new ops (outcomes.Committed removed) first tells =
+    Made ops removed refl (one_made old mid new first (advanced schema base mid new (mid.made + 1) tells.0)) (commit_after base old mid new ops removed first (record {
+      earlier = tells.2.1.earlier;
+      entry = tells.2.1.entry;
+      snapshot = tells.2.1.snapshot;
+      last = tells.2.1.last;
+      before = tells.2.1.before;
+      becomes = tells.2.1.becomes;
+      counts = tells.1.counts;
+    }))
+told_here schema base index old mid new ops (outcomes.InDoubt doubt) first tells = Doubted ops doubt refl (one_made old mid new first (advanced schema base mid new (mid.made + 1) tells.0)) tells.1.counts
+told_here schema base index old mid new ops (outcomes.Duplicate id) first tells = looked base index old mid new ops (outcomes.Duplicate id) refl (λ noted. tells.1.counts) first (advanced schema base mid new mid.made tells.0)
+told_here schema base index old mid new ops (outcomes.Full full) first tells = looked base index old mid new ops (outcomes.Full full) refl (λ noted. tells.1.counts) first (advanced schema base mid new mid.made tells.0)
+told_here schema base index old mid new ops outcomes.Refused first tells = looked base index old mid new ops outcomes.Refused refl (λ noted. absurd (cc noted)) first (advanced schema base mid new mid.made tells)
+told_here schema base index old mid new ops (outcomes.Strayed numbers) first tells =
+    looked base index old mid new ops (outcomes.Strayed numbers) refl (λ noted. absurd (cc noted)) first (subst (λ (t : TokenValue). Goes mid t mid.made) (sym tells.0) (stays mid))
+
+-- the token of the index once an event has passed
+pub record IsMoved (base : Base) (index : ℕ) (old : TokenValue) (event : Event FrontValue) (after : List TokenValue) : Type 0 where
+  pub new : TokenValue
+  pub at : slice_get after index ≡ Some new
+  pub moved : Moved base index old event new
+
+commit_here : (schema : Schema) (base : Base) (index : ℕ) (old mid before after : TokenValue) (mids : List TokenValue) (ops : List TxnOp) (outcome : CommitOutcome) → Goes old mid old.made
+    → slice_get mids index ≡ Some mid → slice_get mids index ≡ Some before → Tells schema base before ops outcome after → IsMoved base index old (Commit index ops outcome (seen_by after)) (set mids index after)
+commit_here schema base index old mid before after mids ops outcome first at same tells = record {
+  new = after;
+  at = get_set_same mids index mid after at;
+  moved = told_here schema base index old mid after ops outcome first (subst (λ (t : TokenValue). Tells schema base t ops outcome after) (some_is before mid (sym same ∙ at)) tells);
+}
+
+commit_elsewhere : (base : Base) (index place : ℕ) (old mid after : TokenValue) (mids : List TokenValue) (ops : List TxnOp) (outcome : CommitOutcome) (front : FrontValue) → Goes old mid old.made
+    → slice_get mids index ≡ Some mid → (place ≡ index → ⊥) → IsMoved base index old (Commit place ops outcome front) (set mids place after)
+commit_elsewhere base index place old mid after mids ops outcome front first at apart = record {
+  new = mid;
+  at = get_set_other mids place index after apart ∙ at;
+  moved = Looked first (and_left (place == index) (may_stand outcome) (ne_eqb place index apart)) (λ noted. absurd (let none = and_left (place == index) (has_note outcome) (ne_eqb place index apart) in cc (none, noted))) (λ here. absurd (apart here));
+}
+
+module _ (schema : ℕ → Schema) (base : ℕ → Base) (index : ℕ) where
+  abbrev pub Leads : WorkerValue → Event FrontValue → WorkerValue → Type 0
+  Leads = Follows (λ tables. tables.confs) (by_tokens schema base)
+
+  stayed : (old new : WorkerValue) (token : TokenValue) (event : Event FrontValue) → is_attempt index event ≡ false → is_noted index event ≡ false → OnFront index (λ front. front ≡ seen_by token) event → slice_get old.tokens.list index ≡ Some token → new ≡ old
+      → IsMoved (base index) index token event new.tokens.list
+  stayed old new token event none silent shows at same = record { new = token; at = ap (λ (w : WorkerValue). slice_get w.tokens.list index) same ∙ at; moved = Looked (stays token) none (λ noted. absurd (cc (silent, noted))) shows }
+
+  commit_moves : (mid new : WorkerValue) (token taught : TokenValue) (place : ℕ) (ops : List TxnOp) (outcome : CommitOutcome) (front : FrontValue) → Goes token taught token.made
+      → slice_get mid.tokens.list index ≡ Some taught → CommitsBy schema base mid.tokens place ops outcome front new.tokens → (place ≡ index) ⊎ (place ≡ index → ⊥)
+      → IsMoved (base index) index token (Commit place ops outcome front) new.tokens.list
+  commit_moves mid new token taught place ops outcome front first at made (inl here) =
+      subst (λ (after : List TokenValue). IsMoved (base index) index token (Commit place ops outcome front) after) (sym (ap (λ (t : TokensValue). t.list) made.left))
+      (subst (λ (f : FrontValue). IsMoved (base index) index token (Commit place ops outcome f) (set mid.tokens.list place made.after)) (sym made.is)
+      (subst (λ (p : ℕ). IsMoved (base index) index token (Commit p ops outcome (seen_by made.after)) (set mid.tokens.list p made.after)) (sym here)
+      (commit_here (schema index) (base index) index token taught made.before made.after mid.tokens.list ops outcome first at
+      (subst (λ (p : ℕ). slice_get mid.tokens.list p ≡ Some made.before) here made.at)
+      (subst (λ (p : ℕ). Tells (schema p) (base p) made.before ops outcome made.after) here made.tells))))
+  commit_moves mid new token taught place ops outcome front first at made (inr apart) =
+      subst (λ (after : List TokenValue). IsMoved (base index) index token (Commit place ops outcome front) after) (sym (ap (λ (t : TokensValue). t.list) made.left))
+      (commit_elsewhere (base index) index place token taught made.after mid.tokens.list ops outcome front first at apart)
+
+  -- what an event does to the token of the index
+  event_moves : (old new : WorkerValue) (event : Event FrontValue) (token : TokenValue) → slice_get old.tokens.list index ≡ Some token → Leads old event new → IsMoved (base index) index token event new.tokens.list
+  event_moves old new (Configured confs) token at follows = stayed old new token (Configured confs) refl refl tt at follows.1
+  event_moves old new Nothing token at follows = stayed old new token Nothing refl refl tt at follows
+  event_moves old new NoMemory token at follows =
+      let found = zip_at Grows old.tokens.list new.tokens.list index token follows.1.1 at in
+      record { new = found.0; at = found.1; moved = Looked (grown token found.0 found.2) refl (λ noted. absurd (cc noted)) tt }
+  event_moves old new (Read place front) token at follows =
+      let found = zip_at Grows old.tokens.list new.tokens.list index token follows.0.1.1 at in
+      let has = follows.1 in
+      record {
+        new = found.0;
+        at = found.1;
+        moved = Looked (grown token found.0 found.2) refl (λ noted. absurd (cc noted)) (λ (here : place ≡ index).
+            has.is ∙ ap seen_by (some_is has.token found.0 (sym has.at ∙ ap (λ (p : ℕ). slice_get new.tokens.list p) here ∙ found.1)));
+      }
+  event_moves old new (Commit place ops outcome front) token at follows =
+      let found = zip_at Grows old.tokens.list follows.0.tokens.list index token follows.1.1.1 at in
+      commit_moves follows.0 new token found.0 place ops outcome front (grown token found.0 found.2) found.1 follows.2.1 (cases_eq place index)
+
+  -- events keep whose the tokens are, and of how many indexes
+  one_shape : (old new : WorkerValue) (event : Event FrontValue) → Leads old event new → (new.tokens.worker ≡ old.tokens.worker) × (length new.tokens.list ≡ length old.tokens.list)
+  one_shape old new (Configured confs) follows = (ap (λ (w : WorkerValue). w.tokens.worker) follows.1, ap (λ (w : WorkerValue). length w.tokens.list) follows.1)
+  one_shape old new Nothing follows = (ap (λ (w : WorkerValue). w.tokens.worker) follows, ap (λ (w : WorkerValue). length w.tokens.list) follows)
+  one_shape old new NoMemory follows = (follows.1.0, sym (zip_long Grows old.tokens.list new.tokens.list follows.1.1))
+  one_shape old new (Read place front) follows = (follows.0.1.0, sym (zip_long Grows old.tokens.list new.tokens.list follows.0.1.1))
+  one_shape old new (Commit place ops outcome front) follows =
+      let mid = follows.0 in
+      let made = follows.2.1 in (
+        ap (λ (t : TokensValue). t.worker) made.left ∙ follows.1.1.0,
+        ap (λ (t : TokensValue). length t.list) made.left ∙ length-set mid.tokens.list place made.after ∙ sym (zip_long Grows old.tokens.list mid.tokens.list follows.1.1.1),
+      )
+
+  one_confs : (old new : WorkerValue) (event : Event FrontValue) → Leads old event new → new.confs ≡ old.confs
+  one_confs old new (Configured confs) follows = ap (λ (w : WorkerValue). w.confs) follows.1
+  one_confs old new Nothing follows = ap (λ (w : WorkerValue). w.confs) follows
+  one_confs old new NoMemory follows = follows.0
+  one_confs old new (Read place front) follows = follows.0.0
+  one_confs old new (Commit place ops outcome front) follows = follows.2.0 ∙ follows.1.0
+
+  pub same_confs : (old new : WorkerValue) (events : List (Event FrontValue)) → FollowAll Leads old events new → new.confs ≡ old.confs
+  same_confs old new [] follows = ap (λ (w : WorkerValue). w.confs) follows
+  same_confs old new (event ∷ events) follows = same_confs follows.0 new events follows.2 ∙ one_confs old follows.0 event follows.1
+
+  pub same_shape : (old new : WorkerValue) (events : List (Event FrontValue)) → FollowAll Leads old events new → (new.tokens.worker ≡ old.tokens.worker) × (length new.tokens.list ≡ length old.tokens.list)
+  same_shape old new [] follows = (ap (λ (w : WorkerValue). w.tokens.worker) follows, ap (λ (w : WorkerValue). length w.tokens.list) follows)
+  same_shape old new (event ∷ events) follows =
+      let first = one_shape old follows.0 event follows.1 in
+      let rest = same_shape follows.0 new events follows.2 in
+      (rest.0 ∙ first.0, rest.1 ∙ first.1)
+
+  -- and what events one after another do
+  pub record AreMoved (old : TokenValue) (events : List (Event FrontValue)) (after : List TokenValue) : Type 0 where
+    pub new : TokenValue
+    pub at : slice_get after index ≡ Some new
+    pub moves : FollowAll (Moved (base index) index) old events new
+
+  pub events_move : (old new : WorkerValue) (events : List (Event FrontValue)) (token : TokenValue) → slice_get old.tokens.list index ≡ Some token → FollowAll Leads old events new → AreMoved token events new.tokens.list
+  events_move old new [] token at follows = record { new = token; at = ap (λ (w : WorkerValue). slice_get w.tokens.list index) follows ∙ at; moves = refl }
+  events_move old new (event ∷ events) token at follows =
+      let first = event_moves old follows.0 event token at follows.1 in
+      let rest = events_move follows.0 new events first.new first.at follows.2 in
+      record { new = rest.new; at = rest.at; moves = (first.new, first.moved, rest.moves) }
+
+pub follow_then : {D E : Type 0} (follows : D → E → D → Type 0) (xs ys : List E) (a b c : D) → FollowAll follows a xs b → FollowAll follows b ys c → FollowAll follows a (xs ++ ys) c
+follow_then {D} follows [] ys a b c first next = subst (λ (d : D). FollowAll follows d ys c) first next
+follow_then follows (x ∷ xs) ys a b c first next = (first.0, first.1, follow_then follows xs ys first.0 b c first.2 next)
+
+pub follow_cut : {D E : Type 0} (follows : D → E → D → Type 0) (xs ys : List E) (a c : D) → FollowAll follows a (xs ++ ys) c → (b : D) × FollowAll follows a xs b × FollowAll follows b ys c
+follow_cut follows [] ys a c all = (a, refl, all)
+follow_cut follows (x ∷ xs) ys a c all = let rest = follow_cut follows xs ys all.0 c all.2 in (rest.0, (all.0, all.1, rest.1), rest.2)
+
+-- the events of a worker's lines lead from one store to the other
+pub lines_follow : {K D F : Type 0} (link : LinkWords K) (confs : D → List IndexConf) (words : StoreWords D F) (workers worker line : ℕ) (services : List (Service K F)) (old new : D) → ServesLines link confs words workers worker line services old new
+    → FollowAll (Follows confs words) old (events_of services) new
+lines_follow link confs words workers worker line [] old new serves = serves
+lines_follow link confs words workers worker line (service ∷ services) old new serves =
+    follow_then (Follows confs words) service.events (events_of services) old serves.0 new serves.1.1 (lines_follow link confs words workers worker (line + 1) services serves.0 new serves.2)

@@ -1,0 +1,57 @@
+-- Attempts: what a line's events show of an index, and which of them may have changed it.
+use Rattle.std.specs.Prelude.{◌≡◌, ⊤, ℕ, ◌==◌, ◌&&◌, List, Bool, true, false}
+use Rattle.std.specs.List.{filter, flat_map}
+use Rattle.commit_outcomes.specs.declared.outcome.CommitOutcome.{CommitOutcome}
+use Rattle.commit_outcomes.specs.declared.outcome.CommitOutcome.TheVariants as outcomes
+use Rattle.ql_session.specs.Events.{Event, Configured, Nothing, NoMemory, Read, Commit}
+use Rattle.line_workers.specs.Lines.{Service}
+
+-- the events of a worker's lines, one line after another
+abbrev pub events_of : {K F : Type 0} → List (Service K F) → List (Event F)
+events_of services = flat_map (λ service. service.events) services
+
+-- The front of the event has P, where it is one of the index at this place.
+abbrev pub OnFront : {F : Type 0} → ℕ → (F → Type 0) → Event F → Type 0
+OnFront index P (Configured confs) = ⊤
+OnFront index P Nothing = ⊤
+OnFront index P NoMemory = ⊤
+OnFront index P (Read place front) = place ≡ index → P front
+OnFront index P (Commit place ops outcome front) = place ≡ index → P front
+
+-- the commit was made, or it may be made later
+abbrev pub may_stand : CommitOutcome → Bool
+may_stand (outcomes.Committed removed) = true
+may_stand (outcomes.InDoubt doubt) = true
+may_stand (outcomes.Duplicate id) = false
+may_stand (outcomes.Full full) = false
+may_stand outcomes.Refused = false
+may_stand (outcomes.Strayed numbers) = false
+
+-- the event is such a commit to the index at this place
+abbrev pub is_attempt : {F : Type 0} → ℕ → Event F → Bool
+is_attempt index (Configured confs) = false
+is_attempt index Nothing = false
+is_attempt index NoMemory = false
+is_attempt index (Read place front) = false
+is_attempt index (Commit place ops outcome front) = (place == index) && may_stand outcome
+
+-- the commit was answered with a note of all that the worker's token has seen then
+abbrev pub has_note : CommitOutcome → Bool
+has_note (outcomes.Committed removed) = true
+has_note (outcomes.Duplicate id) = true
+has_note (outcomes.Full full) = true
+has_note outcomes.Refused = false
+has_note (outcomes.InDoubt doubt) = false
+has_note (outcomes.Strayed numbers) = false
+
+-- the event is such a commit to the index at this place
+abbrev pub is_noted : {F : Type 0} → ℕ → Event F → Bool
+is_noted index (Configured confs) = false
+is_noted index Nothing = false
+is_noted index NoMemory = false
+is_noted index (Read place front) = false
+is_noted index (Commit place ops outcome front) = (place == index) && has_note outcome
+
+-- the commits to the index that were acknowledged or are in doubt
+abbrev pub attempts_on : {F : Type 0} → ℕ → List (Event F) → List (Event F)
+attempts_on index events = filter (is_attempt index) events
