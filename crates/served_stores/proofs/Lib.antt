@@ -1,0 +1,4 @@
+pub mod Nameless
+pub mod Naming
+pub mod Ready
+pub mod Wholes

@@ -1,0 +1,2 @@
+-- the names that are picked
+pub mod Picks
