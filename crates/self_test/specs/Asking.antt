@@ -3,10 +3,10 @@ use Rattle.std.specs.Prelude.{◌≡◌, ℕ, ◌+◌, List, length}
 use Rattle.mysql_wire.specs.Commands.{Query}
 use Rattle.mysql_wire.specs.Packets.{packets_from}
 use Rattle.mysql_wire.specs.Replies.{ok_packet}
-use Rattle.ql_session.specs.Machines.{Answered}
+use Rattle.ql_session.specs.Machines.{Answered, FollowAll}
 use Rattle.index_conf.specs.declared.conf.IndexConf.{IndexConf}
 use Rattle.ql_answers.specs.declared.state.State.{State}
-use Rattle.ql_session.specs.Events.{StoreWords, Follows}
+use Rattle.ql_session.specs.Events.{Event, StoreWords, Follows}
 use Rattle.ql_session.specs.Session.{statement_machine}
 
 -- A text was asked of a session, which replied these bytes; and it led the session and its store to these.
@@ -27,3 +27,8 @@ ArePackets count bytes = (payloads : List (List ℕ)) × (bytes ≡ packets_from
 abbrev pub HasRows : {D F : Type 0} → (D → List IndexConf) → StoreWords D F → List ℕ → ℕ → State → D → State → D → Type 0
 HasRows confs words text rows old before new left =
     (reply : List ℕ) × Asks confs words text reply old before new left × ArePackets (rows + 4) reply
+
+-- What was asked led a store from one state to another.
+pub record Leads {D F : Type 0} (confs : D → List IndexConf) (words : StoreWords D F) (old new : D) : Type 0 where
+  pub events : List (Event F)
+  pub follows : FollowAll (Follows confs words) old events new

@@ -6,3 +6,7 @@ pub mod Texts
 pub mod Summaries
 -- what a session is asked, and what it replies
 pub mod Asking
+-- how the engine ends that a selftest ran over
+pub mod Ends
+-- what serves proofs alone
+pub mod steps

@@ -2,7 +2,7 @@
 ghost use Rattle.std.specs.Prelude.{◌≡◌, ◌++◌, ℕ, List, IfOk, IsTrue, OnOk};
 ghost use Rattle.mysql_wire.specs.Packets.{packet};
 ghost use Rattle.ql_session.specs.Fitting.{Fits};
-ghost use Rattle.self_test.specs.Asking.{ArePackets, Asks, HasRows, IsDone};
+ghost use Rattle.self_test.specs.Asking.{ArePackets, Asks, HasRows, IsDone, Leads};
 
 use crate::Unexpected;
 use mysql_wire::{Command, Framer, Next, ok_packet};
@@ -45,6 +45,7 @@ impl Client {
         ensures asks { Asks T.confs T.words text.now self.new.replies.bytes self.old.session tables.old self.new.session tables.new }
         ensures fits { Fits (T.confs tables.new) self.new.session }
         ensures confs { T.confs tables.new ≡ T.confs tables.old }
+        ensures leads { Leads T.confs T.words tables.old tables.new }
     {
         self.replies.begin(1);
         let query = Command::Query(text.as_bytes());
@@ -65,6 +66,7 @@ impl Client {
         ensures asks { OnOk result (IsDone T.confs T.words text.now self.old.session tables.old self.new.session tables.new) }
         ensures fits { Fits (T.confs tables.new) self.new.session }
         ensures confs { T.confs tables.new ≡ T.confs tables.old }
+        ensures leads { Leads T.confs T.words tables.old tables.new }
     {
         self.ask(tables, text);
         let expected = ok_packet(1, affected, status);
@@ -85,6 +87,7 @@ impl Client {
         ensures asks { IfOk result (λ rows. HasRows T.confs T.words text.now rows self.old.session tables.old self.new.session tables.new) }
         ensures fits { Fits (T.confs tables.new) self.new.session }
         ensures confs { T.confs tables.new ≡ T.confs tables.old }
+        ensures leads { Leads T.confs T.words tables.old tables.new }
     {
         self.ask(tables, text);
         let packets = count_packets(self.alloc, self.replies.bytes())?;

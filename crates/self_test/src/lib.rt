@@ -2,11 +2,15 @@
 #![tactic(auto)]
 
 mod asking;
+mod engine;
+mod fault;
 mod generator;
 mod running;
 mod summary;
 mod texts;
 
+pub use engine::run_over_engine;
+pub use fault::SelftestFault;
 pub use generator::{Document, documents};
-pub use running::{Unexpected, run, run_in_memory};
+pub use running::{Unexpected, run};
 pub use summary::{Summary, scan};

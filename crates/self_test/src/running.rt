@@ -1,6 +1,7 @@
 //! A selftest: the documents are written by statements, 100 a transaction, and then asked for.
 ghost use Rattle.std.specs.Prelude.{◌≡◌, ◌<◌, ◌^◌, IfOk, length};
 ghost use Rattle.ql_session.specs.Fitting.{Fits};
+ghost use Rattle.self_test.specs.Asking.{Leads};
 ghost use Rattle.self_test.specs.Documents.{documents_from};
 ghost use Rattle.self_test.specs.Summaries.{summary_of};
 
@@ -8,8 +9,7 @@ use crate::asking::Client;
 use crate::generator::{Document, documents};
 use crate::summary::{Count, Summary, scan};
 use crate::texts::{write_count, write_insert};
-use conf_text::read_conf;
-use ql_session::{PlainTables, TableStore};
+use ql_session::TableStore;
 use srch_base::Or;
 use std::alloc::Global;
 
@@ -25,22 +25,6 @@ const AUTOCOMMIT: u16 = 2;
 #[derive(Clone, Copy, Debug, PartialEq, Eq, Drop)]
 pub struct Unexpected;
 
-/// Runs a selftest over an index `t` in memory, with the field `title` and the attribute `gid`.
-pub fn run_in_memory(alloc: Global, number: u32, docs: u32) -> Result<Summary, Or<Unexpected>>
-    ensures { IfOk result (λ summary. summary ≡ summary_of (documents_from number docs)) }
-{
-    let Ok(conf) = read_conf(alloc, configuration()) else {
-        return Err(Or::Fault(Unexpected));
-    };
-    let mut tables = PlainTables::new(alloc, conf.indexes.into_vec())?;
-    run(alloc, &mut tables, number, docs)
-}
-
-/// The index that the documents are written to.
-fn configuration() -> &'static [u8] {
-    b"index t\n{\ntype = rt\npath = .\nrt_field = title\nrt_attr_uint = gid\n}\n"
-}
-
 /// Writes the documents of a number to the index `t` of a store that has none, and asks a session what it finds of them. It is
 /// answered where all that a scan of the documents finds was found.
 pub fn run<T: TableStore>(
@@ -51,6 +35,7 @@ pub fn run<T: TableStore>(
 ) -> Result<Summary, Or<Unexpected>>
     ensures is { IfOk result (λ summary. summary ≡ summary_of (documents_from number docs)) }
     ensures confs { T.confs tables.new ≡ T.confs tables.old }
+    ensures leads { Leads T.confs T.words tables.old tables.new }
 {
     let documents = documents(alloc, number, docs)?;
     let found = found(alloc, tables, &documents)?;
@@ -62,6 +47,7 @@ pub fn run<T: TableStore>(
 }
 
 /// Writes documents, and asks a session what it finds of them.
+#[tactic(auto, using(crate::proofs::Leading::leads_then))]
 fn found<T: TableStore>(
     alloc: Global,
     tables: &mut T,
@@ -69,6 +55,7 @@ fn found<T: TableStore>(
 ) -> Result<Summary, Or<Unexpected>>
     requires { length documents.now < 2 ^ 32 }
     ensures confs { T.confs tables.new ≡ T.confs tables.old }
+    ensures leads { Leads T.confs T.words tables.old tables.new }
 {
     let mut client = Client::new(alloc)?;
     let mut text = String::new(alloc);
@@ -82,6 +69,7 @@ fn found<T: TableStore>(
 }
 
 /// Writes documents with the ids from 1 on.
+#[tactic(auto, using(crate::proofs::Leading::leads_then))]
 fn write<T: TableStore>(
     client: &mut Client,
     tables: &mut T,
@@ -92,19 +80,38 @@ fn write<T: TableStore>(
     requires fits { Fits (T.confs tables.old) client.old.session }
     ensures fits { Fits (T.confs tables.new) client.new.session }
     ensures confs { T.confs tables.new ≡ T.confs tables.old }
+    ensures leads { Leads T.confs T.words tables.old tables.new }
 {
     let last = documents.len() as u32;
     let mut id = 0;
     let mut rest = documents;
     'documents: while let Some((document, more)) = rest.split_first() {
         id += 1;
-        begin(client, tables, id)?;
-        write_insert(text, id, document)?;
-        client.tell(tables, text.as_str(), 1, IN_TRANSACTION)?;
-        commit(client, tables, last, id)?;
+        write_one(client, tables, text, last, id, document)?;
         rest = more;
     }
     Ok(())
+}
+
+/// Writes one document. The first one of a transaction begins it, and the last one commits it.
+#[tactic(auto, using(crate::proofs::Leading::leads_then))]
+fn write_one<T: TableStore>(
+    client: &mut Client,
+    tables: &mut T,
+    text: &mut String,
+    last: u32,
+    id: u32,
+    document: &Document,
+) -> Result<(), Or<Unexpected>>
+    requires fits { Fits (T.confs tables.old) client.old.session }
+    ensures fits { Fits (T.confs tables.new) client.new.session }
+    ensures confs { T.confs tables.new ≡ T.confs tables.old }
+    ensures leads { Leads T.confs T.words tables.old tables.new }
+{
+    begin(client, tables, id)?;
+    write_insert(text, id, document)?;
+    client.tell(tables, text.as_str(), 1, IN_TRANSACTION)?;
+    commit(client, tables, last, id)
 }
 
 /// Begins a transaction before its first document.
@@ -112,6 +119,7 @@ fn begin<T: TableStore>(client: &mut Client, tables: &mut T, id: u32) -> Result<
     requires fits { Fits (T.confs tables.old) client.old.session }
     ensures fits { Fits (T.confs tables.new) client.new.session }
     ensures confs { T.confs tables.new ≡ T.confs tables.old }
+    ensures leads { Leads T.confs T.words tables.old tables.new }
 {
     if id % PER_TRANSACTION == 1 {
         client.tell(tables, "BEGIN", 0, IN_TRANSACTION)?;
@@ -129,6 +137,7 @@ fn commit<T: TableStore>(
     requires fits { Fits (T.confs tables.old) client.old.session }
     ensures fits { Fits (T.confs tables.new) client.new.session }
     ensures confs { T.confs tables.new ≡ T.confs tables.old }
+    ensures leads { Leads T.confs T.words tables.old tables.new }
 {
     if id % PER_TRANSACTION == 0 || id == last {
         client.tell(tables, "COMMIT", 0, AUTOCOMMIT)?;
@@ -137,6 +146,7 @@ fn commit<T: TableStore>(
 }
 
 /// Asks how many rows there are of all that is counted.
+#[tactic(auto, using(crate::proofs::Leading::leads_then))]
 fn count<T: TableStore>(
     client: &mut Client,
     tables: &mut T,
@@ -146,6 +156,7 @@ fn count<T: TableStore>(
     requires fits { Fits (T.confs tables.old) client.old.session }
     ensures fits { Fits (T.confs tables.new) client.new.session }
     ensures confs { T.confs tables.new ≡ T.confs tables.old }
+    ensures leads { Leads T.confs T.words tables.old tables.new }
 {
     let mut sum = 0;
     'numbers: for number in 0..count.many() {

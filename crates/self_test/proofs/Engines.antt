@@ -1,0 +1,128 @@
+-- An engine for one worker: the names that it is given, and how it ends.
+use Rattle.std.proofs.Common.{◌≡◌, ℕ, zero, suc, List, [], ◌∷◌, ◌++◌, Some, All, Result, Ok, Err, refl, sym, ap, subst, ◌∙◌, arith, length, length-append, slice_get}
+use Rattle.std.proofs.lemmas.List.Elements.{All-cons, All-nil}
+use Rattle.srch_base.specs.declared.faults.Or.{Or}
+use Rattle.srch_base.specs.declared.faults.Or.TheVariants as causes
+use Rattle.chunk_store.specs.declared.disk.Disk.{Ghosts as DiskWords}
+use Rattle.commit_outcomes.specs.declared.strayed.Strayed.{Strayed}
+use Rattle.doc_types.specs.Schemas.{IsSchema}
+use Rattle.doc_types.specs.declared.schema.Schema.{Schema}
+use Rattle.index_conf.specs.Soundness.{IsSound}
+use Rattle.index_conf.specs.declared.conf.Conf.{Conf}
+use Rattle.index_conf.specs.declared.conf.IndexConf.{IndexConf}
+use Rattle.step_book.specs.Fronts.{FrontValue}
+use Rattle.step_history.specs.History.{Base}
+use Rattle.store_keep.specs.Opens.{IsOpened, base_of}
+use Rattle.store_keep.specs.declared.opening.Opened.{Opened}
+use Rattle.engine_tables.specs.Endings.{CanEnd, EndingValue, HasEnded, HaveEnded}
+use Rattle.engine_tables.specs.Engines.{EnginesValue}
+use Rattle.engine_tables.specs.Names.{AreNamed, AreServed, IsRoomFor}
+use Rattle.engine_tables.specs.Tokens.{SitsAt, TokensValue, tokens_at}
+use Rattle.engine_tables.specs.declared.ended.Ended.{Ended}
+use Rattle.engine_tables.proofs.Makings.{all_end}
+use Rattle.self_test.specs.Ends.{Ends, EndsBy, IsOver, Works, first_tokens}
+use Rattle.self_test.specs.declared.fault.SelftestFault.{SelftestFault}
+use Rattle.self_test.specs.declared.fault.SelftestFault.TheVariants.{NoMemory, Unexpected, Strayed as HasStrayed}
+use Rattle.self_test.specs.declared.summary.Summary.{Summary}
+use Rattle.self_test.specs.steps.Engines.{AnswersEnd, IsReady, IsServable}
+
+-- the last index of a configuration can be served
+pub last_servable : (conf : Conf) (others : List IndexConf) (index : IndexConf) → IsSound conf → conf.indexes ≡ others ++ index ∷ [] → IsServable index
+last_servable conf others index sound is = record {
+  schema = all_end (λ (c : IndexConf). IsSchema c.schema) others index (subst (All (λ (c : IndexConf). IsSchema c.schema)) is sound.schemas);
+  zones = all_end (λ (c : IndexConf). c.rules.zones ≡ c.schema.zones) others index (subst (All (λ (c : IndexConf). c.rules.zones ≡ c.schema.zones)) is sound.zones);
+}
+
+-- one index that can be served
+pub served_one : (index : IndexConf) → IsServable index → AreServed (index ∷ [])
+served_one index servable = record {
+  few = omega arith;
+  schemas = All-cons (λ (conf : IndexConf). IsSchema conf.schema) index [] servable.schema (All-nil (λ (conf : IndexConf). IsSchema conf.schema));
+  zones = All-cons (λ (conf : IndexConf). conf.rules.zones ≡ conf.schema.zones) index [] servable.zones (All-nil (λ (conf : IndexConf). conf.rules.zones ≡ conf.schema.zones));
+}
+
+-- the last element of a list of one
+pub one_last : {X : Type 0} (xs front : List X) (x : X) → xs ≡ front ++ x ∷ [] → length xs ≡ 1 → slice_get xs 0 ≡ Some x
+one_last xs [] x is one = ap (λ (list : List _). slice_get list 0) is
+one_last xs (y ∷ front) x is one = absurd (omega (arith, ap length is, one, length-append (y ∷ front) (x ∷ [])))
+
+-- the last tokens are the first ones, where there are no others
+pub first_last : (seats front : List TokensValue) (last first : TokensValue) → seats ≡ front ++ last ∷ [] → seats ≡ first ∷ [] → last ≡ first
+first_last seats front last first is one =
+    let here : slice_get seats 0 ≡ Some last = one_last seats front last is (ap length one) in
+    let there : slice_get seats 0 ≡ Some first = ap (λ (list : List TokensValue). slice_get list 0) one in
+    cc (here, there)
+
+module _ (engines : EnginesValue) (old new : EndingValue) (left : TokensValue) where
+  abbrev pub IsPut : Type 0
+  IsPut = new ≡ record old { seats = old.seats ++ left ∷ [] }
+
+  -- the tokens that are put into an empty place are all that are there
+  pub put_one : IsRoomFor 1 1 old → IsPut → new.seats ≡ left ∷ []
+  put_one room put = ap (λ (ending : EndingValue). ending.seats) put ∙ ap (λ (seats : List TokensValue). seats ++ left ∷ []) room.none
+
+  -- with these tokens the engines can end
+  pub can_end : length engines.confs ≡ 1 → IsRoomFor 1 1 old → SitsAt engines left → IsPut → CanEnd engines new
+  can_end one room sits put = record {
+    room = omega (arith, one, room.indexes_fit, ap (λ (ending : EndingValue). ending.indexes) put);
+    sit = subst (All (SitsAt engines)) (sym (put_one room put)) (All-cons (SitsAt engines) left [] sits (All-nil (SitsAt engines)));
+  }
+
+module _ {D : Type 0} (words : DiskWords D) where
+  -- one store has its own book, columns and beginning for names
+  pub named_one : (index : IndexConf) (store : Opened D) → IsReady words index store
+      → AreNamed words (λ place. store.book.past.seen.book) (λ place. index.schema) (λ place. base_of store) (index ∷ []) (store ∷ [])
+  named_one index store ready = record {
+    many = refl;
+    columns = columns;
+    books = books;
+    bases = bases;
+    opened = opened;
+  }
+    where
+      columns : (place : ℕ) (conf : IndexConf) → slice_get (index ∷ []) place ≡ Some conf → index.schema ≡ conf.schema
+      columns zero conf at = cc at
+      columns (suc place) conf at = absurd (cc at)
+
+      books : (place : ℕ) (other : Opened D) → slice_get (store ∷ []) place ≡ Some other → other.book.past.seen.book ≡ store.book.past.seen.book
+      books zero other at = cc at
+      books (suc place) other at = absurd (cc at)
+
+      bases : (place : ℕ) (other : Opened D) → slice_get (store ∷ []) place ≡ Some other → base_of store ≡ base_of other
+      bases zero other at = let same : store ≡ other = cc at in ap base_of same
+      bases (suc place) other at = absurd (cc at)
+
+      opened : (place : ℕ) (other : Opened D) → slice_get (store ∷ []) place ≡ Some other → IsOpened words index.schema other
+      opened zero other at = let same : store ≡ other = cc at in subst (λ (o : Opened D). IsOpened words index.schema o) same ready.opened
+      opened (suc place) other at = absurd (cc at)
+
+  -- one store that has names is the one of their index
+  pub over_one : (book : ℕ → _) (schema : ℕ → Schema) (base : ℕ → Base) (index : IndexConf) (store : Opened D) (confs : List IndexConf) → confs ≡ index ∷ [] → AreNamed words book schema base (index ∷ []) (store ∷ [])
+      → IsOver words schema base confs
+  over_one book schema base index store confs is named =
+      record { index = index; store = store; is = is; columns = named.columns 0 index refl; begins = named.bases 0 store refl; opened = named.opened 0 store refl }
+
+  -- one engine ended with these tokens
+  pub ended_one : {J : Type 0} (schema : ℕ → Schema) (base : ℕ → Base) (indexes workers : ℕ) (seats : List TokensValue) (left : TokensValue) (all : List (Ended D J)) → indexes ≡ 1 → workers ≡ 1 → seats ≡ left ∷ []
+      → HaveEnded words schema base indexes workers seats all → HaveEnded words schema base 1 1 (left ∷ []) all
+  ended_one schema base indexes workers seats left all one alone put ended =
+      subst (λ (list : List TokensValue). HaveEnded words schema base 1 1 list all) put
+      (subst (λ (n : ℕ). HaveEnded words schema base 1 n seats all) alone (subst (λ (n : ℕ). HaveEnded words schema base n workers seats all) one ended))
+
+  -- how the one engine ended is what the answer says
+  pub ends_so : {J : Type 0} (schema : ℕ → Schema) (base : ℕ → Base) (confs : List IndexConf) (left : TokensValue) (all : List (Ended D J)) (one : Ended D J) (answer : Result Summary SelftestFault) → IsOver words schema base confs
+      → Works schema base confs first_tokens left → HaveEnded words schema base 1 1 (left ∷ []) all → slice_get all 0 ≡ Some one → AnswersEnd one.answer answer → Ends words answer
+  ends_so {J} schema base confs left all one answer over works ended at says = by_answer answer says
+    where
+      ends : HasEnded words schema base 0 1 (tokens_at 0 (left ∷ [])) one
+      ends = ended.each 0 one at
+
+      ends_by : (end : Result FrontValue (Or Strayed)) → one.answer ≡ end → EndsBy words end
+      ends_by end is = subst (λ (e : Result FrontValue (Or Strayed)). EndsBy words e) is
+          (record { schema = schema; base = base; confs = confs; over = over; left = left; works = works; disk = one.disk; new = ends.0; closes = ends.1 })
+
+      by_answer : (answer : Result Summary SelftestFault) → AnswersEnd one.answer answer → Ends words answer
+      by_answer (Ok summary) says = (says.0, ends_by (Ok says.0) says.1)
+      by_answer (Err Unexpected) says = (says.0, ends_by (Ok says.0) says.1)
+      by_answer (Err (HasStrayed strayed)) says = ends_by (Err (causes.Fault strayed)) says
+      by_answer (Err NoMemory) says = tt

@@ -1,0 +1,44 @@
+use Rattle.std.proofs.Common.{◌≡◌, Result, ap, length, sym, subst}
+use Rattle.std.specs.Prelude.{IfOk}
+use Rattle.std.proofs.lemmas.Result.{IfOk-weaker}
+use Rattle.commit_outcomes.specs.declared.strayed.Strayed.{Strayed}
+use Rattle.srch_base.specs.declared.faults.Or.{Or}
+use Rattle.step_book.specs.Fronts.{FrontValue}
+use Rattle.engine_tables.specs.Tokens.{SitsAt, TokensValue}
+use Rattle.self_test.specs.Documents.{documents_from}
+use Rattle.self_test.specs.Ends.{Works, first_tokens}
+use Rattle.self_test.specs.Summaries.{summary_of}
+use Rattle.self_test.specs.declared.running.Unexpected.{Unexpected}
+use Rattle.self_test.specs.declared.summary.Summary.{Summary}
+use Rattle.self_test.specs.steps.Engines.{AnswersEnd}
+use Rattle.self_test.proofs.Engines.{can_end, ended_one, ends_so, first_last, put_one}
+use Rattle.self_test.proofs.engine.run_over_named.Goals as goal
+
+pub work-found-requires : goal.work-found-requires
+work-found-requires g c =
+    subst (λ (t : TokensValue). SitsAt c.args.named.engines t)
+    (sym (first_last c.args.named.seats.items c.take_last.new.self.items c.take_last.result first_tokens c.take_last.ensures.items c.requires.seats)) c.requires.sit
+
+pub close-requires : goal.close-requires
+close-requires g c =
+    can_end c.args.named.engines c.args.named.ending c.put.new.self c.work-found.result.1 (ap length c.requires.over.is) c.requires.room c.work-found.ensures.sits c.put.ensures
+
+pub returns-clause-summary : goal.returns-clause-summary
+returns-clause-summary g c =
+    IfOk-weaker c.answer.result _ _
+    (λ summary is. subst (λ (found : Result Summary (Or Unexpected)). IfOk found (λ summary. summary ≡ summary_of (documents_from c.args.number c.args.docs))) is c.work-found.ensures.summary)
+    c.answer.ensures.summary
+
+pub returns-clause-ends : goal.returns-clause-ends
+returns-clause-ends g c =
+    let schema = g.J.Naming.schema in
+    let base = g.J.Naming.base in
+    let engines = c.args.named.engines in
+    let left : TokensValue = c.work-found.result.1 in
+    ends_so g.D.Disk schema base engines.confs left c.close.result.items c.end_of.ensures.0 c.answer.result c.requires.over
+    (subst (λ (t : TokensValue). Works schema base engines.confs t left)
+    (first_last c.args.named.seats.items c.take_last.new.self.items c.take_last.result first_tokens c.take_last.ensures.items c.requires.seats) c.work-found.ensures.works)
+    (ended_one g.D.Disk schema base _ engines.workers c.put.new.self.seats left c.close.result.items (ap length c.requires.over.is) c.requires.alone
+    (put_one engines c.args.named.ending c.put.new.self left c.requires.room c.put.ensures) c.close.ensures)
+    c.end_of.ensures.1
+    (subst (λ (end : Result FrontValue (Or Strayed)). AnswersEnd end c.answer.result) c.end_of.ensures.2 c.answer.ensures.ends)

@@ -1,0 +1,56 @@
+-- How the engine of a selftest ends, and what is answered then.
+use Rattle.std.specs.Prelude.{◌≡◌, ℕ, List, [], ◌∷◌, Result, Ok, Err}
+use Rattle.srch_base.specs.declared.faults.Or.{Or}
+use Rattle.srch_base.specs.declared.faults.Or.TheVariants as causes
+use Rattle.chunk_store.specs.declared.disk.Disk.{Ghosts as DiskWords}
+use Rattle.commit_outcomes.specs.declared.strayed.Strayed.{Strayed}
+use Rattle.doc_types.specs.declared.schema.Schema.{Schema}
+use Rattle.index_conf.specs.declared.conf.IndexConf.{IndexConf}
+use Rattle.step_book.specs.Fronts.{FrontValue}
+use Rattle.step_history.specs.History.{Base}
+use Rattle.step_tokens.specs.Tokens.{TokenValue}
+use Rattle.store_keep.specs.Opens.{IsOpened, base_of}
+use Rattle.store_keep.specs.declared.opening.Opened.{Opened}
+use Rattle.snap_share.specs.Closings.{Closes}
+use Rattle.engine_tables.specs.Tokens.{TokensValue, new_tokens, tokens_at}
+use Rattle.engine_tables.specs.Workers.{by_tokens}
+use Rattle.self_test.specs.Asking.{Leads}
+use Rattle.self_test.specs.declared.fault.SelftestFault.{SelftestFault}
+use Rattle.self_test.specs.declared.fault.SelftestFault.TheVariants.{NoMemory, Unexpected, Strayed as HasStrayed}
+use Rattle.self_test.specs.declared.summary.Summary.{Summary}
+
+-- the token of the one worker, which has seen no step of the one index
+abbrev pub first_tokens : TokensValue
+first_tokens = record { worker = 1; list = new_tokens 1 1 }
+
+-- A selftest that began with these tokens of an engine left these.
+abbrev pub Works : (ℕ → Schema) → (ℕ → Base) → List IndexConf → TokensValue → TokensValue → Type 0
+Works schema base confs first left = Leads (λ worker. worker.confs) (by_tokens schema base) (record { confs = confs; tokens = first }) (record { confs = confs; tokens = left })
+
+-- There is one index, whose store was opened: it has the columns that are configured, and its history begins where the store stood.
+pub record IsOver {D : Type 0} (words : DiskWords D) (schema : ℕ → Schema) (base : ℕ → Base) (confs : List IndexConf) : Type 0 where
+  pub index : IndexConf
+  pub store : Opened D
+  pub is : confs ≡ index ∷ []
+  pub columns : schema 0 ≡ index.schema
+  pub begins : base 0 ≡ base_of store
+  pub opened : IsOpened words (schema 0) store
+
+-- The engine of such an index ended with this answer, by the token that the selftest left.
+pub record EndsBy {D : Type 0} (words : DiskWords D) (answer : Result FrontValue (Or Strayed)) : Type 0 where
+  pub schema : ℕ → Schema
+  pub base : ℕ → Base
+  pub confs : List IndexConf
+  pub over : IsOver words schema base confs
+  pub left : TokensValue
+  pub works : Works schema base confs first_tokens left
+  pub disk : D
+  pub new : List TokenValue
+  pub closes : Closes words schema base 0 1 (tokens_at 0 (left ∷ [])) disk answer new
+
+-- The end told the whole history, or answered that it strayed. Want of memory is free.
+abbrev pub Ends : {D : Type 0} → DiskWords D → Result Summary SelftestFault → Type 0
+Ends words (Ok summary) = (note : FrontValue) × EndsBy words (Ok note)
+Ends words (Err Unexpected) = (note : FrontValue) × EndsBy words (Ok note)
+Ends words (Err (HasStrayed strayed)) = EndsBy words (Err (causes.Fault strayed))
+Ends words (Err NoMemory) = Unit {0}

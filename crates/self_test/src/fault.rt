@@ -1,0 +1,12 @@
+//! Why a selftest has no summary.
+use commit_outcomes::Strayed;
+
+/// Why a selftest has no summary.
+#[derive(Clone, Copy)]
+pub enum SelftestFault {
+    NoMemory,
+    /// A reply wasn't the one that it had to be.
+    Unexpected,
+    /// What the index and the token of it count contradicts each other.
+    Strayed(Strayed),
+}
