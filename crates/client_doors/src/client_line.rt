@@ -11,6 +11,8 @@ use srch_base::{Failed, Link};
 #[derive(Drop)]
 pub struct ClientLine {
     stream: ClientStream,
+    /// Whether the client has sent anything yet.
+    begun: bool,
     ended: bool,
     read_faults: u64,
     write_faults: u64,
@@ -25,6 +27,7 @@ impl ClientLine {
     {
         ClientLine {
             stream,
+            begun: false,
             ended: false,
             read_faults: 0,
             write_faults: 0,
@@ -48,6 +51,10 @@ impl Link for ClientLine {
     fn read(&mut self, into: &mut [u8]) -> Result<usize, Failed> {
         match retrying::read(&mut self.stream, into) {
             Ok(count) => {
+                if count > 0 && !self.begun {
+                    self.begun = true;
+                    self.stream.begin();
+                }
                 self.ended = self.ended || count == 0 && !into.is_empty();
                 Ok(count)
             }

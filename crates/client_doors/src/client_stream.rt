@@ -2,12 +2,15 @@
 //! write returns.
 ghost use Rattle.std.specs.Prelude.{◌≤◌, length, IfOk};
 
-use std::io::{self, Read, Stdin, Stdout, Write};
+use std::io::{self, ErrorKind, Read, Stdin, Stdout, Write};
 use std::net::{TcpListener, TcpStream};
 use std::time::Duration;
 
 /// How long a client over TCP may keep a read or a write waiting, in seconds; after that the call fails.
 pub const PATIENCE_SECONDS: u64 = 600;
+
+/// How long a client over TCP that has sent nothing yet may keep a read waiting, in seconds. It is MySQL's default `connect_timeout`.
+pub const GREETING_SECONDS: u64 = 10;
 
 /// The way to a client and back.
 #[derive(Drop)]
@@ -18,29 +21,52 @@ pub enum ClientStream {
 }
 
 impl ClientStream {
-    /// The next client of a listener. A connection that has gone away again before it could be served is passed over.
+    /// The next client of a listener. One that has gone away again before it could be served is passed over, and so is a fault of the
+    /// network on the way to it, which the system tells where it takes a connection.
     pub(crate) fn accept(listener: &TcpListener) -> io::Result<ClientStream> {
         'clients: for _ in 0..u64::MAX {
             let (stream, _peer) = match listener.accept() {
                 Ok(accepted) => accepted,
-                Err(error) if error.kind() == io::ErrorKind::ConnectionAborted => continue 'clients,
+                Err(error) if is_of_one_client(error.kind()) => continue 'clients,
                 Err(error) => return Err(error),
             };
             if prepare(&stream).is_ok() {
                 return Ok(ClientStream::Tcp(stream));
             }
         }
-        Err(io::Error::from(io::ErrorKind::TimedOut))
+        Err(io::Error::from(ErrorKind::TimedOut))
+    }
+
+    /// Waits longer for the client from now on, which has begun to send. Where the system refuses that, it is waited for as before.
+    pub(crate) fn begin(&self) {
+        if let ClientStream::Tcp(stream) = self {
+            match stream.set_read_timeout(Some(Duration::from_secs(PATIENCE_SECONDS))) {
+                Ok(()) | Err(_) => {}
+            }
+        }
+    }
+}
+
+/// Whether a failure to take a connection is of that connection alone, so that the next one may be taken.
+fn is_of_one_client(kind: ErrorKind) -> bool {
+    match kind {
+        ErrorKind::ConnectionAborted
+        | ErrorKind::ConnectionReset
+        | ErrorKind::HostUnreachable
+        | ErrorKind::Interrupted
+        | ErrorKind::NetworkDown
+        | ErrorKind::NetworkUnreachable
+        | ErrorKind::TimedOut => true,
+        _ => false,
     }
 }
 
 /// What is written to a socket is sent at once (`TCP_NODELAY`), since a reply is written in one piece and its client waits for it.
-/// A client that has gone away without a word doesn't keep its worker for ever.
+/// A client that has gone away without a word doesn't keep its worker for ever, and one that never says a word hardly at all.
 fn prepare(stream: &TcpStream) -> io::Result<()> {
-    let patience = Some(Duration::from_secs(PATIENCE_SECONDS));
     stream.set_nodelay(true)?;
-    stream.set_read_timeout(patience)?;
-    stream.set_write_timeout(patience)
+    stream.set_read_timeout(Some(Duration::from_secs(GREETING_SECONDS)))?;
+    stream.set_write_timeout(Some(Duration::from_secs(PATIENCE_SECONDS)))
 }
 
 impl Read for ClientStream {

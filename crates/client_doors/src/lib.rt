@@ -11,5 +11,5 @@ mod tests;
 
 pub use client_door::ClientDoor;
 pub use client_line::ClientLine;
-pub use client_stream::{ClientStream, PATIENCE_SECONDS};
+pub use client_stream::{ClientStream, GREETING_SECONDS, PATIENCE_SECONDS};
 pub use opening::{listening_doors, standard_door};
