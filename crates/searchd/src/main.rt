@@ -22,7 +22,7 @@ fn main(rt: HostRuntime) -> ExitCode {
     let (input, output, errors) = (rt.stdin(), rt.stdout(), rt.stderr());
     let mut host = RealHost::new(rt, alloc, input, output, errors);
     let status = match words {
-        Ok(words) => searchd(alloc, words.as_slice(), &mut host),
+        Ok(words) => searchd(&rt, alloc, words.as_slice(), &mut host),
         Err(NoMemory) => without_memory(&mut host),
     };
     ExitCode::from(status.code())

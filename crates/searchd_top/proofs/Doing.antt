@@ -1,5 +1,5 @@
 -- Deeds: asking alone, asking before others, and a report behind them.
-use Rattle.std.proofs.Common.{◌≡◌, ℕ, List, [], ◌∷◌, ◌++◌, refl, sym, ap, subst, ◌∙◌, append-nil, append_assoc}
+use Rattle.std.proofs.Common.{◌≡◌, ℕ, List, [], ◌++◌, refl, sym, ap, subst, ◌∙◌, append-nil, append_assoc}
 use Rattle.std.specs.Prelude.{Option, Some, None}
 use Rattle.srch_base.specs.Told.{then_bytes}
 use Rattle.searchd_top.specs.Deeds.{Count, Deeds, Does, IsIdle}

@@ -13,13 +13,14 @@ use Rattle.index_conf.specs.declared.conf.IndexConf.{IndexConf}
 use Rattle.srch_base.specs.declared.faults.OpenFault.{OpenFault}
 use Rattle.srch_base.specs.declared.faults.OpenFault.TheVariants as opening
 use Rattle.srch_base.specs.Told.{then_bytes}
-use Rattle.store_keep.specs.Opens.{HasStoreCause, HidesNothing, IsFoundIn, LeavesBegun, SaysDamage}
+use Rattle.store_keep.specs.Opens.{HasStoreCause, IsFoundIn, IsOpened, SaysDamage}
 use Rattle.store_keep.specs.declared.fault.StoreFault.{StoreFault}
 use Rattle.store_keep.specs.declared.fault.StoreFault.TheVariants as faults
 use Rattle.store_keep.specs.declared.opening.Opened.{Opened}
-use Rattle.searchd_top.specs.Checks.{AreOpen, ChecksIndexes, HasFiles, Holdings, IsOpen, Leaves, SaysUngiven, SaysUnopened, Stops, check_lines}
-use Rattle.searchd_top.specs.Deeds.{Count, Deeds, Does}
-use Rattle.searchd_top.specs.Lending.{CountsOpening, Lends, Lent, back_of, given_of}
+use Rattle.searchd_top.specs.Openings.{AreOpenedFrom, IsOpenedFrom, Leaves}
+use Rattle.searchd_top.specs.Checks.{AreOpen, ChecksIndexes, HasFiles, Holdings, IsOpen, SaysUngiven, SaysUnopened, Stops, StopsAt, check_lines}
+use Rattle.searchd_top.specs.Deeds.{Deeds, Does}
+use Rattle.searchd_top.specs.Lending.{CountsOpening, Lent, back_of, given_of}
 use Rattle.searchd_top.specs.Output.{SaysLines}
 use Rattle.searchd_top.specs.Requests.{Requested, store_requests}
 use Rattle.searchd_top.specs.Statuses.{status_of}
@@ -30,7 +31,7 @@ use Rattle.searchd_top.specs.declared.requests.Request.{Request}
 use Rattle.searchd_top.specs.declared.requests.Request.TheVariants.{OpenStore}
 use Rattle.searchd_top.specs.declared.status.Status.{Status}
 use Rattle.searchd_top.specs.declared.status.Status.TheVariants.{Done, Usage, Config, HostFault, Damaged, NoMemory, Strayed}
-use Rattle.searchd_top.specs.steps.Openings.{AreHeld, KeepsDoors, OpensAll, OpensStores, SaysFault, StopsOpening, disks_of, holdings_of}
+use Rattle.searchd_top.specs.steps.Openings.{KeepsDoors, OpensAll, OpensStores, SaysFault, StopsOpening, disks_of, holdings_of}
 use Rattle.searchd_top.specs.steps.Sides.{DoesBy, HandsBack, KeepsPrints, PrintsOut}
 use Rattle.searchd_top.proofs.Doing.{requested_then, then_nothing}
 
@@ -60,8 +61,8 @@ lents_of (given ∷ stores) [] = []
 lents_of (given ∷ stores) (opened ∷ others) = record { given = given; back = opened.disk } ∷ lents_of stores others
 
 module _ {S : Type 0} (store : DiskWords S) where
-  held_both : (indexes more : List IndexConf) (given others : List S) (opened last : List (Opened S)) → AreHeld store indexes given opened → AreHeld store more others last
-      → AreHeld store (indexes ++ more) (given ++ others) (opened ++ last)
+  held_both : (indexes more : List IndexConf) (given others : List S) (opened last : List (Opened S)) → AreOpenedFrom store indexes given opened → AreOpenedFrom store more others last
+      → AreOpenedFrom store (indexes ++ more) (given ++ others) (opened ++ last)
   held_both [] more [] others [] last held then = then
   held_both [] more (g ∷ given) others opened last held then = absurd held
   held_both [] more [] others (o ∷ opened) last held then = absurd held
@@ -69,15 +70,18 @@ module _ {S : Type 0} (store : DiskWords S) where
   held_both (index ∷ indexes) more (g ∷ given) others [] last held then = absurd held
   held_both (index ∷ indexes) more (g ∷ given) others (o ∷ opened) last held then = (held.0, held_both indexes more given others opened last held.1 then)
 
-  held_open : (indexes : List IndexConf) (given : List S) (opened : List (Opened S)) → AreHeld store indexes given opened → AreOpen store indexes (lents_of given opened) (map holdings_of opened)
+  is_open : (index : IndexConf) (given : S) (opened : Opened S) → IsOpenedFrom store index given opened → IsOpen store index (record { given = given; back = opened.disk }) (holdings_of opened)
+  is_open index given opened held = record { files = λ image told. has_files opened index.schema image (held.found image told); leaves = held.leaves }
+
+  held_open : (indexes : List IndexConf) (given : List S) (opened : List (Opened S)) → AreOpenedFrom store indexes given opened → AreOpen store indexes (lents_of given opened) (map holdings_of opened)
   held_open [] [] [] held = tt
   held_open [] (g ∷ given) opened held = absurd held
   held_open [] [] (o ∷ opened) held = absurd held
   held_open (index ∷ indexes) [] opened held = absurd held
   held_open (index ∷ indexes) (g ∷ given) [] held = absurd held
-  held_open (index ∷ indexes) (g ∷ given) (o ∷ opened) held = (held.0, held_open indexes given opened held.1)
+  held_open (index ∷ indexes) (g ∷ given) (o ∷ opened) held = (is_open index g o held.0, held_open indexes given opened held.1)
 
-  held_given : (indexes : List IndexConf) (given : List S) (opened : List (Opened S)) → AreHeld store indexes given opened → given_of (lents_of given opened) ≡ given
+  held_given : (indexes : List IndexConf) (given : List S) (opened : List (Opened S)) → AreOpenedFrom store indexes given opened → given_of (lents_of given opened) ≡ given
   held_given [] [] [] held = refl
   held_given [] (g ∷ given) opened held = absurd held
   held_given [] [] (o ∷ opened) held = absurd held
@@ -85,7 +89,7 @@ module _ {S : Type 0} (store : DiskWords S) where
   held_given (index ∷ indexes) (g ∷ given) [] held = absurd held
   held_given (index ∷ indexes) (g ∷ given) (o ∷ opened) held = ap (λ (list : List S). g ∷ list) (held_given indexes given opened held.1)
 
-  held_back : (indexes : List IndexConf) (given : List S) (opened : List (Opened S)) → AreHeld store indexes given opened → back_of (lents_of given opened) ≡ disks_of opened
+  held_back : (indexes : List IndexConf) (given : List S) (opened : List (Opened S)) → AreOpenedFrom store indexes given opened → back_of (lents_of given opened) ≡ disks_of opened
   held_back [] [] [] held = refl
   held_back [] (g ∷ given) opened held = absurd held
   held_back [] [] (o ∷ opened) held = absurd held
@@ -93,7 +97,7 @@ module _ {S : Type 0} (store : DiskWords S) where
   held_back (index ∷ indexes) (g ∷ given) [] held = absurd held
   held_back (index ∷ indexes) (g ∷ given) (o ∷ opened) held = ap (λ (list : List S). o.disk ∷ list) (held_back indexes given opened held.1)
 
-  pub held_count : (indexes : List IndexConf) (given : List S) (opened : List (Opened S)) → AreHeld store indexes given opened → length given ≡ length opened
+  pub held_count : (indexes : List IndexConf) (given : List S) (opened : List (Opened S)) → AreOpenedFrom store indexes given opened → length given ≡ length opened
   held_count [] [] [] held = refl
   held_count [] (g ∷ given) opened held = absurd held
   held_count [] [] (o ∷ opened) held = absurd held
@@ -226,14 +230,14 @@ module _ {H S D K : Type 0} (host : HostWords H S D K) (store : DiskWords S) whe
 
   -- it was opened
   pub opens_one : (index : IndexConf) (given : S) (opened : Opened S) (before after : List (Opened S)) (old new : H) → host.stores_given new ≡ host.stores_given old ++ given ∷ []
-      → after ≡ before ++ opened ∷ [] → Told (IsFoundIn index.schema (arc_value opened.snapshot) opened.records) (store.told given) → Leaves store index (record { given = given; back = opened.disk })
+      → after ≡ before ++ opened ∷ [] → Told (IsFoundIn index.schema (arc_value opened.snapshot) opened.records) (store.told given) → Leaves store index (record { given = given; back = opened.disk }) → IsOpened store index.schema opened
       → host.faults new ≡ host.faults old → Requested (host.requests old) (host.requests new) (OpenStore index.path ∷ []) → OpensAll host store (index ∷ []) before after old new
-  opens_one index given opened before after old new gives holds found leaves still asked = record {
+  opens_one index given opened before after old new gives holds found leaves kept still asked = record {
     given = given ∷ [];
     opened = opened ∷ [];
     gives = gives;
     holds = holds;
-    held = (record { files = λ image told. has_files opened index.schema image (found image told); leaves = leaves }, tt);
+    held = (record { found = found; leaves = leaves; is = kept }, tt);
     asked = asked;
     still = still;
   }
@@ -294,7 +298,7 @@ module _ {H S D K : Type 0} (host : HostWords H S D K) (store : DiskWords S) whe
       → HandsBack host (disks_of after) mid new → PrintsOut host status (check_lines indexes (map holdings_of after)) mid new
       → DoesBy host old new (ChecksIndexes store indexes (store_requests indexes) status)
   checks_all indexes status after old mid new opens doors prints hands (output, printed, says) =
-      let held : AreHeld store indexes opens.given after = subst (λ (list : List (Opened S)). AreHeld store indexes opens.given list) (sym opens.holds) opens.held in
+      let held : AreOpenedFrom store indexes opens.given after = subst (λ (list : List (Opened S)). AreOpenedFrom store indexes opens.given list) (sym opens.holds) opens.held in
       let lent : List (Lent S) = lents_of opens.given after in
       let deeds : Deeds S D = record {
         requests = store_requests indexes;
@@ -331,10 +335,11 @@ module _ {H S D K : Type 0} (host : HostWords H S D K) (store : DiskWords S) whe
       )
 
   -- opening stopped, and all stores were handed back
-  pub checks_stopped : (indexes : List IndexConf) (stop : Stop S) (after : List (Opened S)) (old mid new : H) → StopsOpening host store indexes stop [] after old mid → KeepsDoors host old mid → KeepsPrints host old mid
-      → HandsBack host (disks_of after ++ option_to_list stop.store) mid new → KeepsPrints host mid new → DoesBy host old new (ChecksIndexes store indexes (store_requests indexes) stop.status)
-  checks_stopped indexes stop after old mid new stops doors prints hands silent =
-      let held : AreHeld store stops.front stops.given after = subst (λ (list : List (Opened S)). AreHeld store stops.front stops.given list) (sym stops.holds) stops.held in
+  pub stopped : (indexes : List IndexConf) (stop : Stop S) (after : List (Opened S)) (old mid new : H) → StopsOpening host store indexes stop [] after old mid → KeepsDoors host old mid → KeepsPrints host old mid
+      → HandsBack host (disks_of after ++ option_to_list stop.store) mid new → KeepsPrints host mid new
+      → DoesBy host old new (λ deeds. (deeds.doors ≡ []) × StopsAt store indexes (store_requests indexes) stop.status deeds)
+  stopped indexes stop after old mid new stops doors prints hands silent =
+      let held : AreOpenedFrom store stops.front stops.given after = subst (λ (list : List (Opened S)). AreOpenedFrom store stops.front stops.given list) (sym stops.holds) stops.held in
       let lent : List (Lent S) = lents_of stops.given after in
       let deeds : Deeds S D = record {
         requests = take (suc (length stops.front)) (store_requests indexes);
@@ -360,9 +365,9 @@ module _ {H S D K : Type 0} (host : HostWords H S D K) (store : DiskWords S) whe
       } in (
         deeds,
         does,
-        record {
-          doors = refl;
-          checks = inr (record {
+        (
+          refl,
+          record {
             before = stops.front;
             index = stops.index;
             after = stops.rest;
@@ -376,6 +381,12 @@ module _ {H S D K : Type 0} (host : HostWords H S D K) (store : DiskWords S) whe
             asked = refl;
             output = refl;
             print_faults = ap (λ (counts : _). counts Out) silent.print_count ∙ ap (λ (counts : _). counts Out) prints.print_count;
-          });
-        },
+          },
+        ),
       )
+
+  pub checks_stopped : (indexes : List IndexConf) (stop : Stop S) (after : List (Opened S)) (old mid new : H) → StopsOpening host store indexes stop [] after old mid → KeepsDoors host old mid → KeepsPrints host old mid
+      → HandsBack host (disks_of after ++ option_to_list stop.store) mid new → KeepsPrints host mid new → DoesBy host old new (ChecksIndexes store indexes (store_requests indexes) stop.status)
+  checks_stopped indexes stop after old mid new stops doors prints hands silent =
+      let (deeds, does, (none, stops)) = stopped indexes stop after old mid new stops doors prints hands silent in
+      (deeds, does, record { doors = none; checks = inr stops })

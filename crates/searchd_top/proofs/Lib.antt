@@ -1,10 +1,11 @@
 pub mod Copies
 pub mod Doing
 pub mod Held
+pub mod Lined
 pub mod Lines
-pub mod OneServed
 pub mod PathTexts
 pub mod Putting
 pub mod Running
+pub mod ServedIndexes
 pub mod StorePlaces
 pub mod Words

@@ -1,14 +1,14 @@
 -- The paths of a configuration are texts: its lines are, and they are cut at ASCII characters alone.
-use Rattle.std.proofs.Common.{◌≡◌, ◌⊎◌, ℕ, zero, suc, ◌+◌, ◌-◌, ◌≤◌, ◌<◌, Bool, true, false, cond, List, [], ◌∷◌, ◌++◌, All, length, take, drop, get_or, map, arith, refl, sym, ap, subst, ◌∙◌, inl, inr, length-drop}
-use Rattle.std.specs.Prelude.{⊤, not, Option, Some, None, ◌&&◌, ◌||◌, ◌==◌, codes, nat_lt, reverse}
-use Rattle.std.specs.List.{AllZip, after_first, concat, position_or_len, prefix_len, suffix_len}
+use Rattle.std.proofs.Common.{◌≡◌, ◌⊎◌, ℕ, zero, suc, ◌+◌, ◌-◌, ◌<◌, Bool, true, false, cond, List, [], ◌∷◌, ◌++◌, All, length, take, drop, get_or, map, arith, refl, sym, ap, subst, ◌∙◌, inl, inr}
+use Rattle.std.specs.Prelude.{⊤, not, Option, Some, None, ◌&&◌, ◌==◌, codes, reverse}
+use Rattle.std.specs.List.{AllZip, after_first, position_or_len, prefix_len, suffix_len}
 use Rattle.std.specs.Str.{IsUtf8, IsCharBoundary, bytes_eq}
 use Rattle.std.proofs.lemmas.List.{get_or-reverse, reverse-append}
 use Rattle.std.proofs.lemmas.List.Elements.{All-nil, All-cons, All-head, All-tail}
 use Rattle.std.proofs.lemmas.List.Sums.{prefix_len_passes, prefix_len_stops, suffix_len-le-length}
 use Rattle.std.proofs.lemmas.Str.{IsUtf8-append, IsUtf8-drop, IsUtf8-nil, IsUtf8-take, IsCharBoundary-after_ascii, IsCharBoundary-before_ascii, IsCharBoundary-end}
 use Rattle.charset_map.specs.Characters.{is_blank}
-use Rattle.charset_map.specs.TableText.{without_back, without_front}
+use Rattle.charset_map.specs.TableText.{without_front}
 use Rattle.index_conf.specs.declared.conf.Conf.{Conf}
 use Rattle.index_conf.specs.declared.conf.IndexConf.{IndexConf}
 use Rattle.conf_text.specs.Confs.{IsConfOf, IsIndexOf, IsUtf8Line, shape, shapes_back}

@@ -9,15 +9,15 @@ use Rattle.command_line.specs.Modes.{Mode, selftest}
 use Rattle.index_conf.specs.declared.conf.Conf.{Conf}
 use Rattle.searchd_top.specs.CommandLine.{file_of}
 use Rattle.searchd_top.specs.Configuring.{AreIndexes, Texts}
-use Rattle.searchd_top.specs.Deeds.{Deeds, Does}
+use Rattle.searchd_top.specs.Deeds.{Count, Deeds, Does}
+use Rattle.searchd_top.specs.Output.{SaysLines}
 use Rattle.searchd_top.specs.Printing.{IsLinePrinted, IsReported, Reports}
 use Rattle.searchd_top.specs.Requests.{text_requests}
-use Rattle.searchd_top.specs.Runs.{IsRefused, Runs, SaysRefused, Works}
-use Rattle.searchd_top.specs.Selftests.{PrintsSelftest, selftest_lines}
+use Rattle.searchd_top.specs.Runs.{Runs, SaysRefused, Works}
+use Rattle.searchd_top.specs.Selftests.{IsUnprinted, SaysSelftest, selftest_lines}
 use Rattle.searchd_top.specs.declared.host.Host.{Ghosts as HostWords}
 use Rattle.searchd_top.specs.declared.host.Stream.{Stream}
 use Rattle.searchd_top.specs.declared.host.Stream.TheVariants.{Out, Err as Errors}
-use Rattle.searchd_top.specs.declared.requests.Request.{Request}
 use Rattle.searchd_top.specs.declared.requests.Request.TheVariants.{ReadText}
 use Rattle.searchd_top.specs.declared.status.Status.{Status}
 use Rattle.searchd_top.specs.declared.status.Status.TheVariants.{Done, Usage, Config, HostFault, Damaged, NoMemory, Strayed}
@@ -34,6 +34,26 @@ says_unconfigured texts mode file Done before now named c = absurd c
 says_unconfigured texts mode file Usage before now named c = absurd c
 says_unconfigured texts mode file (Damaged index number place kind) before now named c = absurd c
 says_unconfigured texts mode file (Strayed index strayed) before now named c = absurd c
+
+-- lines that were printed are those of a selftest
+says_printed : (status : Status) (lines output : List ℕ) (count : Count) → SaysLines status lines output count → SaysSelftest status lines output count
+says_printed Done lines output count says = says
+says_printed HostFault lines output count says = says
+says_printed NoMemory lines output count says = says
+says_printed Usage lines output count says = says
+says_printed (Config line kind) lines output count says = says
+says_printed (Damaged index file place kind) lines output count says = says
+says_printed (Strayed index strayed) lines output count says = absurd says
+
+-- a selftest without lines printed none
+says_unprinted : (status : Status) (lines : List ℕ) (before : ℕ) → IsUnprinted status → SaysSelftest status lines [] (record { before = before; now = before })
+says_unprinted NoMemory lines before unprinted = (refl, refl)
+says_unprinted (Strayed index strayed) lines before unprinted = (unprinted, refl, refl)
+says_unprinted Done lines before unprinted = absurd unprinted
+says_unprinted Usage lines before unprinted = absurd unprinted
+says_unprinted (Config line kind) lines before unprinted = absurd unprinted
+says_unprinted HostFault lines before unprinted = absurd unprinted
+says_unprinted (Damaged index file place kind) lines before unprinted = absurd unprinted
 
 module _ {H S D K : Type 0} (host : HostWords H S D K) (store : DiskWords S) (door : DoorWords D K) (link : LinkWords K) where
   -- there is no mode
@@ -96,15 +116,21 @@ module _ {H S D K : Type 0} (host : HostWords H S D K) (store : DiskWords S) (do
       } in (
         deeds,
         does,
-        inr (record { indexes = []; are = refl; later = []; asked = refl; works = record { requests = refl; stores = refl; doors = refl; faults = still; says = says } }),
+        inr (record { indexes = []; are = refl; later = []; asked = refl; works = record { requests = refl; stores = refl; doors = refl; faults = still; says = says_printed status (selftest_lines number docs) output deeds.print_faults says } }),
       )
 
-  -- a selftest found no memory
-  pub runs_unprinted : (number docs : ℕ) (old : H) → Runs host store door link (Some (selftest number docs)) NoMemory old old
-  runs_unprinted number docs old = (
+  -- a selftest ended without its lines
+  pub runs_unprinted : (number docs : ℕ) (status : Status) (old : H) → IsUnprinted status → Runs host store door link (Some (selftest number docs)) status old old
+  runs_unprinted number docs status old unprinted = (
     asking host [] old old,
     does_asking host [] old old (asks_nothing host old),
-    inr (record { indexes = []; are = refl; later = []; asked = refl; works = record { requests = refl; stores = refl; doors = refl; faults = refl; says = (refl, refl) } }),
+    inr (record {
+      indexes = [];
+      are = refl;
+      later = [];
+      asked = refl;
+      works = record { requests = refl; stores = refl; doors = refl; faults = refl; says = says_unprinted status (selftest_lines number docs) (host.print_faults old Out) unprinted };
+    }),
   )
 
   -- a report changes nothing of what was done

@@ -1,8 +1,9 @@
 -- The store at a path, and those that are left without it.
-use Rattle.std.proofs.Common.{◌≡◌, ◌∙◌, ◌≤◌, ℕ, zero, suc, List, [], ◌∷◌, Bool, true, false, cond, length, get_or, refl, sym, ap, subst, arith}
-use Rattle.std.specs.Prelude.{Option, Some, None, find, nat_lt, option_map}
+use Rattle.std.proofs.Common.{◌≡◌, ◌∙◌, ◌≤◌, ℕ, zero, suc, List, [], ◌∷◌, All, Bool, true, false, cond, length, take, drop, get_or, refl, ap, arith}
+use Rattle.std.specs.Prelude.{Some, None, find, nat_lt, option_map}
 use Rattle.std.specs.List.{position, position_or_len, remove, slice_get}
 use Rattle.std.specs.Str.{bytes_eq}
+use Rattle.std.proofs.lemmas.List.Elements.{All-append, All-drop, All-take}
 use Rattle.std.proofs.lemmas.List.Folds.{find_at}
 use Rattle.std.proofs.lemmas.List.Quantifiers.{position-Some}
 use Rattle.std.proofs.lemmas.Option.{slice_get-get_or}
@@ -40,3 +41,7 @@ taken_none stores path is = ap (option_map (λ (store : List ℕ × MemoryDisk).
 
 pub left_without : (stores : List (List ℕ × MemoryDisk)) (path : List ℕ) (place : ℕ) → store_place stores path ≡ Some place → stores_without stores path ≡ remove stores place
 left_without stores path place is = rw is refl
+
+-- what holds of all stores holds of those that are left
+pub left_have : {X : Type 0} (P : X → Type 0) (xs : List X) (place : ℕ) → All P xs → All P (remove xs place)
+left_have P xs place all = All-append P (take place xs) (drop (suc place) xs) (All-take P place xs all) (All-drop P (suc place) xs all)

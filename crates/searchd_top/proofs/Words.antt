@@ -1,101 +1,94 @@
--- What words ask for, by the mode that was read of them, and by their first word.
-use Rattle.std.proofs.Common.{◌≡◌, ◌||◌, ℕ, List, [], ◌∷◌, Bool, cond, true, false, refl, sym, ap, subst, ◌∙◌, true≢false}
-use Rattle.std.specs.Prelude.{MatchBool, ◌↔◌, Option, Some, None, codes, option_map, option_and_then}
+-- What words ask for, by the mode that was read of them.
+use Rattle.std.proofs.Common.{◌≡◌, ◌*◌, ◌<◌, ◌≤◌, lit≤, ℕ, List, [], ◌∷◌, refl, sym, ap, subst, arith, ◌∙◌, true≢false}
+use Rattle.std.specs.Prelude.{⊤, ◌↔◌, codes, Bool, true, false, ◌&&◌, nat_le, Option, Some, None, option_map, option_and_then, if◌then◌else◌}
 use Rattle.std.specs.Option.{is_some}
 use Rattle.std.specs.Str.{bytes_eq}
-use Rattle.std.proofs.lemmas.Slice.Eq.{bytes_eq-Decides}
+use Rattle.std.specs.Str.Parse.{digits_value}
+use Rattle.std.proofs.lemmas.Nat.{mul-le}
+use Rattle.command_line.specs.Modes.{is_number, number_or, within}
 use Rattle.command_line.specs.Modes as modes
 use Rattle.command_line.specs.Reading.{said}
 use Rattle.command_line.specs.declared.mode.Mode.{Mode}
-use Rattle.command_line.specs.steps.Words.{are_options_in, config_in, value_in}
-use Rattle.command_line.proofs.Pairing.{by_words, config_mode}
-use Rattle.searchd_top.specs.CommandLine.{asked, built}
 use Rattle.searchd_top.specs.declared.status.Status.{Status}
 use Rattle.searchd_top.specs.declared.status.Status.TheVariants.{Usage}
 
--- it is the mode that was read, where that is built
-pub asked_is : (words : List (List ℕ)) (read value : Option Mode) → option_map said read ≡ modes.mode words → read ≡ value
-    → asked words ≡ option_and_then built (option_map said value)
-asked_is words read value says is =
-    ap (λ (mode : Option modes.Mode). option_and_then built mode) (sym says ∙ ap (λ (mode : Option Mode). option_map said mode) is)
+-- it is the mode that was read
+pub mode_is : (words : List (List ℕ)) (read value : Option Mode) → option_map said read ≡ modes.mode words → read ≡ value → modes.mode words ≡ option_map said value
+mode_is words read value says is = sym says ∙ ap (λ (mode : Option Mode). option_map said mode) is
 
--- words that are a mode which is built are no bad arguments
-pub not_usage : (words : List (List ℕ)) (status : Status) → (status ≡ Usage → ⊥) → asked words ≡ modes.mode words → is_some (modes.mode words) ≡ true
-    → (status ≡ Usage) ↔ (asked words ≡ None)
-not_usage words status other is some = (
+-- words that are a mode are no bad arguments
+pub not_usage : (words : List (List ℕ)) (status : Status) → (status ≡ Usage → ⊥) → is_some (modes.mode words) ≡ true → (status ≡ Usage) ↔ (modes.mode words ≡ None)
+not_usage words status other some = (
   λ same. absurd (other same),
-  λ none. absurd (true≢false (sym some ∙ ap (λ o. is_some o) (sym is ∙ none))),
+  λ none. absurd (true≢false (sym some ∙ ap (λ o. is_some o) none)),
 )
 
--- ---- by the first word
+-- ---- numbers in their ranges
 
--- a mode of one file that is built, and one that isn't
-file_asked : (make : List ℕ → modes.Mode) → ((file : List ℕ) → built (make file) ≡ Some (make file)) → (o : Option (List ℕ)) → option_and_then built (option_map make o) ≡ option_map make o
-file_asked make is None = refl
-file_asked make is (Some file) = is file
+-- the numbers of a mode with workers
+abbrev pub InRange : Option modes.Mode → Type 0
+InRange (Some (modes.serve config listen workers sessions)) = (0 < workers) × (workers ≤ 64) × (sessions ≤ 1000000)
+InRange (Some (modes.session config)) = ⊤
+InRange (Some (modes.check config)) = ⊤
+InRange (Some (modes.selftest number docs)) = ⊤
+InRange None = ⊤
 
-session_asked : (words : List (List ℕ)) → option_and_then built (modes.by_options modes.session_options modes.session_of words) ≡ modes.by_options modes.session_options modes.session_of words
-session_asked words =
-    subst (λ (o : Option modes.Mode). option_and_then built o ≡ o) (sym (config_mode modes.session words)) (file_asked modes.session (λ file. refl) (config_in words))
+if_range : (b : Bool) (x y : Option modes.Mode) → InRange x → InRange y → InRange (if b then x else y)
+if_range true x y here there = here
+if_range false x y here there = there
 
-check_asked : (words : List (List ℕ)) → option_and_then built (modes.by_options modes.check_options modes.check_of words) ≡ modes.by_options modes.check_options modes.check_of words
-check_asked words = subst (λ (o : Option modes.Mode). option_and_then built o ≡ o) (sym (config_mode modes.check words)) (file_asked modes.check (λ file. refl) (config_in words))
+then_range : {A : Type 0} (f : A → Option modes.Mode) (o : Option A) → ((a : A) → o ≡ Some a → InRange (f a)) → InRange (option_and_then f o)
+then_range f None each = tt
+then_range f (Some a) each = each a refl
 
--- what holds of no mode and of each mode that values make
-by_values : (P : Option modes.Mode → Type 0) (names words : List (List ℕ)) (of : modes.Values → Option modes.Mode) → P None → ((value : modes.Values) → P (of value))
-    → P (modes.by_options names of words)
-by_values P names words of none each = subst P (sym (by_words names words of)) (by (are_options_in names words))
+if_some : (b : Bool) (o : Option ℕ) (a : ℕ) → (if b then o else None) ≡ Some a → (b ≡ true) × (o ≡ Some a)
+if_some true o a is = (refl, is)
+if_some false o a is = let clash : None ≡ Some a = is in absurd (cc clash)
+
+within_range : (low high number a : ℕ) → within low high number ≡ Some a → (low ≤ a) × (a ≤ high)
+within_range low high number a is =
+    let found = if_some (nat_le low number && nat_le number high) (Some number) a is in
+    let same : number ≡ a = cc (found.1) in
+    let test : (nat_le low number && nat_le number high) ≡ true = found.0 in
+    subst (λ (n : ℕ). (low ≤ n) × (n ≤ high)) same (grind arith)
+
+or_range : (default low high : ℕ) (o : Option (List ℕ)) (a : ℕ) → low ≤ default → default ≤ high → number_or default low high o ≡ Some a → (low ≤ a) × (a ≤ high)
+or_range default low high None a least most is = let same : default ≡ a = cc (is) in subst (λ (n : ℕ). (low ≤ n) × (n ≤ high)) same (least, most)
+or_range default low high (Some text) a least most is = within_range low high (digits_value 10 text) a (if_some (is_number text) (within low high (digits_value 10 text)) a is).1
+
+-- what the words say, through each choice of the definition
+by_range : (names : List (List ℕ)) (of : modes.Values → Option modes.Mode) (words : List (List ℕ)) → ((value : modes.Values) → InRange (of value)) → InRange (modes.by_options names of words)
+by_range names of words each = then_range (λ (list : List modes.Pair). if modes.are_options names list then of (λ name. modes.value_of name list) else None) (modes.pairs words)
+    (λ list is. if_range (modes.are_options names list) (of (λ name. modes.value_of name list)) None (each (λ name. modes.value_of name list)) tt)
+
+serve_range : (value : modes.Values) → InRange (modes.serve_of value)
+serve_range value =
+    then_range _ (value (codes "--config")) (λ config is.
+    then_range _ (value (codes "--listen")) (λ listen is.
+    then_range _ (number_or 4 1 64 (value (codes "--workers"))) (λ workers some.
+    mapped (number_or 1000000 1 1000000 (value (codes "--sessions"))) config listen workers (or_range 4 1 64 (value (codes "--workers")) workers (lit≤ tt) (lit≤ tt) some)
+    (λ sessions that. or_range 1000000 1 1000000 (value (codes "--sessions")) sessions (lit≤ tt) (lit≤ tt) that))))
   where
-    by : (b : Bool) → P (cond b (of (λ name. value_in name words)) None)
-    by true = each (λ name. value_in name words)
-    by false = none
+    mapped : (o : Option ℕ) (config listen : List ℕ) (workers : ℕ) → (1 ≤ workers) × (workers ≤ 64) → ((sessions : ℕ) → o ≡ Some sessions → (1 ≤ sessions) × (sessions ≤ 1000000)) → InRange (option_map (λ sessions. modes.serve config listen workers sessions) o)
+    mapped None config listen workers some each = tt
+    mapped (Some sessions) config listen workers some each = (omega (arith, some.0), some.1, (each sessions refl).1)
 
-selftest_asked : (words : List (List ℕ)) → option_and_then built (modes.by_options modes.selftest_options modes.selftest_of words) ≡ modes.by_options modes.selftest_options modes.selftest_of words
-selftest_asked words = by_values (λ o. option_and_then built o ≡ o) modes.selftest_options words modes.selftest_of refl
-    (λ value. by (modes.number_of 0 2147483647 (value (codes "--number"))) (modes.number_of 1 100000 (value (codes "--docs"))))
-  where
-    by : (n d : Option ℕ) → option_and_then built (option_and_then (λ number. option_map (λ docs. modes.selftest number docs) d) n) ≡ option_and_then (λ number. option_map (λ docs. modes.selftest number docs) d) n
-    by None d = refl
-    by (Some number) None = refl
-    by (Some number) (Some docs) = refl
+mapped_range : {A : Type 0} (f : A → modes.Mode) (o : Option A) → ((a : A) → InRange (Some (f a))) → InRange (option_map f o)
+mapped_range f None each = tt
+mapped_range f (Some a) each = each a
 
-serve_not_asked : (words : List (List ℕ)) → option_and_then built (modes.by_options modes.serve_options modes.serve_of words) ≡ None
-serve_not_asked words = by_values (λ o. option_and_then built o ≡ None) modes.serve_options words modes.serve_of refl
-    (λ value. by (value (codes "--config")) (value (codes "--listen")) (modes.number_or 4 1 64 (value (codes "--workers"))) (modes.number_or 1000000 1 1000000 (value (codes "--sessions"))))
-  where
-    by : (c l : Option (List ℕ)) (w s : Option ℕ)
-        → option_and_then built (option_and_then (λ config. option_and_then (λ listen. option_and_then (λ workers. option_map (λ sessions. modes.serve config listen workers sessions) s) w) l) c) ≡ None
-    by None l w s = refl
-    by (Some config) None w s = refl
-    by (Some config) (Some listen) None s = refl
-    by (Some config) (Some listen) (Some workers) None = refl
-    by (Some config) (Some listen) (Some workers) (Some sessions) = refl
+pub mode_range : (words : List (List ℕ)) → InRange (modes.mode words)
+mode_range [] = tt
+mode_range (name ∷ words) =
+    if_range (bytes_eq name (codes "session")) _ _ (by_range modes.session_options modes.session_of words (λ value. mapped_range modes.session (value (codes "--config")) (λ a. tt)))
+    (if_range (bytes_eq name (codes "serve")) _ _ (by_range modes.serve_options modes.serve_of words serve_range)
+    (if_range (bytes_eq name (codes "check")) _ _ (by_range modes.check_options modes.check_of words (λ value. mapped_range modes.check (value (codes "--config")) (λ a. tt)))
+    (if_range (bytes_eq name (codes "selftest")) _ _ (by_range modes.selftest_options modes.selftest_of words
+    (λ value. then_range _ (modes.number_of 0 2147483647 (value (codes "--number"))) (λ number is. mapped_range (λ (docs : ℕ). modes.selftest number docs) (modes.number_of 1 100000 (value (codes "--docs"))) (λ a. tt))))
+    tt)))
 
--- the first word is a mode that is built, or it isn't
-asked_built : (name : List ℕ) (words : List (List ℕ)) → (bytes_eq name (codes "session") || bytes_eq name (codes "check") || bytes_eq name (codes "selftest")) ≡ true → asked (name ∷ words) ≡ modes.mode (name ∷ words)
-asked_built name words e = by (bytes_eq name (codes "session")) (bytes_eq name (codes "check")) refl refl e
-  where
-    by : (a d : Bool) → bytes_eq name (codes "session") ≡ a → bytes_eq name (codes "check") ≡ d → (a || d || bytes_eq name (codes "selftest")) ≡ true → asked (name ∷ words) ≡ modes.mode (name ∷ words)
-    by true d same other e = rw same (session_asked words)
-    by false true same other e =
-        let it : name ≡ codes "check" = (bytes_eq-Decides name (codes "check")).0 other in
-        subst (λ (t : List ℕ). asked (t ∷ words) ≡ modes.mode (t ∷ words)) (sym it) (check_asked words)
-    by false false same other e =
-        let it : name ≡ codes "selftest" = (bytes_eq-Decides name (codes "selftest")).0 e in
-        subst (λ (t : List ℕ). asked (t ∷ words) ≡ modes.mode (t ∷ words)) (sym it) (selftest_asked words)
-
-not_asked : (name : List ℕ) (words : List (List ℕ)) → (bytes_eq name (codes "session") || bytes_eq name (codes "check") || bytes_eq name (codes "selftest")) ≡ false → asked (name ∷ words) ≡ None
-not_asked name words e = by (bytes_eq name (codes "session")) (bytes_eq name (codes "serve")) (bytes_eq name (codes "check")) refl refl refl e
-  where
-    by : (a b d : Bool) → bytes_eq name (codes "session") ≡ a → bytes_eq name (codes "serve") ≡ b → bytes_eq name (codes "check") ≡ d
-        → (a || d || bytes_eq name (codes "selftest")) ≡ false → asked (name ∷ words) ≡ None
-    by true b d x y z e = absurd (true≢false e)
-    by false true d x y z e = rw (x, y) (serve_not_asked words)
-    by false false true x y z e = absurd (true≢false e)
-    by false false false x y z e = rw (x, y, z, e) refl
-
--- either
-pub asked_by_name : (name : List ℕ) (words : List (List ℕ)) (b : Bool) → b ≡ (bytes_eq name (codes "session") || bytes_eq name (codes "check") || bytes_eq name (codes "selftest"))
-    → MatchBool b (asked (name ∷ words) ≡ modes.mode (name ∷ words)) (asked (name ∷ words) ≡ None)
-asked_by_name name words true e = asked_built name words (sym e)
-asked_by_name name words false e = not_asked name words (sym e)
+-- the numbers of words that ask for serving
+pub serves_within : (words : List (List ℕ)) (config listen : List ℕ) (workers sessions : ℕ) → modes.mode words ≡ Some (modes.serve config listen workers sessions) → (0 < workers) × (workers * sessions < 4294967296)
+serves_within words config listen workers sessions is =
+    let range : InRange (Some (modes.serve config listen workers sessions)) = subst InRange is (mode_range words) in
+    (range.0, omega (arith, mul-le workers sessions 64 1000000 range.1 range.2))

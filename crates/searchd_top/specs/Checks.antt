@@ -9,9 +9,10 @@ use Rattle.index_conf.specs.declared.conf.IndexConf.{IndexConf}
 use Rattle.store_steps.specs.Damage.{IsDamaged}
 use Rattle.store_steps.specs.Directory.{Directory, Holds, rows_in}
 use Rattle.store_steps.specs.declared.damage.TheConstants.{MOST_OPENED_CHUNKS}
-use Rattle.store_keep.specs.Opens.{HidesNothing, LeavesBegun, chunks_in, taken_in}
+use Rattle.store_keep.specs.Opens.{chunks_in, taken_in}
 use Rattle.searchd_top.specs.Deeds.{Count, Deeds, HasRisen, IsStill}
 use Rattle.searchd_top.specs.Lending.{Lent}
+use Rattle.searchd_top.specs.Openings.{Leaves}
 use Rattle.searchd_top.specs.Output.{SaysLines}
 use Rattle.searchd_top.specs.Statuses.{line}
 use Rattle.searchd_top.specs.declared.requests.Request.{Request}
@@ -44,10 +45,6 @@ pub record HasFiles (schema : Schema) (has : Holdings) (image : Image) : Type 0 
   pub holds : Holds schema found image
   pub few : length (chunks_in found) ≤ MOST_OPENED_CHUNKS
   pub is : has ≡ holdings_in found
-
--- What opening leaves of a store: a crash leaves what it might have left before, or the index without documents that was begun.
-abbrev pub Leaves : {S : Type 0} → DiskWords S → IndexConf → Lent S → Type 0
-Leaves store index lent = HidesNothing store lent.given → LeavesBegun store index.schema lent.given lent.back
 
 -- The store of an index was opened, and has this.
 pub record IsOpen {S : Type 0} (store : DiskWords S) (index : IndexConf) (lent : Lent S) (has : Holdings) : Type 0 where

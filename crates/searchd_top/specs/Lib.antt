@@ -14,6 +14,10 @@ pub mod Requests
 pub mod Deeds
 -- what a status says of lines that go to the output
 pub mod Output
+-- stores that were opened for indexes
+pub mod Openings
+-- how a run serves
+pub mod Plans
 -- what each mode does
 pub mod Sessions
 pub mod Checks

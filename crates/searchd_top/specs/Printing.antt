@@ -1,5 +1,5 @@
 -- What is printed on the two standard streams, where a host records it.
-use Rattle.std.specs.Prelude.{◌≡◌, ◌⊎◌, ℕ, ◌≤◌, List, [], Option, Result, Ok, Err}
+use Rattle.std.specs.Prelude.{◌≡◌, ◌⊎◌, ℕ, ◌<◌, ◌≤◌, List, [], Option, Result, Ok, Err, length}
 use Rattle.std.specs.Io.{StartsWith}
 use Rattle.srch_base.specs.Counts.{Rose}
 use Rattle.srch_base.specs.Told.{then_bytes}
@@ -37,14 +37,14 @@ abbrev pub CountsPrint : {T E : Type 0} → Result T E → Stream → (Stream �
 CountsPrint (Ok x) to before now = (now to ≡ before to) × (now (other to) ≡ before (other to))
 CountsPrint (Err e) to before now = (before to ≤ now to) × Rose (before to) (now to) × (now (other to) ≡ before (other to))
 
--- What was printed is the line, and no print failed; or a prefix of it, and the count of failed prints rose.
+-- What was printed is the line, and no print failed; or there is a line, a prefix of it was printed, and the count of failed prints rose.
 abbrev pub IsLinePrinted : List ℕ → List ℕ → ℕ → ℕ → Type 0
-IsLinePrinted line front before now = ((front ≡ line) × (now ≡ before)) ⊎ (StartsWith line front × Rose before now)
+IsLinePrinted line front before now = ((front ≡ line) × (now ≡ before)) ⊎ ((0 < length line) × StartsWith line front × Rose before now)
 
 -- The line was printed to the errors and no print to them failed, or a prefix of it and the count of failed prints to them rose. Nothing was printed to the output.
 abbrev pub Reports : List ℕ → (Stream → Option (List ℕ)) → (Stream → Option (List ℕ)) → ℕ → ℕ → Type 0
 Reports line old new before now = (front : List ℕ) × IsLinePrinted line front before now × Prints Errors front old new
 
--- The line went to the errors, or a prefix of it and the count of failed prints to the errors rose.
+-- The line went to the errors and no print to them failed, or a prefix of it and the count of failed prints to them rose.
 abbrev pub IsReported : List ℕ → Option (List ℕ) → Option (List ℕ) → ℕ → ℕ → Type 0
 IsReported line old new before now = (front : List ℕ) × IsLinePrinted line front before now × (new ≡ then_bytes old front)

@@ -1,7 +1,8 @@
 -- Requests to a host: for the texts of files, for the stores of indexes, and for doors to clients.
 use Rattle.std.specs.Prelude.{◌≡◌, ⊤, ℕ, List, [], ◌∷◌, ◌++◌, Option, Some, None, map}
-use Rattle.command_line.specs.Modes.{Mode, session, check}
+use Rattle.command_line.specs.Modes.{Mode, session, serve, check}
 use Rattle.index_conf.specs.declared.conf.IndexConf.{IndexConf}
+use Rattle.searchd_top.specs.Plans.{Plan, listening, one_line}
 use Rattle.searchd_top.specs.declared.requests.Request.{Request}
 use Rattle.searchd_top.specs.declared.requests.Request.TheVariants.{ReadText, OpenStore, OpenDoors}
 
@@ -20,12 +21,13 @@ text_requests (Some file) = ReadText file ∷ []
 abbrev pub store_requests : List IndexConf → List Request
 store_requests indexes = map (λ index. OpenStore index.path) indexes
 
--- for one door over the standard streams
-abbrev pub one_door : List Request
-one_door = OpenDoors None 1 ∷ []
+-- for the doors of a plan
+abbrev pub door_requests : Plan → List Request
+door_requests plan = OpenDoors plan.listen plan.workers ∷ []
 
 -- The requests of a mode once its indexes are known, a row for each: the stores in the order of the configuration, and then the doors.
 abbrev pub later_requests : Option Mode → List IndexConf → List Request
-later_requests (Some (session file)) indexes = one_door
+later_requests (Some (session file)) indexes = store_requests indexes ++ door_requests one_line
+later_requests (Some (serve file listen workers sessions)) indexes = store_requests indexes ++ door_requests (listening listen workers sessions)
 later_requests (Some (check file)) indexes = store_requests indexes
 later_requests mode indexes = []

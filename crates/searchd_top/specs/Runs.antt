@@ -9,9 +9,10 @@ use Rattle.searchd_top.specs.Checks.{ChecksIndexes}
 use Rattle.searchd_top.specs.CommandLine.{file_of}
 use Rattle.searchd_top.specs.Configuring.{Texts, AreIndexes, IsMisconfigured}
 use Rattle.searchd_top.specs.Deeds.{Count, Deeds, Does, HasRisen, IsIdle, IsStill}
+use Rattle.searchd_top.specs.Plans.{listening, one_line}
 use Rattle.searchd_top.specs.Requests.{later_requests, text_requests}
 use Rattle.searchd_top.specs.Selftests.{PrintsSelftest}
-use Rattle.searchd_top.specs.Sessions.{ServesSession}
+use Rattle.searchd_top.specs.Sessions.{ServesIndexes}
 use Rattle.searchd_top.specs.declared.host.Host.{Ghosts as HostWords}
 use Rattle.searchd_top.specs.declared.requests.Request.{Request}
 use Rattle.searchd_top.specs.declared.status.Status.{Status}
@@ -19,10 +20,11 @@ use Rattle.searchd_top.specs.declared.status.Status.TheVariants.{Done, Usage, Co
 
 -- What a mode does over the indexes of its file, a row for each mode.
 abbrev pub Works : {S D K : Type 0} → DiskWords S → DoorWords D K → LinkWords K → Option Mode → List IndexConf → Status → Deeds S D → Type 0
-Works store door link (Some (session file)) indexes status deeds = ServesSession door link indexes (later_requests (Some (session file)) indexes) status deeds
+Works store door link (Some (session file)) indexes status deeds = ServesIndexes store door link indexes one_line (later_requests (Some (session file)) indexes) status deeds
+Works store door link (Some (serve file listen workers sessions)) indexes status deeds =
+    ServesIndexes store door link indexes (listening listen workers sessions) (later_requests (Some (serve file listen workers sessions)) indexes) status deeds
 Works store door link (Some (check file)) indexes status deeds = ChecksIndexes store indexes (later_requests (Some (check file)) indexes) status deeds
 Works store door link (Some (selftest number docs)) indexes status deeds = PrintsSelftest number docs status deeds
-Works store door link (Some (serve file listen workers sessions)) indexes status deeds = ⊥
 Works store door link None indexes status deeds = ⊥
 
 -- What a status says where there are no indexes to work over: there is no mode, or no configuration in its file.

@@ -1,65 +1,101 @@
--- What a session does over the indexes of its configuration: one connection of one door is served.
-use Rattle.std.specs.Prelude.{◌≡◌, ◌⊎◌, ℕ, ◌≤◌, List, [], ◌∷◌, ◌++◌, Some, true, length, take, All, Contains}
-use Rattle.srch_base.specs.Counts.{Rose}
-use Rattle.srch_base.specs.Moves.{Moves}
-use Rattle.srch_base.specs.declared.link.Link.{Ghosts as LinkWords}
-use Rattle.srch_base.specs.declared.door.Door.{Ghosts as DoorWords}
+-- What `session` and `serve` do over the indexes of a configuration: the stores of all are opened, doors are asked for, and workers serve
+-- their lines, each those of its own door. Then each index ends.
+use Rattle.std.specs.Prelude.{◌≡◌, ◌⊎◌, ℕ, List, [], ◌∷◌, Bool, true, false, Result, Ok, Err, length, map, take}
+use Rattle.chunk_store.specs.declared.disk.Disk.{Ghosts as DiskWords}
+use Rattle.commit_outcomes.specs.declared.strayed.Strayed.{Strayed as AnyStrayed}
+use Rattle.doc_types.specs.declared.schema.Schema.{Schema}
+use Rattle.engine_tables.specs.Endings.{ComeBack}
 use Rattle.index_conf.specs.declared.conf.IndexConf.{IndexConf}
-use Rattle.ql_session.specs.LinkEnd.{LinkEnd}
-use Rattle.ql_session.specs.Machines.{FollowAll}
-use Rattle.ql_session.specs.Session.{Session}
-use Rattle.ql_session.specs.Tables.{Tables, Event, Follows, empty_tables}
+use Rattle.line_workers.specs.Served.{IsServed}
+use Rattle.served_stores.specs.Serving.{AnyEnded, AnySeat, some_failed, told}
+use Rattle.served_stores.specs.Stores.{AreNamesOf}
+use Rattle.srch_base.specs.declared.door.Door.{Ghosts as DoorWords}
+use Rattle.srch_base.specs.declared.faults.Or.{Or}
+use Rattle.srch_base.specs.declared.faults.Or.TheVariants as causes
+use Rattle.srch_base.specs.declared.link.Link.{Ghosts as LinkWords}
+use Rattle.step_history.specs.History.{Base}
+use Rattle.store_keep.specs.declared.opening.Opened.{Opened}
+use Rattle.searchd_top.specs.Checks.{StopsAt}
 use Rattle.searchd_top.specs.Deeds.{Deeds, HasRisen, IsStill}
-use Rattle.searchd_top.specs.Lending.{Lent, Lends}
+use Rattle.searchd_top.specs.Lending.{back_of, given_of}
+use Rattle.searchd_top.specs.Openings.{AreOpenedFrom}
+use Rattle.searchd_top.specs.Plans.{Plan}
+use Rattle.searchd_top.specs.Requests.{store_requests}
 use Rattle.searchd_top.specs.declared.requests.Request.{Request}
 use Rattle.searchd_top.specs.declared.status.Status.{Status}
 use Rattle.searchd_top.specs.declared.status.Status.TheVariants.{Done, Usage, Config, HostFault, Damaged, NoMemory, Strayed}
 
--- One whole session of this number went over the connection, by these indexes, which had no documents at its beginning.
-abbrev pub Serves : {K : Type 0} → LinkWords K → ℕ → List IndexConf → K → K → Type 0
-Serves link connection indexes line served =
-    (end : LinkEnd) × (tables : Tables) × Moves link line served (λ before now read written.
-    (events : List Event) × Session connection before now read written end events × FollowAll Follows (empty_tables indexes) events tables)
+-- an end for want of memory decides where nothing else does
+abbrev pub unless_decided : Status → Status
+unless_decided Done = NoMemory
+unless_decided status = status
 
--- The door gave at most one connection, and it was handed back, served as number 1.
-pub record ServesOne {D K : Type 0} (door : DoorWords D K) (link : LinkWords K) (indexes : List IndexConf) (old new : D) : Type 0 where
-  pub lines : List (Lent K)
-  pub lends : Lends (door.given old) (door.given new) (door.returned old) (door.returned new) lines
-  pub few : length lines ≤ 1
-  pub serves : All (λ line. Serves link 1 indexes line.given line.back) lines
+-- The status by how the indexes ended: the first one whose history strayed decides, and then want of memory.
+abbrev pub status_of_ends : List IndexConf → List (Result (Unit {0}) (Or AnyStrayed)) → Status
+status_of_ends (index ∷ indexes) (Ok done ∷ ends) = status_of_ends indexes ends
+status_of_ends (index ∷ indexes) (Err (causes.Fault strayed) ∷ ends) = Strayed index.schema.name strayed
+status_of_ends (index ∷ indexes) (Err causes.NoMemory ∷ ends) = unless_decided (status_of_ends indexes ends)
+status_of_ends indexes ends = Done
 
--- The door did its work: its count is as it was, and it gave a connection or has ended.
-abbrev pub DidWork : {D K : Type 0} → DoorWords D K → D → D → Type 0
-DidWork {D} {K} door old new =
-    (door.faults new ≡ door.faults old) × (((line : K) × (door.given new ≡ door.given old ++ line ∷ [])) ⊎ (door.ended new ≡ true))
+-- a door that failed decides before them
+abbrev pub status_after : Bool → Status → Status
+status_after true status = HostFault
+status_after false status = status
 
--- The door failed.
-abbrev pub DoorFailed : {D K : Type 0} → DoorWords D K → D → D → Type 0
-DoorFailed door old new = Rose (door.faults old) (door.faults new)
+-- The workers served the lines of these doors over the stores that were opened, and then each index ended. All that lines were shown and
+-- told is of the one history of each index, which begins with the documents that its files stood for.
+pub record HaveWorked {S D K : Type 0} (store : DiskWords S) (door : DoorWords D K) (link : LinkWords K) (indexes : List IndexConf) (plan : Plan) (requests : List Request) (opened : List (Opened S)) (status : Status) (deeds : Deeds S D) : Type 0 where
+  pub schema : ℕ → Schema
+  pub base : ℕ → Base
+  pub names : AreNamesOf indexes opened schema base
+  pub seats : List (AnySeat D K)
+  pub left : List (AnySeat D K)
+  pub ended : List (AnyEnded S)
+  pub many : length deeds.doors ≡ plan.workers
+  pub sat : map (λ seat. seat.door) seats ≡ given_of deeds.doors
+  pub stood : map (λ seat. seat.door) left ≡ back_of deeds.doors
+  pub disks : map (λ end. end.disk) ended ≡ back_of deeds.stores
+  pub served : IsServed store door link schema base indexes plan.sessions seats left ended
+  pub says : status ≡ status_after (some_failed left) (status_of_ends indexes (map (λ end. told end.answer) ended))
+  pub asked : deeds.requests ≡ requests
+  pub faults : IsStill deeds.faults
 
--- The door was served by these indexes; it did its work or failed.
-pub record IsServed {D K : Type 0} (door : DoorWords D K) (link : LinkWords K) (indexes : List IndexConf) (lent : Lent D) : Type 0 where
-  pub serves : ServesOne door link indexes lent.given lent.back
-  pub works : DidWork door lent.given lent.back ⊎ DoorFailed door lent.given lent.back
+-- What a status says where no worker began: the host gave no doors, or memory was refused.
+abbrev pub SaysIdle : {S D : Type 0} → List Request → Status → Deeds S D → Type 0
+SaysIdle requests HostFault deeds = (deeds.requests ≡ requests) × HasRisen deeds.faults × (deeds.doors ≡ [])
+SaysIdle requests NoMemory deeds = ((count : ℕ) × (deeds.requests ≡ take count requests)) × IsStill deeds.faults
+SaysIdle requests Done deeds = ⊥
+SaysIdle requests Usage deeds = ⊥
+SaysIdle requests (Config number kind) deeds = ⊥
+SaysIdle requests (Damaged name file place kind) deeds = ⊥
+SaysIdle requests (Strayed name strayed) deeds = ⊥
 
--- What a status says of the doors of a session, and of its requests.
-abbrev pub SaysDoors : {S D K : Type 0} → DoorWords D K → List Request → Status → Deeds S D → Type 0
-SaysDoors door requests Done deeds =
-    (deeds.requests ≡ requests) × IsStill deeds.faults × (length deeds.doors ≡ 1) × All (λ lent. DidWork door lent.given lent.back) deeds.doors
-SaysDoors {S} {D} {K} door requests HostFault deeds =
-    (deeds.requests ≡ requests) × (HasRisen deeds.faults ⊎ ((lent : Lent D) × Contains deeds.doors lent × DoorFailed door lent.given lent.back))
-SaysDoors door requests NoMemory deeds = (count : ℕ) × (deeds.requests ≡ take count requests)
-SaysDoors door requests Usage deeds = ⊥
-SaysDoors door requests (Config line kind) deeds = ⊥
-SaysDoors door requests (Damaged index file place kind) deeds = ⊥
-SaysDoors door requests (Strayed index strayed) deeds = ⊥
+-- No worker began. The doors, all or none, came back as they were, and each store as it was opened, or as the end of its engine left
+-- it, which no worker had a token of then.
+pub record AreIdle {S D : Type 0} (store : DiskWords S) (indexes : List IndexConf) (plan : Plan) (requests : List Request) (opened : List (Opened S)) (status : Status) (deeds : Deeds S D) : Type 0 where
+  pub schema : ℕ → Schema
+  pub base : ℕ → Base
+  pub names : AreNamesOf indexes opened schema base
+  pub ended : List (AnyEnded S)
+  pub many : (deeds.doors ≡ []) ⊎ (length deeds.doors ≡ plan.workers)
+  pub same : back_of deeds.doors ≡ given_of deeds.doors
+  pub disks : map (λ end. end.disk) ended ≡ back_of deeds.stores
+  pub back : ComeBack store schema base (length deeds.doors) opened ended
+  pub says : SaysIdle requests status deeds
 
--- A session by these indexes: one door at most was given, and it was served. Nothing is printed to the output, and the documents are
--- kept in memory: no store is given.
-pub record ServesSession {S D K : Type 0} (door : DoorWords D K) (link : LinkWords K) (indexes : List IndexConf) (requests : List Request) (status : Status) (deeds : Deeds S D) : Type 0 where
-  pub stores : deeds.stores ≡ []
+-- The stores of all indexes were opened.
+pub record OpensFirst {S D K : Type 0} (store : DiskWords S) (door : DoorWords D K) (link : LinkWords K) (indexes : List IndexConf) (plan : Plan) (requests : List Request) (status : Status) (deeds : Deeds S D) : Type 0 where
+  pub opened : List (Opened S)
+  pub are : AreOpenedFrom store indexes (given_of deeds.stores) opened
+  pub goes : HaveWorked store door link indexes plan requests opened status deeds ⊎ AreIdle store indexes plan requests opened status deeds
+
+-- Opening a store stopped it, and no door was given.
+pub record StopsFirst {S D : Type 0} (store : DiskWords S) (indexes : List IndexConf) (status : Status) (deeds : Deeds S D) : Type 0 where
+  pub doors : deeds.doors ≡ []
+  pub stops : StopsAt store indexes (store_requests indexes) status deeds
+
+-- What serving these indexes by a plan comes to. Nothing is printed to the output.
+pub record ServesIndexes {S D K : Type 0} (store : DiskWords S) (door : DoorWords D K) (link : LinkWords K) (indexes : List IndexConf) (plan : Plan) (requests : List Request) (status : Status) (deeds : Deeds S D) : Type 0 where
   pub output : deeds.output ≡ []
   pub print_faults : IsStill deeds.print_faults
-  pub few : length deeds.doors ≤ 1
-  pub served : All (IsServed door link indexes) deeds.doors
-  pub says : SaysDoors door requests status deeds
+  pub serves : OpensFirst store door link indexes plan requests status deeds ⊎ StopsFirst store indexes status deeds

@@ -2,6 +2,7 @@
 //! doors to clients. The real one is a thin adapter in the program; the one over memory records everything, for tests.
 ghost use Rattle.std.specs.Prelude.{◌≡◌, ◌+◌, ◌≤◌, ◌++◌, [], ◌∷◌, ℕ, List, Option, length, option_copied, IfOk, MatchResult};
 ghost use Rattle.std.specs.List.{All};
+ghost use Rattle.store_keep.specs.Opens.{HidesNothing};
 ghost use Rattle.searchd_top.specs.declared.host.Stream.{Stream};
 ghost use Rattle.searchd_top.specs.declared.requests.Request.{Request};
 ghost use Rattle.searchd_top.specs.Configuring.{AreReadOf};
@@ -81,9 +82,11 @@ pub trait Host {
         ensures gives_doors { doors_given self.new ≡ doors_given self.old }
         ensures takes_doors { doors_back self.new ≡ doors_back self.old };
 
-    /// Gives the store in the folder that a path names. No one else has it until it is handed back.
+    /// Gives the store in the folder that a path names. No one else has it until it is handed back. Of its root a crash leaves no part
+    /// that a read doesn't find.
     fn open_store(&mut self, path: &str) -> Result<Self::Store, OpenFault>
         ensures gives_stores { MatchResult result (λ store. stores_given self.new ≡ stores_given self.old ++ store ∷ []) (λ fault. stores_given self.new ≡ stores_given self.old) }
+        ensures hides { IfOk result (HidesNothing Self.Store.Disk) }
         ensures cause { CountsOpening result (faults self.old) (faults self.new) }
         ensures asks { Requested (requests self.old) (requests self.new) (Request.OpenStore path.now ∷ []) }
         ensures print_count { print_faults self.new ≡ print_faults self.old }

@@ -5,7 +5,6 @@ mod checking;
 mod configuring;
 mod host;
 mod memory_host;
-mod modes;
 mod opening;
 mod printing;
 mod program;

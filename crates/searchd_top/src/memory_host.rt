@@ -3,6 +3,8 @@
 ghost use Rattle.std.specs.Prelude.{◌≡◌, ◌+◌, ◌<◌, ◌≤◌, ◌++◌, ◌==◌, [], ◌∷◌, length, map, take, drop, is_err, option_copied, IfOk, IfNone, IfSome, OnOk, OnErr, IsTrue, IsErr, MatchResult, Some};
 ghost use Rattle.std.specs.List.{All, list_any};
 ghost use Rattle.srch_base.specs.Counts.{Rose};
+ghost use Rattle.store_keep.specs.Opens.{HidesNothing};
+ghost use Rattle.chunk_store.specs.contracts.memory_disk.MemoryDiskDisk.TheImpl as memory_words;
 ghost use Rattle.srch_base.specs.Memory.{one_more, lines_given};
 ghost use Rattle.searchd_top.specs.Configuring.{AreReadOf};
 ghost use Rattle.searchd_top.specs.Printing.{PrintsLine, CountsPrint, other};
@@ -46,7 +48,9 @@ pub struct MemoryHost {
 }
 
 impl Model for MemoryHost {
-    ghost use Rattle.std.specs.Prelude.{◌≤◌, ◌+◌, length, map, vec_capacity};
+    ghost use Rattle.std.specs.Prelude.{◌≤◌, ◌+◌, All, length, map, vec_capacity};
+    ghost use Rattle.store_keep.specs.Opens.{HidesNothing};
+    ghost use Rattle.chunk_store.specs.contracts.memory_disk.MemoryDiskDisk.TheImpl as memory_words;
     ghost use Rattle.std.specs.Coded.{codes};
     ghost use Rattle.chunk_store.specs.contracts.memory_disk.MemoryDisk as disk;
     ghost use Rattle.searchd_top.specs.HostMemory.{HostMemory};
@@ -74,12 +78,13 @@ impl Model for MemoryHost {
     } };
 
     ghost invariant = { λ a. (a.at ≤ length a.doors.items) × (length a.doors.items ≤ vec_capacity a.back)
-        × (length a.stores.items + length a.stores_given.items ≤ vec_capacity a.stores_given) × (length a.stores.items + length a.stores_given.items ≤ vec_capacity a.stores_back) };
+        × (length a.stores.items + length a.stores_given.items ≤ vec_capacity a.stores_given) × (length a.stores.items + length a.stores_given.items ≤ vec_capacity a.stores_back)
+        × All (λ store. HidesNothing memory_words.ghosts store.1) a.stores.items };
 }
 
 impl MemoryHost {
     /// A host with these files, each a path and a text, that gives these stores, each by its path, and these doors in their order, a
-    /// copy of each. The calls with the numbers `failing` fail.
+    /// copy of each. The calls with the numbers `failing` fail. Of the root of a store a crash leaves no part that a read doesn't find.
     pub fn new(
         alloc: Global,
         texts: Vec<(Text, Vec<u8>)>,
@@ -87,6 +92,7 @@ impl MemoryHost {
         doors: Vec<ListDoor>,
         failing: Vec<u32>,
     ) -> Result<MemoryHost, NoMemory>
+        requires { All (λ store. HidesNothing memory_words.ghosts store.1) stores.items }
         ensures { IfOk result (λ host. host ≡ host_over (map (λ file. (file.0, file.1.items)) texts.items) stores.items doors.items failing.items) }
     {
         Ok(MemoryHost {
@@ -199,6 +205,7 @@ impl MemoryHost {
     /// Gives the first store with this path, and notes that it was given.
     fn take_store(&mut self, path: &str) -> Option<MemoryDisk>
         ensures taken { result ≡ store_at self.old.stores path.now }
+        ensures hides { IfSome result (HidesNothing memory_words.ghosts) }
         ensures some { IfSome result (λ store. self.new ≡ record self.old { stores = stores_without self.old.stores path.now; stores_given = self.old.stores_given ++ store ∷ [] }) }
         ensures none { IfNone result (self.new ≡ self.old) }
     {
@@ -312,6 +319,7 @@ impl Host for MemoryHost {
         ensures fails { says_failed result ≡ gives_none self.old path.now }
         ensures asks { Requested self.old.requests self.new.requests (Request.OpenStore path.now ∷ []) }
         ensures opens { IfOk result (λ store. store_at self.old.stores path.now ≡ Some store) }
+        ensures hides { IfOk result (HidesNothing memory_words.ghosts) }
         ensures after { self.new ≡ record (after_store self.old path.now result) { requests = self.new.requests } }
         ensures gives_stores { MatchResult result (λ store. self.new.stores_given ≡ self.old.stores_given ++ store ∷ []) (λ fault. self.new.stores_given ≡ self.old.stores_given) }
         ensures cause { CountsOpening result self.old.faults self.new.faults }

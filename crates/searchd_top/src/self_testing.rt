@@ -1,38 +1,73 @@
-//! A selftest: documents in memory are asked for, and what was found is printed.
-ghost use Rattle.std.specs.Prelude.{◌≡◌, Some, IfOk, string_bytes};
+//! A selftest: documents in an index in memory are asked for, and what was found is printed once the index has ended.
+ghost use Rattle.std.specs.Prelude.{◌≡◌, Err, Some, IfErr, IfOk, string_bytes};
 ghost use Rattle.command_line.specs.Modes.{selftest};
+ghost use Rattle.self_test.specs.Ends.{Ends};
 ghost use Rattle.searchd_top.specs.Runs.{Runs};
-ghost use Rattle.searchd_top.specs.Selftests.{selftest_lines};
+ghost use Rattle.searchd_top.specs.Selftests.{IsUnprinted, selftest_lines};
 ghost use Rattle.searchd_top.specs.Statuses.{NamesIndex};
 
 use crate::printing::print_output;
 use crate::{Host, Status, Stream};
-use self_test::{Unexpected, run_in_memory};
-use srch_base::{NoMemory, Or};
+use chunk_store::{Disk, MemoryDisk};
+use self_test::{SelftestFault, run_over_engine};
+use srch_base::{Name, NoMemory};
 use std::alloc::Global;
+use std::sync::Wait;
 
-/// Runs a selftest in memory, and prints what it says to the output.
-pub(crate) fn run_selftest<H: Host>(alloc: Global, number: u32, docs: u32, host: &mut H) -> Status
+/// The name of the index that a selftest is run over.
+const INDEX: &[u8] = b"t";
+
+/// Runs a selftest over an index in memory, and prints what it says to the output. Where the history of the index strayed, or memory was
+/// refused, nothing is printed there.
+pub(crate) fn run_selftest<H: Host, R: Wait>(
+    rt: &R,
+    alloc: Global,
+    number: u32,
+    docs: u32,
+    host: &mut H,
+) -> Status
     ensures runs { Runs H.Host H.Store.Disk H.Entry.Door H.Entry.Line.Link (Some (selftest number docs)) result host.old host.new }
     ensures asked { ¬ (result ≡ Status.Usage) }
     ensures names { NamesIndex result }
     ensures errors { H.printed host.new Stream.Err ≡ H.printed host.old Stream.Err }
     ensures quiet { H.print_faults host.new Stream.Err ≡ H.print_faults host.old Stream.Err }
 {
-    match selftest_lines(alloc, number, docs) {
+    match selftest_lines(rt, alloc, number, docs) {
         Ok(lines) => print_output(lines.as_bytes(), host),
-        Err(NoMemory) => Status::NoMemory,
+        Err(status) => status,
     }
 }
 
-/// The lines of a selftest. A reply that isn't the one that it has to be is answered as want of memory: no other refusal
-/// can come.
+/// The lines of a selftest, or how it ended without them.
 #[tactic(auto, unfolding(crate::specs::Selftests::selftest_lines))]
-fn selftest_lines(alloc: Global, number: u32, docs: u32) -> Result<String, NoMemory>
-    ensures { IfOk result (λ lines. string_bytes lines ≡ selftest_lines number docs) }
+fn selftest_lines<R: Wait>(rt: &R, alloc: Global, number: u32, docs: u32) -> Result<String, Status>
+    ensures lines { IfOk result (λ lines. string_bytes lines ≡ selftest_lines number docs) }
+    ensures ends { IfErr result IsUnprinted }
+    ensures asked { IfErr result (λ status. ¬ (status ≡ Status.Usage)) }
+    ensures names { IfErr result NamesIndex }
 {
-    match run_in_memory(alloc, number, docs) {
-        Ok(summary) => Ok(format!(in alloc; "{summary}")?),
-        Err(Or::NoMemory | Or::Fault(Unexpected)) => Err(NoMemory),
+    match run_over_engine(rt, alloc, number, docs) {
+        Ok(summary) => match format!(in alloc; "{summary}") {
+            Ok(lines) => Ok(lines),
+            Err(_) => Err(Status::NoMemory),
+        },
+        Err(fault) => Err(status_of(alloc, fault)),
+    }
+}
+
+/// The status of a selftest that has no lines. A reply that isn't the one that it has to be is answered as want of memory: no other
+/// refusal can come.
+fn status_of(alloc: Global, fault: SelftestFault) -> Status
+    requires { Ends ⟦<MemoryDisk as Disk>⟧ (Err fault) }
+    ensures ends { IsUnprinted result }
+    ensures asked { ¬ (result ≡ Status.Usage) }
+    ensures names { NamesIndex result }
+{
+    match fault {
+        SelftestFault::NoMemory | SelftestFault::Unexpected => Status::NoMemory,
+        SelftestFault::Strayed(strayed) => match Name::from_slice(alloc, INDEX) {
+            Ok(index) => Status::Strayed { index, strayed },
+            Err(NoMemory) => Status::NoMemory,
+        },
     }
 }

@@ -1,5 +1,5 @@
 -- Stores that are opened one after the other: those in hand, and where opening stops.
-use Rattle.std.specs.Prelude.{◌≡◌, ⊤, ℕ, suc, List, [], ◌∷◌, ◌++◌, Result, Ok, Err, length, map, take, option_to_list}
+use Rattle.std.specs.Prelude.{◌≡◌, ⊤, ℕ, suc, List, ◌∷◌, ◌++◌, Result, Ok, Err, length, map, take, option_to_list}
 use Rattle.std.specs.Arc.{arc_value}
 use Rattle.std.specs.FinMap as finite
 use Rattle.chunk_store.specs.declared.disk.Disk.{Ghosts as DiskWords}
@@ -9,8 +9,9 @@ use Rattle.step_history.specs.Places.{disk_chunks}
 use Rattle.store_keep.specs.declared.fault.StoreFault.{StoreFault}
 use Rattle.store_keep.specs.declared.fault.StoreFault.TheVariants as faults
 use Rattle.store_keep.specs.declared.opening.Opened.{Opened}
-use Rattle.searchd_top.specs.Checks.{Holdings, IsOpen, Stops}
+use Rattle.searchd_top.specs.Checks.{Holdings, Stops}
 use Rattle.searchd_top.specs.Lending.{Lent, back_of, given_of}
+use Rattle.searchd_top.specs.Openings.{AreOpenedFrom}
 use Rattle.searchd_top.specs.Requests.{Requested, store_requests}
 use Rattle.searchd_top.specs.declared.host.Host.{Ghosts as HostWords}
 use Rattle.searchd_top.specs.declared.opening.Stop.{Stop}
@@ -26,13 +27,6 @@ abbrev pub holdings_of : {S : Type 0} → Opened S → Holdings
 holdings_of store =
     record { documents = finite.len (live (arc_value store.snapshot)); chunks = length (disk_chunks (arc_value store.snapshot)); records = store.records }
 
--- The stores of indexes are in hand, each as it was given and as it was opened.
-abbrev pub AreHeld : {S : Type 0} → DiskWords S → List IndexConf → List S → List (Opened S) → Type 0
-AreHeld store [] [] [] = ⊤
-AreHeld store (index ∷ indexes) (given ∷ stores) (opened ∷ others) =
-    IsOpen store index (record { given = given; back = opened.disk }) (holdings_of opened) × AreHeld store indexes stores others
-AreHeld store indexes stores opened = ⊥
-
 -- Stores were asked for and given, and no door was; none was handed back.
 pub record KeepsDoors {H S D K : Type 0} (host : HostWords H S D K) (old new : H) : Type 0 where
   pub takes_stores : host.stores_back new ≡ host.stores_back old
@@ -45,7 +39,7 @@ pub record OpensAll {H S D K : Type 0} (host : HostWords H S D K) (store : DiskW
   pub opened : List (Opened S)
   pub gives : host.stores_given new ≡ host.stores_given old ++ given
   pub holds : after ≡ before ++ opened
-  pub held : AreHeld store indexes given opened
+  pub held : AreOpenedFrom store indexes given opened
   pub asked : Requested (host.requests old) (host.requests new) (store_requests indexes)
   pub still : host.faults new ≡ host.faults old
 
@@ -58,7 +52,7 @@ pub record StopsOpening {H S D K : Type 0} (host : HostWords H S D K) (store : D
   pub given : List S
   pub opened : List (Opened S)
   pub holds : after ≡ before ++ opened
-  pub held : AreHeld store front given opened
+  pub held : AreOpenedFrom store front given opened
   pub last : List (Lent S)
   pub hands : back_of last ≡ option_to_list stop.store
   pub gives : host.stores_given new ≡ host.stores_given old ++ (given ++ given_of last)

@@ -9,7 +9,7 @@ use Rattle.index_conf.specs.Soundness.{IsSound}
 use Rattle.index_conf.specs.declared.conf.Conf.{Conf}
 use Rattle.index_conf.specs.declared.conf.IndexConf.{IndexConf}
 use Rattle.searchd_top.specs.Configuring.{AreReadOf}
-use Rattle.searchd_top.specs.Deeds.{Count, Deeds, Does}
+use Rattle.searchd_top.specs.Deeds.{Deeds, Does}
 use Rattle.searchd_top.specs.Output.{SaysLines}
 use Rattle.searchd_top.specs.Requests.{Requested}
 use Rattle.searchd_top.specs.declared.host.Host.{Ghosts as HostWords}

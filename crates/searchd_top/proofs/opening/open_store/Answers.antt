@@ -1,5 +1,5 @@
-use Rattle.std.proofs.Common.{◌≡◌, ◌∷◌, ◌++◌, List, [], refl, sym, ap, subst, ◌∙◌}
-use Rattle.std.specs.Prelude.{None, Some}
+use Rattle.std.proofs.Common.{◌∷◌, ◌++◌, List, [], sym, ap, subst, ◌∙◌}
+use Rattle.std.specs.Prelude.{Some}
 use Rattle.store_keep.proofs.Begun.{same_leaves}
 use Rattle.store_keep.specs.declared.opening.Opened.{Opened}
 use Rattle.searchd_top.specs.Checks.{SaysUngiven}
@@ -27,7 +27,7 @@ pub returns-in-Ok-open-clause-opens : goal.returns-in-Ok-open-clause-opens
 returns-in-Ok-open-clause-opens g c =
     opens_one g.H.Host g.H.Store.Disk c.args.index.now c.in-Ok.store c.in-Ok-open.store c.args.opened.now.items c.push_reserved.new.self.items c.args.host.now c.open_store.new.self c.in-Ok.ensures.gives_stores
     (c.push_reserved.ensures.items ∙ ap (λ (before : List (Opened _)). before ++ c.in-Ok-open.store ∷ []) c.reserve.ensures.items)
-    c.in-Ok-open.ensures.found c.in-Ok-open.ensures.leaves c.in-Ok.ensures.cause (rw (← c.path_of.ensures) c.in-Ok.ensures.asks)
+    c.in-Ok-open.ensures.found c.in-Ok-open.ensures.leaves (c.in-Ok-open.ensures.opened c.in-Ok.ensures.hides) c.in-Ok.ensures.cause (rw (← c.path_of.ensures) c.in-Ok.ensures.asks)
 
 pub returns-in-Err-open-clause-opens : goal.returns-in-Err-open-clause-opens
 returns-in-Err-open-clause-opens g c =

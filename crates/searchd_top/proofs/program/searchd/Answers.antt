@@ -1,5 +1,5 @@
-use Rattle.std.proofs.Common.{map, string_bytes, ◌∙◌, ap, subst, sym}
-use Rattle.searchd_top.specs.CommandLine.{asked}
+use Rattle.std.proofs.Common.{map, string_bytes}
+use Rattle.command_line.specs.Modes.{mode}
 use Rattle.searchd_top.specs.Statuses.{line_of}
 use Rattle.searchd_top.specs.declared.host.Stream.TheVariants.{Err as Errors}
 use Rattle.searchd_top.proofs.Running.{reported, runs_reported}
@@ -7,7 +7,7 @@ use Rattle.searchd_top.proofs.program.searchd.Goals as goal
 
 pub returns-clause-runs : goal.returns-clause-runs
 returns-clause-runs g c =
-    runs_reported g.H.Host g.H.Store.Disk g.H.Entry.Door g.H.Entry.Line.Link (asked (map string_bytes c.args.words.now)) c.run-status.result (line_of c.run-status.result)
+    runs_reported g.H.Host g.H.Store.Disk g.H.Entry.Door g.H.Entry.Line.Link (mode (map string_bytes c.args.words.now)) c.run-status.result (line_of c.run-status.result)
     c.args.host.now c.run-status.new.host c.report.new.host c.run-status.ensures.runs c.report.ensures.lent c.report.ensures.asks c.report.ensures.count _ _ c.report.ensures.prints c.report.ensures.quiet
 
 pub returns-clause-prints : goal.returns-clause-prints

@@ -1,41 +1,48 @@
-use Rattle.std.proofs.Common.{◌≡◌, List, [], refl, set, ap, ◌∙◌, sym, subst}
-use Rattle.std.specs.Prelude.{Option}
+use Rattle.std.proofs.Common.{◌++◌, List, option_copied, subst, sym}
 use Rattle.index_conf.specs.declared.conf.IndexConf.{IndexConf}
-use Rattle.ql_session.specs.Tables.{Tables}
-use Rattle.searchd_top.specs.Requests.{Requested, one_door}
-use Rattle.searchd_top.specs.Sessions.{ServesOne}
-use Rattle.searchd_top.specs.declared.requests.Request.{Request}
-use Rattle.searchd_top.specs.declared.status.Status.TheVariants.{NoMemory}
-use Rattle.searchd_top.proofs.Doing.{asks_nothing}
-use Rattle.searchd_top.proofs.Lines.{single, single_set}
-use Rattle.searchd_top.proofs.OneServed.{says_refused, serves_door, serves_none}
+use Rattle.served_stores.specs.Stores.{AreStores}
+use Rattle.searchd_top.specs.Plans.{Plan}
+use Rattle.searchd_top.specs.Requests.{door_requests, store_requests}
+use Rattle.searchd_top.specs.Sessions.{ServesIndexes}
+use Rattle.searchd_top.specs.declared.status.Status.{Status}
+use Rattle.searchd_top.specs.steps.Servings.{ServesOpened, plan_of}
+use Rattle.searchd_top.specs.steps.Sides.{DoesBy}
+use Rattle.searchd_top.proofs.Held.{opens_first, room_all, room_stopped, stops_from}
+use Rattle.searchd_top.proofs.ServedIndexes.{are_stores, serves_opened, serves_stopped}
 use Rattle.searchd_top.proofs.serving.serve.Goals as goal
+
+pub serve_opened-requires-clause-opened : goal.serve_opened-requires-clause-opened
+serve_opened-requires-clause-opened g c κs within =
+    let opens = opens_first g.H.Host g.H.Store.Disk c.args.conf.indexes c.as_slice.result.now c.new-opened.result.items c.open_stores.new.opened.items c.args.host.now c.open_stores.new.host
+    c.as_slice.ensures c.new-opened.ensures.items c.in-Ok.ensures.opens in
+    subst (λ (indexes : List IndexConf). AreStores g.H.Store.Disk indexes c.open_stores.new.opened.items) (sym c.into_vec-indexes.ensures)
+    (are_stores g.H.Host g.H.Store.Disk g.H.Entry.Door g.H.Entry.Line.Link c.args.conf.indexes c.open_stores.new.opened.items c.args.host.now c.open_stores.new.host opens)
+
+pub serve_opened-requires-clause-stores : goal.serve_opened-requires-clause-stores
+serve_opened-requires-clause-stores g c κs within =
+    let opens = opens_first g.H.Host g.H.Store.Disk c.args.conf.indexes c.as_slice.result.now c.new-opened.result.items c.open_stores.new.opened.items c.args.host.now c.open_stores.new.host
+    c.as_slice.ensures c.new-opened.ensures.items c.in-Ok.ensures.opens in
+    room_all g.H.Host g.H.Store.Disk c.args.conf.indexes c.open_stores.new.opened.items c.args.host.now c.open_stores.new.host opens c.in-Ok.ensures.doors c.requires.stores
+
+pub give_up-requires-after_bounds : goal.give_up-requires-after_bounds
+give_up-requires-after_bounds g c κs within =
+    let stops = stops_from g.H.Host g.H.Store.Disk c.args.conf.indexes c.as_slice.result.now c.in-Err.stop c.new-opened.result.items c.open_stores.new.opened.items c.args.host.now c.open_stores.new.host
+    c.as_slice.ensures c.new-opened.ensures.items c.in-Err.ensures.opens in
+    room_stopped g.H.Host g.H.Store.Disk c.args.conf.indexes c.in-Err.stop c.open_stores.new.opened.items c.args.host.now c.open_stores.new.host stops c.in-Err.ensures.doors c.requires.stores
+
+pub returns-in-Ok-clause-serves : goal.returns-in-Ok-clause-serves
+returns-in-Ok-clause-serves g c =
+    let plan : Plan = plan_of (option_copied c.args.listen) c.args.workers c.args.sessions in
+    let opens = opens_first g.H.Host g.H.Store.Disk c.args.conf.indexes c.as_slice.result.now c.new-opened.result.items c.open_stores.new.opened.items c.args.host.now c.open_stores.new.host
+    c.as_slice.ensures c.new-opened.ensures.items c.in-Ok.ensures.opens in
+    let serves = subst (λ (indexes : List IndexConf). ServesOpened g.H.Host g.H.Store.Disk g.H.Entry.Door g.H.Entry.Line.Link indexes plan c.open_stores.new.opened.items c.serve_opened.result c.open_stores.new.host c.serve_opened.new.host) c.into_vec-indexes.ensures c.serve_opened.ensures.serves in
+    serves_opened g.H.Host g.H.Store.Disk g.H.Entry.Door g.H.Entry.Line.Link c.args.conf.indexes plan c.open_stores.new.opened.items c.serve_opened.result c.args.host.now c.open_stores.new.host c.serve_opened.new.host opens c.in-Ok.ensures.doors c.in-Ok.ensures.prints serves c.serve_opened.ensures.prints
 
 pub returns-in-Err-clause-serves : goal.returns-in-Err-clause-serves
 returns-in-Err-clause-serves g c =
-    serves_none g.H.Host g.H.Entry.Door g.H.Entry.Line.Link c.args.conf.indexes NoMemory [] c.args.host.now c.args.host.now (asks_nothing g.H.Host c.args.host.now) (0, refl)
-
-pub returns-in-Err-doors-clause-serves : goal.returns-in-Err-doors-clause-serves
-returns-in-Err-doors-clause-serves g c =
-    let e = c.in-Err-doors.ensures in
-    serves_none g.H.Host g.H.Entry.Door g.H.Entry.Line.Link c.args.conf.indexes c.from.result one_door c.args.host.now c.doors.new.self
-    (record {
-      asks = e.asks;
-      lent = record { gives_stores = e.gives_stores; takes_stores = e.takes_stores; gives_doors = e.gives_doors; takes_doors = e.takes_doors };
-      prints = record { prints = e.prints; print_count = e.print_count };
-    })
-    (rw c.from.ensures (says_refused g.H.Host g.H.Entry.Door g.H.Entry.Line.Link c.in-Err-doors.fault c.args.host.now c.doors.new.self e.cause))
-
-pub returns-clause-serves : goal.returns-clause-serves
-returns-clause-serves g c =
-    let one = single c.in-Ok-doors.doors.items c.index_mut.result.now _ c.in-Ok-doors.ensures.count c.index_mut.ensures.value in
-    let Served : List IndexConf → Type 0 = λ indexes. ServesOne g.H.Entry.Door g.H.Entry.Line.Link indexes c.index_mut.result.now c.serve_one-status.new.door in
-    let has : c.in-Ok.tables.confs ≡ c.args.conf.indexes = ap (λ (tables : Tables). tables.confs) c.in-Ok.ensures ∙ c.into_vec.ensures in
-    let e = c.in-Ok-doors.ensures in
-    let b = c.give_doors.ensures in
-    serves_door g.H.Host g.H.Entry.Door g.H.Entry.Line.Link c.args.conf.indexes c.serve_one-status.result c.args.host.now c.doors.new.self c.give_doors.new.self
-    c.in-Ok-doors.doors.items (set c.in-Ok-doors.doors.items 0 c.serve_one-status.new.door) c.index_mut.result.now c.serve_one-status.new.door
-    one (single_set _ _ _ one)
-    b.gives_doors e.gives_doors b.takes_doors e.takes_doors (b.gives_stores ∙ e.gives_stores) (b.takes_stores ∙ e.takes_stores) (b.prints ∙ e.prints) (b.print_count ∙ e.print_count) (b.count ∙ e.cause)
-    (subst (λ (told : Option (List Request)). Requested (g.H.Host.requests c.args.host.now) told one_door) (sym b.asks) e.asks)
-    (subst Served has c.serve_one-status.ensures.serves) c.serve_one-status.ensures.says
+    let plan : Plan = plan_of (option_copied c.args.listen) c.args.workers c.args.sessions in
+    let stops = stops_from g.H.Host g.H.Store.Disk c.args.conf.indexes c.as_slice.result.now c.in-Err.stop c.new-opened.result.items c.open_stores.new.opened.items c.args.host.now c.open_stores.new.host
+    c.as_slice.ensures c.new-opened.ensures.items c.in-Err.ensures.opens in
+    subst (λ (status : Status). DoesBy g.H.Host c.args.host.now c.give_up.new.host (ServesIndexes g.H.Store.Disk g.H.Entry.Door g.H.Entry.Line.Link c.args.conf.indexes plan (store_requests c.args.conf.indexes ++ door_requests plan) status)) (sym c.give_up.ensures.status)
+    (serves_stopped g.H.Host g.H.Store.Disk g.H.Entry.Door g.H.Entry.Line.Link c.args.conf.indexes plan c.in-Err.stop c.open_stores.new.opened.items c.args.host.now c.open_stores.new.host c.give_up.new.host stops c.in-Err.ensures.doors c.in-Err.ensures.prints
+    c.give_up.ensures.back c.give_up.ensures.prints)
