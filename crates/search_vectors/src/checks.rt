@@ -1,17 +1,17 @@
 //! Checks of indexes over disks in memory: a line of each index where all can be opened, and otherwise why the first one can't. The
 //! bytes of the files, the words of damage and the lines are those of the manual and of docs/FILES.md.
-use crate::hosts::run_over;
-use chunk_store::{Disk, MemoryDisk};
-use searchd_top::Stream;
-use srch_base::Text;
+use crate::disks::stores_of;
+use crate::hosts::{CHECK, run_over};
+use crate::told::{configuration, numbers, printed};
 use std::alloc::Global;
+use std::sync::Wait;
 use std::test::Fail;
+use std::thread::Threads;
 
 /// What the check is of, ` | `, the indexes with `+` between them, ` | `, the calls of the host that fail, and ` ⇒ ` with the exit
 /// status, how many stores came back, and what was printed to the output and then to the errors, `;` for the end of a line.
 ///
-/// An index is its name, which is its path too, and the files of its store, each by its number, `=` and its bytes; `-` before the name
-/// says that there is no store. `!N` says that the N-th call of the check on the store fails.
+/// Indexes and their stores are as `stores_of` reads them.
 const CHECKS: &str = r#"
 an empty directory | one | ⇒ 0, 1 back: one: 0 documents, 0 disk chunks, 0 log records;
 the log of one document | one 0=010100000000000000240000000c006669656c64207469746c650a00000000000000000300000000000000020000000000 2=012300000001000000000000000100000001070000000000000002000000000568656c6c6f0005776f726c640000000000 | ⇒ 0, 1 back: one: 1 documents, 0 disk chunks, 1 log records;
@@ -38,105 +38,34 @@ a store fails as its index is begun | one !9 | ⇒ 4, 1 back: searchd: host faul
 a name of 64 bytes | n234567890123456789012345678901234567890123456789012345678901234 0=01010000000000000024000000 | ⇒ 5, 1 back: searchd: index n234567890123456789012345678901234567890123456789012345678901234: file 0 at 0: root length;
 "#;
 
-/// A configuration of these indexes.
-fn configuration(alloc: Global, indexes: &str) -> Result<String, Fail> {
-    let mut text = String::new(alloc);
-    for index in indexes.split(" + ") {
-        let name = index
-            .trim_start_matches('-')
-            .split(' ')
-            .next()
-            .ok_or("no name")?;
-        write!(
-            text,
-            "index {name} {{\ntype = rt\npath = {name}\nrt_field = title\n}}\n"
-        )?;
-    }
-    Ok(text)
-}
-
-/// The numbers of the calls on a disk that fail, behind those that write its files.
-fn failing_calls(alloc: Global, store: &str) -> Result<Vec<u64>, Fail> {
-    let files = store.split(' ').filter(|word| word.contains('=')).count();
-    let mut calls = Vec::new(alloc);
-    for word in store.split(' ') {
-        if let Some(call) = word.strip_prefix('!') {
-            calls.push(call.parse::<u64>()?.saturating_add(files as u64))?;
-        }
-    }
-    Ok(calls)
-}
-
-/// The disk of a store.
-fn disk_of(alloc: Global, store: &str) -> Result<MemoryDisk, Fail> {
-    let mut disk = MemoryDisk::new(alloc, failing_calls(alloc, store)?);
-    for word in store.split(' ') {
-        if let Some((file, bytes)) = word.split_once('=') {
-            disk.write(
-                file.parse::<u32>()?,
-                0,
-                &hex::decode(alloc, bytes.as_bytes())?,
-            )?;
-        }
-    }
-    Ok(disk)
-}
-
-/// The stores of the indexes that have one.
-fn stores_of(alloc: Global, indexes: &str) -> Result<Vec<(Text, MemoryDisk)>, Fail> {
-    let mut stores = Vec::new(alloc);
-    for index in indexes.split(" + ").filter(|index| !index.starts_with('-')) {
-        let name = index.split(' ').next().ok_or("no name")?;
-        let path = Text::from_slice(alloc, name.as_bytes())?;
-        stores.push((path, disk_of(alloc, index)?))?;
-    }
-    Ok(stores)
-}
-
-/// The numbers of calls.
-fn numbers(alloc: Global, calls: &str) -> Result<Vec<u32>, Fail> {
-    let mut numbers = Vec::new(alloc);
-    for call in calls.split(' ').filter(|call| !call.is_empty()) {
-        numbers.push(call.parse::<u32>()?)?;
-    }
-    Ok(numbers)
-}
-
-/// Appends what was printed.
-fn put_printed(printed: &[u8], told: &mut String) -> Result<(), Fail> {
-    for line in str::from_utf8(printed)?.split_inclusive('\n') {
-        match line.strip_suffix('\n') {
-            Some(whole) => write!(told, "{whole};")?,
-            None => told.push_str(line)?,
-        }
-    }
-    Ok(())
-}
-
 /// What a check of indexes comes to.
-fn told(alloc: Global, indexes: &str, failing: &str) -> Result<String, Fail> {
+fn told<R: Threads + Wait + Sync>(
+    rt: &R,
+    alloc: Global,
+    indexes: &str,
+    failing: &str,
+) -> Result<String, Fail> {
     let text = configuration(alloc, indexes)?;
     let (status, host) = run_over(
+        rt,
         alloc,
-        "check --config searchd.conf",
+        CHECK,
         text.as_bytes(),
         stores_of(alloc, indexes)?,
         Vec::new(alloc),
         &numbers(alloc, failing)?,
     )?;
     let (code, back) = (status.code(), host.stores_back().len());
-    let mut told = format!(in alloc; "{code}, {back} back: ")?;
-    put_printed(host.printed(Stream::Out), &mut told)?;
-    put_printed(host.printed(Stream::Err), &mut told)?;
-    Ok(told)
+    let printed = printed(alloc, &host)?;
+    Ok(format!(in alloc; "{code}, {back} back: {printed}")?)
 }
 
 /// Fails where a check of a line comes to something else.
-fn try_line(alloc: Global, line: &str) -> Result<(), Fail> {
+fn try_line<R: Threads + Wait + Sync>(rt: &R, alloc: Global, line: &str) -> Result<(), Fail> {
     let (case, wanted) = line.split_once("⇒ ").ok_or("a line without an arrow")?;
     let (about, case) = case.split_once(" | ").ok_or("a line without indexes")?;
     let (indexes, failing) = case.split_once(" | ").ok_or("a line without calls")?;
-    let found = told(alloc, indexes, failing.trim_end())?;
+    let found = told(rt, alloc, indexes, failing.trim_end())?;
     if found.as_str() != wanted {
         return Err(Fail::new(format!(in alloc; "{about} ⇒ {found}, wanted: {wanted}")?));
     }
@@ -146,7 +75,7 @@ fn try_line(alloc: Global, line: &str) -> Result<(), Fail> {
 #[test]
 fn a_check_prints_a_line_of_each_index(rt: HostRuntime) -> Result<(), Fail> {
     for line in CHECKS.lines().skip(1) {
-        try_line(rt.alloc(), line)?;
+        try_line(&rt, rt.alloc(), line)?;
     }
     Ok(())
 }

@@ -5,7 +5,9 @@ use crate::hosts::{PLAIN, SESSION, one_door, run};
 use searchd_top::{Status, Stream};
 use srch_base::MemoryLink;
 use std::alloc::Global;
+use std::sync::Wait;
 use std::test::Fail;
+use std::thread::Threads;
 
 /// The greeting of connection 1.
 pub(crate) const GREETING: &[u8] =
@@ -49,7 +51,8 @@ fn joined(alloc: Global, pieces: &[&[u8]]) -> Result<Vec<u8>, Fail> {
 }
 
 /// Runs a session by a configuration over one line of these bytes, and gives what was written to it.
-pub(crate) fn written_by(
+pub(crate) fn written_by<R: Threads + Wait + Sync>(
+    rt: &R,
     alloc: Global,
     conf: &[u8],
     input: &[u8],
@@ -63,7 +66,7 @@ pub(crate) fn written_by(
         Vec::from_slice(alloc, cuts)?,
         Vec::from_slice(alloc, failing)?,
     ))?;
-    let (status, host) = run(alloc, SESSION, conf, one_door(alloc, lines)?, &[])?;
+    let (status, host) = run(rt, alloc, SESSION, conf, one_door(alloc, lines)?, &[])?;
     if status != Status::Done {
         return Err(Fail::from("not done"));
     }
@@ -76,21 +79,27 @@ pub(crate) fn written_by(
 }
 
 /// Whether a session over one line of these bytes writes these.
-fn writes(
+fn writes<R: Threads + Wait + Sync>(
+    rt: &R,
     alloc: Global,
     input: &[u8],
     cuts: &[u32],
     failing: &[u32],
     replies: &[u8],
 ) -> Result<bool, Fail> {
-    let written = written_by(alloc, PLAIN, input, cuts, failing)?;
+    let written = written_by(rt, alloc, PLAIN, input, cuts, failing)?;
     Ok(written.as_slice() == replies)
 }
 
 /// The first cut of the input, below its length, at which other replies are written.
-fn first_wrong_cut(alloc: Global, input: &[u8], replies: &[u8]) -> Result<Option<u32>, Fail> {
+fn first_wrong_cut<R: Threads + Wait + Sync>(
+    rt: &R,
+    alloc: Global,
+    input: &[u8],
+    replies: &[u8],
+) -> Result<Option<u32>, Fail> {
     for cut in 0..135 {
-        if !writes(alloc, input, &[cut], &[], replies)? {
+        if !writes(rt, alloc, input, &[cut], &[], replies)? {
             return Ok(Some(cut));
         }
     }
@@ -103,9 +112,9 @@ fn a_session_replies_however_its_bytes_are_cut(rt: HostRuntime) -> Result<(), Fa
     let input = joined(alloc, &[RESPONSE, INSERT, SELECT, QUIT])?;
     let replies = joined(alloc, &[GREETING, ACCEPTED, INSERTED, FOUND])?;
     let single = vec![in alloc; 1; input.len()]?;
-    assert!(rt; writes(alloc, &input, &single, &[], &replies)?);
+    assert!(rt; writes(&rt, alloc, &input, &single, &[], &replies)?);
     assert_eq!(rt; input.len(), 135);
-    assert_eq!(rt; first_wrong_cut(alloc, &input, &replies)?, None);
+    assert_eq!(rt; first_wrong_cut(&rt, alloc, &input, &replies)?, None);
     Ok(())
 }
 
@@ -170,11 +179,14 @@ const LINES: [(&[&[u8]], &[u32], &[&[u8]]); 15] = [
 ];
 
 /// The number of the first line over which other bytes are written.
-fn first_other_line(alloc: Global) -> Result<Option<usize>, Fail> {
+fn first_other_line<R: Threads + Wait + Sync>(
+    rt: &R,
+    alloc: Global,
+) -> Result<Option<usize>, Fail> {
     for (at, (pieces, failing, replies)) in LINES.iter().enumerate() {
         let input = joined(alloc, pieces)?;
         let replies = joined(alloc, replies)?;
-        if !writes(alloc, &input, &[], failing, &replies)? {
+        if !writes(rt, alloc, &input, &[], failing, &replies)? {
             return Ok(Some(at));
         }
     }
@@ -183,7 +195,7 @@ fn first_other_line(alloc: Global) -> Result<Option<usize>, Fail> {
 
 #[test]
 fn each_line_ends_with_its_bytes(rt: HostRuntime) -> Result<(), Fail> {
-    assert_eq!(rt; first_other_line(rt.alloc())?, None);
+    assert_eq!(rt; first_other_line(&rt, rt.alloc())?, None);
     Ok(())
 }
 
@@ -208,7 +220,7 @@ fn a_shop_finds_a_russian_title_by_capitals(rt: HostRuntime) -> Result<(), Fail>
     let alloc = rt.alloc();
     let input = joined(alloc, &[RESPONSE, INSERT_KETTLE, SELECT_KETTLE, QUIT])?;
     let replies = joined(alloc, &[GREETING, ACCEPTED, INSERTED, FOUND])?;
-    let written = written_by(alloc, SHOP, &input, &[], &[])?;
+    let written = written_by(&rt, alloc, SHOP, &input, &[], &[])?;
     assert!(rt; written.as_slice() == replies.as_slice());
     Ok(())
 }

@@ -5,18 +5,39 @@ use conf_text::ConfKind;
 use searchd_top::{MemoryHost, Status, Stream};
 use srch_base::ListDoor;
 use std::alloc::Global;
+use std::sync::Wait;
 use std::test::Fail;
+use std::thread::Threads;
 
 const BAD: &[u8] = b"searchd: bad arguments\n";
+
+/// Two workers.
+const SERVE_TWO: &str = "serve --config searchd.conf --listen a --workers 2 --sessions 3";
 
 const FAULT: &[u8] = b"searchd: host fault\n";
 
 /// The words, how many doors without a line the host has, its calls that fail, the status, and what is printed to the errors.
-const STATUSES: [(&str, usize, &[u32], Status, &[u8]); 19] = [
+const STATUSES: [(&str, usize, &[u32], Status, &[u8]); 25] = [
     ("", 1, &[], Status::Usage, BAD),
     ("session --config", 1, &[], Status::Usage, BAD),
     ("serve --config f", 1, &[], Status::Usage, BAD),
-    ("serve --config f --listen a", 1, &[], Status::Usage, BAD),
+    (
+        "serve --config f --listen a",
+        1,
+        &[],
+        Status::HostFault,
+        FAULT,
+    ),
+    (
+        "serve --config f --listen a --workers 65",
+        1,
+        &[],
+        Status::Usage,
+        BAD,
+    ),
+    (SERVE_TWO, 2, &[], Status::Done, b""),
+    (SERVE_TWO, 1, &[], Status::HostFault, FAULT),
+    (SERVE_TWO, 2, &[3], Status::HostFault, FAULT),
     ("check", 1, &[], Status::Usage, BAD),
     ("check --config", 1, &[], Status::Usage, BAD),
     ("check --config f", 1, &[], Status::HostFault, FAULT),
@@ -31,6 +52,8 @@ const STATUSES: [(&str, usize, &[u32], Status, &[u8]); 19] = [
     (SESSION, 1, &[2], Status::HostFault, FAULT),
     (SESSION, 1, &[1, 2], Status::HostFault, b""),
     (SESSION, 1, &[2, 3], Status::HostFault, b""),
+    (SESSION, 1, &[3], Status::HostFault, FAULT),
+    (SESSION, 1, &[3, 4], Status::HostFault, b""),
     (SESSION, 0, &[], Status::HostFault, FAULT),
 ];
 
@@ -49,10 +72,13 @@ fn doors_without_lines(alloc: Global, count: usize) -> Result<Vec<ListDoor>, Fai
 }
 
 /// The number of the first words with another status or another line.
-fn first_other_status(alloc: Global) -> Result<Option<usize>, Fail> {
+fn first_other_status<R: Threads + Wait + Sync>(
+    rt: &R,
+    alloc: Global,
+) -> Result<Option<usize>, Fail> {
     for (at, (words, count, failing, want, printed)) in STATUSES.iter().enumerate() {
         let doors = doors_without_lines(alloc, *count)?;
-        let (status, host) = run(alloc, words, PLAIN, doors, failing)?;
+        let (status, host) = run(rt, alloc, words, PLAIN, doors, failing)?;
         if status != *want || !has_printed(&host, printed) {
             return Ok(Some(at));
         }
@@ -95,13 +121,16 @@ const REFUSED: [(&[u8], u32, ConfKind, &[u8]); 5] = [
 ];
 
 /// The number of the first text that is refused otherwise. The host has no door to open.
-fn first_other_refusal(alloc: Global) -> Result<Option<usize>, Fail> {
+fn first_other_refusal<R: Threads + Wait + Sync>(
+    rt: &R,
+    alloc: Global,
+) -> Result<Option<usize>, Fail> {
     for (at, (text, line, kind, printed)) in REFUSED.iter().enumerate() {
         let want = Status::Config {
             line: *line,
             kind: *kind,
         };
-        let (status, host) = run(alloc, SESSION, text, Vec::new(alloc), &[])?;
+        let (status, host) = run(rt, alloc, SESSION, text, Vec::new(alloc), &[])?;
         if status != want || !has_printed(&host, printed) {
             return Ok(Some(at));
         }
@@ -122,19 +151,26 @@ const LENGTHS: [(usize, Status); 3] = [
 ];
 
 /// The status of a session by a configuration of this length.
-fn status_at(alloc: Global, length: usize) -> Result<Status, Fail> {
+fn status_at<R: Threads + Wait + Sync>(
+    rt: &R,
+    alloc: Global,
+    length: usize,
+) -> Result<Status, Fail> {
     let mut text = Vec::from_slice(alloc, PLAIN)?;
     text.push(b'#')?;
     text.resize(length, b' ')?;
     let doors = one_door(alloc, Vec::new(alloc))?;
-    let (status, _) = run(alloc, SESSION, &text, doors, &[])?;
+    let (status, _) = run(rt, alloc, SESSION, &text, doors, &[])?;
     Ok(status)
 }
 
 /// The number of the first length with another status.
-fn first_other_length(alloc: Global) -> Result<Option<usize>, Fail> {
+fn first_other_length<R: Threads + Wait + Sync>(
+    rt: &R,
+    alloc: Global,
+) -> Result<Option<usize>, Fail> {
     for (at, (length, want)) in LENGTHS.iter().enumerate() {
-        if status_at(alloc, *length)? != *want {
+        if status_at(rt, alloc, *length)? != *want {
             return Ok(Some(at));
         }
     }
@@ -177,8 +213,8 @@ fn a_status_has_its_number(rt: HostRuntime) {
 
 #[test]
 fn a_status_says_why(rt: HostRuntime) -> Result<(), Fail> {
-    assert_eq!(rt; first_other_status(rt.alloc())?, None);
-    assert_eq!(rt; first_other_refusal(rt.alloc())?, None);
-    assert_eq!(rt; first_other_length(rt.alloc())?, None);
+    assert_eq!(rt; first_other_status(&rt, rt.alloc())?, None);
+    assert_eq!(rt; first_other_refusal(&rt, rt.alloc())?, None);
+    assert_eq!(rt; first_other_length(&rt, rt.alloc())?, None);
     Ok(())
 }

@@ -1,7 +1,9 @@
 //! One session with SELECTs of documents that are weighed, by the bytes of the protocol's documentation.
 use crate::lines::{ACCEPTED, GREETING, INSERTED, RESPONSE, written_by};
 use std::alloc::Global;
+use std::sync::Wait;
 use std::test::Fail;
+use std::thread::Threads;
 
 /// Two fields and two attributes.
 const CONF: &[u8] =
@@ -71,8 +73,11 @@ fn sent(alloc: Global) -> Result<Vec<u8>, Fail> {
 }
 
 /// The number of the first packet to which other bytes are replied; behind the last one nothing may follow.
-fn first_other_reply(alloc: Global) -> Result<Option<usize>, Fail> {
-    let written = written_by(alloc, CONF, &sent(alloc)?, &[], &[])?;
+fn first_other_reply<R: Threads + Wait + Sync>(
+    rt: &R,
+    alloc: Global,
+) -> Result<Option<usize>, Fail> {
+    let written = written_by(rt, alloc, CONF, &sent(alloc)?, &[], &[])?;
     let mut rest = written.as_slice();
     for (at, (_, pieces)) in IN_TURN.iter().enumerate() {
         for piece in *pieces {
@@ -90,6 +95,6 @@ fn first_other_reply(alloc: Global) -> Result<Option<usize>, Fail> {
 
 #[test]
 fn documents_come_with_their_weights(rt: HostRuntime) -> Result<(), Fail> {
-    assert_eq!(rt; first_other_reply(rt.alloc())?, None);
+    assert_eq!(rt; first_other_reply(&rt, rt.alloc())?, None);
     Ok(())
 }

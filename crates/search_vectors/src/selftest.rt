@@ -3,7 +3,9 @@
 use crate::hosts::run;
 use searchd_top::{Status, Stream};
 use std::alloc::Global;
+use std::sync::Wait;
 use std::test::Fail;
+use std::thread::Threads;
 
 /// The words, the calls of the host that fail, the status, and what is printed to the output and to the errors.
 const RUNS: [(&str, &[u32], Status, &str, &str); 8] = [
@@ -66,9 +68,9 @@ const RUNS: [(&str, &[u32], Status, &str, &str); 8] = [
 ];
 
 /// The number of the first run that ends or prints otherwise. The host has no door and asks for none.
-fn first_other(alloc: Global) -> Result<Option<usize>, Fail> {
+fn first_other<R: Threads + Wait + Sync>(rt: &R, alloc: Global) -> Result<Option<usize>, Fail> {
     for (at, (words, failing, want, output, errors)) in RUNS.iter().enumerate() {
-        let (status, host) = run(alloc, words, b"", Vec::new(alloc), failing)?;
+        let (status, host) = run(rt, alloc, words, b"", Vec::new(alloc), failing)?;
         let same = status == *want
             && host.printed(Stream::Out) == output.as_bytes()
             && host.printed(Stream::Err) == errors.as_bytes();
@@ -81,6 +83,6 @@ fn first_other(alloc: Global) -> Result<Option<usize>, Fail> {
 
 #[test]
 fn a_selftest_prints_its_summary(rt: HostRuntime) -> Result<(), Fail> {
-    assert_eq!(rt; first_other(rt.alloc())?, None);
+    assert_eq!(rt; first_other(&rt, rt.alloc())?, None);
     Ok(())
 }

@@ -1,0 +1,104 @@
+//! A host over memory whose doors are those of the test: all else is the host over memory.
+ghost use Rattle.std.specs.Prelude.{◌≡◌, ◌≤◌, ◌+◌, ◌++◌, length, map};
+
+use crate::lent::Lent;
+use crate::turns::TurnDoor;
+use chunk_store::MemoryDisk;
+use searchd_top::{Host, MemoryHost, Stream};
+use srch_base::{Failed, OpenFault};
+use std::alloc::Global;
+use std::mem;
+
+/// A host over memory that gives these doors once.
+#[derive(Drop)]
+pub(crate) struct TurnHost {
+    alloc: Global,
+    base: MemoryHost,
+    doors: Vec<TurnDoor>,
+    lent: Lent<TurnDoor>,
+}
+
+impl TurnHost {
+    /// The base has as many doors, which none sees.
+    pub(crate) fn new(alloc: Global, base: MemoryHost, doors: Vec<TurnDoor>) -> TurnHost
+        ensures { result.base ≡ base }
+    {
+        TurnHost {
+            alloc,
+            base,
+            doors,
+            lent: Lent::new(alloc),
+        }
+    }
+
+    /// The host that does all else.
+    pub(crate) fn base(&self) -> &MemoryHost {
+        &self.base
+    }
+
+    /// The doors that came back.
+    pub(crate) fn doors_back(&self) -> &[TurnDoor] {
+        self.lent.back()
+    }
+}
+
+impl Host for TurnHost {
+    ghost use Rattle.std.specs.Prelude.{map};
+    ghost use Rattle.searchd_top.specs.HostMemory.{text_of, printed_of, print_faults_of};
+
+    type Store = MemoryDisk;
+
+    type Entry = TurnDoor;
+
+    ghost text = { λ h. text_of h.base };
+
+    ghost printed = { λ h. printed_of h.base };
+
+    ghost stores_given = { λ h. h.base.stores_given };
+
+    ghost stores_back = { λ h. h.base.stores_back };
+
+    ghost doors_given = { λ h. map (λ door. door.value) h.lent.gave.items };
+
+    ghost doors_back = { λ h. h.lent.back.items };
+
+    ghost faults = { λ h. h.base.faults };
+
+    ghost print_faults = { λ h. print_faults_of h.base };
+
+    ghost requests = { λ h. h.base.requests };
+
+    fn read_text(&mut self, path: &str, limit: u32) -> Result<Vec<u8>, OpenFault> {
+        self.base.read_text(path, limit)
+    }
+
+    fn print(&mut self, to: Stream, line: &[u8]) -> Result<(), Failed> {
+        self.base.print(to, line)
+    }
+
+    fn open_store(&mut self, path: &str) -> Result<MemoryDisk, OpenFault> {
+        self.base.open_store(path)
+    }
+
+    fn give_back(&mut self, store: MemoryDisk) {
+        self.base.give_back(store);
+    }
+
+    fn doors(&mut self, listen: Option<&str>, n: u32) -> Result<Vec<TurnDoor>, OpenFault> {
+        let _doors = self.base.doors(listen, n)?;
+        if self.doors.len() != n as usize {
+            return Err(OpenFault::NoMemory);
+        }
+        self.lent.give(self.doors.as_slice())?;
+        Ok(mem::replace(&mut self.doors, Vec::new(self.alloc)))
+    }
+
+    fn give_doors(&mut self, doors: Vec<TurnDoor>)
+        requires { length self.old.lent.back.items + length doors.items ≤ length (map (λ door. door.value) self.old.lent.gave.items) }
+        ensures took { self.new.lent.back.items ≡ self.old.lent.back.items ++ doors.items }
+        ensures gave { self.new.lent.gave.items ≡ self.old.lent.gave.items }
+        ensures rest { self.new ≡ record self.old { lent = self.new.lent } }
+    {
+        self.lent.take_back(doors);
+    }
+}

@@ -1,0 +1,2 @@
+-- the tokens of an engine are those of its users
+pub mod Users

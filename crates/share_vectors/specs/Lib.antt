@@ -1,0 +1,2 @@
+-- who uses an engine
+pub mod Users
