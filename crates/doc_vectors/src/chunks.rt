@@ -7,7 +7,7 @@ use crate::documents::{DOCUMENTS, rows};
 use crate::row_answers::told_row;
 use crate::word_answers::told_word;
 use any_chunk::AnyChunk;
-use doc_types::{Chunk, PlainChunk};
+use doc_types::{Chunk, HitLists, PlainChunk};
 use srch_base::NoMemory;
 use std::alloc::Global;
 use std::test::Fail;
@@ -114,7 +114,7 @@ fn first_other_id<C: Chunk>(chunk: &C) -> Option<usize> {
 }
 
 /// The number of the first word of which the chunk answers otherwise.
-fn first_other_word<C: Chunk>(alloc: Global, chunk: &C) -> Result<Option<usize>, Fail> {
+fn first_other_word<C: HitLists>(alloc: Global, chunk: &C) -> Result<Option<usize>, Fail> {
     for (at, (word, expected)) in WORDS.iter().enumerate() {
         if at >= chunk.words() as usize || chunk.word_at(at as u32) != word.as_bytes() {
             return Ok(Some(at));

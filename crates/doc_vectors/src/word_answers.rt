@@ -2,7 +2,7 @@
 ghost use Rattle.std.specs.Prelude.{◌≡◌, ◌<◌, IsSome};
 ghost use Rattle.doc_types.specs.Chunks.{next_row};
 
-use doc_types::{Chunk, Cursor};
+use doc_types::{Chunk, Cursor, HitLists};
 use srch_base::Steps;
 use std::alloc::Global;
 use std::marker::Brand;
@@ -10,7 +10,7 @@ use std::sync::ledger::{Blank, Ledger};
 use std::test::Fail;
 
 /// Appends a row that has a word, with the word's places in it.
-fn put_places<L: Ledger, C: Chunk>(
+fn put_places<L: Ledger, C: HitLists>(
     alloc: Global,
     chunk: &C,
     cursor: &Cursor,
@@ -31,7 +31,7 @@ fn put_places<L: Ledger, C: Chunk>(
 }
 
 /// Goes over the rows that have the word, and over none once they are all behind.
-fn told_by<L: Ledger, C: Chunk>(
+fn told_by<L: Ledger, C: HitLists>(
     alloc: Global,
     chunk: &C,
     word: &[u8],
@@ -58,7 +58,7 @@ fn told_by<L: Ledger, C: Chunk>(
 }
 
 /// The rows of the chunk that have the word, each with the word's places in it by field and position.
-pub(crate) fn told_word<C: Chunk>(
+pub(crate) fn told_word<C: HitLists>(
     alloc: Global,
     chunk: &C,
     word: &[u8],
