@@ -12,7 +12,7 @@ index `rt` has then the columns of scripts/hundred_words.py. Further options, wi
     --writers 1     clients that send INSERTs of new documents
     --rows 1        documents of one INSERT
     --rate 50       documents a second of all writers together; 0 is as many as they can
-    --workers 8     workers of the daemon that is started; readers and writers are at most as many less one
+    --workers 8     workers of the daemon that is started; readers and writers are at most as many
 
 It prints reads and written documents a second, of each statement the time that half and 99 of a hundred took at most, the
 daemon's memory before, in the middle and after, the time of its processors, and how many statements were refused, with
@@ -132,6 +132,7 @@ def measure(port, pid, options):
     client = Client(port)
     last = client.query("SELECT id FROM rt ORDER BY id DESC LIMIT 1").rows
     before = int(client.query("SELECT COUNT(*) FROM rt").rows[0][0]) if last else 0
+    client.quit()
     first = int(last[0][0]) + 1 if last else 1
     results, begin = multiprocessing.get_context("fork").Queue(), time.time() + 0.5
     for number in range(options.readers):
@@ -147,6 +148,7 @@ def measure(port, pid, options):
     for _ in range(options.readers + options.writers):
         kind, one = results.get(timeout=300)
         told[kind].append(one)
+    client = Client(port)
     after = int(client.query("SELECT COUNT(*) FROM rt").rows[0][0])
     client.quit()
     print(line("reads", told["read"], options.seconds))

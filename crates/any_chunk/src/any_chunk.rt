@@ -2,9 +2,9 @@
 //! variant, and every call is that of the chunk inside. A new way of keeping rows is a new variant here, and nothing above
 //! changes, since all that evaluates queries is written against `Chunk`.
 ghost use Rattle.any_chunk.specs.declared.any_chunk.AnyChunk.TheVariants.{Ram};
-ghost use Rattle.doc_types.specs.steps.PlainIndex.{place_in-IsCursorPlace, words-AreWordsOf};
+ghost use Rattle.doc_types.specs.steps.PlainIndex.{place_in-IsCursorPlace, place_in-row_of, words-AreWordsOf};
 
-use doc_types::{Chunk, Cursor, Doc, DocRow, Gap, PlainChunk, Value, ZoneSpan};
+use doc_types::{Chunk, Cursor, Doc, DocRow, Gap, HitLists, PlainChunk, Value, ZoneSpan};
 use layer_commit::MakeChunk;
 use layer_joins::JoinChunk;
 use srch_base::{NoMemory, Steps};
@@ -57,12 +57,6 @@ impl Chunk for AnyChunk {
         }
     }
 
-    fn last(&self, row: u32, field: u16) -> u32 {
-        match self {
-            AnyChunk::Ram(inner) => inner.last(row, field),
-        }
-    }
-
     fn find(&self, id: u64) -> Option<u32> {
         match self {
             AnyChunk::Ram(inner) => inner.find(id),
@@ -78,6 +72,12 @@ impl Chunk for AnyChunk {
     fn word_at(&self, n: u32) -> &[u8] {
         match self {
             AnyChunk::Ram(inner) => inner.word_at(n),
+        }
+    }
+
+    fn count(&self, word: &[u8]) -> u32 {
+        match self {
+            AnyChunk::Ram(inner) => inner.count(word),
         }
     }
 
@@ -99,20 +99,21 @@ impl Chunk for AnyChunk {
         }
     }
 
-    fn open<L: Ledger>(
-        &self,
-        cursor: &Cursor,
-        into: &mut Vec<(u16, u32)>,
-        steps: &mut Steps<L>,
-    ) -> Result<(), NoMemory> {
+    fn seek(&self, cursor: &mut Cursor, row: u32) -> u32 {
         match self {
-            AnyChunk::Ram(inner) => inner.open(cursor, into, steps),
+            AnyChunk::Ram(inner) => inner.seek(cursor, row),
         }
     }
 
-    fn gaps(&self, row: u32, field: u16, into: &mut Vec<(u32, Gap)>) -> Result<(), NoMemory> {
+    fn lasts(&self, row: u32, into: &mut Vec<u32>) -> Result<(), NoMemory> {
         match self {
-            AnyChunk::Ram(inner) => inner.gaps(row, field, into),
+            AnyChunk::Ram(inner) => inner.lasts(row, into),
+        }
+    }
+
+    fn gaps(&self, row: u32, into: &mut Vec<(u16, (u32, Gap))>) -> Result<(), NoMemory> {
+        match self {
+            AnyChunk::Ram(inner) => inner.gaps(row, into),
         }
     }
 
@@ -127,6 +128,27 @@ impl Chunk for AnyChunk {
     ghost all_words = { elim [ Ram inner ↦ words-AreWordsOf inner.rows inner.index inner.indexed ] };
 
     ghost places = { elim [ Ram inner ↦ λ cursor stands. place_in-IsCursorPlace inner.rows inner.index cursor inner.indexed stands ] };
+
+    ghost nexts = { elim [ Ram inner ↦ λ cursor stands. place_in-row_of inner.rows inner.index cursor inner.indexed stands ] };
+}
+
+impl HitLists for AnyChunk {
+    fn open<L: Ledger>(
+        &self,
+        cursor: &Cursor,
+        into: &mut Vec<(u16, u32)>,
+        steps: &mut Steps<L>,
+    ) -> Result<(), NoMemory> {
+        match self {
+            AnyChunk::Ram(inner) => inner.open(cursor, into, steps),
+        }
+    }
+
+    fn fields_at<L: Ledger>(&self, cursor: &Cursor, steps: &mut Steps<L>) -> u32 {
+        match self {
+            AnyChunk::Ram(inner) => inner.fields_at(cursor, steps),
+        }
+    }
 }
 
 /// What a commit puts is kept in memory.

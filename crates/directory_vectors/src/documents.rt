@@ -4,7 +4,7 @@ ghost use Rattle.doc_types.specs.Chunks.{field_at};
 ghost use Rattle.doc_types.specs.Documents.{AreRowsOf};
 ghost use Rattle.doc_types.specs.Schemas.{IsSchema};
 
-use doc_types::{Chunk, Gap, Schema, Value};
+use doc_types::{Chunk, Gap, HitLists, Schema, Value};
 use srch_base::Steps;
 use std::alloc::Global;
 use std::sync::ledger::Ledger;
@@ -29,7 +29,7 @@ fn put_piece(pieces: &mut [Piece], position: u32, piece: Piece) -> Result<(), Fa
 }
 
 /// Puts a word at its positions in a field of a row.
-fn put_hits<C: Chunk, L: Ledger>(
+fn put_hits<C: HitLists, L: Ledger>(
     alloc: Global,
     chunk: &C,
     steps: &mut Steps<L>,
@@ -58,23 +58,27 @@ fn put_hits<C: Chunk, L: Ledger>(
 }
 
 /// What stands at the positions of a field of a row, from 1 to the last.
-fn pieces_of<C: Chunk, L: Ledger>(
+fn pieces_of<C: HitLists, L: Ledger>(
     alloc: Global,
     chunk: &C,
     steps: &mut Steps<L>,
     row: u32,
     field: u16,
 ) -> Result<Vec<Piece>, Fail>
-    requires { IsSome (field_at (C.content chunk.now) row field) }
+    requires { row < length (C.content chunk.now) }
 {
     let mut pieces = Vec::new(alloc);
-    for _ in 0..=chunk.last(row, field) {
+    let mut lasts = Vec::new(alloc);
+    chunk.lasts(row, &mut lasts)?;
+    for _ in 0..=*lasts.get(field as usize).ok_or("no such field")? {
         pieces.push(Piece::Nothing)?;
     }
     let mut gaps = Vec::new(alloc);
-    chunk.gaps(row, field, &mut gaps)?;
-    for (position, gap) in gaps.iter() {
-        put_piece(pieces.as_mut_slice(), *position, Piece::Boundary(*gap))?;
+    chunk.gaps(row, &mut gaps)?;
+    for (of, (position, gap)) in gaps.iter() {
+        if *of == field {
+            put_piece(pieces.as_mut_slice(), *position, Piece::Boundary(*gap))?;
+        }
     }
     for word in 0..chunk.words() {
         put_hits(
@@ -114,7 +118,7 @@ fn put_told<C: Chunk>(chunk: &C, piece: Piece, into: &mut String) -> Result<(), 
 }
 
 /// Appends a field of a row.
-fn put_field<C: Chunk, L: Ledger>(
+fn put_field<C: HitLists, L: Ledger>(
     alloc: Global,
     chunk: &C,
     steps: &mut Steps<L>,
@@ -165,7 +169,7 @@ fn put_spans<C: Chunk>(alloc: Global, chunk: &C, row: u32, into: &mut String) ->
 }
 
 /// Appends a document.
-fn put_document<C: Chunk, L: Ledger>(
+fn put_document<C: HitLists, L: Ledger>(
     alloc: Global,
     chunk: &C,
     schema: &Schema,
@@ -187,7 +191,7 @@ fn put_document<C: Chunk, L: Ledger>(
 }
 
 /// Appends the documents of a chunk.
-pub(crate) fn put_documents<C: Chunk, L: Ledger>(
+pub(crate) fn put_documents<C: HitLists, L: Ledger>(
     alloc: Global,
     chunk: &C,
     schema: &Schema,

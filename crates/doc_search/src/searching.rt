@@ -20,7 +20,7 @@ ghost use Rattle.doc_search.specs.steps.Gathering.{Gathers, HasRead, IsAskedOfDo
 use crate::question::Question;
 use crate::ready::ReadyQuestion;
 use crate::rows::{Scratch, read_row};
-use doc_types::{Chunk, Hits, Layer, Snapshot};
+use doc_types::{Chunk, Counted, CountedLists, HitLists, Hits, Layer, Snapshot};
 use op_eval::Matches;
 use rankers::{Ranker, weight};
 use row_select::{Collector, Row, Sink};
@@ -30,7 +30,7 @@ use std::marker::Brand;
 use std::sync::ledger::{Blank, Ledger};
 
 /// The page of what is found in a snapshot, by a question of its index.
-pub fn search<C: Chunk>(
+pub fn search<C: HitLists>(
     alloc: Global,
     question: &Question,
     snapshot: &Snapshot<C>,
@@ -45,7 +45,7 @@ pub fn search<C: Chunk>(
 
 /// Offers all that is found in a snapshot to a sink, by a question of its index: each document that matches and passes the
 /// conditions, once, with its weight. The question's order and page don't matter.
-pub fn search_into<C: Chunk, S: Sink>(
+pub fn search_into<C: HitLists, S: Sink>(
     alloc: Global,
     question: &Question,
     snapshot: &Snapshot<C>,
@@ -59,7 +59,7 @@ pub fn search_into<C: Chunk, S: Sink>(
 }
 
 /// Offers what is found in some layers. The steps of opening are counted, as chunks ask it, and not used.
-fn search_layers<L: Ledger, C: Chunk, S: Sink>(
+fn search_layers<L: Ledger, C: HitLists, S: Sink>(
     alloc: Global,
     question: &Question,
     layers: &[Layer<C>],
@@ -81,8 +81,8 @@ fn search_layers<L: Ledger, C: Chunk, S: Sink>(
     Ok(())
 }
 
-/// Offers what is found in a layer.
-fn collect_layer<L: Ledger, C: Chunk, S: Sink>(
+/// Offers what is found in a layer, with its lists counted in the ledger of the steps.
+fn collect_layer<L: Ledger, C: HitLists, S: Sink>(
     asked: &ReadyQuestion<'_>,
     layer: &Layer<C>,
     scratch: &mut Scratch,
@@ -93,23 +93,24 @@ fn collect_layer<L: Ledger, C: Chunk, S: Sink>(
     ensures { (first : S) (before : List DocRow) → Gathers S.Took asked.now first before sink.old → OnOk result (Gathers S.Took asked.now first (before ++ filter (matches asked.now.query) (living layer.now)) sink.new) }
 {
     let chunk: &C = &layer.chunk;
+    let counted = Counted::<C, L>::over(chunk);
     let dead = layer.dead.as_slice();
-    let mut stream = Matches::over(asked.alloc, &asked.question.query, chunk, dead)?;
+    let mut stream = Matches::over(asked.alloc, &asked.question.query, &counted, dead)?;
     'rows: while let Some(number) = stream.row() {
-        collect_row(asked, chunk, number, &mut stream, scratch, sink, steps)?;
+        collect_row(asked, &counted, number, &mut stream, scratch, sink, steps)?;
     }
     Ok(())
 }
 
 /// Goes on behind a row, and offers its document if it matches and passes the conditions.
-fn collect_row<L: Ledger, C: Chunk, S: Sink>(
+fn collect_row<C: CountedLists, S: Sink>(
     asked: &ReadyQuestion<'_>,
     chunk: &C,
     number: u32,
     stream: &mut Matches<'_, C>,
     scratch: &mut Scratch,
     sink: &mut S,
-    steps: &mut Steps<L>,
+    steps: &mut Steps<C::Book>,
 ) -> Result<(), NoMemory>
     requires asked { IsAskedOfDocs asked.now (C.content chunk.now) }
     requires stands { StandsAt asked.now (C.content chunk.now) number stream.old }
@@ -129,11 +130,11 @@ fn collect_row<L: Ledger, C: Chunk, S: Sink>(
 }
 
 /// Goes on behind a row, and weighs its document if it matches.
-fn weight_of<L: Ledger, C: Chunk>(
+fn weight_of<C: CountedLists>(
     asked: &ReadyQuestion<'_>,
     stream: &mut Matches<'_, C>,
     hits: &mut Hits,
-    steps: &mut Steps<L>,
+    steps: &mut Steps<C::Book>,
 ) -> Result<Option<u64>, NoMemory>
     requires asked { IsAskedOfDocs asked.now stream.old.rows }
     requires query { stream.old.query ≡ asked.now.query }
@@ -148,9 +149,9 @@ fn weight_of<L: Ledger, C: Chunk>(
 }
 
 /// The same by the ranker that gives each document one weight, for which no hits are looked for.
-fn weight_unranked<L: Ledger, C: Chunk>(
+fn weight_unranked<C: CountedLists>(
     stream: &mut Matches<'_, C>,
-    steps: &mut Steps<L>,
+    steps: &mut Steps<C::Book>,
 ) -> Result<Option<u64>, NoMemory>
     requires { stream.old.at < length stream.old.rows }
     ensures goes_on { OnOk result (stream.new ≡ record stream.old { at = stream.old.at + 1 }) }
@@ -161,11 +162,11 @@ fn weight_unranked<L: Ledger, C: Chunk>(
 }
 
 /// The same by the hits.
-fn weight_ranked<L: Ledger, C: Chunk>(
+fn weight_ranked<C: CountedLists>(
     asked: &ReadyQuestion<'_>,
     stream: &mut Matches<'_, C>,
     hits: &mut Hits,
-    steps: &mut Steps<L>,
+    steps: &mut Steps<C::Book>,
 ) -> Result<Option<u64>, NoMemory>
     requires asked { IsAskedOfDocs asked.now stream.old.rows }
     requires query { stream.old.query ≡ asked.now.query }

@@ -22,6 +22,7 @@ use Rattle.std.specs.List.{position_from}
 use Rattle.std.proofs.lemmas.Map.Keys.{Less-from_sorted}
 use Rattle.std.proofs.Math.ListN.{get_or-map}
 use Rattle.std.specs.declared.cmp.Ordering.TheVariants.{Less}
+use Rattle.doc_types.specs.declared.schema.TheConstants.{MAX_FIELDS}
 use Rattle.doc_types.specs.declared.documents.DocRow.{DocRow}
 use Rattle.doc_types.specs.declared.plain_index.WordRows.{WordRows}
 use Rattle.doc_types.specs.Chunks.{numbers_where, rows_with, has_word}
@@ -49,7 +50,8 @@ no_longer p (x ∷ xs) n =
       | false ↦ omega (arith, rest)
     ]
 
-enumerated : {X : Type 0} (xs : List X) (x : X) (n m : ℕ) → m ≡ n + length xs → enumerate_from n (xs ++ x ∷ []) ≡ enumerate_from n xs ++ (m, x) ∷ []
+-- one element more, with its number
+pub enumerated : {X : Type 0} (xs : List X) (x : X) (n m : ℕ) → m ≡ n + length xs → enumerate_from n (xs ++ x ∷ []) ≡ enumerate_from n xs ++ (m, x) ∷ []
 enumerated [] x n m e = let k : n ≡ m = omega (arith, e) in ap (λ i. (i, x) ∷ []) k
 enumerated (y ∷ xs) x n m e = ap (λ es. (n, y) ∷ es) (enumerated xs x (n + 1) m (omega (arith, e)))
 
@@ -153,7 +155,7 @@ module _ (rows : List DocRow) (m : BTreeMap (List ℕ) (Vec ℕ Global)) (up : I
       let less : slice_cmp nat_cmp (get_or (keys m) i d.word) (get_or (keys m) j d.word) ≡ Less = Less-from_sorted (slice_cmp nat_cmp) (keys m) i j d.word up l (omega (arith, long, h)) in
       rw (← key_at i d, ← key_at j d) less
 
-  pub indexed : AllPairs (λ row later. row.doc.id < later.doc.id) rows → All (λ row. length row.doc.fields < 2 ^ 16) rows → btree_map_len m < 2 ^ 32 → IsIndex rows index
+  pub indexed : AllPairs (λ row later. row.doc.id < later.doc.id) rows → All (λ row. length row.doc.fields ≤ MAX_FIELDS) rows → btree_map_len m < 2 ^ 32 → IsIndex rows index
   indexed ids fields small = record {
     ids = ids;
     few_rows = few;

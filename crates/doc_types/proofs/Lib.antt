@@ -4,6 +4,8 @@ pub mod FieldParts
 pub mod BinarySearches
 -- how the place of a cursor moves
 pub mod PlainPlaces
+-- how it moves over the rows below one
+pub mod Seeking
 -- the rows of each word, as they are collected
 pub mod Collected
 -- the index that is made of them

@@ -1,11 +1,12 @@
 -- Chunks: what each call answers, as facts about the chunk's list of rows.
-use Rattle.std.specs.Prelude.{◌≡◌, ◌<◌, ℕ, ◌-◌, List, [], ◌++◌, Bool, true, false, Option, length, map, drop, slice_get, All, AllPairs, Contains}
+use Rattle.std.specs.Prelude.{◌≡◌, ◌<◌, ℕ, ◌-◌, ◌^◌, List, [], ◌∷◌, ◌++◌, Bool, true, false, ◌==◌, nat_lt, if◌then◌else◌, Option, Some, None, length, map, drop, slice_get, All, AllPairs, Contains}
 use Rattle.std.specs.Option.{option_and_then, option_map_or}
-use Rattle.std.specs.List.{filter, list_any, flat_map, enumerate_from}
+use Rattle.std.specs.List.{filter, list_any, flat_map, enumerate_from, sum_by}
 use Rattle.std.specs.Str.{bytes_eq}
 use Rattle.std.specs.Cmp.Lexicographic.{slice_cmp}
 use Rattle.std.specs.Ordering.{nat_cmp}
 use Rattle.std.specs.declared.cmp.Ordering.TheVariants.{Less}
+use Rattle.doc_types.specs.declared.cursor.TheConstants.{NO_ROW}
 use Rattle.doc_types.specs.declared.documents.DocRow.{DocRow}
 use Rattle.doc_types.specs.declared.schema.Schema.{Schema}
 use Rattle.doc_types.specs.declared.schema.Value.{Value}
@@ -109,3 +110,24 @@ next_place place = record place { ahead = drop 1 place.ahead }
 -- the places of the word in the first row ahead
 abbrev pub hits_ahead : List DocRow → CursorPlace → List (ℕ × ℕ)
 hits_ahead rows place = option_map_or (hits_of place.word) (option_and_then (slice_get rows) (next_row place)) []
+
+-- the rows from this one on, of rows that ascend
+abbrev pub rows_from : ℕ → List ℕ → List ℕ
+rows_from from [] = []
+rows_from from (row ∷ rows) = if nat_lt row from then rows_from from rows else row ∷ rows
+
+-- the place after the rows below this one
+abbrev pub place_from : ℕ → CursorPlace → CursorPlace
+place_from from place = record place { ahead = rows_from from place.ahead }
+
+-- the row that a number tells, where it isn't the one that stands for none
+abbrev pub row_of : ℕ → Option ℕ
+row_of number = if number == NO_ROW then None else Some number
+
+-- the fields in which the row has the word, as bits: 1 for the first field, 2 for the second one, 4 for the third one
+abbrev pub fields_with : List ℕ → DocRow → ℕ
+fields_with word row = sum_by (λ e. if list_any (is_word word) e.1.words then 2 ^ e.0 else 0) (enumerate_from 0 row.doc.fields)
+
+-- the fields in which the first row ahead has the word
+abbrev pub fields_ahead : List DocRow → CursorPlace → ℕ
+fields_ahead rows place = option_map_or (fields_with place.word) (option_and_then (slice_get rows) (next_row place)) 0

@@ -1,37 +1,39 @@
 //! What a chunk promises, whatever keeps it: each call is a fact about one list of rows. All that evaluates queries is written
 //! against this trait, and so are the chunks in memory and on disk. The crate's README tells the promises in plain words.
-ghost use Rattle.std.specs.Prelude.{◌≡◌, ℕ, ◌+◌, ◌<◌, ◌==◌, ◌++◌, List, [], length, ◌↔◌, IsSome, IfSome, IfNone, OnOk, OnErr, slice_get, All};
+ghost use Rattle.std.specs.Prelude.{◌≡◌, ℕ, ◌+◌, ◌<◌, ◌==◌, ◌++◌, List, [], length, map, unwrap_or, ◌↔◌, IsSome, IfSome, IfNone, OnOk, OnErr, slice_get, All};
 ghost use Rattle.std.specs.Option.{option_map, option_map_or};
 ghost use Rattle.std.specs.List.{position};
 ghost use Rattle.doc_types.specs.Chunks.{
   IsContent,
-  field_at,
   value_at,
   rows_with,
   AreWordsOf,
   last_position,
   gaps_of,
+  by_field,
   spans_of,
   CursorPlace,
   IsCursorPlace,
   first_place,
   next_row,
   next_place,
-  hits_ahead,
+  place_from,
+  row_of,
 };
 ghost use Rattle.doc_types.specs.declared.documents.DocRow.{DocRow};
 ghost use Rattle.doc_types.specs.declared.cursor.Cursor.{Cursor};
+ghost use Rattle.doc_types.specs.declared.cursor.TheConstants.{NO_ROW};
 
-use crate::cursor::Cursor;
+use crate::cursor::{Cursor, NO_ROW};
 use crate::schema::Value;
 use crate::tokens::{Gap, ZoneSpan};
-use srch_base::{NoMemory, Steps};
-use std::sync::ledger::Ledger;
+use srch_base::NoMemory;
 
 /// A list of rows by ascending id, with the rows of each word.
 ///
 /// Rows, fields, attributes and words have numbers from 0. Every answer is one of the list, whatever keeps it: a plain list,
-/// posting lists in memory, or an image of a file. After want of memory all is as before, but for the step that `open` counts.
+/// posting lists in memory, or an image of a file. After want of memory all is as before. The lists of places are a trait of their
+/// own: `HitLists` for a kind of chunk, `CountedLists` for what evaluates queries.
 pub trait Chunk: Drop {
     /// The rows.
     ghost content: { Self → List DocRow };
@@ -68,11 +70,6 @@ pub trait Chunk: Drop {
         requires { IsSome (value_at (content self.now) row attr) }
         ensures { value_at (content self.now) row attr ≡ Some result };
 
-    /// The position of the last word of the row's field, or 0.
-    fn last(&self, row: u32, field: u16) -> u32
-        requires { IsSome (field_at (content self.now) row field) }
-        ensures { option_map last_position (field_at (content self.now) row field) ≡ Some result };
-
     /// The row of an id, if it is there.
     fn find(&self, id: u64) -> Option<u32>
         ensures { result ≡ position (λ row. row.doc.id == id) (content self.now) };
@@ -85,6 +82,10 @@ pub trait Chunk: Drop {
     fn word_at(&self, n: u32) -> &[u8]
         requires { n < length (words_of self.now) }
         ensures { slice_get (words_of self.now) n ≡ Some result.now };
+
+    /// How many rows have the word.
+    fn count(&self, word: &[u8]) -> u32
+        ensures { result ≡ length (rows_with word.now (content self.now)) };
 
     /// A cursor before all rows that have the word. None exactly where no row has it.
     fn start(&self, word: &[u8]) -> Option<Cursor>
@@ -105,23 +106,32 @@ pub trait Chunk: Drop {
         ensures next { place self.now cursor.new ≡ next_place (place self.now cursor.old) }
         ensures ended { (place self.now cursor.old).ahead ≡ [] → cursor.new ≡ cursor.old };
 
-    /// Appends the word's places in the next row that has it, by field and position, ascending. It counts one step.
-    fn open<L: Ledger>(
-        &self,
-        cursor: &Cursor,
-        into: &mut Vec<(u16, u32)>,
-        steps: &mut Steps<L>,
-    ) -> Result<(), NoMemory>
-        requires belongs { belongs self.now cursor.now }
-        requires left { IsSome (next_row (place self.now cursor.now)) }
-        ensures ok { OnOk result (into.new.items ≡ into.old.items ++ hits_ahead (content self.now) (place self.now cursor.now)) }
-        ensures err { OnErr result (into.new.items ≡ into.old.items) }
-        ensures count { steps.new ≡ steps.old + 1 };
+    /// Goes over the rows below this one that have the word, and tells the row that comes next then, or `NO_ROW` where none is left.
+    fn seek(&self, cursor: &mut Cursor, row: u32) -> u32
+        requires { belongs self.now cursor.old }
+        ensures stays { belongs self.now cursor.new }
+        ensures place { place self.now cursor.new ≡ place_from row (place self.now cursor.old) }
+        ensures next { result ≡ unwrap_or (next_row (place self.now cursor.new)) NO_ROW }
+    {
+        while let Some(next) = self.row(cursor) {
+            if next >= row {
+                return next;
+            }
+            self.advance(cursor);
+        }
+        NO_ROW
+    }
 
-    /// Appends the boundaries of the row's field, each with the position that it takes, ascending.
-    fn gaps(&self, row: u32, field: u16, into: &mut Vec<(u32, Gap)>) -> Result<(), NoMemory>
-        requires { IsSome (field_at (content self.now) row field) }
-        ensures ok { OnOk result (into.new.items ≡ into.old.items ++ option_map_or gaps_of (field_at (content self.now) row field) []) }
+    /// Appends the positions of the last words of the row's fields, field by field, each 0 where the field has no word.
+    fn lasts(&self, row: u32, into: &mut Vec<u32>) -> Result<(), NoMemory>
+        requires { row < length (content self.now) }
+        ensures ok { OnOk result (into.new.items ≡ into.old.items ++ option_map_or (λ found. map last_position found.doc.fields) (slice_get (content self.now) row) []) }
+        ensures err { OnErr result (into.new.items ≡ into.old.items) };
+
+    /// Appends the boundaries of the row, each with its field and the position that it takes, by field and position.
+    fn gaps(&self, row: u32, into: &mut Vec<(u16, (u32, Gap))>) -> Result<(), NoMemory>
+        requires { row < length (content self.now) }
+        ensures ok { OnOk result (into.new.items ≡ into.old.items ++ option_map_or (by_field gaps_of) (slice_get (content self.now) row) []) }
         ensures err { OnErr result (into.new.items ≡ into.old.items) };
 
     /// Appends the spans of zones of the row, each with its field, by field, first position, last position and zone.
@@ -138,4 +148,7 @@ pub trait Chunk: Drop {
 
     /// Its cursors stand at rows of it.
     ghost places: { (chunk : Self) (cursor : Cursor) → belongs chunk cursor → IsCursorPlace (content chunk) (place chunk cursor) };
+
+    /// A cursor's row is the next one.
+    ghost nexts: { (chunk : Self) (cursor : Cursor) → belongs chunk cursor → next_row (place chunk cursor) ≡ row_of cursor.index };
 }

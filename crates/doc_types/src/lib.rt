@@ -3,8 +3,10 @@
 
 mod chunk;
 mod collecting;
+mod counted;
 mod cursor;
 mod documents;
+mod hit_lists;
 mod hits;
 mod laws;
 mod payload;
@@ -17,8 +19,10 @@ mod tokens;
 mod transactions;
 
 pub use chunk::Chunk;
-pub use cursor::Cursor;
+pub use counted::Counted;
+pub use cursor::{Cursor, NO_ROW};
 pub use documents::{Doc, DocRow};
+pub use hit_lists::{CountedLists, HitLists};
 pub use hits::{Hit, Hits};
 pub use laws::{
     a_change_is_of_one_id, a_live_id_is_refused, an_example_of_commits, commits_in_a_row,

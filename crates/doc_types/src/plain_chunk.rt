@@ -5,13 +5,14 @@ ghost use Rattle.std.specs.Prelude.{◌≡◌, ◌+◌, ◌<◌, ◌==◌, ◌++
 ghost use Rattle.std.specs.Option.{option_map, option_map_or};
 ghost use Rattle.std.specs.List.{position};
 ghost use Rattle.doc_types.specs.Chunks.{IsContent};
-ghost use Rattle.doc_types.specs.steps.PlainIndex.{IsIndex, StandsIn, place_in, place_in-IsCursorPlace, words-AreWordsOf};
+ghost use Rattle.doc_types.specs.steps.PlainIndex.{IsIndex, StandsIn, place_in, place_in-IsCursorPlace, place_in-row_of, words-AreWordsOf};
 
 use crate::chunk::Chunk;
-use crate::cursor::Cursor;
+use crate::cursor::{Cursor, NO_ROW};
 use crate::documents::DocRow;
-use crate::plain_index::{WordRows, entry_at, entry_of, index_of, row_of};
-use crate::row_parts::{put_gaps, put_hits, put_spans};
+use crate::hit_lists::HitLists;
+use crate::plain_index::{WordRows, entry_at, entry_of, index_of, row_at, row_of};
+use crate::row_parts::{fields_with, put_gaps, put_hits, put_lasts, put_spans};
 use crate::schema::Value;
 use crate::tokens::{Gap, ZoneSpan};
 use srch_base::{Items, NoMemory, Steps};
@@ -80,17 +81,6 @@ impl Chunk for PlainChunk {
         self.rows.as_slice()[row as usize].doc.values.as_slice()[attr as usize]
     }
 
-    fn last(&self, row: u32, field: u16) -> u32 {
-        match self.rows.as_slice()[row as usize].doc.fields.as_slice()[field as usize]
-            .words
-            .as_slice()
-            .last()
-        {
-            Some(token) => token.position,
-            None => 0,
-        }
-    }
-
     fn find(&self, id: u64) -> Option<u32> {
         Some(row_of(self.rows.as_slice(), id)? as u32)
     }
@@ -103,48 +93,44 @@ impl Chunk for PlainChunk {
         self.index.as_slice()[n as usize].word.as_bytes()
     }
 
+    fn count(&self, word: &[u8]) -> u32 {
+        let index = self.index.as_slice();
+        match entry_of(index, word) {
+            Some(found) => index[found].rows.len() as u32,
+            None => 0,
+        }
+    }
+
     fn start(&self, word: &[u8]) -> Option<Cursor> {
-        let found = entry_of(self.index.as_slice(), word)?;
+        let index = self.index.as_slice();
+        let found = entry_of(index, word)?;
+        let rows = index[found].rows.as_slice();
         Some(Cursor {
             word: found as u32,
             at: 0,
-            index: 0,
+            index: row_at(rows, 0),
         })
     }
 
     fn row(&self, cursor: &Cursor) -> Option<u32> {
-        let entry = entry_at(self.index.as_slice(), cursor);
-        entry.rows.as_slice().get(cursor.index as usize).copied()
+        cursor.next_row()
     }
 
     fn advance(&self, cursor: &mut Cursor) {
-        let entry = entry_at(self.index.as_slice(), cursor);
-        if (cursor.index as usize) < entry.rows.len() {
-            cursor.index += 1;
+        if cursor.index == NO_ROW {
+            return;
         }
-    }
-
-    fn open<L: Ledger>(
-        &self,
-        cursor: &Cursor,
-        into: &mut Vec<(u16, u32)>,
-        steps: &mut Steps<L>,
-    ) -> Result<(), NoMemory> {
-        steps.tick();
         let entry = entry_at(self.index.as_slice(), cursor);
-        let row = entry.rows.as_slice()[cursor.index as usize];
-        put_hits(
-            &self.rows.as_slice()[row as usize],
-            entry.word.as_bytes(),
-            into,
-        )
+        cursor.at += 1;
+        cursor.index = row_at(entry.rows.as_slice(), cursor.at as usize);
     }
 
-    fn gaps(&self, row: u32, field: u16, into: &mut Vec<(u32, Gap)>) -> Result<(), NoMemory> {
-        put_gaps(
-            &self.rows.as_slice()[row as usize].doc.fields.as_slice()[field as usize],
-            into,
-        )
+    fn lasts(&self, row: u32, into: &mut Vec<u32>) -> Result<(), NoMemory> {
+        put_lasts(&self.rows.as_slice()[row as usize], into)
+    }
+
+    fn gaps(&self, row: u32, into: &mut Vec<(u16, (u32, Gap))>) -> Result<(), NoMemory> {
+        put_gaps(&self.rows.as_slice()[row as usize], into)
     }
 
     fn spans(&self, row: u32, into: &mut Vec<(u16, ZoneSpan)>) -> Result<(), NoMemory> {
@@ -156,4 +142,31 @@ impl Chunk for PlainChunk {
     ghost all_words = { λ chunk. words-AreWordsOf chunk.rows chunk.index chunk.indexed };
 
     ghost places = { λ chunk cursor stands. place_in-IsCursorPlace chunk.rows chunk.index cursor chunk.indexed stands };
+
+    ghost nexts = { λ chunk cursor stands. place_in-row_of chunk.rows chunk.index cursor chunk.indexed stands };
+}
+
+impl HitLists for PlainChunk {
+    fn open<L: Ledger>(
+        &self,
+        cursor: &Cursor,
+        into: &mut Vec<(u16, u32)>,
+        steps: &mut Steps<L>,
+    ) -> Result<(), NoMemory> {
+        steps.tick();
+        let entry = entry_at(self.index.as_slice(), cursor);
+        put_hits(
+            &self.rows.as_slice()[cursor.index as usize],
+            entry.word.as_bytes(),
+            into,
+        )
+    }
+
+    fn fields_at<L: Ledger>(&self, cursor: &Cursor, _steps: &mut Steps<L>) -> u32 {
+        let entry = entry_at(self.index.as_slice(), cursor);
+        fields_with(
+            &self.rows.as_slice()[cursor.index as usize],
+            entry.word.as_bytes(),
+        )
+    }
 }

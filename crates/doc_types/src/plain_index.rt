@@ -7,10 +7,10 @@ ghost use Rattle.std.specs.Ordering.{nat_cmp};
 ghost use Rattle.std.specs.Cmp.Lexicographic.{slice_cmp};
 ghost use Rattle.std.specs.declared.cmp.Ordering.TheVariants.{Less};
 ghost use Rattle.doc_types.specs.Chunks.{IsContent};
-ghost use Rattle.doc_types.specs.steps.PlainIndex.{StandsIn, IsIndex};
+ghost use Rattle.doc_types.specs.steps.PlainIndex.{StandsIn, IsIndex, row_at};
 
 use crate::collecting::{collect, listed};
-use crate::cursor::Cursor;
+use crate::cursor::{Cursor, NO_ROW};
 use crate::documents::DocRow;
 use srch_base::{Items, NoMemory, Word};
 use std::alloc::Global;
@@ -54,7 +54,18 @@ pub(crate) fn entry_of(index: &[WordRows], word: &[u8]) -> Option<usize>
 pub(crate) fn entry_at<'a>(index: &'a [WordRows], cursor: &Cursor) -> &'a WordRows
     requires { StandsIn index.now cursor.now }
     ensures entry { slice_get index.now cursor.now.word ≡ Some result.now }
-    ensures within { cursor.now.index ≤ length result.now.rows }
+    ensures within { cursor.now.at ≤ length result.now.rows }
+    ensures here { cursor.now.index ≡ row_at result.now.rows cursor.now.at }
 {
     &index[cursor.word as usize]
+}
+
+/// The row at this place of a word's rows, or `NO_ROW`.
+pub(crate) fn row_at(rows: &[u32], at: usize) -> u32
+    ensures { result ≡ row_at rows.now at }
+{
+    match rows.get(at) {
+        Some(row) => *row,
+        None => NO_ROW,
+    }
 }

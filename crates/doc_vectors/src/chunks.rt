@@ -5,9 +5,9 @@ ghost use Rattle.doc_vectors.specs.steps.Columns.{HasColumns};
 
 use crate::documents::{DOCUMENTS, rows};
 use crate::row_answers::told_row;
-use crate::word_answers::told_word;
+use crate::word_answers::{first_other_seek, told_word};
 use any_chunk::AnyChunk;
-use doc_types::{Chunk, PlainChunk};
+use doc_types::{Chunk, HitLists, PlainChunk};
 use srch_base::NoMemory;
 use std::alloc::Global;
 use std::test::Fail;
@@ -27,39 +27,42 @@ const ROWS: [&str; 10] = [
     "18446744073709551615 by 9223372036854775807: 0 9223372036854775807, last 1 3 4, gaps 1.2s 2.3p, spans 2.1-2:0 2.2-4:1",
 ];
 
-/// The words of the documents by their bytes, each with the rows that have it and its places in them by field and position,
-/// worked out by hand.
+/// The words of the documents by their bytes, each with the rows that have it, the fields of the row that do as bits, and its places
+/// there by field and position, worked out by hand.
 const WORDS: [(&str, &str); 30] = [
-    ("a", " 3: 0.7 4: 0.7 9: 0.1 1.1 1.3 2.2 2.4"),
-    ("b", " 9: 2.1"),
-    ("because", " 7: 2.3"),
-    ("d", " 3: 0.2 4: 0.2"),
-    ("doe", " 3: 0.3 4: 0.3"),
-    ("e", " 3: 0.10 4: 0.10"),
-    ("he", " 3: 0.13 4: 0.12"),
-    ("hello", " 0: 0.1 1: 0.1 2: 0.2 5: 0.1 6: 0.1 7: 1.3"),
-    ("is", " 7: 2.7"),
-    ("it", " 7: 2.6 2.8"),
-    ("john", " 3: 0.1 4: 0.1"),
-    ("k", " 3: 0.9 4: 0.9"),
-    ("l", " 3: 0.8 4: 0.8"),
-    ("left", " 3: 0.14 4: 0.13"),
-    ("met", " 3: 0.4 4: 0.4"),
-    ("nothing", " 2: 1.1"),
-    ("one", " 0: 1.1"),
-    ("r", " 3: 0.11 4: 0.11"),
-    ("s", " 3: 0.5 4: 0.5"),
-    ("so", " 7: 2.5"),
-    ("st", " 7: 0.3"),
-    ("t", " 3: 0.6 4: 0.6"),
-    ("te", " 7: 0.1"),
-    ("test", " 7: 1.1"),
-    ("was", " 7: 2.9"),
-    ("why", " 7: 2.1"),
-    ("wide", " 1: 1.2"),
-    ("world", " 0: 0.2 1: 1.1 2: 0.1 5: 0.3 6: 0.2"),
-    ("x", " 5: 0.2"),
-    ("привет", " 2: 2.1"),
+    ("a", " 3/1: 0.7 4/1: 0.7 9/7: 0.1 1.1 1.3 2.2 2.4"),
+    ("b", " 9/4: 2.1"),
+    ("because", " 7/4: 2.3"),
+    ("d", " 3/1: 0.2 4/1: 0.2"),
+    ("doe", " 3/1: 0.3 4/1: 0.3"),
+    ("e", " 3/1: 0.10 4/1: 0.10"),
+    ("he", " 3/1: 0.13 4/1: 0.12"),
+    (
+        "hello",
+        " 0/1: 0.1 1/1: 0.1 2/1: 0.2 5/1: 0.1 6/1: 0.1 7/2: 1.3",
+    ),
+    ("is", " 7/4: 2.7"),
+    ("it", " 7/4: 2.6 2.8"),
+    ("john", " 3/1: 0.1 4/1: 0.1"),
+    ("k", " 3/1: 0.9 4/1: 0.9"),
+    ("l", " 3/1: 0.8 4/1: 0.8"),
+    ("left", " 3/1: 0.14 4/1: 0.13"),
+    ("met", " 3/1: 0.4 4/1: 0.4"),
+    ("nothing", " 2/2: 1.1"),
+    ("one", " 0/2: 1.1"),
+    ("r", " 3/1: 0.11 4/1: 0.11"),
+    ("s", " 3/1: 0.5 4/1: 0.5"),
+    ("so", " 7/4: 2.5"),
+    ("st", " 7/1: 0.3"),
+    ("t", " 3/1: 0.6 4/1: 0.6"),
+    ("te", " 7/1: 0.1"),
+    ("test", " 7/2: 1.1"),
+    ("was", " 7/4: 2.9"),
+    ("why", " 7/4: 2.1"),
+    ("wide", " 1/2: 1.2"),
+    ("world", " 0/1: 0.2 1/2: 1.1 2/1: 0.1 5/1: 0.3 6/1: 0.2"),
+    ("x", " 5/1: 0.2"),
+    ("привет", " 2/4: 2.1"),
 ];
 
 /// Words that no document has: beside a word that is there, in other letters, before all and after all.
@@ -114,24 +117,29 @@ fn first_other_id<C: Chunk>(chunk: &C) -> Option<usize> {
 }
 
 /// The number of the first word of which the chunk answers otherwise.
-fn first_other_word<C: Chunk>(alloc: Global, chunk: &C) -> Result<Option<usize>, Fail> {
+fn first_other_word<C: HitLists>(alloc: Global, chunk: &C) -> Result<Option<usize>, Fail> {
     for (at, (word, expected)) in WORDS.iter().enumerate() {
         if at >= chunk.words() as usize || chunk.word_at(at as u32) != word.as_bytes() {
             return Ok(Some(at));
         }
         let found = told_word(alloc, chunk, word.as_bytes())?.ok_or("no row")?;
-        if found.as_str() != *expected {
+        if found.as_str() != *expected || !is_passed_over(chunk, word.as_bytes(), expected) {
             return Ok(Some(at));
         }
     }
     Ok(None)
 }
 
+/// Whether the word is counted in as many rows as are told, and its cursor passes over rows as it goes over them.
+fn is_passed_over<C: Chunk>(chunk: &C, word: &[u8], told: &str) -> bool {
+    let rows = told.bytes().filter(|byte| *byte == b'/').count();
+    chunk.count(word) as usize == rows && first_other_seek(chunk, word).is_none()
+}
+
 /// Whether some row has one of the words that are absent, or one of the ids.
 fn has_absent<C: Chunk>(chunk: &C) -> bool {
-    ABSENT
-        .iter()
-        .any(|word| chunk.start(word.as_bytes()).is_some())
+    ABSENT.iter().any(|word| chunk.start(word.as_bytes()).is_some()
+        || chunk.count(word.as_bytes()) > 0)
         || NO_IDS.iter().any(|id| chunk.find(*id).is_some())
 }
 

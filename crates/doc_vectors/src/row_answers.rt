@@ -19,12 +19,12 @@ fn put_values<C: Chunk>(chunk: &C, row: u32, into: &mut String) -> Result<(), Fa
 }
 
 /// Appends the last positions of the fields of the row.
-fn put_lasts<C: Chunk>(chunk: &C, row: u32, into: &mut String) -> Result<(), Fail>
-    requires row { row < length (C.content chunk.now) }
-    requires columns { All HasColumns (C.content chunk.now) }
+fn put_lasts<C: Chunk>(alloc: Global, chunk: &C, row: u32, into: &mut String) -> Result<(), Fail>
+    requires { row < length (C.content chunk.now) }
 {
-    for field in 0..3 {
-        let last = chunk.last(row, field);
+    let mut lasts = Vec::new(alloc);
+    chunk.lasts(row, &mut lasts)?;
+    for last in lasts.iter() {
         write!(into, " {last}")?;
     }
     Ok(())
@@ -38,19 +38,15 @@ fn letter(gap: Gap) -> &'static str {
     }
 }
 
-/// Appends the boundaries of the fields of the row. They are asked for all fields into one list.
+/// Appends the boundaries of the row.
 fn put_gaps<C: Chunk>(alloc: Global, chunk: &C, row: u32, into: &mut String) -> Result<(), Fail>
-    requires row { row < length (C.content chunk.now) }
-    requires columns { All HasColumns (C.content chunk.now) }
+    requires { row < length (C.content chunk.now) }
 {
     let mut gaps = Vec::new(alloc);
-    for field in 0..3 {
-        let before = gaps.len();
-        chunk.gaps(row, field, &mut gaps)?;
-        for (position, gap) in gaps.iter().skip(before) {
-            let gap = letter(*gap);
-            write!(into, " {field}.{position}{gap}")?;
-        }
+    chunk.gaps(row, &mut gaps)?;
+    for (field, (position, gap)) in gaps.iter() {
+        let gap = letter(*gap);
+        write!(into, " {field}.{position}{gap}")?;
     }
     Ok(())
 }
@@ -79,7 +75,7 @@ pub(crate) fn told_row<C: Chunk>(alloc: Global, chunk: &C, row: u32) -> Result<S
     write!(text, "{id} by {born}:")?;
     put_values(chunk, row, &mut text)?;
     text.push_str(", last")?;
-    put_lasts(chunk, row, &mut text)?;
+    put_lasts(alloc, chunk, row, &mut text)?;
     text.push_str(", gaps")?;
     put_gaps(alloc, chunk, row, &mut text)?;
     text.push_str(", spans")?;

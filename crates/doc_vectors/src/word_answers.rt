@@ -2,15 +2,15 @@
 ghost use Rattle.std.specs.Prelude.{◌≡◌, ◌<◌, IsSome};
 ghost use Rattle.doc_types.specs.Chunks.{next_row};
 
-use doc_types::{Chunk, Cursor};
+use doc_types::{Chunk, Cursor, HitLists, NO_ROW};
 use srch_base::Steps;
 use std::alloc::Global;
 use std::marker::Brand;
 use std::sync::ledger::{Blank, Ledger};
 use std::test::Fail;
 
-/// Appends a row that has a word, with the word's places in it.
-fn put_places<L: Ledger, C: Chunk>(
+/// Appends a row that has a word, with the fields that do as bits, and the word's places in it.
+fn put_places<L: Ledger, C: HitLists>(
     alloc: Global,
     chunk: &C,
     cursor: &Cursor,
@@ -22,8 +22,9 @@ fn put_places<L: Ledger, C: Chunk>(
     requires left { IsSome (next_row (C.place chunk.now cursor.now)) }
 {
     let mut places = Vec::new(alloc);
+    let fields = chunk.fields_at(cursor, steps);
     chunk.open(cursor, &mut places, steps)?;
-    write!(into, " {row}:")?;
+    write!(into, " {row}/{fields}:")?;
     for (field, position) in places.iter() {
         write!(into, " {field}.{position}")?;
     }
@@ -31,7 +32,7 @@ fn put_places<L: Ledger, C: Chunk>(
 }
 
 /// Goes over the rows that have the word, and over none once they are all behind.
-fn told_by<L: Ledger, C: Chunk>(
+fn told_by<L: Ledger, C: HitLists>(
     alloc: Global,
     chunk: &C,
     word: &[u8],
@@ -58,10 +59,34 @@ fn told_by<L: Ledger, C: Chunk>(
 }
 
 /// The rows of the chunk that have the word, each with the word's places in it by field and position.
-pub(crate) fn told_word<C: Chunk>(
+pub(crate) fn told_word<C: HitLists>(
     alloc: Global,
     chunk: &C,
     word: &[u8],
 ) -> Result<Option<String>, Fail> {
     told_by::<Brand, C>(alloc, chunk, word, Blank::new(1))
+}
+
+/// The first row from which on another one is found by passing over those below it than by going over them one by one.
+pub(crate) fn first_other_seek<C: Chunk>(chunk: &C, word: &[u8]) -> Option<u32> {
+    (0..12).find(|from| match (chunk.start(word), chunk.start(word)) {
+        (Some(mut passing), Some(mut going)) => {
+            let found = chunk.seek(&mut passing, *from);
+            found != row_from(chunk, &mut going, *from) || passing.next_row() != going.next_row()
+        }
+        _ => true,
+    })
+}
+
+/// The first row of the cursor's that isn't below this one, by going over those that are.
+fn row_from<C: Chunk>(chunk: &C, cursor: &mut Cursor, from: u32) -> u32
+    requires { C.belongs chunk.now cursor.old }
+{
+    'below: for _ in 0..from {
+        match chunk.row(cursor) {
+            Some(row) if row < from => chunk.advance(cursor),
+            _ => break 'below,
+        }
+    }
+    chunk.row(cursor).unwrap_or(NO_ROW)
 }

@@ -7,7 +7,7 @@ use crate::documents::chunk_of;
 use crate::queries::query_of;
 use crate::sets::{index_of, lines_of};
 use crate::telling::compare;
-use doc_types::{Chunk, Cursor, Gap, Value, ZoneSpan};
+use doc_types::{Chunk, Counted, Cursor, Gap, HitLists, Value, ZoneSpan};
 use index_conf::IndexConf;
 use op_eval::candidates;
 use query_tree::Query;
@@ -52,10 +52,6 @@ impl<C: Chunk> Chunk for Shut<C> {
         self.chunk.value(row, attr)
     }
 
-    fn last(&self, row: u32, field: u16) -> u32 {
-        self.chunk.last(row, field)
-    }
-
     fn find(&self, id: u64) -> Option<u32> {
         self.chunk.find(id)
     }
@@ -66,6 +62,10 @@ impl<C: Chunk> Chunk for Shut<C> {
 
     fn word_at(&self, n: u32) -> &[u8] {
         self.chunk.word_at(n)
+    }
+
+    fn count(&self, word: &[u8]) -> u32 {
+        self.chunk.count(word)
     }
 
     fn start(&self, word: &[u8]) -> Option<Cursor> {
@@ -80,18 +80,12 @@ impl<C: Chunk> Chunk for Shut<C> {
         self.chunk.advance(cursor);
     }
 
-    fn open<L: Ledger>(
-        &self,
-        _cursor: &Cursor,
-        _into: &mut Vec<(u16, u32)>,
-        steps: &mut Steps<L>,
-    ) -> Result<(), NoMemory> {
-        steps.tick();
-        Err(NoMemory)
+    fn lasts(&self, row: u32, into: &mut Vec<u32>) -> Result<(), NoMemory> {
+        self.chunk.lasts(row, into)
     }
 
-    fn gaps(&self, row: u32, field: u16, into: &mut Vec<(u32, Gap)>) -> Result<(), NoMemory> {
-        self.chunk.gaps(row, field, into)
+    fn gaps(&self, row: u32, into: &mut Vec<(u16, (u32, Gap))>) -> Result<(), NoMemory> {
+        self.chunk.gaps(row, into)
     }
 
     fn spans(&self, row: u32, into: &mut Vec<(u16, ZoneSpan)>) -> Result<(), NoMemory> {
@@ -103,6 +97,24 @@ impl<C: Chunk> Chunk for Shut<C> {
     ghost all_words = { λ shut. C.all_words shut.chunk };
 
     ghost places = { λ shut cursor belongs. C.places shut.chunk cursor belongs };
+
+    ghost nexts = { λ shut cursor belongs. C.nexts shut.chunk cursor belongs };
+}
+
+impl<C: HitLists> HitLists for Shut<C> {
+    fn open<L: Ledger>(
+        &self,
+        _cursor: &Cursor,
+        _into: &mut Vec<(u16, u32)>,
+        steps: &mut Steps<L>,
+    ) -> Result<(), NoMemory> {
+        steps.tick();
+        Err(NoMemory)
+    }
+
+    fn fields_at<L: Ledger>(&self, cursor: &Cursor, steps: &mut Steps<L>) -> u32 {
+        self.chunk.fields_at(cursor, steps)
+    }
 }
 
 /// Queries over the set `letters`, and whether they open a list.
@@ -127,22 +139,23 @@ a$ ⇒ a list
 a (x | "a b") ⇒ a list
 "#;
 
-fn opens_by<L: Ledger, C: Chunk>(alloc: Global, query: &Query, chunk: &C, blank: Blank) -> bool
+fn opens_by<L: Ledger, C: HitLists>(alloc: Global, query: &Query, chunk: &C, blank: Blank) -> bool
     requires name { blank.name ≡ L.name }
     requires parts { blank.parts ≡ L.parts }
     requires some { 0 < blank.parts }
 {
     let mut steps = Steps::<L>::new(blank);
-    candidates(alloc, query, chunk, &[], &mut steps).is_err()
+    let counted = Counted::<C, L>::over(chunk);
+    candidates(alloc, query, &counted, &[], &mut steps).is_err()
 }
 
 /// Whether the query opens a list of a chunk that has no memory for them.
-fn opens<C: Chunk>(alloc: Global, query: &Query, chunk: &C) -> bool {
+fn opens<C: HitLists>(alloc: Global, query: &Query, chunk: &C) -> bool {
     opens_by::<Brand, C>(alloc, query, chunk, Blank::new(1))
 }
 
 /// What the query of a text opens.
-fn opened<C: Chunk>(
+fn opened<C: HitLists>(
     alloc: Global,
     index: &IndexConf,
     chunk: &C,
@@ -158,7 +171,7 @@ fn opened<C: Chunk>(
 }
 
 /// Fails with the first query that opens a list and shouldn't, or doesn't and should.
-fn try_opening<C: Chunk>(alloc: Global, index: &IndexConf, chunk: &C) -> Result<(), Fail>
+fn try_opening<C: HitLists>(alloc: Global, index: &IndexConf, chunk: &C) -> Result<(), Fail>
     requires { IsSoundIndex index.now }
 {
     for line in OPENING.trim_start().lines() {

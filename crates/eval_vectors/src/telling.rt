@@ -2,7 +2,7 @@
 ghost use Rattle.std.specs.Prelude.{◌≡◌, ◌<◌, ◌^◌, length, AllPairs};
 ghost use Rattle.query_tree.specs.TreeKeys.{query_keys};
 
-use doc_types::{Chunk, Hit, Hits};
+use doc_types::{Counted, CountedLists, Hit, HitLists, Hits};
 use occ_lists::Occ;
 use op_eval::{Matches, candidates, hits, occurrences};
 use query_tree::Query;
@@ -51,12 +51,12 @@ fn put_hits(hits: &[Hit], into: &mut String) -> Result<(), Fail> {
 }
 
 /// What the query finds in a row: its occurrences, and its hits by query position, field and position.
-fn told_row<C: Chunk, L: Ledger>(
+fn told_row<C: CountedLists>(
     alloc: Global,
     query: &Query,
     chunk: &C,
     row: u32,
-    steps: &mut Steps<L>,
+    steps: &mut Steps<C::Book>,
 ) -> Result<String, Fail>
     requires row { row < length (C.content chunk.now) }
     requires keys { length (query_keys query.now) < 2 ^ 16 }
@@ -72,12 +72,12 @@ fn told_row<C: Chunk, L: Ledger>(
 }
 
 /// What the query finds in the rows, of which these match: each of them by its id, and each other one of which it finds something.
-fn told_rows<C: Chunk, L: Ledger>(
+fn told_rows<C: CountedLists>(
     alloc: Global,
     query: &Query,
     chunk: &C,
     matching: &[u32],
-    steps: &mut Steps<L>,
+    steps: &mut Steps<C::Book>,
 ) -> Result<String, Fail>
     requires { length (query_keys query.now) < 2 ^ 16 }
 {
@@ -106,13 +106,13 @@ fn told_rows<C: Chunk, L: Ledger>(
 }
 
 /// Whether these are the hits of the row.
-fn are_hits<C: Chunk, L: Ledger>(
+fn are_hits<C: CountedLists>(
     alloc: Global,
     query: &Query,
     chunk: &C,
     row: u32,
     found: &Hits,
-    steps: &mut Steps<L>,
+    steps: &mut Steps<C::Book>,
 ) -> Result<bool, Fail>
     requires { length (query_keys query.now) < 2 ^ 16 }
 {
@@ -123,10 +123,10 @@ fn are_hits<C: Chunk, L: Ledger>(
 }
 
 /// The next row that matches, if one is left, with its hits in the place of others.
-fn next_match<C: Chunk, L: Ledger>(
+fn next_match<C: CountedLists>(
     matches: &mut Matches<'_, C>,
     found: &mut Hits,
-    steps: &mut Steps<L>,
+    steps: &mut Steps<C::Book>,
 ) -> Result<Option<u32>, Fail> {
     'rows: while let Some(row) = matches.row() {
         let told = matches.take(found, steps)?;
@@ -138,9 +138,9 @@ fn next_match<C: Chunk, L: Ledger>(
 }
 
 /// The next row that matches, if one is left. Its hits aren't looked for.
-fn next_unread<C: Chunk, L: Ledger>(
+fn next_unread<C: CountedLists>(
     matches: &mut Matches<'_, C>,
-    steps: &mut Steps<L>,
+    steps: &mut Steps<C::Book>,
 ) -> Result<Option<u32>, Fail> {
     'rows: while let Some(row) = matches.row() {
         let told = matches.matches(steps)?;
@@ -152,13 +152,13 @@ fn next_unread<C: Chunk, L: Ledger>(
 }
 
 /// Whether the rows that match come one after another by `Matches`, each with its hits, and nothing after them.
-fn come_with_hits<C: Chunk, L: Ledger>(
+fn come_with_hits<C: CountedLists>(
     alloc: Global,
     query: &Query,
     chunk: &C,
     dead: &[u32],
     rows: &[u32],
-    steps: &mut Steps<L>,
+    steps: &mut Steps<C::Book>,
 ) -> Result<bool, Fail>
     requires dead { AllPairs (λ row later. row < later) dead.now }
     requires keys { length (query_keys query.now) < 2 ^ 16 }
@@ -183,13 +183,13 @@ fn come_with_hits<C: Chunk, L: Ledger>(
 }
 
 /// Whether they come so where their hits aren't looked for.
-fn come_unread<C: Chunk, L: Ledger>(
+fn come_unread<C: CountedLists>(
     alloc: Global,
     query: &Query,
     chunk: &C,
     dead: &[u32],
     rows: &[u32],
-    steps: &mut Steps<L>,
+    steps: &mut Steps<C::Book>,
 ) -> Result<bool, Fail>
     requires dead { AllPairs (λ row later. row < later) dead.now }
     requires keys { length (query_keys query.now) < 2 ^ 16 }
@@ -204,13 +204,13 @@ fn come_unread<C: Chunk, L: Ledger>(
 }
 
 /// Whether the rows that match come one after another, both ways.
-fn come_in_order<C: Chunk, L: Ledger>(
+fn come_in_order<C: CountedLists>(
     alloc: Global,
     query: &Query,
     chunk: &C,
     dead: &[u32],
     rows: &[u32],
-    steps: &mut Steps<L>,
+    steps: &mut Steps<C::Book>,
 ) -> Result<bool, Fail>
     requires dead { AllPairs (λ row later. row < later) dead.now }
     requires keys { length (query_keys query.now) < 2 ^ 16 }
@@ -222,12 +222,12 @@ fn come_in_order<C: Chunk, L: Ledger>(
 }
 
 /// Whether the others match where the first row that matches is dead.
-fn kills_one<C: Chunk, L: Ledger>(
+fn kills_one<C: CountedLists>(
     alloc: Global,
     query: &Query,
     chunk: &C,
     matching: &[u32],
-    steps: &mut Steps<L>,
+    steps: &mut Steps<C::Book>,
 ) -> Result<bool, Fail>
     requires { length (query_keys query.now) < 2 ^ 16 }
 {
@@ -243,7 +243,7 @@ fn kills_one<C: Chunk, L: Ledger>(
     }
 }
 
-fn told_by<L: Ledger, C: Chunk>(
+fn told_by<L: Ledger, C: HitLists>(
     alloc: Global,
     query: &Query,
     chunk: &C,
@@ -254,6 +254,7 @@ fn told_by<L: Ledger, C: Chunk>(
     requires parts { blank.parts ≡ L.parts }
     requires some { 0 < blank.parts }
 {
+    let chunk = &Counted::<C, L>::over(chunk);
     let mut steps = Steps::<L>::new(blank);
     let matching = candidates(alloc, query, chunk, &[], &mut steps)?;
     let mut text = told_rows(alloc, query, chunk, matching.as_slice(), &mut steps)?;
@@ -267,7 +268,7 @@ fn told_by<L: Ledger, C: Chunk>(
 }
 
 /// What a query finds in a chunk.
-pub(crate) fn told<C: Chunk>(alloc: Global, query: &Query, chunk: &C) -> Result<String, Fail>
+pub(crate) fn told<C: HitLists>(alloc: Global, query: &Query, chunk: &C) -> Result<String, Fail>
     requires { length (query_keys query.now) < 2 ^ 16 }
 {
     let text = told_by::<Brand, C>(alloc, query, chunk, Blank::new(1))?;
@@ -278,7 +279,7 @@ pub(crate) fn told<C: Chunk>(alloc: Global, query: &Query, chunk: &C) -> Result<
 }
 
 /// The rows that match.
-fn matching_by<L: Ledger, C: Chunk>(
+fn matching_by<L: Ledger, C: HitLists>(
     alloc: Global,
     query: &Query,
     chunk: &C,
@@ -288,11 +289,12 @@ fn matching_by<L: Ledger, C: Chunk>(
     requires parts { blank.parts ≡ L.parts }
     requires some { 0 < blank.parts }
 {
+    let chunk = &Counted::<C, L>::over(chunk);
     let mut steps = Steps::<L>::new(blank);
     Ok(candidates(alloc, query, chunk, &[], &mut steps)?)
 }
 
 /// How many rows match.
-pub(crate) fn count<C: Chunk>(alloc: Global, query: &Query, chunk: &C) -> Result<usize, Fail> {
+pub(crate) fn count<C: HitLists>(alloc: Global, query: &Query, chunk: &C) -> Result<usize, Fail> {
     Ok(matching_by::<Brand, C>(alloc, query, chunk, Blank::new(1))?.len())
 }

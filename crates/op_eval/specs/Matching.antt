@@ -1,5 +1,5 @@
 -- Which rows match a query.
-use Rattle.std.specs.Prelude.{ℕ, List, [], ◌∷◌, map, Bool, true, ◌&&◌, ◌==◌, not, Option, Some, None, unwrap_or}
+use Rattle.std.specs.Prelude.{ℕ, List, [], map, Bool, true, ◌&&◌, ◌==◌, not, Option, Some, None, unwrap_or}
 use Rattle.std.specs.List.{filter, list_any, enumerate_from, position}
 use Rattle.std.specs.Str.{bytes_eq}
 use Rattle.doc_types.specs.declared.documents.DocRow.{DocRow}

@@ -13,20 +13,19 @@ ghost use Rattle.op_eval.specs.steps.Wanted.{is_wanted, lives, numbers_of};
 
 use crate::finding::Finding;
 use crate::search::Search;
-use doc_types::{Chunk, Hit, Hits};
+use doc_types::{Chunk, CountedLists, Hit, Hits};
 use occ_lists::{Occ, sort_distinct};
 use query_tree::{Node, Query};
 use srch_base::{Items, NoMemory, Steps};
 use std::alloc::Global;
-use std::sync::ledger::Ledger;
 
 /// The rows that match the query and aren't dead, ascending.
-pub fn candidates<C: Chunk, L: Ledger>(
+pub fn candidates<C: CountedLists>(
     alloc: Global,
     query: &Query,
     chunk: &C,
     dead: &[u32],
-    steps: &mut Steps<L>,
+    steps: &mut Steps<C::Book>,
 ) -> Result<Vec<u32>, NoMemory>
     requires dead { AllPairs (λ row later. row < later) dead.now }
     ensures { IfOk result (λ rows. rows.items ≡ matching query.now (C.content chunk.now) dead.now) }
@@ -60,12 +59,12 @@ pub(crate) fn is_dead(dead: &[u32], row: u32) -> bool
 }
 
 /// The rows that match the tree and aren't dead.
-fn wanted<C: Chunk, L: Ledger>(
+fn wanted<C: CountedLists>(
     alloc: Global,
     root: &Node,
     chunk: &C,
     dead: &[u32],
-    steps: &mut Steps<L>,
+    steps: &mut Steps<C::Book>,
 ) -> Result<Vec<u32>, NoMemory>
     requires dead { AllPairs (λ row later. row < later) dead.now }
     ensures { IfOk result (λ rows. rows.items ≡ numbers_of (is_wanted root.now dead.now) (C.content chunk.now)) }
@@ -81,12 +80,12 @@ fn wanted<C: Chunk, L: Ledger>(
 }
 
 /// Adds the row, if it matches and isn't dead.
-fn put_wanted<C: Chunk, L: Ledger>(
+fn put_wanted<C: CountedLists>(
     search: &mut Search,
     chunk: &C,
     row: u32,
     dead: &[u32],
-    steps: &mut Steps<L>,
+    steps: &mut Steps<C::Book>,
     found: &mut Vec<u32>,
 ) -> Result<(), NoMemory>
     requires row { row < length (C.content chunk.now) }
@@ -103,12 +102,12 @@ fn put_wanted<C: Chunk, L: Ledger>(
 }
 
 /// The occurrences of the query in the row: by field, first and last position, each once.
-pub fn occurrences<C: Chunk, L: Ledger>(
+pub fn occurrences<C: CountedLists>(
     alloc: Global,
     query: &Query,
     chunk: &C,
     row: u32,
-    steps: &mut Steps<L>,
+    steps: &mut Steps<C::Book>,
 ) -> Result<Vec<Occ>, NoMemory>
     requires row { row < length (C.content chunk.now) }
     ensures count { (found : DocRow) → slice_get (C.content chunk.now) row ≡ Some found → steps.new ≤ steps.old + present_in found (query_keys query.now) }
@@ -127,12 +126,12 @@ pub fn occurrences<C: Chunk, L: Ledger>(
 }
 
 /// The hits of the query in the row: by field, position, query position and word, each once.
-pub fn hits<C: Chunk, L: Ledger>(
+pub fn hits<C: CountedLists>(
     alloc: Global,
     query: &Query,
     chunk: &C,
     row: u32,
-    steps: &mut Steps<L>,
+    steps: &mut Steps<C::Book>,
 ) -> Result<Hits, NoMemory>
     requires row { row < length (C.content chunk.now) }
     requires keys { length (query_keys query.now) < 2 ^ 16 }
@@ -148,12 +147,12 @@ pub fn hits<C: Chunk, L: Ledger>(
 }
 
 /// The hits of the query in the row, in order, each once.
-fn hits_in<C: Chunk, L: Ledger>(
+fn hits_in<C: CountedLists>(
     alloc: Global,
     query: &Query,
     chunk: &C,
     row: u32,
-    steps: &mut Steps<L>,
+    steps: &mut Steps<C::Book>,
 ) -> Result<Vec<Hit>, NoMemory>
     requires row { row < length (C.content chunk.now) }
     requires keys { length (query_keys query.now) < 2 ^ 16 }

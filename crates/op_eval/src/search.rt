@@ -16,12 +16,11 @@ ghost use Rattle.op_eval.specs.steps.Verdicts.{AreApart};
 use crate::finding::{Finding, find};
 use crate::matching::{Work, matches};
 use crate::verdict::{Verdict, judge};
-use doc_types::{Chunk, Gap};
+use doc_types::{Chunk, CountedLists, Gap};
 use occ_lists::{Buffers, Term};
 use query_tree::Node;
 use srch_base::{NoMemory, Steps};
 use std::alloc::Global;
-use std::sync::ledger::Ledger;
 use word_rows::{AskedMarks, RowMarks, Slots, asks_for};
 
 /// A query's tree over a chunk.
@@ -34,7 +33,7 @@ pub(crate) struct Search<'q> {
     pub every: bool,
     pub marks: RowMarks,
     pub work: Work,
-    gaps: Vec<(u32, Gap)>,
+    gaps: Vec<(u16, (u32, Gap))>,
 }
 
 impl<'q> Search<'q> {
@@ -90,11 +89,11 @@ impl<'q> Search<'q> {
     }
 
     /// Whether the row matches. After want of memory the row can be asked again.
-    pub(crate) fn matches<C: Chunk, L: Ledger>(
+    pub(crate) fn matches<C: CountedLists>(
         &mut self,
         chunk: &C,
         row: u32,
-        steps: &mut Steps<L>,
+        steps: &mut Steps<C::Book>,
     ) -> Result<bool, NoMemory>
         requires row { row < length (C.content chunk.now) }
         requires search { IsSearch (C.belongs chunk.now) (C.place chunk.now) (C.content chunk.now) row self.old.root.now self.old }
@@ -118,12 +117,12 @@ impl<'q> Search<'q> {
     }
 
     /// Whether the row matches, and what is found in it, in the place of what was found before.
-    pub(crate) fn find<C: Chunk, L: Ledger>(
+    pub(crate) fn find<C: CountedLists>(
         &mut self,
         chunk: &C,
         row: u32,
         found: &mut Finding,
-        steps: &mut Steps<L>,
+        steps: &mut Steps<C::Book>,
     ) -> Result<bool, NoMemory>
         requires row { row < length (C.content chunk.now) }
         requires search { IsSearch (C.belongs chunk.now) (C.place chunk.now) (C.content chunk.now) row self.old.root.now self.old }
@@ -153,11 +152,11 @@ impl<'q> Search<'q> {
     }
 
     /// Reads what the query asks of the row.
-    fn load<C: Chunk, L: Ledger>(
+    fn load<C: CountedLists>(
         &mut self,
         chunk: &C,
         row: u32,
-        steps: &mut Steps<L>,
+        steps: &mut Steps<C::Book>,
     ) -> Result<(), NoMemory>
         requires row { row < length (C.content chunk.now) }
         requires search { IsSearch (C.belongs chunk.now) (C.place chunk.now) (C.content chunk.now) row self.old.root.now self.old }

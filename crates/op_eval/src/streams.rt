@@ -14,13 +14,12 @@ use crate::calls::sort_hits;
 use crate::finding::Finding;
 use crate::search::Search;
 use crate::wanted::{find_row, first_open, row_matches};
-use doc_types::{Chunk, Hit, Hits};
+use doc_types::{Chunk, CountedLists, Hit, Hits};
 use query_tree::Query;
 use srch_base::{Items, NoMemory, Steps};
 use std::alloc::Global;
 use std::marker::Model;
 use std::mem;
-use std::sync::ledger::Ledger;
 
 /// A query on its way over the rows of a chunk.
 ///
@@ -90,13 +89,19 @@ impl<'a, C: Chunk> Matches<'a, C> {
         next
     }
 
+    /// Goes on behind the row at which it stands, and doesn't look whether it matches.
+    pub fn skip(&mut self)
+        requires { self.old.at < length self.old.rows }
+        ensures { self.new ≡ record self.old { at = self.old.at + 1 } }
+    {
+        self.from += 1;
+    }
+}
+
+impl<'a, C: CountedLists> Matches<'a, C> {
     /// Whether the row at which it stands matches, and goes on behind it. The hits come in the place of those that are handed in. A
     /// list of places is opened for each keyword whose word the row has, at most.
-    pub fn take<L: Ledger>(
-        &mut self,
-        hits: &mut Hits,
-        steps: &mut Steps<L>,
-    ) -> Result<bool, NoMemory>
+    pub fn take(&mut self, hits: &mut Hits, steps: &mut Steps<C::Book>) -> Result<bool, NoMemory>
         requires { self.old.at < length self.old.rows }
         ensures takes { IfOk result (λ told. Takes self.old told hits.old hits.new self.new) }
         ensures count { (doc : DocRow) → slice_get self.old.rows self.old.at ≡ Some doc → steps.new ≤ steps.old + present_in doc (query_keys self.old.query) }
@@ -121,7 +126,7 @@ impl<'a, C: Chunk> Matches<'a, C> {
 
     /// Whether the row at which it stands matches, and goes on behind it. Its hits aren't looked for: where its words decide, no
     /// list of places is opened.
-    pub fn matches<L: Ledger>(&mut self, steps: &mut Steps<L>) -> Result<bool, NoMemory>
+    pub fn matches(&mut self, steps: &mut Steps<C::Book>) -> Result<bool, NoMemory>
         requires { self.old.at < length self.old.rows }
         ensures stands { OnOk result (self.new ≡ record self.old { at = self.old.at + 1 }) }
         ensures told { (doc : DocRow) → slice_get self.old.rows self.old.at ≡ Some doc → IfOk result (λ told. told ≡ matches self.old.query doc) }
@@ -131,14 +136,6 @@ impl<'a, C: Chunk> Matches<'a, C> {
         let told = row_matches(self.query, self.chunk, self.from, &mut self.search, steps)?;
         self.from += 1;
         Ok(told)
-    }
-
-    /// Goes on behind the row at which it stands, and doesn't look whether it matches.
-    pub fn skip(&mut self)
-        requires { self.old.at < length self.old.rows }
-        ensures { self.new ≡ record self.old { at = self.old.at + 1 } }
-    {
-        self.from += 1;
     }
 }
 

@@ -14,10 +14,9 @@ ghost use Rattle.op_eval.specs.steps.Wanted.{is_wanted};
 use crate::calls::is_dead;
 use crate::finding::Finding;
 use crate::search::Search;
-use doc_types::Chunk;
+use doc_types::{Chunk, CountedLists};
 use query_tree::Query;
 use srch_base::{NoMemory, Steps};
-use std::sync::ledger::Ledger;
 
 /// The first row from this one on that isn't dead and may match, as far as its words tell. Without a search any row may.
 pub(crate) fn first_open<C: Chunk>(
@@ -84,13 +83,13 @@ fn is_open<C: Chunk>(search: &mut Search, chunk: &C, dead: &[u32], row: u32) -> 
 
 /// Whether the row matches, and what is found in it, in the place of what was found before. A list of places is opened for each
 /// keyword whose word the row has, at most, and after want of memory the row can be asked again.
-pub(crate) fn find_row<C: Chunk, L: Ledger>(
+pub(crate) fn find_row<C: CountedLists>(
     query: &Query,
     chunk: &C,
     row: u32,
     search: &mut Option<Search>,
     found: &mut Finding,
-    steps: &mut Steps<L>,
+    steps: &mut Steps<C::Book>,
 ) -> Result<bool, NoMemory>
     requires row { row < length (C.content chunk.now) }
     requires few { length (query_keys query.now) < 2 ^ 16 }
@@ -110,12 +109,12 @@ pub(crate) fn find_row<C: Chunk, L: Ledger>(
 }
 
 /// Whether the row matches, by no more lists, and again after want of memory.
-pub(crate) fn row_matches<C: Chunk, L: Ledger>(
+pub(crate) fn row_matches<C: CountedLists>(
     query: &Query,
     chunk: &C,
     row: u32,
     search: &mut Option<Search>,
-    steps: &mut Steps<L>,
+    steps: &mut Steps<C::Book>,
 ) -> Result<bool, NoMemory>
     requires row { row < length (C.content chunk.now) }
     requires stands { StandsAt (C.belongs chunk.now) (C.place chunk.now) (C.content chunk.now) row query.now search.old }

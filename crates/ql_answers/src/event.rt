@@ -1,10 +1,10 @@
 //! What the outside did about a statement.
 use commit_outcomes::CommitOutcome;
-use doc_types::{Chunk, Snapshot};
+use doc_types::{HitLists, Snapshot};
 
 /// What became of what a statement wants, by what was asked of the outside.
 #[derive(Drop)]
-pub enum Event<'a, C: Chunk> {
+pub enum Event<'a, C: HitLists> {
     /// Nothing was asked for.
     Nothing,
     /// Memory was refused, and nothing was done.

@@ -16,7 +16,7 @@ use crate::plan::{Counted, Plan, affected};
 use crate::refusing::put_refusal;
 use crate::showing::index_status;
 use commit_outcomes::{CommitOutcome, Doubt};
-use doc_types::{Chunk, Snapshot};
+use doc_types::{HitLists, Snapshot};
 use ql_refusals::{
     disk_failed, disk_in_doubt, duplicate_id, index_full, memory_in_doubt, no_memory, strayed,
 };
@@ -26,7 +26,7 @@ use std::alloc::Global;
 use table_search::{Asked, Found, Table, find_tables, word_docs};
 
 /// Replies to a plan, and gives what SHOW META tells from then on, where that is something else.
-pub(crate) fn say<C: Chunk>(
+pub(crate) fn say<C: HitLists>(
     alloc: Global,
     plan: &Plan,
     event: &Event<'_, C>,
@@ -80,7 +80,7 @@ fn say_nothing(
     }
 }
 
-fn say_read<C: Chunk>(
+fn say_read<C: HitLists>(
     alloc: Global,
     plan: &Plan,
     snapshot: &Snapshot<C>,
@@ -113,7 +113,7 @@ fn say_read<C: Chunk>(
 }
 
 /// What SHOW META tells of a SELECT.
-fn meta_of<C: Chunk>(
+fn meta_of<C: HitLists>(
     alloc: Global,
     asked: &Asked,
     found: &Found,

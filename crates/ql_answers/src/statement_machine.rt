@@ -16,7 +16,7 @@ use crate::plan::Plan;
 use crate::planning::plan;
 use crate::saying::say;
 use crate::state::State;
-use doc_types::{Chunk, Txn};
+use doc_types::{HitLists, Txn};
 use ql_refusals::Refusal;
 use ql_tree::Statement;
 use reply_rows::Replies;
@@ -106,7 +106,7 @@ impl StatementMachine {
     ///
     /// Result sets take memory, and operations that are pending from then on. After NoMemory the machine and the replies are as
     /// before.
-    pub fn reply<C: Chunk>(
+    pub fn reply<C: HitLists>(
         &mut self,
         alloc: Global,
         _statement: &Statement,
@@ -128,7 +128,7 @@ impl StatementMachine {
 }
 
 /// Replies to a plan, and changes the state as what came of the plan says.
-fn answer<C: Chunk>(
+fn answer<C: HitLists>(
     alloc: Global,
     state: &mut State,
     plan: &mut Plan,
@@ -148,7 +148,7 @@ fn answer<C: Chunk>(
 }
 
 /// Changes the state as what came of a plan says. Operations that are pending from now on leave the plan.
-fn turn<C: Chunk>(
+fn turn<C: HitLists>(
     alloc: Global,
     state: &mut State,
     plan: &mut Plan,

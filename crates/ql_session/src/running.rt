@@ -7,7 +7,7 @@ ghost use Rattle.ql_session.specs.Fitting.{Fits};
 ghost use Rattle.ql_session.specs.steps.Running.{IsAt, RepliesPlan, Runs, RunsAll};
 
 use crate::TableStore;
-use doc_types::Chunk;
+use doc_types::HitLists;
 use ql_answers::{Event, Need, StatementMachine, put_refusal};
 use ql_refusals::no_memory;
 use ql_tree::Statement;
@@ -135,7 +135,7 @@ fn commit<T: TableStore>(
 }
 
 /// Replies to what came of a statement; where memory for that is refused, this is the reply.
-fn reply<C: Chunk>(
+fn reply<C: HitLists>(
     alloc: Global,
     machine: &mut StatementMachine,
     statement: &Statement,

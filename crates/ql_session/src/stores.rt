@@ -9,7 +9,7 @@ ghost use Rattle.index_conf.specs.declared.conf.IndexConf.{IndexConf};
 ghost use Rattle.ql_session.specs.Events.{Commit, Follows, NoMemory as OutOfMemory, Read, StoreWords};
 
 use commit_outcomes::CommitOutcome;
-use doc_types::{Chunk, Snapshot, Txn};
+use doc_types::{HitLists, Snapshot, Txn};
 use ql_answers::Catalog;
 use srch_base::NoMemory;
 use std::alloc::Global;
@@ -18,7 +18,7 @@ use std::sync::Arc;
 /// The indexes of a configuration with their documents, wherever these are held.
 pub trait TableStore: Catalog {
     /// How the rows of a layer are held.
-    type Chunk: Chunk;
+    type Chunk: HitLists;
 
     /// What is seen of an index at one moment.
     ghost Front: { Type 0 };

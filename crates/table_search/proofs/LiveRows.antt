@@ -53,6 +53,15 @@ by_numbers word layer =
     sym (length-filter (has_word word) (living layer)) ∙ either_way (has_word word) (lives_among layer.dead) (enumerate_from 0 layer.rows)
     ∙ length-filter (lives_among layer.dead) (rows_with word layer.rows)
 
+count_all : (ns : List ℕ) → count_by (lives_among []) ns ≡ length ns
+count_all [] = refl
+count_all (n ∷ ns) = sym (length-filter (lives_among []) (n ∷ ns)) ∙ ap suc (length-filter (lives_among []) ns ∙ count_all ns)
+
+-- those of a layer of which no row is dead
+pub by_count : (word : List ℕ) (layer : LayerValue) → layer.dead ≡ [] → docs_with word (living layer) ≡ length (rows_with word layer.rows)
+by_count word layer none =
+    by_numbers word layer ∙ ap (λ (dead : List ℕ). count_by (lives_among dead) (rows_with word layer.rows)) none ∙ count_all (rows_with word layer.rows)
+
 first_counts : (b : Bool) (n : ℕ) (ns : List ℕ) → length (cond b (n ∷ ns) ns) ≡ cond b 1 0 + length ns
 first_counts true n ns = omega arith
 first_counts false n ns = omega arith

@@ -1,6 +1,7 @@
 //! The words of a query, and how many documents have each: what SHOW META tells ("SHOW META syntax" of the manual).
 //!
-//! A chunk lends a cursor over the rows that have a word; one walk of it counts those that live. No list of places is opened.
+//! A chunk tells how many rows have a word. Where rows of it are dead, one walk of a cursor counts those that live. No list of
+//! places is opened.
 ghost use Rattle.std.specs.Prelude.{◌≡◌, ◌+◌, ◌<◌, ◌==◌, AllPairs, map, IfOk, OnOk, if◌then◌else◌};
 ghost use Rattle.std.specs.List.{count_by, flat_map, list_any};
 ghost use Rattle.std.specs.Str.{bytes_eq};
@@ -141,8 +142,12 @@ fn add_layer<C: Chunk>(word: &[u8], layer: &Layer<C>, docs: u64) -> Result<u64, 
     ensures { IfOk result (λ more. more ≡ docs + docs_with word.now (living layer.now)) }
 {
     let chunk: &C = &layer.chunk;
+    let dead = layer.dead.as_slice();
+    if dead.is_empty() {
+        return more(docs, chunk.count(word));
+    }
     match chunk.start(word) {
-        Some(cursor) => add_rows(chunk, cursor, layer.dead.as_slice(), docs),
+        Some(cursor) => add_rows(chunk, cursor, dead, docs),
         None => Ok(docs),
     }
 }
@@ -160,6 +165,13 @@ fn add_rows<C: Chunk>(chunk: &C, cursor: Cursor, dead: &[u32], docs: u64) -> Res
         chunk.advance(&mut here);
     }
     Ok(count)
+}
+
+/// So many documents more.
+fn more(docs: u64, rows: u32) -> Result<u64, NoMemory>
+    ensures { IfOk result (λ more. more ≡ docs + rows) }
+{
+    docs.checked_add(rows as u64).ok_or(NoMemory)
 }
 
 /// As many documents, and one more where the row isn't dead.

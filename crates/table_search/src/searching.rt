@@ -11,14 +11,14 @@ use crate::asked::{Asked, GroupTable, Table};
 use crate::facet_sinks::FacetSinks;
 use crate::found::{Found, FoundTable};
 use doc_search::search_into;
-use doc_types::{Chunk, Snapshot};
+use doc_types::{HitLists, Snapshot};
 use group_facet::{Groups, top_groups};
 use row_select::{Both, Collector, RowCount};
 use srch_base::{Items, NoMemory};
 use std::alloc::Global;
 
 /// What a SELECT finds in a snapshot, by what it asks of its index.
-pub fn find_tables<C: Chunk>(
+pub fn find_tables<C: HitLists>(
     alloc: Global,
     asked: &Asked,
     snapshot: &Snapshot<C>,
@@ -33,7 +33,7 @@ pub fn find_tables<C: Chunk>(
 }
 
 /// The page of the documents.
-fn find_rows<C: Chunk>(
+fn find_rows<C: HitLists>(
     alloc: Global,
     asked: &Asked,
     snapshot: &Snapshot<C>,
@@ -66,7 +66,7 @@ fn find_rows<C: Chunk>(
 }
 
 /// The groups of the documents.
-fn find_groups<C: Chunk>(
+fn find_groups<C: HitLists>(
     alloc: Global,
     asked: &Asked,
     table: &GroupTable,

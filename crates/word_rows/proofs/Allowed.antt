@@ -1,14 +1,16 @@
 -- The places of a word that a keyword's limits and marks allow.
-use Rattle.std.proofs.Common.{◌≡◌, ℕ, ◌<◌, Bool, true, false, List, [], ◌∷◌, length, get_or, refl, ap, ◌∙◌, arith}
+use Rattle.std.proofs.Common.{◌≡◌, ℕ, zero, suc, map, slice_get, ◌<◌, Bool, true, false, List, [], ◌∷◌, length, get_or, refl, ap, ◌∙◌, arith}
 use Rattle.std.specs.Prelude.{All, ◌&&◌, ◌||◌, ◌==◌, not, nat_le}
 use Rattle.std.specs.List.{filter, list_any, AllZip}
+use Rattle.std.specs.Option.{option_map_or}
 use Rattle.std.proofs.lemmas.Bool.{le-leb}
 use Rattle.std.proofs.lemmas.Bool.Decides.{nat_tests}
 use Rattle.std.proofs.lemmas.Option.{slice_get_within}
 use Rattle.std.proofs.lemmas.List.Elements.{All-weaker}
 use Rattle.doc_types.specs.declared.documents.DocRow.{DocRow}
 use Rattle.doc_types.specs.declared.tokens.ZoneSpan.{ZoneSpan}
-use Rattle.doc_types.specs.Chunks.{IsContent, hits_of, spans_of}
+use Rattle.doc_types.specs.declared.tokens.FieldTokens.{FieldTokens}
+use Rattle.doc_types.specs.Chunks.{IsContent, hits_of, last_position, spans_of}
 use Rattle.query_tree.specs.declared.key.Key.{Key}
 use Rattle.occ_lists.specs.declared.occ.Occ.{Occ}
 use Rattle.occ_lists.specs.declared.term.Term.{Term}
@@ -16,7 +18,7 @@ use Rattle.occ_lists.specs.Places.{holds}
 use Rattle.occ_lists.proofs.Members.{any_filter, any_map}
 use Rattle.word_rows.specs.Keywords.{Spans, allows, has_field, in_zones, is_among, is_first, is_last, key_places}
 use Rattle.word_rows.specs.RowMarks.{has_zones}
-use Rattle.word_rows.specs.steps.Loading.{Covers, in_some, is_allowed, is_at_ends, listed_in, occ_of}
+use Rattle.word_rows.specs.steps.Loading.{Covers, in_some, is_allowed, is_at_ends, is_last_of, listed_in, occ_of}
 use Rattle.word_rows.specs.steps.Cursors.{IsMadeFor, IsUnlimited}
 use Rattle.word_rows.specs.Slots.{IsTermFor}
 use Rattle.word_rows.proofs.Lists.{filter_alike, filter_whole}
@@ -71,13 +73,24 @@ first_as_told row place hit =
     let is : is_first row place ≡ (1 == place.1) = rw (hit.at, hit.first) refl in
     grind (arith, nat_tests)
 
-module _ (row : DocRow) (key : Key) (spans : Spans) (cover : List Occ) (covers : Covers key.limit.zones spans cover) (told : has_zones key ≡ true → spans ≡ spans_of row) where
-  as_told : (place : ℕ × ℕ) → IsHit row place → is_allowed row key cover place ≡ allows row key place
+last_at : (position : ℕ) (fields : List FieldTokens) (n : ℕ) → option_map_or (λ last. last == position) (slice_get (map last_position fields) n) false ≡ option_map_or (λ field. last_position field == position) (slice_get fields n) false
+last_at position [] n = refl
+last_at position (field ∷ fields) zero = refl
+last_at position (field ∷ fields) (suc n) = last_at position fields n
+
+last_as_told : (row : DocRow) (lasts : List ℕ) (place : ℕ × ℕ) (end : Bool) → (end ≡ true → lasts ≡ map last_position row.doc.fields) → (not end || is_last_of lasts place) ≡ (not end || is_last row place)
+last_as_told row lasts place false told = refl
+last_as_told row lasts place true told = ap (λ all. is_last_of all place) (told refl) ∙ last_at place.1 row.doc.fields place.0
+
+module _ (row : DocRow) (key : Key) (spans : Spans) (lasts : List ℕ) (cover : List Occ) (covers : Covers key.limit.zones spans cover)
+    (told : has_zones key ≡ true → spans ≡ spans_of row) (ends : key.end ≡ true → lasts ≡ map last_position row.doc.fields) where
+  as_told : (place : ℕ × ℕ) → IsHit row place → is_allowed lasts key cover place ≡ allows row key place
   as_told place hit =
       let zones : (not (has_zones key) || list_any (λ o. holds o place) cover) ≡ in_zones row key.limit.zones place = zones_as_told row key.limit.zones spans cover place covers told in
-      ap (λ b. (has_field key.limit.fields place.0 && (nat_le place.1 key.limit.positions && b)) && is_at_ends row key place) zones
-      ∙ ap (λ b. (has_field key.limit.fields place.0 && (nat_le place.1 key.limit.positions && in_zones row key.limit.zones place)) && ((not key.start || b) && (not key.end || is_last row place))) (first_as_told row place hit)
+      ap (λ b. (has_field key.limit.fields place.0 && (nat_le place.1 key.limit.positions && b)) && is_at_ends lasts key place) zones
+      ∙ ap (λ b. (has_field key.limit.fields place.0 && (nat_le place.1 key.limit.positions && in_zones row key.limit.zones place)) && ((not key.start || b) && (not key.end || is_last_of lasts place))) (first_as_told row place hit)
+      ∙ ap (λ b. (has_field key.limit.fields place.0 && (nat_le place.1 key.limit.positions && in_zones row key.limit.zones place)) && ((not key.start || is_first row place) && b)) (last_as_told row lasts place key.end ends)
       ∙ and_three (has_field key.limit.fields place.0) (nat_le place.1 key.limit.positions) (in_zones row key.limit.zones place) ((not key.start || is_first row place) && (not key.end || is_last row place))
 
-  pub limited : IsPlacedRow row → filter (is_allowed row key cover) (hits_of key.word row) ≡ key_places row key
-  limited placed = filter_alike (is_allowed row key cover) (allows row key) (hits_of key.word row) (All-weaker (IsHit row) (λ place. is_allowed row key cover place ≡ allows row key place) as_told (hits_of key.word row) (are_hits key.word row placed))
+  pub limited : IsPlacedRow row → filter (is_allowed lasts key cover) (hits_of key.word row) ≡ key_places row key
+  limited placed = filter_alike (is_allowed lasts key cover) (allows row key) (hits_of key.word row) (All-weaker (IsHit row) (λ place. is_allowed lasts key cover place ≡ allows row key place) as_told (hits_of key.word row) (are_hits key.word row placed))

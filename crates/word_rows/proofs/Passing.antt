@@ -1,35 +1,39 @@
 -- Cursors that go over rows: what is ahead of them.
-use Rattle.std.proofs.Common.{◌≡◌, ℕ, ◌<◌, ◌≤◌, List, [], ◌∷◌, true, false, Option, Some, None, IfSome, slice_get, nat_le, drop, refl, sym, ap, subst, ◌∙◌, arith}
+use Rattle.std.proofs.Common.{◌≡◌, ℕ, ◌≤◌, List, [], ◌∷◌, Bool, true, false, cond, Option, Some, None, IfSome, slice_get, nat_le, nat_lt, refl, sym, ap, subst, ◌∙◌, arith}
 use Rattle.std.specs.Prelude.{All, ◌&&◌}
 use Rattle.std.specs.List.{AllZip, filter}
 use Rattle.std.specs.Option.{IfNone}
-use Rattle.std.proofs.lemmas.Bool.{lt-leb, le-leb}
 use Rattle.std.proofs.lemmas.Bool.Decides.{nat_tests}
 use Rattle.std.proofs.lemmas.List.Elements.{All-nil, All-cons, filter_agree}
 use Rattle.doc_types.specs.declared.cursor.Cursor.{Cursor}
 use Rattle.doc_types.specs.declared.documents.DocRow.{DocRow}
-use Rattle.doc_types.specs.Chunks.{CursorPlace, next_row, next_place, first_place, rows_with}
+use Rattle.doc_types.specs.Chunks.{CursorPlace, first_place, place_from, rows_from, rows_with}
 use Rattle.word_rows.proofs.Lists.{filter_twice}
-use Rattle.word_rows.specs.steps.Cursors.{Keeps, HasPassed, Passes}
+use Rattle.word_rows.specs.steps.Cursors.{HasPassed, Passes}
 use Rattle.word_rows.specs.Slots.{Stands, next_of, next_with}
 
-over_first : (row next : ℕ) (xs : List ℕ) → slice_get xs 0 ≡ Some next → next < row → filter (nat_le row) (drop 1 xs) ≡ filter (nat_le row) xs
-over_first row next [] at low = refl
-over_first row next (x ∷ xs) at low =
-    let same : x ≡ next = cc in
-    let fails : nat_le row x ≡ false = lt-leb row x (omega (arith, same)) in
-    rw fails refl
+kept_by : (row x : ℕ) (xs : List ℕ) (b : Bool) → nat_lt x row ≡ b → filter (nat_le row) (rows_from row xs) ≡ filter (nat_le row) xs → filter (nat_le row) (cond b (rows_from row xs) (x ∷ xs)) ≡ filter (nat_le row) (x ∷ xs)
+kept_by row x xs true low rest =
+    let fails : nat_le row x ≡ false = grind (arith, nat_tests) in
+    rest ∙ sym (ap (λ b. cond b (x ∷ filter (nat_le row) xs) (filter (nat_le row) xs)) fails)
+kept_by row x xs false high rest = refl
 
-first_kept : (row next : ℕ) (xs : List ℕ) → slice_get xs 0 ≡ Some next → row ≤ next → slice_get xs 0 ≡ slice_get (filter (nat_le row) xs) 0
-first_kept row next [] at high = refl
-first_kept row next (x ∷ xs) at high =
-    let same : x ≡ next = cc in
-    let passes : nat_le row x ≡ true = le-leb row x (omega (arith, same)) in
-    rw passes refl
+-- the rows from one on are none the fewer, and they begin with the first of them
+kept_from : (row : ℕ) (xs : List ℕ) → filter (nat_le row) (rows_from row xs) ≡ filter (nat_le row) xs
+kept_from row [] = refl
+kept_from row (x ∷ xs) = kept_by row x xs (nat_lt x row) refl (kept_from row xs)
 
-none_kept : (row : ℕ) (xs : List ℕ) → slice_get xs 0 ≡ None → slice_get xs 0 ≡ slice_get (filter (nat_le row) xs) 0
-none_kept row [] at = refl
-none_kept row (x ∷ xs) at = cc
+first_by : (row x : ℕ) (xs : List ℕ) (b : Bool) → nat_lt x row ≡ b → slice_get (rows_from row xs) 0 ≡ slice_get (filter (nat_le row) xs) 0 → slice_get (cond b (rows_from row xs) (x ∷ xs)) 0 ≡ slice_get (filter (nat_le row) (x ∷ xs)) 0
+first_by row x xs true low rest =
+    let fails : nat_le row x ≡ false = grind (arith, nat_tests) in
+    rest ∙ sym (ap (λ b. slice_get (cond b (x ∷ filter (nat_le row) xs) (filter (nat_le row) xs)) 0) fails)
+first_by row x xs false high rest =
+    let passes : nat_le row x ≡ true = grind (arith, nat_tests) in
+    sym (ap (λ b. slice_get (cond b (x ∷ filter (nat_le row) xs) (filter (nat_le row) xs)) 0) passes)
+
+first_from : (row : ℕ) (xs : List ℕ) → slice_get (rows_from row xs) 0 ≡ slice_get (filter (nat_le row) xs) 0
+first_from row [] = refl
+first_from row (x ∷ xs) = first_by row x xs (nat_lt x row) refl (first_from row xs)
 
 above_both : (from row : ℕ) → from ≤ row → (m : ℕ) → (nat_le from m && nat_le row m) ≡ nat_le row m
 above_both from row order m = grind (arith, nat_tests)
@@ -37,28 +41,16 @@ above_both from row order m = grind (arith, nat_tests)
 higher : (from row : ℕ) (ms : List ℕ) → from ≤ row → filter (nat_le row) (filter (nat_le from) ms) ≡ filter (nat_le row) ms
 higher from row ms order = filter_twice (nat_le row) (nat_le from) ms ∙ filter_agree (λ m. nat_le from m && nat_le row m) (nat_le row) (above_both from row order) ms
 
-module _ (belongs : Cursor → Type 0) (place : Cursor → CursorPlace) (row : ℕ) (old here : Cursor) where
-  pub keeps_at_first : belongs old → Keeps belongs place row old old
-  keeps_at_first its = record { its = its; over = refl; ahead = refl }
-
-  pub keeps_over : Keeps belongs place row old here → (next : ℕ) → next_row (place here) ≡ Some next → next < row → (new : Cursor) → belongs new → place new ≡ next_place (place here) → Keeps belongs place row old new
-  keeps_over kept next at low new its moved = record {
+-- what `seek` gives
+pub sought : (belongs : Cursor → Type 0) (place : Cursor → CursorPlace) (row : ℕ) (old new : Cursor) → belongs new → place new ≡ place_from row (place old) → HasPassed belongs place row old new
+sought belongs place row old new its moved = record {
+  kept = record {
     its = its;
-    over = ap (λ (p : CursorPlace). p.word) moved ∙ kept.over;
-    ahead = ap (λ (p : CursorPlace). filter (nat_le row) p.ahead) moved ∙ over_first row next (place here).ahead at low ∙ kept.ahead;
-  }
-
-  pub passed_to : Keeps belongs place row old here → (next : ℕ) → next_row (place here) ≡ Some next → row ≤ next → HasPassed belongs place row old here
-  passed_to kept next at high = record {
-    kept = kept;
-    next = first_kept row next (place here).ahead at high ∙ ap (λ xs. slice_get xs 0) kept.ahead;
-  }
-
-  pub passed_all : Keeps belongs place row old here → next_row (place here) ≡ None → HasPassed belongs place row old here
-  passed_all kept at = record {
-    kept = kept;
-    next = none_kept row (place here).ahead at ∙ ap (λ xs. slice_get xs 0) kept.ahead;
-  }
+    over = ap (λ (p : CursorPlace). p.word) moved;
+    ahead = ap (λ (p : CursorPlace). filter (nat_le row) p.ahead) moved ∙ kept_from row (place old).ahead;
+  };
+  next = ap (λ (p : CursorPlace). slice_get p.ahead 0) moved ∙ first_from row (place old).ahead;
+}
 
 -- what `start` gives
 pub started : (belongs : Cursor → Type 0) (place : Cursor → CursorPlace) (rows : List DocRow) (word bytes : List ℕ) (cursor : Option Cursor) → bytes ≡ word → IfNone cursor (rows_with bytes rows ≡ []) → IfSome cursor (λ c. belongs c × (place c ≡ first_place bytes rows)) → Stands belongs place rows 0 word cursor

@@ -20,16 +20,8 @@ use Rattle.doc_types.specs.Chunks.{IsContent, is_word, positions_of, hits_of}
 use Rattle.occ_lists.specs.Places.{is_before, ArePlaces}
 use Rattle.word_rows.specs.Keywords.{first_position}
 use Rattle.doc_types.proofs.FieldParts.{parts}
+pub use Rattle.word_rows.specs.steps.Loading.{IsPlacedField, IsPlacedRow}
 use Rattle.word_rows.proofs.Lists.{pairs_nil, pairs_append, pairs_map, pairs_weaker}
-
--- a field's words stand in order, the first at 1
-pub record IsPlacedField (tokens : FieldTokens) : Type 0 where
-  pub bounds : All (λ word. (1 ≤ word.position) × (word.position ≤ MAX_POSITION)) tokens.words
-  pub ascend : AllPairs (λ word later. word.position < later.position) tokens.words
-  pub first : 0 < length tokens.words → first_position tokens ≡ 1
-
-abbrev pub IsPlacedRow : DocRow → Type 0
-IsPlacedRow row = All IsPlacedField row.doc.fields
 
 some_step : (gap : Gap) → 1 ≤ step gap
 some_step gaps.None = omega arith

@@ -1,7 +1,6 @@
 -- the keywords of a query on their way over the rows of a chunk, each with a cursor over those that have its word
-use Rattle.std.specs.Prelude.{◌≡◌, ◌≤◌, ◌<◌, ℕ, List, [], map, length, true, false, Option, Some, None, All, IfSome, Bool, ◌==◌, slice_get, nat_le, min, unwrap_or, ◌∷◌, ◌++◌, if◌then◌else◌}
-use Rattle.std.specs.List.{AllZip, filter, fold, list_any, position}
-use Rattle.std.specs.Option.{option_map_or}
+use Rattle.std.specs.Prelude.{◌≡◌, ◌≤◌, ◌<◌, ℕ, List, [], map, length, true, false, Option, Some, None, All, IfSome, slice_get, nat_le, unwrap_or}
+use Rattle.std.specs.List.{AllZip, filter, position}
 use Rattle.std.specs.Str.{bytes_eq}
 use Rattle.doc_types.specs.declared.cursor.Cursor.{Cursor}
 use Rattle.doc_types.specs.declared.documents.DocRow.{DocRow}
@@ -9,7 +8,7 @@ use Rattle.doc_types.specs.Chunks.{CursorPlace, has_word, hits_of, rows_with, ne
 use Rattle.query_tree.specs.declared.key.Key.{Key}
 use Rattle.occ_lists.specs.declared.term.Term.{Term}
 use Rattle.word_rows.specs.declared.slots.Slots.{Slots}
-use Rattle.word_rows.specs.Keywords.{allows, has_field, first_uses}
+use Rattle.word_rows.specs.Keywords.{allows, first_uses}
 
 -- ---- cursors
 

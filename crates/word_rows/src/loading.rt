@@ -3,24 +3,23 @@ ghost use Rattle.std.specs.Prelude.{◌≡◌, ℕ, ◌+◌, ◌<◌, ◌≤◌,
 ghost use Rattle.std.specs.List.{AllZip, count_by, filter, list_any};
 ghost use Rattle.std.specs.Option.{option_map_or};
 ghost use Rattle.doc_types.specs.declared.documents.DocRow.{DocRow};
-ghost use Rattle.doc_types.specs.Chunks.{hits_ahead, hits_of, next_row, spans_of};
+ghost use Rattle.doc_types.specs.Chunks.{hits_ahead, hits_of, last_position, next_row, spans_of};
 ghost use Rattle.occ_lists.specs.Places.{ArePlaces};
-ghost use Rattle.word_rows.specs.Keywords.{is_last, is_paragraph, key_places, paragraph_ends, present_in, sentence_ends, allows};
+ghost use Rattle.word_rows.specs.Keywords.{is_paragraph, key_places, paragraph_ends, present_in, sentence_ends, allows};
 ghost use Rattle.word_rows.specs.RowMarks.{AreMarks, has_zones};
 ghost use Rattle.word_rows.specs.Slots.{AreAt, AreSlots, Stands, keys_of, next_of, next_with, number_among};
 ghost use Rattle.word_rows.specs.Terms.{AreSeenIn, AreTermsOf, IsSeenIn};
-ghost use Rattle.word_rows.specs.steps.Loading.{Covers, ends_in, is_allowed, is_at_ends, is_in_limits, paragraphs_in};
+ghost use Rattle.word_rows.specs.steps.Loading.{Covers, IsPlacedRow, ends_in, is_allowed, is_at_ends, is_in_limits, is_last_of, paragraphs_in};
 
 use crate::asking::AskedMarks;
 use crate::marks::RowMarks;
 use crate::slots::{Slots, has_field};
-use doc_types::{Chunk, Cursor, Gap, ZoneSpan};
+use doc_types::{Chunk, CountedLists, Cursor, Gap, ZoneSpan};
 use occ_lists::{Buffers, Cover, Occ, Term};
 use query_tree::Key;
 use srch_base::{NoMemory, Steps};
 use std::alloc::Global;
 use std::mem;
-use std::sync::ledger::Ledger;
 
 impl RowMarks {
     /// None read yet.
@@ -40,7 +39,7 @@ impl RowMarks {
         chunk: &C,
         row: u32,
         asked: AskedMarks,
-        gaps: &mut Vec<(u32, Gap)>,
+        gaps: &mut Vec<(u16, (u32, Gap))>,
     ) -> Result<(), NoMemory>
         requires row { row < length (C.content chunk.now) }
         requires marks { AreMarks self.old }
@@ -78,7 +77,7 @@ impl RowMarks {
 fn load_ends<C: Chunk>(
     chunk: &C,
     row: u32,
-    gaps: &mut Vec<(u32, Gap)>,
+    gaps: &mut Vec<(u16, (u32, Gap))>,
     sentences: &mut Vec<(u16, u32)>,
     paragraphs: &mut Vec<(u16, u32)>,
 ) -> Result<(), NoMemory>
@@ -86,38 +85,32 @@ fn load_ends<C: Chunk>(
     ensures sentences { (found : DocRow) → slice_get (C.content chunk.now) row ≡ Some found → OnOk result (sentences.new.items ≡ sentence_ends found) }
     ensures paragraphs { (found : DocRow) → slice_get (C.content chunk.now) row ≡ Some found → OnOk result (paragraphs.new.items ≡ paragraph_ends found) }
 {
+    gaps.clear();
+    chunk.gaps(row, gaps)?;
     sentences.clear();
+    put_ends(gaps, sentences)?;
     paragraphs.clear();
-    for field in 0..chunk.fields() {
-        gaps.clear();
-        chunk.gaps(row, field, gaps)?;
-        put_ends(field, gaps, sentences)?;
-        put_paragraphs(field, gaps, paragraphs)?;
+    put_paragraphs(gaps, paragraphs)?;
+    Ok(())
+}
+
+/// Appends the boundaries.
+fn put_ends(gaps: &[(u16, (u32, Gap))], ends: &mut Vec<(u16, u32)>) -> Result<(), NoMemory>
+    ensures { OnOk result (ends.new.items ≡ ends.old.items ++ ends_in gaps.now) }
+{
+    for gap in gaps {
+        ends.push((gap.0, gap.1.0))?;
     }
     Ok(())
 }
 
-/// Appends the boundaries of a field.
-fn put_ends(field: u16, gaps: &[(u32, Gap)], ends: &mut Vec<(u16, u32)>) -> Result<(), NoMemory>
-    ensures { OnOk result (ends.new.items ≡ ends.old.items ++ ends_in field gaps.now) }
+/// Appends those boundaries at which a paragraph ends.
+fn put_paragraphs(gaps: &[(u16, (u32, Gap))], ends: &mut Vec<(u16, u32)>) -> Result<(), NoMemory>
+    ensures { OnOk result (ends.new.items ≡ ends.old.items ++ paragraphs_in gaps.now) }
 {
     for gap in gaps {
-        ends.push((field, gap.0))?;
-    }
-    Ok(())
-}
-
-/// Appends those boundaries of a field at which a paragraph ends.
-fn put_paragraphs(
-    field: u16,
-    gaps: &[(u32, Gap)],
-    ends: &mut Vec<(u16, u32)>,
-) -> Result<(), NoMemory>
-    ensures { OnOk result (ends.new.items ≡ ends.old.items ++ paragraphs_in field gaps.now) }
-{
-    for gap in gaps {
-        if is_paragraph(gap.1) {
-            ends.push((field, gap.0))?;
+        if is_paragraph(gap.1.1) {
+            ends.push((gap.0, gap.1.0))?;
         }
     }
     Ok(())
@@ -134,13 +127,13 @@ fn is_paragraph(gap: Gap) -> bool
 
 impl Slots<'_> {
     /// Reads the places of each keyword in the row at hand. A list is opened for each keyword whose word the row has.
-    pub fn load<C: Chunk, L: Ledger>(
+    pub fn load<C: CountedLists>(
         &mut self,
         chunk: &C,
         row: u32,
         spans: &[(u16, ZoneSpan)],
         buffers: &mut Buffers,
-        steps: &mut Steps<L>,
+        steps: &mut Steps<C::Book>,
     ) -> Result<(), NoMemory>
         requires row { row < length (C.content chunk.now) }
         requires slots { AreSlots (C.belongs chunk.now) (C.place chunk.now) (C.content chunk.now) row self.old }
@@ -152,11 +145,13 @@ impl Slots<'_> {
         ensures slots { AreSlots (C.belongs chunk.now) (C.place chunk.now) (C.content chunk.now) row self.new }
         ensures loaded { (found : DocRow) → slice_get (C.content chunk.now) row ≡ Some found → OnOk result (AreTermsOf found (number_among (keys_of self.old)) (keys_of self.old) self.new.terms.items) }
     {
+        load_lasts(chunk, row, &self.keys, &mut self.lasts)?;
         load_all(
             chunk,
             row,
             &self.keys,
             &self.cursors,
+            &self.lasts,
             spans,
             &mut self.terms,
             buffers,
@@ -166,16 +161,42 @@ impl Slots<'_> {
     }
 }
 
+/// Reads the positions of the last words of the row's fields, where a keyword asks for them.
+fn load_lasts<C: Chunk>(
+    chunk: &C,
+    row: u32,
+    keys: &[&Key],
+    lasts: &mut Vec<u32>,
+) -> Result<(), NoMemory>
+    requires { row < length (C.content chunk.now) }
+    ensures { (found : DocRow) → slice_get (C.content chunk.now) row ≡ Some found → list_any (λ key. key.now.end) keys.now ≡ true → OnOk result (lasts.new.items ≡ map last_position found.doc.fields) }
+{
+    if !ask_for_last(keys) {
+        return Ok(());
+    }
+    lasts.clear();
+    chunk.lasts(row, lasts)?;
+    Ok(())
+}
+
+/// Whether a keyword is to be the last word of its field.
+fn ask_for_last(keys: &[&Key]) -> bool
+    ensures { result ≡ list_any (λ key. key.now.end) keys.now }
+{
+    keys.iter().any(|key| key.end)
+}
+
 /// Reads the places of each keyword.
-fn load_all<C: Chunk, L: Ledger>(
+fn load_all<C: CountedLists>(
     chunk: &C,
     row: u32,
     keys: &[&Key],
     cursors: &[Option<Cursor>],
+    lasts: &[u32],
     spans: &[(u16, ZoneSpan)],
     terms: &mut [Term],
     buffers: &mut Buffers,
-    steps: &mut Steps<L>,
+    steps: &mut Steps<C::Book>,
 ) -> Result<(), NoMemory>
     requires row { row < length (C.content chunk.now) }
     requires its { AllZip (Stands (C.belongs chunk.now) (C.place chunk.now) (C.content chunk.now) row) (map (λ key. key.now.word) keys.now) cursors.now }
@@ -183,6 +204,7 @@ fn load_all<C: Chunk, L: Ledger>(
     requires long { length terms.old ≡ length keys.now }
     requires seen { (found : DocRow) → slice_get (C.content chunk.now) row ≡ Some found → AreSeenIn found (map (λ key. key.now) keys.now) terms.old }
     requires spans { (found : DocRow) → slice_get (C.content chunk.now) row ≡ Some found → list_any has_zones (map (λ key. key.now) keys.now) ≡ true → spans.now ≡ spans_of found }
+    requires lasts { (found : DocRow) → slice_get (C.content chunk.now) row ≡ Some found → list_any (λ key. key.now.end) keys.now ≡ true → lasts.now ≡ map last_position found.doc.fields }
     ensures count { steps.new ≤ steps.old + count_by (λ term. term.present) terms.old }
     ensures long { length terms.new ≡ length terms.old }
     ensures same { (k : ℕ) → (d : _) → slice_index_or terms.new k d ≡ record (slice_index_or terms.old k d) { places = (slice_index_or terms.new k d).places } }
@@ -194,6 +216,7 @@ fn load_all<C: Chunk, L: Ledger>(
             row,
             keys[at],
             cursors[at],
+            lasts,
             spans,
             &mut terms[at],
             buffers,
@@ -204,35 +227,37 @@ fn load_all<C: Chunk, L: Ledger>(
 }
 
 /// Reads the places of a keyword.
-fn load_term<C: Chunk, L: Ledger>(
+fn load_term<C: CountedLists>(
     chunk: &C,
     row: u32,
     key: &Key,
     cursor: Option<Cursor>,
+    lasts: &[u32],
     spans: &[(u16, ZoneSpan)],
     term: &mut Term,
     buffers: &mut Buffers,
-    steps: &mut Steps<L>,
+    steps: &mut Steps<C::Book>,
 ) -> Result<(), NoMemory>
     requires row { row < length (C.content chunk.now) }
     requires its { Stands (C.belongs chunk.now) (C.place chunk.now) (C.content chunk.now) row key.now.word cursor }
     requires at { next_of (C.place chunk.now) cursor ≡ next_with key.now.word (C.content chunk.now) row }
     requires seen { (found : DocRow) → slice_get (C.content chunk.now) row ≡ Some found → IsSeenIn found key.now term.old }
     requires spans { (found : DocRow) → slice_get (C.content chunk.now) row ≡ Some found → has_zones key.now ≡ true → spans.now ≡ spans_of found }
+    requires lasts { (found : DocRow) → slice_get (C.content chunk.now) row ≡ Some found → key.now.end ≡ true → lasts.now ≡ map last_position found.doc.fields }
     ensures count { steps.new ≤ steps.old + (if term.old.present then 1 else 0) }
     ensures same { term.new ≡ record term.old { places = term.new.places } }
     ensures loaded { (found : DocRow) → slice_get (C.content chunk.now) row ≡ Some found → OnOk result (term.new.places.items ≡ key_places found key.now) }
 {
     open(chunk, cursor, term, steps)?;
-    limit(chunk, row, key, spans, term, buffers)
+    limit(key, lasts, spans, term, buffers)
 }
 
 /// Opens the places of a keyword's word in the row at hand, where the row has it.
-fn open<C: Chunk, L: Ledger>(
+fn open<C: CountedLists>(
     chunk: &C,
     cursor: Option<Cursor>,
     term: &mut Term,
-    steps: &mut Steps<L>,
+    steps: &mut Steps<C::Book>,
 ) -> Result<(), NoMemory>
     requires its { IfSome cursor (C.belongs chunk.now) }
     requires left { term.old.present ≡ true → IfSome cursor (λ its. IsSome (next_row (C.place chunk.now its))) }
@@ -251,43 +276,39 @@ fn open<C: Chunk, L: Ledger>(
 }
 
 /// Leaves those places of the row that the keyword's limits and marks allow.
-fn limit<C: Chunk>(
-    chunk: &C,
-    row: u32,
+fn limit(
     key: &Key,
+    lasts: &[u32],
     spans: &[(u16, ZoneSpan)],
     term: &mut Term,
     buffers: &mut Buffers,
 ) -> Result<(), NoMemory>
-    requires { row < length (C.content chunk.now) }
     ensures same { term.new ≡ record term.old { places = term.new.places } }
-    ensures limited { (found : DocRow) → slice_get (C.content chunk.now) row ≡ Some found → (has_zones key.now ≡ true → spans.now ≡ spans_of found) → (term.old.free ≡ true → filter (allows found key.now) (hits_of key.now.word found) ≡ hits_of key.now.word found) → term.old.places.items ≡ hits_of key.now.word found → OnOk result (term.new.places.items ≡ key_places found key.now) }
+    ensures limited { (found : DocRow) → IsPlacedRow found → (has_zones key.now ≡ true → spans.now ≡ spans_of found) → (key.now.end ≡ true → lasts.now ≡ map last_position found.doc.fields) → (term.old.free ≡ true → filter (allows found key.now) (hits_of key.now.word found) ≡ hits_of key.now.word found) → term.old.places.items ≡ hits_of key.now.word found → OnOk result (term.new.places.items ≡ key_places found key.now) }
 {
     if term.free {
         return Ok(());
     }
     let cover = cover_of(key.limit.zones.as_slice(), spans, buffers)?;
     let mut kept = buffers.take_places();
-    put_allowed(chunk, row, key, &cover, &term.places, &mut kept)?;
+    put_allowed(key, lasts, &cover, &term.places, &mut kept)?;
     buffers.keep_places(mem::replace(&mut term.places, kept));
     buffers.keep_occs(cover.into_list());
     Ok(())
 }
 
 /// Appends those places of its word that the keyword's limits and marks allow.
-fn put_allowed<C: Chunk>(
-    chunk: &C,
-    row: u32,
+fn put_allowed(
     key: &Key,
+    lasts: &[u32],
     cover: &Cover,
     places: &[(u16, u32)],
     kept: &mut Vec<(u16, u32)>,
 ) -> Result<(), NoMemory>
-    requires { row < length (C.content chunk.now) }
-    ensures { (found : DocRow) → slice_get (C.content chunk.now) row ≡ Some found → OnOk result (kept.new.items ≡ kept.old.items ++ filter (is_allowed found key.now cover.now) places.now) }
+    ensures { OnOk result (kept.new.items ≡ kept.old.items ++ filter (is_allowed lasts.now key.now cover.now) places.now) }
 {
     for place in places {
-        if allows(chunk, row, key, cover, *place) {
+        if allows(key, lasts, cover, *place) {
             kept.push(*place)?;
         }
     }
@@ -316,11 +337,10 @@ fn cover_of(
 }
 
 /// Whether the keyword's limits and marks allow a place of its word.
-fn allows<C: Chunk>(chunk: &C, row: u32, key: &Key, cover: &Cover, place: (u16, u32)) -> bool
-    requires { row < length (C.content chunk.now) }
-    ensures { (found : DocRow) → slice_get (C.content chunk.now) row ≡ Some found → result ≡ is_allowed found key.now cover.now place }
+fn allows(key: &Key, lasts: &[u32], cover: &Cover, place: (u16, u32)) -> bool
+    ensures { result ≡ is_allowed lasts.now key.now cover.now place }
 {
-    is_in_limits(key, cover, place) && is_at_ends(chunk, row, key, place)
+    is_in_limits(key, cover, place) && is_at_ends(key, lasts, place)
 }
 
 /// Whether the keyword's limits allow the place.
@@ -340,17 +360,18 @@ fn has_zones(key: &Key) -> bool
 }
 
 /// Whether the keyword's marks allow a place of its word.
-fn is_at_ends<C: Chunk>(chunk: &C, row: u32, key: &Key, place: (u16, u32)) -> bool
-    requires { row < length (C.content chunk.now) }
-    ensures { (found : DocRow) → slice_get (C.content chunk.now) row ≡ Some found → result ≡ is_at_ends found key.now place }
+fn is_at_ends(key: &Key, lasts: &[u32], place: (u16, u32)) -> bool
+    ensures { result ≡ is_at_ends lasts.now key.now place }
 {
-    (!key.start || place.1 == 1) && (!key.end || is_last(chunk, row, place))
+    (!key.start || place.1 == 1) && (!key.end || is_last(lasts, place))
 }
 
-/// Whether the place is that of its field's last word.
-fn is_last<C: Chunk>(chunk: &C, row: u32, place: (u16, u32)) -> bool
-    requires { row < length (C.content chunk.now) }
-    ensures { (found : DocRow) → slice_get (C.content chunk.now) row ≡ Some found → result ≡ is_last found place }
+/// Whether the place is that of its field's last word, by the last positions of the fields.
+fn is_last(lasts: &[u32], place: (u16, u32)) -> bool
+    ensures { result ≡ is_last_of lasts.now place }
 {
-    place.0 < chunk.fields() && chunk.last(row, place.0) == place.1
+    match lasts.get(place.0 as usize) {
+        Some(last) => *last == place.1,
+        None => false,
+    }
 }

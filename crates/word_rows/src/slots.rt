@@ -25,6 +25,8 @@ pub struct Slots<'q> {
     pub cursors: Vec<Option<Cursor>>,
     /// For each keyword what is known of it in the row at hand.
     pub terms: Vec<Term>,
+    /// The positions of the last words of the fields of the row at hand, where a keyword asks for them.
+    pub lasts: Vec<u32>,
 }
 
 impl<'q> Slots<'q> {
@@ -42,6 +44,7 @@ impl<'q> Slots<'q> {
             keys,
             cursors,
             terms,
+            lasts: Vec::new(alloc),
         })
     }
 
@@ -119,12 +122,7 @@ fn gone_over<C: Chunk>(chunk: &C, cursor: Cursor, row: u32) -> Cursor
     ensures { HasPassed (C.belongs chunk.now) (C.place chunk.now) row cursor result }
 {
     let mut here = cursor;
-    while let Some(next) = chunk.row(&here) {
-        if next >= row {
-            return here;
-        }
-        chunk.advance(&mut here);
-    }
+    chunk.seek(&mut here, row);
     here
 }
 

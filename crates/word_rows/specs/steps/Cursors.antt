@@ -1,15 +1,14 @@
 -- cursors on their way from row to row, and terms as they are made
-use Rattle.std.specs.Prelude.{◌≡◌, ◌≤◌, ◌<◌, ℕ, List, [], map, length, true, false, Option, Some, None, All, IfSome, Bool, ◌==◌, slice_get, nat_le, min, unwrap_or, ◌∷◌, ◌++◌, if◌then◌else◌}
-use Rattle.std.specs.List.{AllZip, filter, fold, list_any, position}
+use Rattle.std.specs.Prelude.{◌≡◌, ◌≤◌, ◌<◌, ℕ, List, [], true, false, Option, Some, None, Bool, ◌==◌, slice_get, nat_le, min, ◌∷◌, ◌++◌, if◌then◌else◌}
+use Rattle.std.specs.List.{filter, fold, list_any}
 use Rattle.std.specs.Option.{option_map_or}
 use Rattle.std.specs.Str.{bytes_eq}
 use Rattle.doc_types.specs.declared.cursor.Cursor.{Cursor}
-use Rattle.doc_types.specs.declared.documents.DocRow.{DocRow}
 use Rattle.doc_types.specs.declared.tokens.TheConstants.{MAX_POSITION}
-use Rattle.doc_types.specs.Chunks.{CursorPlace, has_word, hits_of, rows_with, next_row}
+use Rattle.doc_types.specs.Chunks.{CursorPlace, next_row}
 use Rattle.query_tree.specs.declared.key.Key.{Key}
 use Rattle.occ_lists.specs.declared.term.Term.{Term}
-use Rattle.word_rows.specs.Keywords.{allows, has_field, first_uses}
+use Rattle.word_rows.specs.Keywords.{has_field}
 use Rattle.word_rows.specs.Slots.{next_of}
 
 -- that is this row

@@ -1,21 +1,24 @@
 -- reading what a query asks of a row
-use Rattle.std.specs.Prelude.{◌≡◌, ℕ, List, map, Bool, ◌&&◌, ◌||◌, ◌==◌, not, nat_le}
+use Rattle.std.specs.Prelude.{◌≡◌, ◌<◌, ◌≤◌, All, AllPairs, length, ℕ, List, map, Bool, ◌&&◌, ◌||◌, ◌==◌, false, not, nat_le, slice_get}
 use Rattle.std.specs.List.{filter, list_any}
+use Rattle.std.specs.Option.{option_map_or}
 use Rattle.doc_types.specs.declared.documents.DocRow.{DocRow}
+use Rattle.doc_types.specs.declared.tokens.FieldTokens.{FieldTokens}
+use Rattle.doc_types.specs.declared.tokens.TheConstants.{MAX_POSITION}
 use Rattle.doc_types.specs.declared.tokens.Gap.{Gap}
 use Rattle.doc_types.specs.declared.tokens.ZoneSpan.{ZoneSpan}
 use Rattle.query_tree.specs.declared.key.Key.{Key}
 use Rattle.occ_lists.specs.declared.occ.Occ.{Occ}
 use Rattle.occ_lists.specs.Places.{occ, holds, is_within}
-use Rattle.word_rows.specs.Keywords.{Spans, has_field, is_among, is_last, is_paragraph}
+use Rattle.word_rows.specs.Keywords.{Spans, first_position, has_field, is_among, is_paragraph}
 use Rattle.word_rows.specs.RowMarks.{has_zones}
 
--- the boundaries of a field, with its number; and those of paragraphs
-abbrev pub ends_in : ℕ → List (ℕ × Gap) → List (ℕ × ℕ)
-ends_in field gaps = map (λ gap. (field, gap.0)) gaps
+-- the ends of boundaries, each of which has its field; and those of paragraphs
+abbrev pub ends_in : List (ℕ × (ℕ × Gap)) → List (ℕ × ℕ)
+ends_in gaps = map (λ gap. (gap.0, gap.1.0)) gaps
 
-abbrev pub paragraphs_in : ℕ → List (ℕ × Gap) → List (ℕ × ℕ)
-paragraphs_in field gaps = ends_in field (filter (λ gap. is_paragraph gap.1) gaps)
+abbrev pub paragraphs_in : List (ℕ × (ℕ × Gap)) → List (ℕ × ℕ)
+paragraphs_in gaps = ends_in (filter (λ gap. is_paragraph gap.1.1) gaps)
 
 -- the place lies in one of the spans that is of one of the zones
 abbrev pub in_some : List ℕ → Spans → ℕ × ℕ → Bool
@@ -39,9 +42,22 @@ is_in_limits key cover place =
     && (nat_le place.1 key.limit.positions
     && (not (has_zones key) || list_any (λ o. holds o place) cover))
 
--- The keyword's marks allow a place of its word: the first word of a field has position 1.
-abbrev pub is_at_ends : DocRow → Key → ℕ × ℕ → Bool
-is_at_ends row key place = (not key.start || (place.1 == 1)) && (not key.end || is_last row place)
+-- the place is that of its field's last word, by the last positions of the fields
+abbrev pub is_last_of : List ℕ → ℕ × ℕ → Bool
+is_last_of lasts place = option_map_or (λ last. last == place.1) (slice_get lasts place.0) false
 
-abbrev pub is_allowed : DocRow → Key → List Occ → ℕ × ℕ → Bool
-is_allowed row key cover place = is_in_limits key cover place && is_at_ends row key place
+-- The keyword's marks allow a place of its word: the first word of a field has position 1.
+abbrev pub is_at_ends : List ℕ → Key → ℕ × ℕ → Bool
+is_at_ends lasts key place = (not key.start || (place.1 == 1)) && (not key.end || is_last_of lasts place)
+
+abbrev pub is_allowed : List ℕ → Key → List Occ → ℕ × ℕ → Bool
+is_allowed lasts key cover place = is_in_limits key cover place && is_at_ends lasts key place
+
+-- a field's words stand in order, the first at 1
+pub record IsPlacedField (tokens : FieldTokens) : Type 0 where
+  pub bounds : All (λ word. (1 ≤ word.position) × (word.position ≤ MAX_POSITION)) tokens.words
+  pub ascend : AllPairs (λ word later. word.position < later.position) tokens.words
+  pub first : 0 < length tokens.words → first_position tokens ≡ 1
+
+abbrev pub IsPlacedRow : DocRow → Type 0
+IsPlacedRow row = All IsPlacedField row.doc.fields

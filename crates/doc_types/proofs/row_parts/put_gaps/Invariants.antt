@@ -1,7 +1,7 @@
-use Rattle.std.proofs.Common.{◌≡◌, ◌++◌, ◌-◌, map, take}
-use Rattle.std.specs.List.{filter}
-use Rattle.doc_types.specs.Chunks.{is_boundary}
+use Rattle.std.proofs.Common.{◌≡◌, ◌++◌, map, take}
+use Rattle.std.specs.List.{flat_map, enumerate_from}
+use Rattle.doc_types.specs.Chunks.{gaps_of}
 use Rattle.doc_types.proofs.row_parts.put_gaps.Given as goal
 
-abbrev pub invariant-loop-token : goal.invariant-loop-token
-invariant-loop-token l = l.into.items ≡ l.initial.into.items ++ map (λ token. (token.position - 1, token.gap)) (filter (λ token. is_boundary token.gap) (take l.token-index l.token-items))
+abbrev pub invariant-loop-number : goal.invariant-loop-number
+invariant-loop-number l = l.into.items ≡ l.initial.into.items ++ flat_map (λ e. map (λ x. (e.0, x)) (gaps_of e.1)) (enumerate_from 0 (take l.number l.row.doc.fields))

@@ -1,4 +1,4 @@
-use Rattle.std.proofs.Common.{◌≡◌, Bool, IfOk, refl, sym, ap, subst, ◌∙◌}
+use Rattle.std.proofs.Common.{◌≡◌, Bool, IfOk, refl, sym, ap, subst}
 use Rattle.doc_types.specs.declared.documents.DocRow.{DocRow}
 use Rattle.op_eval.specs.Finding.{Found}
 use Rattle.op_eval.proofs.NextMatches.{no_tree, none_finds, search_there, stands_now, tree_finds, tree_of}

@@ -43,6 +43,11 @@ load_term-requires-clause-spans g c = λ found here zoned.
     c.requires.spans found here
     (list_any_at has_zones keys c.loop-at.at c.index-keys-at.result.now (omega (arith, c.requires.long, length-map c.args.keys.now (λ (key : Bor Key). key.now))) (ap has_zones same ∙ zoned))
 
+pub load_term-requires-clause-lasts : goal.load_term-requires-clause-lasts
+load_term-requires-clause-lasts g c = λ found here ends.
+    c.requires.lasts found here
+    (list_any_at (λ (key : Bor Key). key.now.end) c.args.keys.now c.loop-at.at c.index-keys-at.result (omega (arith, c.requires.long)) (ap (λ (key : Bor Key). key.now.end) (sym c.index-keys-at.is) ∙ ends))
+
 pub returns-clause-loaded : goal.returns-clause-loaded
 returns-clause-loaded g c = λ found here k d key below. c.loop-at.invariant.done found here k d key (omega (arith, below))
 

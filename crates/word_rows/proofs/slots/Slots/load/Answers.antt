@@ -1,5 +1,5 @@
 use Rattle.std.proofs.Common.{◌≡◌, ◌≤◌, ◌+◌, ℕ, List, Bor, length, get_or, sym, ap, subst, ◌∙◌, arith}
-use Rattle.std.specs.List.{AllZip, count_by}
+use Rattle.std.specs.List.{AllZip, count_by, list_any}
 use Rattle.std.specs.Vec.{with_items}
 use Rattle.std.proofs.lemmas.List.{with_items_is, length-map}
 use Rattle.query_tree.specs.declared.key.Key.{Key}
@@ -19,7 +19,12 @@ load_all-requires-clause-long g c =
     ap length c.deref_mut.ensures.value
     ∙ sym (zip_length (IsTermFor rows (number_among (keys_of slots))) (keys_of slots) slots.terms.items c.requires.slots.terms)
     ∙ length-map slots.keys.items (λ (key : Bor Key). key.now)
-    ∙ sym (ap length c.deref.ensures.value)
+    ∙ sym (ap length c.deref-2.ensures.value)
+
+pub load_all-requires-clause-lasts : goal.load_all-requires-clause-lasts
+load_all-requires-clause-lasts g c = λ found here ends.
+    c.deref-4.ensures.value
+    ∙ c.in_ok-load_lasts.ensures found here (ap (list_any (λ (key : Bor Key). key.now.end)) (c.deref.ensures.value ∙ sym c.deref-2.ensures.value) ∙ ends)
 
 pub returns-clause-slots : goal.returns-clause-slots
 returns-clause-slots g c =
@@ -42,7 +47,7 @@ returns-clause-loaded g c = λ found here.
     (are_loaded rows (number_among (keys_of slots)) slots.keys.items c.deref_mut.result.now c.load_all.new.terms c.load_all.ensures.long c.load_all.ensures.same
     (subst (AllZip (IsTermFor rows (number_among (keys_of slots))) (keys_of slots)) (sym c.deref_mut.ensures.value) c.requires.slots.terms)
     found
-    (λ k d key below. c.in_ok-load_all.ensures.loaded found here k d key below ∙ ap (λ (keys : List (Bor Key)). key_places found (get_or keys k key).now) c.deref.ensures.value))
+    (λ k d key below. c.in_ok-load_all.ensures.loaded found here k d key below ∙ ap (λ (keys : List (Bor Key)). key_places found (get_or keys k key).now) c.deref-2.ensures.value))
 
 pub returns-in_err-load_all-clause-slots : goal.returns-in_err-load_all-clause-slots
 returns-in_err-load_all-clause-slots g c =
