@@ -68,7 +68,7 @@ impl Cover {
 }
 
 /// What a character of a text run is.
-fn in_run(folded: Option<char>, ends: bool) -> TextSign
+pub(crate) fn in_run(folded: Option<char>, ends: bool) -> TextSign
     ensures { result ≡ run_sign folded ends }
 {
     match folded {

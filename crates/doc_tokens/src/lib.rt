@@ -4,6 +4,7 @@
 mod cover;
 mod field;
 mod laws;
+mod plain;
 mod reader;
 mod sign;
 mod spans;

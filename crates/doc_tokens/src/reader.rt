@@ -14,6 +14,10 @@ use doc_types::{Gap, MAX_POSITION, MAX_WORD_CHARS, TokenWord};
 use srch_base::{NoMemory, Or, Word};
 use std::alloc::Global;
 
+/// How many bytes of a text a word takes, with what stands before the next one. A text with shorter words makes its list
+/// grow once.
+const BYTES_FOR_A_WORD: usize = 6;
+
 /// What was found among the signs that were read.
 #[derive(Drop)]
 pub(crate) struct Found {
@@ -95,13 +99,14 @@ fn stronger_of(first: Gap, second: Gap) -> Gap
 impl Reader {
     ghost use Rattle.doc_tokens.specs.steps.TokenReader.{gap_after, Wants, Holds, BeginApart, ReadsSign, EndsRun, Finds};
 
-    /// Nothing was read.
-    pub fn new(alloc: Global) -> Result<Reader, NoMemory>
+    /// Nothing was read. There is room for the words that a text of so many bytes has for the most part.
+    pub fn new(alloc: Global, bytes: usize) -> Result<Reader, NoMemory>
         ensures { IfOk result (λ reader. (all : List TextSign) → Wants all reader all) }
     {
+        let room = (bytes / BYTES_FOR_A_WORD).min(MAX_POSITION as usize);
         Ok(Reader {
             found: Found {
-                words: Vec::new(alloc),
+                words: Vec::with_capacity(alloc, room)?,
                 tags: Vec::new(alloc),
             },
             run: String::with_capacity(alloc, 4 * MAX_WORD_CHARS)?,

@@ -27,7 +27,7 @@ struct Passed {
 }
 
 /// The first character of a text, and the text after it.
-fn first_char(text: &str) -> Option<(char, &str)>
+pub(crate) fn first_char(text: &str) -> Option<(char, &str)>
     ensures next { MatchOption result (text.now ≡ []) (λ first. text.now ≡ encode_utf8 first.0 ++ first.1.now) }
     ensures utf8 { MatchOption result (IsUtf8 text.now) (λ first. IsUtf8 first.1.now) }
 {
@@ -93,7 +93,7 @@ pub(crate) fn read_text(
     requires order { Ordered 0 marks.now }
     ensures { Finds (signs_from (folded charset.now) marks.now 0 (chars text.now)) result }
 {
-    let mut reader = Reader::new(alloc)?;
+    let mut reader = Reader::new(alloc, text.len())?;
     let mut passed = Passed {
         next: 0,
         cover: Cover::none(),

@@ -18,6 +18,7 @@ use index_conf::IndexConf;
 use ql_columns::{IndexColumn, kind_of, name_of};
 use ql_refusals::{Refusal, too_many_positions};
 use ql_tree::Val;
+use simdutf8::compat::from_utf8;
 use srch_base::{Items, NoMemory, Or};
 use std::alloc::Global;
 use std::marker::Model;
@@ -177,7 +178,7 @@ fn field_tokens(alloc: Global, conf: &IndexConf, text: &[u8]) -> Result<FieldTok
     if text.len() > u32::MAX as usize {
         return Err(Or::NoMemory);
     }
-    match str::from_utf8(text) {
+    match from_utf8(text) {
         Ok(text) => tokens(alloc, &conf.charset, &conf.rules, text),
         Err(_) => unreachable!(),
     }

@@ -10,6 +10,7 @@ use ql_refusals::{
     Refusal, id_missing, id_out_of_range, value_out_of_range, wrong_kind, wrong_number,
 };
 use ql_tree::Val;
+use simdutf8::compat::from_utf8;
 use srch_base::{Items, Name};
 
 /// What is wrong with the columns that a statement names.
@@ -124,7 +125,7 @@ fn text_fault(schema: &Schema, target: IndexColumn, text: &[u8]) -> Option<Refus
 fn is_utf8(bytes: &[u8]) -> bool
     ensures { result ≡ is_utf8 bytes.now }
 {
-    match str::from_utf8(bytes) {
+    match from_utf8(bytes) {
         Ok(_) => true,
         Err(_) => false,
     }

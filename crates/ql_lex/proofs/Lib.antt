@@ -9,6 +9,7 @@ pub mod BadBytes
 pub mod SignTokens
 pub mod NumberValues
 pub mod Inner
+pub mod Searching
 pub mod TextTokens
 pub mod Readings
 pub mod Unescaping

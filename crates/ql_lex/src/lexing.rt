@@ -44,6 +44,12 @@ fn part_at(text: &[u8], at: usize) -> Result<Part, LexKind>
     }
 }
 
+/// How many bytes of a statement a token takes, with the blanks before the next one, where most are names and signs.
+const BYTES_FOR_A_TOKEN: usize = 4;
+
+/// For how many tokens there is room from the start, at the most: a statement's, but for the rows of a long INSERT.
+const FIRST_ROOM: usize = 64;
+
 /// The tokens of a SphinxQL text.
 ///
 /// It takes a time linear in the text's length, whatever the text, and memory for the list alone: tokens are slices of the text.
@@ -51,7 +57,8 @@ pub fn lex<'a>(alloc: Global, text: &'a [u8]) -> Result<Vec<Token<'a>>, Or<LexFa
     requires { length text.now < 2 ^ 32 }
     ensures { Lexes text.now result }
 {
-    let mut tokens = Vec::new(alloc);
+    let room = (text.len() / BYTES_FOR_A_TOKEN).min(FIRST_ROOM);
+    let mut tokens = Vec::with_capacity(alloc, room)?;
     let mut at = 0;
     while at < text.len() {
         match part_at(text, at) {

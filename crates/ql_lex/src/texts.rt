@@ -1,5 +1,6 @@
-//! Texts between `'` or `"`. A `\` takes the byte after it along, so a quote after one doesn't end the text. The bytes between
-//! the quotes have to be UTF-8, which is looked at once the end is known.
+//! Texts between `'` or `"`. A `\` takes the byte after it along, so a quote after one doesn't end the text. The bytes that stand
+//! for themselves are passed many at a time. The bytes between the quotes have to be UTF-8, which is looked at once the end is
+//! known.
 
 ghost use Rattle.std.specs.Prelude.{◌≡◌, ◌<◌, ◌≤◌, ◌+◌, ◌^◌, ℕ, IsTrue, IfSome, IfNone, length, slice_index, slice_range};
 ghost use Rattle.ql_lex.specs.steps.Reading.{Reads};
@@ -8,6 +9,8 @@ ghost use Rattle.ql_lex.specs.Shapes.{is_quote as is_quote_byte, is_inner};
 use crate::fault::LexKind;
 use crate::part::Part;
 use crate::token::TokenKind;
+use memchr::memchr2;
+use simdutf8::compat::from_utf8;
 
 /// The offset of the next quote that isn't escaped, looked for from an offset on.
 fn text_end(text: &[u8], from: usize, quote: u8) -> Option<usize>
@@ -17,14 +20,17 @@ fn text_end(text: &[u8], from: usize, quote: u8) -> Option<usize>
     ensures inner { IfSome result (λ last. IsTrue (is_inner quote (slice_range text.now from last))) }
     ensures none { IfNone result ((last : ℕ) → from ≤ last → slice_index text.now last ≡ quote → IsTrue (is_inner quote (slice_range text.now from last)) → ⊥) }
 {
-    let mut escaped = false;
-    for place in from..text.len() {
-        if escaped {
-            escaped = false;
-        } else if text[place] == quote {
-            return Some(place);
-        } else {
-            escaped = text[place] == b'\\';
+    let mut at = from;
+    'pieces: while at < text.len() {
+        match memchr2(quote, b'\\', &text[at..]) {
+            None => return None,
+            Some(plain) => {
+                let place = at + plain;
+                if text[place] == quote {
+                    return Some(place);
+                }
+                at = place + 2;
+            }
         }
     }
     None
@@ -40,7 +46,7 @@ pub(crate) fn text_at(text: &[u8], at: usize) -> Result<Part, LexKind>
     let Some(last) = text_end(text, at + 1, text[at]) else {
         return Err(LexKind::UnclosedQuote);
     };
-    match std::str::from_utf8(&text[at + 1..last]) {
+    match from_utf8(&text[at + 1..last]) {
         Ok(_) => Ok(Part::Token(TokenKind::Text, last + 1)),
         Err(_) => Err(LexKind::NotUtf8),
     }

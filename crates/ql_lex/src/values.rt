@@ -10,6 +10,7 @@ ghost use Rattle.ql_lex.specs.Values.{escaped as escaped_byte, text_of};
 
 use crate::numbers::value_of;
 use crate::token::{Token, TokenKind};
+use memchr::memchr;
 use srch_base::NoMemory;
 
 /// The name in a token, as the text has it: without backquotes, and without `@@`.
@@ -53,15 +54,19 @@ pub fn put_text(token: &[u8], out: &mut Vec<u8>) -> Result<(), NoMemory>
 {
     let inner = &token[1..token.len() - 1];
     out.reserve(inner.len())?;
-    let mut after_backslash = false;
-    for byte in inner {
-        if after_backslash {
-            out.push_reserved(escaped(*byte));
-            after_backslash = false;
-        } else if *byte == b'\\' {
-            after_backslash = true;
-        } else {
-            out.push_reserved(*byte);
+    let mut at = 0;
+    'pieces: while at < inner.len() {
+        match memchr(b'\\', &inner[at..]) {
+            None => {
+                out.extend_from_slice(&inner[at..])?;
+                return Ok(());
+            }
+            Some(plain) => {
+                let place = at + plain;
+                out.extend_from_slice(&inner[at..place])?;
+                out.push_reserved(escaped(inner[place + 1]));
+                at = place + 2;
+            }
         }
     }
     Ok(())

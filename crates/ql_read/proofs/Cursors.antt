@@ -1,5 +1,5 @@
 -- The tokens that are left are those of a text.
-use Rattle.std.proofs.Common.{arith, ◌≡◌, ◌≢◌, ℕ, ◌-◌, List, [], ◌∷◌, ◌++◌, length, get_or, take, drop, refl, sym, ◌∙◌, ap, subst, Option, Some, None, true}
+use Rattle.std.proofs.Common.{arith, ◌≡◌, ◌≢◌, ℕ, ◌-◌, ◌<◌, List, [], ◌∷◌, ◌++◌, length, get_or, take, drop, refl, sym, ◌∙◌, ap, subst, Option, Some, None, true}
 use Rattle.std.specs.List.{All}
 use Rattle.std.specs.Prelude.{IsSome}
 use Rattle.std.proofs.lemmas.Grind.{common_steps}
@@ -41,6 +41,27 @@ tokens_behind [] h other = absurd (other refl)
 tokens_behind (t ∷ ts) h other =
     let same : take (length (t ∷ ts) - 1) (drop 1 (t ∷ ts)) ≡ ts = grind (arith, common_steps) in
     subst (λ (us : List Token). AreLexemes (lexemes us)) (sym same) (lexemes_behind (lexeme_of t) (lexemes ts) h other)
+
+-- a token stands after one that isn't the end
+more_behind : (t : Token) (ts : List Token) → AreLexemes (lexemes ts) → 1 < length (t ∷ ts)
+more_behind t [] h = absurd (none h.front h.is)
+  where
+    none : (front : List Lexeme) → [] ≡ front ++ h.last ∷ [] → ⊥
+    none [] is = cc
+    none (x ∷ front) is = cc
+more_behind t (u ∷ ts) h = omega arith
+
+pub token_behind : (ts : List Token) → AreLexemes (lexemes ts) → first_kind (lexemes ts) ≢ kinds.End → 1 < length ts
+token_behind [] h other = absurd (other refl)
+token_behind (t ∷ ts) h other = more_behind t ts (lexemes_behind (lexeme_of t) (lexemes ts) h other)
+
+-- and it is the first of those behind
+pub kind_behind : (ts : List Token) (d : Token) → 1 < length ts → kind (lexeme_of (get_or ts 1 d)) ≡ first_kind (lexemes (take (length ts - 1) (drop 1 ts)))
+kind_behind [] d more = absurd (omega (arith, more))
+kind_behind (t ∷ []) d more = absurd (omega (arith, more))
+kind_behind (t ∷ u ∷ ts) d more =
+    let same : take (length (t ∷ u ∷ ts) - 1) (drop 1 (t ∷ u ∷ ts)) ≡ u ∷ ts = grind (arith, common_steps) in
+    ap (λ (us : List Token). first_kind (lexemes us)) (sym same)
 
 -- what the kinds say of the forms
 no_Number : (o : Option Keyword) → name_kind o ≡ kinds.Number → ⊥
@@ -145,7 +166,3 @@ end_is_last (t ∷ ts) h e = go h.front h.is h.others
         let same : x ≡ t = cc in
         let form = end_form t.kind t.text (All-head (λ (x : Lexeme). IsLexeme x.kind x.text) t ts h.each) e in
         absurd (All-head (λ (x : Lexeme). x.kind ≢ forms.End) x front others (ap (λ (y : Lexeme). y.kind) same ∙ form))
-
-pub end_alone : (ts : List Token) (d : Token) → AreLexemes (lexemes ts) → kinds.End ≡ kind (lexeme_of (get_or ts 0 d)) → length (lexemes ts) ≡ 1
-end_alone [] d h e = end_is_last [] h refl
-end_alone (t ∷ ts) d h e = end_is_last (lexemes (t ∷ ts)) h (sym e)

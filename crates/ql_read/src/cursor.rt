@@ -1,8 +1,10 @@
 //! A cursor over the tokens of a text, of which the last is the end. Tests look at the next token, or at two; takers go on
 //! after it. A taker that doesn't find its token answers the offset of the next one and takes nothing.
-//! No token but a name or a text is copied.
+//! What the next token is, is found out once, when the cursor comes to it, and kept: a name is looked up among the keywords
+//! once, however often it is asked about. No token but a name or a text is copied.
 
-ghost use Rattle.std.specs.Prelude.{◌≡◌, ◌≢◌, [], ◌∷◌, IsTrue, length};
+ghost use Rattle.std.specs.Prelude.{◌≡◌, ◌≢◌, [], ◌∷◌, IfOk, IsTrue, length};
+ghost use Rattle.std.specs.Str.{str_to_ascii_lowercase};
 ghost use Rattle.ql_grammar.specs.Alphabet.{sphinxql};
 ghost use Rattle.ql_grammar.specs.declared.keyword.Keyword.TheVariants as keywords;
 ghost use Rattle.ql_grammar.specs.declared.kind.Kind.TheVariants as kinds;
@@ -19,26 +21,31 @@ ghost use Rattle.token_grammar.specs.Reading.{first_place, IsNextOf, ReadsPart, 
 
 use ql_grammar::{Keyword, Kind, keyword_named};
 use ql_lex::{Sign, Token, TokenKind, number_of, put_text, sign_of, token_name};
-use srch_base::{Name, Or, Text};
+use srch_base::{Name, NoMemory, Or, Text};
 use std::alloc::Global;
 use std::marker::Model;
+
+/// How many bytes of a name are made small outside of the heap.
+const FEW_BYTES: usize = 32;
 
 /// The tokens of a text that are left, of which the last is the end.
 #[derive(Drop)]
 pub(crate) struct TokenCursor<'a> {
     rest: &'a [Token<'a>],
+    /// What the next token is.
+    next: Kind,
 }
 
 impl<'a> Model for TokenCursor<'a> {
-    ghost use Rattle.std.specs.Prelude.{List};
+    ghost use Rattle.std.specs.Prelude.{◌≡◌, List};
     ghost use Rattle.ql_lex.specs.Tokens.{Lexeme, AreLexemes};
-    ghost use Rattle.ql_grammar.specs.Tokens.{lexemes};
+    ghost use Rattle.ql_grammar.specs.Tokens.{first_kind, lexemes};
 
     ghost Value = { List Lexeme };
 
     ghost view = { λ a. lexemes a.rest.now };
 
-    ghost invariant = { λ a. AreLexemes (lexemes a.rest.now) };
+    ghost invariant = { λ a. AreLexemes (lexemes a.rest.now) × (a.next ≡ first_kind (lexemes a.rest.now)) };
 }
 
 /// What the grammar sees of a token.
@@ -63,6 +70,20 @@ fn kind_of(token: &Token<'_>) -> Kind
     }
 }
 
+/// A name with its ASCII capitals made small. Few bytes, as most names have, take no memory on the way.
+fn small_name(alloc: Global, name: &[u8]) -> Result<Name, NoMemory>
+    ensures { IfOk result (λ small. small ≡ str_to_ascii_lowercase name.now) }
+{
+    let count = name.len();
+    if count > FEW_BYTES {
+        return Ok(Name::new(name.to_ascii_lowercase(alloc)?));
+    }
+    let mut bytes = [0; FEW_BYTES];
+    bytes[..count].copy_from_slice(name);
+    bytes[..count].make_ascii_lowercase();
+    Name::from_slice(alloc, &bytes[..count])
+}
+
 /// Whether a token of this kind is the sign.
 fn is_the_sign(kind: Kind, sign: Sign) -> bool
     ensures { result ≡ fits (the_sign sign) kind }
@@ -78,14 +99,17 @@ impl<'a> TokenCursor<'a> {
         requires { AreLexemes (lexemes tokens.now) }
         ensures { result ≡ lexemes tokens.now }
     {
-        TokenCursor { rest: tokens }
+        TokenCursor {
+            rest: tokens,
+            next: kind_of(&tokens[0]),
+        }
     }
 
     /// What the next token is. At the end it is the end.
     pub(crate) fn kind(&self) -> Kind
         ensures { IsNext result self.now }
     {
-        kind_of(&self.rest[0])
+        self.next
     }
 
     /// Goes on after the next token.
@@ -96,6 +120,7 @@ impl<'a> TokenCursor<'a> {
     {
         let rest = self.rest;
         self.rest = &rest[1..];
+        self.next = kind_of(&rest[1]);
         &rest[0]
     }
 
@@ -227,7 +252,7 @@ impl<'a> TokenCursor<'a> {
         ensures end { IsNextOf sphinxql the_end self.now result }
         ensures last { IsTrue result → length self.now ≡ 1 }
     {
-        match kind_of(&self.rest[0]) {
+        match self.next {
             Kind::End => true,
             _ => false,
         }
@@ -279,7 +304,7 @@ impl<'a> TokenCursor<'a> {
     {
         if self.is_name() {
             let token = self.skip();
-            Ok(Name::new(token_name(token).to_ascii_lowercase(alloc)?))
+            Ok(small_name(alloc, token_name(token))?)
         } else {
             Err(Or::Fault(self.place()))
         }
@@ -291,7 +316,7 @@ impl<'a> TokenCursor<'a> {
     {
         if self.is_target_name() {
             let token = self.skip();
-            Ok(Name::new(token_name(token).to_ascii_lowercase(alloc)?))
+            Ok(small_name(alloc, token_name(token))?)
         } else {
             Err(Or::Fault(self.place()))
         }
@@ -303,7 +328,7 @@ impl<'a> TokenCursor<'a> {
     {
         if self.is_variable() {
             let token = self.skip();
-            Ok(Name::new(token_name(token).to_ascii_lowercase(alloc)?))
+            Ok(small_name(alloc, token_name(token))?)
         } else {
             Err(Or::Fault(self.place()))
         }

@@ -1,12 +1,15 @@
 -- Reading: what the reader of a text keeps, and what its parts answer.
 use Rattle.std.specs.Prelude.{◌≡◌, ℕ, ◌+◌, ◌<◌, ◌≤◌, List, [], ◌∷◌, ◌++◌, ◌==◌, ◌&&◌, nat_lt, Bool, true, false, ◌-◌, slice_index_or, Option, Some, None, Result, Ok, Err, if◌then◌else◌, All, AllPairs, IsTrue, ◌↔◌, ◌⊎◌, Contains, length, map, take, drop}
 use Rattle.std.specs.List.{list_any}
+use Rattle.std.specs.Str.{chars}
 use Rattle.std.specs.String.{string_bytes}
 use Rattle.srch_base.specs.declared.faults.Or.{Or}
 use Rattle.srch_base.specs.declared.faults.Or.TheVariants as causes
 use Rattle.mark_scan.specs.declared.mark.Mark.{Mark}
 use Rattle.mark_scan.specs.declared.mark.MarkKind.{MarkKind}
 use Rattle.mark_scan.specs.declared.mark.MarkKind.TheVariants as kinds
+use Rattle.mark_scan.specs.declared.mark.MarkRules.{MarkRules}
+use Rattle.mark_scan.specs.Marks.{AreMarks}
 use Rattle.doc_types.specs.declared.tokens.TheConstants.{MAX_POSITION, MAX_WORD_CHARS}
 use Rattle.doc_types.specs.declared.tokens.Gap.{Gap}
 use Rattle.doc_types.specs.declared.tokens.Gap.TheVariants as gaps
@@ -20,10 +23,10 @@ use Rattle.doc_tokens.specs.declared.reader.Reader.{Reader}
 use Rattle.doc_tokens.specs.declared.walk.Passed.{Passed}
 use Rattle.doc_tokens.specs.declared.sign.TextSign.{TextSign}
 use Rattle.doc_tokens.specs.declared.sign.TextSign.TheVariants as signs
-use Rattle.doc_tokens.specs.TextSigns.{is_text, is_removed_tag, is_sentence_end, run_sign, tags_in}
+use Rattle.doc_tokens.specs.TextSigns.{is_text, is_removed_tag, is_sentence_end, run_sign, tags_in, signs_from}
 use Rattle.doc_tokens.specs.Words.{Segment, run, other, segments, word_of, end_of, stronger}
 use Rattle.doc_tokens.specs.Spans.{tags_after}
-use Rattle.doc_tokens.specs.Tokens.{first_above}
+use Rattle.doc_tokens.specs.Tokens.{first_above, IsTooLong}
 
 -- some mark of this kind reaches beyond the place
 abbrev pub reaches : (MarkKind → Bool) → ℕ → List Mark → Bool
@@ -121,6 +124,22 @@ abbrev pub Finds : List TextSign → Result Found (Or TooLong) → Type 0
 Finds all (Ok found) = IsFound all found
 Finds all (Err causes.NoMemory) = Unit {0}
 Finds all (Err (causes.Fault too_long)) = first_above (segments all) ≡ Some too_long.position
+
+-- the signs of characters where the whole text is one run and no ends of sentences are marked
+abbrev pub plain_signs : (ℕ → Option ℕ) → List ℕ → List TextSign
+plain_signs fold cs = map (λ c. run_sign (fold c) false) cs
+
+-- all that is wanted of the text was found, by its marks
+pub record IsFoundIn (fold : ℕ → Option ℕ) (rules : MarkRules) (text : List ℕ) (found : Found) : Type 0 where
+  pub marks : List Mark
+  pub are : AreMarks fold rules text marks
+  pub is : IsFound (signs_from fold marks 0 (chars text)) found
+
+-- what a text gives: all that is wanted, or the first position above the limit
+abbrev pub FindsIn : (ℕ → Option ℕ) → MarkRules → List ℕ → Result Found (Or TooLong) → Type 0
+FindsIn fold rules text (Ok found) = IsFoundIn fold rules text found
+FindsIn fold rules text (Err causes.NoMemory) = Unit {0}
+FindsIn fold rules text (Err (causes.Fault too_long)) = IsTooLong fold rules text too_long.position
 
 -- one more sign was read, if there is one, or a word stands above the limit
 abbrev pub ReadsSome : Reader → List TextSign → Reader → Result (Unit {0}) (Or TooLong) → Type 0

@@ -9,7 +9,7 @@ use Rattle.ql_lex.proofs.Readings.{read_start, read_gap, read_token, read_end}
 use Rattle.ql_lex.proofs.lexing.lex.Goals as goal
 
 pub loop-at-init : goal.loop-at-init
-loop-at-init c = read_start c.args.text.now _ (ap (map lexeme_of) c.new-tokens.ensures.items)
+loop-at-init c = read_start c.args.text.now _ (ap (map lexeme_of) c.in_ok-tokens.ensures.items)
 
 pub loop-at-preserved-in-Ok-Blank : goal.loop-at-preserved-in-Ok-Blank
 loop-at-preserved-in-Ok-Blank c =

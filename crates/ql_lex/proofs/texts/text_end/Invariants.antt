@@ -1,5 +1,9 @@
-use Rattle.ql_lex.proofs.Inner.{Scanned}
+use Rattle.std.proofs.Common.{length, ◌-◌}
+use Rattle.ql_lex.proofs.Searching.{Searched}
 use Rattle.ql_lex.proofs.texts.text_end.Given as goal
 
-abbrev pub invariant-loop-place : goal.invariant-loop-place
-invariant-loop-place l = Scanned l.quote l.text l.from l.place l.escaped
+abbrev pub invariant-pieces : goal.invariant-pieces
+invariant-pieces l = Searched l.quote l.text l.from l.at
+
+abbrev pub decreases-pieces : goal.decreases-pieces
+decreases-pieces l = length l.text - l.at

@@ -10,9 +10,9 @@ token_name-requires c =
     let token = c.skip-token.result.now in
     named token.kind token.text.now (fits_next c.if-is_name.ensures c.skip-token.ensures.next) c.skip-token.ensures.lexeme
 
-pub returns-in_ok-to_ascii_lowercase : goal.returns-in_ok-to_ascii_lowercase
-returns-in_ok-to_ascii_lowercase c =
-    takes_next c.if-is_name.ensures c.skip-token.ensures.next (λ fit. (lexeme_of c.skip-token.result.now, refl, (fit, c.new.ensures ∙ c.in_ok-to_ascii_lowercase.ensures.ok ∙ ap str_to_ascii_lowercase c.token_name.ensures)))
+pub returns-in_ok-small_name : goal.returns-in_ok-small_name
+returns-in_ok-small_name c =
+    takes_next c.if-is_name.ensures c.skip-token.ensures.next (λ fit. (lexeme_of c.skip-token.result.now, refl, (fit, c.in_ok-small_name.ensures ∙ ap str_to_ascii_lowercase c.token_name.ensures)))
 
 pub returns-else-is_name : goal.returns-else-is_name
 returns-else-is_name c = fails_at c.if-is_name.ensures c.place.ensures

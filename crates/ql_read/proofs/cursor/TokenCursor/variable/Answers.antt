@@ -16,9 +16,9 @@ token_name-requires c =
     let named = subst (λ (f : TokenKind). IsLexeme f token.text.now) form c.skip-token.ensures.lexeme in
     subst (λ (f : TokenKind). IsNamed f token.text.now) (sym form) named.0
 
-pub returns-in_ok-to_ascii_lowercase : goal.returns-in_ok-to_ascii_lowercase
-returns-in_ok-to_ascii_lowercase c =
-    takes_next c.if-is_variable.ensures c.skip-token.ensures.next (λ fit. (lexeme_of c.skip-token.result.now, refl, (variable_is (kind (lexeme_of c.skip-token.result.now)) fit, c.new.ensures ∙ c.in_ok-to_ascii_lowercase.ensures.ok ∙ ap str_to_ascii_lowercase c.token_name.ensures)))
+pub returns-in_ok-small_name : goal.returns-in_ok-small_name
+returns-in_ok-small_name c =
+    takes_next c.if-is_variable.ensures c.skip-token.ensures.next (λ fit. (lexeme_of c.skip-token.result.now, refl, (variable_is (kind (lexeme_of c.skip-token.result.now)) fit, c.in_ok-small_name.ensures ∙ ap str_to_ascii_lowercase c.token_name.ensures)))
 
 pub returns-else-is_variable : goal.returns-else-is_variable
 returns-else-is_variable c = fails_at c.if-is_variable.ensures c.place.ensures
