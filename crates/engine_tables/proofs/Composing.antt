@@ -84,7 +84,7 @@ module _ {D J : Type 0} (confs : List IndexConf) (stores : List (Opened D)) (non
         many = omega (arith, stops.many, many, length-append stores (store ∷ []));
         each = λ place opened ended at got.
             ⊎_elim
-            (λ (has : HasEnded words schema base place made.workers [] ended). inr (subst (λ (w : ℕ). HasEnded words schema base place w [] ended) of.workers_are has))
+            (λ (has : HasEnded words schema base place made.workers [] [] ended). inr (subst (λ (w : ℕ). HasEnded words schema base place w [] [] ended) of.workers_are has))
             (λ (here : (place ≡ length made.tables.items) × (ended.disk ≡ store.disk)).
             let last : slice_get (stores ++ store ∷ []) place ≡ Some store = get_end stores store place (here.0 ∙ many) in
             let same : store ≡ opened = cc (last, at) in

@@ -1,9 +1,10 @@
 -- How each worker gets its token of the next index: from the last worker to the first.
-use Rattle.std.proofs.Common.{◌≡◌, ℕ, zero, suc, ◌+◌, List, [], ◌∷◌, ◌++◌, length, refl, ap, sym, ◌∙◌, arith, length-append}
+use Rattle.std.proofs.Common.{◌≡◌, ℕ, zero, suc, ◌+◌, List, [], ◌∷◌, ◌++◌, length, Option, None, refl, ap, sym, ◌∙◌, arith, length-append}
+use Rattle.commit_outcomes.specs.declared.strayed.Strayed.{Strayed}
 use Rattle.step_tokens.specs.Tokens.{TokenValue}
 use Rattle.store_keep.specs.Names.{first_tokens, new_token}
-use Rattle.engine_tables.specs.Tokens.{TokensValue, new_seats, new_tokens}
-use Rattle.engine_tables.proofs.Makings.{length_new, new_more, snoc_same}
+use Rattle.engine_tables.specs.Tokens.{TokensValue, new_seat, new_seats, new_tokens, none_told}
+use Rattle.engine_tables.proofs.Makings.{length_new, new_more, none_more, snoc_same}
 
 pub length_first : (index workers : ℕ) → length (first_tokens index workers) ≡ workers
 length_first index zero = refl
@@ -13,7 +14,7 @@ length_first index (suc workers) = omega (arith, length-append (first_tokens ind
 pub record IsDealt (place : ℕ) (others : List TokensValue) (seat : TokensValue) (front : List TokenValue) (token : TokenValue) : Type 0 where
   pub others_are : others ≡ new_seats place (length others)
   pub front_is : front ≡ first_tokens place (length others)
-  pub seat_is : seat ≡ record { worker = suc (length others); list = new_tokens (suc (length others)) place }
+  pub seat_is : seat ≡ new_seat place (suc (length others))
   pub token_is : token ≡ new_token place (suc (length others))
   pub index : token.index ≡ length seat.list
   pub own : token.worker ≡ seat.worker
@@ -21,7 +22,7 @@ pub record IsDealt (place : ℕ) (others : List TokensValue) (seat : TokensValue
 pub dealt : (place : ℕ) (seats others : List TokensValue) (seat : TokensValue) (tokens front : List TokenValue) (token : TokenValue) → seats ≡ others ++ seat ∷ [] → seats ≡ new_seats place (length seats) → tokens ≡ front ++ token ∷ [] → tokens ≡ first_tokens place (length seats) → IsDealt place others seat front token
 dealt place seats others seat tokens front token seats_is are tokens_is first =
     let long : length seats ≡ suc (length others) = omega (arith, ap length seats_is, length-append others (seat ∷ [])) in
-    let last : TokensValue = record { worker = suc (length others); list = new_tokens (suc (length others)) place } in
+    let last : TokensValue = new_seat place (suc (length others)) in
     let both = snoc_same others (new_seats place (length others)) seat last (sym seats_is ∙ are ∙ ap (new_seats place) long) in
     let two = snoc_same front (first_tokens place (length others)) token (new_token place (suc (length others))) (sym tokens_is ∙ first ∙ ap (first_tokens place) long) in
     record {
@@ -34,12 +35,13 @@ dealt place seats others seat tokens front token seats_is are tokens_is first =
     }
 
 -- all have their tokens once the others have theirs
-pub dealt_all : (place : ℕ) (seats others left : List TokensValue) (seat next : TokensValue) (front : List TokenValue) (token : TokenValue) → seats ≡ others ++ seat ∷ [] → IsDealt place others seat front token → left ≡ new_seats (place + 1) (length others) → next ≡ record seat { list = seat.list ++ token ∷ [] } → left ++ next ∷ [] ≡ new_seats (place + 1) (length seats)
+pub dealt_all : (place : ℕ) (seats others left : List TokensValue) (seat next : TokensValue) (front : List TokenValue) (token : TokenValue) → seats ≡ others ++ seat ∷ [] → IsDealt place others seat front token → left ≡ new_seats (place + 1) (length others) → next ≡ record seat { list = seat.list ++ token ∷ []; told = seat.told ++ None ∷ [] } → left ++ next ∷ [] ≡ new_seats (place + 1) (length seats)
 dealt_all place seats others left seat next front token seats_is is left_is next_is =
     let long : length seats ≡ suc (length others) = omega (arith, ap length seats_is, length-append others (seat ∷ [])) in
-    let more : next ≡ record { worker = suc (length others); list = new_tokens (suc (length others)) (place + 1) } =
+    let more : next ≡ new_seat (place + 1) (suc (length others)) =
     next_is
-    ∙ ap (λ (s : TokensValue). record s { list = s.list ++ token ∷ [] }) is.seat_is
-    ∙ ap (λ (t : TokenValue). record { worker = suc (length others); list = new_tokens (suc (length others)) place ++ t ∷ [] }) is.token_is
-    ∙ ap (λ (l : List TokenValue). record { worker = suc (length others); list = l }) (sym (new_more (suc (length others)) place)) in
+    ∙ ap (λ (s : TokensValue). record s { list = s.list ++ token ∷ []; told = s.told ++ None ∷ [] }) is.seat_is
+    ∙ ap (λ (t : TokenValue). record { worker = suc (length others); list = new_tokens (suc (length others)) place ++ t ∷ []; told = none_told place ++ None ∷ [] }) is.token_is
+    ∙ ap (λ (l : List TokenValue). record { worker = suc (length others); list = l; told = none_told place ++ None ∷ [] }) (sym (new_more (suc (length others)) place))
+    ∙ ap (λ (l : List (Option Strayed)). record { worker = suc (length others); list = new_tokens (suc (length others)) (place + 1); told = l }) (sym (none_more place)) in
     ap (λ (s : List TokensValue). s ++ next ∷ []) left_is ∙ ap (λ (n : TokensValue). new_seats (place + 1) (length others) ++ n ∷ []) more ∙ ap (new_seats (place + 1)) (sym long)

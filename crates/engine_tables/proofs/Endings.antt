@@ -1,11 +1,12 @@
 -- How engines end: the last tokens of all workers are taken, and what each end leaves stands at the place of its index.
-use Rattle.std.proofs.Common.{◌≡◌, ⊎_elim, ℕ, ◌+◌, ◌-◌, ◌<◌, List, [], ◌∷◌, ◌++◌, All, Some, length, map, slice_get, refl, ap, sym, subst, ◌∙◌, arith, length-append, length-take}
+use Rattle.std.proofs.Common.{◌≡◌, ⊎_elim, ℕ, ◌+◌, ◌-◌, ◌<◌, ◌≤◌, List, [], ◌∷◌, ◌++◌, All, Option, Some, None, length, map, slice_get, refl, ap, sym, subst, ◌∙◌, arith, length-append, length-take}
 use Rattle.std.proofs.lemmas.List.{length-map, map-append}
 use Rattle.std.proofs.lemmas.List.Elements.{All-cons, All-head, All-nil, All-tail}
 use Rattle.std.proofs.lemmas.Option.{slice_get_within}
 use Rattle.std.specs.List.{flat_map}
 use Rattle.std.specs.Option.{option_to_list}
 use Rattle.chunk_store.specs.declared.disk.Disk.{Ghosts as DiskWords}
+use Rattle.commit_outcomes.specs.declared.strayed.Strayed.{Strayed}
 use Rattle.doc_types.specs.declared.schema.Schema.{Schema}
 use Rattle.step_history.specs.History.{Base}
 use Rattle.step_line.specs.Lines.{new_line}
@@ -15,9 +16,9 @@ use Rattle.snap_share.specs.Closings.{Closes}
 use Rattle.snap_share.specs.Engines.{EngineValue}
 use Rattle.engine_tables.specs.Endings.{EndingValue, HasEnded, HaveEnded}
 use Rattle.engine_tables.specs.Engines.{ArePlaced, EnginesValue, TableValue}
-use Rattle.engine_tables.specs.Tokens.{AreOf, SitsAt, TokensValue, tokens_at}
+use Rattle.engine_tables.specs.Tokens.{AreOf, SitsAt, TokensValue, told_at, told_of, tokens_at}
 use Rattle.engine_tables.specs.declared.ended.Ended.{Ended}
-use Rattle.engine_tables.specs.steps.Lasts.{last_token, shortened}
+use Rattle.engine_tables.specs.steps.Lasts.{last_told, last_token, shortened}
 use Rattle.engine_tables.proofs.Looking.{engines_in}
 use Rattle.engine_tables.proofs.Makings.{placed_before}
 use Rattle.engine_tables.proofs.Places.{get_end, get_more_cases, get_taken}
@@ -41,6 +42,14 @@ lasts_are place workers (seat ∷ seats) all =
     ap (λ (k : ℕ). option_to_list (slice_get seat.list k) ++ flat_map last_token seats) last
     ∙ ap (λ (rest : List TokenValue). option_to_list (slice_get seat.list place) ++ rest) (lasts_are place workers seats (All-tail (AreOf (place + 1) workers) seat seats all))
 
+-- and so is what was told
+pub told_are : (place workers : ℕ) (seats : List TokensValue) → All (AreOf (place + 1) workers) seats → flat_map last_told seats ≡ told_at place seats
+told_are place workers [] all = refl
+told_are place workers (seat ∷ seats) all =
+    let last : length seat.list - 1 ≡ place = omega (arith, (All-head (AreOf (place + 1) workers) seat seats all).many) in
+    ap (λ (k : ℕ). told_of (slice_get seat.told k) ++ flat_map last_told seats) last
+    ∙ ap (λ (rest : List Strayed). told_of (slice_get seat.told place) ++ rest) (told_are place workers seats (All-tail (AreOf (place + 1) workers) seat seats all))
+
 -- and those of earlier indexes stay
 pub earlier_stay : (place last workers : ℕ) (seats : List TokensValue) → place < last → All (AreOf (last + 1) workers) seats → tokens_at place (map shortened seats) ≡ tokens_at place seats
 earlier_stay place last workers [] before all = refl
@@ -48,6 +57,18 @@ earlier_stay place last workers (seat ∷ seats) before all =
     let within : place < length seat.list - 1 = omega (arith, (All-head (AreOf (last + 1) workers) seat seats all).many) in
     ap (λ found. option_to_list found ++ tokens_at place (map shortened seats)) (get_taken seat.list (length seat.list - 1) place within)
     ∙ ap (λ (rest : List TokenValue). option_to_list (slice_get seat.list place) ++ rest) (earlier_stay place last workers seats before (All-tail (AreOf (last + 1) workers) seat seats all))
+
+pub told_stay : (place last workers : ℕ) (seats : List TokensValue) → place < last → All (AreOf (last + 1) workers) seats → told_at place (map shortened seats) ≡ told_at place seats
+told_stay place last workers [] before all = refl
+told_stay place last workers (seat ∷ seats) before all =
+    let within : place < length seat.list - 1 = omega (arith, (All-head (AreOf (last + 1) workers) seat seats all).many) in
+    ap (λ found. told_of found ++ told_at place (map shortened seats)) (get_taken seat.told (length seat.list - 1) place within)
+    ∙ ap (λ (rest : List Strayed). told_of (slice_get seat.told place) ++ rest) (told_stay place last workers seats before (All-tail (AreOf (last + 1) workers) seat seats all))
+
+-- an option has one element at most
+pub at_most_one : {A : Type 0} (one : Option A) → length (option_to_list one) ≤ 1
+at_most_one None = omega arith
+at_most_one (Some x) = omega arith
 
 -- tokens of a line, and then others
 pub tokens_more : (index workers : ℕ) (xs ys : List TokenValue) → AreTokensOf (new_line index workers) xs → AreTokensOf (new_line index workers) ys → AreTokensOf (new_line index workers) (xs ++ ys)
@@ -62,7 +83,7 @@ module _ {D J : Type 0} (words : DiskWords D) (schema : ℕ → Schema) (base : 
   -- the earlier ones ended, with what was left of the tokens, and then the last one
   pub last_ended : (last : ℕ) (seats : List TokensValue) (all : List (Ended D J)) (ended : Ended D J) → All (AreOf (last + 1) workers) seats
       → HaveEnded words schema base last workers (map shortened seats) all
-      → HasEnded words schema base last workers (tokens_at last seats) ended
+      → HasEnded words schema base last workers (told_at last seats) (tokens_at last seats) ended
       → HaveEnded words schema base (last + 1) workers seats (all ++ ended ∷ [])
   last_ended last seats all ended of have has = record {
     many = omega (arith, length-append all (ended ∷ []), have.many);
@@ -70,11 +91,12 @@ module _ {D J : Type 0} (words : DiskWords D) (schema : ℕ → Schema) (base : 
         ⊎_elim
         (λ (same : (place ≡ length all) × (its ≡ ended)).
         let here : place ≡ last = same.0 ∙ have.many in
-        subst (λ (e : Ended D J). HasEnded words schema base place workers (tokens_at place seats) e) (sym same.1)
-        (subst (λ (k : ℕ). HasEnded words schema base k workers (tokens_at k seats) ended) (sym here) has))
+        subst (λ (e : Ended D J). HasEnded words schema base place workers (told_at place seats) (tokens_at place seats) e) (sym same.1)
+        (subst (λ (k : ℕ). HasEnded words schema base k workers (told_at k seats) (tokens_at k seats) ended) (sym here) has))
         (λ (earlier : slice_get all place ≡ Some its).
         let before : place < last = omega (arith, slice_get_within all place its earlier, have.many) in
-        subst (λ (tokens : List TokenValue). HasEnded words schema base place workers tokens its) (earlier_stay place last workers seats before of) (have.each place its earlier))
+        subst (λ (told : List Strayed). HasEnded words schema base place workers told (tokens_at place seats) its) (told_stay place last workers seats before of)
+        (subst (λ (tokens : List TokenValue). HasEnded words schema base place workers (told_at place (map shortened seats)) tokens its) (earlier_stay place last workers seats before of) (have.each place its earlier)))
         (get_more_cases all ended its place at);
   }
 
@@ -93,24 +115,25 @@ is_last workers tables front last is placed =
     record { index = here.0; own = here.1; before = placed_before workers (map (λ (t : TableValue). t.engine) front) last.engine all; many = omega (arith, ap length is, length-append front (last ∷ [])) }
 
 -- the earlier engines have ended, and then the last one
-pub end_one : {D J : Type 0} (words : DiskWords D) (schema : ℕ → Schema) (base : ℕ → Base) (workers count last : ℕ) (seats left : List TokensValue) (before all : List (Ended D J)) (ended : Ended D J) (tokens new : List TokenValue) (engine : EngineValue)
+pub end_one : {D J : Type 0} (words : DiskWords D) (schema : ℕ → Schema) (base : ℕ → Base) (workers count last : ℕ) (seats left : List TokensValue) (before all : List (Ended D J)) (ended : Ended D J) (told : List Strayed) (tokens new : List TokenValue) (engine : EngineValue)
     → count ≡ last + 1
     → All (AreOf count workers) seats
     → left ≡ map shortened seats
+    → told ≡ flat_map last_told seats
     → tokens ≡ flat_map last_token seats
     → engine.index ≡ last
     → engine.workers ≡ workers
     → HaveEnded words schema base last workers left before
-    → Closes words schema base engine.index engine.workers tokens ended.disk ended.answer new
+    → Closes words schema base engine.index engine.workers told tokens ended.disk ended.answer new
     → all ≡ before ++ ended ∷ []
     → HaveEnded words schema base count workers seats all
-end_one {D} {J} words schema base workers count last seats left before all ended tokens new engine count_is of left_is tokens_are index own have closes all_is =
+end_one {D} {J} words schema base workers count last seats left before all ended told tokens new engine count_is of left_is told_is tokens_are index own have closes all_is =
     let of' : All (AreOf (last + 1) workers) seats = subst (λ (n : ℕ). All (AreOf n workers) seats) count_is of in
-    let told : tokens ≡ tokens_at last seats = tokens_are ∙ lasts_are last workers seats of' in
-    let closed : Closes words schema base last workers (tokens_at last seats) ended.disk ended.answer new =
-    subst (λ (ts : List TokenValue). Closes words schema base last workers ts ended.disk ended.answer new) told
-    (subst (λ (w : ℕ). Closes words schema base last w tokens ended.disk ended.answer new) own
-    (subst (λ (i : ℕ). Closes words schema base i engine.workers tokens ended.disk ended.answer new) index closes)) in
+    let closed : Closes words schema base last workers (told_at last seats) (tokens_at last seats) ended.disk ended.answer new =
+    subst (λ (ns : List Strayed). Closes words schema base last workers ns (tokens_at last seats) ended.disk ended.answer new) (told_is ∙ told_are last workers seats of')
+    (subst (λ (ts : List TokenValue). Closes words schema base last workers told ts ended.disk ended.answer new) (tokens_are ∙ lasts_are last workers seats of')
+    (subst (λ (w : ℕ). Closes words schema base last w told tokens ended.disk ended.answer new) own
+    (subst (λ (i : ℕ). Closes words schema base i engine.workers told tokens ended.disk ended.answer new) index closes))) in
     let whole : HaveEnded words schema base (last + 1) workers seats (before ++ ended ∷ []) =
     last_ended {D = D} {J = J} words schema base workers last seats before ended of' (subst (λ (s : List TokensValue). HaveEnded words schema base last workers s before) left_is have) (new, closed) in
     subst (λ (n : ℕ). HaveEnded words schema base n workers seats all) (sym count_is) (subst (λ (es : List (Ended D J)). HaveEnded words schema base (last + 1) workers seats es) (sym all_is) whole)

@@ -1,5 +1,5 @@
 -- How engines are made one after the other: what is there of all stores, from what was there of those before the last one.
-use Rattle.std.proofs.Common.{◌≡◌, ⊎_elim, ℕ, zero, suc, ◌+◌, ◌≤◌, List, [], ◌∷◌, ◌++◌, All, Some, length, map, slice_get, refl, ap, sym, subst, ◌∙◌, arith, length-append}
+use Rattle.std.proofs.Common.{◌≡◌, ⊎_elim, ℕ, zero, suc, ◌+◌, ◌≤◌, List, [], ◌∷◌, ◌++◌, All, Some, None, length, map, slice_get, refl, ap, sym, subst, ◌∙◌, arith, length-append}
 use Rattle.std.proofs.Math.Numerals.{add-one}
 use Rattle.std.proofs.Math.Seq.{get_or-append_seam}
 use Rattle.std.proofs.lemmas.List.{get_or_append_left, map-append}
@@ -16,7 +16,7 @@ use Rattle.store_keep.specs.declared.opening.Opened.{Opened}
 use Rattle.snap_share.specs.Engines.{EngineValue}
 use Rattle.engine_tables.specs.Engines.{ArePlaced, engine_over}
 use Rattle.engine_tables.specs.Names.{AreNamed, AreServed}
-use Rattle.engine_tables.specs.Tokens.{AreOf, TokensValue, new_seats, new_tokens}
+use Rattle.engine_tables.specs.Tokens.{AreOf, TokensValue, new_seat, new_seats, new_tokens, none_told}
 use Rattle.engine_tables.specs.steps.Makings.{IsNamedAt}
 use Rattle.engine_tables.proofs.Places.{get_end, get_more, get_more_cases}
 
@@ -122,13 +122,16 @@ length_new worker (suc indexes) = omega (arith, length-append (new_tokens worker
 pub new_more : (worker indexes : ℕ) → new_tokens worker (indexes + 1) ≡ new_tokens worker indexes ++ new_token indexes worker ∷ []
 new_more worker indexes = rw (add-one indexes) refl
 
+pub none_more : (indexes : ℕ) → none_told (indexes + 1) ≡ none_told indexes ++ None ∷ []
+none_more indexes = rw (add-one indexes) refl
+
 pub length_seats : (indexes workers : ℕ) → length (new_seats indexes workers) ≡ workers
 length_seats indexes zero = refl
-length_seats indexes (suc workers) = omega (arith, length-append (new_seats indexes workers) (record { worker = suc workers; list = new_tokens (suc workers) indexes } ∷ []), length_seats indexes workers)
+length_seats indexes (suc workers) = omega (arith, length-append (new_seats indexes workers) (new_seat indexes (suc workers) ∷ []), length_seats indexes workers)
 
 pub seats_sit : (indexes workers most : ℕ) → workers ≤ most → All (AreOf indexes most) (new_seats indexes workers)
 seats_sit indexes zero most within = All-nil (AreOf indexes most)
 seats_sit indexes (suc workers) most within =
-    let last : TokensValue = record { worker = suc workers; list = new_tokens (suc workers) indexes } in
+    let last : TokensValue = new_seat indexes (suc workers) in
     let of : AreOf indexes most last = record { many = length_new (suc workers) indexes; above = omega arith; within = within } in
     All-append (AreOf indexes most) (new_seats indexes workers) (last ∷ []) (seats_sit indexes workers most (omega arith)) (All-cons (AreOf indexes most) last [] of (All-nil (AreOf indexes most)))

@@ -1,8 +1,10 @@
 -- What an engine's answer to a commit is to a session: its outcome says the same of the token.
-use Rattle.std.proofs.Common.{◌≡◌, ℕ, ◌+◌, List, Some, Result, Ok, Err, IfOk, OnErr, slice_get, refl, ap, sym, subst, ◌∙◌}
+use Rattle.std.proofs.Common.{◌≡◌, ℕ, ◌+◌, List, Option, Some, Result, Ok, Err, OnErr, slice_get, slice_set, refl, ap, subst, ◌∙◌}
+use Rattle.std.specs.Option.{option_or}
 use Rattle.srch_base.specs.declared.faults.NoMemory.{NoMemory}
 use Rattle.commit_outcomes.specs.declared.outcome.CommitOutcome.{CommitOutcome}
 use Rattle.commit_outcomes.specs.declared.outcome.CommitOutcome.TheVariants as outcomes
+use Rattle.commit_outcomes.specs.declared.strayed.Strayed.{Strayed}
 use Rattle.doc_types.specs.declared.schema.Schema.{Schema}
 use Rattle.doc_types.specs.declared.transactions.TxnOp.{TxnOp}
 use Rattle.step_book.specs.Fronts.{FrontValue}
@@ -12,7 +14,7 @@ use Rattle.store_keep.specs.declared.fault.CommitFault.{CommitFault}
 use Rattle.store_keep.specs.declared.fault.CommitFault.TheVariants as faults
 use Rattle.store_keep.specs.declared.fault.Committed.{Committed}
 use Rattle.snap_share.specs.Answers.{Advances, Answers, IsAcknowledged, IsNoteOf, seen_by}
-use Rattle.engine_tables.specs.Outcomes.{IsMade, Tells, outcome_of}
+use Rattle.engine_tables.specs.Outcomes.{IsMade, Tells, numbers_of, outcome_of}
 use Rattle.engine_tables.specs.Tokens.{TokensValue}
 use Rattle.engine_tables.specs.Workers.{CommitsBy, GrowAll, Grows}
 use Rattle.engine_tables.proofs.Using.{IsUsed, grow_at, with_token}
@@ -63,9 +65,10 @@ module _ {J : Type 0} (schema : Schema) (base : Base) (old : TokenValue) (ops : 
 
 module _ {J : Type 0} (schema : ℕ → Schema) (base : ℕ → Base) (view old : TokensValue) (place : ℕ) (before after : TokenValue) (ops : List TxnOp) (answer : Result (Committed J) (CommitFault J)) (used : IsUsed view old place before after) (says : Answers {J = J} (schema place) (base place) before ops answer after) where
   -- what a commit by one of the tokens is to the store
-  pub commits_so : (result : Result CommitOutcome NoMemory) → result ≡ outcome_of {J = J} answer → IsGood (schema after.index) (base after.index) after.seen
-      → IfOk result (λ outcome. (front : FrontValue) × CommitsBy schema base old place ops outcome front (with_token view place after))
-  commits_so (Ok outcome) is good =
+  pub commits_so : (outcome : CommitOutcome) → outcome_of {J = J} answer ≡ Ok outcome → IsGood (schema after.index) (base after.index) after.seen
+      → (had : Option Strayed) → slice_get view.told place ≡ Some had → (told : List (Option Strayed)) → told ≡ slice_set view.told place (option_or had (numbers_of outcome))
+      → (front : FrontValue) × CommitsBy schema base old place ops outcome front (record (with_token view place after) { told = told })
+  commits_so outcome is good had kept told told_is =
       let own = used.order.each place before used.at in
       let index : after.index ≡ place = used.index ∙ own.0 in (
         seen_by after,
@@ -74,18 +77,23 @@ module _ {J : Type 0} (schema : ℕ → Schema) (base : ℕ → Base) (view old 
           after = after;
           at = subst (λ (t : TokensValue). slice_get t.list place ≡ Some before) used.view_is used.at;
           own = own.1 ∙ ap (λ (t : TokensValue). t.worker) used.view_is;
-          left = ap (λ (t : TokensValue). with_token t place after) used.view_is;
+          had = had;
+          told = subst (λ (t : TokensValue). slice_get t.told place ≡ Some had) used.view_is kept;
+          left = ap (λ (l : List (Option Strayed)). record (with_token view place after) { told = l }) told_is
+              ∙ ap (λ (t : TokensValue). record (with_token t place after) { told = slice_set t.told place (option_or had (numbers_of outcome)) }) used.view_is;
           is = refl;
           of = index;
           good = subst (λ (i : ℕ). IsGood (schema i) (base i) after.seen) index good;
-          tells = tells_so {J = J} (schema place) (base place) before ops after answer outcome says (sym is);
+          tells = tells_so {J = J} (schema place) (base place) before ops after answer outcome says is;
         },
       )
-  commits_so (Err none) is good = tt
 
   -- after want of memory the token may have seen more
-  pub fails_so : (result : Result CommitOutcome NoMemory) → result ≡ outcome_of {J = J} answer → OnErr result (GrowAll old (with_token view place after))
-  fails_so (Ok outcome) is = tt
-  fails_so (Err none) is =
+  pub fails_so : (none : NoMemory) → outcome_of {J = J} answer ≡ Err none → GrowAll old (with_token view place after)
+  fails_so none is =
       subst (λ (o : TokensValue). GrowAll o (with_token view place after)) used.view_is
-      (grow_at view place before after used.at (grown_so {J = J} (schema place) (base place) before ops after answer none says (sym is)))
+      (grow_at view place before after used.at (grown_so {J = J} (schema place) (base place) before ops after answer none says is))
+
+  pub fails_with : (result : Result CommitOutcome NoMemory) (none : NoMemory) → outcome_of {J = J} answer ≡ Err none → OnErr result (GrowAll old (with_token view place after))
+  fails_with (Ok outcome) none is = tt
+  fails_with (Err other) none is = fails_so none is

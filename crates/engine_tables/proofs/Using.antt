@@ -1,7 +1,8 @@
 -- What is said of a worker's tokens of which one was used.
-use Rattle.std.proofs.Common.{◌≡◌, ⊎_elim, ℕ, ◌<◌, Some, length, slice_get, slice_index_or, slice_set, refl, ap, sym, subst, ◌∙◌, arith}
+use Rattle.std.proofs.Common.{◌≡◌, ⊎_elim, ℕ, ◌<◌, Some, length, length-set, List, Option, slice_get, slice_index_or, slice_set, refl, ap, sym, subst, ◌∙◌, arith}
 use Rattle.std.proofs.lemmas.Option.{slice_get_read, slice_get_within}
 use mathlib.Core.List.{IsPrefix}
+use Rattle.commit_outcomes.specs.declared.strayed.Strayed.{Strayed}
 use Rattle.doc_types.specs.declared.schema.Schema.{Schema}
 use Rattle.doc_types.specs.Snapshots.{AreLayers, SnapshotValue}
 use Rattle.step_book.specs.Fronts.{FrontValue}
@@ -29,6 +30,7 @@ pub in_order_still : (old : TokensValue) (place : ℕ) (before after : TokenValu
 in_order_still old place before after order at index worker =
     let own = order.each place before at in
     record {
+      alike = order.alike ∙ sym (length-set old.list place after);
       each = λ k token found.
           ⊎_elim
           (λ (same : (k ≡ place) × (token ≡ after)).
@@ -37,9 +39,13 @@ in_order_still old place before after order at index worker =
           (get_set_cases old.list place k after token found);
     }
 
+-- and what its worker was told isn't in the way
+pub in_order_told : (tokens : TokensValue) (told : List (Option Strayed)) → AreInOrder tokens → length told ≡ length tokens.told → AreInOrder (record tokens { told = told })
+in_order_told tokens told order same = record { alike = same ∙ order.alike; each = order.each }
+
 -- one token grew
 pub grow_at : (old : TokensValue) (place : ℕ) (before after : TokenValue) → slice_get old.list place ≡ Some before → Grows before after → GrowAll old (with_token old place after)
-grow_at old place before after at grows = (refl, zip_set Grows grows_itself old.list place before after at grows)
+grow_at old place before after at grows = (refl, zip_set Grows grows_itself old.list place before after at grows, refl)
 
 -- what is seen of an index by a token that was used
 pub seen_at : (schema : ℕ → Schema) (base : ℕ → Base) (old : TokensValue) (place : ℕ) (before after : TokenValue) → AreInOrder old → slice_get old.list place ≡ Some before → after.index ≡ before.index

@@ -1,8 +1,9 @@
 -- Outcomes: what an engine's answer to a commit is to a session.
-use Rattle.std.specs.Prelude.{◌≡◌, ◌+◌, ℕ, List, Result, Ok, Err}
+use Rattle.std.specs.Prelude.{◌≡◌, ◌+◌, ℕ, List, Option, Some, None, Result, Ok, Err}
 use Rattle.srch_base.specs.declared.faults.NoMemory.{NoMemory}
 use Rattle.commit_outcomes.specs.declared.outcome.CommitOutcome.{CommitOutcome}
 use Rattle.commit_outcomes.specs.declared.outcome.CommitOutcome.TheVariants as outcomes
+use Rattle.commit_outcomes.specs.declared.strayed.Strayed.{Strayed as Numbers}
 use Rattle.doc_types.specs.Commits.{Duplicate, verdict}
 use Rattle.doc_types.specs.Snapshots.{live}
 use Rattle.doc_types.specs.declared.schema.Schema.{Schema}
@@ -23,6 +24,15 @@ outcome_of (Err (faults.Duplicate id note)) = Ok (outcomes.Duplicate id)
 outcome_of (Err (faults.Full full note)) = Ok (outcomes.Full full)
 outcome_of (Err faults.Refused) = Ok outcomes.Refused
 outcome_of (Err (faults.InDoubt doubt)) = Ok (outcomes.InDoubt doubt)
+
+-- the numbers of an outcome that is a contradiction
+abbrev pub numbers_of : CommitOutcome → Option Numbers
+numbers_of (outcomes.Strayed numbers) = Some numbers
+numbers_of (outcomes.Committed removed) = None
+numbers_of (outcomes.Duplicate id) = None
+numbers_of (outcomes.Full full) = None
+numbers_of outcomes.Refused = None
+numbers_of (outcomes.InDoubt doubt) = None
 
 -- The commit was made, with some number: it is the last step of what the token has seen.
 abbrev pub IsMade : Base → TokenValue → List TxnOp → ℕ → TokenValue → Type 0

@@ -1,9 +1,11 @@
 -- Workers: what the engines of all indexes are to the sessions of one worker. What others do meanwhile is no part of it: it shows
 -- once a token finds it.
-use Rattle.std.specs.Prelude.{◌≡◌, ℕ, List, Some, slice_get, slice_set}
+use Rattle.std.specs.Prelude.{◌≡◌, ℕ, List, Option, Some, slice_get, slice_set}
 use Rattle.std.specs.List.{AllZip}
+use Rattle.std.specs.Option.{option_or}
 use mathlib.Core.List.{IsPrefix}
 use Rattle.commit_outcomes.specs.declared.outcome.CommitOutcome.{CommitOutcome}
+use Rattle.commit_outcomes.specs.declared.strayed.Strayed.{Strayed}
 use Rattle.doc_types.specs.declared.schema.Schema.{Schema}
 use Rattle.doc_types.specs.Snapshots.{AreLayers, SnapshotValue}
 use Rattle.doc_types.specs.declared.transactions.TxnOp.{TxnOp}
@@ -13,7 +15,7 @@ use Rattle.step_history.specs.History.{Base, IsGood, last_snapshot}
 use Rattle.step_tokens.specs.Tokens.{TokenValue}
 use Rattle.snap_share.specs.Answers.{seen_by}
 use Rattle.ql_session.specs.Events.{StoreWords}
-use Rattle.engine_tables.specs.Outcomes.{Tells}
+use Rattle.engine_tables.specs.Outcomes.{Tells, numbers_of}
 use Rattle.engine_tables.specs.Tokens.{TokensValue}
 
 -- The indexes as they are configured, and the worker's tokens of them.
@@ -30,9 +32,9 @@ pub record Grows (old new : TokenValue) : Type 0 where
   pub is : new ≡ record old { seen = new.seen }
   pub seen : IsPrefix old.seen new.seen
 
--- all tokens of a worker
+-- all tokens of a worker, which was told nothing more
 abbrev pub GrowAll : TokensValue → TokensValue → Type 0
-GrowAll old new = (new.worker ≡ old.worker) × AllZip Grows old.list new.list
+GrowAll old new = (new.worker ≡ old.worker) × AllZip Grows old.list new.list × (new.told ≡ old.told)
 
 -- The front is what the worker has seen of the index at this place. It is a good history, after which no id lives twice.
 pub record HasSeen (schema : ℕ → Schema) (base : ℕ → Base) (tokens : TokensValue) (place : ℕ) (front : FrontValue) : Type 0 where
@@ -44,13 +46,16 @@ pub record HasSeen (schema : ℕ → Schema) (base : ℕ → Base) (tokens : Tok
   pub layers : AreLayers (documents_of base front).layers
 
 -- These operations were to be committed to the index at this place by the worker's token of it. The outcome says what became of them
--- over the front, which is what the token has seen then, a good history. The other tokens are as they were.
+-- over the front, which is what the token has seen then, a good history. The other tokens are as they were. Where it is the first
+-- contradiction that the worker was told of the index, it is kept.
 pub record CommitsBy (schema : ℕ → Schema) (base : ℕ → Base) (old : TokensValue) (place : ℕ) (ops : List TxnOp) (outcome : CommitOutcome) (front : FrontValue) (new : TokensValue) : Type 0 where
   pub before : TokenValue
   pub after : TokenValue
   pub at : slice_get old.list place ≡ Some before
   pub own : before.worker ≡ old.worker
-  pub left : new ≡ record old { list = slice_set old.list place after }
+  pub had : Option Strayed
+  pub told : slice_get old.told place ≡ Some had
+  pub left : new ≡ record old { list = slice_set old.list place after; told = slice_set old.told place (option_or had (numbers_of outcome)) }
   pub is : front ≡ seen_by after
   pub of : front.index ≡ place
   pub good : IsGood (schema place) (base place) front.steps

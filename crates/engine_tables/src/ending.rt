@@ -7,12 +7,13 @@ ghost use Rattle.step_line.specs.Lines.{new_line};
 ghost use Rattle.store_keep.specs.Tellings.{AreTokensOf};
 ghost use Rattle.engine_tables.specs.Endings.{CanEnd, HaveEnded};
 ghost use Rattle.engine_tables.specs.Engines.{ArePlaced};
-ghost use Rattle.engine_tables.specs.steps.Lasts.{last_token, shortened};
+ghost use Rattle.engine_tables.specs.steps.Lasts.{last_told, last_token, shortened};
 ghost use Rattle.engine_tables.specs.Tokens.{AreOf};
 
 use crate::table::Table;
 use crate::{Ended, Engines, Tokens};
 use chunk_store::Disk;
+use commit_outcomes::Strayed;
 use snap_share::Token;
 use srch_base::NoMemory;
 use std::alloc::Global;
@@ -25,8 +26,9 @@ pub struct Ending<D: Disk, J: Naming> {
     pub(crate) indexes: usize,
     pub(crate) workers: usize,
     pub(crate) seats: Vec<Tokens<J>>,
-    /// One index's tokens of all workers.
+    /// One index's tokens of all workers, and what they were told of it.
     pub(crate) column: Vec<Token<J>>,
+    pub(crate) told: Vec<Strayed>,
     pub(crate) ended: Vec<Ended<D, J>>,
 }
 
@@ -39,7 +41,7 @@ impl<D: Disk, J: Naming> Model for Ending<D, J> {
 
     ghost view = { λ e. record { indexes = e.indexes; workers = e.workers; seats = e.seats.items } };
 
-    ghost invariant = { λ e. HasRoom e.indexes e.workers (vec_capacity e.seats) (vec_capacity e.column) (vec_capacity e.ended) × (length e.seats.items ≤ e.workers) × (e.column.items ≡ []) × (e.ended.items ≡ []) };
+    ghost invariant = { λ e. HasRoom e.indexes e.workers (vec_capacity e.seats) (vec_capacity e.column) (vec_capacity e.told) (vec_capacity e.ended) × (length e.seats.items ≤ e.workers) × (e.column.items ≡ []) × (e.ended.items ≡ []) × (e.told.items ≡ []) };
 }
 
 impl<D: Disk, J: Naming> Ending<D, J> {
@@ -50,12 +52,14 @@ impl<D: Disk, J: Naming> Ending<D, J> {
         let workers = workers as usize;
         let seats = Vec::with_capacity(alloc, workers)?;
         let column = Vec::with_capacity(alloc, workers)?;
+        let told = Vec::with_capacity(alloc, workers)?;
         let ended = Vec::with_capacity(alloc, indexes)?;
         Ok(Ending {
             indexes,
             workers,
             seats,
             column,
+            told,
             ended,
         })
     }
@@ -69,25 +73,41 @@ impl<D: Disk, J: Naming> Ending<D, J> {
     }
 }
 
-/// Moves each worker's last token behind those that are there.
+/// Puts a contradiction, if there is one, behind those that are there.
+fn push_some(told: &mut Vec<Strayed>, one: Option<Strayed>)
+    requires { length told.old.items < vec_capacity told.old }
+    ensures told { told.new.items ≡ told.old.items ++ option_to_list one }
+    ensures room { vec_capacity told.new ≡ vec_capacity told.old }
+{
+    if let Some(numbers) = one {
+        told.push_reserved(numbers);
+    }
+}
+
+/// Moves each worker's last token behind those that are there, and what it was told of the last index.
 fn take_column<J: Naming>(
     place: usize,
     workers: u32,
     seats: &mut [Tokens<J>],
     column: &mut Vec<Token<J>>,
+    told: &mut Vec<Strayed>,
 )
     requires of { All (AreOf (place + 1) workers) seats.old }
     requires tokens { AreTokensOf (new_line place workers) column.old.items }
     requires room { length column.old.items + length seats.old ≤ vec_capacity column.old }
+    requires told { length told.old.items + length seats.old ≤ vec_capacity told.old }
     ensures column { column.new.items ≡ column.old.items ++ flat_map last_token seats.old }
     ensures seats { seats.new ≡ map shortened seats.old }
     ensures tokens { AreTokensOf (new_line place workers) column.new.items }
     ensures room { vec_capacity column.new ≡ vec_capacity column.old }
+    ensures told { told.new.items ≡ told.old.items ++ flat_map last_told seats.old }
+    ensures told_room { vec_capacity told.new ≡ vec_capacity told.old }
 {
     if let Some((tokens, others)) = seats.split_first_mut() {
-        let token = tokens.take_last();
+        let (token, one) = tokens.take_last();
         column.push_reserved(token);
-        take_column(place, workers, others, column);
+        push_some(told, one);
+        take_column(place, workers, others, column, told);
     }
 }
 
@@ -98,11 +118,13 @@ pub(crate) fn end_all<D: Disk, J: Naming, R: Wait>(
     workers: u32,
     mut seats: Vec<Tokens<J>>,
     mut column: Vec<Token<J>>,
+    mut told: Vec<Strayed>,
     ended: Vec<Ended<D, J>>,
 ) -> Vec<Ended<D, J>>
     requires placed { ArePlaced workers (map (λ table. table.engine) tables.items) }
     requires seats { All (AreOf (length tables.items) workers) seats.items }
     requires column { (column.items ≡ []) × (length seats.items ≤ vec_capacity column) }
+    requires told { (told.items ≡ []) × (length seats.items ≤ vec_capacity told) }
     requires room { (ended.items ≡ []) × (length tables.items ≤ vec_capacity ended) }
     ensures ended { HaveEnded D.Disk J.schema J.base (length tables.items) workers seats.items result.items }
     ensures room { vec_capacity result ≡ vec_capacity ended }
@@ -113,11 +135,18 @@ pub(crate) fn end_all<D: Disk, J: Naming, R: Wait>(
             ended
         }
         Some(table) => {
-            take_column(tables.len(), workers, seats.as_mut_slice(), &mut column);
+            take_column(
+                tables.len(),
+                workers,
+                seats.as_mut_slice(),
+                &mut column,
+                &mut told,
+            );
             let engine = table.into_engine();
-            let (disk, answer) = engine.close(rt, column.as_mut_slice());
+            let (disk, answer) = engine.close(rt, column.as_mut_slice(), told.as_slice());
             column.clear();
-            let mut ended = end_all(rt, tables, workers, seats, column, ended);
+            told.clear();
+            let mut ended = end_all(rt, tables, workers, seats, column, told, ended);
             ended.push_reserved(Ended { disk, answer });
             ended
         }
@@ -137,8 +166,9 @@ impl<D: Disk, J: Naming> Engines<D, J> {
             workers: _workers,
             seats,
             column,
+            told,
             ended,
         } = ending;
-        end_all(rt, tables, workers, seats, column, ended)
+        end_all(rt, tables, workers, seats, column, told, ended)
     }
 }

@@ -82,9 +82,10 @@ fn stop<D: Disk, J: Naming, R: Wait>(
         workers: _workers,
         seats,
         column,
+        told,
         ended,
     } = ending;
-    end_all(rt, tables, workers, seats, column, ended)
+    end_all(rt, tables, workers, seats, column, told, ended)
 }
 
 /// Makes the engine of one index more.

@@ -97,6 +97,7 @@ impl<D: Disk, J: Naming> Engines<D, J> {
                     workers: _workers,
                     seats: _seats,
                     column: _column,
+                    told: _told,
                     ended,
                 } = ending;
                 Err(give_back(stores, ended))

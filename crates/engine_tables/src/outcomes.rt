@@ -1,8 +1,8 @@
 //! What an engine's answer to a commit is to a session.
 ghost use Rattle.std.specs.Prelude.{◌≡◌};
-ghost use Rattle.engine_tables.specs.Outcomes.{outcome_of};
+ghost use Rattle.engine_tables.specs.Outcomes.{numbers_of, outcome_of};
 
-use commit_outcomes::CommitOutcome;
+use commit_outcomes::{CommitOutcome, Strayed};
 use snap_share::{CommitFault, Committed};
 use srch_base::NoMemory;
 use step_book::Naming;
@@ -23,5 +23,15 @@ pub(crate) fn outcome_of<J: Naming>(
         Err(CommitFault::Full { full, note: _ }) => Ok(CommitOutcome::Full(full)),
         Err(CommitFault::Refused) => Ok(CommitOutcome::Refused),
         Err(CommitFault::InDoubt(doubt)) => Ok(CommitOutcome::InDoubt(doubt)),
+    }
+}
+
+/// The numbers of an outcome that is a contradiction.
+pub(crate) fn numbers_of(outcome: CommitOutcome) -> Option<Strayed>
+    ensures { result ≡ numbers_of outcome }
+{
+    match outcome {
+        CommitOutcome::Strayed(numbers) => Some(numbers),
+        _ => None,
     }
 }

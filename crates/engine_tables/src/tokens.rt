@@ -1,17 +1,20 @@
 //! A worker's tokens: one of each index. With them it reads, which takes neither a lock nor an engine, and commits.
-ghost use Rattle.std.specs.Prelude.{◌≡◌, ◌<◌, ◌≤◌, ◌+◌, ◌++◌, ◌∷◌, [], length, IfOk, OnErr, OnOk};
+ghost use Rattle.std.specs.Prelude.{◌≡◌, ◌<◌, ◌≤◌, ◌+◌, ◌++◌, ◌∷◌, [], Option, Some, None, length, slice_get, slice_set, option_to_list, IfOk, OnErr, OnOk};
 ghost use Rattle.std.specs.Arc.{arc_value};
+ghost use Rattle.std.specs.Option.{option_or};
+ghost use Rattle.commit_outcomes.specs.declared.strayed.Strayed.{Strayed as Numbers};
 ghost use Rattle.doc_types.specs.Schemas.{IsSchema};
 ghost use Rattle.doc_types.specs.Snapshots.{AreLayers};
 ghost use Rattle.doc_types.specs.Transactions.{IsTxnOf};
 ghost use Rattle.step_book.specs.Fronts.{FrontValue};
+ghost use Rattle.engine_tables.specs.Outcomes.{numbers_of};
 ghost use Rattle.engine_tables.specs.Workers.{CommitsBy, GrowAll, HasSeen, documents_of};
-ghost use Rattle.engine_tables.specs.steps.Lasts.{last_token, shortened};
+ghost use Rattle.engine_tables.specs.steps.Lasts.{last_told, last_token, shortened};
 
-use crate::outcomes::outcome_of;
+use crate::outcomes::{numbers_of, outcome_of};
 use any_chunk::AnyChunk;
 use chunk_store::Disk;
-use commit_outcomes::CommitOutcome;
+use commit_outcomes::{CommitOutcome, Strayed};
 use doc_types::{Snapshot, Txn};
 use snap_share::{Engine, Token, snapshot};
 use srch_base::NoMemory;
@@ -20,11 +23,12 @@ use std::marker::Model;
 use std::sync::{Arc, Wait};
 use step_book::Naming;
 
-/// The tokens of one worker, one of each index.
+/// The tokens of one worker, one of each index, and of each index the first contradiction that one of its commits was answered.
 #[derive(Drop)]
 pub struct Tokens<J: Naming> {
     pub(crate) worker: u32,
     pub(crate) list: Vec<Token<J>>,
+    pub(crate) told: Vec<Option<Strayed>>,
 }
 
 impl<J: Naming> Model for Tokens<J> {
@@ -32,9 +36,9 @@ impl<J: Naming> Model for Tokens<J> {
 
     ghost Value = { TokensValue };
 
-    ghost view = { λ t. record { worker = t.worker; list = t.list.items } };
+    ghost view = { λ t. record { worker = t.worker; list = t.list.items; told = t.told.items } };
 
-    ghost invariant = { λ t. AreInOrder (record { worker = t.worker; list = t.list.items }) };
+    ghost invariant = { λ t. AreInOrder (record { worker = t.worker; list = t.list.items; told = t.told.items }) };
 }
 
 /// No id lives twice in a snapshot.
@@ -44,14 +48,24 @@ fn is_sound(snapshot: &Snapshot<AnyChunk>)
     let _layers = &snapshot.layers;
 }
 
+/// Keeps the outcome of a commit to the index at a place, where it is the first contradiction.
+fn keep_first(told: &mut Vec<Option<Strayed>>, place: u16, outcome: CommitOutcome)
+    requires { place < length told.old.items }
+    ensures { (had : Option Numbers) × (slice_get told.old.items place ≡ Some had) × (told.new.items ≡ slice_set told.old.items place (option_or had (numbers_of outcome))) }
+{
+    let first = &mut told[place as usize];
+    *first = first.or(numbers_of(outcome));
+}
+
 impl<J: Naming> Tokens<J> {
     /// A worker's tokens of no index.
     pub(crate) fn none(alloc: Global, worker: u32) -> Tokens<J>
-        ensures { result ≡ record { worker = worker; list = [] } }
+        ensures { result ≡ record { worker = worker; list = []; told = [] } }
     {
         Tokens {
             worker,
             list: Vec::new(alloc),
+            told: Vec::new(alloc),
         }
     }
 
@@ -59,21 +73,25 @@ impl<J: Naming> Tokens<J> {
     pub(crate) fn push(&mut self, token: Token<J>) -> Result<(), NoMemory>
         requires next { token.index ≡ length self.old.list }
         requires own { token.worker ≡ self.old.worker }
-        ensures { OnOk result (self.new ≡ record self.old { list = self.old.list ++ token ∷ [] }) }
+        ensures { OnOk result (self.new ≡ record self.old { list = self.old.list ++ token ∷ []; told = self.old.told ++ None ∷ [] }) }
     {
+        self.told.reserve(1)?;
         self.list.push(token)?;
+        self.told.push_reserved(None);
         Ok(())
     }
 
-    /// Takes the token of the last index away.
-    pub(crate) fn take_last(&mut self) -> Token<J>
+    /// Takes the token of the last index away, and what was told of that.
+    pub(crate) fn take_last(&mut self) -> (Token<J>, Option<Strayed>)
         requires { 0 < length self.old.list }
-        ensures last { last_token self.old ≡ result ∷ [] }
-        ensures index { result.index + 1 ≡ length self.old.list }
-        ensures worker { result.worker ≡ self.old.worker }
+        ensures last { last_token self.old ≡ result.0 ∷ [] }
+        ensures told { last_told self.old ≡ option_to_list result.1 }
+        ensures index { result.0.index + 1 ≡ length self.old.list }
+        ensures worker { result.0.worker ≡ self.old.worker }
         ensures left { self.new ≡ shortened self.old }
     {
-        self.list.take_last()
+        let told = self.told.take_last();
+        (self.list.take_last(), told)
     }
 
     /// Whose they are.
@@ -96,7 +114,8 @@ impl<J: Naming> Tokens<J> {
     }
 
     /// Commits a transaction through the engine of an index, with the token of it. It waits for the commits of other workers. After
-    /// want of memory nothing of it was done, and the token may have seen more than before.
+    /// want of memory nothing of it was done, and the token may have seen more than before. The first contradiction that is answered
+    /// is kept for the end of the engine.
     pub fn commit<D: Disk, R: Wait>(
         &mut self,
         rt: &R,
@@ -115,6 +134,8 @@ impl<J: Naming> Tokens<J> {
         let answer = engine.commit(rt, worker, token, txn);
         // What the token has seen is a good history, whatever was answered.
         let _seen = token.len();
-        outcome_of(answer)
+        let outcome = outcome_of(answer)?;
+        keep_first(&mut self.told, place, outcome);
+        Ok(outcome)
     }
 }

@@ -2,6 +2,8 @@ mod Places
 mod Moving
 mod Counting
 mod Entries
+mod Telling
+mod Resting
 mod Whole
 mod Turns
 mod Worked

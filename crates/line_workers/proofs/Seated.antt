@@ -16,27 +16,30 @@ use Rattle.step_book.proofs.Prefixes.{prefix_get}
 use Rattle.step_history.specs.History.{Base}
 use Rattle.engine_tables.specs.Endings.{HaveEnded}
 use Rattle.engine_tables.specs.Engines.{EnginesValue}
-use Rattle.engine_tables.specs.Tokens.{SitsAt, TokensValue, new_seats, new_tokens}
+use Rattle.engine_tables.specs.Tokens.{SitsAt, TokensValue, new_seat, new_seats, tokens_at}
 use Rattle.engine_tables.specs.Workers.{by_tokens}
 use Rattle.engine_tables.specs.declared.ended.Ended.{Ended}
 use Rattle.line_workers.specs.Lines.{Service, ServesDoor}
 use Rattle.line_workers.specs.Seats.{AreReady}
+use Rattle.line_workers.specs.Attempts.{events_of}
 use Rattle.line_workers.specs.Served.{IsServed}
+use Rattle.line_workers.specs.Strayings.{RestsOn}
 use Rattle.line_workers.specs.Workers.{AllWork, Works, first_tokens}
 use Rattle.line_workers.specs.declared.seat.Seat.{Seat}
 use Rattle.line_workers.specs.declared.serving.SeatEnd.{SeatEnd}
 use Rattle.line_workers.specs.steps.Working.{CanWork, HasWorked, IsSameSeat, collected}
 use Rattle.line_workers.proofs.Places.{get_last, some_is}
+use Rattle.line_workers.proofs.Resting.{all_rest}
 use Rattle.line_workers.proofs.Whole.{many_tokens, one_history}
 
 many_seats : (indexes workers : ℕ) → length (new_seats indexes workers) ≡ workers
 many_seats indexes zero = refl
 many_seats indexes (suc workers) =
     let m = many_seats indexes workers in
-    omega (arith, m, length-append (new_seats indexes workers) (record { worker = suc workers; list = new_tokens (suc workers) indexes } ∷ []))
+    omega (arith, m, length-append (new_seats indexes workers) (new_seat indexes (suc workers) ∷ []))
 
 abbrev tokens_of : ℕ → ℕ → TokensValue
-tokens_of indexes worker = record { worker = worker; list = new_tokens worker indexes }
+tokens_of indexes worker = new_seat indexes worker
 
 -- the first tokens of the worker at a place
 seat_at : (indexes workers place : ℕ) → place < workers → slice_get (new_seats indexes workers) place ≡ Some (tokens_of indexes (place + 1))
@@ -126,6 +129,7 @@ module _ {E K J : Type 0} (door : DoorWords E K) (link : LinkWords K) (schema : 
             (subst (λ (e : SeatEnd). ServesDoor door link (λ tables. tables.confs) (by_tokens schema base) engines.workers worker sessions worked.services old.door mid.door e (record { confs = engines.confs; tokens = first_tokens engines.confs worker }) (record { confs = engines.confs; tokens = worked.left })) (sym same.end) works.serves);
         fronts = works.fronts;
         counts = works.counts;
+        told = works.told;
       }
 
   all_work : (worker : ℕ) (olds mids news : List (Seat E J K)) (all : AllZip Worked olds mids) → AllZip IsSameSeat mids news → ((place : ℕ) (seat : Seat E J K) → slice_get olds place ≡ Some seat → seat.tokens ≡ Some (first_tokens engines.confs (worker + place)))
@@ -156,4 +160,7 @@ module _ {E K J : Type 0} (door : DoorWords E K) (link : LinkWords K) (schema : 
         works = subst (λ (n : ℕ). AllWork door link schema base engines.confs n sessions 1 (services_of olds mids all) lefts olds news) (sym many) works;
         ended = subst (λ (n : ℕ). HaveEnded disk schema base (length engines.confs) n lefts ends) (sym many) over;
         histories = λ index end note at answered. one_history J door link schema base engines.confs engines.workers sessions disk (services_of olds mids all) lefts olds news ends many works over index end note at answered;
+        strays = λ index end at.
+            subst (λ (n : ℕ). RestsOn disk (schema index) (base index) index n (tokens_at index lefts) (map events_of (services_of olds mids all)) end.disk end.answer) (sym many)
+            (all_rest disk door link schema base engines.confs engines.workers sessions (services_of olds mids all) lefts olds news ends works over index end at);
       }

@@ -2,6 +2,7 @@
 use Rattle.std.proofs.Common.{◌≡◌, ⊎_elim, ℕ, zero, suc, ◌+◌, ◌≤◌, ◌<◌, List, [], ◌∷◌, ◌++◌, length, map, Option, Some, None, Result, Ok, slice_get, refl, sym, ap, subst, ◌∙◌, arith, length-append}
 use Rattle.std.specs.Prelude.{All}
 use Rattle.std.specs.List.{AllByRecursion, AllZip}
+use Rattle.std.specs.Option.{option_or}
 use Rattle.std.proofs.lemmas.Bool.{cases_lt}
 use Rattle.std.proofs.lemmas.List.{length-map}
 use Rattle.std.proofs.lemmas.List.Elements.{All-from_recursion, recursion_from_All}
@@ -26,10 +27,10 @@ use Rattle.store_keep.specs.Tellings.{HasSeenAll}
 use Rattle.ql_session.specs.Events.{Event, Follows}
 use Rattle.ql_session.specs.Machines.{FollowAll}
 use Rattle.engine_tables.specs.Endings.{HaveEnded}
-use Rattle.engine_tables.specs.Tokens.{TokensValue, new_tokens, tokens_at}
+use Rattle.engine_tables.specs.Tokens.{TokensValue, new_tokens, told_at, tokens_at}
 use Rattle.engine_tables.specs.Workers.{WorkerValue, by_tokens}
 use Rattle.engine_tables.specs.declared.ended.Ended.{Ended}
-use Rattle.line_workers.specs.Attempts.{OnFront, attempts_on, events_of}
+use Rattle.line_workers.specs.Attempts.{OnFront, attempts_on, events_of, told_by}
 use Rattle.line_workers.specs.Histories.{IsOfHistory, IsOneHistory}
 use Rattle.line_workers.specs.Lines.{Service, ServesDoor}
 use Rattle.line_workers.specs.Workers.{AllWork, Works, first_tokens}
@@ -39,6 +40,7 @@ use Rattle.line_workers.proofs.Counting.{made_up}
 use Rattle.line_workers.proofs.Entries.{begun, counted, of_history}
 use Rattle.line_workers.proofs.Moving.{Leads, events_move, has_made, lines_follow, same_shape}
 use Rattle.line_workers.proofs.Places.{get_last, get_within, some_is, zip_kept}
+use Rattle.line_workers.proofs.Telling.{events_tell}
 
 -- what a worker's lines lead its tokens to
 pub worker_follows : {E K : Type 0} (door : DoorWords E K) (link : LinkWords K) (schema : ℕ → Schema) (base : ℕ → Base) (confs : List IndexConf) (workers worker sessions : ℕ) (services : List (Service K FrontValue)) (old new : E) (end : SeatEnd) (had left : TokensValue)
@@ -66,6 +68,7 @@ works_so door link schema base confs workers sessions services had left old new 
       counts = λ index t u at at'.
           let moved = events_move schema base index before after events t at follows in
           ap (λ (w : TokenValue). w.made) (some_is u moved.new (sym at' ∙ moved.at)) ∙ has_made t moved.new (t.made + length (attempts_on index events)) (counted (base index) index t moved.new events moved.moves);
+      told = λ index b a at at'. some_is a (option_or b (told_by index events)) (sym at' ∙ events_tell schema base index before after events b at follows);
     }
 
 pub many_tokens : (worker n : ℕ) → length (new_tokens worker n) ≡ n
@@ -166,7 +169,7 @@ module _ {E K : Type 0} (J : Type 0) (door : DoorWords E K) (link : LinkWords K)
       → IsOneHistory (schema index) (base index) index note.steps (map events_of services)
   one_history disk services lefts olds news ends many work ended index end note at answered =
       let closes = (ended.each index end at).1 in
-      let told = subst (λ (r : Result FrontValue (Or Strayed)). Closes disk schema base index workers (tokens_at index lefts) end.disk r (ended.each index end at).0) answered closes in
+      let told = subst (λ (r : Result FrontValue (Or Strayed)). Closes disk schema base index workers (told_at index lefts) (tokens_at index lefts) end.disk r (ended.each index end at).0) answered closes in
       let line : LineValue = told.0 in
       let below : index < length confs = omega (arith, slice_get_within ends index end at, ended.many) in
       let size : length services ≡ workers = all_served 1 services lefts olds news work ∙ many in

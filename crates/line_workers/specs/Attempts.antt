@@ -1,9 +1,12 @@
--- Attempts: what a line's events show of an index, and which of them may have changed it.
-use Rattle.std.specs.Prelude.{◌≡◌, ⊤, ℕ, ◌==◌, ◌&&◌, List, Bool, true, false}
+-- Attempts: what a line's events show of an index, which of them may have changed it, and what they tell of its history.
+use Rattle.std.specs.Prelude.{◌≡◌, ⊤, ℕ, ◌==◌, ◌&&◌, List, [], ◌∷◌, Bool, true, false, if◌then◌else◌, Option, None}
 use Rattle.std.specs.List.{filter, flat_map}
+use Rattle.std.specs.Option.{option_or}
 use Rattle.commit_outcomes.specs.declared.outcome.CommitOutcome.{CommitOutcome}
 use Rattle.commit_outcomes.specs.declared.outcome.CommitOutcome.TheVariants as outcomes
+use Rattle.commit_outcomes.specs.declared.strayed.Strayed.{Strayed}
 use Rattle.ql_session.specs.Events.{Event, Configured, Nothing, NoMemory, Read, Commit}
+use Rattle.engine_tables.specs.Outcomes.{numbers_of}
 use Rattle.line_workers.specs.Lines.{Service}
 
 -- the events of a worker's lines, one line after another
@@ -55,3 +58,16 @@ is_noted index (Commit place ops outcome front) = (place == index) && has_note o
 -- the commits to the index that were acknowledged or are in doubt
 abbrev pub attempts_on : {F : Type 0} → ℕ → List (Event F) → List (Event F)
 attempts_on index events = filter (is_attempt index) events
+
+-- the numbers that a commit to the index was told, where what was counted of its history contradicts itself
+abbrev pub stray_in : {F : Type 0} → ℕ → Event F → Option Strayed
+stray_in index (Configured confs) = None
+stray_in index Nothing = None
+stray_in index NoMemory = None
+stray_in index (Read place front) = None
+stray_in index (Commit place ops outcome front) = if place == index then numbers_of outcome else None
+
+-- those of the first such commit
+abbrev pub told_by : {F : Type 0} → ℕ → List (Event F) → Option Strayed
+told_by index [] = None
+told_by index (event ∷ events) = option_or (stray_in index event) (told_by index events)

@@ -8,6 +8,8 @@ pub mod Seats
 pub mod Workers
 -- the one history of an index, by what the lines were shown and told
 pub mod Histories
+-- what it rests on that the history of an index strayed
+pub mod Strayings
 -- one line of a worker alone, where nothing failed on the way
 pub mod Alone
 -- the whole: what all workers did, how each index ended, and its one history

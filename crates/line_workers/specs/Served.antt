@@ -8,16 +8,18 @@ use Rattle.index_conf.specs.declared.conf.IndexConf.{IndexConf}
 use Rattle.step_book.specs.Fronts.{FrontValue}
 use Rattle.step_history.specs.History.{Base}
 use Rattle.engine_tables.specs.Endings.{HaveEnded}
-use Rattle.engine_tables.specs.Tokens.{TokensValue}
+use Rattle.engine_tables.specs.Tokens.{TokensValue, tokens_at}
 use Rattle.engine_tables.specs.declared.ended.Ended.{Ended}
 use Rattle.line_workers.specs.Attempts.{events_of}
 use Rattle.line_workers.specs.Histories.{IsOneHistory}
 use Rattle.line_workers.specs.Lines.{Service}
+use Rattle.line_workers.specs.Strayings.{RestsOn}
 use Rattle.line_workers.specs.Workers.{AllWork}
 use Rattle.line_workers.specs.declared.seat.Seat.{Seat}
 
 -- All workers served at most so many lines each, and then each index ended with all their tokens of it. Where its end gave a note,
--- the note tells the one history of the index: all that the lines were shown and told is of it.
+-- the note tells the one history of the index: all that the lines were shown and told is of it. Where its history strayed, a line was
+-- told so, or a token contradicts what its disk keeps.
 pub record IsServed {D E K J : Type 0} (disk : DiskWords D) (door : DoorWords E K) (link : LinkWords K) (schema : ℕ → Schema) (base : ℕ → Base) (confs : List IndexConf) (sessions : ℕ) (old new : List (Seat E J K)) (ends : List (Ended D J)) : Type 0 where
   pub services : List (List (Service K FrontValue))
   pub left : List TokensValue
@@ -25,3 +27,5 @@ pub record IsServed {D E K J : Type 0} (disk : DiskWords D) (door : DoorWords E 
   pub ended : HaveEnded disk schema base (length confs) (length old) left ends
   pub histories : (index : ℕ) (end : Ended D J) (note : FrontValue) → slice_get ends index ≡ Some end → end.answer ≡ Ok note
       → IsOneHistory (schema index) (base index) index note.steps (map events_of services)
+  pub strays : (index : ℕ) (end : Ended D J) → slice_get ends index ≡ Some end
+      → RestsOn disk (schema index) (base index) index (length old) (tokens_at index left) (map events_of services) end.disk end.answer

@@ -17,7 +17,7 @@ use Rattle.store_keep.specs.declared.opening.Opened.{Opened}
 use Rattle.engine_tables.specs.Endings.{CanEnd, EndingValue, HasEnded, HaveEnded}
 use Rattle.engine_tables.specs.Engines.{EnginesValue}
 use Rattle.engine_tables.specs.Names.{AreNamed, AreServed, IsRoomFor}
-use Rattle.engine_tables.specs.Tokens.{SitsAt, TokensValue, tokens_at}
+use Rattle.engine_tables.specs.Tokens.{SitsAt, TokensValue, told_at, tokens_at}
 use Rattle.engine_tables.specs.declared.ended.Ended.{Ended}
 use Rattle.engine_tables.proofs.Makings.{all_end}
 use Rattle.self_test.specs.Ends.{Ends, EndsBy, IsOver, Works, first_tokens}
@@ -114,7 +114,7 @@ module _ {D : Type 0} (words : DiskWords D) where
       → Works schema base confs first_tokens left → HaveEnded words schema base 1 1 (left ∷ []) all → slice_get all 0 ≡ Some one → AnswersEnd one.answer answer → Ends words answer
   ends_so {J} schema base confs left all one answer over works ended at says = by_answer answer says
     where
-      ends : HasEnded words schema base 0 1 (tokens_at 0 (left ∷ [])) one
+      ends : HasEnded words schema base 0 1 (told_at 0 (left ∷ [])) (tokens_at 0 (left ∷ [])) one
       ends = ended.each 0 one at
 
       ends_by : (end : Result FrontValue (Or Strayed)) → one.answer ≡ end → EndsBy words end

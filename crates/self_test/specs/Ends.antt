@@ -12,16 +12,16 @@ use Rattle.step_tokens.specs.Tokens.{TokenValue}
 use Rattle.store_keep.specs.Opens.{IsOpened, base_of}
 use Rattle.store_keep.specs.declared.opening.Opened.{Opened}
 use Rattle.snap_share.specs.Closings.{Closes}
-use Rattle.engine_tables.specs.Tokens.{TokensValue, new_tokens, tokens_at}
+use Rattle.engine_tables.specs.Tokens.{TokensValue, new_seat, told_at, tokens_at}
 use Rattle.engine_tables.specs.Workers.{by_tokens}
 use Rattle.self_test.specs.Asking.{Leads}
 use Rattle.self_test.specs.declared.fault.SelftestFault.{SelftestFault}
 use Rattle.self_test.specs.declared.fault.SelftestFault.TheVariants.{NoMemory, Unexpected, Strayed as HasStrayed}
 use Rattle.self_test.specs.declared.summary.Summary.{Summary}
 
--- the token of the one worker, which has seen no step of the one index
+-- the token of the one worker, which has seen no step of the one index and was told nothing of it
 abbrev pub first_tokens : TokensValue
-first_tokens = record { worker = 1; list = new_tokens 1 1 }
+first_tokens = new_seat 1 1
 
 -- A selftest that began with these tokens of an engine left these.
 abbrev pub Works : (ℕ → Schema) → (ℕ → Base) → List IndexConf → TokensValue → TokensValue → Type 0
@@ -36,7 +36,7 @@ pub record IsOver {D : Type 0} (words : DiskWords D) (schema : ℕ → Schema) (
   pub begins : base 0 ≡ base_of store
   pub opened : IsOpened words (schema 0) store
 
--- The engine of such an index ended with this answer, by the token that the selftest left.
+-- The engine of such an index ended with this answer, by the token that the selftest left and what was told beside it.
 pub record EndsBy {D : Type 0} (words : DiskWords D) (answer : Result FrontValue (Or Strayed)) : Type 0 where
   pub schema : ℕ → Schema
   pub base : ℕ → Base
@@ -46,7 +46,7 @@ pub record EndsBy {D : Type 0} (words : DiskWords D) (answer : Result FrontValue
   pub works : Works schema base confs first_tokens left
   pub disk : D
   pub new : List TokenValue
-  pub closes : Closes words schema base 0 1 (tokens_at 0 (left ∷ [])) disk answer new
+  pub closes : Closes words schema base 0 1 (told_at 0 (left ∷ [])) (tokens_at 0 (left ∷ [])) disk answer new
 
 -- The end told the whole history, or answered that it strayed. Want of memory is free.
 abbrev pub Ends : {D : Type 0} → DiskWords D → Result Summary SelftestFault → Type 0

@@ -5,11 +5,13 @@ use Rattle.std.proofs.lemmas.List.{length-map}
 use Rattle.chunk_store.specs.declared.disk.Disk.{Ghosts as DiskWords}
 use Rattle.doc_types.specs.declared.schema.Schema.{Schema}
 use Rattle.engine_tables.specs.Endings.{ComeBack, ComesBack, HasEnded, HaveEnded}
-use Rattle.engine_tables.specs.Tokens.{TokensValue, tokens_at}
+use Rattle.engine_tables.specs.Tokens.{TokensValue, told_at, tokens_at}
 use Rattle.engine_tables.specs.declared.ended.Ended.{Ended}
 use Rattle.index_conf.specs.declared.conf.IndexConf.{IndexConf}
+use Rattle.line_workers.specs.Attempts.{events_of}
 use Rattle.line_workers.specs.Lines.{Service}
 use Rattle.line_workers.specs.Served.{IsServed}
+use Rattle.line_workers.specs.Strayings.{RestsOn}
 use Rattle.line_workers.specs.Workers.{AllWork}
 use Rattle.line_workers.specs.declared.seat.Seat.{Seat}
 use Rattle.srch_base.specs.declared.door.Door.{Ghosts as DoorWords}
@@ -60,7 +62,7 @@ module _ {E K J : Type 0} (door : DoorWords E K) (link : LinkWords K) (schema : 
   all_work_any workers sessions worker (s ∷ services) (l ∷ lefts) [] news work = absurd work
   all_work_any workers sessions worker (s ∷ services) (l ∷ lefts) (o ∷ olds) [] work = absurd work
   all_work_any workers sessions worker (s ∷ services) (l ∷ lefts) (o ∷ olds) (n ∷ news) work = (
-    record { serves = work.0.serves; fronts = work.0.fronts; counts = work.0.counts },
+    record { serves = work.0.serves; fronts = work.0.fronts; counts = work.0.counts; told = work.0.told },
     all_work_any workers sessions (worker + 1) services lefts olds news work.1,
   )
 
@@ -73,7 +75,7 @@ module _ {E K J : Type 0} (door : DoorWords E K) (link : LinkWords K) (schema : 
         many = length-map ends any_ended ∙ ended.many;
         each = λ place end at.
             let found = mapped_at any_ended ends place end at in
-            subst (λ (e : AnyEnded D). HasEnded disk schema base place n (tokens_at place is.left) e) found.2 (ended.each place found.0 found.1);
+            subst (λ (e : AnyEnded D). HasEnded disk schema base place n (told_at place is.left) (tokens_at place is.left) e) found.2 (ended.each place found.0 found.1);
       } in
       record {
         services = is.services;
@@ -84,6 +86,10 @@ module _ {E K J : Type 0} (door : DoorWords E K) (link : LinkWords K) (schema : 
         histories = λ index end note at answered.
             let found = mapped_at any_ended ends index end at in
             is.histories index found.0 note found.1 (ap (λ (e : AnyEnded D). e.answer) found.2 ∙ answered);
+        strays = λ index end at.
+            let found = mapped_at any_ended ends index end at in
+            subst (λ (n : ℕ). RestsOn disk (schema index) (base index) index n (tokens_at index is.left) (map events_of is.services) end.disk end.answer) (sym many)
+            (subst (λ (e : AnyEnded D). RestsOn disk (schema index) (base index) index (length olds) (tokens_at index is.left) (map events_of is.services) e.disk e.answer) found.2 (is.strays index found.0 found.1));
       }
 
 -- What came back did, whatever the names are.

@@ -4,7 +4,7 @@ use Rattle.std.proofs.lemmas.List.{length-append, length-map}
 use Rattle.std.proofs.lemmas.List.Elements.{All-cons, All-head, All-nil, All-tail}
 use Rattle.srch_base.specs.declared.door.Door.{Ghosts as DoorWords}
 use Rattle.engine_tables.specs.Engines.{EnginesValue}
-use Rattle.engine_tables.specs.Tokens.{TokensValue, new_seats, new_tokens}
+use Rattle.engine_tables.specs.Tokens.{TokensValue, new_seat, new_seats}
 use Rattle.line_workers.specs.Seats.{AreReady}
 use Rattle.line_workers.specs.declared.seat.Seat.{Seat}
 
@@ -12,7 +12,7 @@ use Rattle.line_workers.specs.declared.seat.Seat.{Seat}
 pub seats_many : (indexes workers : ℕ) → length (new_seats indexes workers) ≡ workers
 seats_many indexes zero = refl
 seats_many indexes (suc workers) =
-    let one : TokensValue = record { worker = suc workers; list = new_tokens (suc workers) indexes } in
+    let one : TokensValue = new_seat indexes (suc workers) in
     omega (arith, length-append (new_seats indexes workers) (one ∷ []), seats_many indexes workers)
 
 -- there is a seat for each door

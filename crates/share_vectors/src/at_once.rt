@@ -69,7 +69,7 @@ fn work_and_close<D: Disk + Drop + Send, J: Naming + Send + Sync, R: Threads + W
     requires { All (IsUser J.schema engine) tokens.old }
 {
     work_all(rt, alloc, &engine, tokens);
-    let (_disk, told) = engine.close(rt, tokens);
+    let (_disk, told) = engine.close(rt, tokens, &[]);
     match told {
         Ok(note) => Some(note.len()),
         Err(_) => None,

@@ -62,12 +62,12 @@ fn run<D: Disk + Drop, J: Naming, R: Wait + Abort>(
     let second = tokens.pop();
     let first = tokens.pop();
     let (Some(mut first), Some(mut second)) = (first, second) else {
-        let (_disk, _) = engine.close(rt, tokens.as_mut_slice());
+        let (_disk, _) = engine.close(rt, tokens.as_mut_slice(), &[]);
         return Err(NoMemory)?;
     };
     let worked = work(rt, alloc, &engine, &mut first, &mut second);
     let mut both = [first, second];
-    let (_disk, told) = engine.close(rt, &mut both);
+    let (_disk, told) = engine.close(rt, &mut both, &[]);
     assert_eq!(rt; opened, ((0, 0), 0));
     assert_eq!(rt; worked?, [1, 1, 7, 2, 2, 2]);
     assert!(rt; told.is_ok_and(|note| note.len() == 2));

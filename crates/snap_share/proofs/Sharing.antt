@@ -1,9 +1,8 @@
 -- What a commit says of its token alone: the keeper's words, without the keeper.
-use Rattle.std.proofs.Common.{◌≡◌, ⊎_elim, ℕ, ◌+◌, ◌≤◌, ◌==◌, true, List, [], ◌∷◌, ◌++◌, length, Option, Some, None, Result, Ok, Err, refl, sym, ◌∙◌, ap, subst, arith, length-append, IfSome}
+use Rattle.std.proofs.Common.{◌≡◌, ⊎_elim, ℕ, ◌+◌, ◌≤◌, ◌==◌, true, List, [], ◌∷◌, ◌++◌, length, Option, Some, None, Result, Ok, Err, refl, sym, ◌∙◌, ap, subst, arith, length-append}
 use Rattle.std.proofs.lemmas.Bool.Decides.{nat_tests}
 use mathlib.Core.List.{IsPrefix}
 use Rattle.commit_outcomes.specs.declared.outcome.Doubt.TheVariants as doubts
-use Rattle.commit_outcomes.specs.declared.strayed.Strayed.{Strayed}
 use Rattle.doc_types.specs.Commits.{Duplicate, Entry, verdict}
 use Rattle.doc_types.specs.Snapshots.{SnapshotValue, live}
 use Rattle.doc_types.specs.declared.schema.Schema.{Schema}
@@ -16,12 +15,12 @@ use Rattle.step_history.proofs.Counts.{add_up}
 use Rattle.step_line.specs.Lines.{LineValue, entered, settled, with_waiting}
 use Rattle.step_tokens.specs.Tokens.{TokenValue}
 use Rattle.store_steps.specs.Answers.{Becomes}
-use Rattle.store_keep.specs.Commits.{Commits, Ends, IsAfter, IsCommit, IsStray, IsUnsettled, Learns, front_of, strayed_after}
+use Rattle.store_keep.specs.Commits.{Commits, Ends, IsAfter, IsCommit, IsStray, IsUnsettled, Learns, front_of}
 use Rattle.store_keep.specs.declared.fault.CommitFault.{CommitFault}
 use Rattle.store_keep.specs.declared.fault.CommitFault.TheVariants as faults
 use Rattle.store_keep.specs.declared.fault.Committed.{Committed}
 use Rattle.store_keep.proofs.Straying.{counts_alike, seen_within}
-use Rattle.snap_share.specs.Answers.{Advances, Answers, HasContradicted, IsAcknowledged, IsInDoubt, IsNoteOf, IsOverLimit}
+use Rattle.snap_share.specs.Answers.{Advances, Answers, IsAcknowledged, IsInDoubt, IsNoteOf, IsOverLimit}
 
 -- a token of the same index and worker, with so many commits
 same_but : (old new : TokenValue) (made : ℕ) → new.index ≡ old.index → new.worker ≡ old.worker → new.made ≡ made → new ≡ record old { seen = new.seen; made = made }
@@ -47,29 +46,6 @@ own_one worker entry next own = let h : (entry.worker == worker) ≡ true = grin
 -- nothing was done
 pub stays : (schema : Schema) (base : Base) (token : TokenValue) → IsGood schema base token.seen → Advances schema base token token token.made
 stays schema base token good = record { is = refl; seen = prefix_self token.seen; good = good }
-
--- of what a keeper holds after a commit, some token is contradicted too
-pub holds_so : {J : Type 0} (base : ℕ → Base) (line : LineValue) (token : TokenValue) (worker : ℕ) (ops : List TxnOp) (before : ℕ) (held : Option Strayed) (result : Result (Committed J) (CommitFault J)) (new : LineValue) (log : GateLog) (after : TokenValue) (now : ℕ)
-    → Commits {J = J} (base line.index) line token worker ops before result new log after now
-    → IfSome held (HasContradicted (base line.index))
-    → IfSome (strayed_after {J = J} held result) (HasContradicted (base line.index))
-holds_so {J} base line token worker ops before held (Ok made) new log after now commits holds = holds
-holds_so {J} base line token worker ops before held (Err faults.NoMemory) new log after now commits holds = holds
-holds_so {J} base line token worker ops before (Some strayed) (Err (faults.Strayed numbers)) new log after now commits holds = holds
-holds_so {J} base line token worker ops before None (Err (faults.Strayed numbers)) new log after now commits holds = (
-  token,
-  ⊎_elim
-      (λ (stray : IsStray {J = J} (base line.index) line token before (Err (faults.Strayed numbers)) new after now). let same : stray.numbers ≡ numbers = cc (stray.answer) in (line, stray.strays ∙ ap (λ (s : Strayed). Some s) same))
-      (λ rest. ⊎_elim
-      (λ (unsettled : IsUnsettled {J = J} (base line.index) line token before (Err (faults.Strayed numbers)) new after now). ⊎_elim (λ (none : Err (faults.Strayed numbers) ≡ Err faults.NoMemory). absurd (cc (none))) (λ refused. absurd (cc (refused.0))) unsettled.answer)
-      (λ (later : IsAfter {J = J} (base line.index) line token worker ops before (Err (faults.Strayed numbers)) new log after now). absurd later.ends)
-      rest)
-      commits,
-)
-holds_so {J} base line token worker ops before held (Err (faults.Duplicate id note)) new log after now commits holds = holds
-holds_so {J} base line token worker ops before held (Err (faults.Full full note)) new log after now commits holds = holds
-holds_so {J} base line token worker ops before held (Err faults.Refused) new log after now commits holds = holds
-holds_so {J} base line token worker ops before held (Err (faults.InDoubt doubt)) new log after now commits holds = holds
 
 module _ (schema : Schema) (base : Base) (line : LineValue) (token : TokenValue) (worker : ℕ) (ops : List TxnOp) (own : token.worker ≡ worker) (of : token.index ≡ line.index) (begins : IsPrefix token.seen line.history) (counts : token.made ≡ made_by token.worker line.history) where
   -- the token, once it has seen the line's history

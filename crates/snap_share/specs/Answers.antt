@@ -65,10 +65,6 @@ pub record IsOverLimit (base : Base) (ops : List TxnOp) (full : Full) (new : Tok
 abbrev pub Contradicts : Base → TokenValue → Strayed → Type 0
 Contradicts base token numbers = (line : LineValue) × (stray_of base line token ≡ Some numbers)
 
--- so some token did
-abbrev pub HasContradicted : Base → Strayed → Type 0
-HasContradicted base numbers = (token : TokenValue) × Contradicts base token numbers
-
 -- what a commit of these operations says, and what its token is then
 abbrev pub Answers : {J : Type 0} → Schema → Base → TokenValue → List TxnOp → Result (Committed J) (CommitFault J) → TokenValue → Type 0
 Answers {J} schema base old ops (Ok made) new = Advances schema base old new (old.made + 1) × IsNoteOf new made.note × IsAcknowledged {J = J} base old ops made new

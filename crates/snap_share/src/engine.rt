@@ -108,14 +108,16 @@ impl<D: Disk, J: Naming> Engine<D, J> {
     }
 
     /// Ends the engine once its workers have ended: a note of the whole history, which each of its tokens learns, and the disk. It
-    /// waits for those who still read.
+    /// waits for those who still read. `told` has the first contradiction that a commit told each worker, where one did: there is no
+    /// note then, and the first of all is answered again.
     pub fn close<R: Wait>(
         self,
         rt: &R,
         tokens: &mut [Token<J>],
+        told: &[Strayed],
     ) -> (D, Result<Note<J>, Or<Strayed>>)
         requires { AreTokensOf (new_line self.index self.workers) tokens.old }
-        ensures { Closes D.Disk J.schema J.base self.index self.workers tokens.old result.0 result.1 tokens.new }
+        ensures { Closes D.Disk J.schema J.base self.index self.workers told.now tokens.old result.0 result.1 tokens.new }
     {
         let Engine {
             index,
@@ -124,6 +126,6 @@ impl<D: Disk, J: Naming> Engine<D, J> {
             documents: _documents,
             keeper,
         } = self;
-        keeper.into_inner().close(rt, index, workers, tokens)
+        keeper.into_inner().close(rt, index, workers, tokens, told)
     }
 }

@@ -1,11 +1,13 @@
 //! What is under the lock: the keeper, which is sound whenever the lock is free.
 ghost use Rattle.std.specs.Prelude.{◌≡◌, ◌<◌, None};
+ghost use Rattle.std.specs.Bool.{Decides};
 ghost use Rattle.doc_types.specs.Schemas.{IsSchema};
 ghost use Rattle.doc_types.specs.Transactions.{IsTxnOf};
 ghost use Rattle.step_line.specs.Lines.{new_line};
 ghost use Rattle.store_keep.specs.Keepers.{IsSound};
+ghost use Rattle.store_keep.specs.Commits.{strayed_after};
 ghost use Rattle.store_keep.specs.Tellings.{AreTokensOf};
-ghost use Rattle.snap_share.specs.Closings.{Closes};
+ghost use Rattle.snap_share.specs.Closings.{Closes, WasTold};
 ghost use Rattle.snap_share.specs.Answers.{Answers};
 
 use chunk_store::Disk;
@@ -24,18 +26,42 @@ pub(crate) struct Held<D: Disk, J: Naming> {
     /// Of which index it is, and how many workers it knows.
     index: u16,
     workers: u32,
+    /// The first contradiction that a commit answered: the keeper's.
+    strayed: Option<Strayed>,
 }
 
 impl<D: Disk, J: Naming> Model for Held<D, J> {
-    ghost use Rattle.std.specs.Prelude.{◌≡◌, ℕ, IfSome};
+    ghost use Rattle.std.specs.Prelude.{◌≡◌, ℕ};
     ghost use Rattle.store_keep.specs.Keepers.{IsSound};
-    ghost use Rattle.snap_share.specs.Answers.{HasContradicted};
 
     ghost Value = { ℕ };
 
     ghost view = { λ held. held.index };
 
-    ghost invariant = { λ held. (held.index ≡ held.keeper.kept.line.index) × (held.workers ≡ held.keeper.kept.line.workers) × IsSound D.Disk (λ index. J.schema index) (λ index. J.base index) held.keeper × IfSome held.keeper.strayed (HasContradicted (J.base held.index)) };
+    ghost invariant = { λ held. (held.index ≡ held.keeper.kept.line.index) × (held.workers ≡ held.keeper.kept.line.workers) × IsSound D.Disk (λ index. J.schema index) (λ index. J.base index) held.keeper × (held.strayed ≡ held.keeper.strayed) };
+}
+
+/// The contradiction that is held after an answer: the first one.
+fn held_after<J: Naming>(
+    held: Option<Strayed>,
+    answer: &Result<Committed<J>, CommitFault<J>>,
+) -> Option<Strayed>
+    ensures { result ≡ strayed_after held answer.now }
+{
+    match answer {
+        Err(CommitFault::Strayed(numbers)) => held.or(Some(*numbers)),
+        _ => held,
+    }
+}
+
+/// Whether what a keeper holds is what workers were told.
+fn was_told(told: &[Strayed], held: Option<Strayed>) -> bool
+    ensures { Decides result (WasTold told.now held) }
+{
+    match held {
+        Some(numbers) => told.contains(&numbers),
+        None => told.is_empty(),
+    }
 }
 
 impl<D: Disk, J: Naming> Held<D, J> {
@@ -50,12 +76,13 @@ impl<D: Disk, J: Naming> Held<D, J> {
             keeper,
             index,
             workers,
+            strayed: None,
         }
     }
 
     /// Commits a transaction of a worker. That the token is of another index, or of no worker here, can't come, and is answered as
     /// want of memory.
-    #[tactic(auto, using(crate::proofs::Sharing::holds_so, crate::proofs::Sharing::stays))]
+    #[tactic(auto, using(crate::proofs::Sharing::stays))]
     pub(crate) fn commit<R: Wait>(
         &mut self,
         rt: &R,
@@ -73,12 +100,13 @@ impl<D: Disk, J: Naming> Held<D, J> {
             return Err(CommitFault::NoMemory);
         }
         let result = self.keeper.commit(rt, worker, token, txn);
+        self.strayed = held_after(self.strayed, &result);
         let _after = token.len();
         result
     }
 
-    /// Tells all tokens the whole history, and gives the disk back. That it is the keeper of another index can't come, and is
-    /// answered as want of memory.
+    /// Tells all tokens the whole history, and gives the disk back. That it is the keeper of another index, or that what it holds
+    /// isn't what workers were told, can't come, and is answered as want of memory.
     #[tactic(auto, using(crate::proofs::Ending::of_line))]
     pub(crate) fn close<R: Wait>(
         self,
@@ -86,20 +114,22 @@ impl<D: Disk, J: Naming> Held<D, J> {
         index: u16,
         workers: u32,
         tokens: &mut [Token<J>],
+        told: &[Strayed],
     ) -> (D, Result<Note<J>, Or<Strayed>>)
         requires { AreTokensOf (new_line index workers) tokens.old }
-        ensures { Closes D.Disk J.schema J.base index workers tokens.old result.0 result.1 tokens.new }
+        ensures { Closes D.Disk J.schema J.base index workers told.now tokens.old result.0 result.1 tokens.new }
     {
         let Held {
             keeper,
             index: own,
             workers: known,
+            strayed,
         } = self;
         a_crash_between_calls_leaves_the_documents(&keeper);
-        if own != index || known != workers {
+        if own != index || known != workers || !was_told(told, strayed) {
             return (keeper.close(rt), Err(Or::NoMemory));
         }
-        let told = keeper.newest(tokens);
-        (keeper.close(rt), told)
+        let answer = keeper.newest(tokens);
+        (keeper.close(rt), answer)
     }
 }

@@ -48,7 +48,7 @@ pub record IsNext {D J : Type 0} (made : Made D J) (conf : IndexConf) (store : O
 -- made, or what its engine left.
 pub record StopsAt {D J : Type 0} (words : DiskWords D) (schema : ℕ → Schema) (base : ℕ → Base) (made : Made D J) (store : Opened D) (all : List (Ended D J)) : Type 0 where
   pub many : length all ≡ length made.tables.items + 1
-  pub each : (place : ℕ) (ended : Ended D J) → slice_get all place ≡ Some ended → HasEnded words schema base place made.workers [] ended ⊎ ((place ≡ length made.tables.items) × (ended.disk ≡ store.disk))
+  pub each : (place : ℕ) (ended : Ended D J) → slice_get all place ≡ Some ended → HasEnded words schema base place made.workers [] [] ended ⊎ ((place ≡ length made.tables.items) × (ended.disk ≡ store.disk))
 
 -- Engines were made, and there is room for one more.
 pub record CanGoOn {D J : Type 0} (made : Made D J) : Type 0 where

@@ -14,7 +14,7 @@ grow_alike [] = tt
 grow_alike (token ∷ tokens) = (grows_itself token, grow_alike tokens)
 
 pub all_stay : (tokens : TokensValue) → GrowAll tokens tokens
-all_stay tokens = (refl, grow_alike tokens.list)
+all_stay tokens = (refl, grow_alike tokens.list, refl)
 
 -- a worker whose tokens stay
 pub stays : (worker : WorkerValue) → (worker.confs ≡ worker.confs) × GrowAll worker.tokens worker.tokens
