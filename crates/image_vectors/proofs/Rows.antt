@@ -1,7 +1,8 @@
 -- The schema of the tests keeps the limits, and the rows are of it.
-use Rattle.std.proofs.Common.{◌≡◌, List, [], ◌∷◌, refl, arith, All, AllPairs, length}
+use Rattle.std.proofs.Common.{◌≡◌, ◌<◌, List, [], ◌∷◌, refl, arith, All, AllPairs, length}
 use Rattle.std.specs.Prelude.{codes}
 use Rattle.std.specs.Bool.{IsTrue}
+use Rattle.std.proofs.lemmas.List.Kept.{AllPairs-cons}
 use Rattle.std.proofs.lemmas.List.Elements.{All-nil, All-cons}
 use Rattle.doc_types.specs.declared.documents.DocRow.{DocRow}
 use Rattle.doc_types.specs.Documents.{AreRowsOf, IsDocOf}
@@ -25,6 +26,12 @@ no_row = record { ids = λ i j d l h. absurd (omega (arith, h)); docs = All-nil 
 
 pub a_row : (row : DocRow) → IsDocOf example_schema row.doc → AreRowsOf example_schema (row ∷ [])
 a_row row is = record { ids = λ i j d l h. absurd (omega (arith, l, h)); docs = All-cons (λ (r : DocRow). IsDocOf example_schema r.doc) row [] is (All-nil (λ (r : DocRow). IsDocOf example_schema r.doc)) }
+
+pub two_rows : (a b : DocRow) → IsDocOf example_schema a.doc → IsDocOf example_schema b.doc → a.doc.id < b.doc.id → AreRowsOf example_schema (a ∷ b ∷ [])
+two_rows a b is its less = record {
+  ids = AllPairs-cons (λ (r s : DocRow). r.doc.id < s.doc.id) a (b ∷ []) (All-cons (λ (s : DocRow). a.doc.id < s.doc.id) b [] less (All-nil (λ (s : DocRow). a.doc.id < s.doc.id))) (λ i j d l h. absurd (omega (arith, l, h)));
+  docs = All-cons (λ (r : DocRow). IsDocOf example_schema r.doc) a (b ∷ []) is (All-cons (λ (r : DocRow). IsDocOf example_schema r.doc) b [] its (All-nil (λ (r : DocRow). IsDocOf example_schema r.doc)));
+}
 
 pub written : (rows : List DocRow) → AreRowsOf example_schema rows → IsWritten example_schema rows 1 0
 written rows of = record { limits = is_schema; of = of; fields_n = refl; attrs_n = refl }

@@ -1,7 +1,12 @@
+pub mod Beginnings
 pub mod Marked
-pub mod Gathered
 pub mod Grouped
+pub mod Columned
+pub mod Occurring
+pub mod Ordered
+pub mod Meeting
+pub mod ByWord
 pub mod Listed
 pub mod Tabled
-pub mod Columned
 pub mod Assembled
+pub mod Lent

@@ -1,119 +1,220 @@
--- The tree of all places, listed, is the words of the rows with their places.
-use Rattle.std.proofs.Common.{◌≡◌, ℕ, ◌+◌, ◌<◌, ◌≤◌, ◌^◌, suc, zero, List, [], ◌∷◌, Bool, true, false, cond, Option, Some, None, refl, sym, ap, subst, ◌∙◌, length, get_or, map, arith, All, AllPairs, slice_get, ⊎_elim, Vec, Global}
-use Rattle.std.specs.List.{position, position_from}
+-- Sorted occurrences by their words are all words of the rows, ascending, each with its places.
+use Rattle.std.proofs.Common.{◌≡◌, ℕ, ◌+◌, ◌<◌, ◌≤◌, ◌^◌, suc, zero, List, [], ◌∷◌, Bool, true, false, cond, Option, Some, None, refl, sym, ap, subst, ◌∙◌, length, get_or, map, arith, All, AllPairs}
+use Rattle.std.specs.List.{filter, enumerate_from, position, position_from}
+use Rattle.std.specs.List.Sorted.{IsSortedBy}
 use Rattle.std.specs.Str.{bytes_eq}
-use Rattle.std.specs.BTreeMap.{BTreeMap, IsOrdered, get, is_at, keys}
 use Rattle.std.specs.Cmp.Lexicographic.{slice_cmp}
-use Rattle.std.specs.Ordering.{nat_cmp}
-use Rattle.std.specs.Option.{option_map}
-use Rattle.std.specs.declared.cmp.Ordering.TheVariants.{Less}
-use Rattle.std.proofs.Math.ListN.{get_or-map}
-use Rattle.std.proofs.lemmas.List.{length-map}
-use Rattle.std.proofs.lemmas.Option.{slice_get_cases, slice_get-map, get_or_from_slice_get}
-use Rattle.std.proofs.lemmas.Cmp.{nat_list_cmp_total}
-use Rattle.std.proofs.lemmas.Map.Entries.{btree_map_get_place, place_from_lookup}
-use Rattle.std.proofs.lemmas.Map.Keys.{Less-from_sorted}
+use Rattle.std.specs.Ordering.{is_lt, nat_cmp, ordering_reverse}
+use Rattle.std.specs.declared.cmp.Ordering.{Ordering}
+use Rattle.std.specs.declared.cmp.Ordering.TheVariants.{Less, Equal, Greater}
+use Rattle.std.proofs.lemmas.Cmp.{nat_list_cmp_total, tied_itself}
+use Rattle.std.proofs.lemmas.List.Elements.{All-nil, All-cons, All-head, All-tail}
+use Rattle.std.proofs.lemmas.List.Kept.{AllPairs-cons}
+use Rattle.std.proofs.lemmas.Iterator.Adapters.{position_from-zero}
 use Rattle.std.proofs.lemmas.Map.Text.{is_eq-slice_cmp}
 use Rattle.std.proofs.lemmas.Slice.Eq.{bytes_eq-Decides}
-use Rattle.std.proofs.lemmas.Iterator.Adapters.{position_from-zero}
+use Rattle.doc_types.specs.declared.documents.Doc.{Doc}
 use Rattle.doc_types.specs.declared.documents.DocRow.{DocRow}
-use Rattle.doc_types.specs.Chunks.{rows_with}
+use Rattle.doc_types.specs.Chunks.{has_word, hits_of, rows_with}
 use Rattle.row_laws.specs.AlikeRows.{postings}
 use Rattle.chunk_image.proofs.RowsPosted.{HasFields}
 use Rattle.chunk_image.proofs.WordsTold.{many}
-use Rattle.image_write.specs.declared.gathering.WordPlaces.{WordPlaces}
-use Rattle.image_write.specs.steps.Gathering.{Place, Entry, AreGathered, ArePostable, IsGathered, grouped, places_in, places_of, some_of}
+use Rattle.image_write.specs.declared.gathering.Occurrence.{Occurrence}
+use Rattle.image_write.specs.Written.{row_of}
+use Rattle.image_write.specs.steps.Gathering.{Place, Entry, WordPlaces, AreGathered, ArePostable, IsGathered, grouped, places_of}
+use Rattle.image_write.specs.steps.Places.{AreInOrder, by_word, is_at, place_at, with_place, word_at}
+use Rattle.image_write.proofs.ByWord.{apart, same}
 use Rattle.image_write.proofs.Grouped.{grouped_places, postable}
 
-some_is : {X : Type 0} (xs ys : List X) → some_of xs ≡ Some ys → (ys ≡ xs) × (0 < length ys)
-some_is [] ys e = cc
-some_is (x ∷ xs) ys e = let same : x ∷ xs ≡ ys = cc in (sym same, subst (λ zs. 0 < length zs) same (omega arith))
+-- the words of one order
+abbrev before : List ℕ → List ℕ → Type 0
+before v w = slice_cmp nat_cmp v w ≡ Less
 
-none_is : {X : Type 0} (xs : List X) → some_of xs ≡ None → xs ≡ []
-none_is [] e = refl
-none_is (x ∷ xs) e = cc
+less_apart : (v w : List ℕ) → before v w → bytes_eq v w ≡ false
+less_apart v w less = apart v w (λ e. clash (sym (ap (slice_cmp nat_cmp v) e ∙ refl) ∙ tied_itself nat_list_cmp_total v) less)
+  where
+    clash : {o : Ordering} → o ≡ Equal → o ≡ Less → ⊥
+    clash e l = cc
 
-passes : {X : Type 0} (p : X → Bool) (xs : List X) (j : ℕ) (x : X) (i : ℕ) → slice_get xs j ≡ Some x → p x ≡ true → position_from p i xs ≡ None → ⊥
-passes p [] j x i at hit missed = cc
-passes p (y ∷ ys) zero x i at hit missed =
-    let same : y ≡ x = cc in
-    let here : position_from p i (y ∷ ys) ≡ Some i = rw (ap p same ∙ hit) refl in
-    cc
-passes p (y ∷ ys) (suc j) x i at hit missed =
-    elim (p y) as (λ b. cond b (Some i) (position_from p (i + 1) ys) ≡ None → ⊥) [
-      | true ↦ λ m. cc
-      | false ↦ λ m. passes p ys j x (i + 1) at hit m
-    ] missed
+turned_apart : (v w : List ℕ) → bytes_eq v w ≡ false → bytes_eq w v ≡ false
+turned_apart v w e = apart w v (λ f. clash (same v w (sym f)) e)
+  where
+    clash : {b : Bool} → b ≡ true → b ≡ false → ⊥
+    clash t f = cc
 
--- entries have places
-no_entry : (least : ℕ) (es : List Entry) → ArePostable least es → places_of es ≡ [] → es ≡ []
-no_entry least [] fits e = refl
-no_entry least ((n, []) ∷ es) fits e = absurd (omega (arith, fits.0.are.some))
-no_entry least ((n, h ∷ hs) ∷ es) fits e = cc
+-- a word that isn't after another one, and isn't that, is before it
+then_before : (v w : List ℕ) → is_lt (slice_cmp nat_cmp w v) ≡ false → bytes_eq v w ≡ false → before v w
+then_before v w late ne = by_cases (slice_cmp nat_cmp v w) refl
+  where
+    by_cases : (o : Ordering) → slice_cmp nat_cmp v w ≡ o → before v w
+    by_cases Less e = e
+    by_cases Equal e =
+        let eq : bytes_eq v w ≡ true = sym (is_eq-slice_cmp v w) ∙ ap Rattle.std.specs.Ordering.is_eq e in
+        absurd cc
+    by_cases Greater e =
+        let turned : slice_cmp nat_cmp w v ≡ Less = nat_list_cmp_total.antisymm w v ∙ ap ordering_reverse e in
+        let lt : is_lt (slice_cmp nat_cmp w v) ≡ true = ap is_lt turned in
+        absurd cc
 
-some_entry : (es : List Entry) → 0 < length (places_of es) → 0 < length es
-some_entry [] some = some
-some_entry (e ∷ es) some = omega arith
+module _ (docs : List Doc) where
+  -- what the entries are of these occurrences
+  abbrev IsAll : List Occurrence → WordPlaces → Type 0
+  IsAll os entry = (entry.places ≡ map (place_at docs) (filter (is_at docs entry.word) os)) × (1 ≤ length entry.places)
 
-empty : {X : Type 0} (xs : List X) → length xs ≤ 0 → xs ≡ []
-empty [] few = refl
-empty (x ∷ xs) few = absurd (omega (arith, few))
+  record AreAll (os : List Occurrence) (entries : List WordPlaces) : Type 0 where
+    pub ascend : AllPairs (λ entry later. before entry.word later.word) entries
+    pub each : All (IsAll os) entries
+    pub missed : (w : List ℕ) → All (λ entry. bytes_eq entry.word w ≡ false) entries → filter (is_at docs w) os ≡ []
 
-abbrev entry_of : List ℕ × Vec Place Global → WordPlaces
-entry_of e = record { word = e.0; places = e.1.items }
+  passed : (o : Occurrence) (os : List Occurrence) (w : List ℕ) → bytes_eq (word_at docs o) w ≡ false → filter (is_at docs w) (o ∷ os) ≡ filter (is_at docs w) os
+  passed o os w e = ap (λ b. cond b (o ∷ filter (is_at docs w) os) (filter (is_at docs w) os)) e
 
-module _ (rows : List DocRow) (m : BTreeMap (List ℕ) (Vec Place Global)) (up : IsOrdered (slice_cmp nat_cmp) m) (few : length rows < 2 ^ 32) (fields : All HasFields rows)
-    (has : (w : List ℕ) → places_in m w ≡ some_of (places_of (postings w 0 rows))) where
-  abbrev list : List WordPlaces
-  list = map entry_of m.entries
+  found : (o : Occurrence) (os : List Occurrence) → filter (is_at docs (word_at docs o)) (o ∷ os) ≡ o ∷ filter (is_at docs (word_at docs o)) os
+  found o os = ap (λ b. cond b (o ∷ filter (is_at docs (word_at docs o)) os) (filter (is_at docs (word_at docs o)) os)) (same (word_at docs o) (word_at docs o) refl)
 
-  fits : (w : List ℕ) → ArePostable 0 (postings w 0 rows)
-  fits w = postable w 0 rows (omega (arith, few)) fields
+  later : (o : Occurrence) (os : List Occurrence) (es : List WordPlaces) → All (λ entry. before (word_at docs o) entry.word) es → All (IsAll os) es → All (IsAll (o ∷ os)) es
+  later o os es less each k d h =
+      let its = each k d h in
+      (its.0 ∙ ap (map (place_at docs)) (sym (passed o os _ (less_apart (word_at docs o) _ (less k d h)))), its.1)
 
-  entry : (k : ℕ) (x : List ℕ × Vec Place Global) → slice_get m.entries k ≡ Some x → IsGathered rows (entry_of x)
-  entry k x at =
-      let found : get (slice_cmp nat_cmp) m x.0 ≡ Some x.1 = btree_map_get_place nat_list_cmp_total m k x.0 x.1 up at in
-      let its = some_is (places_of (postings x.0 0 rows)) x.1.items (sym (has x.0) ∙ ap (option_map (λ (v : Vec Place Global). v.items)) found) in
-      let is : grouped x.1.items ≡ postings x.0 0 rows = ap grouped its.0 ∙ grouped_places 0 (postings x.0 0 rows) (fits x.0) in
-      record {
-        is = is;
-        some = omega (arith, some_entry (postings x.0 0 rows) (subst (λ ps. 0 < length ps) its.0 its.1), many x.0 rows);
-        fits = subst (ArePostable 0) (sym is) (fits x.0);
-      }
+  apart_from : (w : List ℕ) (es : List WordPlaces) → All (λ entry. before w entry.word) es → All (λ entry. bytes_eq entry.word w ≡ false) es
+  apart_from w es less k d h = turned_apart w _ (less_apart w _ (less k d h))
 
-  each : All (IsGathered rows) list
-  each k d h =
-      ⊎_elim
-      (λ there.
-      let got : get_or list k d ≡ entry_of there.0 = get_or_from_slice_get list k (entry_of there.0) d (slice_get-map entry_of m.entries k ∙ ap (option_map entry_of) there.2) in
-      subst (IsGathered rows) (sym got) (entry k there.0 there.2))
-      (λ past. absurd (omega (arith, past.0, length-map m.entries entry_of, h)))
-      (slice_get_cases m.entries k).1
+  -- the first word of entries
+  abbrev Begins : List ℕ → List WordPlaces → Type 0
+  Begins word [] = ⊥
+  Begins word (e ∷ es) = e.word ≡ word
 
-  others : (word : List ℕ) → (o : Option (Vec Place Global)) → get (slice_cmp nat_cmp) m word ≡ o → position (λ entry. bytes_eq entry.word word) list ≡ None → rows_with word rows ≡ []
-  others word None e missed =
-      let none : postings word 0 rows ≡ [] = no_entry 0 (postings word 0 rows) (fits word) (none_is (places_of (postings word 0 rows)) (sym (has word) ∙ ap (option_map (λ (v : Vec Place Global). v.items)) e)) in
-      empty (rows_with word rows) (omega (arith, many word rows, ap length none))
-  others word (Some v) e missed =
-      let place = place_from_lookup (is_at (slice_cmp nat_cmp word)) m.entries v e in
-      let hit : bytes_eq place.1 word ≡ true = (bytes_eq-Decides place.1 word).1 (sym ((bytes_eq-Decides word place.1).0 (sym (is_eq-slice_cmp word place.1) ∙ place.3))) in
-      absurd
-      (passes (λ (entry : WordPlaces). bytes_eq entry.word word) list place.0 (entry_of (place.1, v)) 0
-      (slice_get-map entry_of m.entries place.0 ∙ ap (option_map entry_of) place.2) hit
-      (sym (position_from-zero (λ (entry : WordPlaces). bytes_eq entry.word word) list) ∙ missed))
+  begins : (word : List ℕ) (p : Place) (es : List WordPlaces) → Begins word (with_place word p es)
+  begins word p [] = refl
+  begins word p (e ∷ es) =
+      elim (bytes_eq word e.word) as (λ b. Begins word (cond b (record { word = word; places = p ∷ e.places } ∷ es) (record { word = word; places = p ∷ [] } ∷ e ∷ es))) [
+        | true ↦ refl
+        | false ↦ refl
+      ]
 
-  words_are : (es : List (List ℕ × Vec Place Global)) → map (λ entry. entry.word) (map entry_of es) ≡ map (λ e. e.0) es
-  words_are [] = refl
-  words_are (e ∷ es) = ap (λ words. e.0 ∷ words) (words_are es)
+  one_more : (o : Occurrence) (os : List Occurrence) (es : List WordPlaces) → (e : WordPlaces) → is_lt (slice_cmp nat_cmp e.word (word_at docs o)) ≡ false → AreAll os (e ∷ es) → AreAll (o ∷ os) (with_place (word_at docs o) (place_at docs o) (e ∷ es))
+  one_more o os es e late are =
+      let w = word_at docs o in
+      let p = place_at docs o in
+      elim (bytes_eq w e.word) as (λ b. bytes_eq w e.word ≡ b → AreAll (o ∷ os) (cond b (record { word = w; places = p ∷ e.places } ∷ es) (record { word = w; places = p ∷ [] } ∷ e ∷ es))) [
+        | true ↦ λ eq.
+            let one : w ≡ e.word = (bytes_eq-Decides w e.word).0 eq in
+            let behind : All (λ entry. before w entry.word) es = subst (λ v. All (λ entry. before v entry.word) es) (sym one) (first_before e es are.ascend) in
+            let own = All-head (IsAll os) e es are.each in
+            record {
+              ascend = AllPairs-cons (λ entry later. before entry.word later.word) (record { word = w; places = p ∷ e.places }) es behind (pairs_tail e es are.ascend);
+              each = All-cons (IsAll (o ∷ os)) (record { word = w; places = p ∷ e.places }) es
+                  (ap (λ l. p ∷ l) (own.0 ∙ ap (λ v. map (place_at docs) (filter (is_at docs v) os)) (sym one)) ∙ ap (map (place_at docs)) (sym (found o os)), omega arith)
+                  (later o os es behind (All-tail (IsAll os) e es are.each));
+              missed = λ v none.
+                  let not_own : bytes_eq w v ≡ false = All-head (λ entry. bytes_eq entry.word v ≡ false) (record { word = w; places = p ∷ e.places }) es none in
+                  passed o os v not_own ∙ are.missed v (All-cons (λ entry. bytes_eq entry.word v ≡ false) e es (subst (λ u. bytes_eq u v ≡ false) one not_own) (All-tail (λ entry. bytes_eq entry.word v ≡ false) (record { word = w; places = p ∷ e.places }) es none));
+            }
+        | false ↦ λ ne.
+            let less : before w e.word = then_before w e.word late ne in
+            let behind : All (λ entry. before w entry.word) (e ∷ es) = All-cons (λ entry. before w entry.word) e es less (λ k d h. nat_list_cmp_total.trans w e.word _ less (first_before e es are.ascend k d h)) in
+            record {
+              ascend = AllPairs-cons (λ entry later. before entry.word later.word) (record { word = w; places = p ∷ [] }) (e ∷ es) behind are.ascend;
+              each = All-cons (IsAll (o ∷ os)) (record { word = w; places = p ∷ [] }) (e ∷ es)
+                  (ap (λ l. p ∷ map (place_at docs) l) (sym (are.missed w (apart_from w (e ∷ es) behind))) ∙ ap (map (place_at docs)) (sym (found o os)), omega arith)
+                  (later o os (e ∷ es) behind are.each);
+              missed = λ v none.
+                  let not_own : bytes_eq w v ≡ false = All-head (λ entry. bytes_eq entry.word v ≡ false) (record { word = w; places = p ∷ [] }) (e ∷ es) none in
+                  passed o os v not_own ∙ are.missed v (All-tail (λ entry. bytes_eq entry.word v ≡ false) (record { word = w; places = p ∷ [] }) (e ∷ es) none);
+            }
+      ] refl
+    where
+      first_before : (e : WordPlaces) (es : List WordPlaces) → AllPairs (λ entry later. before entry.word later.word) (e ∷ es) → All (λ entry. before e.word entry.word) es
+      first_before e es up k d h = up 0 (suc k) d (omega arith) (omega (arith, h))
 
-  key_at : (k : ℕ) (d : WordPlaces) → get_or (keys m) k d.word ≡ (get_or list k d).word
-  key_at k d = ap (λ words. get_or words k d.word) (sym (words_are m.entries)) ∙ get_or-map (λ (entry : WordPlaces). entry.word) list k d
+      pairs_tail : (e : WordPlaces) (es : List WordPlaces) → AllPairs (λ entry later. before entry.word later.word) (e ∷ es) → AllPairs (λ entry later. before entry.word later.word) es
+      pairs_tail e es up i j d low high = up (suc i) (suc j) d (omega (arith, low)) (omega (arith, high))
 
-  ascend : AllPairs (λ entry later. slice_cmp nat_cmp entry.word later.word ≡ Less) list
-  ascend i j d l h =
-      let long : length (keys m) ≡ length list = ap length (sym (words_are m.entries)) ∙ length-map list (λ (entry : WordPlaces). entry.word) in
-      let less : slice_cmp nat_cmp (get_or (keys m) i d.word) (get_or (keys m) j d.word) ≡ Less = Less-from_sorted (slice_cmp nat_cmp) (keys m) i j d.word up l (omega (arith, long, h)) in
-      rw (← key_at i d, ← key_at j d) less
+  abbrev AreSorted : List Occurrence → Type 0
+  AreSorted = IsSortedBy (λ a b. is_lt (slice_cmp nat_cmp (word_at docs a) (word_at docs b)))
 
-  pub gathered : AreGathered rows list
-  gathered = record { ascend = ascend; each = each; others = λ word. others word (get (slice_cmp nat_cmp) m word) refl }
+  sorted_tail : (o : Occurrence) (os : List Occurrence) → AreSorted (o ∷ os) → AreSorted os
+  sorted_tail o os up k d low high =
+      subst (λ n. is_lt (slice_cmp nat_cmp (word_at docs (get_or (o ∷ os) n d)) (word_at docs (get_or os k d))) ≡ false) (next k) (up (suc k) d (omega arith) (omega (arith, high)))
+    where
+      next : (k : ℕ) → suc k + 1 ≡ suc (k + 1)
+      next k = omega arith
+
+  are_all : (os : List Occurrence) → AreSorted os → AreAll os (by_word docs os)
+  are_all [] up = record { ascend = λ i j d l h. absurd (omega (arith, h)); each = λ k d h. absurd (omega (arith, h)); missed = λ w none. refl }
+  are_all (o ∷ []) up = record {
+    ascend = λ i j d l h. absurd (omega (arith, l, h));
+    each = All-cons (IsAll (o ∷ [])) (record { word = word_at docs o; places = place_at docs o ∷ [] }) [] (ap (map (place_at docs)) (sym (found o [])), omega arith) (All-nil (IsAll (o ∷ [])));
+    missed = λ w none. passed o [] w (All-head (λ entry. bytes_eq entry.word w ≡ false) (record { word = word_at docs o; places = place_at docs o ∷ [] }) [] none);
+  }
+  are_all (o ∷ p ∷ os) up =
+      next (by_word docs (p ∷ os)) (begins (word_at docs p) (place_at docs p) (by_word docs os)) (are_all (p ∷ os) (sorted_tail o (p ∷ os) up))
+    where
+      next : (es : List WordPlaces) → Begins (word_at docs p) es → AreAll (p ∷ os) es → AreAll (o ∷ p ∷ os) (with_place (word_at docs o) (place_at docs o) es)
+      next [] first are = absurd first
+      next (e ∷ es) first are =
+          one_more o (p ∷ os) es e (subst (λ v. is_lt (slice_cmp nat_cmp v (word_at docs o)) ≡ false) (sym first) (up 0 o (omega arith) (omega arith))) are
+
+  -- rows of these documents have the same postings, whatever commits put them
+  same_postings : (w : List ℕ) (n : ℕ) (rows : List DocRow) → postings w n (map (λ doc. row_of doc 0) (map (λ (row : DocRow). row.doc) rows)) ≡ postings w n rows
+  same_postings w n [] = refl
+  same_postings w n (r ∷ rs) =
+      let entry : ℕ × DocRow → Entry = λ e. (e.0, hits_of w e.1) in
+      let has : ℕ × DocRow → Bool = λ e. has_word w e.1 in
+      let plain = map (λ doc. row_of doc 0) (map (λ (row : DocRow). row.doc) rs) in
+      elim (has_word w r) as (λ b. map entry (cond b ((n, row_of r.doc 0) ∷ filter has (enumerate_from (n + 1) plain)) (filter has (enumerate_from (n + 1) plain))) ≡ map entry (cond b ((n, r) ∷ filter has (enumerate_from (n + 1) rs)) (filter has (enumerate_from (n + 1) rs)))) [
+        | true ↦ ap (λ l. (n, hits_of w r) ∷ l) (same_postings w (n + 1) rs)
+        | false ↦ same_postings w (n + 1) rs
+      ]
+
+  -- entries have places
+  no_entry : (least : ℕ) (es : List Entry) → ArePostable least es → places_of es ≡ [] → es ≡ []
+  no_entry least [] fits e = refl
+  no_entry least ((n, []) ∷ es) fits e = absurd (omega (arith, fits.0.are.some))
+  no_entry least ((n, h ∷ hs) ∷ es) fits e = cc
+
+  some_entry : (es : List Entry) → 0 < length (places_of es) → 0 < length es
+  some_entry [] some = some
+  some_entry (e ∷ es) some = omega arith
+
+  empty : {X : Type 0} (xs : List X) → length xs ≤ 0 → xs ≡ []
+  empty [] few = refl
+  empty (x ∷ xs) few = absurd (omega (arith, few))
+
+  none_is : {X : Type 0} (p : X → Bool) (i : ℕ) (xs : List X) → position_from p i xs ≡ None → All (λ x. p x ≡ false) xs
+  none_is p i [] e = λ k d h. absurd (omega (arith, h))
+  none_is p i (x ∷ xs) e =
+      elim (p x) as (λ b. p x ≡ b → cond b (Some i) (position_from p (i + 1) xs) ≡ None → All (λ y. p y ≡ false) (x ∷ xs)) [
+        | true ↦ λ _ h. absurd cc
+        | false ↦ λ here h. All-cons (λ y. p y ≡ false) x xs here (none_is p (i + 1) xs h)
+      ] refl e
+
+  pub gathered : (rows : List DocRow) (places : List Occurrence) → map (λ (row : DocRow). row.doc) rows ≡ docs → AreInOrder docs places → length rows < 2 ^ 32 → All HasFields rows → AreGathered rows (by_word docs places)
+  gathered rows places of order few fields = record {
+    ascend = all.ascend;
+    each = λ k d h. entry _ (all.each k d h);
+    others = λ word none.
+        let missed : filter (is_at docs word) places ≡ [] = all.missed word (none_is (λ entry. bytes_eq entry.word word) 0 (by_word docs places) (sym (position_from-zero (λ (entry : WordPlaces). bytes_eq entry.word word) (by_word docs places)) ∙ none)) in
+        let posted : postings word 0 rows ≡ [] = no_entry 0 (postings word 0 rows) (fits word) (sym (each word) ∙ ap (map (place_at docs)) missed) in
+        empty (rows_with word rows) (omega (arith, many word rows, ap length posted));
+  }
+    where
+      all : AreAll places (by_word docs places)
+      all = are_all places order.ascend
+
+      fits : (w : List ℕ) → ArePostable 0 (postings w 0 rows)
+      fits w = postable w 0 rows (omega (arith, few)) fields
+
+      each : (w : List ℕ) → map (place_at docs) (filter (is_at docs w) places) ≡ places_of (postings w 0 rows)
+      each w = order.each w ∙ ap (λ ds. places_of (postings w 0 (map (λ doc. row_of doc 0) ds))) (sym of) ∙ ap places_of (same_postings w 0 rows)
+
+      entry : (e : WordPlaces) → IsAll places e → IsGathered rows e
+      entry e its =
+          let placed : e.places ≡ places_of (postings e.word 0 rows) = its.0 ∙ each e.word in
+          let is : grouped e.places ≡ postings e.word 0 rows = ap grouped placed ∙ grouped_places 0 (postings e.word 0 rows) (fits e.word) in
+          record {
+            is = is;
+            some = omega (arith, some_entry (postings e.word 0 rows) (omega (arith, its.1, ap length placed)), many e.word rows);
+            fits = subst (ArePostable 0) (sym is) (fits e.word);
+          }

@@ -1,6 +1,8 @@
 -- the marks of a field and of a span
 pub mod Marking
--- how the places of words are gathered and grouped
+-- words with their places, and how these are grouped
 pub mod Gathering
--- the header
-pub mod Parts
+-- the first bytes of a word
+pub mod Heads
+-- occurrences of words
+pub mod Places

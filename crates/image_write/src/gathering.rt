@@ -1,112 +1,146 @@
-//! The places of each word, gathered row by row in a tree by words: one list of places a word, in the order of rows, fields and
-//! positions.
-ghost use Rattle.std.specs.Prelude.{◌≡◌, ◌<◌, ◌^◌, ℕ, List, [], ◌∷◌, OnOk, IfOk, All, length, map, if◌then◌else◌};
-ghost use Rattle.std.specs.BTreeMap.{IsOrdered};
-ghost use Rattle.std.specs.Str.{bytes_eq};
+//! The words of some documents, each at its places: every occurrence of a word, sorted by the words.
+//!
+//! An occurrence takes 16 bytes, and tells its word by the place where that stands; nothing is copied. The sort is stable, so that
+//! the places of one word stay in the order of rows, fields and positions, in which they are met.
+ghost use Rattle.std.specs.Prelude.{◌≡◌, ◌<◌, ◌^◌, ◌++◌, ℕ, List, All, OnOk, IfOk, length, map};
+ghost use Rattle.std.specs.Option.{option_copied};
 ghost use Rattle.std.specs.Ordering.{nat_cmp};
 ghost use Rattle.std.specs.Cmp.Lexicographic.{slice_cmp};
-ghost use Rattle.doc_types.specs.Chunks.{hits_of, positions_of};
-ghost use Rattle.doc_types.specs.Documents.{AreRowsOf};
-ghost use Rattle.doc_types.specs.Schemas.{IsSchema};
-ghost use Rattle.doc_types.specs.declared.schema.Schema.{Schema};
-ghost use Rattle.row_laws.specs.AlikeRows.{postings};
-ghost use Rattle.image_write.specs.steps.Gathering.{AreGathered, grown, places_in, places_of, some_of};
+ghost use Rattle.doc_types.specs.declared.documents.Doc.{Doc as AnyDoc};
+ghost use Rattle.image_write.specs.steps.Heads.{IsRead};
+ghost use Rattle.image_write.specs.steps.Places.{AreFew, AreInOrder, HasFewWords, doc_places, docs_places, field_places, order, position_at, token_at, word_at};
 
-use doc_types::{DocRow, FieldTokens};
-use srch_base::{Items, NoMemory, Word};
+use crate::heads::{head_of, tells};
+use crate::lending::LendsDoc;
+use doc_types::{Doc, FieldTokens, TokenWord};
+use srch_base::NoMemory;
 use std::alloc::Global;
-use std::collections::BTreeMap;
+use std::cmp::Ordering;
 
-/// A place of a word: its row, and its field and position there.
-pub(crate) type Place = (u32, (u16, u32));
-
-/// A word with its places, ascending.
-#[derive(Drop)]
-pub(crate) struct WordPlaces {
-    pub(crate) word: Word,
-    pub(crate) places: Items<Place>,
+/// Where a word stands in some documents.
+#[derive(Clone, Copy)]
+pub(crate) struct Occurrence {
+    /// The word's first seven bytes and its length, as a number.
+    pub(crate) head: u64,
+    /// The number of its document.
+    pub(crate) row: u32,
+    /// The number of its field there.
+    pub(crate) field: u16,
+    /// Which of the field's words it is, from 0.
+    pub(crate) token: u16,
 }
 
-/// The places of each word of some rows, by the words.
-pub(crate) fn gather(alloc: Global, rows: &[DocRow]) -> Result<Vec<WordPlaces>, NoMemory>
+/// All occurrences of words in some documents, by their words.
+pub(crate) fn gather<R: LendsDoc>(alloc: Global, rows: &[R]) -> Result<Vec<Occurrence>, NoMemory>
     requires few { length rows.now < 2 ^ 32 }
-    requires rows { (schema : Schema) × IsSchema schema × AreRowsOf schema rows.now }
-    ensures { IfOk result (λ words. AreGathered rows.now words.items) }
+    requires fields { All AreFew (map R.lent rows.now) }
+    ensures { IfOk result (λ places. AreInOrder (map R.lent rows.now) places.items) }
 {
-    let gathered = gather_rows(alloc, rows)?;
-    let words = listed(alloc, gathered)?;
-    Ok(words)
+    let mut places = Vec::new(alloc);
+    add_rows(rows, &mut places)?;
+    places.sort_by(|a, b| order_of(rows, a, b))?;
+    Ok(places)
 }
 
-fn gather_rows(alloc: Global, rows: &[DocRow]) -> Result<BTreeMap<Word, Vec<Place>>, NoMemory>
+fn add_rows<R: LendsDoc>(rows: &[R], places: &mut Vec<Occurrence>) -> Result<(), NoMemory>
     requires few { length rows.now < 2 ^ 32 }
-    requires fields { All (λ row. length row.doc.fields < 2 ^ 16) rows.now }
-    ensures { IfOk result (λ gathered. (w : List ℕ) → places_in gathered w ≡ some_of (places_of (postings w 0 rows.now))) }
+    requires fields { All AreFew (map R.lent rows.now) }
+    ensures places { OnOk result (places.new.items ≡ places.old.items ++ docs_places 0 (map R.lent rows.now)) }
+    ensures bytes { OnOk result (All (λ doc. All (λ tokens. All (λ token. IsRead token.word) tokens.words) doc.fields) (map R.lent rows.now)) }
 {
-    let mut gathered = BTreeMap::new(alloc);
     for (number, row) in rows.iter().enumerate() {
-        add_row(alloc, number as u32, row, &mut gathered)?;
+        add_doc(number as u32, row.doc(), places)?;
     }
-    Ok(gathered)
+    Ok(())
 }
 
-/// The words of a tree in their order, each with its places.
-fn listed(alloc: Global, gathered: BTreeMap<Word, Vec<Place>>) -> Result<Vec<WordPlaces>, NoMemory>
-    ensures entries { IfOk result (λ words. words.items ≡ map (λ e. record { word = e.0; places = e.1.items }) gathered.entries) }
-    ensures ordered { IsOrdered (slice_cmp nat_cmp) gathered }
+fn add_doc(row: u32, doc: &Doc, places: &mut Vec<Occurrence>) -> Result<(), NoMemory>
+    requires { AreFew doc.now }
+    ensures places { OnOk result (places.new.items ≡ places.old.items ++ doc_places row 0 doc.now.fields) }
+    ensures bytes { OnOk result (All (λ tokens. All (λ token. IsRead token.word) tokens.words) doc.now.fields) }
 {
-    let entries = gathered.into_iter().map(|(word, places)| WordPlaces {
-        word,
-        places: Items::new(places),
-    });
-    Ok(entries.collect(alloc)?)
-}
-
-/// Adds the places of a row's words.
-fn add_row(
-    alloc: Global,
-    number: u32,
-    row: &DocRow,
-    gathered: &mut BTreeMap<Word, Vec<Place>>,
-) -> Result<(), NoMemory>
-    requires { length row.now.doc.fields < 2 ^ 16 }
-    ensures { OnOk result ((w : List ℕ) → places_in gathered.new w ≡ grown (places_in gathered.old w) (map (λ hit. (number, hit)) (hits_of w row.now))) }
-{
-    for (field, tokens) in row.doc.fields.as_slice().iter().enumerate() {
-        add_field(alloc, number, field as u16, tokens, gathered)?;
+    for (field, tokens) in doc.fields.as_slice().iter().enumerate() {
+        add_field(row, field as u16, tokens, places)?;
     }
     Ok(())
 }
 
 fn add_field(
-    alloc: Global,
     row: u32,
     field: u16,
     tokens: &FieldTokens,
-    gathered: &mut BTreeMap<Word, Vec<Place>>,
+    places: &mut Vec<Occurrence>,
 ) -> Result<(), NoMemory>
-    ensures { OnOk result ((w : List ℕ) → places_in gathered.new w ≡ grown (places_in gathered.old w) (map (λ position. (row, (field, position))) (positions_of w tokens.now))) }
+    requires { HasFewWords tokens.now }
+    ensures places { OnOk result (places.new.items ≡ places.old.items ++ field_places row field 0 tokens.now.words) }
+    ensures bytes { OnOk result (All (λ token. IsRead token.word) tokens.now.words) }
 {
-    for token in tokens.words.as_slice() {
-        add_place(alloc, &token.word, (row, (field, token.position)), gathered)?;
+    for (number, token) in tokens.words.as_slice().iter().enumerate() {
+        places.push(Occurrence {
+            head: head_of(token.word.as_bytes()),
+            row,
+            field,
+            token: number as u16,
+        })?;
     }
     Ok(())
 }
 
-/// Adds a place of a word. A word is copied where it has its first place.
-fn add_place(
-    alloc: Global,
-    word: &Word,
-    place: Place,
-    gathered: &mut BTreeMap<Word, Vec<Place>>,
-) -> Result<(), NoMemory>
-    ensures { OnOk result ((w : List ℕ) → places_in gathered.new w ≡ grown (places_in gathered.old w) (if bytes_eq word.now w then place ∷ [] else [])) }
+/// How two occurrences stand to one another by their words, which are looked up where their heads are equal and don't tell them.
+#[inline]
+#[tactic(auto, using(crate::proofs::Ordered::order_told, crate::proofs::Ordered::order_seen))]
+fn order_of<R: LendsDoc>(rows: &[R], a: &Occurrence, b: &Occurrence) -> Ordering
+    ensures { result ≡ order (map R.lent rows.now) a.now b.now }
 {
-    match gathered.get_mut(word) {
-        Some(places) => places.push(place)?,
-        None => {
-            gathered.insert(word.clone()?, vec![in alloc; place]?)?;
+    match a.head.cmp(&b.head) {
+        Ordering::Equal => {
+            if tells(a.head) {
+                Ordering::Equal
+            } else {
+                words_order(rows, a, b)
+            }
         }
+        other => other,
     }
-    Ok(())
+}
+
+/// The same by the words themselves. Out of line, so that the sort's own loops stay small.
+#[inline(never)]
+fn words_order<R: LendsDoc>(rows: &[R], a: &Occurrence, b: &Occurrence) -> Ordering
+    ensures { result ≡ slice_cmp nat_cmp (word_at (map R.lent rows.now) a.now) (word_at (map R.lent rows.now) b.now) }
+{
+    word_of(rows, a).cmp(word_of(rows, b))
+}
+
+/// The word of an occurrence.
+#[inline]
+#[tactic(auto, unfolding(crate::specs::steps::Places::word_at))]
+pub(crate) fn word_of<'a, R: LendsDoc>(rows: &'a [R], place: &Occurrence) -> &'a [u8]
+    ensures { result.now ≡ word_at (map R.lent rows.now) place.now }
+{
+    match token_of(rows, place) {
+        Some(token) => token.word.as_bytes(),
+        None => &[],
+    }
+}
+
+/// The position of an occurrence in its field.
+#[inline]
+#[tactic(auto, unfolding(crate::specs::steps::Places::position_at))]
+pub(crate) fn position_of<R: LendsDoc>(rows: &[R], place: &Occurrence) -> u32
+    ensures { result ≡ position_at (map R.lent rows.now) place.now }
+{
+    match token_of(rows, place) {
+        Some(token) => token.position,
+        None => 0,
+    }
+}
+
+#[inline]
+fn token_of<'a, R: LendsDoc>(rows: &'a [R], place: &Occurrence) -> Option<&'a TokenWord>
+    ensures { option_copied result ≡ token_at (map R.lent rows.now) place.now }
+{
+    let row = rows.get(place.row as usize)?;
+    let tokens = row.doc().fields.as_slice().get(place.field as usize)?;
+    tokens.words.as_slice().get(place.token as usize)
 }

@@ -3,9 +3,14 @@
 
 mod columns;
 mod gathering;
+mod heads;
 mod image;
+mod lending;
 mod lists;
 mod marks;
 mod words;
 
-pub use image::{MAX_IMAGE, write_counted, write_image};
+pub use image::{
+    Counts, MAX_IMAGE, count_in, header_of, place_in, write_counted, write_docs, write_image,
+};
+pub use words::put_entry;

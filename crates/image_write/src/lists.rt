@@ -3,28 +3,32 @@ ghost use Rattle.std.specs.Prelude.{◌≡◌, ◌≤◌, ◌++◌, [], ◌∷�
 ghost use Rattle.posting_codec.specs.PostingLists.{posting_list};
 ghost use Rattle.image_write.specs.steps.Gathering.{grouped, ArePostable};
 
-use crate::gathering::Place;
 use posting_codec::put_posting;
 use srch_base::NoMemory;
-use std::alloc::Global;
 
-/// Appends the posting list of these places, and gives the number of its rows.
+/// A place of a word: its row, and its field and position there.
+pub(crate) type Place = (u32, (u16, u32));
+
+/// Appends the posting list of these places, and gives the number of its rows. The list of hits is used for each row.
 #[tactic(auto, using(crate::proofs::Grouped::listed_more, crate::proofs::Grouped::listed_none, crate::proofs::Grouped::listed_all, crate::proofs::Grouped::first_there, crate::proofs::Grouped::can_post))]
-pub(crate) fn put_list(alloc: Global, places: &[Place], out: &mut Vec<u8>) -> Result<u32, NoMemory>
+pub(crate) fn put_list(
+    places: &[Place],
+    hits: &mut Vec<(u16, u32)>,
+    out: &mut Vec<u8>,
+) -> Result<u32, NoMemory>
     requires { ArePostable 0 (grouped places.now) }
     ensures list { OnOk result (out.new.items ≡ out.old.items ++ posting_list 0 (grouped places.now)) }
     ensures rows { IfOk result (λ count. count ≡ length (grouped places.now)) }
 {
-    let mut hits = Vec::new(alloc);
     let mut previous = None;
     let mut count: u32 = 0;
     let mut at = 0;
     while at < places.len() {
         let row = places[at].0;
         hits.clear();
-        let taken = take_row(row, &places[at..], &mut hits)?;
+        let taken = take_row(row, &places[at..], hits)?;
         at += taken;
-        put_posting(previous, row, &hits, out)?;
+        put_posting(previous, row, hits, out)?;
         previous = Some(row);
         let more = count.checked_add(1).ok_or(NoMemory)?;
         count = more;

@@ -17,21 +17,22 @@ ghost use Rattle.doc_types.specs.declared.tokens.TheConstants.{MAX_POSITION};
 ghost use Rattle.doc_types.specs.Chunks.{is_boundary, spans_of};
 ghost use Rattle.posting_codec.specs.Numbers.{number};
 ghost use Rattle.chunk_image.specs.Marks.{gap_numbers, kind_bit, row_marks};
+ghost use Rattle.image_write.specs.Written.{row_of};
 ghost use Rattle.image_write.specs.steps.Marking.{field_marks, marks_in, span_marks};
 
-use doc_types::{DocRow, FieldTokens, Gap, TokenWord, ZoneSpan};
+use doc_types::{Doc, FieldTokens, Gap, TokenWord, ZoneSpan};
 use posting_codec::put_number;
 use srch_base::NoMemory;
 
-/// Appends the marks of a row.
+/// Appends the marks of a document.
 #[tactic(auto, unfolding(chunk_image::specs::Marks::row_marks))]
-pub(crate) fn put_marks(row: &DocRow, out: &mut Vec<u8>) -> Result<(), NoMemory>
-    requires { (schema : Schema) × IsSchema schema × IsDocOf schema row.now.doc }
-    ensures { OnOk result (out.new.items ≡ out.old.items ++ row_marks row.now) }
+pub(crate) fn put_marks(doc: &Doc, out: &mut Vec<u8>) -> Result<(), NoMemory>
+    requires { (schema : Schema) × IsSchema schema × IsDocOf schema doc.now }
+    ensures { OnOk result (out.new.items ≡ out.old.items ++ row_marks (row_of doc.now 0)) }
 {
-    put_fields(row.doc.fields.as_slice(), out)?;
-    put_number(count_spans(row.doc.fields.as_slice()), out)?;
-    put_spans(row, out)
+    put_fields(doc.fields.as_slice(), out)?;
+    put_number(count_spans(doc.fields.as_slice()), out)?;
+    put_spans(doc, out)
 }
 
 /// Appends the positions of last words and the boundaries, field by field.
@@ -115,12 +116,12 @@ fn count_spans(fields: &[FieldTokens]) -> u32
     count
 }
 
-/// Appends the spans of a row.
-fn put_spans(row: &DocRow, out: &mut Vec<u8>) -> Result<(), NoMemory>
-    requires { length row.now.doc.fields < 2 ^ 16 }
-    ensures { OnOk result (out.new.items ≡ out.old.items ++ flat_map span_marks (spans_of row.now)) }
+/// Appends the spans of a document.
+fn put_spans(doc: &Doc, out: &mut Vec<u8>) -> Result<(), NoMemory>
+    requires { length doc.now.fields < 2 ^ 16 }
+    ensures { OnOk result (out.new.items ≡ out.old.items ++ flat_map span_marks (spans_of (row_of doc.now 0))) }
 {
-    for (number, field) in row.doc.fields.as_slice().iter().enumerate() {
+    for (number, field) in doc.fields.as_slice().iter().enumerate() {
         put_field_spans(number as u16, field.spans.as_slice(), out)?;
     }
     Ok(())

@@ -1,43 +1,98 @@
 //! The parts of an image that are about words: word table, dictionary and postings.
-ghost use Rattle.std.specs.Prelude.{◌≡◌, ◌++◌, [], List, length, map, All, OnOk, IfOk};
+ghost use Rattle.std.specs.Prelude.{◌≡◌, ◌≤◌, ◌++◌, ◌∷◌, [], List, IsSomeAnd, length, map, drop, slice_get, All, OnOk, IfOk};
 ghost use Rattle.std.specs.Int.{w32, to_le_bytes};
 ghost use Rattle.doc_types.specs.declared.documents.DocRow.{DocRow as AnyRow};
-ghost use Rattle.chunk_image.specs.ChunkImage.{dictionary_bytes, postings_bytes, table_bytes};
-ghost use Rattle.image_write.specs.steps.Gathering.{CanPost, IsGathered};
+ghost use Rattle.chunk_image.specs.ChunkImage.{dictionary_bytes, postings_bytes, table_bytes, word_bytes};
+ghost use Rattle.posting_codec.specs.PostingLists.{posting_list};
+ghost use Rattle.image_write.specs.steps.Gathering.{ArePostable, CanPost, IsGathered, grouped};
+ghost use Rattle.image_write.specs.steps.Places.{by_word, word_at};
 
-use crate::gathering::WordPlaces;
-use crate::image::{place_in, sum_in};
-use crate::lists::put_list;
+use crate::gathering::{Occurrence, position_of, word_of};
+use crate::image::place_in;
+use crate::lending::LendsDoc;
+use crate::lists::{Place, put_list};
 use doc_types::MAX_WORD_BYTES;
 use srch_base::{NoMemory, put_u32};
 use std::alloc::Global;
 
-/// Appends the word table to one list and the postings to another, which is empty, and gives the length of the dictionary.
-pub(crate) fn put_table(
+/// Appends the word table to one list, and the dictionary and the postings to two others, which are empty; gives the number of
+/// words. The occurrences are sorted by their words.
+pub(crate) fn put_words<R: LendsDoc>(
     alloc: Global,
-    words: &[WordPlaces],
+    rows: &[R],
+    places: &[Occurrence],
     table: &mut Vec<u8>,
+    dictionary: &mut Vec<u8>,
     postings: &mut Vec<u8>,
-) -> Result<u32, NoMemory>
-    requires none { postings.old.items ≡ [] }
-    requires posted { All CanPost words.now }
-    ensures table { OnOk result ((rows : List AnyRow) → All (IsGathered rows) words.now → table.new.items ≡ table.old.items ++ table_bytes rows 0 0 (map (λ entry. entry.word) words.now)) }
-    ensures postings { OnOk result ((rows : List AnyRow) → All (IsGathered rows) words.now → postings.new.items ≡ postings_bytes rows (map (λ entry. entry.word) words.now)) }
-    ensures dictionary { IfOk result (λ size. size ≡ length (dictionary_bytes (map (λ entry. entry.word) words.now))) }
+) -> Result<usize, NoMemory>
+    requires no_word { dictionary.old.items ≡ [] }
+    requires no_list { postings.old.items ≡ [] }
+    requires posted { All CanPost (by_word (map R.lent rows.now) places.now) }
+    ensures table { OnOk result ((all : List AnyRow) → All (IsGathered all) (by_word (map R.lent rows.now) places.now) → table.new.items ≡ table.old.items ++ table_bytes all 0 0 (map (λ entry. entry.word) (by_word (map R.lent rows.now) places.now))) }
+    ensures dictionary { OnOk result (dictionary.new.items ≡ dictionary_bytes (map (λ entry. entry.word) (by_word (map R.lent rows.now) places.now))) }
+    ensures postings { OnOk result ((all : List AnyRow) → All (IsGathered all) (by_word (map R.lent rows.now) places.now) → postings.new.items ≡ postings_bytes all (map (λ entry. entry.word) (by_word (map R.lent rows.now) places.now))) }
+    ensures count { IfOk result (λ count. count ≡ length (by_word (map R.lent rows.now) places.now)) }
 {
+    let mut group = Vec::new(alloc);
+    let mut hits = Vec::new(alloc);
+    let mut count = 0;
     let mut at = 0;
-    for entry in words {
-        let list = place_in(postings)?;
-        let rows = put_list(alloc, entry.places.as_slice(), postings)?;
-        put_entry(at, rows, list, table)?;
-        let next = sum_in(at, entry.word.as_bytes().len())?;
-        at = next;
+    while at < places.len() {
+        let word = word_of(rows, &places[at]);
+        group.clear();
+        let taken = take_word(rows, word, &places[at..], &mut group)?;
+        put_word(word, &group, &mut hits, table, dictionary, postings)?;
+        at += taken;
+        count += 1;
     }
-    Ok(at)
+    Ok(count)
+}
+
+/// Appends the places of the first occurrences, which are of this word, and gives the number of these occurrences.
+fn take_word<R: LendsDoc>(
+    rows: &[R],
+    word: &[u8],
+    places: &[Occurrence],
+    group: &mut Vec<Place>,
+) -> Result<usize, NoMemory>
+    requires none { group.old.items ≡ [] }
+    requires first { IsSomeAnd (slice_get places.now 0) (λ place. word_at (map R.lent rows.now) place ≡ word.now) }
+    ensures some { IfOk result (λ count. 1 ≤ count) }
+    ensures within { IfOk result (λ count. count ≤ length places.now) }
+    ensures word { IfOk result (λ count. by_word (map R.lent rows.now) places.now ≡ record { word = word.now; places = group.new.items } ∷ by_word (map R.lent rows.now) (drop count places.now)) }
+{
+    for (number, place) in places.iter().enumerate() {
+        if word_of(rows, place) != word {
+            return Ok(number);
+        }
+        group.push((place.row, (place.field, position_of(rows, place))))?;
+    }
+    Ok(places.len())
+}
+
+/// Appends what an image has of a word with these places: its entry in the table, its bytes in the dictionary, its list.
+fn put_word(
+    word: &[u8],
+    group: &[Place],
+    hits: &mut Vec<(u16, u32)>,
+    table: &mut Vec<u8>,
+    dictionary: &mut Vec<u8>,
+    postings: &mut Vec<u8>,
+) -> Result<(), NoMemory>
+    requires { ArePostable 0 (grouped group.now) }
+    ensures table { OnOk result (table.new.items ≡ table.old.items ++ (to_le_bytes w32 (length dictionary.old.items) ++ to_le_bytes w32 (length (grouped group.now)) ++ to_le_bytes w32 (length postings.old.items))) }
+    ensures dictionary { OnOk result (dictionary.new.items ≡ dictionary.old.items ++ word_bytes word.now) }
+    ensures postings { OnOk result (postings.new.items ≡ postings.old.items ++ posting_list 0 (grouped group.now)) }
+{
+    let at = place_in(dictionary)?;
+    let list = place_in(postings)?;
+    put_bytes(word, dictionary)?;
+    let rows = put_list(group, hits, postings)?;
+    put_entry(at, rows, list, table)
 }
 
 /// Appends the entry of a word: its place in the dictionary, how many rows have it, and the place of its posting list.
-fn put_entry(word: u32, rows: u32, list: u32, out: &mut Vec<u8>) -> Result<(), NoMemory>
+pub fn put_entry(word: u32, rows: u32, list: u32, out: &mut Vec<u8>) -> Result<(), NoMemory>
     ensures { OnOk result (out.new.items ≡ out.old.items ++ (to_le_bytes w32 word ++ to_le_bytes w32 rows ++ to_le_bytes w32 list)) }
 {
     put_u32(word, out)?;
@@ -45,17 +100,14 @@ fn put_entry(word: u32, rows: u32, list: u32, out: &mut Vec<u8>) -> Result<(), N
     put_u32(list, out)
 }
 
-/// Appends the dictionary: of each word its length and its bytes. No row has a word that is longer than a word may be.
-pub(crate) fn put_dictionary(words: &[WordPlaces], out: &mut Vec<u8>) -> Result<(), NoMemory>
-    ensures { OnOk result (out.new.items ≡ out.old.items ++ dictionary_bytes (map (λ entry. entry.word) words.now)) }
+/// Appends a word to the dictionary: its length and its bytes. No row has a word that is longer than a word may be.
+fn put_bytes(word: &[u8], out: &mut Vec<u8>) -> Result<(), NoMemory>
+    ensures { OnOk result (out.new.items ≡ out.old.items ++ word_bytes word.now) }
 {
-    for entry in words {
-        let bytes = entry.word.as_bytes();
-        if bytes.len() > MAX_WORD_BYTES {
-            return Err(NoMemory);
-        }
-        out.push(bytes.len() as u8)?;
-        out.extend_from_slice(bytes)?;
+    if word.len() > MAX_WORD_BYTES {
+        return Err(NoMemory);
     }
+    out.push(word.len() as u8)?;
+    out.extend_from_slice(word)?;
     Ok(())
 }

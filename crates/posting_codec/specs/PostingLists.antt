@@ -8,6 +8,10 @@ abbrev pub least_after : Option ℕ → ℕ
 least_after None = 0
 least_after (Some row) = row + 1
 
+-- a row's entry whose hit list has these bytes, where this is the least row that it can be
+abbrev pub spelled_posting : ℕ → ℕ → List ℕ → List ℕ
+spelled_posting least row hits = number (row + 1 - least) ++ number (length hits) ++ hits
+
 -- a row's entry, where this is the least row that it can be: how far the row lies behind the one before (the first row of a chunk
 -- lies 1 behind none), the length of the hit list in bytes, and the hit list
 abbrev pub posting : ℕ → ℕ → List (ℕ × ℕ) → List ℕ

@@ -12,7 +12,7 @@
 ghost use Rattle.std.specs.Prelude.{◌≡◌, ℕ, ◌+◌, ◌-◌, ◌<◌, ◌≤◌, ◌^◌, ◌++◌, List, length, take, MatchOption, IfOk, OnOk, OnErr};
 ghost use Rattle.posting_codec.specs.Numbers.{number};
 ghost use Rattle.posting_codec.specs.HitLists.{AreHits, hit_list};
-ghost use Rattle.posting_codec.specs.PostingLists.{IsEntry, IsEntryAt, least_after, posting};
+ghost use Rattle.posting_codec.specs.PostingLists.{IsEntry, IsEntryAt, least_after, posting, spelled_posting};
 ghost use Rattle.posting_codec.specs.steps.Heads.{IsHeadAt, head_length};
 
 use crate::hits::{hits_length, put_hits, read_hits};
@@ -40,6 +40,20 @@ pub fn put_posting(
         out.truncate(before);
         return Err(NoMemory);
     }
+    Ok(())
+}
+
+/// Appends the entry of a row whose hit list has these bytes, where this is the least row that it can be. After want of memory the
+/// list may have a front of the entry.
+pub fn put_spelled(least: u32, row: u32, hits: &[u8], out: &mut Vec<u8>) -> Result<(), NoMemory>
+    requires behind { least ≤ row }
+    requires counted { row + 1 < 2 ^ 32 }
+    requires sized { length hits.now < 2 ^ 32 }
+    ensures { OnOk result (out.new.items ≡ out.old.items ++ spelled_posting least row hits.now) }
+{
+    put_number(row - least + 1, out)?;
+    put_number(hits.len() as u32, out)?;
+    out.extend_from_slice(hits)?;
     Ok(())
 }
 

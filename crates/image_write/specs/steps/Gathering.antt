@@ -1,18 +1,14 @@
--- How the places of words are gathered, and how those of one row become an entry.
-use Rattle.std.specs.Prelude.{◌≡◌, ℕ, ◌+◌, ◌<◌, List, [], ◌∷◌, ◌++◌, ◌==◌, Option, Some, None, All, AllPairs, length, map, if◌then◌else◌}
+-- Words with their places, and how the places in one row become an entry.
+use Rattle.std.specs.Prelude.{◌≡◌, ℕ, ◌+◌, ◌<◌, List, [], ◌∷◌, ◌++◌, ◌==◌, None, All, AllPairs, length, map, if◌then◌else◌}
 use Rattle.std.specs.List.{flat_map, position}
-use Rattle.std.specs.Option.{option_map}
 use Rattle.std.specs.Str.{bytes_eq}
-use Rattle.std.specs.BTreeMap.{BTreeMap, get}
 use Rattle.std.specs.Cmp.Lexicographic.{slice_cmp}
 use Rattle.std.specs.Ordering.{nat_cmp}
 use Rattle.std.specs.declared.cmp.Ordering.TheVariants.{Less}
-use Rattle.std.proofs.Common.{Vec, Global}
 use Rattle.doc_types.specs.declared.documents.DocRow.{DocRow}
 use Rattle.doc_types.specs.Chunks.{rows_with}
 use Rattle.row_laws.specs.AlikeRows.{postings}
 use Rattle.posting_codec.specs.PostingLists.{IsEntry}
-use Rattle.image_write.specs.declared.gathering.WordPlaces.{WordPlaces}
 
 -- a row with the place of a word in it, and a row with all of them
 abbrev pub Place : Type 0
@@ -21,19 +17,10 @@ Place = ℕ × (ℕ × ℕ)
 abbrev pub Entry : Type 0
 Entry = ℕ × List (ℕ × ℕ)
 
--- the places that were gathered for a word, if there are some
-abbrev pub places_in : BTreeMap (List ℕ) (Vec Place Global) → List ℕ → Option (List Place)
-places_in gathered word = option_map (λ places. places.items) (get (slice_cmp nat_cmp) gathered word)
-
--- a list that isn't empty
-abbrev pub some_of : {X : Type 0} → List X → Option (List X)
-some_of [] = None
-some_of (x ∷ xs) = Some (x ∷ xs)
-
--- what is there with some more at its end
-abbrev pub grown : {X : Type 0} → Option (List X) → List X → Option (List X)
-grown None more = some_of more
-grown (Some xs) more = Some (xs ++ more)
+-- a word with its places, ascending
+pub record WordPlaces : Type 0 where
+  pub word : List ℕ
+  pub places : List Place
 
 -- all places of entries, one after the other
 abbrev pub places_of : List Entry → List Place

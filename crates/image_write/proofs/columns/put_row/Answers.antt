@@ -7,8 +7,8 @@ use Rattle.image_write.proofs.columns.put_row.Goals as goal
 
 pub returns-clause-columns : goal.returns-clause-columns
 returns-clause-columns c =
-    let row = c.args.row.now in
-    let values : c.put_values.new.out.items ≡ c.put_u64-2.new.out.items ++ flat_map value_bytes row.doc.values = search rules in
+    let doc = c.args.doc.now in
+    let values : c.put_values.new.out.items ≡ c.put_u64-2.new.out.items ++ flat_map value_bytes doc.values = search rules in
     four c.put_u32.result c.args.out.now.items c.put_u64.new.out.items c.put_u64-2.new.out.items c.put_values.new.out.items c.put_u32.new.out.items
-    (to_le_bytes w64 row.doc.id) (to_le_bytes w64 row.born) (flat_map value_bytes row.doc.values) (to_le_bytes w32 c.args.marks)
+    (to_le_bytes w64 doc.id) (to_le_bytes w64 c.args.born) (flat_map value_bytes doc.values) (to_le_bytes w32 c.args.marks)
     c.in_ok-put_u64.ensures.ok c.in_ok-put_u64-2.ensures.ok values c.put_u32.ensures.ok

@@ -5,4 +5,4 @@ use Rattle.image_write.proofs.marks.put_marks.Goals as goal
 
 pub returns : goal.returns
 unfolding row_marks
-returns c = row_marked c.put_spans.result c.args.row.now.doc.fields c.args.out.now.items c.put_fields.new.out.items c.put_number.new.out.items c.put_spans.new.out.items c.count_spans.result (search rules) (search rules) (search rules) c.put_spans.ensures
+returns c = row_marked c.put_spans.result c.args.doc.now.fields c.args.out.now.items c.put_fields.new.out.items c.put_number.new.out.items c.put_spans.new.out.items c.count_spans.result (search rules) (search rules) (search rules) c.put_spans.ensures

@@ -5,4 +5,4 @@ use Rattle.image_write.specs.steps.Marking.{span_marks}
 use Rattle.image_write.proofs.marks.put_spans.Given as goal
 
 abbrev pub invariant-loop-number : goal.invariant-loop-number
-invariant-loop-number l = l.out.items ≡ l.initial.out.items ++ flat_map span_marks (parts 0 (λ field. field.spans) (take l.number l.row.doc.fields))
+invariant-loop-number l = l.out.items ≡ l.initial.out.items ++ flat_map span_marks (parts 0 (λ field. field.spans) (take l.number l.doc.fields))

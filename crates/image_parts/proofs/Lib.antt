@@ -1,0 +1,15 @@
+pub mod Pieces
+pub mod Split
+pub mod Laid
+pub mod RowPlaces
+pub mod HeaderRead
+pub mod WordPlaces
+pub mod Halving
+pub mod RowFinding
+pub mod WordFinding
+pub mod MarkRoom
+pub mod MarkPlaces
+pub mod NumberSteps
+pub mod FieldSteps
+pub mod GapSteps
+pub mod SpanSteps

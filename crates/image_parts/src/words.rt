@@ -1,0 +1,96 @@
+//! The words of an image: the word table, whose entries stand at fixed places, the dictionary, and where each word's posting list
+//! lies.
+ghost use Rattle.std.specs.Prelude.{◌≡◌, ◌+◌, ◌-◌, ◌*◌, ◌<◌, ◌≤◌, ◌^◌, ◌++◌, ℕ, List, Some, length, drop, take, slice_get, slice_index};
+ghost use Rattle.std.specs.List.{position};
+ghost use Rattle.std.specs.Str.{bytes_eq};
+ghost use Rattle.doc_types.specs.declared.documents.DocRow.{DocRow};
+ghost use Rattle.doc_types.specs.Chunks.{rows_with};
+ghost use Rattle.chunk_image.specs.ChunkImage.{postings_bytes, word_postings};
+ghost use Rattle.image_parts.specs.Images.{ArePartsOf, HaveImage};
+
+use crate::fixed::u32_in;
+use crate::parts::{ENTRY, Parts};
+use std::cmp::Ordering;
+
+impl Parts {
+    /// Where the entry of a word begins.
+    #[inline]
+    fn entry(self, n: u32) -> usize
+        requires { self.table + 12 * n < 2 ^ 64 }
+        ensures { result ≡ self.table + 12 * n }
+    {
+        self.table + n as usize * ENTRY
+    }
+
+    /// The word of this number, in the order of their bytes.
+    #[inline]
+    pub fn word(self, image: &[u8], n: u32) -> &[u8]
+        requires { (rows : List DocRow) × (words : List (List ℕ)) × HaveImage rows words image.now × ArePartsOf rows words self × (n < length words) }
+        ensures { (rows : List DocRow) (words : List (List ℕ)) → HaveImage rows words image.now → ArePartsOf rows words self → slice_get words n ≡ Some result.now }
+    {
+        let at = self.dictionary + u32_in(image, self.entry(n)) as usize;
+        counted_bytes(image, at)
+    }
+
+    /// The number of a word, if it is there, by halving.
+    pub fn number(self, image: &[u8], word: &[u8]) -> Option<u32>
+        requires { (rows : List DocRow) × (words : List (List ℕ)) × HaveImage rows words image.now × ArePartsOf rows words self }
+        ensures { (rows : List DocRow) (words : List (List ℕ)) → HaveImage rows words image.now → ArePartsOf rows words self → result ≡ position (λ w. bytes_eq w word.now) words }
+    {
+        let mut low = 0;
+        let mut high = self.words;
+        'halves: while low < high {
+            let middle = low + (high - low) / 2;
+            match self.word(image, middle).cmp(word) {
+                Ordering::Equal => return Some(middle),
+                Ordering::Less => low = middle + 1,
+                Ordering::Greater => high = middle,
+            }
+        }
+        None
+    }
+
+    /// How many rows have the word of this number.
+    #[inline]
+    pub fn count(self, image: &[u8], n: u32) -> u32
+        requires { (rows : List DocRow) × (words : List (List ℕ)) × HaveImage rows words image.now × ArePartsOf rows words self × (n < length words) }
+        ensures { (rows : List DocRow) (words : List (List ℕ)) (word : List ℕ) → HaveImage rows words image.now → ArePartsOf rows words self → slice_get words n ≡ Some word → result ≡ length (rows_with word rows) }
+    {
+        u32_in(image, self.entry(n) + 4)
+    }
+
+    /// Where the posting list of the word of this number begins.
+    #[inline]
+    pub fn list(self, image: &[u8], n: u32) -> usize
+        requires { (rows : List DocRow) × (words : List (List ℕ)) × HaveImage rows words image.now × ArePartsOf rows words self × (n < length words) }
+        ensures place { (rows : List DocRow) (words : List (List ℕ)) → HaveImage rows words image.now → ArePartsOf rows words self → result + length (postings_bytes rows (drop n words)) ≡ length image.now }
+        ensures begins { (rows : List DocRow) (words : List (List ℕ)) (word : List ℕ) → HaveImage rows words image.now → ArePartsOf rows words self → slice_get words n ≡ Some word → drop result image.now ≡ word_postings rows word ++ postings_bytes rows (drop (n + 1) words) }
+    {
+        self.postings + u32_in(image, self.entry(n) + 8) as usize
+    }
+
+    /// Where the posting list of the word of this number ends.
+    #[inline]
+    pub fn list_end(self, image: &[u8], n: u32) -> usize
+        requires { (rows : List DocRow) × (words : List (List ℕ)) × HaveImage rows words image.now × ArePartsOf rows words self × (n < length words) }
+        ensures place { (rows : List DocRow) (words : List (List ℕ)) → HaveImage rows words image.now → ArePartsOf rows words self → result ≡ length image.now - length (postings_bytes rows (drop (n + 1) words)) }
+        ensures within { result ≤ length image.now }
+    {
+        if n + 1 < self.words {
+            self.list(image, n + 1)
+        } else {
+            image.len()
+        }
+    }
+}
+
+/// The bytes whose number stands before them in one byte.
+#[inline]
+fn counted_bytes(bytes: &[u8], at: usize) -> &[u8]
+    requires { at + 1 + slice_index bytes.now at ≤ length bytes.now }
+    ensures { result.now ≡ take (slice_index bytes.now at) (drop (at + 1) bytes.now) }
+{
+    let begin = at + 1;
+    let end = begin + bytes[at] as usize;
+    &bytes[begin..end]
+}
