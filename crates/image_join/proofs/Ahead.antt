@@ -1,0 +1,31 @@
+-- The rows ahead of a cursor.
+use Rattle.std.proofs.Common.{◌≡◌, ℕ, zero, suc, ◌+◌, ◌<◌, List, [], ◌∷◌, ◌++◌, true, false, cond, Some, slice_get, length, map, get_or, sym, ap, subst, ◌∙◌, arith, All, length-append}
+use Rattle.std.specs.List.{filter, enumerate_from}
+use Rattle.std.proofs.lemmas.List.{get_or-append-add}
+use Rattle.std.proofs.lemmas.List.Elements.{All-cons, All-nil}
+use Rattle.std.proofs.lemmas.Option.{get_or_from_slice_get, slice_get_within}
+use Rattle.doc_types.specs.declared.documents.DocRow.{DocRow}
+use Rattle.doc_types.specs.Chunks.{CursorPlace, IsCursorPlace, has_word, next_row, rows_with}
+
+abbrev numbers : List ℕ → ℕ → List DocRow → List ℕ
+numbers word n rows = map (λ (e : ℕ × DocRow). e.0) (filter (λ e. has_word word e.1) (enumerate_from n rows))
+
+below : (word : List ℕ) (n : ℕ) (rows : List DocRow) → All (λ row. row < n + length rows) (numbers word n rows)
+below word n [] = λ k d h. absurd (omega (arith, h))
+below word n (r ∷ rs) =
+    let rest : All (λ row. row < n + length (r ∷ rs)) (numbers word (n + 1) rs) = λ k d h. let low = below word (n + 1) rs k d h in omega (arith, low) in
+    elim (has_word word r) as (λ b. All (λ row. row < n + length (r ∷ rs)) (map (λ (e : ℕ × DocRow). e.0) (cond b ((n, r) ∷ filter (λ e. has_word word e.1) (enumerate_from (n + 1) rs)) (filter (λ e. has_word word e.1) (enumerate_from (n + 1) rs))))) [
+      | true ↦ All-cons (λ row. row < n + length (r ∷ rs)) n (numbers word (n + 1) rs) (omega arith) rest
+      | false ↦ rest
+    ]
+
+-- the next row is one of the rows
+pub next_below : (rows : List DocRow) (place : CursorPlace) (row : ℕ) → IsCursorPlace rows place → Some row ≡ next_row place → row < length rows
+next_below rows place row is next =
+    let e : slice_get place.ahead 0 ≡ Some row = sym next in
+    let some : 0 < length place.ahead = slice_get_within place.ahead 0 row e in
+    let long : length is.behind + 0 < length (rows_with place.word rows) = omega (arith, ap length is.both, length-append is.behind place.ahead, some) in
+    let here : get_or (rows_with place.word rows) (length is.behind + 0) row ≡ row =
+    ap (λ (l : List ℕ). get_or l (length is.behind + 0) row) (sym is.both) ∙ get_or-append-add is.behind place.ahead 0 row ∙ get_or_from_slice_get place.ahead 0 row row e in
+    let low : get_or (rows_with place.word rows) (length is.behind + 0) row < 0 + length rows = below place.word 0 rows (length is.behind + 0) row long in
+    omega (arith, here, low)

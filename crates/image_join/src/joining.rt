@@ -1,0 +1,109 @@
+//! The image of layers that are put together.
+ghost use Rattle.std.specs.Prelude.{◌≡◌, ◌<◌, ◌≤◌, ◌++◌, length, map, ℕ, All, IfOk, OnOk};
+ghost use Rattle.doc_types.specs.Documents.{AreRowsOf};
+ghost use Rattle.doc_types.specs.Schemas.{IsSchema};
+ghost use Rattle.doc_types.specs.declared.schema.Schema.{Schema as AnySchema};
+ghost use Rattle.chunk_image.specs.ChunkImage.{IsImageOf};
+ghost use Rattle.image_write.specs.Headers.{counted};
+ghost use Rattle.doc_types.specs.Snapshots.{all_living};
+ghost use Rattle.image_write.specs.declared.image.TheConstants.{MAX_IMAGE};
+ghost use Rattle.layer_joins.specs.Joins.{AreOfOne};
+ghost use Rattle.layer_joins.specs.Joins.{AreApart};
+ghost use Rattle.image_join.specs.JoinedImages.{IsJoinedImage};
+ghost use Rattle.image_join.specs.steps.Numbering.{IsThere, row_in};
+ghost use Rattle.image_join.specs.steps.Parts.{AreLaid, all_rows};
+
+use crate::columns::put_rows;
+use crate::copying::CopyBytes;
+use crate::ordering::{Living, numbers_of, order_of};
+use crate::parts::{Part, parts_of};
+use crate::words::{Tables, tables_of};
+use doc_types::Layer;
+use image_write::{Counts, count_in, header_of, place_in};
+use srch_base::NoMemory;
+use std::alloc::Global;
+
+/// The image of the rows of the layers that live, of which there are some.
+///
+/// It takes a time linear in the rows, their words and the bytes of their lists, but for one sort of the rows by their ids, and of
+/// the entries of a word where the layers' ids overlap. Beside the image it takes memory for its parts once more, and 20 bytes a row.
+pub fn join<C: CopyBytes>(alloc: Global, layers: &[Layer<C>]) -> Result<Vec<u8>, NoMemory>
+    requires of { AreOfOne (all_living layers.now) }
+    requires apart { AreApart (all_living layers.now) }
+    requires some { 0 < length (all_living layers.now) }
+    ensures is { IfOk result (λ image. IsJoinedImage (all_living layers.now) image.items) }
+    ensures short { IfOk result (λ image. length image.items ≤ MAX_IMAGE) }
+{
+    let (parts, count) = parts_of(alloc, layers)?;
+    let order = order_of(alloc, &parts)?;
+    image_of(alloc, &parts, count, &order)
+}
+
+/// The image of rows of the parts in this order.
+fn image_of<C: CopyBytes>(
+    alloc: Global,
+    parts: &[Part<C>],
+    count: u32,
+    order: &[Living],
+) -> Result<Vec<u8>, NoMemory>
+    requires laid { AreLaid 0 parts.now }
+    requires count { count ≡ length (all_rows parts.now) }
+    requires there { All (IsThere parts.now) order.now }
+    requires some { 0 < length order.now }
+    requires of { (schema : AnySchema) × IsSchema schema × AreRowsOf schema (map (row_in parts.now) order.now) }
+    ensures is { IfOk result (λ image. (schema : AnySchema) → IsSchema schema → AreRowsOf schema (map (row_in parts.now) order.now) → IsImageOf schema (map (row_in parts.now) order.now) image.items) }
+    ensures short { IfOk result (λ image. length image.items ≤ MAX_IMAGE) }
+    ensures few { OnOk result (length order.now ≤ MAX_IMAGE) }
+{
+    let (fields, attrs) = shape_of(parts, order);
+    let mut columns = Vec::new(alloc);
+    let mut marks = Vec::new(alloc);
+    put_rows(parts, order, attrs, &mut columns, &mut marks)?;
+    let numbers = numbers_of(alloc, parts, count, order)?;
+    let tables = tables_of(alloc, parts, &numbers)?;
+    let counts = Counts {
+        rows: count_in(order.len())?,
+        fields,
+        attrs,
+        words: count_in(tables.words as usize)?,
+        marks: place_in(&marks)?,
+        dictionary: place_in(&tables.dictionary)?,
+        postings: place_in(&tables.postings)?,
+    };
+    assembled(alloc, &counts, &columns, &marks, &tables)
+}
+
+/// The parts of an image, one behind the other.
+fn assembled(
+    alloc: Global,
+    counts: &Counts,
+    columns: &[u8],
+    marks: &[u8],
+    tables: &Tables,
+) -> Result<Vec<u8>, NoMemory>
+    ensures is { IfOk result (λ image. image.items ≡ counted counts.now ++ columns.now ++ marks.now ++ tables.now.table.items ++ tables.now.dictionary.items ++ tables.now.postings.items) }
+    ensures short { IfOk result (λ image. length image.items ≤ MAX_IMAGE) }
+{
+    let mut image = header_of(alloc, counts)?;
+    image.extend_from_slice(columns)?;
+    image.extend_from_slice(marks)?;
+    image.extend_from_slice(&tables.table)?;
+    image.extend_from_slice(&tables.dictionary)?;
+    image.extend_from_slice(&tables.postings)?;
+    place_in(&image)?;
+    Ok(image)
+}
+
+/// How many fields and attributes the rows have.
+fn shape_of<C: CopyBytes>(parts: &[Part<C>], order: &[Living]) -> (u16, u16)
+    requires { All (IsThere parts.now) order.now }
+    ensures { (fields attrs : ℕ) → All (λ living. length (row_in parts.now living).doc.fields ≡ fields) order.now → All (λ living. length (row_in parts.now living).doc.values ≡ attrs) order.now → 0 < length order.now → (result.0 ≡ fields) × (result.1 ≡ attrs) }
+{
+    match order.first() {
+        Some(living) => {
+            let part = &parts[living.part as usize];
+            (part.fields(), part.attrs())
+        }
+        None => (0, 0),
+    }
+}

@@ -1,0 +1,19 @@
+//! Segments put together by their bytes.
+//!
+//! A segment keeps nothing but its image, so there are no documents to copy and to index anew when some of them become one. What
+//! lives of them is gone over in the order of the ids, which gives each row its new number. Columns and marks are copied row by row.
+//! The dictionaries are merged as sorted lists are, the least of the next words first; a posting list is the lists of its word, one
+//! behind the other or by new numbers, with each hit list copied as it is: only how far an entry lies behind the one before is
+//! written anew. So the costs are those of copying, with one comparison for each word of each segment.
+#![tactic(auto)]
+
+mod columns;
+mod copying;
+mod joining;
+mod lists;
+mod ordering;
+mod parts;
+mod words;
+
+pub use copying::CopyBytes;
+pub use joining::join;
