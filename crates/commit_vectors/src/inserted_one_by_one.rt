@@ -8,27 +8,27 @@ use std::alloc::Global;
 use std::test::Fail;
 
 /// Ids that are inserted one by one. A commit is told by its number, the shape, which stays in memory, and how many layers there
-/// are: seven layers behind one of their size make one of them all.
+/// are: three layers behind one of their size make one of them all.
 const INSERTED: [(u64, &str); 19] = [
     (5, "1 0 1"),
     (5, "5 is there"),
     (9, "2 0 2"),
     (8, "3 0 3"),
-    (7, "4 0 4"),
-    (6, "5 0 5"),
-    (4, "6 0 6"),
-    (3, "7 0 7"),
-    (2, "8 0 1"),
-    (1, "9 0 2"),
-    (20, "10 0 3"),
-    (19, "11 0 4"),
-    (18, "12 0 5"),
-    (17, "13 0 6"),
-    (16, "14 0 7"),
-    (15, "15 0 8"),
-    (14, "16 0 2"),
+    (7, "4 0 1"),
+    (6, "5 0 2"),
+    (4, "6 0 3"),
+    (3, "7 0 4"),
+    (2, "8 0 2"),
+    (1, "9 0 3"),
+    (20, "10 0 4"),
+    (19, "11 0 5"),
+    (18, "12 0 3"),
+    (17, "13 0 4"),
+    (16, "14 0 5"),
+    (15, "15 0 6"),
+    (14, "16 0 1"),
     (9, "9 is there"),
-    (30, "17 0 3"),
+    (30, "17 0 2"),
 ];
 
 /// What inserting the id tells.

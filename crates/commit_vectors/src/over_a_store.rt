@@ -9,7 +9,7 @@ use std::alloc::Global;
 use std::test::Fail;
 
 /// A transaction and what becomes of it, as over layers. A layer more than half of whose rows are dead becomes one with those
-/// behind it, and so does one with seven times its living rows behind it.
+/// behind it, and so does one with three times its living rows behind it.
 const COMMITS: &str = "
 +1 +2 +3 +4 +5 ⇒ 0 removed, 1 / 1@1 2@1 3@1 4@1 5@1
 -1 -2 ⇒ 2 removed, 2 / (1@1) (2@1) 3@1 4@1 5@1
@@ -19,16 +19,17 @@ const COMMITS: &str = "
 -5 ⇒ 1 removed, 5 / 4@4
 =4 ⇒ 0 removed, 6 / 4@6
 +1 +2 ⇒ 0 removed, 7 / 4@6 / 1@7 2@7
-+3 +5 +6 ⇒ 0 removed, 8 / 4@6 / 1@7 2@7 / 3@8 5@8 6@8
--2 ⇒ 1 removed, 9 / 4@6 / 1@7 (2@7) / 3@8 5@8 6@8
--6 -5 +9 ⇒ 2 removed, 10 / 4@6 / 1@7 (2@7) / 3@8 9@10
++3 +5 +6 ⇒ 0 removed, 8 / 1@7 2@7 3@8 4@6 5@8 6@8
+-2 ⇒ 1 removed, 9 / 1@7 (2@7) 3@8 4@6 5@8 6@8
+-6 -5 +9 ⇒ 2 removed, 10 / 1@7 (2@7) 3@8 4@6 (5@8) (6@8) / 9@10
 -3 -9 +1 ⇒ 1 is there
 -1 -3 +9 ⇒ 9 is there
--1 =3 ⇒ 1 removed, 11 / 4@6 / (3@8) 9@10 / 3@11
-+10 +11 +12 +13 ⇒ 0 removed, 12 / 4@6 / (3@8) 9@10 / 3@11 / 10@12 11@12 12@12 13@12
-+22 ⇒ 0 removed, 13 / 3@11 4@6 9@10 10@12 11@12 12@12 13@12 22@13
-* +1 ⇒ 0 removed, 14 / 1@14
-* ⇒ 0 removed, 15
+-1 =3 ⇒ 1 removed, 11 / 3@11 4@6 9@10
++10 +11 +12 +13 ⇒ 0 removed, 12 / 3@11 4@6 9@10 / 10@12 11@12 12@12 13@12
++22 ⇒ 0 removed, 13 / 3@11 4@6 9@10 / 10@12 11@12 12@12 13@12 / 22@13
++23 +24 +25 ⇒ 0 removed, 14 / 3@11 4@6 9@10 / 10@12 11@12 12@12 13@12 / 22@13 23@14 24@14 25@14
+* +1 ⇒ 0 removed, 15 / 1@15
+* ⇒ 0 removed, 16
 ";
 
 /// What becomes of the transaction of a line.

@@ -1,13 +1,13 @@
 //! What a table tells of layers and of refusals.
 use commit_outcomes::Full;
-use doc_types::{Chunk, Layer, PlainChunk, Snapshot};
+use doc_types::{Chunk, Layer, Snapshot};
 use layer_commit::is_dead;
 use std::alloc::Global;
 use std::fmt::Write;
 use std::test::Fail;
 
 /// Appends the rows of a layer, each as its id and the number of its commit; dead ones in parentheses.
-fn tell_layer(layer: &Layer<PlainChunk>, text: &mut String) -> Result<(), Fail> {
+fn tell_layer<C: Chunk>(layer: &Layer<C>, text: &mut String) -> Result<(), Fail> {
     let dead = layer.dead.as_slice();
     for number in 0..layer.chunk.rows() {
         let id = layer.chunk.id(number);
@@ -22,9 +22,9 @@ fn tell_layer(layer: &Layer<PlainChunk>, text: &mut String) -> Result<(), Fail> 
 }
 
 /// The number of the last commit, and the layers after a `/` each.
-pub(crate) fn snapshot_told(
+pub(crate) fn snapshot_told<C: Chunk>(
     alloc: Global,
-    snapshot: &Snapshot<PlainChunk>,
+    snapshot: &Snapshot<C>,
 ) -> Result<String, Fail> {
     let number = snapshot.number;
     let mut text = format!(in alloc; "{number}")?;

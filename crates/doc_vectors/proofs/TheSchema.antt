@@ -9,7 +9,7 @@ use Rattle.std.proofs.lemmas.List.Elements.{All-nil, All-cons}
 use Rattle.std.proofs.lemmas.List.Kept.{AllPairs-cons}
 use Rattle.std.proofs.lemmas.Slice.Eq.{bytes_eq-Decides}
 use Rattle.doc_types.specs.Schemas.{IsSchema, IsName, columns, is_capital, is_column_name}
-use Rattle.doc_vectors.specs.steps.Columns.{the_schema}
+use Rattle.doc_vectors.specs.steps.Columns.{the_schema, wide_schema}
 
 differ : (name other : List ℕ) → not (bytes_eq name other) ≡ true → name ≢ other
 differ name other apart e = absurd (false≢true (sym (ap not ((bytes_eq-Decides name other).1 e)) ∙ apart))
@@ -54,5 +54,16 @@ is_schema = record {
   names = all_by IsName (λ name. leb (length name) 64 && list_all (λ b. not (is_capital b)) name) is_name (columns the_schema) refl;
   form = all_by (λ name. IsTrue (is_column_name name)) is_column_name (λ name e. e) (columns the_schema) refl;
   distinct = all_distinct (columns the_schema) refl;
+  zones = record { few = omega arith; names = All-nil IsName; distinct = all_distinct [] refl };
+}
+
+pub is_wide : IsSchema wide_schema
+is_wide = record {
+  name = is_name wide_schema.name refl;
+  few_fields = omega arith;
+  few_attrs = omega arith;
+  names = all_by IsName (λ name. leb (length name) 64 && list_all (λ b. not (is_capital b)) name) is_name (columns wide_schema) refl;
+  form = all_by (λ name. IsTrue (is_column_name name)) is_column_name (λ name e. e) (columns wide_schema) refl;
+  distinct = all_distinct (columns wide_schema) refl;
   zones = record { few = omega arith; names = All-nil IsName; distinct = all_distinct [] refl };
 }

@@ -8,6 +8,7 @@ use crate::row_answers::told_row;
 use crate::word_answers::{first_other_seek, told_word};
 use any_chunk::AnyChunk;
 use doc_types::{Chunk, HitLists, PlainChunk};
+use image_chunk::RamChunk;
 use srch_base::NoMemory;
 use std::alloc::Global;
 use std::test::Fail;
@@ -78,6 +79,15 @@ pub(crate) fn the_chunk(alloc: Global) -> Result<PlainChunk, NoMemory>
 {
     let rows = rows(alloc)?;
     let chunk = PlainChunk::build(alloc, rows)?;
+    Ok(chunk)
+}
+
+/// The image of the documents, in memory.
+fn the_image(alloc: Global) -> Result<RamChunk, NoMemory>
+    ensures { IfOk result (λ chunk. All HasColumns chunk.image.0.0) }
+{
+    let rows = rows(alloc)?;
+    let chunk = RamChunk::build(alloc, rows)?;
     Ok(chunk)
 }
 
@@ -164,7 +174,7 @@ fn a_chunk_answers_by_its_words(rt: HostRuntime) -> Result<(), Fail> {
 
 #[test]
 fn a_chunk_of_any_kind_answers_by_its_rows(rt: HostRuntime) -> Result<(), Fail> {
-    let chunk = AnyChunk::Ram(the_chunk(rt.alloc())?);
+    let chunk = AnyChunk::Ram(the_image(rt.alloc())?);
     assert_eq!(rt; chunk.rows(), 10);
     assert_eq!(rt; chunk.fields(), 3);
     assert_eq!(rt; first_other_row(rt.alloc(), &chunk)?, None);
@@ -174,7 +184,7 @@ fn a_chunk_of_any_kind_answers_by_its_rows(rt: HostRuntime) -> Result<(), Fail> 
 
 #[test]
 fn a_chunk_of_any_kind_answers_by_its_words(rt: HostRuntime) -> Result<(), Fail> {
-    let chunk = AnyChunk::Ram(the_chunk(rt.alloc())?);
+    let chunk = AnyChunk::Ram(the_image(rt.alloc())?);
     assert_eq!(rt; chunk.words(), 30);
     assert_eq!(rt; first_other_word(rt.alloc(), &chunk)?, None);
     assert!(rt; !has_absent(&chunk));
@@ -190,5 +200,35 @@ fn a_chunk_may_have_no_row(rt: HostRuntime) -> Result<(), Fail> {
     assert!(rt; !has_absent(&chunk));
     assert_eq!(rt; chunk.find(1), None);
     assert_eq!(rt; chunk.start(b"hello"), None);
+    Ok(())
+}
+
+#[test]
+fn an_image_answers_by_its_rows(rt: HostRuntime) -> Result<(), Fail> {
+    let chunk = the_image(rt.alloc())?;
+    assert_eq!(rt; chunk.rows(), 10);
+    assert_eq!(rt; chunk.fields(), 3);
+    assert_eq!(rt; first_other_row(rt.alloc(), &chunk)?, None);
+    assert_eq!(rt; first_other_id(&chunk), None);
+    Ok(())
+}
+
+#[test]
+fn an_image_answers_by_its_words(rt: HostRuntime) -> Result<(), Fail> {
+    let chunk = the_image(rt.alloc())?;
+    assert_eq!(rt; chunk.words(), 30);
+    assert_eq!(rt; first_other_word(rt.alloc(), &chunk)?, None);
+    assert!(rt; !has_absent(&chunk));
+    Ok(())
+}
+
+#[test]
+fn an_image_may_have_no_row(rt: HostRuntime) -> Result<(), Fail> {
+    let chunk = RamChunk::build(rt.alloc(), Vec::new(rt.alloc()))?;
+    assert_eq!(rt; chunk.rows(), 0);
+    assert_eq!(rt; chunk.words(), 0);
+    assert!(rt; !has_absent(&chunk));
+    assert_eq!(rt; chunk.find(1), None);
+    assert_eq!(rt; chunk.as_bytes().len(), 32);
     Ok(())
 }

@@ -183,6 +183,20 @@ pub(crate) fn rows(alloc: Global) -> Result<Vec<DocRow>, NoMemory>
     checked(rows)
 }
 
+/// So many rows, unless they are too many: `a` stands in the title of each, and `b` in that of each third one from the first on.
+pub(crate) fn many_rows(alloc: Global, count: u64) -> Result<Vec<DocRow>, NoMemory>
+    ensures { IfOk result (λ rows. IsContent rows.items) }
+{
+    let charset = Charset::default_table(alloc)?;
+    let mut rows = Vec::new(alloc);
+    for id in 0..count {
+        let title = if id % 3 == 0 { "a b" } else { "a" };
+        let written = (id, 1, false, title, "", "", 0, 0);
+        push(&mut rows, row(alloc, &charset, &written)?)?;
+    }
+    checked(rows)
+}
+
 /// A row with one field, `hello world`, and no value.
 pub(crate) fn hello_world(alloc: Global) -> Result<DocRow, NoMemory> {
     let charset = Charset::default_table(alloc)?;

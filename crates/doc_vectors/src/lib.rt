@@ -9,6 +9,8 @@ mod commits;
 #[cfg(test)]
 mod documents;
 #[cfg(test)]
+mod edges;
+#[cfg(test)]
 mod row_answers;
 #[cfg(test)]
 mod snapshots;

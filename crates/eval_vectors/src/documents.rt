@@ -3,7 +3,8 @@ ghost use Rattle.std.specs.Prelude.{◌<◌, All, AllPairs, IfOk, IsTrue, OnOk};
 ghost use Rattle.eval_vectors.specs.steps.Reading.{AreFewRows, IsShortField, IsShortRow, IsSoundIndex};
 
 use doc_tokens::tokens;
-use doc_types::{Doc, DocRow, FieldTokens, PlainChunk};
+use doc_types::{Doc, DocRow, FieldTokens};
+use image_chunk::RamChunk;
 use index_conf::IndexConf;
 use srch_base::Items;
 use std::alloc::Global;
@@ -84,15 +85,15 @@ pub(crate) fn push(
 }
 
 /// The chunk of rows of an index.
-pub(crate) fn built(alloc: Global, index: &IndexConf, rows: Vec<DocRow>) -> Result<PlainChunk, Fail>
+pub(crate) fn built(alloc: Global, index: &IndexConf, rows: Vec<DocRow>) -> Result<RamChunk, Fail>
     requires index { IsSoundIndex index.now }
     requires rows { AreFewRows index.now.schema rows.items }
 {
-    Ok(PlainChunk::build(alloc, rows)?)
+    Ok(RamChunk::build(alloc, rows)?)
 }
 
 /// The chunk of documents, which are told by their ids and their fields' texts.
-pub(crate) fn chunk_of(alloc: Global, index: &IndexConf, lines: &str) -> Result<PlainChunk, Fail>
+pub(crate) fn chunk_of(alloc: Global, index: &IndexConf, lines: &str) -> Result<RamChunk, Fail>
     requires { IsSoundIndex index.now }
 {
     let mut rows = Vec::new(alloc);

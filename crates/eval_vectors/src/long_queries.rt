@@ -3,10 +3,10 @@
 ghost use Rattle.eval_vectors.specs.steps.Reading.{IsSoundIndex};
 
 use crate::documents::chunk_of;
-use crate::queries::query_of;
+use crate::queries::{Asked, answer};
 use crate::sets::index_of;
-use crate::telling::{compare, told};
-use doc_types::PlainChunk;
+use crate::telling::compare;
+use image_chunk::RamChunk;
 use index_conf::IndexConf;
 use std::alloc::Global;
 use std::test::Fail;
@@ -53,46 +53,22 @@ fn documents(alloc: Global) -> Result<String, Fail> {
     Ok(format!(in alloc; "1 ⇒ {all}\n2 ⇒ {some}\n3 ⇒ none of them")?)
 }
 
-/// The position of a word where one doesn't stand among them.
-fn position_of(number: u32, without: u32) -> u32 {
-    if number < without {
-        number
-    } else {
-        number.saturating_sub(1)
-    }
-}
-
-/// The occurrences of the words but one, or the one of all.
-fn occurrences_of(alloc: Global, whole: bool, without: u32) -> Result<String, Fail> {
-    let mut text = String::new(alloc);
-    let last = position_of(WORDS, without);
-    if whole {
-        write!(text, " 0.1-{last}")?;
-    } else {
-        for position in 1..last.saturating_add(1) {
-            write!(text, " 0.{position}-{position}")?;
-        }
-    }
-    Ok(text)
-}
-
-/// The hits of the words but one.
-fn hits_of(alloc: Global, without: u32) -> Result<String, Fail> {
-    let mut text = String::new(alloc);
-    for word in 0..WORDS {
-        let number = word + 1;
-        if number != without {
-            let position = position_of(number, without);
-            write!(text, " {number}/{word}@0.{position}")?;
-        }
-    }
-    Ok(text)
-}
-
-/// What is found of the words but one in a document.
+/// What is found of the words but one in a document: the occurrences of all, or the one of all, and the hits.
 fn found_of(alloc: Global, whole: bool, without: u32) -> Result<String, Fail> {
-    let occs = occurrences_of(alloc, whole, without)?;
-    let hits = hits_of(alloc, without)?;
+    let last = if without == NO_WORD { WORDS } else { WORDS - 1 };
+    let (mut occs, mut hits) = (String::new(alloc), String::new(alloc));
+    if whole {
+        write!(occs, " 0.1-{last}")?;
+    }
+    let mut number: u32 = 0;
+    for position in 1..last + 1 {
+        number = number.saturating_add(if position == without { 2 } else { 1 });
+        let word = number.saturating_sub(1);
+        write!(hits, " {number}/{word}@0.{position}")?;
+        if !whole {
+            write!(occs, " 0.{position}-{position}")?;
+        }
+    }
     Ok(format!(in alloc; "{occs},{hits}")?)
 }
 
@@ -106,41 +82,18 @@ fn wanted(alloc: Global, whole: bool, documents: &str) -> Result<String, Fail> {
     Ok(format!(in alloc; "1:{first}; 2:{second}")?)
 }
 
-/// What the query of the operator finds.
-fn told_of(
-    alloc: Global,
-    index: &IndexConf,
-    chunk: &PlainChunk,
-    operator: &str,
-) -> Result<String, Fail>
-    requires { IsSoundIndex index.now }
-{
-    let text = words(alloc, operator, NO_WORD)?;
-    let query = query_of(alloc, text.as_str(), index)?;
-    told(alloc, &query, chunk)
-}
-
 /// Fails with the two words if the query of their operator finds something else, and with what it finds.
-fn try_join(alloc: Global, index: &IndexConf, chunk: &PlainChunk, line: &str) -> Result<(), Fail>
+fn try_join(alloc: Global, index: &IndexConf, chunk: &RamChunk, line: &str) -> Result<(), Fail>
     requires { IsSoundIndex index.now }
 {
     let (pair, rest) = line.split_once(" ⇒ ").ok_or("a line without an arrow")?;
     let (occs, documents) = rest.split_once(" ⇒ ").ok_or("a line with one arrow")?;
     let operator = pair.strip_prefix('a').ok_or("no a")?;
     let operator = operator.strip_suffix('b').ok_or("no b")?;
-    let found = told_of(alloc, index, chunk, operator)?;
+    let text = words(alloc, operator, NO_WORD)?;
+    let found = answer(alloc, text.as_str(), index, chunk, &Asked::Found)?;
     let wanted = wanted(alloc, occs == "all", documents)?;
     compare(alloc, pair, found.as_str(), wanted.as_str())
-}
-
-/// Fails with the first operator of which a query finds something else.
-fn try_joins(alloc: Global, index: &IndexConf, chunk: &PlainChunk) -> Result<(), Fail>
-    requires { IsSoundIndex index.now }
-{
-    for line in JOINS.lines() {
-        try_join(alloc, index, chunk, line)?;
-    }
-    Ok(())
 }
 
 #[test]
@@ -148,5 +101,8 @@ fn queries_have_255_words(rt: HostRuntime) -> Result<(), Fail> {
     let index = index_of(rt.alloc(), "paragraphs")?;
     let documents = documents(rt.alloc())?;
     let chunk = chunk_of(rt.alloc(), &index, documents.as_str())?;
-    try_joins(rt.alloc(), &index, &chunk)
+    for line in JOINS.lines() {
+        try_join(rt.alloc(), &index, &chunk, line)?;
+    }
+    Ok(())
 }

@@ -1,20 +1,11 @@
 //! Which queries open lists of places: `candidates` over a chunk whose lists can't be opened answers those alone that open none.
-ghost use Rattle.eval_vectors.specs.steps.Reading.{IsSoundIndex};
-ghost use Rattle.std.specs.Prelude.{◌≡◌, ◌<◌};
-
 use crate::cases::DOCUMENTS;
 use crate::documents::chunk_of;
-use crate::queries::query_of;
+use crate::queries::{Asked, try_lines};
 use crate::sets::{index_of, lines_of};
-use crate::telling::compare;
-use doc_types::{Chunk, Counted, Cursor, Gap, HitLists, Value, ZoneSpan};
-use index_conf::IndexConf;
-use op_eval::candidates;
-use query_tree::Query;
+use doc_types::{Chunk, Cursor, Gap, HitLists, Value, ZoneSpan};
 use srch_base::{NoMemory, Steps};
-use std::alloc::Global;
-use std::marker::Brand;
-use std::sync::ledger::{Blank, Ledger};
+use std::sync::ledger::Ledger;
 use std::test::Fail;
 
 /// A chunk that has no memory for lists of places.
@@ -139,51 +130,15 @@ a$ ⇒ a list
 a (x | "a b") ⇒ a list
 "#;
 
-fn opens_by<L: Ledger, C: HitLists>(alloc: Global, query: &Query, chunk: &C, blank: Blank) -> bool
-    requires name { blank.name ≡ L.name }
-    requires parts { blank.parts ≡ L.parts }
-    requires some { 0 < blank.parts }
-{
-    let mut steps = Steps::<L>::new(blank);
-    let counted = Counted::<C, L>::over(chunk);
-    candidates(alloc, query, &counted, &[], &mut steps).is_err()
-}
-
-/// Whether the query opens a list of a chunk that has no memory for them.
-fn opens<C: HitLists>(alloc: Global, query: &Query, chunk: &C) -> bool {
-    opens_by::<Brand, C>(alloc, query, chunk, Blank::new(1))
-}
-
-/// What the query of a text opens.
-fn opened<C: HitLists>(
-    alloc: Global,
-    index: &IndexConf,
-    chunk: &C,
-    text: &str,
-) -> Result<&'static str, Fail>
-    requires { IsSoundIndex index.now }
-{
-    let query = query_of(alloc, text, index)?;
-    if opens(alloc, &query, chunk) {
-        return Ok("a list");
-    }
-    Ok("no list")
-}
-
-/// Fails with the first query that opens a list and shouldn't, or doesn't and should.
-fn try_opening<C: HitLists>(alloc: Global, index: &IndexConf, chunk: &C) -> Result<(), Fail>
-    requires { IsSoundIndex index.now }
-{
-    for line in OPENING.trim_start().lines() {
-        let (text, wanted) = line.split_once(" ⇒ ").ok_or("a line without an arrow")?;
-        compare(alloc, text, opened(alloc, index, chunk, text)?, wanted)?;
-    }
-    Ok(())
-}
-
 #[test]
 fn words_alone_open_no_list(rt: HostRuntime) -> Result<(), Fail> {
     let index = index_of(rt.alloc(), "letters")?;
     let chunk = chunk_of(rt.alloc(), &index, lines_of(DOCUMENTS, "letters")?)?;
-    try_opening(rt.alloc(), &index, &Shut { chunk })
+    try_lines(
+        rt.alloc(),
+        OPENING.trim_start(),
+        &index,
+        &Shut { chunk },
+        &Asked::Opens,
+    )
 }

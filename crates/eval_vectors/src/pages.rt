@@ -101,7 +101,6 @@ id desc, id desc; 4294967295 4294967295 4294967295 ⇒
 ";
 
 /// What a table's text is, and how it is tried.
-#[derive(Clone, Copy)]
 enum Trial {
     /// A condition by itself.
     Alone,
@@ -114,14 +113,6 @@ enum Trial {
 }
 
 fn number(text: Option<&str>) -> Result<i128, Fail> {
-    Ok(text.ok_or("no number")?.parse().or(Err("no number"))?)
-}
-
-fn natural(text: Option<&str>) -> Result<u64, Fail> {
-    Ok(text.ok_or("no number")?.parse().or(Err("no number"))?)
-}
-
-fn short(text: Option<&str>) -> Result<u32, Fail> {
     Ok(text.ok_or("no number")?.parse().or(Err("no number"))?)
 }
 
@@ -186,63 +177,44 @@ fn row(alloc: Global, id: u64, weight: u64, held: &[i64]) -> Result<Row, Fail> {
     })
 }
 
-/// A whole number that an attribute holds.
-fn held(text: Option<&str>) -> Result<i64, Fail> {
-    Ok(text.ok_or("no value")?.parse().or(Err("no value"))?)
-}
-
 /// The letter of a row and the row, as the table writes it.
-fn lettered_row(alloc: Global, line: &str) -> Result<(char, Row), Fail> {
+fn lettered_row(alloc: Global, line: &str) -> Result<(&str, Row), Fail> {
     let mut words = line.split(' ');
-    let letter = words.next().ok_or("no letter")?.chars().next();
-    let id = natural(words.next())?;
-    let weight = natural(words.next())?;
-    let values = [held(words.next())?, held(words.next())?];
-    Ok((letter.ok_or("no letter")?, row(alloc, id, weight, &values)?))
+    let letter = words.next().ok_or("no letter")?;
+    let id = u64::try_from(number(words.next())?)?;
+    let weight = u64::try_from(number(words.next())?)?;
+    let first = i64::try_from(number(words.next())?)?;
+    let second = i64::try_from(number(words.next())?)?;
+    Ok((letter, row(alloc, id, weight, &[first, second])?))
 }
 
-/// Whether a condition holds of a row: by itself, or made ready.
-fn holds(alloc: Global, filter: &Filter, row: &Row, trial: Trial) -> Result<bool, Fail> {
-    match trial {
-        Trial::Ready => {
-            let conditions = Conditions::over(alloc, std::slice::from_ref(filter))?;
-            Ok(conditions.hold_unweighed(row) && conditions.hold_weighed(row))
-        }
-        _ => Ok(filter.holds(row)),
-    }
-}
-
-/// The letters of the rows of which a condition holds.
-fn letters_where(alloc: Global, filter: &Filter, trial: Trial) -> Result<String, Fail> {
+/// The letters of the rows of which a condition holds, by itself or made ready.
+fn letters_where(alloc: Global, filter: &Filter, trial: &Trial) -> Result<String, Fail> {
+    let conditions = Conditions::over(alloc, std::slice::from_ref(filter))?;
     let mut letters = String::new(alloc);
     for line in ROWS.lines() {
         let (letter, row) = lettered_row(alloc, line)?;
-        if holds(alloc, filter, &row, trial)? {
-            letters.push(letter)?;
+        let holds = match trial {
+            Trial::Ready => conditions.hold_unweighed(&row) && conditions.hold_weighed(&row),
+            _ => filter.holds(&row),
+        };
+        if holds {
+            letters.push_str(letter)?;
         }
     }
     Ok(letters)
 }
 
 /// The letter of the row of the table with this id.
-fn letter_of(alloc: Global, id: u64) -> Result<char, Fail> {
+fn letter_of(alloc: Global, id: u64) -> Result<&'static str, Fail> {
+    let id = format!(in alloc; "{id}")?;
     for line in ROWS.lines() {
-        let (letter, row) = lettered_row(alloc, line)?;
-        if row.id == id {
+        let (letter, rest) = line.split_once(' ').ok_or("no letter")?;
+        if rest.split(' ').next() == Some(id.as_str()) {
             return Ok(letter);
         }
     }
     Err("a row that isn't in the table".into())
-}
-
-/// The rows of the table.
-fn all_rows(alloc: Global) -> Result<Vec<Row>, Fail> {
-    let mut rows = Vec::new(alloc);
-    for line in ROWS.lines() {
-        let (_, row) = lettered_row(alloc, line)?;
-        rows.push(row)?;
-    }
-    Ok(rows)
 }
 
 /// The order by these keys.
@@ -257,22 +229,13 @@ fn order_by(alloc: Global, text: &str) -> Result<Order, Fail> {
     })
 }
 
-fn page_of(text: &str) -> Result<Page, Fail> {
-    let mut numbers = text.split(' ');
-    Ok(Page {
-        offset: short(numbers.next())?,
-        count: short(numbers.next())?,
-        max_matches: short(numbers.next())?,
-    })
-}
-
 /// The page of rows that are found at once, or one after the other.
 fn shown(
     alloc: Global,
     rows: Vec<Row>,
     order: &Order,
     page: Page,
-    trial: Trial,
+    trial: &Trial,
 ) -> Result<Vec<Row>, Fail> {
     match trial {
         Trial::AtOnce => Ok(top(rows, order, &page)?),
@@ -287,85 +250,82 @@ fn shown(
 }
 
 /// The letters of the rows that a page shows.
-fn letters_shown(alloc: Global, text: &str, trial: Trial) -> Result<String, Fail> {
+fn letters_shown(alloc: Global, text: &str, trial: &Trial) -> Result<String, Fail> {
     let (keys, numbers) = text.split_once("; ").ok_or("a page without numbers")?;
-    let order = order_by(alloc, keys)?;
+    let mut numbers = numbers.split(' ');
+    let page = Page {
+        offset: u32::try_from(number(numbers.next())?)?,
+        count: u32::try_from(number(numbers.next())?)?,
+        max_matches: u32::try_from(number(numbers.next())?)?,
+    };
+    let mut rows = Vec::new(alloc);
+    for line in ROWS.lines() {
+        rows.push(lettered_row(alloc, line)?.1)?;
+    }
     let mut letters = String::new(alloc);
-    for row in shown(alloc, all_rows(alloc)?, &order, page_of(numbers)?, trial)?.iter() {
-        letters.push(letter_of(alloc, row.id)?)?;
+    for row in shown(alloc, rows, &order_by(alloc, keys)?, page, trial)?.iter() {
+        letters.push_str(letter_of(alloc, row.id)?)?;
     }
     Ok(letters)
 }
 
-/// The letters of the rows that a text of a table has.
-fn letters(alloc: Global, text: &str, trial: Trial) -> Result<String, Fail> {
-    match trial {
-        Trial::Alone | Trial::Ready => letters_where(alloc, &condition(alloc, text)?, trial),
-        Trial::AtOnce | Trial::Collected => letters_shown(alloc, text, trial),
-    }
-}
-
 /// Fails with the first text of a table that has other rows, and with these.
-fn try_table(alloc: Global, table: &str, trial: Trial) -> Result<(), Fail> {
+fn try_table(alloc: Global, table: &str, trial: &Trial) -> Result<(), Fail> {
     for line in table.lines() {
         let (text, wanted) = line.split_once(" ⇒ ").ok_or("a line without an arrow")?;
-        let found = letters(alloc, text, trial)?;
+        let found = match trial {
+            Trial::Alone | Trial::Ready => {
+                letters_where(alloc, &condition(alloc, text)?, trial)?
+            }
+            Trial::AtOnce | Trial::Collected => letters_shown(alloc, text, trial)?,
+        };
         compare(alloc, text, found.as_str(), wanted)?;
     }
     Ok(())
 }
 
 /// The ids of a page of 1,200 rows of one weight, ids 1 to 1,200 in no order, by weight.
-fn ids_shown(alloc: Global, offset: u32, max_matches: u32, trial: Trial) -> Result<Vec<u64>, Fail> {
+fn ids_shown(
+    alloc: Global,
+    offset: u32,
+    max_matches: u32,
+    trial: &Trial,
+) -> Result<Vec<u64>, Fail> {
     let mut rows = Vec::new(alloc);
     for number in 1..1201 {
         rows.push(row(alloc, number * 7 % 1201, 1, &[0, 0])?)?;
     }
-    let order = order_by(alloc, "weight desc")?;
     let page = Page {
         offset,
         count: 20,
         max_matches,
     };
-    let shown = shown(alloc, rows, &order, page, trial)?;
-    Ok(shown.iter().map(|row| row.id).collect(alloc)?)
+    let mut ids = Vec::new(alloc);
+    for row in shown(alloc, rows, &order_by(alloc, "weight desc")?, page, trial)?.iter() {
+        ids.push(row.id)?;
+    }
+    Ok(ids)
 }
 
 #[test]
-fn conditions_hold_of_their_rows(rt: HostRuntime) -> Result<(), Fail> {
-    try_table(rt.alloc(), CONDITIONS, Trial::Alone)?;
-    try_table(rt.alloc(), CONDITIONS, Trial::Ready)
-}
-
-#[test]
-fn pages_show_their_rows(rt: HostRuntime) -> Result<(), Fail> {
-    try_table(rt.alloc(), PAGES, Trial::AtOnce)?;
-    try_table(rt.alloc(), PAGES, Trial::Collected)
+fn conditions_hold_and_pages_show_their_rows(rt: HostRuntime) -> Result<(), Fail> {
+    try_table(rt.alloc(), CONDITIONS, &Trial::Alone)?;
+    try_table(rt.alloc(), CONDITIONS, &Trial::Ready)?;
+    try_table(rt.alloc(), PAGES, &Trial::AtOnce)?;
+    try_table(rt.alloc(), PAGES, &Trial::Collected)
 }
 
 #[test]
 fn many_rows_are_cut_after_max_matches(rt: HostRuntime) -> Result<(), Fail> {
-    assert_eq!(rt;
-        ids_shown(rt.alloc(), 995, 1000, Trial::AtOnce)?.as_slice(),
-        [996, 997, 998, 999, 1000].as_slice()
-    );
-    assert_eq!(rt; ids_shown(rt.alloc(), 1000, 2000, Trial::AtOnce)?.len(), 20);
-    Ok(())
-}
-
-#[test]
-fn many_rows_are_collected(rt: HostRuntime) -> Result<(), Fail> {
-    assert_eq!(rt;
-        ids_shown(rt.alloc(), 995, 1000, Trial::Collected)?.as_slice(),
-        [996, 997, 998, 999, 1000].as_slice()
-    );
-    assert_eq!(rt;
-        ids_shown(rt.alloc(), 7, 10, Trial::Collected)?.as_slice(),
-        [8, 9, 10].as_slice()
-    );
-    assert_eq!(rt;
-        ids_shown(rt.alloc(), 1000, 2000, Trial::Collected)?.len(),
-        20
-    );
+    let alloc = rt.alloc();
+    for trial in [&Trial::AtOnce, &Trial::Collected] {
+        let last = ids_shown(alloc, 995, 1000, trial)?;
+        assert_eq!(rt; last.as_slice(), [996, 997, 998, 999, 1000].as_slice());
+        assert_eq!(rt;
+            ids_shown(alloc, 7, 10, trial)?.as_slice(),
+            [8, 9, 10].as_slice()
+        );
+        assert_eq!(rt; ids_shown(alloc, 1000, 2000, trial)?.len(), 20);
+    }
     Ok(())
 }

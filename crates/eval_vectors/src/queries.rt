@@ -6,8 +6,8 @@ ghost use Rattle.eval_vectors.specs.steps.Reading.{IsSoundIndex};
 use crate::cases::{DOCUMENTS, QUERIES};
 use crate::documents::chunk_of;
 use crate::sets::{index_of, lines_of};
-use crate::telling::{compare, told};
-use doc_types::PlainChunk;
+use crate::telling::{compare, matching, told};
+use doc_types::HitLists;
 use index_conf::IndexConf;
 use op_eval::for_schema;
 use query_read::read_query;
@@ -29,24 +29,75 @@ pub(crate) fn query_of(alloc: Global, text: &str, index: &IndexConf) -> Result<Q
     }
 }
 
-/// Fails with the first of these lines whose query finds something else, and with what it finds.
-fn try_lines(alloc: Global, lines: &str, index: &IndexConf, chunk: &PlainChunk) -> Result<(), Fail>
+/// What is asked about the query of a text.
+pub(crate) enum Asked {
+    /// What it finds, row by row.
+    Found,
+    /// How many rows match.
+    Count,
+    /// Whether it opens a list of a chunk that has no memory for them.
+    Opens,
+}
+
+/// What a query comes to. Nothing that it has is let go here, so that its exits are cheap to prove.
+fn answer_of<C: HitLists>(
+    alloc: Global,
+    query: &Query,
+    chunk: &C,
+    asked: &Asked,
+) -> Result<String, Fail>
+    requires { length (query_keys query.now) < 2 ^ 16 }
+{
+    match asked {
+        Asked::Found => told(alloc, query, chunk),
+        Asked::Count => {
+            let count = matching(alloc, query, chunk)?.len();
+            Ok(format!(in alloc; "{count}")?)
+        }
+        Asked::Opens => {
+            let opens = matching(alloc, query, chunk).is_err();
+            Ok(String::from_str(alloc, if opens { "a list" } else { "no list" })?)
+        }
+    }
+}
+
+/// What the query of a text comes to.
+pub(crate) fn answer<C: HitLists>(
+    alloc: Global,
+    text: &str,
+    index: &IndexConf,
+    chunk: &C,
+    asked: &Asked,
+) -> Result<String, Fail>
+    requires { IsSoundIndex index.now }
+{
+    let query = query_of(alloc, text, index)?;
+    answer_of(alloc, &query, chunk, asked)
+}
+
+/// Fails with the first of these lines whose query comes to something else, and with what it comes to.
+pub(crate) fn try_lines<C: HitLists>(
+    alloc: Global,
+    lines: &str,
+    index: &IndexConf,
+    chunk: &C,
+    asked: &Asked,
+) -> Result<(), Fail>
     requires { IsSoundIndex index.now }
 {
     for line in lines.lines() {
         let (text, wanted) = line.split_once(" ⇒ ").ok_or("a line without an arrow")?;
-        let query = query_of(alloc, text, index)?;
-        let found = told(alloc, &query, chunk)?;
+        let found = answer(alloc, text, index, chunk, asked)?;
         compare(alloc, text, found.as_str(), wanted)?;
     }
     Ok(())
 }
 
-/// The same of the queries over a set.
+/// Fails with the first query over a set that finds something else.
 fn try_set(alloc: Global, set: &str, lines: &str) -> Result<(), Fail> {
     let index = index_of(alloc, set)?;
     let chunk = chunk_of(alloc, &index, lines_of(DOCUMENTS, set)?)?;
-    try_lines(alloc, lines, &index, &chunk)
+    try_lines(alloc, lines, &index, &chunk, &Asked::Found)
 }
 
 #[test]

@@ -2,10 +2,9 @@
 ghost use Rattle.eval_vectors.specs.steps.Reading.{IsSoundIndex};
 
 use crate::documents::{built, push};
-use crate::queries::query_of;
+use crate::queries::{Asked, try_lines};
 use crate::sets::index_of;
-use crate::telling::{compare, count};
-use doc_types::PlainChunk;
+use image_chunk::RamChunk;
 use index_conf::IndexConf;
 use std::alloc::Global;
 use std::test::Fail;
@@ -53,7 +52,7 @@ fn text_of(alloc: Global, number: u64) -> Result<String, Fail> {
 }
 
 /// The chunk of the documents.
-fn chunk_of_many(alloc: Global, index: &IndexConf) -> Result<PlainChunk, Fail>
+fn chunk_of_many(alloc: Global, index: &IndexConf) -> Result<RamChunk, Fail>
     requires { IsSoundIndex index.now }
 {
     let mut rows = Vec::new(alloc);
@@ -64,35 +63,15 @@ fn chunk_of_many(alloc: Global, index: &IndexConf) -> Result<PlainChunk, Fail>
     built(alloc, index, rows)
 }
 
-/// How many documents the query finds.
-fn count_of(
-    alloc: Global,
-    index: &IndexConf,
-    chunk: &PlainChunk,
-    text: &str,
-) -> Result<String, Fail>
-    requires { IsSoundIndex index.now }
-{
-    let query = query_of(alloc, text, index)?;
-    let count = count(alloc, &query, chunk)?;
-    Ok(format!(in alloc; "{count}")?)
-}
-
-/// Fails with the first query that finds another number of documents, and with that number.
-fn try_counts(alloc: Global, index: &IndexConf, chunk: &PlainChunk) -> Result<(), Fail>
-    requires { IsSoundIndex index.now }
-{
-    for line in COUNTS.trim_start().lines() {
-        let (text, wanted) = line.split_once(" ⇒ ").ok_or("a line without an arrow")?;
-        let found = count_of(alloc, index, chunk, text)?;
-        compare(alloc, text, found.as_str(), wanted)?;
-    }
-    Ok(())
-}
-
 #[test]
 fn many_documents_are_counted(rt: HostRuntime) -> Result<(), Fail> {
     let index = index_of(rt.alloc(), "letters")?;
     let chunk = chunk_of_many(rt.alloc(), &index)?;
-    try_counts(rt.alloc(), &index, &chunk)
+    try_lines(
+        rt.alloc(),
+        COUNTS.trim_start(),
+        &index,
+        &chunk,
+        &Asked::Count,
+    )
 }

@@ -6,7 +6,7 @@ use doc_types::{Counted, CountedLists, Hit, HitLists, Hits};
 use occ_lists::Occ;
 use op_eval::{Matches, candidates, hits, occurrences};
 use query_tree::Query;
-use srch_base::{Items, Steps};
+use srch_base::{Items, NoMemory, Steps};
 use std::alloc::Global;
 use std::marker::Brand;
 use std::sync::ledger::{Blank, Ledger};
@@ -278,23 +278,26 @@ pub(crate) fn told<C: HitLists>(alloc: Global, query: &Query, chunk: &C) -> Resu
     Ok(told)
 }
 
-/// The rows that match.
 fn matching_by<L: Ledger, C: HitLists>(
     alloc: Global,
     query: &Query,
     chunk: &C,
     blank: Blank,
-) -> Result<Vec<u32>, Fail>
+) -> Result<Vec<u32>, NoMemory>
     requires name { blank.name ≡ L.name }
     requires parts { blank.parts ≡ L.parts }
     requires some { 0 < blank.parts }
 {
     let chunk = &Counted::<C, L>::over(chunk);
     let mut steps = Steps::<L>::new(blank);
-    Ok(candidates(alloc, query, chunk, &[], &mut steps)?)
+    candidates(alloc, query, chunk, &[], &mut steps)
 }
 
-/// How many rows match.
-pub(crate) fn count<C: HitLists>(alloc: Global, query: &Query, chunk: &C) -> Result<usize, Fail> {
-    Ok(matching_by::<Brand, C>(alloc, query, chunk, Blank::new(1))?.len())
+/// The rows that match.
+pub(crate) fn matching<C: HitLists>(
+    alloc: Global,
+    query: &Query,
+    chunk: &C,
+) -> Result<Vec<u32>, NoMemory> {
+    matching_by::<Brand, C>(alloc, query, chunk, Blank::new(1))
 }

@@ -46,19 +46,6 @@ fn number(text: &str) -> Result<u16, Fail> {
     Ok(text.parse().or(Err("no number"))?)
 }
 
-/// A hit, as a case has it.
-fn hit_of(text: &str) -> Result<Hit, Fail> {
-    let (query, rest) = text.split_once('/').ok_or("no word")?;
-    let (word, place) = rest.split_once('@').ok_or("no field")?;
-    let (field, position) = place.split_once('.').ok_or("no position")?;
-    Ok(Hit {
-        query: number(query)?,
-        word: number(word)?,
-        field: number(field)?,
-        position: u32::from(number(position)?),
-    })
-}
-
 /// Whether no two hits are of one query position at one place.
 fn are_apart(hits: &[Hit]) -> bool
     ensures { IsTrue result → AllPairs Differ hits.now }
@@ -130,7 +117,15 @@ fn told(alloc: Global, hits: &Hits, weights: &Weights) -> Result<String, Fail> {
 fn hits_in(alloc: Global, text: &str) -> Result<Items<Hit>, Fail> {
     let mut list = Vec::new(alloc);
     for hit in text.split_whitespace() {
-        list.push(hit_of(hit)?)?;
+        let (query, rest) = hit.split_once('/').ok_or("no word")?;
+        let (word, place) = rest.split_once('@').ok_or("no field")?;
+        let (field, position) = place.split_once('.').ok_or("no position")?;
+        list.push(Hit {
+            query: number(query)?,
+            word: number(word)?,
+            field: number(field)?,
+            position: u32::from(number(position)?),
+        })?;
     }
     Ok(Items::new(list))
 }

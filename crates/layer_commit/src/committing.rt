@@ -77,7 +77,7 @@ fn layers_with<C: Chunk>(
 }
 
 /// How many rows of the layers live.
-fn live_count<C: Chunk>(layers: &[Layer<C>]) -> u64
+pub fn live_count<C: Chunk>(layers: &[Layer<C>]) -> u64
     requires { length layers.now < 2 ^ 16 }
     ensures count { result ≡ length (all_living layers.now) }
     ensures small { result < 2 ^ 48 }

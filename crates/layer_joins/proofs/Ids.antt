@@ -13,7 +13,7 @@ use Rattle.std.proofs.lemmas.Map.Lookups.{exact_unsigned}
 use Rattle.std.proofs.lemmas.Map.Made.{AllPairs-from_IsDistinct, IsDistinct-from_AllPairs}
 use Rattle.std.proofs.lemmas.Map.Views.{tells_apart}
 use Rattle.doc_types.specs.declared.documents.DocRow.{DocRow}
-use Rattle.layer_joins.specs.steps.Layering.{AreApart}
+use Rattle.layer_joins.specs.Joins.{AreApart}
 
 -- the ids of rows
 abbrev pub ids : List DocRow → List ℕ

@@ -10,7 +10,8 @@ use Rattle.doc_types.specs.Chunks.{IsContent}
 use Rattle.doc_types.specs.Documents.{IsDocOf, word_count}
 use Rattle.doc_types.specs.Snapshots.{LayerValue, IsLayer, AreLayers, all_living}
 use Rattle.layer_joins.specs.Joins.{AreOfOne}
-use Rattle.layer_joins.specs.steps.Layering.{AreApart, AreInMemory, AreSorted, IsMerged, option_list}
+use Rattle.layer_joins.specs.Joins.{AreApart, AreSorted}
+use Rattle.layer_joins.specs.steps.Layering.{AreInMemory, IsMerged, option_list}
 use Rattle.layer_joins.proofs.Ids.{ascending, apart_permutation}
 use Rattle.layer_joins.proofs.Upkeep.{joined_by, joined_rows}
 use Rattle.layer_joins.proofs.Livings.{all_living_split}

@@ -37,7 +37,7 @@ all_seconds P n [] all = All-nil (λ (e : ℕ × DocRow). P e.1)
 all_seconds P n (row ∷ rows) all = All-cons (λ (e : ℕ × DocRow). P e.1) (n, row) (enumerate_from (n + 1) rows) (All-head P row rows all) (all_seconds P (n + 1) rows (All-tail P row rows all))
 
 -- what holds of each row of a layer holds of those that live
-all_of : (P : DocRow → Type 0) (layer : LayerValue) → All P layer.rows → All P (living layer)
+pub all_of : (P : DocRow → Type 0) (layer : LayerValue) → All P layer.rows → All P (living layer)
 all_of P layer all =
     All-map P (λ (e : ℕ × DocRow). e.1) (filter (λ (e : ℕ × DocRow). not (is_dead layer e.0)) (enumerate_from 0 layer.rows))
     (All-filter (λ (e : ℕ × DocRow). not (is_dead layer e.0)) (λ (e : ℕ × DocRow). P e.1) (enumerate_from 0 layer.rows) (all_seconds P 0 layer.rows all))

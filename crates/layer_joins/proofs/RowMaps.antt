@@ -11,7 +11,7 @@ use Rattle.std.proofs.lemmas.Map.Lookups.{exact_unsigned}
 use Rattle.std.proofs.lemmas.Map.Views.{tells_apart, Contains-from_lookup, lookup-from_Contains}
 use Rattle.doc_types.specs.declared.documents.DocRow.{DocRow}
 use Rattle.doc_types.specs.Rows.{rows_of}
-use Rattle.layer_joins.specs.steps.Layering.{AreApart}
+use Rattle.layer_joins.specs.Joins.{AreApart}
 use Rattle.layer_joins.proofs.Ids.{ids, same_id, to_distinct, apart_permutation}
 
 -- a row with its id

@@ -14,7 +14,8 @@ use Rattle.doc_types.specs.Snapshots.{LayerValue, SnapshotValue, all_living, liv
 use Rattle.doc_types.proofs.Living.{whole_layer}
 use Rattle.layer_commit.specs.Commits.{layers_of}
 use Rattle.layer_joins.specs.Joins.{Joins, MayMerge}
-use Rattle.layer_joins.specs.steps.Layering.{AreApart, AreInMemory, IsLayerOf, IsMerged, option_list}
+use Rattle.layer_joins.specs.Joins.{AreApart}
+use Rattle.layer_joins.specs.steps.Layering.{AreInMemory, IsLayerOf, IsMerged, option_list}
 use Rattle.layer_joins.proofs.Livings.{all_living_split}
 use Rattle.layer_joins.proofs.RowMaps.{rows_of_permutation}
 

@@ -1,38 +1,27 @@
 //! Chunks of which layers can be put together.
-ghost use Rattle.std.specs.Prelude.{◌≡◌, ◌<◌, IfOk, length, slice_index_or};
-ghost use Rattle.doc_types.specs.Chunks.{IsContent};
+ghost use Rattle.std.specs.Prelude.{◌<◌, IfOk, length};
+ghost use Rattle.doc_types.specs.Snapshots.{all_living};
+ghost use Rattle.layer_joins.specs.Joins.{AreApart, AreOfOne, AreSorted};
 
-use doc_types::{Chunk, DocRow, PlainChunk};
+use crate::copying::sorted_copies;
+use doc_types::{Chunk, Layer, PlainChunk};
 use srch_base::NoMemory;
 use std::alloc::Global;
 
-/// A chunk in memory that can be made of rows, and gives copies of them.
+/// A chunk in memory that can be made of layers of such chunks.
 pub trait JoinChunk: Chunk {
-    /// A chunk of these rows.
-    fn of_rows(alloc: Global, rows: Vec<DocRow>) -> Result<Self, NoMemory>
-        requires { IsContent rows.items }
-        ensures { IfOk result (λ chunk. Self.content chunk ≡ rows.items) };
-
-    /// A copy of the row of this number.
-    fn row_copy(&self, number: u32) -> Result<DocRow, NoMemory>
-        requires { number < length (Self.content self.now) }
-        ensures { IfOk result (λ copy. copy ≡ slice_index_or (Self.content self.now) number copy) };
+    /// A chunk of the rows of some layers that live, in the order of their ids.
+    fn join(alloc: Global, layers: &[Layer<Self>]) -> Result<Self, NoMemory>
+        requires of { AreOfOne (all_living layers.now) }
+        requires apart { AreApart (all_living layers.now) }
+        requires some { 0 < length (all_living layers.now) }
+        ensures { IfOk result (λ chunk. AreSorted (all_living layers.now) (Self.content chunk)) };
 }
 
+/// Plain chunks copy the rows, and index them anew.
 impl JoinChunk for PlainChunk {
-    fn of_rows(alloc: Global, rows: Vec<DocRow>) -> Result<PlainChunk, NoMemory> {
+    fn join(alloc: Global, layers: &[Layer<PlainChunk>]) -> Result<PlainChunk, NoMemory> {
+        let rows = sorted_copies(alloc, layers)?;
         PlainChunk::build(alloc, rows)
     }
-
-    fn row_copy(&self, number: u32) -> Result<DocRow, NoMemory> {
-        copy_of(self.as_rows(), number as usize)
-    }
-}
-
-/// A copy of the row at this place.
-fn copy_of(rows: &[DocRow], place: usize) -> Result<DocRow, NoMemory>
-    requires { place < length rows.now }
-    ensures { IfOk result (λ copy. copy ≡ slice_index_or rows.now place copy) }
-{
-    Ok(rows[place].clone()?)
 }

@@ -2,15 +2,15 @@
 //!
 //! A commit puts its rows into a layer of their own (`layer_commit`), so a snapshot would have more and more layers. They are put
 //! together where that is cheap by then: as soon as more than half of the rows of a layer are dead, or as the layers behind it have
-//! seven times its living rows or more, it becomes one with them; and where that leaves more than thirty-two layers in memory, the
+//! three times its living rows or more, it becomes one with them; and where that leaves more than thirty-two layers in memory, the
 //! last ones become one, so that just so many are left. An id is found by binary search in each of them. Where documents come one by
-//! one, eight layers of one size become one, and a row is copied once for each power of eight, six times among 200,000, and some times
+//! one, four layers of one size become one, and a row is copied once for each power of four, nine times among 200,000, and some times
 //! more among the last few rows. Putting together changes no document, and no layer on a disk takes part nor stands behind one that does, so
 //! `shape` doesn't count it; and where memory for it is refused, or one layer can't number so many words, the layers stay as they are.
 #![tactic(auto)]
 
+mod copying;
 mod joining;
-mod layers;
 mod merging;
 
 pub use joining::JoinChunk;

@@ -1,35 +1,22 @@
 //! How layers are put together.
-ghost use Rattle.std.specs.Prelude.{◌≡◌, ◌<◌, ◌≤◌, ◌^◌, ℕ, [], ◌∷◌, ◌++◌, IfOk, IfSome, OnErr, OnOk, if◌then◌else◌, length, slice_index_or, take};
-ghost use Rattle.doc_types.specs.Snapshots.{AreLayers, all_living, is_dead, living};
-ghost use Rattle.doc_types.specs.declared.documents.DocRow.{DocRow};
-ghost use Rattle.layer_joins.specs.Joins.{AreOfOne, MayMerge};
-ghost use Rattle.layer_joins.specs.steps.Layering.{AreApart, AreInMemory, IsMerged, option_list};
+ghost use Rattle.std.specs.Prelude.{◌≡◌, ◌<◌, ◌≤◌, ◌^◌, ℕ, ◌++◌, IfOk, IfSome, OnErr, OnOk, length, take};
+ghost use Rattle.doc_types.specs.Snapshots.{AreLayers, all_living};
+ghost use Rattle.layer_joins.specs.Joins.{AreApart, AreOfOne, MayMerge};
+ghost use Rattle.layer_joins.specs.steps.Layering.{AreInMemory, IsLayerOf, IsMerged, option_list};
 
 use crate::joining::JoinChunk;
-use crate::layers::layer_of;
-use doc_types::{Chunk, DocRow, Layer, Snapshot};
-use layer_commit::is_dead;
+use doc_types::{Chunk, Layer, Snapshot};
+use layer_commit::live_count;
 use srch_base::{Items, NoMemory};
 use std::alloc::Global;
 use std::mem;
+use std::sync::Arc;
 
 /// A layer becomes one with those behind it as soon as they have so many times its rows.
-const FAN_IN: u64 = 7;
+const FAN_IN: u64 = 3;
 
 /// The most layers in memory that are left as they are.
 const MOST_LAYERS: usize = 32;
-
-/// How many rows of the layers live.
-fn live_count<C: Chunk>(layers: &[Layer<C>]) -> u64
-    requires { length layers.now < 2 ^ 16 }
-    ensures { result < 2 ^ 48 }
-{
-    let mut count = 0;
-    for layer in layers {
-        count += u64::from(layer.live_count());
-    }
-    count
-}
 
 /// Whether more than half of the layer's rows are dead.
 fn is_mostly_dead<C: Chunk>(layer: &Layer<C>) -> bool {
@@ -91,63 +78,34 @@ fn merge_start<C: Chunk>(layers: &[Layer<C>]) -> Option<usize>
     }
 }
 
-/// Appends a copy of the row of this number, unless it is dead.
-fn push_living<C: JoinChunk>(
-    layer: &Layer<C>,
-    number: u32,
-    rows: &mut Vec<DocRow>,
-) -> Result<(), NoMemory>
-    requires { number < length layer.now.rows }
-    ensures { OnOk result ((row : DocRow) → row ≡ slice_index_or layer.now.rows number row → rows.new.items ≡ rows.old.items ++ (if is_dead layer.now number then [] else row ∷ [])) }
+/// A layer of the rows of these that live, of which there are some.
+fn layer_of<C: JoinChunk>(alloc: Global, layers: &[Layer<C>]) -> Result<Layer<C>, NoMemory>
+    requires of { AreOfOne (all_living layers.now) }
+    requires apart { AreApart (all_living layers.now) }
+    requires some { 0 < length (all_living layers.now) }
+    ensures { IfOk result (λ layer. IsLayerOf (all_living layers.now) layer) }
 {
-    if is_dead(layer.dead.as_slice(), number) {
-        return Ok(());
-    }
-    rows.push(layer.chunk.row_copy(number)?)?;
-    Ok(())
-}
-
-/// How many rows the layer has.
-fn row_count<C: Chunk>(layer: &Layer<C>) -> u32
-    ensures { result ≡ length layer.now.rows }
-{
-    layer.chunk.rows()
-}
-
-/// Appends copies of the rows of the layer that live.
-fn push_rows<C: JoinChunk>(layer: &Layer<C>, rows: &mut Vec<DocRow>) -> Result<(), NoMemory>
-    ensures { OnOk result (rows.new.items ≡ rows.old.items ++ living layer.now) }
-{
-    let count = row_count(layer);
-    for number in 0..count {
-        push_living(layer, number, rows)?;
-    }
-    Ok(())
-}
-
-/// Copies of the rows of the layers that live.
-fn copies_of<C: JoinChunk>(alloc: Global, layers: &[Layer<C>]) -> Result<Vec<DocRow>, NoMemory>
-    ensures { IfOk result (λ rows. rows.items ≡ all_living layers.now) }
-{
-    let mut rows = Vec::new(alloc);
-    for layer in layers {
-        push_rows(layer, &mut rows)?;
-    }
-    Ok(rows)
+    let chunk = C::join(alloc, layers)?;
+    let chunk = Arc::new(alloc, chunk)?;
+    let dead = Arc::new(alloc, Items::new(Vec::new(alloc)))?;
+    Ok(Layer {
+        chunk,
+        disk: false,
+        dead,
+    })
 }
 
 /// One layer of the rows of these that live, where there are some.
 fn merged<C: JoinChunk>(alloc: Global, layers: &[Layer<C>]) -> Result<Option<Layer<C>>, NoMemory>
+    requires few { length layers.now < 2 ^ 16 }
     requires of { AreOfOne (all_living layers.now) }
     requires apart { AreApart (all_living layers.now) }
     ensures { IfOk result (IsMerged (all_living layers.now)) }
 {
-    let rows = copies_of(alloc, layers)?;
-    if rows.is_empty() {
+    if live_count(layers) == 0 {
         return Ok(None);
     }
-    let layer = layer_of(alloc, rows)?;
-    Ok(Some(layer))
+    Ok(Some(layer_of(alloc, layers)?))
 }
 
 /// Puts a layer, or none, in the place of those from this one on.

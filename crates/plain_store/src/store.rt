@@ -9,8 +9,9 @@ ghost use Rattle.commit_outcomes.specs.Outcomes.{Commits, empty_snapshot};
 ghost use Rattle.plain_store.specs.Commits.{KeepsLayers};
 ghost use Rattle.layer_joins.specs.Joins.{AreOfOne, MayMerge};
 
+use any_chunk::AnyChunk;
 use commit_outcomes::{CommitOutcome, MAX_DOCUMENTS};
-use doc_types::{PlainChunk, Schema, Snapshot, Txn};
+use doc_types::{Schema, Snapshot, Txn};
 use layer_commit::{Refusal, commit};
 use layer_joins::merge_last;
 use srch_base::{Items, NoMemory, Or};
@@ -22,7 +23,7 @@ use std::sync::Arc;
 #[derive(Drop)]
 pub struct PlainStore {
     schema: Schema,
-    snapshot: Arc<Snapshot<PlainChunk>, Global>,
+    snapshot: Arc<Snapshot<AnyChunk>, Global>,
 }
 
 impl Model for PlainStore {
@@ -54,7 +55,7 @@ impl PlainStore {
     }
 
     /// The documents as they are after the last commit, layer by layer.
-    pub fn snapshot(&self) -> &Snapshot<PlainChunk>
+    pub fn snapshot(&self) -> &Snapshot<AnyChunk>
         ensures value { result.now ≡ self.now.snapshot }
         // Each layer's rows are of the columns, and no layer is an image of a file.
         ensures rows { All (λ layer. AreRowsOf self.now.schema layer.rows) result.now.layers }
@@ -64,7 +65,7 @@ impl PlainStore {
     }
 
     /// The documents as they are after the last commit, for a reader to keep.
-    pub fn front(&self) -> Result<Arc<Snapshot<PlainChunk>, Global>, NoMemory>
+    pub fn front(&self) -> Result<Arc<Snapshot<AnyChunk>, Global>, NoMemory>
         ensures value { IfOk result (λ front. arc_value front ≡ self.now.snapshot) }
         ensures rows { All (λ layer. AreRowsOf self.now.schema layer.rows) self.now.snapshot.layers }
         ensures memory { All (λ layer. layer.disk ≡ false) self.now.snapshot.layers }
@@ -97,8 +98,8 @@ impl PlainStore {
 /// The snapshot to be shared, its last layers put together where that is cheap by now.
 fn upkept(
     alloc: Global,
-    mut snapshot: Snapshot<PlainChunk>,
-) -> Result<Arc<Snapshot<PlainChunk>, Global>, NoMemory>
+    mut snapshot: Snapshot<AnyChunk>,
+) -> Result<Arc<Snapshot<AnyChunk>, Global>, NoMemory>
     requires of { AreOfOne (all_living snapshot.layers) }
     ensures merges { IfOk result (λ shared. MayMerge snapshot (arc_value shared)) }
     ensures sound { IfOk result (λ shared. AreLayers (arc_value shared).layers) }

@@ -10,8 +10,9 @@ ghost use Rattle.commit_outcomes.specs.Outcomes.{Commits, empty_snapshot};
 ghost use Rattle.ql_session.specs.Tables.{AreInMemory, empty_tables};
 
 use crate::TableStore;
+use any_chunk::AnyChunk;
 use commit_outcomes::CommitOutcome;
-use doc_types::{PlainChunk, Snapshot, Txn};
+use doc_types::{Snapshot, Txn};
 use index_conf::IndexConf;
 use plain_store::PlainStore;
 use ql_answers::Catalog;
@@ -42,7 +43,7 @@ impl Table {
     }
 
     /// Its documents, which are of its columns.
-    fn front(&self) -> Result<Arc<Snapshot<PlainChunk>, Global>, NoMemory>
+    fn front(&self) -> Result<Arc<Snapshot<AnyChunk>, Global>, NoMemory>
         ensures front { IfOk result (λ front. arc_value front ≡ self.now.store.snapshot) }
         ensures schema { IsSchema self.now.conf.schema }
         ensures rows { All (λ layer. AreRowsOf self.now.conf.schema layer.rows) self.now.store.snapshot.layers }
@@ -111,7 +112,7 @@ impl TableStore for PlainTables {
     ghost use Rattle.doc_types.specs.Snapshots.{SnapshotValue};
     ghost use Rattle.ql_session.specs.Tables.{in_memory};
 
-    type Chunk = PlainChunk;
+    type Chunk = AnyChunk;
 
     ghost Front = { SnapshotValue };
 
@@ -119,7 +120,7 @@ impl TableStore for PlainTables {
 
     ghost may_stay = { λ tables. refl };
 
-    fn front(&mut self, place: u16) -> Result<Arc<Snapshot<PlainChunk>, Global>, NoMemory> {
+    fn front(&mut self, place: u16) -> Result<Arc<Snapshot<AnyChunk>, Global>, NoMemory> {
         self.tables[place as usize].front()
     }
 

@@ -34,7 +34,7 @@ use Rattle.gate_log.specs.declared.records.LogRecord.{LogRecord}
 use Rattle.root_slots.specs.declared.root.Root.{Root}
 use Rattle.layer_commit.specs.Commits.{Applies, layers_after}
 use Rattle.layer_joins.specs.Joins.{AreOfOne, MayMerge}
-use Rattle.layer_joins.specs.steps.Layering.{AreApart}
+use Rattle.layer_joins.specs.Joins.{AreApart}
 use Rattle.layer_joins.proofs.Kept.{disk_joined, of_joined}
 use Rattle.layer_joins.proofs.Livings.{docs_of}
 use Rattle.layer_joins.proofs.Upkeep.{live_joined}

@@ -17,7 +17,7 @@ ghost use Rattle.store_keep.specs.steps.Loads.{AreRowsAt, IsLoaded, IsOfBytes, I
 use crate::fault::StoreFault;
 use any_chunk::AnyChunk;
 use doc_bytes::read_txn;
-use doc_types::{Chunk, Doc, DocRow, Layer, PlainChunk, Schema, Snapshot, Txn, TxnOp};
+use doc_types::{Chunk, Doc, DocRow, Layer, Schema, Snapshot, Txn, TxnOp};
 use gate_log::{Before, LogKind, RecordAt, read_records};
 use srch_base::{Items, NoMemory, Or};
 use std::alloc::Global;
@@ -232,7 +232,7 @@ fn chunk_of(alloc: Global, rows: Vec<DocRow>) -> Result<AnyChunk, NoMemory>
     ensures rows { IfOk result (λ chunk. ⟦<AnyChunk as Chunk>⟧.content chunk ≡ rows.items) }
     ensures content { IsContent rows.items }
 {
-    Ok(AnyChunk::Ram(PlainChunk::build(alloc, rows)?))
+    AnyChunk::build(alloc, rows)
 }
 
 /// The rows of a map, by ascending id, unless they have too many words for a chunk.

@@ -12,7 +12,7 @@ ghost use Rattle.commit_outcomes.specs.declared.outcome.TheConstants.{MAX_DOCUME
 ghost use Rattle.doc_types.specs.Snapshots.{AreLayers, all_living};
 ghost use Rattle.layer_commit.specs.Commits.{Applies};
 ghost use Rattle.layer_joins.specs.Joins.{AreOfOne, MayMerge};
-ghost use Rattle.layer_joins.specs.steps.Layering.{AreApart};
+ghost use Rattle.layer_joins.specs.Joins.{AreApart};
 ghost use Rattle.step_history.specs.History.{IsGood, last_snapshot};
 ghost use Rattle.step_history.specs.Logs.{log_at};
 ghost use Rattle.store_steps.specs.Refusals.{full_numbers, full_of, is_put, most_log};

@@ -1,19 +1,8 @@
 -- Layers in memory, and how they are put together.
-use Rattle.std.specs.Prelude.{◌≡◌, ◌≢◌, ◌<◌, ℕ, List, [], ◌∷◌, Option, Some, None, false, All, AllPairs, drop, length}
+use Rattle.std.specs.Prelude.{◌≡◌, ◌<◌, ℕ, List, [], ◌∷◌, Option, Some, None, false, All, AllPairs, drop, length}
 use Rattle.std.specs.List.Sorted.{IsPermutation}
 use Rattle.doc_types.specs.declared.documents.DocRow.{DocRow}
-use Rattle.doc_types.specs.Chunks.{IsContent}
 use Rattle.doc_types.specs.Snapshots.{IsLayer, LayerValue}
-
--- no two rows have one id
-abbrev pub AreApart : List DocRow → Type 0
-AreApart rows = AllPairs (λ row other. row.doc.id ≢ other.doc.id) rows
-
--- the rows by ascending id, as a chunk holds them
-pub record AreSorted (rows sorted : List DocRow) : Type 0 where
-  pub moved : IsPermutation rows sorted
-  pub ascend : AllPairs (λ row later. row.doc.id < later.doc.id) sorted
-  pub content : IsContent sorted
 
 -- a layer in memory of these rows, sorted
 pub record IsLayerOf (rows : List DocRow) (layer : LayerValue) : Type 0 where

@@ -2,7 +2,8 @@ use Rattle.std.proofs.Common.{◌≡◌, ◌++◌, List, ◌<◌, length, take, 
 use Rattle.std.proofs.lemmas.List.{take_rest}
 use Rattle.doc_types.specs.Snapshots.{AreLayers, LayerValue, SnapshotValue, all_living}
 use Rattle.layer_joins.specs.Joins.{MayMerge}
-use Rattle.layer_joins.specs.steps.Layering.{AreApart, AreInMemory, IsMerged, option_list}
+use Rattle.layer_joins.specs.Joins.{AreApart}
+use Rattle.layer_joins.specs.steps.Layering.{AreInMemory, IsMerged, option_list}
 use Rattle.layer_joins.proofs.Ids.{apart_back}
 use Rattle.layer_joins.proofs.Limits.{layers_merged, of_back}
 use Rattle.layer_joins.proofs.Livings.{all_living_split}

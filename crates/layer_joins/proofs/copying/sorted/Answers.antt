@@ -5,7 +5,7 @@ use Rattle.std.proofs.lemmas.List.Sorted.{IsNonDecreasingBy-from_sort_by_key}
 use Rattle.doc_types.specs.declared.documents.DocRow.{DocRow}
 use Rattle.doc_types.specs.Documents.{word_count}
 use Rattle.layer_joins.proofs.Limits.{sorted_rows}
-use Rattle.layer_joins.proofs.layers.sorted.Goals as goal
+use Rattle.layer_joins.proofs.copying.sorted.Goals as goal
 
 pub returns : goal.returns
 returns c =

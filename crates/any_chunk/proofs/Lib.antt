@@ -1,0 +1,2 @@
+-- layers that were put together as an image
+pub mod JoinedLayers

@@ -1,0 +1,2 @@
+-- kinds of chunks
+pub mod Kinds
