@@ -1,81 +1,51 @@
 //! Checks of indexes over disks in memory: a line of each index where all can be opened, and otherwise why the first one can't. The
 //! bytes of the files, the words of damage and the lines are those of the manual and of docs/FILES.md.
-use crate::disks::stores_of;
-use crate::hosts::{CHECK, run_over};
-use crate::told::{configuration, numbers, printed};
-use std::alloc::Global;
-use std::sync::Wait;
-use std::test::Fail;
-use std::thread::Threads;
 
-/// What the check is of, ` | `, the indexes with `+` between them, ` | `, the calls of the host that fail, and ` ⇒ ` with the exit
-/// status, how many stores came back, and what was printed to the output and then to the errors, `;` for the end of a line.
-///
-/// Indexes and their stores are as `stores_of` reads them.
-const CHECKS: &str = r#"
-an empty directory | one | ⇒ 0, 1 back: one: 0 documents, 0 disk chunks, 0 log records;
-the log of one document | one 0=010100000000000000240000000c006669656c64207469746c650a00000000000000000300000000000000020000000000 2=012300000001000000000000000100000001070000000000000002000000000568656c6c6f0005776f726c640000000000 | ⇒ 0, 1 back: one: 1 documents, 0 disk chunks, 1 log records;
-commits that no chunk has | one 0=010100000000000000240000000c006669656c64207469746c650a02000000000000000300000000000000020000000000 2=011800000003000000000000000100000001030000000000000001000000000163000000000118000000040000000000000001000000010400000000000000010000000001640000000000 | ⇒ 0, 1 back: one: 2 documents, 0 disk chunks, 2 log records;
-one that the chunks have | one 0=010100000000000000240000000c006669656c64207469746c650a03000000000000000300000000000000020000000000 2=011800000003000000000000000100000001030000000000000001000000000163000000000118000000040000000000000001000000010400000000000000010000000001640000000000 | ⇒ 0, 1 back: one: 1 documents, 0 disk chunks, 1 log records;
-another length in the log | one 0=010100000000000000240000000c006669656c64207469746c650a00000000000000000300000000000000020000000000 2=01ff00000001000000000000000100000001070000000000000002000000000568656c6c6f0005776f726c640000000000 | ⇒ 5, 1 back: searchd: index one: file 2 at 0: record length;
-the columns of another index | one 0=010100000000000000230000000b006669656c6420626f64790a00000000000000000300000000000000020000000000 2=00 | ⇒ 5, 1 back: searchd: index one: file 0 at 13: root schema;
-no log | one 1=010100000000000000240000000c006669656c64207469746c650a00000000000000000300000000000000020000000000 | ⇒ 5, 1 back: searchd: index one: file 2 at 0: log missing;
-two, in the order of the configuration | two + one 0=010100000000000000240000000c006669656c64207469746c650a00000000000000000300000000000000020000000000 2=012300000001000000000000000100000001070000000000000002000000000568656c6c6f0005776f726c640000000000 | ⇒ 0, 2 back: two: 0 documents, 0 disk chunks, 0 log records;one: 1 documents, 0 disk chunks, 1 log records;
-the second is damaged | one + two 0=01010000000000000024000000 | ⇒ 5, 2 back: searchd: index two: file 0 at 0: root length;
-both are | one 0=01010000000000000024000000 + two 0=010100000000000000240000000c006669656c64207469746c650a00000000000000000300000000000000020000000000 | ⇒ 5, 1 back: searchd: index one: file 0 at 0: root length;
-the first is, and the second can't be opened | one 0=01010000000000000024000000 + -two | ⇒ 5, 1 back: searchd: index one: file 0 at 0: root length;
-the first can't be opened | -one + two 0=01010000000000000024000000 | ⇒ 4, 0 back: searchd: host fault;
-the second can't | one + -two | ⇒ 4, 1 back: searchd: host fault;
-the text can't be read | one | 1 ⇒ 4, 0 back: searchd: host fault;
-the call for the store fails | one | 2 ⇒ 4, 0 back: searchd: host fault;
-the call for the second one | one + two | 3 ⇒ 4, 1 back: searchd: host fault;
-the print to the output | one + two | 4 ⇒ 4, 2 back: searchd: host fault;
-both prints | one + two | 4 5 ⇒ 4, 2 back: 
-the print of a damage | one 0=01010000000000000024000000 | 3 ⇒ 5, 1 back: 
-the store fails | one !1 + two | ⇒ 4, 1 back: searchd: host fault;
-the second store fails | one + two !2 | ⇒ 4, 2 back: searchd: host fault;
-a store fails as its index is begun | one !9 | ⇒ 4, 1 back: searchd: host fault;
-a name of 64 bytes | n234567890123456789012345678901234567890123456789012345678901234 0=01010000000000000024000000 | ⇒ 5, 1 back: searchd: index n234567890123456789012345678901234567890123456789012345678901234: file 0 at 0: root length;
+/// A line of each index.
+pub(crate) const CHECKS: &str = r#"
+an empty directory | check --config searchd.conf |  | one |  | - ⇒ 0; asks searchd.conf, in one, 1 and 0 back; one: 0 documents, 0 disk chunks, 0 log records;
+the log of one document | check --config searchd.conf |  | one 0=ROOT 2=LOG |  | - ⇒ 0; asks searchd.conf, in one, 1 and 0 back; one: 1 documents, 0 disk chunks, 1 log records;
+commits that no chunk has | check --config searchd.conf |  | one 0=ROOT_BEHIND_2 2=LOG_OF_TWO |  | - ⇒ 0; asks searchd.conf, in one, 1 and 0 back; one: 2 documents, 0 disk chunks, 2 log records;
+one that the chunks have | check --config searchd.conf |  | one 0=ROOT_BEHIND_3 2=LOG_OF_TWO |  | - ⇒ 0; asks searchd.conf, in one, 1 and 0 back; one: 1 documents, 0 disk chunks, 1 log records;
+another length in the log | check --config searchd.conf |  | one 0=ROOT 2=LOG_OF_ANOTHER_LENGTH |  | - ⇒ 5; asks searchd.conf, in one, 1 and 0 back; ! searchd: index one: file 2 at 0: record length;
+the columns of another index | check --config searchd.conf |  | one 0=ROOT_OF_BODY 2=0x00 |  | - ⇒ 5; asks searchd.conf, in one, 1 and 0 back; ! searchd: index one: file 0 at 13: root schema;
+no log | check --config searchd.conf |  | one 1=ROOT |  | - ⇒ 5; asks searchd.conf, in one, 1 and 0 back; ! searchd: index one: file 2 at 0: log missing;
+two, in the order of the configuration | check --config searchd.conf |  | two + one 0=ROOT 2=LOG |  | - ⇒ 0; asks searchd.conf, in two, in one, 2 and 0 back; two: 0 documents, 0 disk chunks, 0 log records; one: 1 documents, 0 disk chunks, 1 log records;
+the second is damaged | check --config searchd.conf |  | one + two 0=ROOT_CUT |  | - ⇒ 5; asks searchd.conf, in one, in two, 2 and 0 back; ! searchd: index two: file 0 at 0: root length;
+both are | check --config searchd.conf |  | one 0=ROOT_CUT + two 0=ROOT |  | - ⇒ 5; asks searchd.conf, in one, 1 and 0 back; ! searchd: index one: file 0 at 0: root length;
+the first is, and the second can't be opened | check --config searchd.conf |  | one 0=ROOT_CUT + -two |  | - ⇒ 5; asks searchd.conf, in one, 1 and 0 back; ! searchd: index one: file 0 at 0: root length;
+the first can't be opened | check --config searchd.conf |  | -one + two 0=ROOT_CUT |  | - ⇒ 4; asks searchd.conf, in one, 0 and 0 back; ! searchd: host fault;
+the second can't | check --config searchd.conf |  | one + -two |  | - ⇒ 4; asks searchd.conf, in one, in two, 1 and 0 back; ! searchd: host fault;
+the text can't be read | check --config searchd.conf |  | one | 1 | - ⇒ 4; asks searchd.conf, 0 and 0 back; ! searchd: host fault;
+the call for the store fails | check --config searchd.conf |  | one | 2 | - ⇒ 4; asks searchd.conf, in one, 0 and 0 back; ! searchd: host fault;
+the call for the second one | check --config searchd.conf |  | one + two | 3 | - ⇒ 4; asks searchd.conf, in one, in two, 1 and 0 back; ! searchd: host fault;
+the print to the output | check --config searchd.conf |  | one + two | 4 | - ⇒ 4; asks searchd.conf, in one, in two, 2 and 0 back; ! searchd: host fault;
+both prints | check --config searchd.conf |  | one + two | 4 5 | - ⇒ 4; asks searchd.conf, in one, in two, 2 and 0 back;
+the print of a damage | check --config searchd.conf |  | one 0=ROOT_CUT | 3 | - ⇒ 5; asks searchd.conf, in one, 1 and 0 back;
+the store fails | check --config searchd.conf |  | one !1 + two |  | - ⇒ 4; asks searchd.conf, in one, 1 and 0 back; ! searchd: host fault;
+the second store fails | check --config searchd.conf |  | one + two !2 |  | - ⇒ 4; asks searchd.conf, in one, in two, 2 and 0 back; ! searchd: host fault;
+a store fails as its index is begun | check --config searchd.conf |  | one !9 |  | - ⇒ 4; asks searchd.conf, in one, 1 and 0 back; ! searchd: host fault;
+a name of 64 bytes | check --config searchd.conf |  | n234567890123456789012345678901234567890123456789012345678901234 0=ROOT_CUT |  | - ⇒ 5; asks searchd.conf, in n234567890123456789012345678901234567890123456789012345678901234, 1 and 0 back; ! searchd: index n234567890123456789012345678901234567890123456789012345678901234: file 0 at 0: root length;
 "#;
 
-/// What a check of indexes comes to.
-fn told<R: Threads + Wait + Sync>(
-    rt: &R,
-    alloc: Global,
-    indexes: &str,
-    failing: &str,
-) -> Result<String, Fail> {
-    let text = configuration(alloc, indexes)?;
-    let (status, host) = run_over(
-        rt,
-        alloc,
-        CHECK,
-        text.as_bytes(),
-        stores_of(alloc, indexes)?,
-        Vec::new(alloc),
-        &numbers(alloc, failing)?,
-    )?;
-    let (code, back) = (status.code(), host.stores_back().len());
-    let printed = printed(alloc, &host)?;
-    Ok(format!(in alloc; "{code}, {back} back: {printed}")?)
-}
-
-/// Fails where a check of a line comes to something else.
-fn try_line<R: Threads + Wait + Sync>(rt: &R, alloc: Global, line: &str) -> Result<(), Fail> {
-    let (case, wanted) = line.split_once("⇒ ").ok_or("a line without an arrow")?;
-    let (about, case) = case.split_once(" | ").ok_or("a line without indexes")?;
-    let (indexes, failing) = case.split_once(" | ").ok_or("a line without calls")?;
-    let found = told(rt, alloc, indexes, failing.trim_end())?;
-    if found.as_str() != wanted {
-        return Err(Fail::new(format!(in alloc; "{about} ⇒ {found}, wanted: {wanted}")?));
-    }
-    Ok(())
-}
-
-#[test]
-fn a_check_prints_a_line_of_each_index(rt: HostRuntime) -> Result<(), Fail> {
-    for line in CHECKS.lines().skip(1) {
-        try_line(&rt, rt.alloc(), line)?;
-    }
-    Ok(())
-}
+/// Directories that can't be read: the first index decides, whatever the words ask for, and no door is asked for.
+pub(crate) const DAMAGED: &str = r#"
+the log of the first | check --config searchd.conf |  | one 0=ROOT 2=LOG_OF_ANOTHER_LENGTH + two 0=ROOT_CUT |  | - ⇒ 5; asks searchd.conf, in one, 1 and 0 back; ! searchd: index one: file 2 at 0: record length;
+the log of the first | session --config searchd.conf |  | one 0=ROOT 2=LOG_OF_ANOTHER_LENGTH + two 0=ROOT_CUT |  | - ⇒ 5; asks searchd.conf, in one, 1 and 0 back; ! searchd: index one: file 2 at 0: record length;
+the log of the first | serve --config searchd.conf --listen a --workers 2 |  | one 0=ROOT 2=LOG_OF_ANOTHER_LENGTH + two 0=ROOT_CUT |  | - ⇒ 5; asks searchd.conf, in one, 1 and 0 back; ! searchd: index one: file 2 at 0: record length;
+the root of the first | check --config searchd.conf |  | one 0=ROOT_CUT + two 0=ROOT 2=LOG_OF_ANOTHER_LENGTH |  | - ⇒ 5; asks searchd.conf, in one, 1 and 0 back; ! searchd: index one: file 0 at 0: root length;
+the root of the first | session --config searchd.conf |  | one 0=ROOT_CUT + two 0=ROOT 2=LOG_OF_ANOTHER_LENGTH |  | - ⇒ 5; asks searchd.conf, in one, 1 and 0 back; ! searchd: index one: file 0 at 0: root length;
+the root of the first | serve --config searchd.conf --listen a --workers 2 |  | one 0=ROOT_CUT + two 0=ROOT 2=LOG_OF_ANOTHER_LENGTH |  | - ⇒ 5; asks searchd.conf, in one, 1 and 0 back; ! searchd: index one: file 0 at 0: root length;
+the first, and the second isn't there | check --config searchd.conf |  | one 0=ROOT 2=LOG_OF_ANOTHER_LENGTH + -two |  | - ⇒ 5; asks searchd.conf, in one, 1 and 0 back; ! searchd: index one: file 2 at 0: record length;
+the first, and the second isn't there | session --config searchd.conf |  | one 0=ROOT 2=LOG_OF_ANOTHER_LENGTH + -two |  | - ⇒ 5; asks searchd.conf, in one, 1 and 0 back; ! searchd: index one: file 2 at 0: record length;
+the first, and the second isn't there | serve --config searchd.conf --listen a --workers 2 |  | one 0=ROOT 2=LOG_OF_ANOTHER_LENGTH + -two |  | - ⇒ 5; asks searchd.conf, in one, 1 and 0 back; ! searchd: index one: file 2 at 0: record length;
+the first isn't there | check --config searchd.conf |  | -one + two 0=ROOT_CUT |  | - ⇒ 4; asks searchd.conf, in one, 0 and 0 back; ! searchd: host fault;
+the first isn't there | session --config searchd.conf |  | -one + two 0=ROOT_CUT |  | - ⇒ 4; asks searchd.conf, in one, 0 and 0 back; ! searchd: host fault;
+the first isn't there | serve --config searchd.conf --listen a --workers 2 |  | -one + two 0=ROOT_CUT |  | - ⇒ 4; asks searchd.conf, in one, 0 and 0 back; ! searchd: host fault;
+the second | check --config searchd.conf |  | one + two 0=ROOT_CUT |  | - ⇒ 5; asks searchd.conf, in one, in two, 2 and 0 back; ! searchd: index two: file 0 at 0: root length;
+the first one then | check --config searchd.conf |  | one ~ |  | - ⇒ 0; asks searchd.conf, in one, 1 and 0 back; one: 0 documents, 0 disk chunks, 0 log records;
+the second | session --config searchd.conf |  | one + two 0=ROOT_CUT |  | - ⇒ 5; asks searchd.conf, in one, in two, 2 and 0 back; ! searchd: index two: file 0 at 0: root length;
+the first one then | check --config searchd.conf |  | one ~ |  | - ⇒ 0; asks searchd.conf, in one, 1 and 0 back; one: 0 documents, 0 disk chunks, 0 log records;
+the second | serve --config searchd.conf --listen a --workers 2 |  | one + two 0=ROOT_CUT |  | - ⇒ 5; asks searchd.conf, in one, in two, 2 and 0 back; ! searchd: index two: file 0 at 0: root length;
+the first one then | check --config searchd.conf |  | one ~ |  | - ⇒ 0; asks searchd.conf, in one, 1 and 0 back; one: 0 documents, 0 disk chunks, 0 log records;
+"#;

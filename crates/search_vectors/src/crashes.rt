@@ -1,119 +1,38 @@
-//! What a session leaves on a disk, byte by byte, and what is read of it after each crash.
-ghost use Rattle.std.specs.Prelude.{IfOk};
-ghost use Rattle.chunk_store.specs.contracts.memory_disk.MemoryDiskDisk.TheImpl as memory_words;
-ghost use Rattle.store_keep.specs.Opens.{HidesNothing};
-
+//! What a session leaves on a disk, byte by byte, and what is read of it after each crash; and sessions each of whose calls on the store
+//! fails once: as the store is opened the run ends, and later a reply says what became of the commit, which is then what a crash leaves.
 use crate::disks::{crashed, files_of};
-use crate::hosts::{CHECK, SESSION, one_door, run_store};
-use crate::replies::replies;
-use crate::served::line_of;
-use crate::told::{configuration, printed, told};
-use chunk_store::MemoryDisk;
-use searchd_top::MemoryHost;
+use crate::runs::{run_row, try_row};
+use crate::turn_host::TurnHost;
 use std::alloc::Global;
 use std::sync::Wait;
 use std::test::Fail;
 use std::thread::Threads;
 
-/// The lines of one session after another: what is sent, and what is replied.
-const SESSIONS: [(&str, &str); 2] = [
-    (
-        "RESP; INSERT INTO one VALUES (7,'hello world'); QUIT",
-        "hello 1; accepted; ok 1 2",
-    ),
-    (
-        "RESP; SELECT id FROM one; INSERT INTO one VALUES (7,'x'); QUIT",
-        "hello 1; accepted; ids 2: 7; err 1064 42000 duplicate id 7",
-    ),
-];
+/// A session that commits, checks of what it leaves, and another session over it.
+const CRASHES: &str = r#"
+a commit | session --config searchd.conf |  | one |  | RESP; INSERT INTO one VALUES (7,'hello world'); QUIT => hello 1; accepted; ok 1 2 ⇒ 0; asks searchd.conf, in one, 1, 1 and 1 back;
+the index then | check --config searchd.conf |  | one ~ |  | - ⇒ 0; asks searchd.conf, in one, 1 and 0 back; one: 1 documents, 0 disk chunks, 1 log records;
+once more | check --config searchd.conf |  | one ~ |  | - ⇒ 0; asks searchd.conf, in one, 1 and 0 back; one: 1 documents, 0 disk chunks, 1 log records;
+a second session | session --config searchd.conf |  | one ~ |  | RESP; SELECT id FROM one; INSERT INTO one VALUES (7,'x'); QUIT => hello 1; accepted; ids 2: 7; err 1064 42000 duplicate id 7 ⇒ 0; asks searchd.conf, in one, 1, 1 and 1 back;
+the index after that | check --config searchd.conf |  | one ~ |  | - ⇒ 0; asks searchd.conf, in one, 1 and 0 back; one: 1 documents, 0 disk chunks, 1 log records;
+"#;
 
-/// What each comes to.
-const TOLD: &str = "0; asks searchd.conf, in one, 1, 1 and 1 back; ";
-
-/// The files that the first one leaves, and so the second one.
+/// The files that each of them leaves.
 const FILES: &str =
     " 0=010100000000000000240000000c006669656c64207469746c650a00000000000000000300000000000000020000000000 2=012300000001000000000000000100000001070000000000000002000000000568656c6c6f0005776f726c640000000000";
 
-/// What a check prints of them.
-const CHECKED: &str = "one: 1 documents, 0 disk chunks, 1 log records;";
-
-/// A session's words and where its store is left.
-fn session<R: Threads + Wait + Sync>(
-    rt: &R,
-    alloc: Global,
-    place: usize,
-    disk: MemoryDisk,
-) -> Result<MemoryHost, Fail>
-    requires { HidesNothing memory_words.ghosts disk }
-{
-    let (words, wanted) = SESSIONS.get(place).ok_or("no session")?;
-    let mut lines = Vec::new(alloc);
-    lines.push(line_of(alloc, words)?)?;
-    let text = configuration(alloc, "one")?;
-    let doors = one_door(alloc, lines)?;
-    let (status, host) = run_store(rt, alloc, SESSION, text.as_str(), "one", disk, doors)?;
-    if told(alloc, &status, &host)?.as_str() != TOLD || !has_written(alloc, &host, wanted)? {
-        return Err(Fail::new(format!(in alloc; "another session: {words}")?));
-    }
-    Ok(host)
-}
-
-/// Whether this was written to the one line that came back.
-pub(crate) fn has_written(alloc: Global, host: &MemoryHost, wanted: &str) -> Result<bool, Fail> {
-    let wanted = replies(alloc, wanted)?;
-    let [door] = host.doors_back() else {
-        return Ok(false);
-    };
-    match door.returned() {
-        [line] => Ok(line.written() == wanted.as_slice()),
-        _ => Ok(false),
-    }
-}
-
-/// Fails where a disk has other files, or a check finds another index on it. Gives it as it then is.
-fn check_files<R: Threads + Wait + Sync>(
-    rt: &R,
-    alloc: Global,
-    disk: &MemoryDisk,
-    pick: u8,
-) -> Result<MemoryDisk, Fail>
-    ensures { IfOk result (HidesNothing memory_words.ghosts) }
-{
-    let files = files_of(alloc, &mut crashed(disk, pick)?)?;
-    if files.as_str() != FILES {
-        return Err(Fail::new(format!(in alloc; "pick {pick}: files{files}")?));
-    }
-    let text = configuration(alloc, "one")?;
-    let after = crashed(disk, pick)?;
-    let (_, host) = run_store(
-        rt,
-        alloc,
-        CHECK,
-        text.as_str(),
-        "one",
-        after,
-        Vec::new(alloc),
-    )?;
-    let printed = printed(alloc, &host)?;
-    if printed.as_str() != CHECKED {
-        return Err(Fail::new(format!(in alloc; "pick {pick}: {printed}")?));
-    }
-    crashed(
-        host.stores_back().first().ok_or("no store came back")?,
-        pick,
-    )
-}
-
-/// Fails where a session leaves other files, or what is read of them after a crash isn't what it was told.
+/// Fails where a run comes to something else after crashes by this pick, or a crash leaves other files.
 fn try_pick<R: Threads + Wait + Sync>(rt: &R, alloc: Global, pick: u8) -> Result<(), Fail> {
-    let empty = crashed(&MemoryDisk::new(alloc, Vec::new(alloc)), 0)?;
-    let host = session(rt, alloc, 0, empty)?;
-    let store = host.stores_back().first().ok_or("no store came back")?;
-    let once = check_files(rt, alloc, store, pick)?;
-    let twice = check_files(rt, alloc, &once, pick)?;
-    let host = session(rt, alloc, 1, twice)?;
-    let store = host.stores_back().first().ok_or("no store came back")?;
-    check_files(rt, alloc, store, pick)?;
+    let mut last = None;
+    for row in CRASHES.lines().skip(1) {
+        let host = try_row(rt, alloc, row, last.as_ref(), pick)?;
+        let store = host.base.stores_back().first().ok_or("no store came back")?;
+        let files = files_of(alloc, &mut crashed(store, pick)?)?;
+        if files.as_str() != FILES {
+            return Err(Fail::new(format!(in alloc; "pick {pick}, {row}: files{files}")?));
+        }
+        last = Some(host);
+    }
     Ok(())
 }
 
@@ -122,5 +41,116 @@ fn what_was_told_stays_after_a_crash(rt: HostRuntime) -> Result<(), Fail> {
     for pick in 0..4 {
         try_pick(&rt, rt.alloc(), pick)?;
     }
+    Ok(())
+}
+
+/// Two insertions, and what is then found.
+const COMMITS: &str =
+    "RESP; INSERT INTO rt VALUES (1,'hello'); INSERT INTO rt VALUES (2,'hello'); SELECT id FROM rt; QUIT";
+
+/// What a run comes to whose store isn't open, and one that serves its line.
+const UNOPENED: &str = "4; asks searchd.conf, in rt, 1 and 0 back; ! searchd: host fault;";
+
+const SERVED: &str = "0; asks searchd.conf, in rt, 1, 1 and 1 back;";
+
+/// What comes of later calls that fail, in this order: what is replied, and how many documents and records a check finds after a crash,
+/// by each pick.
+const OUTCOMES: [(&str, [u8; 4]); 5] = [
+    (
+        "hello 1; accepted; err 1105 HY000 disk fault: nothing was changed; ok 1 2; ids 2: 2",
+        [1, 1, 1, 1],
+    ),
+    (
+        "hello 1; accepted; err 1105 HY000 disk fault: commit in doubt; ok 1 2; ids 2: 1 2",
+        [2, 2, 2, 2],
+    ),
+    (
+        "hello 1; accepted; ok 1 2; err 1105 HY000 disk fault: nothing was changed; ids 2: 1",
+        [1, 1, 1, 1],
+    ),
+    (
+        "hello 1; accepted; ok 1 2; err 1105 HY000 disk fault: commit in doubt; ids 2: 1",
+        [1, 1, 1, 1],
+    ),
+    (
+        "hello 1; accepted; ok 1 2; err 1105 HY000 disk fault: commit in doubt; ids 2: 1",
+        [1, 2, 2, 1],
+    ),
+];
+
+/// A session of these packets over one line, whose store fails at this call. Fails where it comes to something else.
+fn session<R: Threads + Wait + Sync>(
+    rt: &R,
+    alloc: Global,
+    call: u64,
+    line: &str,
+    told: &str,
+) -> Result<TurnHost, Fail> {
+    let row = format!(in alloc;
+        "call {call} | session --config searchd.conf |  | rt !{call} |  | {line} ⇒ {told}"
+    )?;
+    try_row(rt, alloc, row.as_str(), None, 0)
+}
+
+/// Whether this outcome is that of a call that fails.
+fn is_outcome<R: Threads + Wait + Sync>(
+    rt: &R,
+    alloc: Global,
+    call: u64,
+    outcome: &(&str, [u8; 4]),
+) -> Result<bool, Fail> {
+    let (replies, counts) = outcome;
+    let row = format!(in alloc;
+        "a call | session --config searchd.conf |  | rt !{call} |  | {COMMITS} => {replies} ⇒ {SERVED}"
+    )?;
+    let (host, mut differs) = run_row(rt, alloc, row.as_str(), None, 0)?;
+    let mut pick: u8 = 0;
+    for count in counts {
+        let row = format!(in alloc;
+            "then | check --config searchd.conf |  | rt ~ |  | - ⇒ 0; asks searchd.conf, in rt, 1 and 0 back; rt: {count} documents, 0 disk chunks, {count} log records;"
+        )?;
+        let (_, differs_then) = run_row(rt, alloc, row.as_str(), Some(&host), pick)?;
+        differs.push_str(differs_then.as_str())?;
+        pick = pick.wrapping_add(1);
+    }
+    Ok(differs.is_empty())
+}
+
+/// Fails where a call that fails has neither this outcome nor the next one. Gives the outcome that it has.
+fn outcome_from<R: Threads + Wait + Sync>(
+    rt: &R,
+    alloc: Global,
+    call: u64,
+    from: usize,
+) -> Result<usize, Fail> {
+    for (at, outcome) in OUTCOMES.iter().enumerate().skip(from).take(2) {
+        if is_outcome(rt, alloc, call, outcome)? {
+            return Ok(at);
+        }
+    }
+    Err(Fail::new(format!(in alloc; "call {call} after outcome {from}")?))
+}
+
+/// How many calls a session of this line makes on its store.
+fn calls_of<R: Threads + Wait + Sync>(rt: &R, alloc: Global, line: &str) -> Result<u64, Fail> {
+    let host = session(rt, alloc, 0, line, SERVED)?;
+    let store = host.base.stores_back().first().ok_or("no store came back")?;
+    Ok(store.calls())
+}
+
+#[test]
+fn each_call_on_a_store_fails_once(rt: HostRuntime) -> Result<(), Fail> {
+    let alloc = rt.alloc();
+    let opening = calls_of(&rt, alloc, " => hello 1")?;
+    let line = format!(in alloc; "{COMMITS} => hello 1; accepted; ok 1 2; ok 1 2; ids 2: 1 2")?;
+    let all = calls_of(&rt, alloc, line.as_str())?;
+    for call in 1..=opening {
+        session(&rt, alloc, call, line.as_str(), UNOPENED)?;
+    }
+    let mut at: usize = 0;
+    for call in opening.saturating_add(1)..=all {
+        at = outcome_from(&rt, alloc, call, at)?;
+    }
+    assert_eq!(rt; at, 4);
     Ok(())
 }

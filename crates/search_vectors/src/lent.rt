@@ -26,13 +26,6 @@ impl<T: Drop> Lent<T> {
         }
     }
 
-    /// The things that came back.
-    pub(crate) fn back(&self) -> &[T]
-        ensures { result.now ≡ self.now.back.items }
-    {
-        self.back.as_slice()
-    }
-
     /// Remembers things that are given, with room for them to come back.
     pub(crate) fn give(&mut self, things: &[T]) -> Result<(), NoMemory>
         ensures gave { OnOk result (map (λ thing. thing.value) self.new.gave.items ≡ map (λ thing. thing.value) self.old.gave.items ++ things.now) }

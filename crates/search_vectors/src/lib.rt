@@ -2,35 +2,27 @@
 #![tactic(auto)]
 
 #[cfg(test)]
+mod bytes;
+#[cfg(test)]
 mod checks;
 #[cfg(test)]
 mod crashes;
 #[cfg(test)]
-mod damaged;
-#[cfg(test)]
-mod disk_faults;
-#[cfg(test)]
 mod disks;
-#[cfg(test)]
-mod hosts;
 #[cfg(test)]
 mod lent;
 #[cfg(test)]
 mod lines;
 #[cfg(test)]
-mod meeting;
+mod runs;
 #[cfg(test)]
-mod program;
+mod serving;
 #[cfg(test)]
-mod ranked;
+mod sessions;
 #[cfg(test)]
-mod replies;
+mod statuses;
 #[cfg(test)]
-mod requests;
-#[cfg(test)]
-mod selftest;
-#[cfg(test)]
-mod served;
+mod tests;
 #[cfg(test)]
 mod told;
 #[cfg(test)]

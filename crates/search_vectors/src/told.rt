@@ -1,89 +1,56 @@
 //! What a run comes to, in the words of a table.
-use crate::disks::crashed;
-use crate::hosts::{CHECK, run_store};
-use crate::requests::requests_shown;
-use chunk_store::MemoryDisk;
-use searchd_top::{MemoryHost, Status, Stream};
+use crate::turn_host::TurnHost;
+use searchd_top::{Request, Status, Stream};
 use std::alloc::Global;
-use std::sync::Wait;
 use std::test::Fail;
-use std::thread::Threads;
 
-/// A configuration of the indexes of a table, each of which has its name as its path.
-pub(crate) fn configuration(alloc: Global, indexes: &str) -> Result<String, Fail> {
-    let mut text = String::new(alloc);
-    for index in indexes.split(" + ") {
-        let name = index
-            .trim_start_matches('-')
-            .split(' ')
-            .next()
-            .ok_or("no name")?;
-        write!(
-            text,
-            "index {name} {{\ntype = rt\npath = {name}\nrt_field = title\n}}\n"
-        )?;
-    }
-    Ok(text)
-}
-
-/// The numbers of calls.
-pub(crate) fn numbers(alloc: Global, calls: &str) -> Result<Vec<u32>, Fail> {
-    let mut numbers = Vec::new(alloc);
-    for call in calls.split(' ').filter(|call| !call.is_empty()) {
-        numbers.push(call.parse::<u32>()?)?;
-    }
-    Ok(numbers)
-}
-
-/// Appends what was printed, with `;` for the end of a line.
-fn put_printed(printed: &[u8], told: &mut String) -> Result<(), Fail> {
-    for line in str::from_utf8(printed)?.split_inclusive('\n') {
-        match line.strip_suffix('\n') {
-            Some(whole) => write!(told, "{whole};")?,
-            None => told.push_str(line)?,
+/// Appends a request: the path of a text, `in` and the path of a store, or the number of doors, with their address where they have one.
+fn put_request(told: &mut String, request: &Request) -> Result<(), Fail> {
+    match request {
+        Request::ReadText(path) => {
+            let path = str::from_utf8(path.as_bytes())?;
+            write!(told, " {path},")?;
+        }
+        Request::OpenStore(path) => {
+            let path = str::from_utf8(path.as_bytes())?;
+            write!(told, " in {path},")?;
+        }
+        Request::OpenDoors(None, count) => write!(told, " {count},")?,
+        Request::OpenDoors(Some(address), count) => {
+            let address = str::from_utf8(address.as_bytes())?;
+            write!(told, " {count} at {address},")?;
         }
     }
     Ok(())
 }
 
-/// What a host printed to its output and then to its errors.
-pub(crate) fn printed(alloc: Global, host: &MemoryHost) -> Result<String, Fail> {
-    let mut told = String::new(alloc);
-    put_printed(host.printed(Stream::Out), &mut told)?;
-    put_printed(host.printed(Stream::Err), &mut told)?;
-    Ok(told)
-}
-
-/// The exit status, the requests, how many stores and doors came back, and what was printed.
-pub(crate) fn told(alloc: Global, status: &Status, host: &MemoryHost) -> Result<String, Fail> {
-    let code = status.code();
-    let mut told = format!(in alloc; "{code}; asks")?;
-    for request in requests_shown(alloc, host)?.iter() {
-        write!(told, " {request},")?;
+/// Appends what was printed, with a mark before each line and `;` for its end.
+fn put_printed(told: &mut String, mark: &str, printed: &[u8]) -> Result<(), Fail> {
+    for line in str::from_utf8(printed)?.split_inclusive('\n') {
+        match line.strip_suffix('\n') {
+            Some(whole) => write!(told, "{mark}{whole};")?,
+            None => write!(told, "{mark}{line}")?,
+        }
     }
-    let (stores, doors) = (host.stores_back().len(), host.doors_back().len());
-    let printed = printed(alloc, host)?;
-    write!(told, " {stores} and {doors} back; {printed}")?;
-    Ok(told)
+    Ok(())
 }
 
-/// What a check of one index prints, whose store comes up after a crash that leaves this disk.
-pub(crate) fn checked<R: Threads + Wait + Sync>(
-    rt: &R,
-    alloc: Global,
-    name: &str,
-    disk: &MemoryDisk,
-    pick: u8,
-) -> Result<String, Fail> {
-    let text = configuration(alloc, name)?;
-    let (_, host) = run_store(
-        rt,
-        alloc,
-        CHECK,
-        text.as_str(),
-        name,
-        crashed(disk, pick)?,
-        Vec::new(alloc),
-    )?;
-    printed(alloc, &host)
+/// The exit status, with the place and the kind of a configuration's fault; the requests; how many stores and doors came back; and what
+/// was printed to the output, and to the errors behind `!`.
+pub(crate) fn told(alloc: Global, status: &Status, host: &TurnHost) -> Result<String, Fail> {
+    let code = status.code();
+    let mut told = format!(in alloc; "{code}")?;
+    if let Status::Config { line, kind } = status {
+        let kind = kind.text();
+        write!(told, " at {line}: {kind}")?;
+    }
+    told.push_str("; asks")?;
+    for request in host.base.requests().ok_or("no record")? {
+        put_request(&mut told, request)?;
+    }
+    let (stores, doors) = (host.base.stores_back().len(), host.lent.back.len());
+    write!(told, " {stores} and {doors} back;")?;
+    put_printed(&mut told, " ", host.base.printed(Stream::Out))?;
+    put_printed(&mut told, " ! ", host.base.printed(Stream::Err))?;
+    Ok(told)
 }

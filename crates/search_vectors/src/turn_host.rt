@@ -12,34 +12,11 @@ use std::mem;
 /// A host over memory that gives these doors once.
 #[derive(Drop)]
 pub(crate) struct TurnHost {
-    alloc: Global,
-    base: MemoryHost,
-    doors: Vec<TurnDoor>,
-    lent: Lent<TurnDoor>,
-}
-
-impl TurnHost {
-    /// The base has as many doors, which none sees.
-    pub(crate) fn new(alloc: Global, base: MemoryHost, doors: Vec<TurnDoor>) -> TurnHost
-        ensures { result.base ≡ base }
-    {
-        TurnHost {
-            alloc,
-            base,
-            doors,
-            lent: Lent::new(alloc),
-        }
-    }
-
-    /// The host that does all else.
-    pub(crate) fn base(&self) -> &MemoryHost {
-        &self.base
-    }
-
-    /// The doors that came back.
-    pub(crate) fn doors_back(&self) -> &[TurnDoor] {
-        self.lent.back()
-    }
+    pub(crate) alloc: Global,
+    /// The host that does all else. It has as many doors, which none sees.
+    pub(crate) base: MemoryHost,
+    pub(crate) doors: Vec<TurnDoor>,
+    pub(crate) lent: Lent<TurnDoor>,
 }
 
 impl Host for TurnHost {

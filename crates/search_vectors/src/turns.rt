@@ -18,12 +18,13 @@ const MOST_LOOKS: u32 = 10_000_000;
 /// Contracts see it as the line over memory.
 #[derive(Drop)]
 pub(crate) struct TurnLink {
-    line: MemoryLink,
-    /// The turns of the reads, the last one first.
-    turns: Vec<u64>,
+    pub(crate) line: MemoryLink,
+    /// The turns of the reads, the last one first; reads behind them have none.
+    pub(crate) turns: Vec<u64>,
     /// The turn of the read that was asked for last.
-    mine: Option<u64>,
-    now: Arc<AtomicU64, Global>,
+    pub(crate) mine: Option<u64>,
+    /// The turn that it is.
+    pub(crate) now: Arc<AtomicU64, Global>,
 }
 
 impl Model for TurnLink {
@@ -35,21 +36,6 @@ impl Model for TurnLink {
 }
 
 impl TurnLink {
-    /// A line with the turns of its reads, the last one first, and the turn that it is.
-    pub(crate) fn new(line: MemoryLink, turns: Vec<u64>, now: Arc<AtomicU64, Global>) -> TurnLink {
-        TurnLink {
-            line,
-            turns,
-            mine: None,
-            now,
-        }
-    }
-
-    /// All that was written so far.
-    pub(crate) fn written(&self) -> &[u8] {
-        self.line.written()
-    }
-
     /// Ends the turn of the last read, and waits for the turn of the next one.
     fn take_turn(&mut self)
         ensures { self.new ≡ self.old }
@@ -58,19 +44,15 @@ impl TurnLink {
             self.now.store(turn.saturating_add(1), Ordering::SeqCst);
         }
         self.mine = self.turns.pop();
-        if let Some(turn) = self.mine {
-            wait_for(&self.now, turn);
-        }
-    }
-}
-
-/// Waits until it is this turn.
-fn wait_for(now: &AtomicU64, turn: u64) {
-    for _ in 0..MOST_LOOKS {
-        if now.load(Ordering::SeqCst) >= turn {
+        let Some(turn) = self.mine else {
             return;
+        };
+        for _ in 0..MOST_LOOKS {
+            if self.now.load(Ordering::SeqCst) >= turn {
+                return;
+            }
+            thread::yield_now();
         }
-        thread::yield_now();
     }
 }
 
@@ -100,33 +82,11 @@ impl Link for TurnLink {
 /// A door that gives some lines, the last one first, or fails at its first call.
 #[derive(Drop)]
 pub(crate) struct TurnDoor {
-    lines: Vec<TurnLink>,
-    lent: Lent<TurnLink>,
-    fails: bool,
-    ended: bool,
-    faults: u64,
-}
-
-impl TurnDoor {
-    pub(crate) fn new(alloc: Global, lines: Vec<TurnLink>, fails: bool) -> TurnDoor {
-        TurnDoor {
-            lines,
-            lent: Lent::new(alloc),
-            fails,
-            ended: false,
-            faults: 0,
-        }
-    }
-
-    /// The lines that came back.
-    pub(crate) fn returned(&self) -> &[TurnLink] {
-        self.lent.back()
-    }
-
-    /// Whether it has no further line.
-    pub(crate) fn has_ended(&self) -> bool {
-        self.ended
-    }
+    pub(crate) lines: Vec<TurnLink>,
+    pub(crate) lent: Lent<TurnLink>,
+    pub(crate) fails: bool,
+    pub(crate) ended: bool,
+    pub(crate) faults: u64,
 }
 
 impl Door for TurnDoor {

@@ -1,42 +1,32 @@
 //! What a word finds: the most fields first, then the smallest id. Worked out by hand from the texts of the documents.
-use crate::running::{Client, Clients, TWO, answer, told_of, try_each, try_in_turn};
-use itoa::Buffer;
-use mysql_wire::Command;
-use std::alloc::Global;
-use std::test::Fail;
 
-/// What a word finds: the most fields that have it first, then the smallest id. Where a line has three parts, the first is sent before.
+/// What a word finds: the most fields that have it first, then the smallest id. `⏎` stands between the steps of a line.
 /// In the first of them `a` stands in one field of the first and the third document, and in both of the second. More of one word in
 /// a field counts once, and a field that isn't named is empty.
-const FOUND: &str = r#"
-INSERT INTO rt VALUES (1,'a b','c',0,0,0,0), (2,'a','a',0,0,0,0), (3,'A','',0,0,0,0) ⇒ SELECT id FROM rt WHERE MATCH('a') ⇒ id | 2 | 1 | 3
-INSERT INTO rt VALUES (1,'a b','c',0,0,0,0), (2,'a','a',0,0,0,0), (3,'A','',0,0,0,0) ⇒ SELECT id FROM rt WHERE MATCH(' A ') ⇒ id | 2 | 1 | 3
-INSERT INTO rt VALUES (1,'a b','c',0,0,0,0), (2,'a','a',0,0,0,0), (3,'A','',0,0,0,0) ⇒ SELECT id FROM rt WHERE MATCH('c') ⇒ id | 1
-INSERT INTO rt VALUES (1,'a b','c',0,0,0,0), (2,'a','a',0,0,0,0), (3,'A','',0,0,0,0) ⇒ SELECT id FROM rt WHERE MATCH('zz') ⇒ id
-INSERT INTO rt VALUES (1,'a b','c',0,0,0,0), (2,'a','a',0,0,0,0), (3,'A','',0,0,0,0) ⇒ select `ID` from RT where match("B"); ⇒ id | 1
-INSERT INTO rt VALUES (1,'a b','c',0,0,0,0), (2,'a','a',0,0,0,0), (3,'A','',0,0,0,0) ⇒ SELECT id FROM rt WHERE MATCH('\t a\r\n') ⇒ id | 2 | 1 | 3
+pub(crate) const FOUND: &str = r#"
+INSERT INTO rt VALUES (1,'a b','c',0,0,0,0), (2,'a','a',0,0,0,0), (3,'A','',0,0,0,0) ⇒ OK 3 ⏎ SELECT id FROM rt WHERE MATCH('a') ⇒ id | 2 | 1 | 3
+INSERT INTO rt VALUES (1,'a b','c',0,0,0,0), (2,'a','a',0,0,0,0), (3,'A','',0,0,0,0) ⇒ OK 3 ⏎ SELECT id FROM rt WHERE MATCH(' A ') ⇒ id | 2 | 1 | 3
+INSERT INTO rt VALUES (1,'a b','c',0,0,0,0), (2,'a','a',0,0,0,0), (3,'A','',0,0,0,0) ⇒ OK 3 ⏎ SELECT id FROM rt WHERE MATCH('c') ⇒ id | 1
+INSERT INTO rt VALUES (1,'a b','c',0,0,0,0), (2,'a','a',0,0,0,0), (3,'A','',0,0,0,0) ⇒ OK 3 ⏎ SELECT id FROM rt WHERE MATCH('zz') ⇒ id
+INSERT INTO rt VALUES (1,'a b','c',0,0,0,0), (2,'a','a',0,0,0,0), (3,'A','',0,0,0,0) ⇒ OK 3 ⏎ select `ID` from RT where match("B"); ⇒ id | 1
+INSERT INTO rt VALUES (1,'a b','c',0,0,0,0), (2,'a','a',0,0,0,0), (3,'A','',0,0,0,0) ⇒ OK 3 ⏎ SELECT id FROM rt WHERE MATCH('\t a\r\n') ⇒ id | 2 | 1 | 3
 SELECT id FROM rt WHERE MATCH('a') ⇒ id
-INSERT INTO rt (id, title) VALUES (18446744073709551615, 'a') ⇒ SELECT id FROM rt WHERE MATCH('a') ⇒ id | 18446744073709551615
-INSERT INTO rt (title, id) VALUES ('a', 1), ('a', 18446744073709551615), ('a', 9) ⇒ SELECT id FROM rt WHERE MATCH('a') ⇒ id | 1 | 9 | 18446744073709551615
-INSERT INTO rt (id, title) VALUES (1, 'aaaaaaaaaaaaaaaaaaaaaaaaaaaaaaaaaaaaaaaaaaaaaaaaaa') ⇒ SELECT id FROM rt WHERE MATCH('aaaaaaaaaaaaaaaaaaaaaaaaaaaaaaaaaaaaaaaaaa') ⇒ id | 1
-INSERT INTO rt (id, title) VALUES (1, 'aaaaaaaaaaaaaaaaaaaaaaaaaaaaaaaaaaaaaaaaaaaaaaaaaa') ⇒ SELECT id FROM rt WHERE MATCH('aaaaaaaaaaaaaaaaaaaaaaaaaaaaaaaaaaaaaaaaaaa') ⇒ id | 1
-INSERT INTO rt (id, title) VALUES (1, 'aaaaaaaaaaaaaaaaaaaaaaaaaaaaaaaaaaaaaaaaaaaaaaaaaa') ⇒ SELECT id FROM rt WHERE MATCH('aaaaaaaaaaaaaaaaaaaaaaaaaaaaaaaaaaaaaaaaa') ⇒ id
-INSERT INTO rt (id, title) VALUES (7, "it\'s") ⇒ SELECT id FROM rt WHERE MATCH('s') ⇒ id | 7
-INSERT INTO rt (id, title, content) VALUES (1, 'a a a', ''), (2, 'a', 'a'), (3, '', 'a') ⇒ SELECT id FROM rt WHERE MATCH('a') ⇒ id | 2 | 1 | 3
-INSERT INTO rt (content, id) VALUES ('a', 4) ⇒ SELECT id FROM rt WHERE MATCH('a') ⇒ id | 4
-INSERT INTO rt (id, title) VALUES (1, 'a-b, c_d') ⇒ SELECT id FROM rt WHERE MATCH('c_d') ⇒ id | 1
-INSERT INTO rt (id, title) VALUES (1, 'a-b, c_d') ⇒ SELECT id FROM rt WHERE MATCH('c') ⇒ id
-INSERT INTO rt (id, title) VALUES (1, 'Жук') ⇒ SELECT id FROM rt WHERE MATCH('жУК') ⇒ id | 1
-INSERT INTO rt (id, title) VALUES (1, 'a\nb\tc') ⇒ SELECT id FROM rt WHERE MATCH('b') ⇒ id | 1
+INSERT INTO rt (id, title) VALUES (18446744073709551615, 'a') ⇒ OK 1 ⏎ SELECT id FROM rt WHERE MATCH('a') ⇒ id | 18446744073709551615
+INSERT INTO rt (title, id) VALUES ('a', 1), ('a', 18446744073709551615), ('a', 9) ⇒ OK 3 ⏎ SELECT id FROM rt WHERE MATCH('a') ⇒ id | 1 | 9 | 18446744073709551615
+INSERT INTO rt (id, title) VALUES (1, 'aaaaaaaaaaaaaaaaaaaaaaaaaaaaaaaaaaaaaaaaaaaaaaaaaa') ⇒ OK 1 ⏎ SELECT id FROM rt WHERE MATCH('aaaaaaaaaaaaaaaaaaaaaaaaaaaaaaaaaaaaaaaaaa') ⇒ id | 1
+INSERT INTO rt (id, title) VALUES (1, 'aaaaaaaaaaaaaaaaaaaaaaaaaaaaaaaaaaaaaaaaaaaaaaaaaa') ⇒ OK 1 ⏎ SELECT id FROM rt WHERE MATCH('aaaaaaaaaaaaaaaaaaaaaaaaaaaaaaaaaaaaaaaaaaa') ⇒ id | 1
+INSERT INTO rt (id, title) VALUES (1, 'aaaaaaaaaaaaaaaaaaaaaaaaaaaaaaaaaaaaaaaaaaaaaaaaaa') ⇒ OK 1 ⏎ SELECT id FROM rt WHERE MATCH('aaaaaaaaaaaaaaaaaaaaaaaaaaaaaaaaaaaaaaaaa') ⇒ id
+INSERT INTO rt (id, title) VALUES (7, "it\'s") ⇒ OK 1 ⏎ SELECT id FROM rt WHERE MATCH('s') ⇒ id | 7
+INSERT INTO rt (id, title, content) VALUES (1, 'a a a', ''), (2, 'a', 'a'), (3, '', 'a') ⇒ OK 3 ⏎ SELECT id FROM rt WHERE MATCH('a') ⇒ id | 2 | 1 | 3
+INSERT INTO rt (content, id) VALUES ('a', 4) ⇒ OK 1 ⏎ SELECT id FROM rt WHERE MATCH('a') ⇒ id | 4
+INSERT INTO rt (id, title) VALUES (1, 'a-b, c_d') ⇒ OK 1 ⏎ SELECT id FROM rt WHERE MATCH('c_d') ⇒ id | 1
+INSERT INTO rt (id, title) VALUES (1, 'a-b, c_d') ⇒ OK 1 ⏎ SELECT id FROM rt WHERE MATCH('c') ⇒ id
+INSERT INTO rt (id, title) VALUES (1, 'Жук') ⇒ OK 1 ⏎ SELECT id FROM rt WHERE MATCH('жУК') ⇒ id | 1
+INSERT INTO rt (id, title) VALUES (1, 'a\nb\tc') ⇒ OK 1 ⏎ SELECT id FROM rt WHERE MATCH('b') ⇒ id | 1
 "#;
 
-#[test]
-fn a_word_finds_the_best_documents_first(rt: HostRuntime) -> Result<(), Fail> {
-    try_each(rt.alloc(), FOUND)
-}
-
 /// Texts that are sent in turn: a refused INSERT leaves nothing, and a later one is found with those before it.
-const IN_TURN: &str = r#"
+pub(crate) const IN_TURN: &str = r#"
 INSERT INTO rt (id, title) VALUES (1, 'a'), (1, 'a') ⇒ ERR 1064 42000 duplicate id 1
 SELECT id FROM rt WHERE MATCH('a') ⇒ id
 INSERT INTO rt (id, title) VALUES (2, 'b') ⇒ OK 1
@@ -56,55 +46,50 @@ SET NAMES utf8 ⇒ OK 0
 SELECT id FROM rt WHERE MATCH('b') ⇒ id | 4 | 1 | 2 | 3
 "#;
 
-#[test]
-fn a_refused_insert_leaves_nothing(rt: HostRuntime) -> Result<(), Fail> {
-    try_in_turn(rt.alloc(), TWO, IN_TURN)
-}
-
-/// The text of an INSERT of one document with a title.
-fn insert_one(alloc: Global, id: u64) -> Result<Vec<u8>, Fail> {
-    let mut digits = Buffer::new();
-    let mut text = Vec::from_slice(alloc, b"INSERT INTO rt (title, id) VALUES ('a', ")?;
-    text.extend_from_slice(digits.format(id).as_bytes())?;
-    text.push(b')')?;
-    Ok(text)
-}
-
-/// Documents of the ids 30 down to 1, each by a text of its own.
-fn thirty(alloc: Global) -> Result<Clients, Fail> {
-    let mut clients = Clients::over(alloc, TWO)?;
-    for passed in 0..30_u64 {
-        let text = insert_one(alloc, 30 - passed)?;
-        let told = answer(alloc, &mut clients, &text)?;
-        if told.as_slice() != b"OK 1".as_slice() {
-            return Err("an INSERT is refused".into());
-        }
-    }
-    Ok(clients)
-}
-
-/// The first 20 ids.
-const TWENTY: &[u8] =
-    b"id | 1 | 2 | 3 | 4 | 5 | 6 | 7 | 8 | 9 | 10 | 11 | 12 | 13 | 14 | 15 | 16 | 17 | 18 | 19 | 20";
-
-#[test]
-fn twenty_documents_are_shown(rt: HostRuntime) -> Result<(), Fail> {
-    let alloc = rt.alloc();
-    let mut clients = thirty(alloc)?;
-    let select = Command::Query(b"SELECT id FROM rt WHERE MATCH('a')");
-    let told = told_of(alloc, &mut clients, Client::Second, select)?;
-    assert!(rt; told.as_slice() == TWENTY);
-    Ok(())
-}
+/// Documents of the ids 30 down to 1, each by a text of its own: another session sees the first 20 ids.
+pub(crate) const THIRTY: &str = r#"
+INSERT INTO rt (title, id) VALUES ('a', 30) ⇒ OK 1
+INSERT INTO rt (title, id) VALUES ('a', 29) ⇒ OK 1
+INSERT INTO rt (title, id) VALUES ('a', 28) ⇒ OK 1
+INSERT INTO rt (title, id) VALUES ('a', 27) ⇒ OK 1
+INSERT INTO rt (title, id) VALUES ('a', 26) ⇒ OK 1
+INSERT INTO rt (title, id) VALUES ('a', 25) ⇒ OK 1
+INSERT INTO rt (title, id) VALUES ('a', 24) ⇒ OK 1
+INSERT INTO rt (title, id) VALUES ('a', 23) ⇒ OK 1
+INSERT INTO rt (title, id) VALUES ('a', 22) ⇒ OK 1
+INSERT INTO rt (title, id) VALUES ('a', 21) ⇒ OK 1
+INSERT INTO rt (title, id) VALUES ('a', 20) ⇒ OK 1
+INSERT INTO rt (title, id) VALUES ('a', 19) ⇒ OK 1
+INSERT INTO rt (title, id) VALUES ('a', 18) ⇒ OK 1
+INSERT INTO rt (title, id) VALUES ('a', 17) ⇒ OK 1
+INSERT INTO rt (title, id) VALUES ('a', 16) ⇒ OK 1
+INSERT INTO rt (title, id) VALUES ('a', 15) ⇒ OK 1
+INSERT INTO rt (title, id) VALUES ('a', 14) ⇒ OK 1
+INSERT INTO rt (title, id) VALUES ('a', 13) ⇒ OK 1
+INSERT INTO rt (title, id) VALUES ('a', 12) ⇒ OK 1
+INSERT INTO rt (title, id) VALUES ('a', 11) ⇒ OK 1
+INSERT INTO rt (title, id) VALUES ('a', 10) ⇒ OK 1
+INSERT INTO rt (title, id) VALUES ('a', 9) ⇒ OK 1
+INSERT INTO rt (title, id) VALUES ('a', 8) ⇒ OK 1
+INSERT INTO rt (title, id) VALUES ('a', 7) ⇒ OK 1
+INSERT INTO rt (title, id) VALUES ('a', 6) ⇒ OK 1
+INSERT INTO rt (title, id) VALUES ('a', 5) ⇒ OK 1
+INSERT INTO rt (title, id) VALUES ('a', 4) ⇒ OK 1
+INSERT INTO rt (title, id) VALUES ('a', 3) ⇒ OK 1
+INSERT INTO rt (title, id) VALUES ('a', 2) ⇒ OK 1
+INSERT INTO rt (title, id) VALUES ('a', 1) ⇒ OK 1
+B: SELECT id FROM rt WHERE MATCH('a') ⇒ id | 1 | 2 | 3 | 4 | 5 | 6 | 7 | 8 | 9 | 10 | 11 | 12 | 13 | 14 | 15 | 16 | 17 | 18 | 19 | 20
+"#;
 
 /// A shop: markup, and English and Russian letters without `_`.
-const SHOP: &[u8] = b"index rt\n{\ntype = rt\npath = shop\nrt_field = title\nrt_field = content\n\
+pub(crate) const SHOP: &[u8] =
+    b"index rt\n{\ntype = rt\npath = shop\nrt_field = title\nrt_field = content\n\
 rt_attr_uint = price\nrt_attr_timestamp = added\n\
 charset_table = 0..9, A..Z->a..z, a..z, U+410..U+42F->U+430..U+44F, U+430..U+44F\n\
 html_strip = 1\n}\n";
 
 /// Texts that are sent to it in turn. `_` is no letter of its table.
-const SHOPPING: &str = r#"
+pub(crate) const SHOPPING: &str = r#"
 INSERT INTO rt (id, title) VALUES (1, 'Большой <b>Чай</b>-ник') ⇒ OK 1
 INSERT INTO rt (id, title, content, price) VALUES (2, 'te<b>st</b>', 'te<p>st', 5) ⇒ OK 1
 SELECT id FROM rt WHERE MATCH('БОЛЬШОЙ') ⇒ id | 1
@@ -116,8 +101,3 @@ SELECT id FROM rt WHERE MATCH('a_b') ⇒ id
 SELECT id FROM rt WHERE MATCH('st_te') ⇒ id | 2
 DESCRIBE rt ⇒ Field, Type | id, bigint | title, field | content, field | price, uint | added, timestamp
 "#;
-
-#[test]
-fn words_are_those_of_the_index(rt: HostRuntime) -> Result<(), Fail> {
-    try_in_turn(rt.alloc(), SHOP, SHOPPING)
-}

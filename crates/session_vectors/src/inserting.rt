@@ -1,9 +1,7 @@
 //! Why an INSERT is refused, in the order of its faults. Worked out by hand from the manual's table of refusals.
-use crate::running::try_each;
-use std::test::Fail;
 
 /// Columns that an INSERT names: first the index, then the names from left to right.
-const NAMES: &str = r#"
+pub(crate) const NAMES: &str = r#"
 INSERT INTO nosuch (x, x) VALUES ('a') ⇒ ERR 1064 42000 unknown index 'nosuch'
 INSERT INTO rt (id, nosuch) VALUES (1, 1) ⇒ ERR 1064 42000 unknown column 'nosuch'
 INSERT INTO rt (ID, Title, NoSuch) VALUES (1) ⇒ ERR 1064 42000 unknown column 'nosuch'
@@ -22,7 +20,7 @@ INSERT INTO nosuch VALUES (0) ⇒ ERR 1064 42000 unknown index 'nosuch'
 
 /// Values that are of no column's kind, or out of its range: each row's number of values first, then its values from left
 /// to right.
-const VALUES: &str = r#"
+pub(crate) const VALUES: &str = r#"
 INSERT INTO rt (title) VALUES ('a') ⇒ ERR 1064 42000 id is missing
 INSERT INTO rt (title, gid) VALUES (1, 'a', 5) ⇒ ERR 1064 42000 id is missing
 INSERT INTO rt (id, title) VALUES (1) ⇒ ERR 1064 42000 wrong number of values
@@ -81,31 +79,16 @@ INSERT INTO rt VALUES () ⇒ ERR 1064 42000 syntax error at 23
 INSERT INTO rt VALUES (1, 'a', 'b', 0, 0, 0, 0), (1) ⇒ ERR 1064 42000 wrong number of values
 "#;
 
-/// Ids that are there already: after all that can be wrong with the text itself. Where a line has three parts, the first is sent
-/// before.
-const TAKEN: &str = r#"
-INSERT INTO rt (id) VALUES (1) ⇒ INSERT INTO rt (id) VALUES (1) ⇒ ERR 1064 42000 duplicate id 1
+/// Ids that are there already: after all that can be wrong with the text itself. `⏎` stands between
+/// the steps of a line.
+pub(crate) const TAKEN: &str = r#"
+INSERT INTO rt (id) VALUES (1) ⇒ OK 1 ⏎ INSERT INTO rt (id) VALUES (1) ⇒ ERR 1064 42000 duplicate id 1
 INSERT INTO rt (id) VALUES (1), (1) ⇒ ERR 1064 42000 duplicate id 1
-INSERT INTO rt (id) VALUES (2) ⇒ INSERT INTO rt (id, title) VALUES (1, 'a'), (2, 'a') ⇒ ERR 1064 42000 duplicate id 2
+INSERT INTO rt (id) VALUES (2) ⇒ OK 1 ⏎ INSERT INTO rt (id, title) VALUES (1, 'a'), (2, 'a') ⇒ ERR 1064 42000 duplicate id 2
 INSERT INTO rt (id) VALUES (1), (2), (3) ⇒ OK 3
-INSERT INTO rt (id) VALUES (1), (2) ⇒ INSERT INTO rt (id) VALUES (3), (2), (1) ⇒ ERR 1064 42000 duplicate id 2
-INSERT INTO rt (id) VALUES (2) ⇒ INSERT INTO rt (id) VALUES (1), (1), (2) ⇒ ERR 1064 42000 duplicate id 1
-INSERT INTO rt (id) VALUES (18446744073709551615) ⇒ INSERT INTO rt (id) VALUES (18446744073709551615) ⇒ ERR 1064 42000 duplicate id 18446744073709551615
-INSERT INTO rt (id) VALUES (1) ⇒ INSERT INTO rt (id, flag) VALUES (1, 2) ⇒ ERR 1064 42000 value out of range for 'flag'
-INSERT INTO rt (id) VALUES (1) ⇒ INSERT INTO rt (id) VALUES (1), (0) ⇒ ERR 1064 42000 id out of range
+INSERT INTO rt (id) VALUES (1), (2) ⇒ OK 2 ⏎ INSERT INTO rt (id) VALUES (3), (2), (1) ⇒ ERR 1064 42000 duplicate id 2
+INSERT INTO rt (id) VALUES (2) ⇒ OK 1 ⏎ INSERT INTO rt (id) VALUES (1), (1), (2) ⇒ ERR 1064 42000 duplicate id 1
+INSERT INTO rt (id) VALUES (18446744073709551615) ⇒ OK 1 ⏎ INSERT INTO rt (id) VALUES (18446744073709551615) ⇒ ERR 1064 42000 duplicate id 18446744073709551615
+INSERT INTO rt (id) VALUES (1) ⇒ OK 1 ⏎ INSERT INTO rt (id, flag) VALUES (1, 2) ⇒ ERR 1064 42000 value out of range for 'flag'
+INSERT INTO rt (id) VALUES (1) ⇒ OK 1 ⏎ INSERT INTO rt (id) VALUES (1), (0) ⇒ ERR 1064 42000 id out of range
 "#;
-
-#[test]
-fn an_insert_is_refused_by_its_names(rt: HostRuntime) -> Result<(), Fail> {
-    try_each(rt.alloc(), NAMES)
-}
-
-#[test]
-fn an_insert_is_refused_by_its_values(rt: HostRuntime) -> Result<(), Fail> {
-    try_each(rt.alloc(), VALUES)
-}
-
-#[test]
-fn an_insert_is_refused_by_ids_that_are_there(rt: HostRuntime) -> Result<(), Fail> {
-    try_each(rt.alloc(), TAKEN)
-}

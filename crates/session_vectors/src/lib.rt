@@ -6,8 +6,6 @@ mod commands;
 #[cfg(test)]
 mod finding;
 #[cfg(test)]
-mod groups;
-#[cfg(test)]
 mod groups_documents;
 #[cfg(test)]
 mod groups_facets;
@@ -40,8 +38,6 @@ mod select_rows;
 #[cfg(test)]
 mod select_weights;
 #[cfg(test)]
-mod selects;
-#[cfg(test)]
 mod several;
 #[cfg(test)]
 mod sharing;
@@ -50,7 +46,7 @@ mod showing;
 #[cfg(test)]
 mod spelling;
 #[cfg(test)]
-mod transactions;
+mod tests;
 #[cfg(test)]
 mod transactions_begun;
 #[cfg(test)]

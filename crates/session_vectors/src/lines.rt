@@ -6,16 +6,13 @@ use srch_base::MemoryLink;
 use std::alloc::Global;
 use std::test::Fail;
 
-/// The greeting of connection 1.
-const GREETING: &[u8] =
-    b"N\0\0\0\x0a2.2.11-rt1\0\x01\0\0\0\x01\x02\x03\x04\x05\x06\x07\x08\0\x09\xa2!\x02\0\x0b\0\x15\0\0\0\0\0\0\0\0\0\0\x09\x0a\x0b\x0c\x0d\x0e\x0f\x10\x11\x12\x13\x14\0mysql_native_password\0";
-
 /// A client's response: the flag of protocol 4.1, no user, an answer of no bytes.
-const RESPONSE: &[u8] =
-    b"\"\0\0\x01\0\xa2\0\0\0\0\0\x01!\0\0\0\0\0\0\0\0\0\0\0\0\0\0\0\0\0\0\0\0\0\0\0\0\0";
+const RESPONSE: &str =
+    "⟨22 00 00 01 00 a2 00 00 00 00 00 01 21 00 00 00 00 00 00 00 00 00 00 00 00 00 00 00 00 00 00 00 00 00 00 00 00 00⟩";
 
-/// The OK of the response.
-const ACCEPTED: &[u8] = b"\x07\0\0\x02\0\0\0\x02\0\0\0";
+/// The greeting of connection 1, and the OK of the response.
+const ACCEPTED: &str =
+    "⟨4e 00 00 00 0a⟩2.2.11-rt1⟨00 01 00 00 00 01 02 03 04 05 06 07 08 00 09 a2 21 02 00 0b 00 15 00 00 00 00 00 00 00 00 00 00 09 0a 0b 0c 0d 0e 0f 10 11 12 13 14 00⟩mysql_native_password⟨00⟩⟨07 00 00 02 00 00 00 02 00 00 00⟩";
 
 /// What is sent after the response, how the line ends, and what is written after the OK of the response.
 const LINES: &str = r#"
@@ -56,64 +53,43 @@ fn end_of(text: &str) -> Result<LinkEnd, Fail> {
     }
 }
 
-/// Two pieces, one after the other.
-fn joined(alloc: Global, first: &[u8], second: &[u8]) -> Result<Vec<u8>, Fail> {
-    let mut bytes = Vec::from_slice(alloc, first)?;
-    bytes.extend_from_slice(second)?;
-    Ok(bytes)
-}
-
 /// Whether a line over these bytes, of which the first read gives so many, ends so with these bytes written.
-fn ends(alloc: Global, input: &[u8], cut: u32, end: LinkEnd, written: &[u8]) -> Result<bool, Fail> {
+fn ends(
+    alloc: Global,
+    input: Vec<u8>,
+    cut: u32,
+    end: LinkEnd,
+    written: &[u8],
+) -> Result<bool, Fail> {
     let mut tables = tables_of(alloc, TWO)?;
     let cuts = Vec::from_slice(alloc, &[cut])?;
-    let input = Vec::from_slice(alloc, input)?;
     let mut link = MemoryLink::new(alloc, input, cuts, Vec::new(alloc));
     let got = serve_link(alloc, &mut tables, 1, &mut link);
     Ok(got == end && link.written() == written)
 }
 
-/// Fails with what is sent where a line ends otherwise.
-fn try_line(alloc: Global, line: &str) -> Result<(), Fail> {
+/// Fails with what is sent where a line ends otherwise, whose first read gives so many bytes.
+fn try_end(alloc: Global, line: &str, cut: u32) -> Result<(), Fail> {
     let (sent, rest) = line.split_once(" ⇒ ").ok_or("a line without an arrow")?;
     let (end, replies) = rest.split_once(" ⇒ ").ok_or("a line with one arrow")?;
-    let input = joined(alloc, RESPONSE, &written_out(alloc, sent)?)?;
-    let begun = joined(alloc, GREETING, ACCEPTED)?;
-    let written = joined(alloc, &begun, &written_out(alloc, replies)?)?;
-    if ends(alloc, &input, 0, end_of(end)?, &written)? {
+    let input = written_out(alloc, format!(in alloc; "{RESPONSE}{sent}")?.as_str())?;
+    let written = written_out(alloc, format!(in alloc; "{ACCEPTED}{replies}")?.as_str())?;
+    if ends(alloc, input, cut, end_of(end)?, &written)? {
         return Ok(());
     }
-    Err(Fail::new(format!(in alloc; "{sent}")?))
-}
-
-#[test]
-fn lines_end_so(rt: HostRuntime) -> Result<(), Fail> {
-    for line in LINES.lines().skip(1) {
-        try_line(rt.alloc(), line)?;
-    }
-    Ok(())
+    Err(Fail::new(format!(in alloc; "{sent}, first {cut} bytes")?))
 }
 
 /// COM_PING, and its OK.
-const PING: &[u8] = b"\x01\0\0\0\x0e";
-
-const ALIVE: &[u8] = b"\x07\0\0\x01\0\0\0\x02\0\0\0";
-
-/// The first cut of a PING's line at which it ends otherwise.
-fn first_wrong_cut(alloc: Global) -> Result<Option<u32>, Fail> {
-    let input = joined(alloc, RESPONSE, PING)?;
-    let begun = joined(alloc, GREETING, ACCEPTED)?;
-    let written = joined(alloc, &begun, ALIVE)?;
-    for cut in 0..44 {
-        if !ends(alloc, &input, cut, LinkEnd::End, &written)? {
-            return Ok(Some(cut));
-        }
-    }
-    Ok(None)
-}
+const PING: &str = "⟨01 00 00 00 0e⟩ ⇒ end ⇒ ⟨07 00 00 01 00 00 00 02 00 00 00⟩";
 
 #[test]
-fn a_line_may_be_cut_anywhere(rt: HostRuntime) -> Result<(), Fail> {
-    assert_eq!(rt; first_wrong_cut(rt.alloc())?, None);
+fn lines_end_so_and_may_be_cut_anywhere(rt: HostRuntime) -> Result<(), Fail> {
+    for line in LINES.lines().skip(1) {
+        try_end(rt.alloc(), line, 0)?;
+    }
+    for cut in 0..44 {
+        try_end(rt.alloc(), PING, cut)?;
+    }
     Ok(())
 }

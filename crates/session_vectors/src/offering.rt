@@ -1,9 +1,7 @@
 //! What is well formed and not run yet, and the refusals that come before that; SELECTs of an index without documents.
-use crate::running::try_each;
-use std::test::Fail;
 
 /// Statements of the grammar that aren't offered yet, and the refusals that come before that.
-const NOT_OFFERED: &str = r#"
+pub(crate) const NOT_OFFERED: &str = r#"
 FLUSH RAMCHUNK rt ⇒ ERR 1064 42000 not offered yet
 FLUSH RTINDEX rt ⇒ ERR 1064 42000 not offered yet
 OPTIMIZE INDEX rt ⇒ ERR 1064 42000 not offered yet
@@ -15,13 +13,8 @@ FLUSH RTINDEX other ⇒ ERR 1064 42000 not offered yet
 OPTIMIZE INDEX other ⇒ ERR 1064 42000 not offered yet
 "#;
 
-#[test]
-fn other_statements_are_not_offered_yet(rt: HostRuntime) -> Result<(), Fail> {
-    try_each(rt.alloc(), NOT_OFFERED)
-}
-
 /// SELECTs of an index without documents, and their refusals.
-const WITHOUT_DOCUMENTS: &str = r#"
+pub(crate) const WITHOUT_DOCUMENTS: &str = r#"
 SHOW META ⇒ Variable_name, Value
 SELECT id FROM rt WHERE MATCH('a') GROUP BY gid ⇒ id
 SELECT id FROM rt WHERE MATCH('a') FACET gid ⇒ id; gid, count(*)
@@ -55,8 +48,3 @@ SELECT id FROM rt WHERE MATCH('"a"') ⇒ id
 SELECT id FROM other WHERE MATCH('a') ⇒ id
 SELECT id FROM other WHERE MATCH('a b') ⇒ id
 "#;
-
-#[test]
-fn selects_without_documents_are_answered(rt: HostRuntime) -> Result<(), Fail> {
-    try_each(rt.alloc(), WITHOUT_DOCUMENTS)
-}

@@ -1,10 +1,8 @@
 //! Texts that are no packet of statements, with the place of their first fault.
-use crate::running::try_each;
-use std::test::Fail;
 
 /// Texts that are refused before any statement is looked at, by their tokens or by the grammar; the tokens of the whole packet come
 /// before its statements. In the last one a byte is no UTF-8.
-const REFUSED: &str = r#"
+pub(crate) const REFUSED: &str = r#"
 SELEC 1 ⇒ ERR 1064 42000 syntax error at 0
  ⇒ ERR 1064 42000 syntax error at 0
 ; ⇒ ERR 1064 42000 syntax error at 0
@@ -33,8 +31,3 @@ SHOW TABLES;;SHOW TABLES ⇒ ERR 1064 42000 syntax error at 12
 DESCRIBE nosuch nosuch ⇒ ERR 1064 42000 syntax error at 16
 INSERT INTO rt VALUES (1,'⟨ff⟩') ⇒ ERR 1064 42000 text is not UTF-8 at 25
 "#;
-
-#[test]
-fn a_text_that_is_no_packet_is_refused_by_its_place(rt: HostRuntime) -> Result<(), Fail> {
-    try_each(rt.alloc(), REFUSED)
-}

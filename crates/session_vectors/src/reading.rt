@@ -4,7 +4,6 @@
 //! `3: OK 1`, but for that of AUTOCOMMIT 1 without a transaction, which is 2, or 10 where another reply follows.
 use itoa::Buffer;
 use mysql_wire::{ColumnKind, read_column, read_eof, read_err, read_lenenc, read_ok, read_row};
-use srch_base::Text;
 use std::alloc::Global;
 use std::test::Fail;
 
@@ -12,7 +11,7 @@ use std::test::Fail;
 const LONGEST: usize = 65_535;
 
 /// What the next packet is.
-#[derive(Clone, Copy, PartialEq, Eq)]
+#[derive(Clone, Copy)]
 enum Next {
     /// A reply. The one before it has this status.
     Reply(Option<u16>),
@@ -208,17 +207,9 @@ fn tell_row(alloc: Global, payload: &[u8], status: u16, text: &mut Vec<u8>) -> R
     let mut before: &[u8] = b" | ";
     for cell in &cells {
         text.extend_from_slice(before)?;
-        text.extend_from_slice(shown(cell).ok_or("a NULL")?)?;
+        let value = cell.as_ref().ok_or("a NULL")?.as_bytes();
+        text.extend_from_slice(if value.is_empty() { b"''" } else { value })?;
         before = b", ";
     }
     Ok(Next::Row(status))
-}
-
-/// A cell as it is told.
-fn shown(cell: &Option<Text>) -> Option<&[u8]> {
-    match cell {
-        None => None,
-        Some(value) if value.as_bytes().is_empty() => Some(b"''"),
-        Some(value) => Some(value.as_bytes()),
-    }
 }

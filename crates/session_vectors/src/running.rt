@@ -2,7 +2,6 @@
 use crate::reading::told;
 use crate::spelling::written_out;
 use conf_text::read_conf;
-use itoa::Buffer;
 use mysql_wire::Command;
 use ql_session::{PlainTables, Session, StepEnd};
 use std::alloc::Global;
@@ -89,105 +88,75 @@ impl Clients {
     }
 }
 
-/// What is replied to a command, as a text.
-pub(crate) fn told_of(
-    alloc: Global,
-    clients: &mut Clients,
-    client: Client,
-    command: Command<'_>,
-) -> Result<Vec<u8>, Fail> {
-    let packets = clients.replied(alloc, client, command)?;
-    told(alloc, &packets.ok_or("the session ends")?)
+/// A packet as a command: its name, or else it is the text of a query, which stands here written out.
+fn command<'a>(packet: &'a str, text: &'a [u8]) -> Result<Command<'a>, Fail> {
+    let (name, rest) = packet.split_once(' ').unwrap_or((packet, ""));
+    match name {
+        "COM_PING" => Ok(Command::Ping),
+        "COM_INIT_DB" => Ok(Command::InitDb(rest.as_bytes())),
+        "COM_SET_OPTION" => Ok(Command::SetOption(rest.parse().or(Err("no number"))?)),
+        "COM_FIELD_LIST" => Ok(Command::Unknown(Some(4))),
+        "COM_UNKNOWN" => Ok(Command::Unknown(rest.parse().ok())),
+        _ => Ok(Command::Query(text)),
+    }
 }
 
-/// What is replied to a text.
-pub(crate) fn answer(alloc: Global, clients: &mut Clients, text: &[u8]) -> Result<Vec<u8>, Fail> {
-    told_of(alloc, clients, Client::First, Command::Query(text))
-}
-
-/// Fails where something else is told than is wanted, with the text to which it was replied.
-pub(crate) fn try_told(alloc: Global, text: &str, told: Vec<u8>, wanted: &str) -> Result<(), Fail> {
-    if told.as_slice() == written_out(alloc, wanted)?.as_slice() {
+/// Fails where something else is replied than is wanted, with the packet to which it was replied.
+fn try_replied(alloc: Global, packet: &str, found: Vec<u8>, wanted: &str) -> Result<(), Fail> {
+    if found.as_slice() == written_out(alloc, wanted)?.as_slice() {
         return Ok(());
     }
-    let told = String::from_utf8(told).ok().ok_or("no UTF-8")?;
-    Err(Fail::new(format!(in alloc; "{text} ⇒ {told}")?))
+    let found = String::from_utf8(found).ok().unwrap_or(String::new(alloc));
+    Err(Fail::new(format!(in alloc; "{packet} ⇒ {found}")?))
 }
 
-/// Fails where something else is replied to a text, with what is replied.
-pub(crate) fn try_reply(
-    alloc: Global,
-    clients: &mut Clients,
-    text: &str,
-    reply: &str,
-) -> Result<(), Fail> {
-    let sent = written_out(alloc, text)?;
-    let told = answer(alloc, clients, &sent)?;
-    try_told(alloc, text, told, reply)
-}
-
-/// The same for the text and the reply of a line.
-pub(crate) fn try_line(alloc: Global, clients: &mut Clients, line: &str) -> Result<(), Fail> {
-    let (text, reply) = line.split_once(" ⇒ ").ok_or("a line without an arrow")?;
-    try_reply(alloc, clients, text, reply)
-}
-
-/// Sends a text that is answered OK.
-fn send(alloc: Global, clients: &mut Clients, text: &str) -> Result<(), Fail> {
-    let sent = written_out(alloc, text)?;
-    if answer(alloc, clients, &sent)?.starts_with(b"OK ") {
-        return Ok(());
+/// Fails where something else is replied to the packet of a line, which the first client sends, or the one whose letter stands
+/// before it. Behind `bytes: ` the reply is told by its bytes.
+fn try_line(alloc: Global, clients: &mut Clients, line: &str) -> Result<(), Fail> {
+    let (sent, wanted) = line.split_once(" ⇒ ").ok_or("a line without an arrow")?;
+    let (client, packet) = match sent.split_once(": ") {
+        Some(("A", packet)) => (Client::First, packet),
+        Some(("B", packet)) => (Client::Second, packet),
+        _ => (Client::First, sent),
+    };
+    if packet == "COM_QUIT" {
+        return clients.quit(alloc, client);
     }
-    Err("what is sent before is refused".into())
-}
-
-/// Fails where something else is replied to the text of a line, in a new session over new indexes. Where the line has three parts,
-/// the first is sent before.
-fn try_anew(alloc: Global, line: &str) -> Result<(), Fail> {
-    let mut clients = Clients::over(alloc, TWO)?;
-    let (texts, reply) = line.rsplit_once(" ⇒ ").ok_or("a line without an arrow")?;
-    match texts.split_once(" ⇒ ") {
-        Some((before, text)) => {
-            send(alloc, &mut clients, before)?;
-            try_reply(alloc, &mut clients, text, reply)
-        }
-        None => try_reply(alloc, &mut clients, texts, reply),
+    let spelled = packet.strip_prefix("bytes: ");
+    let packet = spelled.unwrap_or(packet);
+    let text = written_out(alloc, packet)?;
+    let packets = clients.replied(alloc, client, command(packet, &text)?)?;
+    let packets = packets.ok_or("the session ends")?;
+    if spelled.is_some() {
+        return try_replied(alloc, packet, packets, wanted);
     }
+    try_replied(alloc, packet, told(alloc, &packets)?, wanted)
 }
 
-/// Fails with the first text of a table to which something else is replied, each in a session of its own.
+/// Fails with the first text of a table to which something else is replied, each line in sessions of its own over new indexes. `⏎`
+/// stands between the steps of a line.
 pub(crate) fn try_each(alloc: Global, table: &str) -> Result<(), Fail> {
     for line in table.lines().skip(1) {
-        try_anew(alloc, line)?;
+        let mut clients = Clients::over(alloc, TWO)?;
+        for step in line.split(" ⏎ ") {
+            try_line(alloc, &mut clients, step)?;
+        }
     }
     Ok(())
 }
 
-/// The same where all are sent in turn in one session over the indexes of this configuration.
-pub(crate) fn try_in_turn(alloc: Global, conf: &[u8], table: &str) -> Result<(), Fail> {
+/// The same where the lines are sent in turn over the indexes of a configuration, after those of some documents.
+pub(crate) fn try_in_turn(
+    alloc: Global,
+    conf: &[u8],
+    documents: &str,
+    lines: &str,
+) -> Result<(), Fail> {
     let mut clients = Clients::over(alloc, conf)?;
-    for line in table.lines().skip(1) {
-        try_line(alloc, &mut clients, line)?;
+    for line in documents.lines().chain(lines.lines()) {
+        if !line.is_empty() {
+            try_line(alloc, &mut clients, line)?;
+        }
     }
-    Ok(())
-}
-
-/// The text of one INSERT of the ids 1 to this one, with the title `a`. The last id comes first.
-pub(crate) fn insert_numbered(alloc: Global, last: u32) -> Result<Vec<u8>, Fail> {
-    let mut text = Vec::from_slice(alloc, b"INSERT INTO rt (title, id) VALUES ")?;
-    push_numbered(last, &mut text)?;
-    for id in 1..last {
-        text.extend_from_slice(b", ")?;
-        push_numbered(id, &mut text)?;
-    }
-    Ok(text)
-}
-
-/// Appends the values of one of them.
-fn push_numbered(id: u32, text: &mut Vec<u8>) -> Result<(), Fail> {
-    let mut digits = Buffer::new();
-    text.extend_from_slice(b"('a', ")?;
-    text.extend_from_slice(digits.format(id).as_bytes())?;
-    text.push(b')')?;
     Ok(())
 }

@@ -29,7 +29,7 @@ rt_field = text
 }
 "#;
 
-/// Sets: the configuration, then what is sent, or the ids that are made.
+/// Sets: the configuration, then what is sent.
 pub(crate) const DOCUMENTS: &str = r#"
 # shop
 two
@@ -43,7 +43,7 @@ INSERT INTO rt (id, content, gid, price, seen) VALUES (300, 'tea tea tea', 42949
 two
 # many
 two
-ids 1 to 1200
+INSERT INTO rt (title, id) VALUES ('a', 1200), ⟨('a', #) × 1199⟩ ⇒ OK 1200
 # greetings
 two
 INSERT INTO rt (id, title, content, gid, price) VALUES (1,'hello world','one',10,5) ⇒ OK 1

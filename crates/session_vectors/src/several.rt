@@ -1,11 +1,7 @@
 //! Several statements in one text, many rows in one INSERT, and the description of the widest index.
-use crate::running::{Clients, TWO, answer, insert_numbered, try_each, try_in_turn};
-use itoa::Buffer;
-use std::alloc::Global;
-use std::test::Fail;
 
 /// Texts of several statements. What comes first is the tokens and the grammar of the whole text.
-const SEVERAL: &str = r#"
+pub(crate) const SEVERAL: &str = r#"
 SHOW TABLES; SHOW TABLES ⇒ Index, Type | rt, rt | other, rt; Index, Type | rt, rt | other, rt
 SET NAMES utf8; SELECT id FROM nosuch WHERE MATCH('a') ⇒ OK 0; ERR 1064 42000 unknown index 'nosuch'
 SET NAMES utf8;SET NAMES utf8; ⇒ OK 0; OK 0
@@ -19,13 +15,8 @@ SHOW DATABASES; ⇒ Database
 SHOW DATABASES ; /* c */  ⇒ Database
 "#;
 
-#[test]
-fn several_statements_are_run_in_turn(rt: HostRuntime) -> Result<(), Fail> {
-    try_each(rt.alloc(), SEVERAL)
-}
-
 /// Texts that one session is sent in turn: of one that can't be read no statement is run.
-const IN_TURN: &str = r#"
+pub(crate) const READ_FIRST: &str = r#"
 INSERT INTO rt (id, title) VALUES (1, 'a'); SELECT id FROM rt WHERE MATCH('a') ⇒ OK 1; id | 1
 SELECT id FROM rt WHERE MATCH('a') ⇒ id | 1
 INSERT INTO rt (id, title) VALUES (3, 'a'); SELEC ⇒ ERR 1064 42000 syntax error at 44
@@ -33,13 +24,8 @@ INSERT INTO rt (id, title) VALUES (3, 'a'); ⇒ OK 1
 SELECT id FROM rt WHERE MATCH('a'); ⇒ id | 1 | 3
 "#;
 
-#[test]
-fn a_text_is_read_before_its_statements_are_run(rt: HostRuntime) -> Result<(), Fail> {
-    try_in_turn(rt.alloc(), TWO, IN_TURN)
-}
-
 /// Texts of many statements.
-const COUNTS: &str = r#"
+pub(crate) const COUNTS: &str = r#"
 SET NAMES utf8 ⇒ OK 0
 SET NAMES utf8; SET NAMES utf8 ⇒ OK 0; OK 0
 ⟨SET NAMES utf8; × 31⟩ SET NAMES utf8 ⇒ ⟨OK 0; × 31⟩ OK 0
@@ -47,74 +33,80 @@ SET NAMES utf8; SET NAMES utf8 ⇒ OK 0; OK 0
 ⟨COMMIT; × 32⟩ COMMIT ⇒ ERR 1064 42000 too many statements
 "#;
 
-#[test]
-fn a_text_has_32_statements_at_most(rt: HostRuntime) -> Result<(), Fail> {
-    try_in_turn(rt.alloc(), TWO, COUNTS)
-}
-
 /// What 300 documents with one word show: the first 20.
-const TWENTY: &[u8] =
-    b"id | 1 | 2 | 3 | 4 | 5 | 6 | 7 | 8 | 9 | 10 | 11 | 12 | 13 | 14 | 15 | 16 | 17 | 18 | 19 | 20";
-
-#[test]
-fn three_hundred_rows_are_inserted_at_once(rt: HostRuntime) -> Result<(), Fail> {
-    let alloc = rt.alloc();
-    let mut clients = Clients::over(alloc, TWO)?;
-    let inserted = answer(alloc, &mut clients, &insert_numbered(alloc, 300)?)?;
-    assert!(rt; inserted.as_slice() == b"OK 300".as_slice());
-    let select = b"SELECT id FROM rt WHERE MATCH('a')";
-    let told = answer(alloc, &mut clients, select)?;
-    assert!(rt; told.as_slice() == TWENTY);
-    Ok(())
-}
-
-/// The front of an index's section.
-const FRONT: &[u8] = b"index wide\n{\ntype = rt\npath = w\n";
-
-/// Appends so many lines of columns, which are numbered on.
-fn put_columns(count: u32, key: &[u8], text: &mut Vec<u8>) -> Result<(), Fail> {
-    for at in 0..count {
-        let mut digits = Buffer::new();
-        text.extend_from_slice(key)?;
-        text.extend_from_slice(digits.format(at).as_bytes())?;
-        text.push(b'\n')?;
-    }
-    Ok(())
-}
+pub(crate) const MANY_ROWS: &str = r#"
+INSERT INTO rt (title, id) VALUES ('a', 300), ⟨('a', #) × 299⟩ ⇒ OK 300
+SELECT id FROM rt WHERE MATCH('a') ⇒ id | 1 | 2 | 3 | 4 | 5 | 6 | 7 | 8 | 9 | 10 | 11 | 12 | 13 | 14 | 15 | 16 | 17 | 18 | 19 | 20
+"#;
 
 /// An index with as many columns as there may be.
-fn widest(alloc: Global) -> Result<Vec<u8>, Fail> {
-    let mut text = Vec::from_slice(alloc, FRONT)?;
-    put_columns(32, b"rt_field = f", &mut text)?;
-    put_columns(32, b"rt_attr_bool = a", &mut text)?;
-    text.extend_from_slice(b"}\n")?;
-    Ok(text)
-}
+pub(crate) const WIDEST: &[u8] = b"index wide\n{\ntype = rt\npath = w\n\
+rt_field = f0\n\
+rt_field = f1\n\
+rt_field = f2\n\
+rt_field = f3\n\
+rt_field = f4\n\
+rt_field = f5\n\
+rt_field = f6\n\
+rt_field = f7\n\
+rt_field = f8\n\
+rt_field = f9\n\
+rt_field = f10\n\
+rt_field = f11\n\
+rt_field = f12\n\
+rt_field = f13\n\
+rt_field = f14\n\
+rt_field = f15\n\
+rt_field = f16\n\
+rt_field = f17\n\
+rt_field = f18\n\
+rt_field = f19\n\
+rt_field = f20\n\
+rt_field = f21\n\
+rt_field = f22\n\
+rt_field = f23\n\
+rt_field = f24\n\
+rt_field = f25\n\
+rt_field = f26\n\
+rt_field = f27\n\
+rt_field = f28\n\
+rt_field = f29\n\
+rt_field = f30\n\
+rt_field = f31\n\
+rt_attr_bool = a0\n\
+rt_attr_bool = a1\n\
+rt_attr_bool = a2\n\
+rt_attr_bool = a3\n\
+rt_attr_bool = a4\n\
+rt_attr_bool = a5\n\
+rt_attr_bool = a6\n\
+rt_attr_bool = a7\n\
+rt_attr_bool = a8\n\
+rt_attr_bool = a9\n\
+rt_attr_bool = a10\n\
+rt_attr_bool = a11\n\
+rt_attr_bool = a12\n\
+rt_attr_bool = a13\n\
+rt_attr_bool = a14\n\
+rt_attr_bool = a15\n\
+rt_attr_bool = a16\n\
+rt_attr_bool = a17\n\
+rt_attr_bool = a18\n\
+rt_attr_bool = a19\n\
+rt_attr_bool = a20\n\
+rt_attr_bool = a21\n\
+rt_attr_bool = a22\n\
+rt_attr_bool = a23\n\
+rt_attr_bool = a24\n\
+rt_attr_bool = a25\n\
+rt_attr_bool = a26\n\
+rt_attr_bool = a27\n\
+rt_attr_bool = a28\n\
+rt_attr_bool = a29\n\
+rt_attr_bool = a30\n\
+rt_attr_bool = a31\n}\n";
 
-/// Appends so many rows of its description.
-fn put_rows(count: u32, name: &[u8], kind: &[u8], text: &mut Vec<u8>) -> Result<(), Fail> {
-    for at in 0..count {
-        let mut digits = Buffer::new();
-        text.extend_from_slice(name)?;
-        text.extend_from_slice(digits.format(at).as_bytes())?;
-        text.extend_from_slice(kind)?;
-    }
-    Ok(())
-}
-
-/// What DESCRIBE shows of it.
-fn description(alloc: Global) -> Result<Vec<u8>, Fail> {
-    let mut text = Vec::from_slice(alloc, b"Field, Type | id, bigint")?;
-    put_rows(32, b" | f", b", field", &mut text)?;
-    put_rows(32, b" | a", b", bool", &mut text)?;
-    Ok(text)
-}
-
-#[test]
-fn the_longest_description_has_70_packets(rt: HostRuntime) -> Result<(), Fail> {
-    let alloc = rt.alloc();
-    let mut clients = Clients::over(alloc, &widest(alloc)?)?;
-    let told = answer(alloc, &mut clients, b"DESCRIBE wide")?;
-    assert!(rt; told.as_slice() == description(alloc)?.as_slice());
-    Ok(())
-}
+/// Its description, of 70 packets.
+pub(crate) const DESCRIBED: &str = r#"
+DESCRIBE wide ⇒ Field, Type | id, bigint | f0, field | f1, field | f2, field | f3, field | f4, field | f5, field | f6, field | f7, field | f8, field | f9, field | f10, field | f11, field | f12, field | f13, field | f14, field | f15, field | f16, field | f17, field | f18, field | f19, field | f20, field | f21, field | f22, field | f23, field | f24, field | f25, field | f26, field | f27, field | f28, field | f29, field | f30, field | f31, field | a0, bool | a1, bool | a2, bool | a3, bool | a4, bool | a5, bool | a6, bool | a7, bool | a8, bool | a9, bool | a10, bool | a11, bool | a12, bool | a13, bool | a14, bool | a15, bool | a16, bool | a17, bool | a18, bool | a19, bool | a20, bool | a21, bool | a22, bool | a23, bool | a24, bool | a25, bool | a26, bool | a27, bool | a28, bool | a29, bool | a30, bool | a31, bool
+"#;

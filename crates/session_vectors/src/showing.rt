@@ -1,9 +1,7 @@
 //! What SHOW, DESCRIBE and SELECT of a variable show, by the manual, and what statements that show nothing are answered.
-use crate::running::try_each;
-use std::test::Fail;
 
 /// What is shown, and what is agreed to.
-const SHOWN: &str = r#"
+pub(crate) const SHOWN: &str = r#"
 SELECT @@version_comment LIMIT 1 ⇒ @@version_comment | searchd
 select @@Version_Comment ⇒ @@version_comment | searchd
 SELECT @@max_allowed_packet ⇒ @@max_allowed_packet | ''
@@ -58,8 +56,3 @@ SHOW VARIABLES ⇒ Variable_name, Value | autocommit, 1
 DESCRIBE other ⇒ Field, Type | id, bigint | body, field
 DESCRIBE nosuch ⇒ ERR 1064 42000 unknown index 'nosuch'
 "#;
-
-#[test]
-fn statements_show_what_the_manual_says(rt: HostRuntime) -> Result<(), Fail> {
-    try_each(rt.alloc(), SHOWN)
-}

@@ -4,8 +4,6 @@
 #[cfg(test)]
 mod documents;
 #[cfg(test)]
-mod handshakes;
-#[cfg(test)]
 mod links;
 #[cfg(test)]
 mod packets;

@@ -29,44 +29,36 @@ fn columns_of(alloc: Global, names: &[&[u8]], kind: ColumnKind) -> Result<Items<
     Ok(Items::new(columns))
 }
 
-fn row_of(alloc: Global, numbers: &[i128]) -> Result<Items<Cell>, Fail> {
-    let mut cells = Vec::new(alloc);
-    for number in numbers {
-        cells.push(Cell::Whole(*number))?;
+/// Rows of numbers.
+fn rows_of(alloc: Global, rows: &[&[i128]]) -> Result<Items<Items<Cell>>, Fail> {
+    let mut list = Vec::new(alloc);
+    for row in rows {
+        let mut cells = Vec::new(alloc);
+        for number in *row {
+            cells.push(Cell::Whole(*number))?;
+        }
+        list.push(Items::new(cells))?;
     }
-    Ok(Items::new(cells))
+    Ok(Items::new(list))
 }
 
-/// The rows of the recorded set.
-const ROWS: [(i128, i128); 3] = [(1, 2), (2, 2), (3, 1)];
-
-fn recorded_rows(alloc: Global) -> Result<Items<Items<Cell>>, Fail> {
-    let mut rows = Vec::new(alloc);
-    for (id, weight) in ROWS {
-        rows.push(row_of(alloc, &[id, weight])?)?;
-    }
-    Ok(Items::new(rows))
-}
-
-/// Rows of one number each.
-fn rows_of(alloc: Global, numbers: &[i128]) -> Result<Items<Items<Cell>>, Fail> {
-    let mut rows = Vec::new(alloc);
-    for number in numbers {
-        rows.push(row_of(alloc, &[*number])?)?;
-    }
-    Ok(Items::new(rows))
-}
-
-/// Whether a set is written as these bytes, from a packet's number on, and the packet after it has the other number.
+/// Whether a set of such columns and rows is written as these bytes, from a packet's number on, and the packet after it has the
+/// other number.
 fn is_written(
     alloc: Global,
-    set: &ResultSet,
+    (names, kind): (&[&[u8]], ColumnKind),
+    rows: &[&[i128]],
     status: u16,
     numbers: (u8, u8),
     bytes: &[u8],
 ) -> Result<bool, Fail> {
+    let columns = columns_of(alloc, names, kind)?;
+    let rows = rows_of(alloc, rows)?;
     let mut replies = Replies::new(alloc, numbers.0).ok().ok_or("memory")?;
-    replies.put_set(alloc, set, status).ok().ok_or("memory")?;
+    replies
+        .put_set(alloc, &ResultSet { columns, rows }, status)
+        .ok()
+        .ok_or("memory")?;
     let is_same = replies.bytes() == bytes;
     replies.put_ok(0, 0);
     Ok(
@@ -77,39 +69,19 @@ fn is_written(
     )
 }
 
-fn two_columns(alloc: Global) -> Result<bool, Fail> {
-    let columns = columns_of(alloc, &[b"id", b"weight()"], ColumnKind::Unsigned)?;
-    let rows = recorded_rows(alloc)?;
-    is_written(alloc, &ResultSet { columns, rows }, 2, (1, 9), ROW_SET)
-}
+/// The columns of the recorded set, and its rows.
+const RECORDED: (&[&[u8]], ColumnKind) = (&[b"id", b"weight()"], ColumnKind::Unsigned);
 
-fn no_rows(alloc: Global) -> Result<bool, Fail> {
-    let columns = columns_of(alloc, &[b"Database"], ColumnKind::Text)?;
-    let rows = rows_of(alloc, &[])?;
-    is_written(alloc, &ResultSet { columns, rows }, 2, (1, 5), NO_ROWS)
-}
-
-fn wrapped(alloc: Global) -> Result<bool, Fail> {
-    let columns = columns_of(alloc, &[b"id"], ColumnKind::Unsigned)?;
-    let rows = rows_of(alloc, &[7, 8])?;
-    is_written(alloc, &ResultSet { columns, rows }, 10, (253, 3), WRAPPED)
-}
+const ROWS: &[&[i128]] = &[&[1, 2], &[2, 2], &[3, 1]];
 
 #[test]
-fn a_set_of_two_columns_is_the_recorded_bytes(rt: HostRuntime) -> Result<(), Fail> {
-    assert!(rt; two_columns(rt.alloc())?);
-    Ok(())
-}
-
-#[test]
-fn a_set_without_rows_has_its_columns(rt: HostRuntime) -> Result<(), Fail> {
-    assert!(rt; no_rows(rt.alloc())?);
-    Ok(())
-}
-
-#[test]
-fn numbers_of_packets_go_on_from_0_after_255(rt: HostRuntime) -> Result<(), Fail> {
-    assert!(rt; wrapped(rt.alloc())?);
+fn sets_are_these_bytes_and_numbers_go_on_from_0_after_255(rt: HostRuntime) -> Result<(), Fail> {
+    let alloc = rt.alloc();
+    assert!(rt; is_written(alloc, RECORDED, ROWS, 2, (1, 9), ROW_SET)?);
+    let texts: (&[&[u8]], ColumnKind) = (&[b"Database"], ColumnKind::Text);
+    assert!(rt; is_written(alloc, texts, &[], 2, (1, 5), NO_ROWS)?);
+    let ids: (&[&[u8]], ColumnKind) = (&[b"id"], ColumnKind::Unsigned);
+    assert!(rt; is_written(alloc, ids, &[&[7], &[8]], 10, (253, 3), WRAPPED)?);
     Ok(())
 }
 
