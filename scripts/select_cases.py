@@ -74,13 +74,14 @@ def configurations(part):
 
 
 def documents(part):
-    """The lines of the sets: the configuration, then what is sent or the ids that are made."""
+    """The lines of the sets: the configuration, then what is sent. Many rows are spelled as copies of one."""
     for name, section in sections(part):
         yield f"# {name}"
         yield re.search(r"^Configuration `(\w+)`\.", section, re.MULTILINE).group(1)
-        made = re.search(r"The (ids 1 to \d+), each with the title `a`, by one INSERT\.", section)
+        made = re.search(r"The ids 1 to (\d+), each with the title `a`, by one INSERT\.", section)
         if made:
-            yield made.group(1)
+            last = int(made.group(1))
+            yield f"INSERT INTO rt (title, id) VALUES ('a', {last}), ⟨('a', #) × {last - 1}⟩ ⇒ OK {last}"
         yield from filter(None, map(row, section.split("\n")))
 
 
@@ -114,7 +115,7 @@ def made():
     sets = {name for name, _ in sections(of["Documents"])}
     yield file("select_documents", "configurations and documents", LINES, [
         constant("Configurations by name.", "CONFIGURATIONS", configurations(of["Configurations"])),
-        constant("Sets: the configuration, then what is sent, or the ids that are made.", "DOCUMENTS", documents(of["Documents"])),
+        constant("Sets: the configuration, then what is sent.", "DOCUMENTS", documents(of["Documents"])),
     ])
     for head, (module, name, about) in PARTS.items():
         yield file(module, f"part `{head}`", LINES, [constant(f"{about}.", name, selects(of[head], sets))])
