@@ -106,6 +106,15 @@ fn run<R: Threads + Wait + Sync>(
     Ok(searchd(rt, alloc, words.as_slice(), host))
 }
 
+/// How what a row came to differs from what it says, which is empty where it doesn't.
+fn difference(alloc: Global, case: &str, told: &str, wanted: &str) -> Result<String, Fail> {
+    let mut differs = String::new(alloc);
+    if told != wanted {
+        write!(differs, "{case} ⇒ {told}, wanted: {wanted}")?;
+    }
+    Ok(differs)
+}
+
 /// Runs a row of a table. Gives the host as it is then, and how what it came to differs from the row, which is empty where it doesn't.
 ///
 /// What the row is of, ` | `, the words, ` | `, the text as `text_of` reads it, ` | `, the indexes as `stores_of` reads them, ` | `, the
@@ -137,10 +146,7 @@ pub(crate) fn run_row<R: Threads + Wait + Sync>(
     };
     let status = run(rt, alloc, words, &mut host)?;
     let told = told(alloc, &status, &host)?;
-    let mut differs = String::new(alloc);
-    if told.as_str() != wanted {
-        write!(differs, "{case} ⇒ {told}, wanted: {wanted}")?;
-    }
+    let mut differs = difference(alloc, case, told.as_str(), wanted)?;
     for (door, back) in doors.split(" / ").zip(host.lent.back.as_slice()) {
         put_difference(alloc, door, back, &mut differs)?;
     }
