@@ -9,7 +9,7 @@ use Rattle.std.proofs.lemmas.List.Sorted.{All-permutation, IsNonDecreasingBy-fro
 use Rattle.doc_types.specs.declared.documents.DocRow.{DocRow}
 use Rattle.doc_types.specs.declared.schema.Schema.{Schema}
 use Rattle.doc_types.specs.Documents.{AreRowsOf, IsDocOf}
-use Rattle.layer_joins.specs.Joins.{AreApart}
+use Rattle.layer_joins.specs.steps.Layering.{AreApart}
 use Rattle.layer_joins.proofs.Ids.{apart_permutation, ascending}
 use Rattle.image_join.specs.declared.ordering.Living.{Living}
 use Rattle.image_join.specs.steps.Numbering.{IsThere, all_living_in, living_in, row_in}

@@ -12,13 +12,6 @@ use Rattle.image_join.specs.steps.Parts.{PartValue, blank_part, living_of, row_a
 use Rattle.image_join.proofs.Numbers.{blank}
 
 -- the row at a place of the order, where its part is at hand
--- the row at a place of an order
-pub row_there : (parts : List PartValue) (order : List Living) (i : ℕ) (part : PartValue) → i < length order → (get_or order i blank).part < length parts → part ≡ get_or parts (get_or order i blank).part part
-    → (row_at part (get_or order i blank).row ≡ row_in parts (get_or order i blank)) × (get_or order i blank ≡ get_or order i (get_or order i blank))
-row_there parts order i part low there is =
-    let living = get_or order i blank in
-    (ap (λ p. row_at p living.row) (is ∙ get_or_default parts living.part part blank_part there), get_or_default order i blank living low)
-
 pub row_told : (parts : List PartValue) (order : List Living) (i : ℕ) (part : PartValue) → i < length order → (get_or order i blank).part < length parts → part ≡ get_or parts (get_or order i blank).part part
     → row_at part (get_or order i blank).row ≡ get_or (map (row_in parts) order) i (row_at part (get_or order i blank).row)
 row_told parts order i part low there is =

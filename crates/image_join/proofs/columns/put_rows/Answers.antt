@@ -1,13 +1,13 @@
-use Rattle.std.proofs.Common.{◌≡◌, ◌∙◌, ◌<◌, ◌++◌, length, map, get_or, rules, sym, ap, subst, arith}
+use Rattle.std.proofs.Common.{◌≡◌, ◌<◌, ◌++◌, length, map, get_or, rules, sym, arith}
+use Rattle.std.proofs.lemmas.List.{length-map}
 use Rattle.doc_types.specs.declared.documents.DocRow.{DocRow}
 use Rattle.chunk_image.specs.ChunkImage.{HasRoom, row_bytes}
 use Rattle.chunk_image.specs.Marks.{row_marks}
 use Rattle.image_write.proofs.Columned.{all_more, columns_more, marks_more}
-use Rattle.image_write.proofs.Meeting.{all_lent}
 use Rattle.image_join.specs.steps.Numbering.{row_in}
 use Rattle.image_join.specs.steps.Parts.{row_at}
 use Rattle.image_join.proofs.Numbers.{blank}
-use Rattle.image_join.proofs.Ordered.{row_there}
+use Rattle.image_join.proofs.Ordered.{row_told}
 use Rattle.image_join.proofs.columns.put_rows.Goals as goal
 
 pub loop-living-preserved : goal.loop-living-preserved
@@ -17,21 +17,16 @@ loop-living-preserved g c =
     let i = c.loop-living.living-index in
     let living = get_or order i blank in
     let part = c.index-parts-living.result in
-    let columns = c.loop-living.columns.items in
-    let marks = c.loop-living.marks.items in
+    let rows = map (row_in parts) order in
+    let row = row_at part living.row in
     let there = c.requires.there i blank c.loop-living-test.true in
-    let own : row_at part living.row ≡ row_in parts living = (row_there parts order i part c.loop-living-test.true there.part c.index-parts-living.is).0 in
-    let is : living ≡ get_or order i living = (row_there parts order i part c.loop-living-test.true there.part c.index-parts-living.is).1 in
-    let written : c.put_row.new.out.items ≡ columns ++ row_bytes c.in_ok-place.place (row_at part living.row) = search rules in
-    let put : c.put_row.new.out.items ≡ columns ++ row_bytes c.in_ok-place.place (row_in parts living) = written ∙ ap (λ (row : DocRow). columns ++ row_bytes c.in_ok-place.place row) own in
-    let fits : HasRoom (row_at part living.row) = search rules in
-    let marked : c.extend_from_slice.new.self.items ≡ marks ++ row_marks (row_at part living.row) = search rules in
-    let marked_by : c.extend_from_slice.new.self.items ≡ marks ++ row_marks (row_in parts living) = marked ∙ ap (λ (row : DocRow). marks ++ row_marks row) own in
+    let low : i < length rows = omega (arith, c.loop-living-test.true, length-map order (row_in parts)) in
+    let is : row ≡ get_or rows i row = row_told parts order i part c.loop-living-test.true there.part c.index-parts-living.is in
+    let put : c.put_row.new.out.items ≡ c.loop-living.columns.items ++ row_bytes c.in_ok-place.place row = search rules in
+    let room : HasRoom row = search rules in
+    let marked : c.extend_from_slice.new.self.items ≡ c.loop-living.marks.items ++ row_marks row = search rules in
     record {
-      columns = columns_more (row_in parts) order i c.in_ok-place.place living columns marks c.put_row.new.out.items c.extend_from_slice.new.self.items _ c.loop-living-test.true is c.loop-living.invariant.columns (search rules) put marked_by;
-      marks = marks_more (row_in parts) order i living marks c.extend_from_slice.new.self.items c.loop-living-test.true is c.loop-living.invariant.marks marked_by;
-      room = all_more (λ its. HasRoom (row_in parts its)) order i living c.loop-living-test.true is c.loop-living.invariant.room (subst HasRoom own fits);
+      columns = columns_more rows i c.in_ok-place.place row c.loop-living.columns.items c.loop-living.marks.items c.put_row.new.out.items c.extend_from_slice.new.self.items _ low is c.loop-living.invariant.columns (search rules) put marked;
+      marks = marks_more rows i row c.loop-living.marks.items c.extend_from_slice.new.self.items low is c.loop-living.invariant.marks marked;
+      room = all_more HasRoom rows i row low is c.loop-living.invariant.room room;
     }
-
-pub returns-clause-room : goal.returns-clause-room
-returns-clause-room g c = all_lent HasRoom (row_in c.args.parts.now) c.args.order.now c.loop-living.living-index (omega arith) c.loop-living.invariant.room

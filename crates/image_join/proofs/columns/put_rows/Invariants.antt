@@ -7,7 +7,7 @@ use Rattle.image_join.proofs.columns.put_rows.Given as goal
 
 abbrev pub invariant-loop-living : goal.invariant-loop-living
 invariant-loop-living g l = record {
-  columns : l.columns.items ++ rows_bytes (length l.marks.items) (map (row_in l.parts) (drop l.living-index l.order)) ≡ l.initial.columns.items ++ rows_bytes 0 (map (row_in l.parts) l.order);
-  marks : l.marks.items ≡ flat_map row_marks (map (row_in l.parts) (take l.living-index l.order));
-  room : All (λ living. HasRoom (row_in l.parts living)) (take l.living-index l.order);
+  columns : l.columns.items ++ rows_bytes (length l.marks.items) (drop l.living-index (map (row_in l.parts) l.order)) ≡ l.initial.columns.items ++ rows_bytes 0 (map (row_in l.parts) l.order);
+  marks : l.marks.items ≡ flat_map row_marks (take l.living-index (map (row_in l.parts) l.order));
+  room : All HasRoom (take l.living-index (map (row_in l.parts) l.order));
 }

@@ -6,7 +6,7 @@ use Rattle.doc_types.specs.Documents.{AreRowsOf}
 use Rattle.doc_types.specs.Schemas.{IsSchema}
 use Rattle.chunk_image.specs.ChunkImage.{IsImageOf, rows_bytes}
 use Rattle.image_write.specs.declared.image.Counts.{Counts}
-use Rattle.image_write.specs.Headers.{counted}
+use Rattle.image_write.specs.steps.Parts.{counted}
 use Rattle.image_join.specs.declared.ordering.Living.{Living}
 use Rattle.image_join.specs.steps.Numbering.{AreNumbered, row_in}
 use Rattle.image_join.specs.steps.Parts.{PartValue}
