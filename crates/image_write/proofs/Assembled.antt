@@ -13,7 +13,7 @@ use Rattle.chunk_image.specs.ChunkImage.{HasRoom, IsImageOf, dictionary_bytes, m
 use Rattle.image_write.specs.Written.{IsWritten}
 use Rattle.image_write.specs.declared.image.Counts.{Counts}
 use Rattle.image_write.specs.steps.Gathering.{AreGathered, CanPost, IsGathered, WordPlaces}
-use Rattle.image_write.specs.Headers.{counted}
+use Rattle.image_write.specs.steps.Parts.{counted}
 use Rattle.image_write.proofs.Tabled.{word_of}
 
 pub can_post : (rows : List DocRow) (words : List WordPlaces) → All (IsGathered rows) words → All CanPost words

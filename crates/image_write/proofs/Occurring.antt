@@ -1,5 +1,5 @@
 -- All occurrences of words in documents: those of a word are its places, and each has its word's head.
-use Rattle.std.proofs.Common.{◌≡◌, ℕ, zero, suc, ◌+◌, ◌<◌, List, [], ◌∷◌, ◌++◌, Bool, true, false, cond, ◌||◌, Option, Some, None, refl, sym, ap, subst, ◌∙◌, length, arith, map, append-nil, All, slice_get}
+use Rattle.std.proofs.Common.{◌≡◌, ℕ, suc, ◌+◌, List, [], ◌∷◌, ◌++◌, true, false, cond, ◌||◌, Option, Some, refl, sym, ap, subst, ◌∙◌, arith, map, All, slice_get}
 use Rattle.std.specs.List.{filter, list_any, enumerate_from}
 use Rattle.std.specs.Option.{option_and_then, option_map_or}
 use Rattle.std.specs.Str.{bytes_eq}
@@ -16,7 +16,7 @@ use Rattle.image_write.specs.declared.gathering.Occurrence.{Occurrence}
 use Rattle.image_write.specs.Written.{row_of}
 use Rattle.image_write.specs.steps.Gathering.{Place, Entry, places_of}
 use Rattle.image_write.specs.steps.Heads.{IsRead, head}
-use Rattle.image_write.specs.steps.Places.{doc_places, docs_places, field_places, is_at, occurrence_of, place_at, position_at, token_at, word_at}
+use Rattle.image_write.specs.steps.Places.{doc_places, docs_places, field_places, is_at, occurrence_of, place_at, position_at, word_at}
 
 -- an occurrence has the head of its word, whose first bytes are bytes
 pub record HasHead (docs : List Doc) (o : Occurrence) : Type 0 where

@@ -6,3 +6,5 @@ pub mod Gathering
 pub mod Heads
 -- occurrences of words
 pub mod Places
+-- the header
+pub mod Parts

@@ -1,12 +1,12 @@
 //! The image of a chunk, part by part, as docs/FILES.md draws it.
-ghost use Rattle.std.specs.Prelude.{◌≡◌, ◌≤◌, length, map, IfOk, OnOk};
+ghost use Rattle.std.specs.Prelude.{◌≡◌, ◌+◌, ◌≤◌, length, map, IfOk, OnOk};
 ghost use Rattle.doc_types.specs.Documents.{AreRowsOf};
 ghost use Rattle.doc_types.specs.Schemas.{IsSchema};
 ghost use Rattle.doc_types.specs.declared.schema.Schema.{Schema as AnySchema};
 ghost use Rattle.chunk_image.specs.ChunkImage.{IsImageOf};
 ghost use Rattle.image_write.specs.declared.image.TheConstants.{MAX_IMAGE};
 ghost use Rattle.image_write.specs.Written.{IsWritten, row_of};
-ghost use Rattle.image_write.specs.Headers.{counted};
+ghost use Rattle.image_write.specs.steps.Parts.{counted};
 
 use crate::columns::put_rows;
 use crate::gathering::gather;
@@ -21,17 +21,14 @@ pub const MAX_IMAGE: usize = 536_870_912;
 
 /// The lengths and counts that stand in a header.
 #[derive(Clone, Copy)]
-pub struct Counts {
-    pub rows: u32,
-    pub fields: u16,
-    pub attrs: u16,
-    pub words: u32,
-    /// Bytes of all rows' marks.
-    pub marks: u32,
-    /// Bytes of the dictionary.
-    pub dictionary: u32,
-    /// Bytes of all posting lists.
-    pub postings: u32,
+pub(crate) struct Counts {
+    pub(crate) rows: u32,
+    pub(crate) fields: u16,
+    pub(crate) attrs: u16,
+    pub(crate) words: u32,
+    pub(crate) marks: u32,
+    pub(crate) dictionary: u32,
+    pub(crate) postings: u32,
 }
 
 /// The image of some rows of a schema.
@@ -115,7 +112,8 @@ fn write_lent<R: LendsDoc>(
         dictionary: place_in(&dictionary)?,
         postings: place_in(&postings)?,
     };
-    let mut image = header_of(alloc, &counts)?;
+    let room = room_of(&columns, &marks, &table, &dictionary, &postings)?;
+    let mut image = header_of(alloc, room, &counts)?;
     image.extend_from_slice(&columns)?;
     image.extend_from_slice(&marks)?;
     image.extend_from_slice(&table)?;
@@ -125,11 +123,27 @@ fn write_lent<R: LendsDoc>(
     Ok(image)
 }
 
-/// The header with these counts.
-pub fn header_of(alloc: Global, counts: &Counts) -> Result<Vec<u8>, NoMemory>
+/// How many bytes an image of these parts takes, so that it is made in one piece of memory and keeps no more.
+fn room_of(
+    columns: &Vec<u8>,
+    marks: &Vec<u8>,
+    table: &Vec<u8>,
+    dictionary: &Vec<u8>,
+    postings: &Vec<u8>,
+) -> Result<usize, NoMemory>
+    ensures { IfOk result (λ room. room ≡ 32 + length columns.now.items + length marks.now.items + length table.now.items + length dictionary.now.items + length postings.now.items) }
+{
+    let rows = place_in(columns)? as usize + place_in(marks)? as usize;
+    let words = place_in(table)? as usize + place_in(dictionary)? as usize;
+    let lists = place_in(postings)? as usize;
+    Ok(32 + rows + words + lists)
+}
+
+/// The header with these counts, with room for so many bytes in all.
+fn header_of(alloc: Global, room: usize, counts: &Counts) -> Result<Vec<u8>, NoMemory>
     ensures { IfOk result (λ header. header.items ≡ counted counts.now) }
 {
-    let mut out = Vec::new(alloc);
+    let mut out = Vec::with_capacity(alloc, room)?;
     out.extend_from_slice(b"SRCHUNK1")?;
     put_u32(counts.rows, &mut out)?;
     put_u16(counts.fields, &mut out)?;
@@ -142,7 +156,7 @@ pub fn header_of(alloc: Global, counts: &Counts) -> Result<Vec<u8>, NoMemory>
 }
 
 /// A count of things that an image has, unless they can't have room in one.
-pub fn count_in(count: usize) -> Result<u32, NoMemory>
+pub(crate) fn count_in(count: usize) -> Result<u32, NoMemory>
     ensures is { IfOk result (λ number. number ≡ count) }
     ensures small { OnOk result (count ≤ MAX_IMAGE) }
 {
@@ -153,7 +167,7 @@ pub fn count_in(count: usize) -> Result<u32, NoMemory>
 }
 
 /// The place at the end of some bytes of an image, unless they are too many.
-pub fn place_in(bytes: &Vec<u8>) -> Result<u32, NoMemory>
+pub(crate) fn place_in(bytes: &Vec<u8>) -> Result<u32, NoMemory>
     ensures is { IfOk result (λ place. place ≡ length bytes.now.items) }
     ensures small { OnOk result (length bytes.now.items ≤ MAX_IMAGE) }
 {

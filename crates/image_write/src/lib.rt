@@ -10,7 +10,4 @@ mod lists;
 mod marks;
 mod words;
 
-pub use image::{
-    Counts, MAX_IMAGE, count_in, header_of, place_in, write_counted, write_docs, write_image,
-};
-pub use words::put_entry;
+pub use image::{MAX_IMAGE, write_counted, write_docs, write_image};

@@ -92,7 +92,7 @@ fn put_word(
 }
 
 /// Appends the entry of a word: its place in the dictionary, how many rows have it, and the place of its posting list.
-pub fn put_entry(word: u32, rows: u32, list: u32, out: &mut Vec<u8>) -> Result<(), NoMemory>
+fn put_entry(word: u32, rows: u32, list: u32, out: &mut Vec<u8>) -> Result<(), NoMemory>
     ensures { OnOk result (out.new.items ≡ out.old.items ++ (to_le_bytes w32 word ++ to_le_bytes w32 rows ++ to_le_bytes w32 list)) }
 {
     put_u32(word, out)?;

@@ -6,7 +6,7 @@ use Rattle.image_write.specs.declared.gathering.Occurrence.{Occurrence}
 use Rattle.image_write.specs.declared.image.Counts.{Counts}
 use Rattle.image_write.specs.Written.{row_of}
 use Rattle.image_write.specs.steps.Gathering.{AreGathered, CanPost, IsGathered, WordPlaces}
-use Rattle.image_write.specs.Headers.{counted}
+use Rattle.image_write.specs.steps.Parts.{counted}
 use Rattle.image_write.specs.steps.Places.{by_word}
 use Rattle.image_write.proofs.Tabled.{word_of}
 use Rattle.image_write.proofs.Assembled.{AreCounts, assembled, can_post}

@@ -1,8 +1,7 @@
-use Rattle.std.proofs.Common.{◌≡◌, ◌++◌, ◌∷◌, List, ℕ, length, drop, sym, ap, subst, ◌∙◌, map}
+use Rattle.std.proofs.Common.{◌++◌, List, length, sym, ap, subst, ◌∙◌, map}
 use Rattle.std.specs.Int.{w32, to_le_bytes}
 use Rattle.posting_codec.specs.PostingLists.{posting_list}
 use Rattle.image_write.specs.steps.Gathering.{ArePostable, Place, WordPlaces, grouped}
-use Rattle.image_write.specs.steps.Places.{by_word}
 use Rattle.image_write.proofs.Tabled.{can_post, one_more, taken_of, within_ahead}
 use Rattle.image_write.proofs.words.put_words.Goals as goal
 

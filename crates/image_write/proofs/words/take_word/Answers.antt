@@ -1,4 +1,4 @@
-use Rattle.std.proofs.Common.{◌≡◌, ◌++◌, ◌∷◌, [], sym, ap, ◌∙◌, map, arith, get_or}
+use Rattle.std.proofs.Common.{◌++◌, ◌∷◌, [], sym, ap, ◌∙◌, map, arith, get_or}
 use Rattle.image_write.specs.declared.gathering.Occurrence.{Occurrence}
 use Rattle.image_write.proofs.ByWord.{agree, are_more, differ, place_more, some_before, stopped, taken_all}
 use Rattle.image_write.proofs.words.take_word.Goals as goal
