@@ -1,8 +1,7 @@
 -- The image that is written of rows.
-use Rattle.std.proofs.Common.{◌≡◌, ℕ, ◌+◌, ◌<◌, ◌≤◌, ◌^◌, false, List, [], ◌∷◌, ◌++◌, Some, None, All, length, get_or, map, slice_get, take, refl, sym, ap, subst, ◌∙◌, append-nil, arith}
-use Rattle.std.specs.Option.{option_map}
-use Rattle.std.proofs.Math.ListN.{drop_of_length-le, get_or-map}
-use Rattle.std.proofs.lemmas.List.{length-map, take-append-drop, take_more}
+use Rattle.std.proofs.Common.{◌≡◌, ℕ, ◌+◌, ◌<◌, ◌≤◌, false, List, [], ◌∷◌, ◌++◌, Some, None, All, length, get_or, slice_get, take, refl, sym, ap, subst, ◌∙◌, append-nil, arith}
+use Rattle.std.proofs.Math.ListN.{drop_of_length-le}
+use Rattle.std.proofs.lemmas.List.{take-append-drop, take_more}
 use Rattle.std.proofs.lemmas.List.Elements.{All-nil, All-cons, All-append}
 use Rattle.doc_types.specs.declared.documents.DocRow.{DocRow}
 use Rattle.doc_types.specs.declared.schema.Schema.{Schema}
@@ -10,7 +9,6 @@ use Rattle.doc_types.specs.Chunks.{IsContent}
 use Rattle.chunk_image.specs.ChunkImage.{IsImageOf}
 use Rattle.image_write.specs.Written.{IsWritten}
 use Rattle.image_parts.specs.Images.{HasZones, HaveImage}
-use Rattle.image_chunk.specs.Images.{Image}
 
 -- what holds of the elements gone over holds of one more, and of all in the end
 pub all_more : {X : Type 0} (P : X → Type 0) (xs : List X) (i : ℕ) (x : X) → i < length xs → x ≡ get_or xs i x → All P (take i xs) → P x → All P (take (i + 1) xs)
@@ -78,27 +76,3 @@ image_of rows list bytes fields attrs same content w is short zones =
         short = short;
       } ∣₁,
     )
-
--- the first element's image is the first image
-pub first_mapped : {X : Type 0} (f : X → DocRow) (xs : List X) (x : X) → slice_get xs 0 ≡ Some x → slice_get (map f xs) 0 ≡ Some (f x)
-first_mapped f [] x is = absurd cc
-first_mapped f (y ∷ ys) x is = ap (option_map f) is
-
-pub none_mapped : {X : Type 0} (f : X → DocRow) (xs : List X) → slice_get xs 0 ≡ None → slice_get (map f xs) 0 ≡ None
-none_mapped f [] is = refl
-none_mapped f (y ∷ ys) is = absurd cc
-
--- what holds of one more element's image
-pub all_mapped : {X : Type 0} (P : DocRow → Type 0) (f : X → DocRow) (xs : List X) (i : ℕ) (x : X) → i < length xs → x ≡ get_or xs i x → All P (take i (map f xs)) → P (f x) → All P (take (i + 1) (map f xs))
-all_mapped P f xs i x low is all own =
-    let long : i < length (map f xs) = omega (arith, low, length-map xs f) in
-    let same : f x ≡ get_or (map f xs) i (f x) = ap f is ∙ sym (get_or-map f xs i x) in
-    all_more P (map f xs) i (f x) long same all own
-
--- the first row has few fields and attributes, as its schema has
-pub first_fits : (rows : List DocRow) (row : DocRow) → IsContent rows → slice_get rows 0 ≡ Some row → (length row.doc.fields < 2 ^ 16) × (length row.doc.values < 2 ^ 16)
-first_fits [] row is first = absurd cc
-first_fits (r ∷ rs) row is first =
-    let same : r ≡ row = cc in
-    let doc = is.of.docs 0 r (omega arith) in
-    subst (λ (its : DocRow). (length its.doc.fields < 2 ^ 16) × (length its.doc.values < 2 ^ 16)) same (omega (arith, doc.fields, is.limits.few_fields), omega (arith, doc.values, is.limits.few_attrs))

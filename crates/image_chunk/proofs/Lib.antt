@@ -4,3 +4,4 @@ pub mod Cursors
 pub mod Starting
 pub mod Opening
 pub mod Building
+pub mod Keeping

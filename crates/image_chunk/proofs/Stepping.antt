@@ -1,9 +1,9 @@
 -- What lies behind a row's entry.
-use Rattle.std.proofs.Common.{◌≡◌, ℕ, zero, suc, ◌+◌, ◌-◌, ◌/◌, ◌%◌, true, false, cond, ◌<◌, ◌≤◌, ◌^◌, List, [], ◌∷◌, ◌++◌, length, drop, refl, sym, ap, subst, ◌∙◌, arith, append_assoc}
+use Rattle.std.proofs.Common.{◌≡◌, ℕ, ◌+◌, ◌-◌, ◌/◌, ◌%◌, true, false, cond, ◌<◌, ◌≤◌, ◌^◌, List, [], ◌∷◌, ◌++◌, length, drop, refl, sym, ap, subst, ◌∙◌, arith, append_assoc}
 use Rattle.std.specs.Prelude.{nat_lt}
 use Rattle.std.proofs.lemmas.List.{drop-drop, drop_at, length-drop, length-append}
 use Rattle.posting_codec.specs.Numbers.{number, spelled, IsNumberAt}
-use Rattle.posting_codec.specs.HitLists.{AreHits, AreHitsAt, differences, hit_list}
+use Rattle.posting_codec.specs.HitLists.{AreHits, AreHitsAt, differences, hit_list, key}
 use Rattle.posting_codec.specs.PostingLists.{posting_list}
 use Rattle.doc_types.specs.declared.cursor.TheConstants.{NO_ROW}
 use Rattle.image_chunk.specs.Places.{Entry, Here, Rising}
@@ -104,3 +104,12 @@ pub here_first : (list : List ℕ) (at place ahead : ℕ) (entry : Entry) (entri
     → (ahead ≡ entry.0 + 1 - 0) × (place ≡ at + length (number (entry.0 + 1 - 0))) → Here list place (ahead - 1) (entry ∷ entries)
 here_first list at place ahead entry entries e rising read =
     (omega (arith, read.0), behind_front list (number (entry.0 + 1 - 0)) _ at place (begins list at entry entries e rising).here read.1)
+
+-- the hit list of a row takes two bytes at least, and the rest of its entry three
+pub hits_two : (hits : List (ℕ × ℕ)) → AreHits hits → 2 ≤ length (hit_list hits)
+unfolding hit_list
+hits_two [] are = let some = are.some in absurd (omega (arith, some))
+hits_two (hit ∷ hits) are = omega (arith, length-append {A = ℕ}, number_some (length (hit ∷ hits)), number_some (key hit - 0))
+
+pub entry_three : (hits : List (ℕ × ℕ)) → AreHits hits → 3 ≤ length (number (length (hit_list hits))) + length (hit_list hits)
+entry_three hits are = omega (arith, hits_two hits are, number_some (length (hit_list hits)))

@@ -6,3 +6,5 @@ pub mod OneImage
 pub mod FieldBits
 -- the places of cursors
 pub mod CursorPlaces
+-- fields that are kept beside an image
+pub mod FieldsKept

@@ -3,24 +3,23 @@
 //! list.
 //!
 //! Beside the bytes it keeps a cursor at each 64th row of each word that has more, so that a search for a row goes over 64 rows at
-//! most, and not over all before it.
-ghost use Rattle.std.specs.Prelude.{◌≡◌, ◌<◌, ◌≤◌, ℕ, List, Some, All, IfOk, length, slice_get, IsSome, IsSomeAnd};
-ghost use Rattle.std.specs.Option.{option_map};
-ghost use Rattle.chunk_image.specs.Marks.{row_marks};
-ghost use Rattle.posting_codec.specs.HitLists.{hit_list};
-ghost use Rattle.doc_types.specs.Chunks.{fields_ahead, first_place, hits_ahead, next_place, next_row, place_from};
+//! most, and not over all before it; and the fields of each posting, so that they are told with no list opened.
+ghost use Rattle.std.specs.Prelude.{◌≡◌, ◌<◌, ◌≤◌, ◌+◌, ℕ, List, [], Some, All, IfOk, length, slice_get, IsSomeAnd};
+ghost use Rattle.doc_types.specs.Chunks.{fields_ahead, first_place, next_place, place_from};
 ghost use Rattle.doc_types.specs.declared.documents.DocRow.{DocRow};
-ghost use Rattle.image_parts.specs.Images.{ArePartsOf, HasZones, HaveImage};
+ghost use Rattle.image_parts.specs.Images.{ArePartsOf, HaveImage};
 ghost use Rattle.image_chunk.specs.Images.{Image};
 ghost use Rattle.image_chunk.specs.Places.{StandsIn, list_in, place_in};
 ghost use Rattle.image_chunk.specs.steps.OneImage.{content_whole, one_image, words_are};
 ghost use Rattle.doc_types.specs.declared.cursor.TheConstants.{NO_ROW};
+ghost use Rattle.image_chunk.specs.steps.FieldsKept.{AreKept, AreKept-prop, list_begin};
 ghost use Rattle.image_chunk.specs.steps.CursorPlaces.{all_stand_prop, place_in-IsCursorPlace, place_in-row_of};
 
+use crate::kept_fields::{put_fields, slot_of};
 use crate::skips::{SKIP, before, put_skips};
-use crate::steps::{fields_of, first, hit_bytes, put_hits, step};
+use crate::steps::{fields_of, first, put_hits, step};
 use doc_types::{Chunk, Cursor, Gap, HitLists, NO_ROW, Value, ZoneSpan};
-use image_parts::{Parts, attrs_of, marks_of, parts_of, put_gaps, put_lasts, put_spans};
+use image_parts::{Parts, parts_of, put_gaps, put_lasts, put_spans};
 use srch_base::{Items, NoMemory, Steps};
 use std::alloc::Global;
 use std::sync::ledger::Ledger;
@@ -31,9 +30,13 @@ pub struct ImageChunk {
     bytes: Items<u8>,
     parts: Parts,
     skips: Items<Cursor>,
+    /// The place in the image from which fields are kept.
+    base: u32,
+    fields: Items<u32>,
     ghost image: { Image bytes } by { one_image bytes },
     ghost parted: { ArePartsOf image.0.0 image.0.1 parts },
     ghost skipping: { All (StandsIn image.0.0 image.0.1 bytes) skips } by { all_stand_prop image.0.0 image.0.1 bytes skips },
+    ghost kept: { AreKept image.0.0 image.0.1 bytes base fields } by { AreKept-prop image.0.0 image.0.1 bytes base fields },
 }
 
 impl ImageChunk {
@@ -44,14 +47,17 @@ impl ImageChunk {
         ensures content { IfOk result (λ chunk. (rows : List DocRow) (words : List (List ℕ)) → HaveImage rows words bytes.items → chunk.image.0.0 ≡ rows) }
     {
         let plain = ImageChunk::plain(alloc, bytes);
+        let base = plain.postings();
         let mut skips = Vec::new(alloc);
+        let mut fields = Vec::new(alloc);
         for number in 0..plain.parts.words() {
             put_skips(&plain, number, &mut skips)?;
+            put_fields(&plain, number, base, &mut fields)?;
         }
-        Ok(plain.with_skips(skips))
+        Ok(plain.with_kept(skips, base, fields))
     }
 
-    /// The chunk of an image, without skip entries.
+    /// The chunk of an image, with nothing kept beside it.
     fn plain(alloc: Global, bytes: Vec<u8>) -> ImageChunk
         requires { Image bytes.items }
         ensures bytes { result.bytes ≡ bytes.items }
@@ -63,12 +69,15 @@ impl ImageChunk {
             bytes,
             parts,
             skips: Items::new(Vec::new(alloc)),
+            base: 0,
+            fields: Items::new(Vec::new(alloc)),
         }
     }
 
-    /// The same chunk with these skip entries.
-    fn with_skips(self, skips: Vec<Cursor>) -> ImageChunk
-        requires { All (StandsIn self.image.0.0 self.image.0.1 self.bytes) skips.items }
+    /// The same chunk with these skip entries and fields.
+    fn with_kept(self, skips: Vec<Cursor>, base: u32, fields: Vec<u32>) -> ImageChunk
+        requires skips { All (StandsIn self.image.0.0 self.image.0.1 self.bytes) skips.items }
+        requires fields { AreKept self.image.0.0 self.image.0.1 self.bytes base fields.items }
         ensures bytes { result.bytes ≡ self.bytes }
         ensures content { result.image.0.0 ≡ self.image.0.0 }
     {
@@ -77,6 +86,19 @@ impl ImageChunk {
             bytes,
             parts,
             skips: Items::new(skips),
+            base,
+            fields: Items::new(fields),
+        }
+    }
+
+    /// Where the posting lists begin in the image.
+    fn postings(&self) -> u32
+        ensures { (n : ℕ) → result ≤ list_begin self.now.image.0.0 self.now.image.0.1 self.now.bytes n }
+    {
+        if self.parts.words() == 0 {
+            0
+        } else {
+            self.parts.list(self.bytes.as_slice(), 0) as u32
         }
     }
 
@@ -97,42 +119,12 @@ impl ImageChunk {
         &image[..self.parts.list_end(image, word)]
     }
 
-    /// The bytes of the word's hit list in the next row that has it.
-    #[inline]
-    pub fn hit_bytes(&self, cursor: &Cursor) -> &[u8]
-        requires belongs { StandsIn self.now.image.0.0 self.now.image.0.1 self.now.bytes cursor.now }
-        requires left { IsSome (next_row (place_in self.now.image.0.0 self.now.image.0.1 cursor.now)) }
-        ensures { result.now ≡ hit_list (hits_ahead self.now.image.0.0 (place_in self.now.image.0.0 self.now.image.0.1 cursor.now)) }
-    {
-        hit_bytes(self.list(cursor.word), cursor.at, cursor.index)
-    }
-
-    /// How many attributes each row has. Where there are no rows, it may be any number.
-    pub fn attrs(&self) -> u16
-        ensures { All (λ row. length row.doc.values ≡ result) self.now.image.0.0 }
-    {
-        attrs_of(self.bytes.as_slice())
-    }
-
-    /// The zones of its rows have room in 16 bits, as they have where they are written. It does nothing.
-    pub fn zones_fit(&self)
-        ensures { All HasZones self.now.image.0.0 }
-    {}
-
-    /// The bytes of the row's marks.
-    #[inline]
-    pub fn marks_of(&self, row: u32) -> &[u8]
-        requires { row < length self.now.image.0.0 }
-        ensures { option_map row_marks (slice_get self.now.image.0.0 row) ≡ Some result.now }
-    {
-        marks_of(self.bytes.as_slice(), self.parts, row)
-    }
-
     /// A cursor before all rows that have the word of this number.
-    pub fn front(&self, number: u32) -> Cursor
+    pub(crate) fn front(&self, number: u32) -> Cursor
         requires { number < length self.now.image.0.1 }
         ensures stands { StandsIn self.now.image.0.0 self.now.image.0.1 self.now.bytes result }
         ensures word { result.word ≡ number }
+        ensures behind { list_begin self.now.image.0.0 self.now.image.0.1 self.now.bytes number + 1 ≤ result.at }
         ensures first { (word : List ℕ) → slice_get self.now.image.0.1 number ≡ Some word → place_in self.now.image.0.0 self.now.image.0.1 result ≡ first_place word self.now.image.0.0 }
     {
         let (at, index) = first(
@@ -163,6 +155,17 @@ impl ImageChunk {
         fields_of(self.list(cursor.word), cursor.at, cursor.index)
     }
 
+    /// The fields of the row at which a cursor stands, where fields are kept.
+    #[inline]
+    fn fields_kept(&self, cursor: &Cursor) -> u32
+        requires belongs { StandsIn self.now.image.0.0 self.now.image.0.1 self.now.bytes cursor.now }
+        requires left { cursor.now.index ≡ NO_ROW → ⊥ }
+        requires some { 0 < length self.now.fields }
+        ensures { result ≡ fields_ahead self.now.image.0.0 (place_in self.now.image.0.0 self.now.image.0.1 cursor.now) }
+    {
+        self.fields.as_slice()[slot_of(self.base, cursor.at)]
+    }
+
     /// Sets a cursor that stands at a row on to the next one of its word.
     #[inline]
     pub(crate) fn go_on(&self, cursor: &mut Cursor)
@@ -171,6 +174,8 @@ impl ImageChunk {
         ensures stays { StandsIn self.now.image.0.0 self.now.image.0.1 self.now.bytes cursor.new }
         ensures next { place_in self.now.image.0.0 self.now.image.0.1 cursor.new ≡ next_place (place_in self.now.image.0.0 self.now.image.0.1 cursor.old) }
         ensures word { cursor.new.word ≡ cursor.old.word }
+        ensures later { cursor.old.at ≤ cursor.new.at }
+        ensures behind { (cursor.new.index ≡ NO_ROW → ⊥) → cursor.old.at + 4 ≤ cursor.new.at }
     {
         let (at, index) = step(self.list(cursor.word), cursor.at, cursor.index);
         cursor.at = at;
@@ -316,7 +321,10 @@ impl HitLists for ImageChunk {
     }
 
     fn fields_at<L: Ledger>(&self, cursor: &Cursor, steps: &mut Steps<L>) -> u32 {
-        steps.tick();
-        self.read_fields(cursor)
+        if self.fields.len() == 0 {
+            steps.tick();
+            return self.read_fields(cursor);
+        }
+        self.fields_kept(cursor)
     }
 }

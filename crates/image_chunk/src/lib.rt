@@ -2,6 +2,7 @@
 #![tactic(auto)]
 
 mod image_chunk;
+mod kept_fields;
 mod ram_chunk;
 mod skips;
 mod steps;

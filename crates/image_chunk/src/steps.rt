@@ -7,7 +7,7 @@
 //! ```
 ghost use Rattle.std.specs.Prelude.{◌≡◌, ◌+◌, ◌<◌, ◌≤◌, ◌^◌, ◌++◌, ℕ, List, ◌∷◌, drop, length, nat_lt, if◌then◌else◌, OnOk, OnErr};
 ghost use Rattle.doc_types.specs.declared.cursor.TheConstants.{NO_ROW};
-ghost use Rattle.posting_codec.specs.HitLists.{AreHits, AreHitsAt, hit_list};
+ghost use Rattle.posting_codec.specs.HitLists.{AreHits, AreHitsAt};
 ghost use Rattle.posting_codec.specs.PostingLists.{posting_list};
 ghost use Rattle.image_chunk.specs.Places.{Entry, Here, IsHere, IsList, Rising};
 ghost use Rattle.image_chunk.specs.steps.FieldBits.{field_bits};
@@ -23,7 +23,8 @@ const FIELD: u32 = 65_536;
 pub(crate) fn first(list: &[u8], at: usize) -> (u32, u32)
     requires small { length list.now < 2 ^ 31 }
     requires here { IsList list.now at }
-    ensures { (entry : Entry) (entries : List Entry) → drop at list.now ≡ posting_list 0 (entry ∷ entries) → Rising 0 NO_ROW (entry ∷ entries) → Here list.now result.0 result.1 (entry ∷ entries) }
+    ensures behind { at + 1 ≤ result.0 }
+    ensures here { (entry : Entry) (entries : List Entry) → drop at list.now ≡ posting_list 0 (entry ∷ entries) → Rising 0 NO_ROW (entry ∷ entries) → Here list.now result.0 result.1 (entry ∷ entries) }
 {
     let (ahead, place) = number_at(list, at);
     (place as u32, ahead - 1)
@@ -34,7 +35,9 @@ pub(crate) fn first(list: &[u8], at: usize) -> (u32, u32)
 pub(crate) fn step(list: &[u8], at: u32, index: u32) -> (u32, u32)
     requires small { length list.now < 2 ^ 31 }
     requires here { IsHere list.now at index }
-    ensures { (entry : Entry) (entries : List Entry) → Here list.now at index (entry ∷ entries) → Rising (entry.0 + 1) NO_ROW entries → Here list.now result.0 result.1 entries }
+    ensures later { at ≤ result.0 }
+    ensures behind { (result.1 ≡ NO_ROW → ⊥) → at + 4 ≤ result.0 }
+    ensures here { (entry : Entry) (entries : List Entry) → Here list.now at index (entry ∷ entries) → Rising (entry.0 + 1) NO_ROW entries → Here list.now result.0 result.1 entries }
 {
     let (long, hits) = number_at(list, at as usize);
     let end = hits + long as usize;
@@ -44,17 +47,6 @@ pub(crate) fn step(list: &[u8], at: u32, index: u32) -> (u32, u32)
     } else {
         (at, NO_ROW)
     }
-}
-
-/// The bytes of the hit list of the row at this place.
-#[inline]
-pub(crate) fn hit_bytes(list: &[u8], at: u32, index: u32) -> &[u8]
-    requires small { length list.now < 2 ^ 31 }
-    requires here { IsHere list.now at index }
-    ensures { (entry : Entry) (entries : List Entry) → Here list.now at index (entry ∷ entries) → result.now ≡ hit_list entry.1 }
-{
-    let (long, start) = number_at(list, at as usize);
-    &list[start..start + long as usize]
 }
 
 /// Appends the hits of the row at this place.

@@ -4,7 +4,7 @@ use Rattle.posting_codec.specs.HitLists.{hit_list}
 use Rattle.posting_codec.specs.PostingLists.{posting_list}
 use Rattle.doc_types.specs.declared.cursor.TheConstants.{NO_ROW}
 use Rattle.image_chunk.specs.Places.{Entry, Here, Rising}
-use Rattle.image_chunk.proofs.Stepping.{Passed, passed, Another, another, no_more, here_next, front_within, number_some}
+use Rattle.image_chunk.proofs.Stepping.{Passed, passed, Another, another, no_more, here_next, front_within, number_some, entry_three}
 use Rattle.image_chunk.proofs.steps.step.Goals as goal
 
 -- what lies at the end of the row's entry
@@ -55,13 +55,34 @@ overflow_add-result c =
     let its = c.number_at-ahead.ensures _ _ (there _ _ _ _ a) in
     omega (arith, its.0, a.fits, a.later, c.requires.here.2.0)
 
-pub returns-then-end-list : goal.returns-then-end-list
-returns-then-end-list c = λ entry entries here rising.
+pub returns-then-end-list-clause-here : goal.returns-then-end-list-clause-here
+returns-then-end-list-clause-here c = λ entry entries here rising.
     let a = next c.args.list.now c.args.at c.args.index c.number_at-long.result.0 c.number_at-long.result.1 c.requires.small c.number_at-long.ensures entry entries here rising c.if-end-list.true in
     let its = c.number_at-ahead.ensures _ _ (there _ _ _ _ a) in
     here_next c.args.list.now (c.number_at-long.result.1 + c.number_at-long.result.0) entry.0 c.number_at-ahead.result.1 (c.args.index + c.number_at-ahead.result.0) entries a its.1 (omega (arith, its.0, here.0, a.later))
 
-pub returns-else-end-list : goal.returns-else-end-list
-returns-else-end-list c = λ entry entries here rising.
+pub returns-else-end-list-clause-here : goal.returns-else-end-list-clause-here
+returns-else-end-list-clause-here c = λ entry entries here rising.
     let none = last c.args.list.now c.args.at c.args.index c.number_at-long.result.0 c.number_at-long.result.1 c.requires.small c.number_at-long.ensures entry entries here (omega (arith, c.if-end-list.false)) in
     subst (Here c.args.list.now c.args.at NO_ROW) (sym none) refl
+
+pub returns-then-end-list-clause-later : goal.returns-then-end-list-clause-later
+returns-then-end-list-clause-later c =
+    let h = c.requires.here in
+    let p = passed c.args.list.now c.args.at c.args.index h.0 h.1 c.requires.small h.2 in
+    let long = c.number_at-long.ensures _ _ p.sized in
+    let a = next c.args.list.now c.args.at c.args.index c.number_at-long.result.0 c.number_at-long.result.1 c.requires.small c.number_at-long.ensures h.0 h.1 h.2 h.4 c.if-end-list.true in
+    let its = c.number_at-ahead.ensures _ _ (there _ _ _ _ a) in
+    omega (arith, long.0, long.1, its.1, entry_three h.0.1 h.3, number_some (a.entry.0 + 1 - (h.0.0 + 1)))
+
+pub returns-then-end-list-clause-behind : goal.returns-then-end-list-clause-behind
+returns-then-end-list-clause-behind c = λ _.
+    let h = c.requires.here in
+    let p = passed c.args.list.now c.args.at c.args.index h.0 h.1 c.requires.small h.2 in
+    let long = c.number_at-long.ensures _ _ p.sized in
+    let a = next c.args.list.now c.args.at c.args.index c.number_at-long.result.0 c.number_at-long.result.1 c.requires.small c.number_at-long.ensures h.0 h.1 h.2 h.4 c.if-end-list.true in
+    let its = c.number_at-ahead.ensures _ _ (there _ _ _ _ a) in
+    omega (arith, long.0, long.1, its.1, entry_three h.0.1 h.3, number_some (a.entry.0 + 1 - (h.0.0 + 1)))
+
+pub returns-else-end-list-clause-behind : goal.returns-else-end-list-clause-behind
+returns-else-end-list-clause-behind c = λ left. absurd (left refl)

@@ -1,7 +1,6 @@
-use Rattle.std.proofs.Common.{◌≡◌, ◌∙◌, Some, [], get_or, slice_get, sym, ap, drop, subst}
+use Rattle.std.proofs.Common.{◌≡◌, ◌∙◌, [], ap, arith, drop, get_or, length, sym}
 use Rattle.std.proofs.lemmas.Option.{get_or_from_slice_get}
 use Rattle.doc_types.specs.Chunks.{first_place}
-use Rattle.image_chunk.specs.Places.{place_in}
 use Rattle.image_chunk.proofs.Cursors.{list_small}
 use Rattle.image_chunk.proofs.Starting.{is_list, is_there, place_first, seen, stands_first}
 use Rattle.image_chunk.proofs.image_chunk.ImageChunk.front.Goals as goal
@@ -23,7 +22,7 @@ returns-clause-stands c =
     let have = seen chunk.bytes chunk.image c.as_slice.result.now c.as_slice.ensures in
     let found = is_there chunk.bytes chunk.image c.args.number c.requires in
     let begins = ap (drop c.list-2.result) (sym c.as_slice.ensures) ∙ c.list-2.ensures.begins chunk.image.0.0 chunk.image.0.1 (get_or chunk.image.0.1 c.args.number []) have chunk.parted found.there in
-    stands_first chunk.bytes chunk.image (get_or chunk.image.0.1 c.args.number []) c.args.number found c.list.result.now c.list.ensures c.list-2.result begins c.first-at.result.0 c.first-at.result.1 c.first-at.ensures
+    stands_first chunk.bytes chunk.image (get_or chunk.image.0.1 c.args.number []) c.args.number found c.list.result.now c.list.ensures c.list-2.result begins c.first-at.result.0 c.first-at.result.1 c.first-at.ensures.here
 
 pub returns-clause-first : goal.returns-clause-first
 returns-clause-first c = λ word there.
@@ -32,5 +31,11 @@ returns-clause-first c = λ word there.
     let found = is_there chunk.bytes chunk.image c.args.number c.requires in
     let begins = ap (drop c.list-2.result) (sym c.as_slice.ensures) ∙ c.list-2.ensures.begins chunk.image.0.0 chunk.image.0.1 (get_or chunk.image.0.1 c.args.number []) have chunk.parted found.there in
     let same : get_or chunk.image.0.1 c.args.number [] ≡ word = get_or_from_slice_get chunk.image.0.1 c.args.number word [] there in
-    place_first chunk.bytes chunk.image (get_or chunk.image.0.1 c.args.number []) c.args.number found c.list.result.now c.list.ensures c.list-2.result begins c.first-at.result.0 c.first-at.result.1 c.first-at.ensures
+    place_first chunk.bytes chunk.image (get_or chunk.image.0.1 c.args.number []) c.args.number found c.list.result.now c.list.ensures c.list-2.result begins c.first-at.result.0 c.first-at.result.1 c.first-at.ensures.here
     ∙ ap (λ w. first_place w chunk.image.0.0) same
+
+pub returns-clause-behind : goal.returns-clause-behind
+returns-clause-behind c =
+    let chunk = c.args.self.now in
+    let have = seen chunk.bytes chunk.image c.as_slice.result.now c.as_slice.ensures in
+    omega (arith, c.first-at.ensures.behind, c.list-2.ensures.place chunk.image.0.0 chunk.image.0.1 have chunk.parted, ap length c.as_slice.ensures)

@@ -11,7 +11,7 @@ pub step-at-requires-clause-here : goal.step-at-requires-clause-here
 step-at-requires-clause-here c = (goes_on c.args.self.now.bytes c.args.self.now.image c.args.cursor.now c.list.result.now c.list.ensures c.requires.belongs c.requires.left).here
 
 pub returns-clause-stays : goal.returns-clause-stays
-returns-clause-stays c = (goes_on c.args.self.now.bytes c.args.self.now.image c.args.cursor.now c.list.result.now c.list.ensures c.requires.belongs c.requires.left).stays c.step-at.result.0 c.step-at.result.1 c.step-at.ensures
+returns-clause-stays c = (goes_on c.args.self.now.bytes c.args.self.now.image c.args.cursor.now c.list.result.now c.list.ensures c.requires.belongs c.requires.left).stays c.step-at.result.0 c.step-at.result.1 c.step-at.ensures.here
 
 pub returns-clause-next : goal.returns-clause-next
-returns-clause-next c = (goes_on c.args.self.now.bytes c.args.self.now.image c.args.cursor.now c.list.result.now c.list.ensures c.requires.belongs c.requires.left).next c.step-at.result.0 c.step-at.result.1 c.step-at.ensures
+returns-clause-next c = (goes_on c.args.self.now.bytes c.args.self.now.image c.args.cursor.now c.list.result.now c.list.ensures c.requires.belongs c.requires.left).next c.step-at.result.0 c.step-at.result.1 c.step-at.ensures.here

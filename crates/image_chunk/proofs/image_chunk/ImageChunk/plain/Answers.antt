@@ -10,6 +10,7 @@ invariant_of-result c = record {
   image = (c.requires.0, seen c.args.bytes.items c.requires c.new-bytes.result c.new-bytes.ensures);
   parted = c.parts_of-parts.ensures c.requires.0.0 c.requires.0.1 (seen c.args.bytes.items c.requires c.as_slice.result.now (c.as_slice.ensures ∙ c.new-bytes.ensures));
   skipping = λ k d low. absurd (omega (arith, low, ap length (c.new-2.ensures ∙ c.new.ensures.items)));
+  kept = λ low. absurd (omega (arith, low, ap length (c.new-4.ensures ∙ c.new-3.ensures.items)));
 }
 
 pub returns-clause-content : goal.returns-clause-content
