@@ -6,7 +6,8 @@ use Rattle.std.proofs.lemmas.List.{get_or_default, take_all, take_more}
 use Rattle.std.proofs.lemmas.List.Elements.{All-append, All-cons, All-nil}
 use Rattle.std.proofs.lemmas.Option.{get_or_from_slice_get, slice_get_within}
 use Rattle.doc_types.specs.Chunks.{AreWordsOf}
-use Rattle.image_join.specs.steps.Merging.{IsBefore, IsDone, IsLeast, StandAt, StandsAt, is_ahead, less, lesser}
+use Rattle.image_join.specs.steps.Merging.{IsBefore, IsDone, IsLeast, StandAt, StandsAt, is_ahead, less, lesser, next_at}
+use Rattle.image_join.specs.declared.words.Next.{Next}
 use Rattle.image_join.specs.steps.Parts.{PartValue, blank_part, part_at}
 use Rattle.image_join.proofs.Lesser.{value}
 use Rattle.image_join.proofs.Order.{not_back, not_itself, not_less}
@@ -55,13 +56,13 @@ pub le_told : (a b : ℕ) → nat_le a b ≡ true → a ≤ b
 le_told a b e = grind (arith, nat_tests)
 
 -- the front of one part
-pub front_is : (last : Option (List ℕ)) (part : PartValue) (head : ℕ) (front : Option (List ℕ)) → AreWordsOf part.rows part.words → StandsAt last part head → slice_get part.words head ≡ front → IsLeastOf last (part ∷ []) front
+pub front_is : (last : Option (List ℕ)) (part : PartValue) (head : ℕ) (front : Option (List ℕ)) → AreWordsOf part.rows part.words → ((n : ℕ) (word : List ℕ) → slice_get part.words n ≡ Some word → is_ahead last word ≡ nat_le head n) → slice_get part.words head ≡ front → IsLeastOf last (part ∷ []) front
 front_is last part head None are stands at =
     All-cons (IsDone last) part [] (record {
       none = λ n word here.
           let within : n < length part.words = slice_get_within part.words n word here in
           let past : length part.words ≤ head = past_end part.words head at in
-          stands.split n word here ∙ le_false head n (omega (arith, within, past));
+          stands n word here ∙ le_false head n (omega (arith, within, past));
     }) (All-nil (IsDone last))
   where
     past_end : (words : List (List ℕ)) (head : ℕ) → slice_get words head ≡ None → length words ≤ head
@@ -69,10 +70,10 @@ front_is last part head None are stands at =
     past_end (w ∷ ws) zero e = absurd cc
     past_end (w ∷ ws) (suc head) e = let rest = past_end ws head e in omega (arith, rest)
 front_is last part head (Some word) are stands at = (
-  stands.split head word at ∙ le_true head head (omega arith),
+  stands head word at ∙ le_true head head (omega arith),
   All-cons (IsBefore last word) part [] (record {
     least = λ n other here ahead.
-        let low : head ≤ n = le_told head n (sym (stands.split n other here) ∙ ahead) in
+        let low : head ≤ n = le_told head n (sym (stands n other here) ∙ ahead) in
         ⊎_elim
         (λ same. let one : word ≡ other = same_at part.words head n word other same at here in subst (λ o. less o word ≡ false) one (not_itself word))
         (λ behind. not_back word other (in_order part head n word other are behind at here))
@@ -87,15 +88,16 @@ front_is last part head (Some word) are stands at = (
     equal_or_behind a b low = grind arith
 
 -- one part more
-pub least_more : (last : Option (List ℕ)) (parts : List PartValue) (i : ℕ) (part : PartValue) (heads : List ℕ) (now after front : Option (Bor (List ℕ))) → i < length parts → part ≡ get_or parts i part → AreWordsOf part.rows part.words
-    → StandAt last parts heads → value front ≡ slice_get part.words (slice_index heads i) → value after ≡ lesser (value now) (value front)
+pub least_more : (last : Option (List ℕ)) (parts : List PartValue) (i : ℕ) (nexts : List Next) (next : Next) (now after : Option (Bor (List ℕ))) → i < length nexts → next ≡ next_at nexts i → All (λ part. AreWordsOf part.rows part.words) parts
+    → StandAt last parts nexts → value after ≡ lesser (value now) (value next.word)
     → IsLeastOf last (take i parts) (value now) → IsLeastOf last (take (i + 1) parts) (value after)
-least_more last parts i part heads now after front low is are stand at put was =
-    let here : part ≡ part_at parts i = is ∙ get_or_default parts i part blank_part low in
-    let stands : StandsAt last part (slice_index heads i) = subst (λ p. StandsAt last p (slice_index heads i)) (sym here) (stand.each i low) in
-    let own : IsLeastOf last (part ∷ []) (value front) = front_is last part (slice_index heads i) (value front) are stands (sym at) in
-    let all : take (i + 1) parts ≡ take i parts ++ part ∷ [] = take_more parts i part low ∙ ap (λ (p : PartValue). take i parts ++ p ∷ []) (sym is) in
-    subst (IsLeastOf last (take (i + 1) parts)) (sym put) (subst (λ ps. IsLeastOf last ps (lesser (value now) (value front))) (sym all) (joined last (take i parts) (part ∷ []) (value now) (value front) was own))
+least_more last parts i nexts next now after within is are stand put was =
+    let low : i < length parts = omega (arith, within, stand.long) in
+    let part = part_at parts i in
+    let stands : StandsAt last part next = subst (StandsAt last part) (sym is) (stand.each i low) in
+    let own : IsLeastOf last (part ∷ []) (value next.word) = front_is last part next.number (value next.word) (are i blank_part low) stands.split (sym stands.front) in
+    let all : take (i + 1) parts ≡ take i parts ++ part ∷ [] = take_more parts i blank_part low in
+    subst (IsLeastOf last (take (i + 1) parts)) (sym put) (subst (λ ps. IsLeastOf last ps (lesser (value now) (value next.word))) (sym all) (joined last (take i parts) (part ∷ []) (value now) (value next.word) was own))
 
 -- at the end
 pub least_all : (last : Option (List ℕ)) (parts : List PartValue) (i : ℕ) (found : Option (Bor (List ℕ))) → length parts ≤ i → IsLeastOf last (take i parts) (value found)

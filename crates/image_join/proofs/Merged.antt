@@ -5,6 +5,7 @@ use Rattle.std.proofs.lemmas.Bool.Decides.{nat_tests}
 use Rattle.std.proofs.lemmas.List.{get_or-replicate, length-replicate}
 use Rattle.doc_types.specs.declared.documents.DocRow.{DocRow}
 use Rattle.doc_types.specs.Chunks.{AreWordsOf}
+use Rattle.image_join.specs.declared.words.Next.{Next}
 use Rattle.image_join.specs.declared.words.Tables.{Tables}
 use Rattle.image_join.specs.steps.Entries.{AreEntriesOf, Entry, entries_in}
 use Rattle.image_join.specs.steps.Merging.{AreTables, AreWordsUpTo, IsDone, IsLeast, StandAt, StandsAt, added, is_ahead}
@@ -13,35 +14,27 @@ use Rattle.image_join.specs.steps.Parts.{PartValue, part_at}
 use Rattle.image_join.proofs.Collected.{collected}
 use Rattle.image_join.proofs.Worded.{words_all, words_more, words_none}
 
-pub record AreMerged (parts : List PartValue) (numbers heads : List ℕ) (tables : Tables) : Type 0 where
+pub record AreMerged (parts : List PartValue) (numbers : List ℕ) (nexts : List Next) (tables : Tables) : Type 0 where
   pub last : Option (List ℕ)
   pub words : List (List ℕ)
-  pub stand : StandAt last parts heads
+  pub stand : StandAt last parts nexts
   pub all : (rows : List DocRow) → AreNumbered parts numbers rows → AreTables rows words tables × AreWordsUpTo rows last words
 
 -- before the first word
-pub merged_none : (parts : List PartValue) (numbers heads : List ℕ) (tables : Tables) → heads ≡ replicate (length parts) 0 → ((rows : List DocRow) → AreTables rows [] tables) → AreMerged parts numbers heads tables
-merged_none parts numbers heads tables all none = record {
+pub merged_none : (parts : List PartValue) (numbers : List ℕ) (nexts : List Next) (tables : Tables) → StandAt None parts nexts → ((rows : List DocRow) → AreTables rows [] tables) → AreMerged parts numbers nexts tables
+merged_none parts numbers nexts tables stand none = record {
   last = None;
   words = [];
-  stand = record {
-    long = ap length all ∙ length-replicate (length parts) 0;
-    each = λ k low. record {
-      split = λ n word at.
-          let here : slice_index heads k ≡ 0 = ap (λ (l : List ℕ). slice_index l k) all ∙ get_or-replicate (length parts) k 0 0 low in
-          let first : nat_le 0 n ≡ true = grind (arith, nat_tests) in
-          sym first ∙ ap (λ h. nat_le h n) (sym here);
-    };
-  };
+  stand = stand;
   all = λ rows is. (none rows, words_none rows);
 }
 
 -- one word more
-pub merged_more : (parts : List PartValue) (numbers heads after : List ℕ) (tables next : Tables) (word : List ℕ) (found : List Entry) (was : AreMerged parts numbers heads tables) → All (λ part. AreWordsOf part.rows part.words) parts
+pub merged_more : (parts : List PartValue) (numbers : List ℕ) (nexts after : List Next) (tables next : Tables) (word : List ℕ) (found : List Entry) (was : AreMerged parts numbers nexts tables) → All (λ part. AreWordsOf part.rows part.words) parts
     → IsLeast was.last parts word → StandAt (Some word) parts after → found ≡ flat_map (entries_in word numbers) parts
     → ((rows : List DocRow) (words : List (List ℕ)) → AreTables rows words tables → AreEntriesOf word rows found → AreTables rows (added found words word) next)
     → AreMerged parts numbers after next
-merged_more parts numbers heads after tables next word found was are least stand is put = record {
+merged_more parts numbers nexts after tables next word found was are least stand is put = record {
   last = Some word;
   words = added found was.words word;
   stand = stand;
@@ -52,8 +45,8 @@ merged_more parts numbers heads after tables next word found was are least stand
 }
 
 -- all words
-pub merged_all : (parts : List PartValue) (numbers heads : List ℕ) (tables : Tables) (was : AreMerged parts numbers heads tables) → All (λ part. AreWordsOf part.rows part.words) parts → All (IsDone was.last) parts
+pub merged_all : (parts : List PartValue) (numbers : List ℕ) (nexts : List Next) (tables : Tables) (was : AreMerged parts numbers nexts tables) → All (λ part. AreWordsOf part.rows part.words) parts → All (IsDone was.last) parts
     → (rows : List DocRow) → AreNumbered parts numbers rows → (words : List (List ℕ)) × AreWordsOf rows words × AreTables rows words tables
-merged_all parts numbers heads tables was are done rows numbered =
+merged_all parts numbers nexts tables was are done rows numbered =
     let its = was.all rows numbered in
     (was.words, words_all rows was.last was.words numbers parts numbered are done its.1, its.0)

@@ -8,6 +8,8 @@ use Rattle.image_join.specs.steps.Entries.{entries_in}
 use Rattle.image_join.specs.steps.Merging.{IsBefore, StandsAt, is_ahead, less}
 use Rattle.image_join.specs.steps.Parts.{PartValue}
 use Rattle.image_join.proofs.Least.{in_order, le_told}
+use Rattle.image_join.specs.declared.words.Next.{Next}
+use Rattle.image_join.proofs.Lesser.{value}
 use Rattle.image_join.proofs.Order.{not_back, not_itself, not_less, same_word}
 
 clash : (b : Bool) → b ≡ true → b ≡ false → ⊥
@@ -24,7 +26,10 @@ equal_or_behind a b low = grind arith
 below_or_not : (a b : ℕ) → (b < a) ⊎ (a ≤ b)
 below_or_not a b = grind arith
 
-module _ (last : Option (List ℕ)) (part : PartValue) (head : ℕ) (word : List ℕ) (are : AreWordsOf part.rows part.words) (stands : StandsAt last part head) (before : IsBefore last word part) (ahead : is_ahead last word ≡ true) where
+module _ (last : Option (List ℕ)) (part : PartValue) (next : Next) (word : List ℕ) (are : AreWordsOf part.rows part.words) (stands : StandsAt last part next) (before : IsBefore last word part) (ahead : is_ahead last word ≡ true) where
+  abbrev head : ℕ
+  head = next.number
+
   le_true : (a b : ℕ) → a ≤ b → nat_le a b ≡ true
   le_true a b low = grind (arith, nat_tests)
 
@@ -48,7 +53,7 @@ module _ (last : Option (List ℕ)) (part : PartValue) (head : ℕ) (word : List
       (equal_or_behind head n low)
 
   -- then the part's words ahead are the same
-  pub stays : slice_get part.words head ≢ Some word → StandsAt (Some word) part head
+  pub stays : slice_get part.words head ≢ Some word → StandsAt (Some word) part next
   stays other = record {
     split = λ n own at.
         ⊎_elim
@@ -63,6 +68,7 @@ module _ (last : Option (List ℕ)) (part : PartValue) (head : ℕ) (word : List
         ] refl in
         is ∙ sym (le_true head n low))
         (below_or_not head n);
+    front = stands.front;
   }
 
   -- and the word has no row in it
@@ -76,18 +82,19 @@ module _ (last : Option (List ℕ)) (part : PartValue) (head : ℕ) (word : List
       none (r ∷ rs) few = absurd (few (omega arith))
 
   -- where it is the next word, those behind it are ahead now
-  pub goes_on : slice_get part.words head ≡ Some word → StandsAt (Some word) part (head + 1)
-  goes_on here = record {
-    split = λ n own at.
+  pub goes_on : (after : Next) → slice_get part.words head ≡ Some word → after.number ≡ head + 1 → value after.word ≡ slice_get part.words (head + 1) → StandsAt (Some word) part after
+  goes_on after here at front = record {
+    front = front ∙ ap (slice_get part.words) (sym at);
+    split = λ n own here_at.
         ⊎_elim
-        (λ low. not_ahead n own at low ∙ sym (le_false (head + 1) n (omega (arith, low))))
+        (λ low. not_ahead n own here_at low ∙ sym (le_false after.number n (omega (arith, low, at))))
         (λ low.
         ⊎_elim
         (λ same.
-        let both : Some word ≡ Some own = sym here ∙ ap (slice_get part.words) same ∙ at in
+        let both : Some word ≡ Some own = sym here ∙ ap (slice_get part.words) same ∙ here_at in
         let one : word ≡ own = cc in
-        subst (λ o. less word o ≡ false) one (not_itself word) ∙ sym (le_false (head + 1) n (omega (arith, same))))
-        (λ behind. in_order part head n word own are behind here at ∙ sym (le_true (head + 1) n (omega (arith, behind))))
+        subst (λ o. less word o ≡ false) one (not_itself word) ∙ sym (le_false after.number n (omega (arith, same, at))))
+        (λ behind. in_order part head n word own are behind here here_at ∙ sym (le_true after.number n (omega (arith, behind, at))))
         (equal_or_behind head n low))
         (below_or_not head n);
   }

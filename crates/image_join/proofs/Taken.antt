@@ -1,31 +1,47 @@
 -- The parts are gone over, one part more at a time.
-use Rattle.std.proofs.Common.{◌≡◌, ◌≢◌, ℕ, ◌+◌, ◌<◌, ◌≤◌, List, [], ◌∷◌, ◌++◌, Option, Some, length, get_or, set, take, slice_index, sym, ap, subst, ◌∙◌, arith, append_assoc, append-nil, ◌⊎◌, ⊎_elim}
+use Rattle.std.proofs.Common.{◌≡◌, ◌≢◌, ℕ, ◌+◌, ◌<◌, ◌≤◌, List, [], ◌∷◌, ◌++◌, Option, None, Some, length, get_or, set, take, slice_index, sym, ap, subst, ◌∙◌, arith, append_assoc, append-nil, ◌⊎◌, ⊎_elim}
 use Rattle.std.specs.List.{flat_map}
-use Rattle.std.proofs.lemmas.List.{get_or-set_other, get_or-set_same, take_more}
+use Rattle.std.proofs.lemmas.List.{get_or-set_other, get_or-append-add, get_or-set_same, get_or_append_left, get_or_default, take_more}
 use Rattle.std.proofs.lemmas.List.Concat.{flat_map-append}
 use Rattle.image_join.specs.steps.Entries.{Entry, entries_in}
-use Rattle.image_join.specs.steps.Merging.{StandsAt}
-use Rattle.image_join.specs.steps.Parts.{PartValue, part_at}
+use Rattle.image_join.specs.declared.words.Next.{Next}
+use Rattle.image_join.specs.steps.Merging.{StandsAt, blank_next, next_at}
+use Rattle.image_join.specs.steps.Parts.{PartValue, blank_part, part_at}
 
 equal_or_below : (a b : ℕ) → a < b + 1 → (a ≡ b) ⊎ (a < b)
 equal_or_below a b low = grind arith
 
--- the heads up to here
-pub heads_more : (word : List ℕ) (parts : List PartValue) (heads : List ℕ) (i head : ℕ) → i < length heads → StandsAt (Some word) (part_at parts i) head → ((k : ℕ) → k < i → StandsAt (Some word) (part_at parts k) (slice_index heads k))
-    → (k : ℕ) → k < i + 1 → StandsAt (Some word) (part_at parts k) (slice_index (set heads i head) k)
-heads_more word parts heads i head within own was k low =
+-- the parts up to here
+pub nexts_more : (word : List ℕ) (parts : List PartValue) (nexts : List Next) (i : ℕ) (next : Next) → i < length nexts → StandsAt (Some word) (part_at parts i) next → ((k : ℕ) → k < i → StandsAt (Some word) (part_at parts k) (next_at nexts k))
+    → (k : ℕ) → k < i + 1 → StandsAt (Some word) (part_at parts k) (next_at (set nexts i next) k)
+nexts_more word parts nexts i next within own was k low =
     ⊎_elim
     (λ same.
-    let here : slice_index (set heads i head) k ≡ head = ap (slice_index (set heads i head)) same ∙ get_or-set_same heads i head 0 within in
-    subst (λ h. StandsAt (Some word) (part_at parts k) h) (sym here) (subst (λ m. StandsAt (Some word) (part_at parts m) head) (sym same) own))
+    let here : next_at (set nexts i next) k ≡ next = ap (next_at (set nexts i next)) same ∙ get_or-set_same nexts i next blank_next within in
+    subst (StandsAt (Some word) (part_at parts k)) (sym here) (subst (λ m. StandsAt (Some word) (part_at parts m) next) (sym same) own))
     (λ below.
-    let here : slice_index (set heads i head) k ≡ slice_index heads k = get_or-set_other heads i k head 0 (λ same. omega (arith, same, below)) in
-    subst (λ h. StandsAt (Some word) (part_at parts k) h) (sym here) (was k below))
+    let here : next_at (set nexts i next) k ≡ next_at nexts k = get_or-set_other nexts i k next blank_next (λ same. omega (arith, same, below)) in
+    subst (StandsAt (Some word) (part_at parts k)) (sym here) (was k below))
     (equal_or_below k i low)
 
--- the heads behind are as they were
-pub later_more : (heads initial : List ℕ) (i head : ℕ) → ((k : ℕ) → i ≤ k → slice_index heads k ≡ slice_index initial k) → (k : ℕ) → i + 1 ≤ k → slice_index (set heads i head) k ≡ slice_index initial k
-later_more heads initial i head was k low = get_or-set_other heads i k head 0 (λ same. omega (arith, same, low)) ∙ was k (omega (arith, low))
+-- those behind stand as they did
+pub later_more : (nexts initial : List Next) (i : ℕ) (next : Next) → ((k : ℕ) → i ≤ k → next_at nexts k ≡ next_at initial k) → (k : ℕ) → i + 1 ≤ k → next_at (set nexts i next) k ≡ next_at initial k
+later_more nexts initial i next was k low = get_or-set_other nexts i k next blank_next (λ same. omega (arith, same, low)) ∙ was k (omega (arith, low))
+
+-- before the first word
+pub first_more : (parts : List PartValue) (nexts after : List Next) (i : ℕ) (next : Next) (part : PartValue) → i < length parts → part ≡ get_or parts i part → length nexts ≡ i → StandsAt None part next → after ≡ nexts ++ next ∷ []
+    → ((k : ℕ) → k < i → StandsAt None (part_at parts k) (next_at nexts k)) → (k : ℕ) → k < i + 1 → StandsAt None (part_at parts k) (next_at after k)
+first_more parts nexts after i next part within is long own put was k low =
+    ⊎_elim
+    (λ same.
+    let at : k ≡ length nexts + 0 = omega (arith, same, long) in
+    let here : next_at after k ≡ next = ap (λ (l : List Next). next_at l k) put ∙ ap (next_at (nexts ++ next ∷ [])) at ∙ get_or-append-add nexts (next ∷ []) 0 blank_next in
+    let of : part ≡ part_at parts k = is ∙ get_or_default parts i part blank_part within ∙ ap (part_at parts) (sym same) in
+    subst (StandsAt None (part_at parts k)) (sym here) (subst (λ p. StandsAt None p next) of own))
+    (λ below.
+    let here : next_at after k ≡ next_at nexts k = ap (λ (l : List Next). next_at l k) put ∙ get_or_append_left nexts (next ∷ []) blank_next k (omega (arith, below, long)) in
+    subst (StandsAt None (part_at parts k)) (sym here) (was k below))
+    (equal_or_below k i low)
 
 -- the entries up to here
 pub entries_more : (word numbers : List ℕ) (parts : List PartValue) (i : ℕ) (part : PartValue) (start now after : List Entry) → i < length parts → part ≡ get_or parts i part

@@ -19,7 +19,7 @@ use crate::ordering::{Living, numbers_of, order_of};
 use crate::parts::{Part, parts_of};
 use crate::words::{Tables, tables_of};
 use doc_types::Layer;
-use image_write::{Counts, count_in, header_of, place_in};
+use image_write::{Counts, count_in, header_of, place_in, room_of};
 use srch_base::NoMemory;
 use std::alloc::Global;
 
@@ -84,7 +84,14 @@ fn assembled(
     ensures is { IfOk result (λ image. image.items ≡ counted counts.now ++ columns.now ++ marks.now ++ tables.now.table.items ++ tables.now.dictionary.items ++ tables.now.postings.items) }
     ensures short { IfOk result (λ image. length image.items ≤ MAX_IMAGE) }
 {
-    let mut image = header_of(alloc, counts)?;
+    let room = room_of(
+        columns,
+        marks,
+        &tables.table,
+        &tables.dictionary,
+        &tables.postings,
+    );
+    let mut image = header_of(alloc, room, counts)?;
     image.extend_from_slice(columns)?;
     image.extend_from_slice(marks)?;
     image.extend_from_slice(&tables.table)?;

@@ -1,5 +1,5 @@
 //! The words of all parts, merged: word table, dictionary and postings.
-ghost use Rattle.std.specs.Prelude.{◌≡◌, ◌≢◌, ◌≤◌, ◌+◌, ◌<◌, ◌^◌, ◌++◌, ℕ, List, Option, Some, true, [], length, slice_get, All, IfOk, OnOk, MatchOption, MatchBool};
+ghost use Rattle.std.specs.Prelude.{◌≡◌, ◌≢◌, ◌≤◌, ◌+◌, ◌<◌, ◌++◌, ℕ, List, Option, Some, None, true, [], length, slice_get, All, IfOk, OnOk, MatchOption, MatchBool};
 ghost use Rattle.std.specs.List.{flat_map};
 ghost use Rattle.std.specs.Option.{option_map};
 ghost use Rattle.doc_types.specs.Chunks.{AreWordsOf};
@@ -7,6 +7,7 @@ ghost use Rattle.doc_types.specs.declared.documents.DocRow.{DocRow as AnyRow};
 ghost use Rattle.image_join.specs.steps.Entries.{AreEntriesOf, entries_in, lent};
 ghost use Rattle.image_join.specs.steps.Merging.{AreTables, IsBefore, IsDone, IsLeast, StandAt, StandsAt, added, is_ahead, lesser};
 ghost use Rattle.image_join.specs.steps.Numbering.{AreNumbered};
+ghost use Rattle.image_join.specs.steps.Parts.{PartValue};
 
 use crate::copying::CopyBytes;
 use crate::lists::{collect, put_in_order, put_list};
@@ -25,6 +26,13 @@ pub(crate) struct Tables {
     pub(crate) postings: Vec<u8>,
 }
 
+/// Where a part stands among its words: the number of the next one, and that word, if one is left.
+#[derive(Clone, Copy)]
+pub(crate) struct Next<'p> {
+    pub(crate) number: u32,
+    pub(crate) word: Option<&'p [u8]>,
+}
+
 /// Word table, dictionary and postings of the rows that have these numbers.
 pub(crate) fn tables_of<C: CopyBytes>(
     alloc: Global,
@@ -35,20 +43,20 @@ pub(crate) fn tables_of<C: CopyBytes>(
     ensures { IfOk result (λ tables. (rows : List AnyRow) → AreNumbered parts.now numbers.now rows → (words : List (List ℕ)) × AreWordsOf rows words × AreTables rows words tables) }
 {
     let mut tables = no_tables(alloc);
-    let mut heads = vec![in alloc; 0; parts.len()]?;
+    let mut nexts = nexts_of(alloc, parts)?;
     let mut found = Vec::new(alloc);
     let most = word_count(parts);
     'words: for _ in 0..most {
-        let word = match least_word(parts, &heads) {
+        let word = match least_word(&nexts) {
             Some(word) => word,
             None => return Ok(tables),
         };
         found.clear();
-        take_word(parts, numbers, word, &mut heads, &mut found)?;
+        take_word(parts, numbers, word, &mut nexts, &mut found)?;
         put_word(word, &mut found, &mut tables)?;
     }
     // Each round goes over a word of a part at least.
-    match least_word(parts, &heads) {
+    match least_word(&nexts) {
         Some(_) => Err(NoMemory),
         None => Ok(tables),
     }
@@ -77,14 +85,55 @@ fn word_count<C: CopyBytes>(parts: &[Part<C>]) -> u64
     count
 }
 
+/// The first words of the parts.
+fn nexts_of<C: CopyBytes>(alloc: Global, parts: &[Part<C>]) -> Result<Vec<Next<'_>>, NoMemory>
+    ensures { IfOk result (λ nexts. StandAt None parts.now nexts.items) }
+{
+    let mut nexts = Vec::with_capacity(alloc, parts.len())?;
+    for part in parts {
+        nexts.push(first_of(part))?;
+    }
+    Ok(nexts)
+}
+
+/// The first word of a part.
+fn first_of<C: CopyBytes>(part: &Part<C>) -> Next<'_>
+    ensures { StandsAt None part.now result }
+{
+    Next {
+        number: 0,
+        word: part.word(0),
+    }
+}
+
+/// The part's word behind the one of this number.
+fn next_of<C: CopyBytes>(part: &Part<C>, number: u32) -> Next<'_>
+    requires { number < length part.now.words }
+    ensures number { result.number ≡ number + 1 }
+    ensures front { option_map (λ word. word.now) result.word ≡ slice_get part.now.words (number + 1) }
+{
+    let count = part.words();
+    let behind = number + 1;
+    if behind < count {
+        Next {
+            number: behind,
+            word: part.word(behind),
+        }
+    } else {
+        Next {
+            number: behind,
+            word: None,
+        }
+    }
+}
+
 /// The least of the parts' next words, if there is one.
-fn least_word<'p, C: CopyBytes>(parts: &'p [Part<C>], heads: &[u32]) -> Option<&'p [u8]>
-    requires { length heads.now ≡ length parts.now }
-    ensures { (last : Option (List ℕ)) → StandAt last parts.now heads.now → MatchOption result (All (IsDone last) parts.now) (λ word. IsLeast last parts.now word.now) }
+fn least_word<'p>(nexts: &[Next<'p>]) -> Option<&'p [u8]>
+    ensures { (last : Option (List ℕ)) (parts : List PartValue) → All (λ part. AreWordsOf part.rows part.words) parts → StandAt last parts nexts.now → MatchOption result (All (IsDone last) parts) (λ word. IsLeast last parts word.now) }
 {
     let mut least: Option<&[u8]> = None;
-    for (number, part) in parts.iter().enumerate() {
-        least = lesser(least, part.word(heads[number]));
+    for next in nexts {
+        least = lesser(least, next.word);
     }
     least
 }
@@ -111,50 +160,51 @@ fn take_word<'p, C: CopyBytes>(
     parts: &'p [Part<C>],
     numbers: &[u32],
     word: &[u8],
-    heads: &mut [u32],
+    nexts: &mut [Next<'p>],
     found: &mut Vec<(u32, &'p [u8])>,
 ) -> Result<(), NoMemory>
-    requires long { length heads.old ≡ length parts.now }
+    requires words { All (λ part. AreWordsOf part.rows part.words) parts.now }
+    requires stand { (last : Option (List ℕ)) × StandAt last parts.now nexts.old }
     requires within { All (λ part. part.first + length part.rows ≤ length numbers.now) parts.now }
-    ensures long { length heads.new ≡ length heads.old }
-    ensures heads { OnOk result ((last : Option (List ℕ)) → StandAt last parts.now heads.old → IsLeast last parts.now word.now → StandAt (Some word.now) parts.now heads.new) }
-    ensures found { OnOk result ((last : Option (List ℕ)) → StandAt last parts.now heads.old → IsLeast last parts.now word.now → lent found.new.items ≡ lent found.old.items ++ flat_map (entries_in word.now numbers.now) parts.now) }
+    ensures long { length nexts.new ≡ length nexts.old }
+    ensures nexts { OnOk result ((last : Option (List ℕ)) → StandAt last parts.now nexts.old → IsLeast last parts.now word.now → StandAt (Some word.now) parts.now nexts.new) }
+    ensures found { OnOk result ((last : Option (List ℕ)) → StandAt last parts.now nexts.old → IsLeast last parts.now word.now → lent found.new.items ≡ lent found.old.items ++ flat_map (entries_in word.now numbers.now) parts.now) }
 {
     for (number, part) in parts.iter().enumerate() {
-        let head = heads[number];
-        heads[number] = take_from(part, numbers, word, head, found)?;
+        let next = nexts[number];
+        nexts[number] = take_from(part, numbers, word, next, found)?;
     }
     Ok(())
 }
 
-/// Appends the entries of a word in a part, if it is the part's word of this number, and gives the number of the word that is
-/// next then.
+/// Appends the entries of a word in a part, if it is the part's next one, and gives where the part stands then.
 fn take_from<'p, C: CopyBytes>(
     part: &'p Part<C>,
     numbers: &[u32],
     word: &[u8],
-    head: u32,
+    next: Next<'p>,
     found: &mut Vec<(u32, &'p [u8])>,
-) -> Result<u32, NoMemory>
-    requires { part.now.first + length part.now.rows ≤ length numbers.now }
-    ensures head { IfOk result (λ next. (last : Option (List ℕ)) → StandsAt last part.now head → IsBefore last word.now part.now → is_ahead last word.now ≡ true → StandsAt (Some word.now) part.now next) }
-    ensures found { OnOk result ((last : Option (List ℕ)) → StandsAt last part.now head → IsBefore last word.now part.now → is_ahead last word.now ≡ true → lent found.new.items ≡ lent found.old.items ++ entries_in word.now numbers.now part.now) }
+) -> Result<Next<'p>, NoMemory>
+    requires words { AreWordsOf part.now.rows part.now.words }
+    requires within { part.now.first + length part.now.rows ≤ length numbers.now }
+    requires front { option_map (λ word. word.now) next.word ≡ slice_get part.now.words next.number }
+    ensures next { IfOk result (λ after. (last : Option (List ℕ)) → StandsAt last part.now next.entry → IsBefore last word.now part.now → is_ahead last word.now ≡ true → StandsAt (Some word.now) part.now after) }
+    ensures found { OnOk result ((last : Option (List ℕ)) → StandsAt last part.now next.entry → IsBefore last word.now part.now → is_ahead last word.now ≡ true → lent found.new.items ≡ lent found.old.items ++ entries_in word.now numbers.now part.now) }
 {
-    if !is_next(part, head, word) {
-        return Ok(head);
+    if !is_next(next, word) {
+        return Ok(next);
     }
-    collect(part, head, numbers, found)?;
-    Ok(head + 1)
+    collect(part, next.number, numbers, found)?;
+    Ok(next_of(part, next.number))
 }
 
-/// Whether the part's word of this number is this one.
-fn is_next<C: CopyBytes>(part: &Part<C>, head: u32, word: &[u8]) -> bool
-    ensures is { MatchBool result (slice_get part.now.words head ≡ Some word.now) (slice_get part.now.words head ≢ Some word.now) }
-    ensures words { AreWordsOf part.now.rows part.now.words }
-    ensures few { length part.now.words < 2 ^ 32 }
+/// Whether the next word is this one.
+#[inline]
+fn is_next(next: Next<'_>, word: &[u8]) -> bool
+    ensures { MatchBool result (option_map (λ own. own.now) next.entry.word ≡ Some word.now) (option_map (λ own. own.now) next.entry.word ≢ Some word.now) }
 {
-    match part.word(head) {
-        Some(next) => next == word,
+    match next.word {
+        Some(own) => own == word,
         None => false,
     }
 }

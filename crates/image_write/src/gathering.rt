@@ -36,10 +36,21 @@ pub(crate) fn gather<R: LendsDoc>(alloc: Global, rows: &[R]) -> Result<Vec<Occur
     requires fields { All AreFew (map R.lent rows.now) }
     ensures { IfOk result (λ places. AreInOrder (map R.lent rows.now) places.items) }
 {
-    let mut places = Vec::new(alloc);
+    let mut places = Vec::with_capacity(alloc, room_for(rows))?;
     add_rows(rows, &mut places)?;
     places.sort_by(|a, b| order_of(rows, a, b))?;
     Ok(places)
+}
+
+/// How many words stand in some documents, so that their occurrences take no more room than they need.
+fn room_for<R: LendsDoc>(rows: &[R]) -> usize {
+    let mut count: usize = 0;
+    for row in rows {
+        for tokens in row.doc().fields.as_slice() {
+            count = count.saturating_add(tokens.words.len());
+        }
+    }
+    count
 }
 
 fn add_rows<R: LendsDoc>(rows: &[R], places: &mut Vec<Occurrence>) -> Result<(), NoMemory>

@@ -19,6 +19,9 @@ use std::alloc::Global;
 /// The most bytes of an image; a longer one counts as want of memory.
 pub const MAX_IMAGE: usize = 536_870_912;
 
+/// The bytes of a header.
+const HEADER: usize = 32;
+
 /// The lengths and counts that stand in a header.
 #[derive(Clone, Copy)]
 pub struct Counts {
@@ -115,7 +118,8 @@ fn write_lent<R: LendsDoc>(
         dictionary: place_in(&dictionary)?,
         postings: place_in(&postings)?,
     };
-    let mut image = header_of(alloc, &counts)?;
+    let room = room_of(&columns, &marks, &table, &dictionary, &postings);
+    let mut image = header_of(alloc, room, &counts)?;
     image.extend_from_slice(&columns)?;
     image.extend_from_slice(&marks)?;
     image.extend_from_slice(&table)?;
@@ -125,11 +129,27 @@ fn write_lent<R: LendsDoc>(
     Ok(image)
 }
 
-/// The header with these counts.
-pub fn header_of(alloc: Global, counts: &Counts) -> Result<Vec<u8>, NoMemory>
+/// How many bytes an image of these parts takes, so that it is made in one piece of memory and keeps no more.
+pub fn room_of(
+    columns: &[u8],
+    marks: &[u8],
+    table: &[u8],
+    dictionary: &[u8],
+    postings: &[u8],
+) -> usize {
+    HEADER
+        .saturating_add(columns.len())
+        .saturating_add(marks.len())
+        .saturating_add(table.len())
+        .saturating_add(dictionary.len())
+        .saturating_add(postings.len())
+}
+
+/// The header with these counts, with room for so many bytes in all.
+pub fn header_of(alloc: Global, room: usize, counts: &Counts) -> Result<Vec<u8>, NoMemory>
     ensures { IfOk result (λ header. header.items ≡ counted counts.now) }
 {
-    let mut out = Vec::new(alloc);
+    let mut out = Vec::with_capacity(alloc, room)?;
     out.extend_from_slice(b"SRCHUNK1")?;
     put_u32(counts.rows, &mut out)?;
     put_u16(counts.fields, &mut out)?;

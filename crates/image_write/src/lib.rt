@@ -11,6 +11,7 @@ mod marks;
 mod words;
 
 pub use image::{
-    Counts, MAX_IMAGE, count_in, header_of, place_in, write_counted, write_docs, write_image,
+    Counts, MAX_IMAGE, count_in, header_of, place_in, room_of, write_counted, write_docs,
+    write_image,
 };
 pub use words::put_entry;

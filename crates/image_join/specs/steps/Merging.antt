@@ -1,11 +1,13 @@
 -- The words of parts while they are merged.
-use Rattle.std.specs.Prelude.{◌≡◌, ◌<◌, ℕ, List, [], ◌∷◌, ◌++◌, Bool, true, false, Option, Some, None, nat_le, if◌then◌else◌, length, slice_get, slice_index, All, AllPairs, Contains}
+use Rattle.std.specs.Prelude.{◌≡◌, ◌<◌, ℕ, List, [], ◌∷◌, ◌++◌, Bool, true, false, Option, Some, None, nat_le, if◌then◌else◌, length, get_or, slice_get, All, AllPairs, Contains}
 use Rattle.std.specs.Cmp.Lexicographic.{slice_cmp}
+use Rattle.std.specs.Option.{option_map}
 use Rattle.std.specs.Ordering.{nat_cmp, is_lt}
 use Rattle.std.specs.declared.cmp.Ordering.TheVariants.{Less}
 use Rattle.doc_types.specs.declared.documents.DocRow.{DocRow}
 use Rattle.doc_types.specs.Chunks.{rows_with}
 use Rattle.chunk_image.specs.ChunkImage.{dictionary_bytes, postings_bytes, table_bytes}
+use Rattle.image_join.specs.declared.words.Next.{Next}
 use Rattle.image_join.specs.declared.words.Tables.{Tables}
 use Rattle.image_join.specs.steps.Parts.{PartValue, part_at}
 
@@ -24,14 +26,22 @@ lesser None other = other
 lesser (Some word) None = Some word
 lesser (Some word) (Some other) = if less other word then Some other else Some word
 
--- the part's words from this number on are those ahead
-pub record StandsAt (last : Option (List ℕ)) (part : PartValue) (head : ℕ) : Type 0 where
-  pub split : (n : ℕ) (word : List ℕ) → slice_get part.words n ≡ Some word → is_ahead last word ≡ nat_le head n
+-- where a part stands for none
+abbrev pub blank_next : Next
+blank_next = record { number = 0; word = None }
 
--- so each part stands at its head
-pub record StandAt (last : Option (List ℕ)) (parts : List PartValue) (heads : List ℕ) : Type 0 where
-  pub long : length heads ≡ length parts
-  pub each : (k : ℕ) → k < length parts → StandsAt last (part_at parts k) (slice_index heads k)
+abbrev pub next_at : List Next → ℕ → Next
+next_at nexts k = get_or nexts k blank_next
+
+-- the part's words from this number on are those ahead, and the first of them is at hand
+pub record StandsAt (last : Option (List ℕ)) (part : PartValue) (next : Next) : Type 0 where
+  pub split : (n : ℕ) (word : List ℕ) → slice_get part.words n ≡ Some word → is_ahead last word ≡ nat_le next.number n
+  pub front : option_map (λ word. word.now) next.word ≡ slice_get part.words next.number
+
+-- so each part stands
+pub record StandAt (last : Option (List ℕ)) (parts : List PartValue) (nexts : List Next) : Type 0 where
+  pub long : length nexts ≡ length parts
+  pub each : (k : ℕ) → k < length parts → StandsAt last (part_at parts k) (next_at nexts k)
 
 -- no word of the part is ahead
 pub record IsDone (last : Option (List ℕ)) (part : PartValue) : Type 0 where

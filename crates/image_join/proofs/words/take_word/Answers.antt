@@ -1,8 +1,9 @@
-use Rattle.std.proofs.Common.{◌≡◌, ◌<◌, ◌++◌, ℕ, List, Option, Some, length, get_or, slice_index, subst, sym, ap, ◌∙◌, arith}
-use Rattle.std.proofs.lemmas.List.{get_or_default, length-set, take_all}
-use Rattle.image_join.specs.steps.Merging.{IsBefore, IsLeast, StandAt, StandsAt}
+use Rattle.std.proofs.Common.{◌≡◌, ◌<◌, ◌++◌, ℕ, List, Option, Some, length, get_or, subst, sym, ap, ◌∙◌, arith}
+use Rattle.std.proofs.lemmas.List.{get_or_default, length-set}
+use Rattle.doc_types.specs.Chunks.{AreWordsOf}
+use Rattle.image_join.specs.steps.Merging.{IsBefore, IsLeast, StandAt, StandsAt, next_at}
 use Rattle.image_join.specs.steps.Parts.{PartValue, blank_part, part_at}
-use Rattle.image_join.proofs.Taken.{entries_more, heads_more, later_more}
+use Rattle.image_join.proofs.Taken.{entries_more, later_more, nexts_more}
 use Rattle.image_join.proofs.words.take_word.Goals as goal
 
 pub loop-number-preserved : goal.loop-number-preserved
@@ -11,22 +12,33 @@ loop-number-preserved g c =
     let i = c.loop-number.number in
     let part = c.index-parts-number.result in
     let word = c.args.word.now in
-    let within : i < length c.loop-number.heads = omega (arith, c.loop-number-test.true, c.loop-number.invariant.long, c.requires.long) in
+    let within : i < length c.loop-number.nexts = omega (arith, c.loop-number-test.true, c.loop-number.invariant.long, c.requires.stand.1.long) in
     let here : part ≡ part_at parts i = c.index-parts-number.is ∙ get_or_default parts i part blank_part c.loop-number-test.true in
-    let stands : (last : Option (List ℕ)) → StandAt last parts c.args.heads.now → StandsAt last part (slice_index c.loop-number.heads i) = λ last stand.
-    subst (λ h. StandsAt last part h) (sym (c.loop-number.invariant.later i (omega arith))) (subst (λ p. StandsAt last p (slice_index c.args.heads.now i)) (sym here) (stand.each i c.loop-number-test.true)) in
+    let stands : (last : Option (List ℕ)) → StandAt last parts c.args.nexts.now → StandsAt last part (next_at c.loop-number.nexts i) = λ last stand.
+    subst (StandsAt last part) (sym (c.loop-number.invariant.later i (omega arith))) (subst (λ p. StandsAt last p (next_at c.args.nexts.now i)) (sym here) (stand.each i c.loop-number-test.true)) in
     let before : (last : Option (List ℕ)) → IsLeast last parts word → IsBefore last word part = λ last least. subst (IsBefore last word) (sym here) (least.each i blank_part c.loop-number-test.true) in
     record {
-      long = length-set c.loop-number.heads i c.in_ok-heads.field-0 ∙ c.loop-number.invariant.long;
-      later = later_more c.loop-number.heads c.args.heads.now i c.in_ok-heads.field-0 c.loop-number.invariant.later;
-      heads = λ last stand least. heads_more word parts c.loop-number.heads i c.in_ok-heads.field-0 within
-          (subst (λ p. StandsAt (Some word) p c.in_ok-heads.field-0) here (c.in_ok-heads.ensures.head last (stands last stand) (before last least) least.ahead)) (c.loop-number.invariant.heads last stand least);
+      long = length-set c.loop-number.nexts i c.in_ok-nexts.field-0 ∙ c.loop-number.invariant.long;
+      later = later_more c.loop-number.nexts c.args.nexts.now i c.in_ok-nexts.field-0 c.loop-number.invariant.later;
+      nexts = λ last stand least. nexts_more word parts c.loop-number.nexts i c.in_ok-nexts.field-0 within
+          (subst (λ p. StandsAt (Some word) p c.in_ok-nexts.field-0) here (c.in_ok-nexts.ensures.next last (stands last stand) (before last least) least.ahead)) (c.loop-number.invariant.nexts last stand least);
       found = λ last stand least. entries_more word c.args.numbers.now parts i part _ _ _ c.loop-number-test.true c.index-parts-number.is (c.loop-number.invariant.found last stand least)
-          (c.in_ok-heads.ensures.found last (stands last stand) (before last least) least.ahead);
+          (c.in_ok-nexts.ensures.found last (stands last stand) (before last least) least.ahead);
     }
 
-pub returns-clause-heads : goal.returns-clause-heads
-returns-clause-heads g c = λ last stand least. record {
-  long = c.loop-number.invariant.long ∙ c.requires.long;
-  each = λ k low. c.loop-number.invariant.heads last stand least k (omega (arith, low, c.loop-number-test.false));
+pub returns-clause-nexts : goal.returns-clause-nexts
+returns-clause-nexts g c = λ last stand least. record {
+  long = c.loop-number.invariant.long ∙ stand.long;
+  each = λ k low. c.loop-number.invariant.nexts last stand least k (omega (arith, low, c.loop-number-test.false));
 }
+
+pub take_from-requires-clause-front : goal.take_from-requires-clause-front
+take_from-requires-clause-front g c =
+    let parts : List PartValue = c.args.parts.now in
+    let i = c.loop-number.number in
+    let last = c.requires.stand.0 in
+    let part = c.index-parts-number.result in
+    let here : part ≡ part_at parts i = c.index-parts-number.is ∙ get_or_default parts i part blank_part c.loop-number-test.true in
+    let stands : StandsAt last part (next_at c.loop-number.nexts i) =
+    subst (StandsAt last part) (sym (c.loop-number.invariant.later i (omega arith))) (subst (λ p. StandsAt last p (next_at c.args.nexts.now i)) (sym here) (c.requires.stand.1.each i c.loop-number-test.true)) in
+    stands.front
