@@ -1,7 +1,7 @@
 -- Occurrences by their words: those of one word in a row are an entry.
-use Rattle.std.proofs.Common.{◌≡◌, ℕ, zero, suc, ◌+◌, ◌<◌, ◌≤◌, List, [], ◌∷◌, ◌++◌, Bool, true, false, cond, not, IsSomeAnd, slice_get, length, drop, take, get_or, map, refl, sym, ap, subst, ◌∙◌, arith, length-drop, drop-cons}
+use Rattle.std.proofs.Common.{◌≡◌, ℕ, zero, suc, ◌+◌, ◌<◌, ◌≤◌, List, [], ◌∷◌, ◌++◌, Bool, true, false, cond, IsSomeAnd, slice_get, length, drop, take, get_or, map, refl, sym, ap, subst, ◌∙◌, arith, drop-cons}
 use Rattle.std.specs.Str.{bytes_eq}
-use Rattle.std.proofs.lemmas.List.{get_or_default, take-append-drop, take_more, map-append, length-take}
+use Rattle.std.proofs.lemmas.List.{take-append-drop, take_more, map-append, length-take}
 use Rattle.std.proofs.lemmas.Slice.Eq.{bytes_eq-Decides}
 use Rattle.doc_types.specs.declared.documents.Doc.{Doc}
 use Rattle.image_write.specs.declared.gathering.Occurrence.{Occurrence}
@@ -19,18 +19,18 @@ pub same : (a b : List ℕ) → a ≡ b → bytes_eq a b ≡ true
 same a b e = (bytes_eq-Decides a b).1 e
 
 -- what a test of two words told
-pub differ : (b : Bool) (v w : List ℕ) → b ≡ true → b ≡ not (bytes_eq v w) → v ≡ w → ⊥
-differ b v w told is e = clash (sym told ∙ is ∙ ap not (same v w e))
+pub differ : (b : Bool) (v w : List ℕ) → b ≡ false → b ≡ bytes_eq v w → v ≡ w → ⊥
+differ b v w told is e = clash (sym (same v w e) ∙ sym is ∙ told)
   where
     clash : true ≡ false → ⊥
     clash h = cc
 
-pub agree : (b : Bool) (v w : List ℕ) → b ≡ false → b ≡ not (bytes_eq v w) → v ≡ w
-agree b v w told is =
-    elim (bytes_eq v w) as (λ r. bytes_eq v w ≡ r → false ≡ not r → v ≡ w) [
-      | true ↦ λ e _. (bytes_eq-Decides v w).0 e
-      | false ↦ λ _ h. absurd cc
-    ] refl (sym told ∙ is)
+pub agree : (b : Bool) (v w : List ℕ) → b ≡ true → b ≡ bytes_eq v w → v ≡ w
+agree b v w told is = (bytes_eq-Decides v w).0 (sym is ∙ told)
+
+-- the first entry by another name of its word
+pub named : (word v : List ℕ) (group : List Place) (all rest : List WordPlaces) → word ≡ v → all ≡ record { word = v; places = group } ∷ rest → all ≡ record { word = word; places = group } ∷ rest
+named word v group all rest same e = e ∙ ap (λ w. record { word = w; places = group } ∷ rest) (sym same)
 
 module _ (docs : List Doc) where
   -- the first of these entries, and of these occurrences, isn't of this word
@@ -61,10 +61,10 @@ module _ (docs : List Doc) where
 
   behind_others : (word : List ℕ) (os : List Occurrence) → Behind word os → Others word (by_word docs os)
   behind_others word [] behind = tt
-  behind_others word (o ∷ os) behind = with_others word (word_at docs o) (place_at docs o) (by_word docs os) behind
+  behind_others word (o ∷ os) behind = with_others word (word_at docs o) (place_at o) (by_word docs os) behind
 
   abbrev entry : List ℕ → List Occurrence → WordPlaces
-  entry word os = record { word = word; places = map (place_at docs) os }
+  entry word os = record { word = word; places = map place_at os }
 
   joins : (word : List ℕ) (p : Place) (places : List Place) (es : List WordPlaces) → with_place word p (record { word = word; places = places } ∷ es) ≡ record { word = word; places = p ∷ places } ∷ es
   joins word p places es = rw (same word word refl) refl
@@ -73,13 +73,13 @@ module _ (docs : List Doc) where
   one_entry : (word : List ℕ) (os rest : List Occurrence) → 1 ≤ length os → AreOf word os → Behind word rest → by_word docs (os ++ rest) ≡ entry word os ∷ by_word docs rest
   one_entry word [] rest some are behind = absurd (omega (arith, some))
   one_entry word (o ∷ []) rest some are behind =
-      ap (λ w. with_place w (place_at docs o) (by_word docs rest)) are.0 ∙ alone word (place_at docs o) (by_word docs rest) (behind_others word rest behind)
+      ap (λ w. with_place w (place_at o) (by_word docs rest)) are.0 ∙ alone word (place_at o) (by_word docs rest) (behind_others word rest behind)
   one_entry word (o ∷ p ∷ os) rest some are behind =
-      ap (λ w. with_place w (place_at docs o) (by_word docs (p ∷ os ++ rest))) are.0
-      ∙ ap (with_place word (place_at docs o)) (one_entry word (p ∷ os) rest (omega arith) are.1 behind)
-      ∙ joins word (place_at docs o) (map (place_at docs) (p ∷ os)) (by_word docs rest)
+      ap (λ w. with_place w (place_at o) (by_word docs (p ∷ os ++ rest))) are.0
+      ∙ ap (with_place word (place_at o)) (one_entry word (p ∷ os) rest (omega arith) are.1 behind)
+      ∙ joins word (place_at o) (map place_at (p ∷ os)) (by_word docs rest)
 
-  taken : (word : List ℕ) (n : ℕ) (os : List Occurrence) (group : List Place) → AreOf word (take n os) → group ≡ map (place_at docs) (take n os) → 1 ≤ n → n ≤ length os → Behind word (drop n os)
+  taken : (word : List ℕ) (n : ℕ) (os : List Occurrence) (group : List Place) → AreOf word (take n os) → group ≡ map place_at (take n os) → 1 ≤ n → n ≤ length os → Behind word (drop n os)
       → by_word docs os ≡ record { word = word; places = group } ∷ by_word docs (drop n os)
   taken word n os group are e some within behind =
       ap (by_word docs) (sym (take-append-drop n os))
@@ -93,7 +93,7 @@ module _ (docs : List Doc) where
   some_taken word (suc n) os d low ne first = omega arith
 
   pub stopped : (word : List ℕ) (n : ℕ) (os : List Occurrence) (d : Occurrence) (group : List Place) → n < length os → (word_at docs (get_or os n d) ≡ word → ⊥) → IsSomeAnd (slice_get os 0) (λ o. word_at docs o ≡ word)
-      → AreOf word (take n os) → group ≡ map (place_at docs) (take n os) → by_word docs os ≡ record { word = word; places = group } ∷ by_word docs (drop n os)
+      → AreOf word (take n os) → group ≡ map place_at (take n os) → by_word docs os ≡ record { word = word; places = group } ∷ by_word docs (drop n os)
   stopped word n os d group low ne first are e =
       let o = get_or os n d in
       taken word n os group are e (some_taken word n os d low ne first) (omega (arith, low))
@@ -111,9 +111,9 @@ module _ (docs : List Doc) where
   some_there word (o ∷ os) first = omega arith
 
   pub taken_all : (word : List ℕ) (n : ℕ) (os : List Occurrence) (group : List Place) → n ≡ length os → IsSomeAnd (slice_get os 0) (λ o. word_at docs o ≡ word)
-      → AreOf word (take n os) → group ≡ map (place_at docs) (take n os) → by_word docs os ≡ record { word = word; places = group } ∷ by_word docs (drop (length os) os)
+      → AreOf word (take n os) → group ≡ map place_at (take n os) → by_word docs os ≡ record { word = word; places = group } ∷ by_word docs (drop (length os) os)
   taken_all word n os group at first are e =
-      taken word (length os) os group (subst (λ k. AreOf word (take k os)) at are) (e ∙ ap (λ k. map (place_at docs) (take k os)) at) (some_there word os first) (omega arith) (none_behind word os)
+      taken word (length os) os group (subst (λ k. AreOf word (take k os)) at are) (e ∙ ap (λ k. map place_at (take k os)) at) (some_there word os first) (omega arith) (none_behind word os)
 
   -- one more occurrence of the word
   pub are_more : (word : List ℕ) (n : ℕ) (os : List Occurrence) (d : Occurrence) → n < length os → word_at docs (get_or os n d) ≡ word → AreOf word (take n os) → AreOf word (take (n + 1) os)
@@ -123,9 +123,9 @@ module _ (docs : List Doc) where
       added [] o are is = (is, tt)
       added (x ∷ xs) o are is = (are.0, added xs o are.1 is)
 
-  pub place_more : (n : ℕ) (os : List Occurrence) (d : Occurrence) (group after : List Place) → n < length os → group ≡ map (place_at docs) (take n os) → after ≡ group ++ place_at docs (get_or os n d) ∷ [] → after ≡ map (place_at docs) (take (n + 1) os)
+  pub place_more : (n : ℕ) (os : List Occurrence) (d : Occurrence) (group after : List Place) → n < length os → group ≡ map place_at (take n os) → after ≡ group ++ place_at (get_or os n d) ∷ [] → after ≡ map place_at (take (n + 1) os)
   place_more n os d group after low was put =
-      put ∙ ap (λ l. l ++ place_at docs (get_or os n d) ∷ []) was ∙ sym (map-append (place_at docs) (take n os) (get_or os n d ∷ [])) ∙ ap (map (place_at docs)) (sym (take_more os n d low))
+      put ∙ ap (λ l. l ++ place_at (get_or os n d) ∷ []) was ∙ sym (map-append place_at (take n os) (get_or os n d ∷ [])) ∙ ap (map place_at) (sym (take_more os n d low))
 
   pub first_there : (os : List Occurrence) (at : ℕ) (d : Occurrence) (word : List ℕ) → at < length os → word ≡ word_at docs (get_or os at d) → IsSomeAnd (slice_get (drop at os) 0) (λ o. word_at docs o ≡ word)
   first_there os at d word low is = subst (λ (l : List Occurrence). IsSomeAnd (slice_get l 0) (λ o. word_at docs o ≡ word)) (sym (drop-cons os at d low)) (sym is)

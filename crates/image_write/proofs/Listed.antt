@@ -1,5 +1,5 @@
 -- Sorted occurrences by their words are all words of the rows, ascending, each with its places.
-use Rattle.std.proofs.Common.{◌≡◌, ℕ, ◌+◌, ◌<◌, ◌≤◌, ◌^◌, suc, zero, List, [], ◌∷◌, Bool, true, false, cond, Option, Some, None, refl, sym, ap, subst, ◌∙◌, length, get_or, map, arith, All, AllPairs}
+use Rattle.std.proofs.Common.{◌≡◌, ℕ, ◌+◌, ◌<◌, ◌≤◌, ◌^◌, suc, List, [], ◌∷◌, Bool, true, false, cond, Some, None, refl, sym, ap, subst, ◌∙◌, length, get_or, map, arith, All, AllPairs}
 use Rattle.std.specs.List.{filter, enumerate_from, position, position_from}
 use Rattle.std.specs.List.Sorted.{IsSortedBy}
 use Rattle.std.specs.Str.{bytes_eq}
@@ -59,7 +59,7 @@ then_before v w late ne = by_cases (slice_cmp nat_cmp v w) refl
 module _ (docs : List Doc) where
   -- what the entries are of these occurrences
   abbrev IsAll : List Occurrence → WordPlaces → Type 0
-  IsAll os entry = (entry.places ≡ map (place_at docs) (filter (is_at docs entry.word) os)) × (1 ≤ length entry.places)
+  IsAll os entry = (entry.places ≡ map place_at (filter (is_at docs entry.word) os)) × (1 ≤ length entry.places)
 
   record AreAll (os : List Occurrence) (entries : List WordPlaces) : Type 0 where
     pub ascend : AllPairs (λ entry later. before entry.word later.word) entries
@@ -75,7 +75,7 @@ module _ (docs : List Doc) where
   later : (o : Occurrence) (os : List Occurrence) (es : List WordPlaces) → All (λ entry. before (word_at docs o) entry.word) es → All (IsAll os) es → All (IsAll (o ∷ os)) es
   later o os es less each k d h =
       let its = each k d h in
-      (its.0 ∙ ap (map (place_at docs)) (sym (passed o os _ (less_apart (word_at docs o) _ (less k d h)))), its.1)
+      (its.0 ∙ ap (map place_at) (sym (passed o os _ (less_apart (word_at docs o) _ (less k d h)))), its.1)
 
   apart_from : (w : List ℕ) (es : List WordPlaces) → All (λ entry. before w entry.word) es → All (λ entry. bytes_eq entry.word w ≡ false) es
   apart_from w es less k d h = turned_apart w _ (less_apart w _ (less k d h))
@@ -93,10 +93,10 @@ module _ (docs : List Doc) where
         | false ↦ refl
       ]
 
-  one_more : (o : Occurrence) (os : List Occurrence) (es : List WordPlaces) → (e : WordPlaces) → is_lt (slice_cmp nat_cmp e.word (word_at docs o)) ≡ false → AreAll os (e ∷ es) → AreAll (o ∷ os) (with_place (word_at docs o) (place_at docs o) (e ∷ es))
+  one_more : (o : Occurrence) (os : List Occurrence) (es : List WordPlaces) → (e : WordPlaces) → is_lt (slice_cmp nat_cmp e.word (word_at docs o)) ≡ false → AreAll os (e ∷ es) → AreAll (o ∷ os) (with_place (word_at docs o) (place_at o) (e ∷ es))
   one_more o os es e late are =
       let w = word_at docs o in
-      let p = place_at docs o in
+      let p = place_at o in
       elim (bytes_eq w e.word) as (λ b. bytes_eq w e.word ≡ b → AreAll (o ∷ os) (cond b (record { word = w; places = p ∷ e.places } ∷ es) (record { word = w; places = p ∷ [] } ∷ e ∷ es))) [
         | true ↦ λ eq.
             let one : w ≡ e.word = (bytes_eq-Decides w e.word).0 eq in
@@ -105,7 +105,7 @@ module _ (docs : List Doc) where
             record {
               ascend = AllPairs-cons (λ entry later. before entry.word later.word) (record { word = w; places = p ∷ e.places }) es behind (pairs_tail e es are.ascend);
               each = All-cons (IsAll (o ∷ os)) (record { word = w; places = p ∷ e.places }) es
-                  (ap (λ l. p ∷ l) (own.0 ∙ ap (λ v. map (place_at docs) (filter (is_at docs v) os)) (sym one)) ∙ ap (map (place_at docs)) (sym (found o os)), omega arith)
+                  (ap (λ l. p ∷ l) (own.0 ∙ ap (λ v. map place_at (filter (is_at docs v) os)) (sym one)) ∙ ap (map place_at) (sym (found o os)), omega arith)
                   (later o os es behind (All-tail (IsAll os) e es are.each));
               missed = λ v none.
                   let not_own : bytes_eq w v ≡ false = All-head (λ entry. bytes_eq entry.word v ≡ false) (record { word = w; places = p ∷ e.places }) es none in
@@ -117,7 +117,7 @@ module _ (docs : List Doc) where
             record {
               ascend = AllPairs-cons (λ entry later. before entry.word later.word) (record { word = w; places = p ∷ [] }) (e ∷ es) behind are.ascend;
               each = All-cons (IsAll (o ∷ os)) (record { word = w; places = p ∷ [] }) (e ∷ es)
-                  (ap (λ l. p ∷ map (place_at docs) l) (sym (are.missed w (apart_from w (e ∷ es) behind))) ∙ ap (map (place_at docs)) (sym (found o os)), omega arith)
+                  (ap (λ l. p ∷ map place_at l) (sym (are.missed w (apart_from w (e ∷ es) behind))) ∙ ap (map place_at) (sym (found o os)), omega arith)
                   (later o os (e ∷ es) behind are.each);
               missed = λ v none.
                   let not_own : bytes_eq w v ≡ false = All-head (λ entry. bytes_eq entry.word v ≡ false) (record { word = w; places = p ∷ [] }) (e ∷ es) none in
@@ -145,13 +145,13 @@ module _ (docs : List Doc) where
   are_all [] up = record { ascend = λ i j d l h. absurd (omega (arith, h)); each = λ k d h. absurd (omega (arith, h)); missed = λ w none. refl }
   are_all (o ∷ []) up = record {
     ascend = λ i j d l h. absurd (omega (arith, l, h));
-    each = All-cons (IsAll (o ∷ [])) (record { word = word_at docs o; places = place_at docs o ∷ [] }) [] (ap (map (place_at docs)) (sym (found o [])), omega arith) (All-nil (IsAll (o ∷ [])));
-    missed = λ w none. passed o [] w (All-head (λ entry. bytes_eq entry.word w ≡ false) (record { word = word_at docs o; places = place_at docs o ∷ [] }) [] none);
+    each = All-cons (IsAll (o ∷ [])) (record { word = word_at docs o; places = place_at o ∷ [] }) [] (ap (map place_at) (sym (found o [])), omega arith) (All-nil (IsAll (o ∷ [])));
+    missed = λ w none. passed o [] w (All-head (λ entry. bytes_eq entry.word w ≡ false) (record { word = word_at docs o; places = place_at o ∷ [] }) [] none);
   }
   are_all (o ∷ p ∷ os) up =
-      next (by_word docs (p ∷ os)) (begins (word_at docs p) (place_at docs p) (by_word docs os)) (are_all (p ∷ os) (sorted_tail o (p ∷ os) up))
+      next (by_word docs (p ∷ os)) (begins (word_at docs p) (place_at p) (by_word docs os)) (are_all (p ∷ os) (sorted_tail o (p ∷ os) up))
     where
-      next : (es : List WordPlaces) → Begins (word_at docs p) es → AreAll (p ∷ os) es → AreAll (o ∷ p ∷ os) (with_place (word_at docs o) (place_at docs o) es)
+      next : (es : List WordPlaces) → Begins (word_at docs p) es → AreAll (p ∷ os) es → AreAll (o ∷ p ∷ os) (with_place (word_at docs o) (place_at o) es)
       next [] first are = absurd first
       next (e ∷ es) first are =
           one_more o (p ∷ os) es e (subst (λ v. is_lt (slice_cmp nat_cmp v (word_at docs o)) ≡ false) (sym first) (up 0 o (omega arith) (omega arith))) are
@@ -196,7 +196,7 @@ module _ (docs : List Doc) where
     each = λ k d h. entry _ (all.each k d h);
     others = λ word none.
         let missed : filter (is_at docs word) places ≡ [] = all.missed word (none_is (λ entry. bytes_eq entry.word word) 0 (by_word docs places) (sym (position_from-zero (λ (entry : WordPlaces). bytes_eq entry.word word) (by_word docs places)) ∙ none)) in
-        let posted : postings word 0 rows ≡ [] = no_entry 0 (postings word 0 rows) (fits word) (sym (each word) ∙ ap (map (place_at docs)) missed) in
+        let posted : postings word 0 rows ≡ [] = no_entry 0 (postings word 0 rows) (fits word) (sym (each word) ∙ ap (map place_at) missed) in
         empty (rows_with word rows) (omega (arith, many word rows, ap length posted));
   }
     where
@@ -206,7 +206,7 @@ module _ (docs : List Doc) where
       fits : (w : List ℕ) → ArePostable 0 (postings w 0 rows)
       fits w = postable w 0 rows (omega (arith, few)) fields
 
-      each : (w : List ℕ) → map (place_at docs) (filter (is_at docs w) places) ≡ places_of (postings w 0 rows)
+      each : (w : List ℕ) → map place_at (filter (is_at docs w) places) ≡ places_of (postings w 0 rows)
       each w = order.each w ∙ ap (λ ds. places_of (postings w 0 (map (λ doc. row_of doc 0) ds))) (sym of) ∙ ap places_of (same_postings w 0 rows)
 
       entry : (e : WordPlaces) → IsAll places e → IsGathered rows e

@@ -1,5 +1,5 @@
 -- Occurrences as they are met, one word, field or document more at a time.
-use Rattle.std.proofs.Common.{◌≡◌, ℕ, ◌+◌, ◌<◌, ◌≤◌, ◌^◌, List, [], ◌∷◌, ◌++◌, refl, sym, ap, subst, ◌∙◌, length, drop, take, get_or, map, arith, append_assoc, append-nil, length-drop, length-take, All, zero, suc}
+use Rattle.std.proofs.Common.{◌≡◌, ℕ, ◌+◌, ◌<◌, ◌≤◌, List, [], ◌∷◌, ◌++◌, refl, sym, ap, subst, ◌∙◌, length, drop, take, get_or, map, arith, append_assoc, append-nil, length-drop, All, zero, suc}
 use Rattle.std.proofs.lemmas.List.Elements.{All-cons, All-head, All-tail}
 use Rattle.doc_types.specs.declared.documents.Doc.{Doc}
 use Rattle.doc_types.specs.declared.tokens.FieldTokens.{FieldTokens}

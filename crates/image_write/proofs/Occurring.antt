@@ -1,5 +1,5 @@
 -- All occurrences of words in documents: those of a word are its places, and each has its word's head.
-use Rattle.std.proofs.Common.{◌≡◌, ℕ, zero, suc, ◌+◌, ◌<◌, List, [], ◌∷◌, ◌++◌, Bool, true, false, cond, ◌||◌, Option, Some, None, refl, sym, ap, subst, ◌∙◌, length, arith, map, append-nil, All, slice_get}
+use Rattle.std.proofs.Common.{◌≡◌, ℕ, suc, ◌+◌, List, [], ◌∷◌, ◌++◌, true, false, cond, ◌||◌, Option, Some, refl, sym, ap, subst, ◌∙◌, arith, map, All, slice_get}
 use Rattle.std.specs.List.{filter, list_any, enumerate_from}
 use Rattle.std.specs.Option.{option_and_then, option_map_or}
 use Rattle.std.specs.Str.{bytes_eq}
@@ -16,12 +16,7 @@ use Rattle.image_write.specs.declared.gathering.Occurrence.{Occurrence}
 use Rattle.image_write.specs.Written.{row_of}
 use Rattle.image_write.specs.steps.Gathering.{Place, Entry, places_of}
 use Rattle.image_write.specs.steps.Heads.{IsRead, head}
-use Rattle.image_write.specs.steps.Places.{doc_places, docs_places, field_places, is_at, occurrence_of, place_at, position_at, token_at, word_at}
-
--- an occurrence has the head of its word, whose first bytes are bytes
-pub record HasHead (docs : List Doc) (o : Occurrence) : Type 0 where
-  pub is : o.head ≡ head (word_at docs o)
-  pub read : IsRead (word_at docs o)
+use Rattle.image_write.specs.steps.Places.{HasHead, doc_places, docs_places, field_places, is_at, occurrence_of, place_at, word_at}
 
 abbrev plain : Doc → DocRow
 plain doc = row_of doc 0
@@ -39,10 +34,6 @@ module _ (docs : List Doc) where
   unfolding word_at
   word_there row field number t e = ap (λ (o : Option TokenWord). option_map_or (λ token. token.word) o []) e
 
-  position_there : (row field number : ℕ) (t : TokenWord) → token_in docs row field number ≡ Some t → position_at docs (occurrence_of row field number t) ≡ t.position
-  unfolding position_at
-  position_there row field number t e = ap (λ (o : Option TokenWord). option_map_or (λ token. token.position) o 0) e
-
   first_token : (row field number : ℕ) (t : TokenWord) (ts : List TokenWord) → ((k : ℕ) → token_in docs row field (number + k) ≡ slice_get (t ∷ ts) k) → token_in docs row field number ≡ Some t
   first_token row field number t ts there = subst (λ n. token_in docs row field n ≡ Some t) (omega arith) (there 0)
 
@@ -51,7 +42,7 @@ module _ (docs : List Doc) where
 
   -- the occurrences in a field
   in_field : (w : List ℕ) (row field number : ℕ) (ts : List TokenWord) → ((k : ℕ) → token_in docs row field (number + k) ≡ slice_get ts k)
-      → map (place_at docs) (filter (is_at docs w) (field_places row field number ts)) ≡ map (λ position. (row, (field, position))) (map (λ (token : TokenWord). token.position) (filter (is_word w) ts))
+      → map place_at (filter (is_at docs w) (field_places row field number ts)) ≡ map (λ position. (row, (field, position))) (map (λ (token : TokenWord). token.position) (filter (is_word w) ts))
   in_field w row field number [] there = refl
   in_field w row field number (t ∷ ts) there =
       let here = first_token row field number t ts there in
@@ -61,9 +52,9 @@ module _ (docs : List Doc) where
       let its = filter (is_word w) ts in
       let place : ℕ → Place = λ position. (row, (field, position)) in
       let position : TokenWord → ℕ = λ token. token.position in
-      ap (λ v. map (place_at docs) (cond (bytes_eq v w) (o ∷ more) more)) (word_there row field number t here)
-      ∙ elim (bytes_eq t.word w) as (λ b. map (place_at docs) (cond b (o ∷ more) more) ≡ map place (map position (cond b (t ∷ its) its))) [
-        | true ↦ ap (λ p. place p ∷ map (place_at docs) more) (position_there row field number t here) ∙ ap (λ l. place t.position ∷ l) rest
+      ap (λ v. map place_at (cond (bytes_eq v w) (o ∷ more) more)) (word_there row field number t here)
+      ∙ elim (bytes_eq t.word w) as (λ b. map place_at (cond b (o ∷ more) more) ≡ map place (map position (cond b (t ∷ its) its))) [
+        | true ↦ ap (λ l. place t.position ∷ l) rest
         | false ↦ rest
       ]
 
@@ -88,7 +79,7 @@ module _ (docs : List Doc) where
   other_fields row field f fs there m k = subst (λ n. token_in docs row n k ≡ option_and_then (λ tokens. slice_get tokens.words k) (slice_get fs m)) (omega arith) (there (suc m) k)
 
   in_doc : (w : List ℕ) (row field : ℕ) (fs : List FieldTokens) → AreThere row field fs
-      → map (place_at docs) (filter (is_at docs w) (doc_places row field fs)) ≡ map (λ hit. (row, hit)) (parts field (positions_of w) fs)
+      → map place_at (filter (is_at docs w) (doc_places row field fs)) ≡ map (λ hit. (row, hit)) (parts field (positions_of w) fs)
   in_doc w row field [] there = refl
   in_doc w row field (f ∷ fs) there =
       let own = in_field w row field 0 f.words (first_field row field f fs there) in
@@ -97,9 +88,9 @@ module _ (docs : List Doc) where
       let others = doc_places row (field + 1) fs in
       let hit : ℕ × ℕ → Place = λ h. (row, h) in
       let in_own : ℕ → ℕ × ℕ = λ position. (field, position) in
-      ap (map (place_at docs)) (filter-append (is_at docs w) mine others)
-      ∙ map-append (place_at docs) (filter (is_at docs w) mine) (filter (is_at docs w) others)
-      ∙ ap (λ l. l ++ map (place_at docs) (filter (is_at docs w) others)) (own ∙ sym (twice hit in_own (positions_of w f)))
+      ap (map place_at) (filter-append (is_at docs w) mine others)
+      ∙ map-append place_at (filter (is_at docs w) mine) (filter (is_at docs w) others)
+      ∙ ap (λ l. l ++ map place_at (filter (is_at docs w) others)) (own ∙ sym (twice hit in_own (positions_of w f)))
       ∙ ap (λ l. map hit (map in_own (positions_of w f)) ++ l) rest
       ∙ sym (map-append hit (map in_own (positions_of w f)) (parts (field + 1) (positions_of w) fs))
 
@@ -146,7 +137,7 @@ module _ (docs : List Doc) where
   abbrev posted_from : List ℕ → ℕ → List Doc → List Entry
   posted_from w row ds = postings w row (map plain ds)
 
-  in_docs : (w : List ℕ) (row : ℕ) (ds : List Doc) → StandFrom row ds → map (place_at docs) (filter (is_at docs w) (docs_places row ds)) ≡ places_of (posted_from w row ds)
+  in_docs : (w : List ℕ) (row : ℕ) (ds : List Doc) → StandFrom row ds → map place_at (filter (is_at docs w) (docs_places row ds)) ≡ places_of (posted_from w row ds)
   in_docs w row [] there = refl
   in_docs w row (d ∷ ds) there =
       let own = in_doc w row 0 d.fields (first_doc row d ds there) in
@@ -156,9 +147,9 @@ module _ (docs : List Doc) where
       let hit : ℕ × ℕ → Place = λ h. (row, h) in
       let entry : ℕ × DocRow → Entry = λ e. (e.0, hits_of w e.1) in
       let more = filter (λ (e : ℕ × DocRow). has_word w e.1) (enumerate_from (row + 1) (map plain ds)) in
-      ap (map (place_at docs)) (filter-append (is_at docs w) mine others)
-      ∙ map-append (place_at docs) (filter (is_at docs w) mine) (filter (is_at docs w) others)
-      ∙ ap (λ l. l ++ map (place_at docs) (filter (is_at docs w) others)) own
+      ap (map place_at) (filter-append (is_at docs w) mine others)
+      ∙ map-append place_at (filter (is_at docs w) mine) (filter (is_at docs w) others)
+      ∙ ap (λ l. l ++ map place_at (filter (is_at docs w) others)) own
       ∙ ap (λ l. map hit (parts 0 (positions_of w) d.fields) ++ l) rest
       ∙ elim (has_word w (plain d)) as (λ b. has_word w (plain d) ≡ b → map hit (parts 0 (positions_of w) d.fields) ++ places_of (posted_from w (row + 1) ds) ≡ places_of (map entry (cond b ((row, plain d) ∷ more) more))) [
         | true ↦ λ has. refl
@@ -175,7 +166,7 @@ module _ (docs : List Doc) where
       (heads_in_doc row 0 d.fields (first_doc row d ds there) (All-head DocRead d ds read))
       (heads_in_docs (row + 1) ds (other_docs row d ds there) (All-tail DocRead d ds read))
 
-  pub places_each : (w : List ℕ) → map (place_at docs) (filter (is_at docs w) (docs_places 0 docs)) ≡ places_of (postings w 0 (map (λ doc. row_of doc 0) docs))
+  pub places_each : (w : List ℕ) → map place_at (filter (is_at docs w) (docs_places 0 docs)) ≡ places_of (postings w 0 (map (λ doc. row_of doc 0) docs))
   places_each w = in_docs w 0 docs (λ m. ap (slice_get docs) (omega arith))
 
   pub heads_all : All (λ doc. All (λ tokens. All (λ token. IsRead token.word) tokens.words) doc.fields) docs → All (HasHead docs) (docs_places 0 docs)

@@ -1,11 +1,11 @@
 -- Occurrences sorted by their order are sorted by their words, and those of each word stand as they stood before.
-use Rattle.std.proofs.Common.{◌≡◌, ℕ, zero, suc, ◌+◌, ◌%◌, ◌<◌, List, [], ◌∷◌, Bool, true, false, cond, not, ◌&&◌, ◌||◌, refl, sym, ap, subst, ◌∙◌, length, arith, get_or, map, All}
+use Rattle.std.proofs.Common.{◌≡◌, ℕ, ◌+◌, ◌%◌, ◌<◌, List, [], ◌∷◌, Bool, true, false, cond, not, ◌&&◌, ◌||◌, refl, sym, ap, subst, ◌∙◌, arith, map, All}
 use Rattle.std.specs.Cmp.{IsTotalOrder, IsStrictWeakOrder}
 use Rattle.std.specs.List.{filter, list_any}
 use Rattle.std.specs.List.Sorted.{IsPermutation, IsSortedBy, IsStableBy, ties}
 use Rattle.std.specs.Str.{bytes_eq}
 use Rattle.std.specs.Cmp.Lexicographic.{slice_cmp}
-use Rattle.std.specs.Ordering.{is_eq, is_lt, nat_cmp, on, ordering_reverse, ordering_then, then_cmp}
+use Rattle.std.specs.Ordering.{is_eq, is_lt, nat_cmp, ordering_reverse, ordering_then}
 use Rattle.std.specs.declared.cmp.Ordering.{Ordering}
 use Rattle.std.specs.declared.cmp.Ordering.TheVariants.{Less, Equal, Greater}
 use Rattle.std.proofs.lemmas.Bool.Decides.{nat_tests}
@@ -17,9 +17,9 @@ use Rattle.std.proofs.lemmas.Slice.Eq.{bytes_eq-Decides}
 use Rattle.doc_types.specs.declared.documents.Doc.{Doc}
 use Rattle.image_write.specs.declared.gathering.Occurrence.{Occurrence}
 use Rattle.image_write.specs.steps.Heads.{head, tells}
-use Rattle.image_write.specs.steps.Places.{AreInOrder, docs_places, is_at, order, place_at, rest_at, word_at}
+use Rattle.image_write.specs.steps.Places.{AreInOrder, HasHead, docs_places, is_at, order, place_at, rest_at, word_at}
 use Rattle.image_write.proofs.Beginnings.{heads_order, told}
-use Rattle.image_write.proofs.Occurring.{HasHead, places_each}
+use Rattle.image_write.proofs.Occurring.{places_each}
 
 -- lists of which each element has a property, by tests that agree there
 same_tests : {X : Type 0} (p q : X → Bool) (xs : List X) → All (λ x. p x ≡ q x) xs → filter p xs ≡ filter q xs
@@ -124,12 +124,12 @@ module _ (docs : List Doc) where
   clash : {b : Bool} → b ≡ true → b ≡ false → ⊥
   clash e f = cc
 
-  tie : (x y : Occurrence) → HasHead docs x → HasHead docs y → ties goes_before x y ≡ bytes_eq (word_at docs x) (word_at docs y)
-  tie x y has its =
+  -- equal in their order are occurrences of one word
+  equal_words : (x y : Occurrence) → HasHead docs x → HasHead docs y → is_eq (order docs x y) ≡ bytes_eq (word_at docs x) (word_at docs y)
+  equal_words x y has its =
       let v = word_at docs x in
       let w = word_at docs y in
-      ap (λ o. not (is_lt (order docs x y)) && not (is_lt o)) (total.antisymm y x)
-      ∙ tied (order docs x y) ∙ equal_part (nat_cmp x.head y.head) (slice_cmp nat_cmp (rest_at docs x) (rest_at docs y))
+      equal_part (nat_cmp x.head y.head) (slice_cmp nat_cmp (rest_at docs x) (rest_at docs y))
       ∙ ap (λ b. is_eq (nat_cmp x.head y.head) && b) (is_eq-slice_cmp (rest_at docs x) (rest_at docs y))
       ∙ elim (bytes_eq v w) as (λ b. bytes_eq v w ≡ b → (is_eq (nat_cmp x.head y.head) && bytes_eq (rest_at docs x) (rest_at docs y)) ≡ b) [
         | true ↦ λ same.
@@ -150,6 +150,12 @@ module _ (docs : List Doc) where
             ] refl)
             (λ o _. ap (λ p. is_eq p && bytes_eq (rest_at docs x) (rest_at docs y)) o)
       ] refl
+
+  tie : (x y : Occurrence) → HasHead docs x → HasHead docs y → ties goes_before x y ≡ bytes_eq (word_at docs x) (word_at docs y)
+  tie x y has its = ap (λ o. not (is_lt (order docs x y)) && not (is_lt o)) (total.antisymm y x) ∙ tied (order docs x y) ∙ equal_words x y has its
+
+  pub one_word : (x y : Occurrence) (o : Ordering) → HasHead docs x → HasHead docs y → o ≡ order docs x y → is_eq o ≡ bytes_eq (word_at docs x) (word_at docs y)
+  one_word x y o has its e = ap is_eq e ∙ equal_words x y has its
 
   turned : (v w : List ℕ) → bytes_eq v w ≡ bytes_eq w v
   turned v w =
@@ -182,5 +188,6 @@ module _ (docs : List Doc) where
       let its = All-permutation (HasHead docs) (docs_places 0 docs) new moved has in
       record {
         ascend = λ k d low high. not_before _ _ (its (k + 1) d high) (its k d (omega (arith, high))) (sorted k d low high);
-        each = λ w. ap (map (place_at docs)) (kept w (docs_places 0 docs) new moved stable has its (list_any (is_at docs w) (docs_places 0 docs)) refl) ∙ places_each docs w;
+        each = λ w. ap (map place_at) (kept w (docs_places 0 docs) new moved stable has its (list_any (is_at docs w) (docs_places 0 docs)) refl) ∙ places_each docs w;
+        heads = its;
       }

@@ -1,14 +1,17 @@
 //! The words of some documents, each at its places: every occurrence of a word, sorted by the words.
 //!
-//! An occurrence takes 16 bytes, and tells its word by the place where that stands; nothing is copied. The sort is stable, so that
-//! the places of one word stay in the order of rows, fields and positions, in which they are met.
+//! An occurrence takes 24 bytes, and tells its word by that word's head and the place where it stands; nothing is copied. A document
+//! is read once, in its order: behind that its words are looked up only where their heads don't tell them, since to go back to them
+//! in the order of the words means to wait for memory at each. The sort is stable, so that the places of one word stay in the order
+//! of rows, fields and positions, in which they are met.
 ghost use Rattle.std.specs.Prelude.{◌≡◌, ◌<◌, ◌^◌, ◌++◌, ℕ, List, All, OnOk, IfOk, length, map};
 ghost use Rattle.std.specs.Option.{option_copied};
 ghost use Rattle.std.specs.Ordering.{nat_cmp};
+ghost use Rattle.std.specs.Str.{bytes_eq};
 ghost use Rattle.std.specs.Cmp.Lexicographic.{slice_cmp};
 ghost use Rattle.doc_types.specs.declared.documents.Doc.{Doc as AnyDoc};
 ghost use Rattle.image_write.specs.steps.Heads.{IsRead};
-ghost use Rattle.image_write.specs.steps.Places.{AreFew, AreInOrder, HasFewWords, doc_places, docs_places, field_places, order, position_at, token_at, word_at};
+ghost use Rattle.image_write.specs.steps.Places.{AreFew, AreInOrder, HasFewWords, HasHead, doc_places, docs_places, field_places, order, token_at, word_at};
 
 use crate::heads::{head_of, tells};
 use crate::lending::LendsDoc;
@@ -24,6 +27,8 @@ pub(crate) struct Occurrence {
     pub(crate) head: u64,
     /// The number of its document.
     pub(crate) row: u32,
+    /// Its position in the field.
+    pub(crate) position: u32,
     /// The number of its field there.
     pub(crate) field: u16,
     /// Which of the field's words it is, from 0.
@@ -90,6 +95,7 @@ fn add_field(
         places.push(Occurrence {
             head: head_of(token.word.as_bytes()),
             row,
+            position: token.position,
             field,
             token: number as u16,
         })?;
@@ -115,7 +121,18 @@ fn order_of<R: LendsDoc>(rows: &[R], a: &Occurrence, b: &Occurrence) -> Ordering
     }
 }
 
-/// The same by the words themselves. Out of line, so that the sort's own loops stay small.
+/// Whether two occurrences are of one word.
+#[inline]
+#[tactic(auto, using(crate::proofs::Ordered::one_word))]
+pub(crate) fn are_of_one<R: LendsDoc>(rows: &[R], a: &Occurrence, b: &Occurrence) -> bool
+    requires a { HasHead (map R.lent rows.now) a.now }
+    requires b { HasHead (map R.lent rows.now) b.now }
+    ensures { result ≡ bytes_eq (word_at (map R.lent rows.now) a.now) (word_at (map R.lent rows.now) b.now) }
+{
+    order_of(rows, a, b).is_eq()
+}
+
+/// The order of two occurrences by the words themselves. Out of line, so that the sort's own loops stay small.
 #[inline(never)]
 fn words_order<R: LendsDoc>(rows: &[R], a: &Occurrence, b: &Occurrence) -> Ordering
     ensures { result ≡ slice_cmp nat_cmp (word_at (map R.lent rows.now) a.now) (word_at (map R.lent rows.now) b.now) }
@@ -132,18 +149,6 @@ pub(crate) fn word_of<'a, R: LendsDoc>(rows: &'a [R], place: &Occurrence) -> &'a
     match token_of(rows, place) {
         Some(token) => token.word.as_bytes(),
         None => &[],
-    }
-}
-
-/// The position of an occurrence in its field.
-#[inline]
-#[tactic(auto, unfolding(crate::specs::steps::Places::position_at))]
-pub(crate) fn position_of<R: LendsDoc>(rows: &[R], place: &Occurrence) -> u32
-    ensures { result ≡ position_at (map R.lent rows.now) place.now }
-{
-    match token_of(rows, place) {
-        Some(token) => token.position,
-        None => 0,
     }
 }
 

@@ -5,9 +5,9 @@ ghost use Rattle.doc_types.specs.declared.documents.DocRow.{DocRow as AnyRow};
 ghost use Rattle.chunk_image.specs.ChunkImage.{dictionary_bytes, postings_bytes, table_bytes, word_bytes};
 ghost use Rattle.posting_codec.specs.PostingLists.{posting_list};
 ghost use Rattle.image_write.specs.steps.Gathering.{ArePostable, CanPost, IsGathered, grouped};
-ghost use Rattle.image_write.specs.steps.Places.{by_word, word_at};
+ghost use Rattle.image_write.specs.steps.Places.{HasHead, by_word, word_at};
 
-use crate::gathering::{Occurrence, position_of, word_of};
+use crate::gathering::{Occurrence, are_of_one, word_of};
 use crate::image::place_in;
 use crate::lending::LendsDoc;
 use crate::lists::{Place, put_list};
@@ -27,6 +27,7 @@ pub(crate) fn put_words<R: LendsDoc>(
 ) -> Result<usize, NoMemory>
     requires no_word { dictionary.old.items ≡ [] }
     requires no_list { postings.old.items ≡ [] }
+    requires heads { All (HasHead (map R.lent rows.now)) places.now }
     requires posted { All CanPost (by_word (map R.lent rows.now) places.now) }
     ensures table { OnOk result ((all : List AnyRow) → All (IsGathered all) (by_word (map R.lent rows.now) places.now) → table.new.items ≡ table.old.items ++ table_bytes all 0 0 (map (λ entry. entry.word) (by_word (map R.lent rows.now) places.now))) }
     ensures dictionary { OnOk result (dictionary.new.items ≡ dictionary_bytes (map (λ entry. entry.word) (by_word (map R.lent rows.now) places.now))) }
@@ -40,7 +41,7 @@ pub(crate) fn put_words<R: LendsDoc>(
     while at < places.len() {
         let word = word_of(rows, &places[at]);
         group.clear();
-        let taken = take_word(rows, word, &places[at..], &mut group)?;
+        let taken = take_word(rows, &places[at], &places[at..], &mut group)?;
         put_word(word, &group, &mut hits, table, dictionary, postings)?;
         at += taken;
         count += 1;
@@ -48,24 +49,26 @@ pub(crate) fn put_words<R: LendsDoc>(
     Ok(count)
 }
 
-/// Appends the places of the first occurrences, which are of this word, and gives the number of these occurrences.
+/// Appends the places of the first occurrences, which are of the word of this one, and gives the number of these occurrences.
 fn take_word<R: LendsDoc>(
     rows: &[R],
-    word: &[u8],
+    first: &Occurrence,
     places: &[Occurrence],
     group: &mut Vec<Place>,
 ) -> Result<usize, NoMemory>
     requires none { group.old.items ≡ [] }
-    requires first { IsSomeAnd (slice_get places.now 0) (λ place. word_at (map R.lent rows.now) place ≡ word.now) }
+    requires head { HasHead (map R.lent rows.now) first.now }
+    requires heads { All (HasHead (map R.lent rows.now)) places.now }
+    requires first { IsSomeAnd (slice_get places.now 0) (λ place. word_at (map R.lent rows.now) place ≡ word_at (map R.lent rows.now) first.now) }
     ensures some { IfOk result (λ count. 1 ≤ count) }
     ensures within { IfOk result (λ count. count ≤ length places.now) }
-    ensures word { IfOk result (λ count. by_word (map R.lent rows.now) places.now ≡ record { word = word.now; places = group.new.items } ∷ by_word (map R.lent rows.now) (drop count places.now)) }
+    ensures word { IfOk result (λ count. by_word (map R.lent rows.now) places.now ≡ record { word = word_at (map R.lent rows.now) first.now; places = group.new.items } ∷ by_word (map R.lent rows.now) (drop count places.now)) }
 {
     for (number, place) in places.iter().enumerate() {
-        if word_of(rows, place) != word {
+        if !are_of_one(rows, place, first) {
             return Ok(number);
         }
-        group.push((place.row, (place.field, position_of(rows, place))))?;
+        group.push((place.row, (place.field, place.position)))?;
     }
     Ok(places.len())
 }

@@ -14,20 +14,22 @@ use Rattle.row_laws.specs.AlikeRows.{postings}
 use Rattle.image_write.specs.declared.gathering.Occurrence.{Occurrence}
 use Rattle.image_write.specs.Written.{row_of}
 use Rattle.image_write.specs.steps.Gathering.{Place, WordPlaces, places_of}
-use Rattle.image_write.specs.steps.Heads.{head, tells}
+use Rattle.image_write.specs.steps.Heads.{IsRead, head, tells}
 
--- the token that an occurrence tells, and its word, position and place
+-- the token that an occurrence tells, its word, and its place
 abbrev pub token_at : List Doc → Occurrence → Option TokenWord
 token_at docs o = option_and_then (λ doc. option_and_then (λ tokens. slice_get tokens.words o.token) (slice_get doc.fields o.field)) (slice_get docs o.row)
 
 unfoldable pub word_at : List Doc → Occurrence → List ℕ
 word_at docs o = option_map_or (λ token. token.word) (token_at docs o) []
 
-unfoldable pub position_at : List Doc → Occurrence → ℕ
-position_at docs o = option_map_or (λ token. token.position) (token_at docs o) 0
+abbrev pub place_at : Occurrence → Place
+place_at o = (o.row, (o.field, o.position))
 
-abbrev pub place_at : List Doc → Occurrence → Place
-place_at docs o = (o.row, (o.field, position_at docs o))
+-- an occurrence has the head of its word, whose first bytes are bytes
+pub record HasHead (docs : List Doc) (o : Occurrence) : Type 0 where
+  pub is : o.head ≡ head (word_at docs o)
+  pub read : IsRead (word_at docs o)
 
 -- the occurrence is one of this word
 abbrev pub is_at : List Doc → List ℕ → Occurrence → Bool
@@ -43,7 +45,7 @@ order docs a b = ordering_then (nat_cmp a.head b.head) (slice_cmp nat_cmp (rest_
 
 -- all occurrences of a field's words, of which the first is this one of them, of a document's fields, and of documents
 abbrev pub occurrence_of : ℕ → ℕ → ℕ → TokenWord → Occurrence
-occurrence_of row field number token = record { head = head token.word; row = row; field = field; token = number }
+occurrence_of row field number token = record { head = head token.word; row = row; position = token.position; field = field; token = number }
 
 abbrev pub field_places : ℕ → ℕ → ℕ → List TokenWord → List Occurrence
 field_places row field number [] = []
@@ -65,12 +67,13 @@ with_place word place (entry ∷ entries) = if bytes_eq word entry.word then rec
 -- occurrences by their words
 abbrev pub by_word : List Doc → List Occurrence → List WordPlaces
 by_word docs [] = []
-by_word docs (o ∷ os) = with_place (word_at docs o) (place_at docs o) (by_word docs os)
+by_word docs (o ∷ os) = with_place (word_at docs o) (place_at o) (by_word docs os)
 
--- occurrences sorted by their words: those of each word are its places, in their order
+-- occurrences sorted by their words: those of each word are its places, in their order, and each tells its word's head
 pub record AreInOrder (docs : List Doc) (places : List Occurrence) : Type 0 where
   pub ascend : IsSortedBy (λ a b. is_lt (slice_cmp nat_cmp (word_at docs a) (word_at docs b))) places
-  pub each : (word : List ℕ) → map (place_at docs) (filter (is_at docs word) places) ≡ places_of (postings word 0 (map (λ doc. row_of doc 0) docs))
+  pub each : (word : List ℕ) → map place_at (filter (is_at docs word) places) ≡ places_of (postings word 0 (map (λ doc. row_of doc 0) docs))
+  pub heads : All (HasHead docs) places
 
 -- fields and words that numbers of 16 bits can tell
 pub record HasFewWords (tokens : FieldTokens) : Type 0 where

@@ -1,4 +1,4 @@
-use Rattle.std.proofs.Common.{◌≡◌, ◌++◌, ℕ, rules, arith, ap, subst, ◌∙◌, List, map, All}
+use Rattle.std.proofs.Common.{◌≡◌, ◌++◌, ℕ, rules, arith, ap, subst, ◌∙◌, List}
 use Rattle.doc_types.specs.declared.documents.Doc.{Doc}
 use Rattle.doc_types.specs.declared.documents.DocRow.{DocRow}
 use Rattle.chunk_image.specs.Marks.{row_marks}

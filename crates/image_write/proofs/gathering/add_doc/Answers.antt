@@ -1,4 +1,4 @@
-use Rattle.std.proofs.Common.{◌≡◌, ◌++◌, rules, arith, refl, ap, subst, ◌∙◌, All}
+use Rattle.std.proofs.Common.{◌++◌, rules, arith, refl, ap, subst, ◌∙◌, All}
 use Rattle.doc_types.specs.declared.tokens.FieldTokens.{FieldTokens}
 use Rattle.image_write.specs.steps.Heads.{IsRead}
 use Rattle.image_write.specs.steps.Places.{doc_places}

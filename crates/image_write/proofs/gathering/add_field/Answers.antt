@@ -1,7 +1,7 @@
-use Rattle.std.proofs.Common.{◌≡◌, ◌++◌, rules, arith, refl, ap, sym, subst, ◌∙◌, All}
+use Rattle.std.proofs.Common.{◌++◌, rules, arith, refl, ap, subst, ◌∙◌, All}
 use Rattle.doc_types.specs.declared.tokens.TokenWord.{TokenWord}
-use Rattle.image_write.specs.steps.Heads.{IsRead, head}
-use Rattle.image_write.specs.steps.Places.{field_places, occurrence_of}
+use Rattle.image_write.specs.steps.Heads.{IsRead}
+use Rattle.image_write.specs.steps.Places.{field_places}
 use Rattle.image_write.proofs.Columned.{all_more}
 use Rattle.image_write.proofs.Meeting.{all_met, all_taken, word_more}
 use Rattle.image_write.proofs.gathering.add_field.Goals as goal

@@ -1,7 +1,7 @@
-use Rattle.std.proofs.Common.{◌≡◌, ◌++◌, rules, arith, refl, ap, sym, subst, ◌∙◌, All, map}
+use Rattle.std.proofs.Common.{rules, arith, refl, sym, subst, All, map}
 use Rattle.doc_types.specs.declared.documents.Doc.{Doc}
 use Rattle.image_write.specs.steps.Heads.{IsRead}
-use Rattle.image_write.specs.steps.Places.{AreFew, doc_places, docs_places}
+use Rattle.image_write.specs.steps.Places.{AreFew, docs_places}
 use Rattle.image_write.proofs.Columned.{all_more}
 use Rattle.image_write.proofs.Meeting.{all_lent, all_met, doc_more, lent_at}
 use Rattle.image_write.proofs.gathering.add_rows.Goals as goal

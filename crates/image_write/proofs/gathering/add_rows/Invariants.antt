@@ -1,5 +1,4 @@
 use Rattle.std.proofs.Common.{◌≡◌, ◌++◌, All, drop, map, take}
-use Rattle.doc_types.specs.declared.documents.Doc.{Doc}
 use Rattle.image_write.specs.steps.Heads.{IsRead}
 use Rattle.image_write.specs.steps.Places.{docs_places}
 use Rattle.image_write.proofs.gathering.add_rows.Given as goal

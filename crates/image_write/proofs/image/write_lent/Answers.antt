@@ -7,7 +7,7 @@ use Rattle.image_write.specs.declared.image.Counts.{Counts}
 use Rattle.image_write.specs.Written.{row_of}
 use Rattle.image_write.specs.steps.Gathering.{AreGathered, CanPost, IsGathered, WordPlaces}
 use Rattle.image_write.specs.Headers.{counted}
-use Rattle.image_write.specs.steps.Places.{by_word}
+use Rattle.image_write.specs.steps.Places.{HasHead, by_word}
 use Rattle.image_write.proofs.Tabled.{word_of}
 use Rattle.image_write.proofs.Assembled.{AreCounts, assembled, can_post}
 use Rattle.image_write.proofs.Lent.{as_many, docs_are, docs_lent, few_lent}
@@ -23,6 +23,9 @@ gather-requires-clause-fields g c =
 
 pub put_rows-requires-clause-rows : goal.put_rows-requires-clause-rows
 put_rows-requires-clause-rows g c = (c.requires.0, c.requires.1.limits, docs_lent g.R.LendsDoc.lent (g.R.LendsDoc.born_at c.args.number) c.requires.0 c.args.rows.now c.requires.1.of.docs)
+
+pub put_words-requires-clause-heads : goal.put_words-requires-clause-heads
+put_words-requires-clause-heads g c = subst (All (HasHead (map g.R.LendsDoc.lent c.args.rows.now))) (sym c.deref.ensures.value) c.in_ok-places.ensures.heads
 
 pub put_words-requires-clause-posted : goal.put_words-requires-clause-posted
 put_words-requires-clause-posted g c =
