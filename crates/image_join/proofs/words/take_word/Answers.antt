@@ -42,3 +42,11 @@ take_from-requires-clause-front g c =
     let stands : StandsAt last part (next_at c.loop-number.nexts i) =
     subst (StandsAt last part) (sym (c.loop-number.invariant.later i (omega arith))) (subst (λ p. StandsAt last p (next_at c.args.nexts.now i)) (sym here) (c.requires.stand.1.each i c.loop-number-test.true)) in
     stands.front
+
+pub take_from-requires-clause-words : goal.take_from-requires-clause-words
+take_from-requires-clause-words g c =
+    let parts : List PartValue = c.args.parts.now in
+    let i = c.loop-number.number in
+    let part = c.index-parts-number.result in
+    let here : part ≡ part_at parts i = c.index-parts-number.is ∙ get_or_default parts i part blank_part c.loop-number-test.true in
+    subst (λ (p : PartValue). AreWordsOf p.rows p.words) (sym here) (c.requires.words i blank_part c.loop-number-test.true)
