@@ -2,7 +2,8 @@
 //!
 //! Where the positions of a field's hits ascend, as evaluation gives them, only 255 offsets can come again at any time: those just
 //! below the position that was reached. So their counts have places in a ring of 256, and the time is linear in the hits, however
-//! long a field can be. Hits in any other order are counted for each offset anew.
+//! long a field can be. Hits in any other order are counted for each offset anew, and so are a few hits, for which a ring isn't
+//! worth its clearing.
 ghost use Rattle.std.specs.Prelude.{◌≡◌, ℕ, ◌+◌, ◌<◌, ◌%◌, ◌==◌, ◌&&◌, length, slice_set, IfSome};
 ghost use Rattle.std.specs.List.{filter};
 ghost use Rattle.rankers.specs.Weight.{in_field, lcs, same_offset};
@@ -17,11 +18,17 @@ const MOST_QUERY: u32 = 255;
 /// How many places the ring has: more than there are offsets that hits at one position can have.
 const RING: u32 = 256;
 
+/// So many hits at most are few.
+const FEW: usize = 6;
+
 /// The most hits of the field that stand at one offset.
 pub(crate) fn longest(hits: &[Hit], field: u16) -> u64
     requires { AreWithin hits.now }
     ensures { result ≡ lcs (in_field field hits.now) }
 {
+    if hits.len() <= FEW {
+        return longest_in_any_order(hits, field);
+    }
     match longest_in_order(hits, field) {
         Some(most) => most,
         None => longest_in_any_order(hits, field),
