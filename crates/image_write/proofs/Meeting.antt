@@ -73,10 +73,10 @@ within before (word ∷ words) follow positions low =
     some_step gaps.Paragraph = omega arith
 
 pub few_words : (tokens : FieldTokens) → IsField tokens → HasFewWords tokens
-few_words tokens field = record { few = omega (arith, within 0 tokens.words field.placed.follow field.within (omega arith)) }
+few_words tokens field = record { few = omega (arith, within 0 tokens.words field.placed.follow field.within (omega arith)); within = λ k d h. omega (arith, field.within k d h) }
 
 pub are_few : (doc : Doc) → length doc.fields ≤ 32 → All IsField doc.fields → AreFew doc
-are_few doc few are = record { few = omega (arith, few); words = λ k d h. few_words _ (are k d h) }
+are_few doc few are = record { few = few; words = λ k d h. few_words _ (are k d h) }
 
 -- each of what is lent has a property
 pub all_lent : {X Y : Type 0} (P : Y → Type 0) (f : X → Y) (xs : List X) (i : ℕ) → length xs ≤ i → All (λ x. P (f x)) (take i xs) → All P (map f xs)

@@ -17,7 +17,7 @@ use Rattle.std.proofs.lemmas.Slice.Eq.{bytes_eq-Decides}
 use Rattle.doc_types.specs.declared.documents.Doc.{Doc}
 use Rattle.image_write.specs.declared.gathering.Occurrence.{Occurrence}
 use Rattle.image_write.specs.steps.Heads.{head, tells}
-use Rattle.image_write.specs.steps.Places.{AreInOrder, HasHead, docs_places, is_at, order, place_at, rest_at, word_at}
+use Rattle.image_write.specs.steps.Places.{AreFew, AreInOrder, HasHead, docs_places, is_at, order, place_at, rest_at, word_at}
 use Rattle.image_write.proofs.Beginnings.{heads_order, told}
 use Rattle.image_write.proofs.Occurring.{places_each}
 
@@ -183,11 +183,11 @@ module _ (docs : List Doc) where
       ∙ stable x
       ∙ sym (same_tests (is_at docs w) (ties goes_before x) old (λ k d h. word_ties w x _ found.1 found.2 (has k d h)))
 
-  pub in_order : (new : List Occurrence) → IsPermutation (docs_places 0 docs) new → IsStableBy goes_before (docs_places 0 docs) new → IsSortedBy goes_before new → All (HasHead docs) (docs_places 0 docs) → AreInOrder docs new
-  in_order new moved stable sorted has =
+  pub in_order : (new : List Occurrence) → IsPermutation (docs_places 0 docs) new → IsStableBy goes_before (docs_places 0 docs) new → IsSortedBy goes_before new → All AreFew docs → All (HasHead docs) (docs_places 0 docs) → AreInOrder docs new
+  in_order new moved stable sorted few has =
       let its = All-permutation (HasHead docs) (docs_places 0 docs) new moved has in
       record {
         ascend = λ k d low high. not_before _ _ (its (k + 1) d high) (its k d (omega (arith, high))) (sorted k d low high);
-        each = λ w. ap (map place_at) (kept w (docs_places 0 docs) new moved stable has its (list_any (is_at docs w) (docs_places 0 docs)) refl) ∙ places_each docs w;
+        each = λ w. ap (map place_at) (kept w (docs_places 0 docs) new moved stable has its (list_any (is_at docs w) (docs_places 0 docs)) refl) ∙ places_each docs few w;
         heads = its;
       }

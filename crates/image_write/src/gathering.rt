@@ -1,10 +1,10 @@
 //! The words of some documents, each at its places: every occurrence of a word, sorted by the words.
 //!
-//! An occurrence takes 24 bytes, and tells its word by that word's head and the place where it stands; nothing is copied. A document
+//! An occurrence takes 16 bytes, and tells its word by that word's head and the place where it stands; nothing is copied. A document
 //! is read once, in its order: behind that its words are looked up only where their heads don't tell them, since to go back to them
 //! in the order of the words means to wait for memory at each. The sort is stable, so that the places of one word stay in the order
 //! of rows, fields and positions, in which they are met.
-ghost use Rattle.std.specs.Prelude.{◌≡◌, ◌<◌, ◌^◌, ◌++◌, ℕ, List, All, OnOk, IfOk, length, map};
+ghost use Rattle.std.specs.Prelude.{◌≡◌, ◌<◌, ◌/◌, ◌%◌, ◌^◌, ◌++◌, ℕ, List, All, OnOk, IfOk, length, map};
 ghost use Rattle.std.specs.Option.{option_copied};
 ghost use Rattle.std.specs.Ordering.{nat_cmp};
 ghost use Rattle.std.specs.Str.{bytes_eq};
@@ -25,22 +25,46 @@ use std::cmp::Ordering;
 pub(crate) struct Occurrence {
     /// The word's first seven bytes and its length, as a number.
     pub(crate) head: u64,
-    /// The number of its document.
-    pub(crate) row: u32,
-    /// Its position in the field.
-    pub(crate) position: u32,
-    /// The number of its field there.
-    pub(crate) field: u16,
+    /// Its document and its field there, as one number: a document has 32 of them.
+    pub(crate) stand: u32,
     /// Which of the field's words it is, from 0.
     pub(crate) token: u16,
+    /// Its position in the field.
+    pub(crate) position: u16,
+}
+
+/// The most fields that a document has.
+const FIELDS: u32 = 32;
+
+/// The most documents whose occurrences are told. An image of more would be longer than any may be.
+const MOST_DOCS: usize = 1 << 27;
+
+impl Occurrence {
+    /// The number of its document.
+    #[inline]
+    pub(crate) fn row(&self) -> u32
+        ensures { result ≡ self.now.stand / 32 }
+    {
+        self.stand / FIELDS
+    }
+
+    /// The number of its field there.
+    #[inline]
+    pub(crate) fn field(&self) -> u16
+        ensures { result ≡ self.now.stand % 32 }
+    {
+        (self.stand % FIELDS) as u16
+    }
 }
 
 /// All occurrences of words in some documents, by their words.
 pub(crate) fn gather<R: LendsDoc>(alloc: Global, rows: &[R]) -> Result<Vec<Occurrence>, NoMemory>
-    requires few { length rows.now < 2 ^ 32 }
-    requires fields { All AreFew (map R.lent rows.now) }
+    requires { All AreFew (map R.lent rows.now) }
     ensures { IfOk result (λ places. AreInOrder (map R.lent rows.now) places.items) }
 {
+    if rows.len() >= MOST_DOCS {
+        return Err(NoMemory);
+    }
     let mut places = Vec::with_capacity(alloc, room_for(rows))?;
     add_rows(rows, &mut places)?;
     places.sort_by(|a, b| order_of(rows, a, b))?;
@@ -59,7 +83,7 @@ fn room_for<R: LendsDoc>(rows: &[R]) -> usize {
 }
 
 fn add_rows<R: LendsDoc>(rows: &[R], places: &mut Vec<Occurrence>) -> Result<(), NoMemory>
-    requires few { length rows.now < 2 ^ 32 }
+    requires few { length rows.now < 2 ^ 27 }
     requires fields { All AreFew (map R.lent rows.now) }
     ensures places { OnOk result (places.new.items ≡ places.old.items ++ docs_places 0 (map R.lent rows.now)) }
     ensures bytes { OnOk result (All (λ doc. All (λ tokens. All (λ token. IsRead token.word) tokens.words) doc.fields) (map R.lent rows.now)) }
@@ -71,7 +95,8 @@ fn add_rows<R: LendsDoc>(rows: &[R], places: &mut Vec<Occurrence>) -> Result<(),
 }
 
 fn add_doc(row: u32, doc: &Doc, places: &mut Vec<Occurrence>) -> Result<(), NoMemory>
-    requires { AreFew doc.now }
+    requires row { row < 2 ^ 27 }
+    requires few { AreFew doc.now }
     ensures places { OnOk result (places.new.items ≡ places.old.items ++ doc_places row 0 doc.now.fields) }
     ensures bytes { OnOk result (All (λ tokens. All (λ token. IsRead token.word) tokens.words) doc.now.fields) }
 {
@@ -87,17 +112,18 @@ fn add_field(
     tokens: &FieldTokens,
     places: &mut Vec<Occurrence>,
 ) -> Result<(), NoMemory>
-    requires { HasFewWords tokens.now }
+    requires row { row < 2 ^ 27 }
+    requires field { field < 32 }
+    requires few { HasFewWords tokens.now }
     ensures places { OnOk result (places.new.items ≡ places.old.items ++ field_places row field 0 tokens.now.words) }
     ensures bytes { OnOk result (All (λ token. IsRead token.word) tokens.now.words) }
 {
     for (number, token) in tokens.words.as_slice().iter().enumerate() {
         places.push(Occurrence {
             head: head_of(token.word.as_bytes()),
-            row,
-            position: token.position,
-            field,
+            stand: row * FIELDS + u32::from(field),
             token: number as u16,
+            position: token.position as u16,
         })?;
     }
     Ok(())
@@ -156,7 +182,7 @@ pub(crate) fn word_of<'a, R: LendsDoc>(rows: &'a [R], place: &Occurrence) -> &'a
 fn token_of<'a, R: LendsDoc>(rows: &'a [R], place: &Occurrence) -> Option<&'a TokenWord>
     ensures { option_copied result ≡ token_at (map R.lent rows.now) place.now }
 {
-    let row = rows.get(place.row as usize)?;
-    let tokens = row.doc().fields.as_slice().get(place.field as usize)?;
+    let row = rows.get(place.row() as usize)?;
+    let tokens = row.doc().fields.as_slice().get(place.field() as usize)?;
     tokens.words.as_slice().get(place.token as usize)
 }

@@ -68,7 +68,7 @@ fn take_word<R: LendsDoc>(
         if !are_of_one(rows, place, first) {
             return Ok(number);
         }
-        group.push((place.row, (place.field, place.position)))?;
+        group.push((place.row(), (place.field(), u32::from(place.position))))?;
     }
     Ok(places.len())
 }

@@ -1,5 +1,5 @@
 -- Occurrences of words in documents: what each tells, how they are ordered, and what those of one word are.
-use Rattle.std.specs.Prelude.{◌≡◌, ◌<◌, ◌+◌, ◌^◌, ℕ, List, [], ◌∷◌, ◌++◌, Bool, Option, length, map, slice_get, All, if◌then◌else◌}
+use Rattle.std.specs.Prelude.{◌≡◌, ◌<◌, ◌≤◌, ◌+◌, ◌*◌, ◌/◌, ◌%◌, ◌^◌, ℕ, List, [], ◌∷◌, ◌++◌, Bool, Option, length, map, slice_get, All, if◌then◌else◌}
 use Rattle.std.specs.List.{filter}
 use Rattle.std.specs.List.Sorted.{IsSortedBy}
 use Rattle.std.specs.Option.{option_and_then, option_map_or}
@@ -16,15 +16,18 @@ use Rattle.image_write.specs.Written.{row_of}
 use Rattle.image_write.specs.steps.Gathering.{Place, WordPlaces, places_of}
 use Rattle.image_write.specs.steps.Heads.{IsRead, head, tells}
 
--- the token that an occurrence tells, its word, and its place
+-- the token at these numbers, that which an occurrence tells, its word, and its place
+abbrev pub token_in : List Doc → ℕ → ℕ → ℕ → Option TokenWord
+token_in docs row field number = option_and_then (λ doc. option_and_then (λ tokens. slice_get tokens.words number) (slice_get doc.fields field)) (slice_get docs row)
+
 abbrev pub token_at : List Doc → Occurrence → Option TokenWord
-token_at docs o = option_and_then (λ doc. option_and_then (λ tokens. slice_get tokens.words o.token) (slice_get doc.fields o.field)) (slice_get docs o.row)
+token_at docs o = token_in docs (o.stand / 32) (o.stand % 32) o.token
 
 unfoldable pub word_at : List Doc → Occurrence → List ℕ
 word_at docs o = option_map_or (λ token. token.word) (token_at docs o) []
 
 abbrev pub place_at : Occurrence → Place
-place_at o = (o.row, (o.field, o.position))
+place_at o = (o.stand / 32, (o.stand % 32, o.position))
 
 -- an occurrence has the head of its word, whose first bytes are bytes
 pub record HasHead (docs : List Doc) (o : Occurrence) : Type 0 where
@@ -45,7 +48,7 @@ order docs a b = ordering_then (nat_cmp a.head b.head) (slice_cmp nat_cmp (rest_
 
 -- all occurrences of a field's words, of which the first is this one of them, of a document's fields, and of documents
 abbrev pub occurrence_of : ℕ → ℕ → ℕ → TokenWord → Occurrence
-occurrence_of row field number token = record { head = head token.word; row = row; position = token.position; field = field; token = number }
+occurrence_of row field number token = record { head = head token.word; stand = row * 32 + field; token = number; position = token.position }
 
 abbrev pub field_places : ℕ → ℕ → ℕ → List TokenWord → List Occurrence
 field_places row field number [] = []
@@ -75,10 +78,11 @@ pub record AreInOrder (docs : List Doc) (places : List Occurrence) : Type 0 wher
   pub each : (word : List ℕ) → map place_at (filter (is_at docs word) places) ≡ places_of (postings word 0 (map (λ doc. row_of doc 0) docs))
   pub heads : All (HasHead docs) places
 
--- fields and words that numbers of 16 bits can tell
+-- fields, words and positions that an occurrence can tell
 pub record HasFewWords (tokens : FieldTokens) : Type 0 where
   pub few : length tokens.words < 2 ^ 16
+  pub within : All (λ word. word.position < 2 ^ 16) tokens.words
 
 pub record AreFew (doc : Doc) : Type 0 where
-  pub few : length doc.fields < 2 ^ 16
+  pub few : length doc.fields ≤ 32
   pub words : All HasFewWords doc.fields

@@ -6,8 +6,8 @@ use Rattle.image_write.proofs.Columned.{all_more}
 use Rattle.image_write.proofs.Meeting.{all_lent, all_met, doc_more, lent_at}
 use Rattle.image_write.proofs.gathering.add_rows.Goals as goal
 
-pub add_doc-requires : goal.add_doc-requires
-add_doc-requires g c = subst AreFew (sym c.doc.ensures) (lent_at AreFew g.R.LendsDoc.lent c.args.rows.now c.loop-number.number c.index-rows-number.result (omega arith) (search rules) c.requires.fields)
+pub add_doc-requires-clause-few : goal.add_doc-requires-clause-few
+add_doc-requires-clause-few g c = subst AreFew (sym c.doc.ensures) (lent_at AreFew g.R.LendsDoc.lent c.args.rows.now c.loop-number.number c.index-rows-number.result (omega arith) (search rules) c.requires.fields)
 
 pub loop-number-preserved : goal.loop-number-preserved
 loop-number-preserved g c =

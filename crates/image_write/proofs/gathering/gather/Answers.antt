@@ -16,4 +16,4 @@ returns g c =
     (subst (λ (l : List Occurrence). IsPermutation l sorted) met c.sort_by.ensures.permutation)
     (subst (λ (l : List Occurrence). IsStableBy (goes_before docs) l sorted) met (c.sort_by.ensures.stable (goes_before docs) (ranks docs) (always_returns_same _ _ _ (λ a r f k. search rules))))
     (c.in_ok-sort_by.ensures.sorted (goes_before docs) (ranks docs) (always_returns_same _ _ _ (λ a r f k. search rules)))
-    (heads_all docs c.in_ok-add_rows.ensures.bytes)
+    c.requires (heads_all docs c.requires c.in_ok-add_rows.ensures.bytes)

@@ -14,8 +14,8 @@ use Rattle.image_write.proofs.Lent.{as_many, docs_are, docs_lent, few_lent}
 use Rattle.image_write.proofs.Listed.{gathered}
 use Rattle.image_write.proofs.image.write_lent.Goals as goal
 
-pub gather-requires-clause-fields : goal.gather-requires-clause-fields
-gather-requires-clause-fields g c =
+pub gather-requires : goal.gather-requires
+gather-requires g c =
     let lent = g.R.LendsDoc.lent in
     let born = g.R.LendsDoc.born_at c.args.number in
     let rows : List DocRow = map (λ row. row_of (lent row) (born row)) c.args.rows.now in
