@@ -19,7 +19,7 @@ use Rattle.row_select.proofs.InTwoParts.{hold_any_weight, hold_in_two}
 use Rattle.row_select.specs.declared.row.Row.{Row}
 use Rattle.doc_search.specs.Searches.{IsRowOf, passes}
 use Rattle.doc_search.specs.declared.question.Question.{Question}
-use Rattle.doc_search.specs.steps.Gathering.{Gathers, HasRead, IsAmid, IsOnWay, StandsAt, matching_in}
+use Rattle.doc_search.specs.steps.Gathering.{Gathers, IsAmid, IsOnWay, StandsAt, matching_in, unweighed}
 use Rattle.doc_search.proofs.Numbered.{numbers_beside}
 use Rattle.doc_search.proofs.SomeHits.{are_its_hits, hits_of}
 use Rattle.doc_search.proofs.Weighing.{row_of}
@@ -52,21 +52,22 @@ module _ {S : Type 0} (Took : S → List Row → S → Type 0) (question : Quest
     taken = subst (λ rows. Took first rows here) (sym (passing_more so.rows row false failing ∙ append-nil (filter (passes question) so.rows))) so.taken;
   }
 
-  -- ---- a document that was read
-  -- the row that was read, with the weight of the document's hits
-  abbrev weighed_row : DocRow → Row → Row
-  weighed_row doc row = record row { weight = weight question.ranker (record { keywords = question.query.keywords; list = hits_of question.query doc }) question.weights.list }
+  -- ---- a document by its conditions
+  -- the document with the weight of its hits
+  abbrev weighed_row : DocRow → Row
+  weighed_row doc = record (unweighed doc) { weight = weight question.ranker (record { keywords = question.query.keywords; list = hits_of question.query doc }) question.weights.list }
 
   -- it fails one of the conditions that look at no weight, whether it matches or not
-  pub gathers_past : (docs : List DocRow) (doc : DocRow) (row : Row) (here : S) → HasRead doc row → hold_unweighed question.filters row ≡ false → Gathers Took question first docs here → Gathers Took question first (docs ++ filter (matches question.query) (doc ∷ [])) here
-  gathers_past docs doc row here read fails so =
-      let its : IsRowOf question doc (weighed_row doc row) =
-      row_of question doc (weighed_row doc row) (record { id = read.id; values = read.values }) (record { hits = hits_of question.query doc; are = are_its_hits question.query doc; is = refl }) in
-      let failing : passes question (weighed_row doc row) ≡ false =
-      hold_in_two question.filters (weighed_row doc row)
-      ∙ and_left (hold_unweighed question.filters (weighed_row doc row)) (hold_weighed question.filters (weighed_row doc row)) (hold_any_weight (weighed_row doc row) row refl refl question.filters ∙ fails) in
+  pub gathers_past : (docs : List DocRow) (doc : DocRow) (here : S) → hold_unweighed question.filters (unweighed doc) ≡ false → Gathers Took question first docs here → Gathers Took question first (docs ++ filter (matches question.query) (doc ∷ [])) here
+  gathers_past docs doc here fails so =
+      let row : Row = weighed_row doc in
+      let its : IsRowOf question doc row =
+      row_of question doc row (record { id = refl; values = refl }) (record { hits = hits_of question.query doc; are = are_its_hits question.query doc; is = refl }) in
+      let failing : passes question row ≡ false =
+      hold_in_two question.filters row
+      ∙ and_left (hold_unweighed question.filters row) (hold_weighed question.filters row) (hold_any_weight row (unweighed doc) refl refl question.filters ∙ fails) in
       elim (matches question.query doc) as (λ b. Gathers Took question first (docs ++ cond b (doc ∷ []) []) here) [
-        | true ↦ gathers_same docs doc (weighed_row doc row) here so its failing
+        | true ↦ gathers_same docs doc row here so its failing
         | false ↦ subst (λ gathered. Gathers Took question first gathered here) (sym (append-nil docs)) so
       ]
 

@@ -43,7 +43,8 @@ pub(crate) fn read_row<C: Chunk>(
 ) -> Result<(), NoMemory>
     requires number { number < length (C.content chunk.now) }
     requires attrs { (doc : DocRow) → slice_get (C.content chunk.now) number ≡ Some doc → length doc.doc.values ≡ attrs }
-    ensures { (doc : DocRow) → slice_get (C.content chunk.now) number ≡ Some doc → OnOk result (HasRead doc row.new) }
+    ensures reads { (doc : DocRow) → slice_get (C.content chunk.now) number ≡ Some doc → OnOk result (HasRead doc row.new) }
+    ensures weight { row.new.weight ≡ row.old.weight }
 {
     row.id = chunk.id(number);
     read_values(alloc, chunk, number, attrs, &mut row.values)

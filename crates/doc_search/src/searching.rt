@@ -1,8 +1,9 @@
 //! A search over the layers of a snapshot: each document that matches and passes the conditions is offered to a sink, which is a
 //! collector for the page, groups, a facet, a count, or several of these.
 //!
-//! A document's conditions that look at no weight come before its hits, since to find these the places of its words are read.
-//! Nothing is kept of a document but what the sink takes, and one row and one list of hits serve for all of them.
+//! A document's conditions that look at no weight come before its hits, since to find these the places of its words are read. They
+//! are asked of the chunk, which reads the columns alone that they look at; the row with all values is made of a document that is
+//! found. Nothing is kept of a document but what the sink takes, and one row and one list of hits serve for all of them.
 ghost use Rattle.std.specs.Prelude.{◌≡◌, ◌+◌, ◌<◌, ◌++◌, ◌∷◌, [], List, IfOk, OnOk, All, Some, true, length, slice_get};
 ghost use Rattle.std.specs.List.{filter};
 ghost use Rattle.doc_types.specs.declared.documents.DocRow.{DocRow};
@@ -15,7 +16,7 @@ ghost use Rattle.row_select.specs.Filters.{hold_unweighed};
 ghost use Rattle.row_select.specs.declared.row.Row.{Row as RowValue};
 ghost use Rattle.doc_search.specs.Searches.{AreFound, AreShown, IsAskedOf};
 ghost use Rattle.doc_search.specs.declared.question.Question.{Question as QuestionValue};
-ghost use Rattle.doc_search.specs.steps.Gathering.{Gathers, HasRead, IsAskedOfDocs, IsWeighed, StandsAt};
+ghost use Rattle.doc_search.specs.steps.Gathering.{Gathers, IsAskedOfDocs, IsWeighed, StandsAt, unweighed};
 
 use crate::question::Question;
 use crate::ready::ReadyQuestion;
@@ -117,14 +118,15 @@ fn collect_row<C: CountedLists, S: Sink>(
     ensures goes_on { OnOk result (stream.new ≡ record stream.old { at = number + 1 }) }
     ensures gathers { (first : S) (before : List DocRow) (doc : DocRow) → slice_get (C.content chunk.now) number ≡ Some doc → Gathers S.Took asked.now first before sink.old → OnOk result (Gathers S.Took asked.now first (before ++ filter (matches asked.now.query) (doc ∷ [])) sink.new) }
 {
-    let attrs = asked.question.attrs;
-    read_row(asked.alloc, chunk, number, attrs, &mut scratch.row)?;
-    if !asked.conditions.hold_unweighed(&scratch.row) {
+    if !asked
+        .conditions
+        .hold_unweighed_of(chunk, number, asked.question.attrs)
+    {
         stream.skip();
         return Ok(());
     }
     match weight_of(asked, stream, &mut scratch.hits, steps)? {
-        Some(weight) => offer(asked, weight, &mut scratch.row, sink),
+        Some(weight) => offer(asked, chunk, number, weight, &mut scratch.row, sink),
         None => Ok(()),
     }
 }
@@ -182,18 +184,24 @@ fn weight_ranked<C: CountedLists>(
     Ok(Some(weight(question.ranker, hits, &question.weights)))
 }
 
-/// Offers a document that matches and passed the conditions that look at no weight, if it passes the others too.
-fn offer<S: Sink>(
+/// Offers a document that matches and passed the conditions that look at no weight, if it passes the others too. Only then its
+/// values are copied.
+fn offer<C: Chunk, S: Sink>(
     asked: &ReadyQuestion<'_>,
+    chunk: &C,
+    number: u32,
     weight: u64,
     row: &mut Row,
     sink: &mut S,
 ) -> Result<(), NoMemory>
-    requires { hold_unweighed asked.now.filters row.old ≡ true }
-    ensures { (first : S) (before : List DocRow) (doc : DocRow) → HasRead doc row.old → IsWeighed asked.now doc (Some weight) → Gathers S.Took asked.now first before sink.old → OnOk result (Gathers S.Took asked.now first (before ++ doc ∷ []) sink.new) }
+    requires asked { IsAskedOfDocs asked.now (C.content chunk.now) }
+    requires number { number < length (C.content chunk.now) }
+    requires passes { (doc : DocRow) → slice_get (C.content chunk.now) number ≡ Some doc → hold_unweighed asked.now.filters (unweighed doc) ≡ true }
+    ensures { (first : S) (before : List DocRow) (doc : DocRow) → slice_get (C.content chunk.now) number ≡ Some doc → IsWeighed asked.now doc (Some weight) → Gathers S.Took asked.now first before sink.old → OnOk result (Gathers S.Took asked.now first (before ++ doc ∷ []) sink.new) }
 {
     row.weight = weight;
     if asked.conditions.hold_weighed(row) {
+        read_row(asked.alloc, chunk, number, asked.question.attrs, row)?;
         sink.offer(row)?;
     }
     Ok(())

@@ -40,3 +40,20 @@ module _ (row other : Row) (ids : row.id ≡ other.id) (values : row.values ≡ 
   hold_any_weight [] = refl
   hold_any_weight (condition ∷ conditions) =
       ap (λ b. b && hold_unweighed conditions row) (one_holds condition) ∙ ap (λ b. (is_weighed condition || holds condition other) && b) (hold_any_weight conditions)
+
+-- what is asked of the weight alone holds whatever else a row has
+weight_alone : (test : ℤ → Bool) (column : ColumnRef) (row other : Row) → row.weight ≡ other.weight → (not (is_weight column) || test (column_value column row)) ≡ (not (is_weight column) || test (column_value column other))
+weight_alone test columns.Id row other same = refl
+weight_alone test (columns.Attr place) row other same = refl
+weight_alone test columns.Weight row other same = ap (λ weight. test (pos weight)) same
+
+one_weighed : (condition : Filter) (row other : Row) → row.weight ≡ other.weight → (not (is_weighed condition) || holds condition row) ≡ (not (is_weighed condition) || holds condition other)
+one_weighed (filters.Compare column op number) row other same = weight_alone (λ value. compares op value number) column row other same
+one_weighed (filters.Among column numbers negated) row other same = weight_alone (λ value. if negated then not (is_among numbers value) else is_among numbers value) column row other same
+one_weighed (filters.Between column low high) row other same = weight_alone (λ value. int_le low value && int_le value high) column row other same
+
+pub hold_by_weight : (row other : Row) → row.weight ≡ other.weight → (conditions : List Filter) → hold_weighed conditions row ≡ hold_weighed conditions other
+hold_by_weight row other same [] = refl
+hold_by_weight row other same (condition ∷ conditions) =
+    ap (λ b. b && hold_weighed conditions row) (one_weighed condition row other same)
+    ∙ ap (λ b. (not (is_weighed condition) || holds condition other) && b) (hold_by_weight row other same conditions)

@@ -1,7 +1,8 @@
 -- Which rows a condition of WHERE holds of (the manual of Sphinx, "SELECT syntax").
-use Rattle.std.specs.Prelude.{ℤ, List, Bool, true, false, ◌&&◌, ◌||◌, not, int_lt, int_le, if◌then◌else◌}
+use Rattle.std.specs.Prelude.{◌≡◌, ℤ, pos, List, Bool, true, false, ◌&&◌, ◌||◌, not, int_lt, int_le, if◌then◌else◌}
 use Rattle.std.specs.List.{list_all, list_any}
-use Rattle.std.specs.Ordering.{int_eq}
+use Rattle.std.specs.List.Sorted.{IsSorted}
+use Rattle.std.specs.Ordering.{int_cmp, int_eq}
 use Rattle.row_select.specs.Columns.{column_value}
 use Rattle.row_select.specs.declared.filter.CompareOp.{CompareOp}
 use Rattle.row_select.specs.declared.filter.CompareOp.TheVariants as operators
@@ -54,3 +55,8 @@ hold_unweighed conditions row = list_all (λ condition. is_weighed condition || 
 -- all those hold that are on the weight
 abbrev pub hold_weighed : List Filter → Row → Bool
 hold_weighed conditions row = list_all (λ condition. not (is_weighed condition) || holds condition row) conditions
+
+-- These numbers, in order, have the id of each row of which those conditions hold that aren't on its weight.
+pub record AreIdsOf (conditions : List Filter) (numbers : List ℤ) : Type 0 where
+  pub ascend : IsSorted int_cmp numbers
+  pub all : (row : Row) → hold_unweighed conditions row ≡ true → is_among numbers (pos row.id) ≡ true

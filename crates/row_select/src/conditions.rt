@@ -1,12 +1,15 @@
 //! The conditions of a search, made ready once and then asked of many rows.
-ghost use Rattle.std.specs.Prelude.{◌≡◌, IfOk};
+ghost use Rattle.std.specs.Prelude.{◌≡◌, ◌<◌, ◌||◌, IfOk, IfSome, Some, length, slice_get};
 ghost use Rattle.std.specs.List.Sorted.{IsSorted};
 ghost use Rattle.std.specs.Ordering.{int_cmp};
-ghost use Rattle.row_select.specs.Filters.{hold_unweighed, hold_weighed, holds, is_among, is_weighed};
-ghost use Rattle.row_select.specs.steps.Listing.{AreListed};
+ghost use Rattle.doc_types.specs.declared.documents.DocRow.{DocRow};
+ghost use Rattle.row_select.specs.Filters.{AreIdsOf, hold_unweighed, hold_weighed, holds, is_among, is_weighed};
+ghost use Rattle.row_select.specs.declared.row.Row.{Row as RowValue};
+ghost use Rattle.row_select.specs.steps.Listing.{AreListed, ListsIds, passes, row_of};
 
 use crate::filter::Filter;
 use crate::row::Row;
+use doc_types::Chunk;
 use srch_base::NoMemory;
 use std::alloc::Global;
 use std::marker::Model;
@@ -50,6 +53,34 @@ impl<'a> Conditions<'a> {
             .all(|condition| condition.is_weighed() || condition.holds(row))
     }
 
+    /// The same of a row of a chunk whose documents have so many attributes: it is `hold_unweighed` of each row with that document's
+    /// id and values. Of the chunk only the columns are read that are asked for, one after the other until a condition fails.
+    pub fn hold_unweighed_of<C: Chunk>(&self, chunk: &C, number: u32, attrs: u16) -> bool
+        requires number { number < length (C.content chunk.now) }
+        requires attrs { (doc : DocRow) → slice_get (C.content chunk.now) number ≡ Some doc → length doc.doc.values ≡ attrs }
+        ensures { (doc : DocRow) (row : RowValue) → slice_get (C.content chunk.now) number ≡ Some doc → row.id ≡ doc.doc.id → row.values ≡ doc.doc.values → result ≡ hold_unweighed self.now row }
+    {
+        for condition in &self.list {
+            if !condition.passes_of(chunk, number, attrs) {
+                return false;
+            }
+        }
+        true
+    }
+
+    /// Numbers, in order, among which is the id of each row of which those conditions hold that aren't on its weight: those that
+    /// the first condition lists that asks for one of some ids. None where no condition does.
+    pub fn ids(&self) -> Option<&[i128]>
+        ensures { IfSome result (λ ids. AreIdsOf self.now ids.now) }
+    {
+        for condition in &self.list {
+            if let Some(ids) = condition.ids() {
+                return Some(ids);
+            }
+        }
+        None
+    }
+
     /// Whether those hold that are on its weight.
     pub fn hold_weighed(&self, row: &Row) -> bool
         ensures { result ≡ hold_weighed self.now row.now }
@@ -58,7 +89,7 @@ impl<'a> Conditions<'a> {
     }
 }
 
-/// A condition, with the numbers that it lists, in order.
+/// A condition, with the numbers that it lists, in order: one for a comparison.
 #[derive(Drop)]
 struct Condition<'a> {
     filter: &'a Filter,
@@ -93,13 +124,41 @@ impl<'a> Condition<'a> {
     fn holds(&self, row: &Row) -> bool
         ensures { result ≡ holds self.now row.now }
     {
+        self.passes(&self.filter.column().value(row))
+    }
+
+    /// Whether it holds of a row of a chunk, or is on the weight.
+    fn passes_of<C: Chunk>(&self, chunk: &C, number: u32, attrs: u16) -> bool
+        requires number { number < length (C.content chunk.now) }
+        requires attrs { (doc : DocRow) → slice_get (C.content chunk.now) number ≡ Some doc → length doc.doc.values ≡ attrs }
+        ensures { (doc : DocRow) → slice_get (C.content chunk.now) number ≡ Some doc → result ≡ (is_weighed self.now || holds self.now (row_of doc)) }
+    {
+        self.is_weighed() || self.passes(&self.filter.column().value_of(chunk, number, attrs))
+    }
+
+    /// The numbers that it lists, where it asks for one of some ids.
+    fn ids(&self) -> Option<&[i128]>
+        ensures { IfSome result (λ ids. ListsIds self.now ids.now) }
+    {
+        if self.filter.lists_ids() {
+            Some(&self.listed)
+        } else {
+            None
+        }
+    }
+
+    /// Whether it holds of what a row has in its column.
+    fn passes(&self, value: &i128) -> bool
+        ensures { result ≡ passes self.now value.now }
+    {
         match self.filter {
-            Filter::Among {
-                column,
-                negated,
+            Filter::Compare {
+                op,
+                value: number,
                 ..
-            } => stands_among(&self.listed, &column.value(row)) != *negated,
-            filter => filter.holds(row),
+            } => op.holds(*value, *number),
+            Filter::Among { negated, .. } => stands_among(&self.listed, value) != *negated,
+            Filter::Between { low, high, .. } => *low <= *value && *value <= *high,
         }
     }
 }
@@ -114,7 +173,8 @@ fn listed_in_order(alloc: Global, filter: &Filter) -> Result<Vec<i128>, NoMemory
             numbers.sort_unstable();
             Ok(numbers)
         }
-        _ => Ok(Vec::new(alloc)),
+        Filter::Compare { value, .. } => Ok(vec![in alloc; *value]?),
+        Filter::Between { .. } => Ok(Vec::new(alloc)),
     }
 }
 

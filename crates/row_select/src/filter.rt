@@ -1,6 +1,7 @@
 //! The conditions of WHERE on columns (the manual of Sphinx, "SELECT syntax").
 ghost use Rattle.std.specs.Prelude.{◌≡◌};
 ghost use Rattle.row_select.specs.Filters.{compares, holds, is_weighed};
+ghost use Rattle.row_select.specs.steps.Listing.{column_of, is_equal, lists_ids};
 
 use crate::row::{ColumnRef, Row};
 use srch_base::Items;
@@ -57,6 +58,32 @@ impl Filter {
         }
     }
 
+    /// The column that it looks at.
+    pub(crate) fn column(&self) -> ColumnRef
+        ensures { result ≡ column_of self.now }
+    {
+        match self {
+            Filter::Compare { column, .. }
+            | Filter::Among { column, .. }
+            | Filter::Between { column, .. } => *column,
+        }
+    }
+
+    /// Whether it asks for one of some ids.
+    pub(crate) fn lists_ids(&self) -> bool
+        ensures { result ≡ lists_ids self.now }
+    {
+        match self {
+            Filter::Compare { column, op, .. } => column.is_id() && op.is_equal(),
+            Filter::Among {
+                column,
+                negated,
+                ..
+            } => column.is_id() && !*negated,
+            Filter::Between { .. } => false,
+        }
+    }
+
     /// Whether the condition is one on the weight.
     pub(crate) fn is_weighed(&self) -> bool
         ensures { result ≡ is_weighed self.now }
@@ -70,6 +97,12 @@ impl Filter {
 }
 
 impl CompareOp {
+    fn is_equal(self) -> bool
+        ensures { result ≡ is_equal self }
+    {
+        matches!(self, CompareOp::Equal)
+    }
+
     /// Whether a value compares so with a number.
     pub fn holds(self, value: i128, number: i128) -> bool
         ensures { result ≡ compares self value number }

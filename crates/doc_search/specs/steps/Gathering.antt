@@ -31,6 +31,10 @@ pub record HasRead (doc : DocRow) (row : Row) : Type 0 where
   pub id : row.id ≡ doc.doc.id
   pub values : row.values ≡ doc.doc.values
 
+-- a document as a row without a weight
+abbrev pub unweighed : DocRow → Row
+unweighed doc = record { id = doc.doc.id; weight = 0; values = doc.doc.values }
+
 -- the document's weight, if it matches
 abbrev pub IsWeighed : Question → DocRow → Option ℕ → Type 0
 IsWeighed question doc None = matches question.query doc ≡ false

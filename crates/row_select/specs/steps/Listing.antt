@@ -1,13 +1,36 @@
--- The numbers that a condition lists.
-use Rattle.std.specs.Prelude.{ℤ, List, [], IsPermutation}
+-- The column of a condition, and the numbers that it lists.
+use Rattle.std.specs.Prelude.{◌≡◌, ℤ, pos, List, [], ◌∷◌, Bool, true, false, ◌&&◌, ◌||◌, not, int_le, if◌then◌else◌, IsPermutation}
 use Rattle.std.specs.List.Sorted.{IsSorted}
 use Rattle.std.specs.Ordering.{int_cmp}
+use Rattle.doc_types.specs.declared.documents.DocRow.{DocRow}
+use Rattle.row_select.specs.Filters.{compares, holds, is_among, is_weighed}
+use Rattle.row_select.specs.declared.filter.CompareOp.{CompareOp}
+use Rattle.row_select.specs.declared.filter.CompareOp.TheVariants as operators
 use Rattle.row_select.specs.declared.filter.Filter.{Filter}
 use Rattle.row_select.specs.declared.filter.Filter.TheVariants as filters
+use Rattle.row_select.specs.declared.row.ColumnRef.{ColumnRef}
+use Rattle.row_select.specs.declared.row.ColumnRef.TheVariants as columns
+use Rattle.row_select.specs.declared.row.Row.{Row}
 
--- the numbers among which a condition looks for another one; none where it doesn't
+-- the column that a condition looks at
+abbrev pub column_of : Filter → ColumnRef
+column_of (filters.Compare column op number) = column
+column_of (filters.Among column numbers negated) = column
+column_of (filters.Between column low high) = column
+
+-- a condition holds of a row that has this number in the condition's column
+abbrev pub passes : Filter → ℤ → Bool
+passes (filters.Compare column op number) value = compares op value number
+passes (filters.Among column numbers negated) value = if negated then not (is_among numbers value) else is_among numbers value
+passes (filters.Between column low high) value = int_le low value && int_le value high
+
+-- a document as a row without a weight
+abbrev pub row_of : DocRow → Row
+row_of doc = record { id = doc.doc.id; weight = 0; values = doc.doc.values }
+
+-- the numbers with which a condition compares another one, where these are single ones
 abbrev pub listed : Filter → List ℤ
-listed (filters.Compare column op number) = []
+listed (filters.Compare column op number) = number ∷ []
 listed (filters.Among column numbers negated) = numbers
 listed (filters.Between column low high) = []
 
@@ -15,3 +38,29 @@ listed (filters.Between column low high) = []
 pub record AreListed (condition : Filter) (numbers : List ℤ) : Type 0 where
   pub same : IsPermutation (listed condition) numbers
   pub ascend : IsSorted int_cmp numbers
+
+-- a column is the id
+abbrev pub is_id : ColumnRef → Bool
+is_id columns.Id = true
+is_id (columns.Attr place) = false
+is_id columns.Weight = false
+
+-- a comparison is for one number
+abbrev pub is_equal : CompareOp → Bool
+is_equal operators.Equal = true
+is_equal operators.NotEqual = false
+is_equal operators.Less = false
+is_equal operators.Greater = false
+is_equal operators.AtMost = false
+is_equal operators.AtLeast = false
+
+-- a condition asks for one of some ids
+abbrev pub lists_ids : Filter → Bool
+lists_ids (filters.Compare column op number) = is_id column && is_equal op
+lists_ids (filters.Among column numbers negated) = is_id column && not negated
+lists_ids (filters.Between column low high) = false
+
+-- These numbers, in order, have the id of each row of which the condition holds.
+pub record ListsIds (condition : Filter) (numbers : List ℤ) : Type 0 where
+  pub ascend : IsSorted int_cmp numbers
+  pub all : (row : Row) → (is_weighed condition || holds condition row) ≡ true → is_among numbers (pos row.id) ≡ true

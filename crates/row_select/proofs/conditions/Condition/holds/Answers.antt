@@ -1,20 +1,16 @@
-use Rattle.std.proofs.Common.{◌≡◌, ◌∙◌, ap, not, rules, subst}
-use mathlib.Core.Bool.{beq}
+use Rattle.std.proofs.Common.{◌≡◌, ◌∙◌, ap, rules, sym}
 use mir.Syntax.{w128}
 use mir.Val.{SFits}
 use Rattle.std.proofs.lemmas.Int.{to_z-of_z}
-use Rattle.row_select.specs.Filters.{holds, is_among}
-use Rattle.row_select.proofs.Listed.{listed_holds}
+use Rattle.row_select.specs.Columns.{column_value}
+use Rattle.row_select.specs.declared.filter.Filter.{Filter}
+use Rattle.row_select.specs.steps.Listing.{column_of, passes}
+use Rattle.row_select.proofs.Listed.{holds_by}
 use Rattle.row_select.proofs.conditions.Condition.holds.Goals as goal
 
-pub returns-in-Among : goal.returns-in-Among
-returns-in-Among c =
-    let its = c.self.inside in
-    let among = c.in-Among in
+pub returns : goal.returns
+returns c =
     let fits : SFits w128 c.value.result = search rules in
-    subst (λ condition. not (beq c.stands_among.result among.negated) ≡ holds condition c.args.row.now) c.self.view_is
-    (listed_holds its.filter.now among.column among.values among.negated its.listed.items c.args.row.now c.stands_among.result among.is c.self.invariant
-    (c.stands_among.ensures
-    ∙ ap (is_among c.deref.result.now) (to_z-of_z w128 c.value.result fits)
-    ∙ ap (λ numbers. is_among numbers c.value.result) c.deref.ensures.value
-    ∙ ap (is_among its.listed.items) c.value.ensures))
+    c.passes.ensures
+    ∙ ap (passes c.args.self.now) (to_z-of_z w128 c.value.result fits ∙ c.value.ensures ∙ ap (λ column. column_value column c.args.row.now) (c.column.ensures ∙ ap (λ (its : Filter). column_of its) c.self.view_is))
+    ∙ holds_by c.args.self.now c.args.row.now

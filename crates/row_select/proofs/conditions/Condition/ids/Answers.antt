@@ -1,0 +1,12 @@
+use Rattle.std.proofs.Common.{◌≡◌, ◌∙◌, ap, subst, sym, true}
+use Rattle.row_select.specs.declared.filter.Filter.{Filter}
+use Rattle.row_select.specs.steps.Listing.{ListsIds, lists_ids}
+use Rattle.row_select.proofs.Listed.{lists}
+use Rattle.row_select.proofs.conditions.Condition.ids.Goals as goal
+
+pub returns-then-lists_ids : goal.returns-then-lists_ids
+returns-then-lists_ids c =
+    let its = c.self.inside in
+    let told : lists_ids its.filter.now ≡ true = sym c.lists_ids.ensures ∙ c.if-lists_ids.true in
+    subst (ListsIds c.args.self.now) (sym c.deref.ensures.value)
+    (subst (λ (condition : Filter). ListsIds condition its.listed.items) c.self.view_is (lists its.filter.now its.listed.items told c.self.invariant))
