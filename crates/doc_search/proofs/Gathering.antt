@@ -1,7 +1,7 @@
 -- What a search gathers, document by document and layer by layer.
-use Rattle.std.proofs.Common.{◌≡◌, ℕ, ◌+◌, ◌<◌, ◌≤◌, List, [], ◌∷◌, ◌++◌, Bool, true, false, cond, Some, slice_get, length, take, get_or, refl, sym, ap, subst, ◌∙◌, append_assoc, append-nil, arith}
-use Rattle.std.specs.Prelude.{◌&&◌}
-use Rattle.std.specs.List.{AllZip, filter}
+use Rattle.std.proofs.Common.{◌≡◌, ℕ, ◌+◌, ◌-◌, ◌<◌, ◌≤◌, zero, suc, List, [], ◌∷◌, ◌++◌, Bool, true, false, cond, Some, slice_get, length, take, get_or, refl, sym, ap, subst, ◌∙◌, append_assoc, append-nil, arith}
+use Rattle.std.specs.Prelude.{◌&&◌, ◌==◌}
+use Rattle.std.specs.List.{AllZip, filter, list_any}
 use Rattle.std.proofs.lemmas.Bool.{and_left}
 use Rattle.std.proofs.lemmas.List.{take_more, take_all}
 use Rattle.std.proofs.lemmas.List.Concat.{flat_map-append}
@@ -10,7 +10,7 @@ use Rattle.doc_types.specs.declared.documents.DocRow.{DocRow}
 use Rattle.doc_types.specs.Snapshots.{LayerValue, all_living, living}
 use Rattle.op_eval.specs.Matching.{matches, matching}
 use Rattle.op_eval.specs.Streams.{GoesTo, Stream, ahead}
-use Rattle.op_eval.proofs.NextMatches.{ahead_here}
+use Rattle.op_eval.proofs.NextMatches.{ahead_here, dead_row}
 use Rattle.word_rows.proofs.Opening.{row_there}
 use Rattle.word_rows.proofs.Zipped.{zip_push}
 use Rattle.rankers.specs.Weight.{weight}
@@ -20,6 +20,7 @@ use Rattle.row_select.specs.declared.row.Row.{Row}
 use Rattle.doc_search.specs.Searches.{IsRowOf, passes}
 use Rattle.doc_search.specs.declared.question.Question.{Question}
 use Rattle.doc_search.specs.steps.Gathering.{Gathers, IsAmid, IsOnWay, StandsAt, matching_in, unweighed}
+use Rattle.doc_search.specs.steps.ListedRows.{GoBy, holds_of}
 use Rattle.doc_search.proofs.Numbered.{numbers_beside}
 use Rattle.doc_search.proofs.SomeHits.{are_its_hits, hits_of}
 use Rattle.doc_search.proofs.Weighing.{row_of}
@@ -165,6 +166,50 @@ module _ {S : Type 0} (Took : S → List Row → S → Type 0) (question : Quest
             (ap (λ rows. slice_get rows number) (sym way.docs) ∙ at) refl past (way.amid first before so)
             (λ gathered gathers. takes first gathered doc (ap (λ rows. slice_get rows number) (its ∙ sym way.docs) ∙ at) gathers);
       }
+
+  -- a row that fails is passed over, whether it is dead or not
+  on_way_by : (layer : LayerValue) (stream : Stream) (start here : S) (row : ℕ) (gone : Bool) → row < length layer.rows → list_any (λ d. d == row) stream.dead ≡ gone → ((doc : DocRow) → slice_get layer.rows row ≡ Some doc → holds_of question doc ≡ false) → IsOnWay Took question layer start (record stream { at = row }) here → IsOnWay Took question layer start (record stream { at = row + 1 }) here
+  on_way_by layer stream start here row true within dead fails way =
+      let past : ahead (record stream { at = row }) ≡ ahead (record stream { at = row + 1 }) =
+      dead_row stream.query stream.rows stream.dead row (omega (arith, within, ap (λ (rows : List DocRow). length rows) way.docs)) dead in
+      record {
+        query = way.query;
+        docs = way.docs;
+        amid = λ first before so. subst (λ numbers. IsAmid Took question first layer.rows (filter (matches question.query) (living layer)) before numbers here) past (way.amid first before so);
+      }
+  on_way_by layer stream start here row false within living_row fails way =
+      let found = row_there stream.rows row (omega (arith, within, ap (λ (rows : List DocRow). length rows) way.docs)) in
+      let doc : DocRow = found.0 in
+      let at : slice_get layer.rows row ≡ Some doc = ap (λ rows. slice_get rows row) (sym way.docs) ∙ found.1 in
+      let past : ahead (record stream { at = row }) ≡ cond (matches question.query doc) (row ∷ []) [] ++ ahead (record stream { at = row + 1 }) =
+      ahead_here (record stream { at = row }) doc found.1 living_row
+      ∙ ap (λ query. cond (matches query doc) (row ∷ []) [] ++ ahead (record stream { at = row + 1 })) way.query in
+      record {
+        query = way.query;
+        docs = way.docs;
+        amid = λ first before so.
+            amid_past Took question first layer.rows (filter (matches question.query) (living layer)) before row doc (matches question.query doc) (ahead (record stream { at = row })) (ahead (record stream { at = row + 1 })) here here
+            at refl past (way.amid first before so)
+            (λ gathered gathers. gathers_past Took question first gathered doc here (fails doc at) gathers);
+      }
+
+  on_way_far : (layer : LayerValue) (stream : Stream) (start here : S) (row more : ℕ) → row + more ≤ length layer.rows → ((k : ℕ) (doc : DocRow) → row ≤ k → k < row + more → slice_get layer.rows k ≡ Some doc → holds_of question doc ≡ false) → IsOnWay Took question layer start (record stream { at = row }) here → IsOnWay Took question layer start (record stream { at = row + more }) here
+  on_way_far layer stream start here row zero within fails way =
+      let same : row ≡ row + 0 = omega arith in subst (λ n. IsOnWay Took question layer start (record stream { at = n }) here) same way
+  on_way_far layer stream start here row (suc more) within fails way =
+      let next : row + more + 1 ≡ row + suc more = omega arith in
+      subst (λ n. IsOnWay Took question layer start (record stream { at = n }) here) next
+      (on_way_by layer stream start here (row + more) (list_any (λ d. d == row + more) stream.dead) (omega arith) refl
+      (λ doc there. fails (row + more) doc (omega arith) (omega arith) there)
+      (on_way_far layer stream start here row more (omega arith) (λ k doc on before there. fails k doc on (omega arith) there) way))
+
+  -- and so are all rows that fail
+  pub on_way_past : (layer : LayerValue) (stream : Stream) (start here : S) (at to : ℕ) → stream.at ≡ at → GoBy question layer.rows at to → IsOnWay Took question layer start stream here → IsOnWay Took question layer start (record stream { at = to }) here
+  on_way_past layer stream start here at to stands by way =
+      let end : at + (to - at) ≡ to = omega (arith, by.on) in
+      subst (λ n. IsOnWay Took question layer start (record stream { at = n }) here) end
+      (on_way_far layer stream start here at (to - at) (omega (arith, by.within, end)) (λ k doc on before there. by.fail k doc on (omega (arith, before, end)) there)
+      (subst (λ n. IsOnWay Took question layer start (record stream { at = n }) here) stands way))
 
   pub on_way_last : (layer : LayerValue) (stream : Stream) (start here : S) → ahead stream ≡ [] → IsOnWay Took question layer start stream here → (first : S) (before : List DocRow) → Gathers Took question first before start → Gathers Took question first (before ++ filter (matches question.query) (living layer)) here
   on_way_last layer stream start here none way first before so = amid_last Took question first layer.rows (filter (matches question.query) (living layer)) before (ahead stream) here none (way.amid first before so)

@@ -14,3 +14,7 @@ pub mod OneHits
 pub mod Members
 -- what is found of documents in any order are the same rows, and what is shown is one list
 pub mod OneFound
+-- rows by their ids
+pub mod ListedIds
+-- a search that goes on past rows that fail
+pub mod Leading

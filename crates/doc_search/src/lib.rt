@@ -2,6 +2,7 @@
 #![tactic(auto)]
 
 mod laws;
+mod listed_rows;
 mod question;
 mod ready;
 mod rows;

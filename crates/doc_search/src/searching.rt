@@ -3,8 +3,9 @@
 //!
 //! A document's conditions that look at no weight come before its hits, since to find these the places of its words are read. They
 //! are asked of the chunk, which reads the columns alone that they look at; the row with all values is made of a document that is
-//! found. Nothing is kept of a document but what the sink takes, and one row and one list of hits serve for all of them.
-ghost use Rattle.std.specs.Prelude.{◌≡◌, ◌+◌, ◌<◌, ◌++◌, ◌∷◌, [], List, IfOk, OnOk, All, Some, true, length, slice_get};
+//! found. Where a condition lists ids, only the rows that have them are looked at. Nothing is kept of a document but what the sink
+//! takes, and one row and one list of hits serve for all of them.
+ghost use Rattle.std.specs.Prelude.{◌≡◌, ◌+◌, ◌<◌, ◌≤◌, ◌++◌, ◌∷◌, [], List, IfOk, OnOk, All, AllPairs, Some, true, length, slice_get};
 ghost use Rattle.std.specs.List.{filter};
 ghost use Rattle.doc_types.specs.declared.documents.DocRow.{DocRow};
 ghost use Rattle.doc_types.specs.declared.schema.Schema.{Schema};
@@ -16,8 +17,10 @@ ghost use Rattle.row_select.specs.Filters.{hold_unweighed};
 ghost use Rattle.row_select.specs.declared.row.Row.{Row as RowValue};
 ghost use Rattle.doc_search.specs.Searches.{AreFound, AreShown, IsAskedOf};
 ghost use Rattle.doc_search.specs.declared.question.Question.{Question as QuestionValue};
+ghost use Rattle.doc_search.specs.steps.ListedRows.{GoesPast, Leaves};
 ghost use Rattle.doc_search.specs.steps.Gathering.{Gathers, IsAskedOfDocs, IsWeighed, StandsAt, unweighed};
 
+use crate::listed_rows::ListedRows;
 use crate::question::Question;
 use crate::ready::ReadyQuestion;
 use crate::rows::{Scratch, read_row};
@@ -97,10 +100,43 @@ fn collect_layer<L: Ledger, C: HitLists, S: Sink>(
     let counted = Counted::<C, L>::over(chunk);
     let dead = layer.dead.as_slice();
     let mut stream = Matches::over(asked.alloc, &asked.question.query, &counted, dead)?;
-    'rows: while let Some(number) = stream.row() {
+    let mut listed = ListedRows::over(&asked.conditions);
+    let mut at = 0;
+    'rows: while let Some(number) = next_row(&mut stream, &mut listed, &counted, at) {
         collect_row(asked, &counted, number, &mut stream, scratch, sink, steps)?;
+        at = number + 1;
     }
     Ok(())
+}
+
+/// Goes on from this row to the next one that may match and isn't dead, and passes over those that have none of the listed ids.
+fn next_row<C: Chunk>(
+    stream: &mut Matches<'_, C>,
+    listed: &mut ListedRows<'_>,
+    chunk: &C,
+    at: u32,
+) -> Option<u32>
+    requires at { stream.old.at ≡ at }
+    requires docs { stream.old.rows ≡ C.content chunk.now }
+    requires within { at ≤ length (C.content chunk.now) }
+    requires rows { AllPairs (λ row later. row.doc.id < later.doc.id) (C.content chunk.now) }
+    ensures { (question : QuestionValue) → Leaves question (C.content chunk.now) at listed.old → GoesPast question (C.content chunk.now) at stream.old result stream.new listed.new }
+{
+    let from = listed.next(chunk, at);
+    lead(stream, at, from);
+    stream.row()
+}
+
+/// Passes over the rows from this one on up to that one.
+fn lead<C: Chunk>(stream: &mut Matches<'_, C>, at: u32, to: u32)
+    requires at { stream.old.at ≡ at }
+    requires on { at ≤ to }
+    requires within { to ≤ length stream.old.rows }
+    ensures { stream.new ≡ record stream.old { at = to } }
+{
+    for _ in at..to {
+        stream.skip();
+    }
 }
 
 /// Goes on behind a row, and offers its document if it matches and passes the conditions.

@@ -1,8 +1,11 @@
-use Rattle.std.proofs.Common.{◌≡◌, ◌∙◌, ℕ, [], Option, None, ap, rules, subst, arith}
+use Rattle.std.proofs.Common.{◌≡◌, ◌∙◌, ◌<◌, List, ap, arith, length, subst, sym}
+use Rattle.std.specs.Prelude.{AllPairs}
+use Rattle.doc_types.specs.declared.documents.DocRow.{DocRow}
 use Rattle.doc_types.specs.Snapshots.{LayerValue}
-use Rattle.op_eval.specs.Streams.{GoesOn, GoesTo, ahead}
+use Rattle.op_eval.specs.Streams.{Stream}
 use Rattle.doc_search.specs.declared.question.Question.{Question}
-use Rattle.doc_search.proofs.Gathering.{on_way_first, on_way_last, on_way_next, stands_at}
+use Rattle.doc_search.proofs.Gathering.{on_way_first}
+use Rattle.doc_search.proofs.Leading.{led_last, led_on, led_to, led_within}
 use Rattle.doc_search.proofs.searching.collect_layer.Goals as goal
 
 pub rows-init : goal.rows-init
@@ -10,22 +13,57 @@ rows-init g c =
     let docs : g.C.Chunk.content c.over-counted.result.chunk.now ≡ c.args.layer.now.rows =
     ap g.C.Chunk.content (c.over-counted.ensures ∙ c.deref-chunk.ensures) ∙ ap (λ (its : LayerValue). its.rows) c.layer.view_is in
     let dead : c.as_slice-dead.result.now ≡ c.args.layer.now.dead = c.as_slice-dead.ensures ∙ c.deref.ensures ∙ ap (λ (its : LayerValue). its.dead) c.layer.view_is in
-    on_way_first g.S.Sink.Took c.args.asked.now c.args.layer.now (g.C.Chunk.content c.over-counted.result.chunk.now) c.as_slice-dead.result.now c.in_ok-stream.stream c.args.sink.now docs dead
-    (c.in_ok-stream.ensures ∙ ap (λ (its : Question). record { query = its.query; rows = g.C.Chunk.content c.over-counted.result.chunk.now; dead = c.as_slice-dead.result.now; at = 0 }) c.asked.view_is)
+    record {
+      way = on_way_first g.S.Sink.Took c.args.asked.now c.args.layer.now (g.C.Chunk.content c.over-counted.result.chunk.now) c.as_slice-dead.result.now c.in_ok-stream.stream c.args.sink.now docs dead
+          (c.in_ok-stream.ensures ∙ ap (λ (its : Question). record { query = its.query; rows = g.C.Chunk.content c.over-counted.result.chunk.now; dead = c.as_slice-dead.result.now; at = 0 }) c.asked.view_is);
+      stands = ap (λ (it : Stream). it.at) c.in_ok-stream.ensures;
+      within = omega arith;
+      leaves = c.over-listed.ensures c.args.asked.now c.args.layer.now.rows (c.asked.invariant ∙ ap (λ (its : Question). its.filters) c.asked.view_is);
+    }
+
+pub next_row-requires-clause-docs : goal.next_row-requires-clause-docs
+next_row-requires-clause-docs g c =
+    let docs : g.C.Chunk.content c.over-counted.result.chunk.now ≡ c.args.layer.now.rows =
+    ap g.C.Chunk.content (c.over-counted.ensures ∙ c.deref-chunk.ensures) ∙ ap (λ (its : LayerValue). its.rows) c.layer.view_is in
+    c.rows.invariant.way.docs ∙ sym docs
+
+pub next_row-requires-clause-within : goal.next_row-requires-clause-within
+next_row-requires-clause-within g c =
+    let docs : g.C.Chunk.content c.over-counted.result.chunk.now ≡ c.args.layer.now.rows =
+    ap g.C.Chunk.content (c.over-counted.ensures ∙ c.deref-chunk.ensures) ∙ ap (λ (its : LayerValue). its.rows) c.layer.view_is in
+    omega (arith, c.rows.invariant.within, ap (λ (rows : List DocRow). length rows) docs)
+
+pub next_row-requires-clause-rows : goal.next_row-requires-clause-rows
+next_row-requires-clause-rows g c =
+    let docs : g.C.Chunk.content c.over-counted.result.chunk.now ≡ c.args.layer.now.rows =
+    ap g.C.Chunk.content (c.over-counted.ensures ∙ c.deref-chunk.ensures) ∙ ap (λ (its : LayerValue). its.rows) c.layer.view_is in
+    subst (λ (rows : List DocRow). AllPairs (λ row later. row.doc.id < later.doc.id) rows) (sym docs) c.requires.rows.ids
 
 pub collect_row-requires-clause-stands : goal.collect_row-requires-clause-stands
 collect_row-requires-clause-stands g c =
     let docs : g.C.Chunk.content c.over-counted.result.chunk.now ≡ c.args.layer.now.rows =
     ap g.C.Chunk.content (c.over-counted.ensures ∙ c.deref-chunk.ensures) ∙ ap (λ (its : LayerValue). its.rows) c.layer.view_is in
-    stands_at g.S.Sink.Took c.args.asked.now c.args.layer.now (g.C.Chunk.content c.over-counted.result.chunk.now) c.in-Some.number c.rows.stream c.row.new.self c.args.sink.now c.rows.sink docs c.in-Some.ensures c.rows.invariant
+    led_to g.S.Sink.Took c.args.asked.now c.args.layer.now (g.C.Chunk.content c.over-counted.result.chunk.now) docs c.args.sink.now c.rows.sink c.rows.at c.in-Some.number c.rows.stream c.next_row.new.stream c.rows.listed c.next_row.new.listed
+    c.rows.invariant (c.in-Some.ensures c.args.asked.now)
+
+pub overflow_add-at : goal.overflow_add-at
+overflow_add-at g c =
+    let docs : g.C.Chunk.content c.over-counted.result.chunk.now ≡ c.args.layer.now.rows =
+    ap g.C.Chunk.content (c.over-counted.ensures ∙ c.deref-chunk.ensures) ∙ ap (λ (its : LayerValue). its.rows) c.layer.view_is in
+    let within = led_within g.S.Sink.Took c.args.asked.now c.args.layer.now (g.C.Chunk.content c.over-counted.result.chunk.now) docs c.args.sink.now c.rows.sink c.rows.at c.in-Some.number c.rows.stream c.next_row.new.stream c.rows.listed c.next_row.new.listed
+    c.rows.invariant (c.in-Some.ensures c.args.asked.now) in
+    omega (arith, within.1, c.layer.invariant.content.small.few_rows, ap (λ (its : LayerValue). length its.rows) c.layer.view_is)
 
 pub rows-preserved : goal.rows-preserved
 rows-preserved g c =
     let docs : g.C.Chunk.content c.over-counted.result.chunk.now ≡ c.args.layer.now.rows =
     ap g.C.Chunk.content (c.over-counted.ensures ∙ c.deref-chunk.ensures) ∙ ap (λ (its : LayerValue). its.rows) c.layer.view_is in
-    on_way_next g.S.Sink.Took c.args.asked.now c.args.layer.now (g.C.Chunk.content c.over-counted.result.chunk.now) c.in-Some.number c.rows.stream c.row.new.self c.collect_row.new.stream c.args.sink.now c.rows.sink c.collect_row.new.sink
-    docs c.in-Some.ensures c.in_ok-collect_row.ensures.goes_on c.rows.invariant c.in_ok-collect_row.ensures.gathers
+    led_on g.S.Sink.Took c.args.asked.now c.args.layer.now (g.C.Chunk.content c.over-counted.result.chunk.now) docs c.args.sink.now c.rows.sink c.rows.at c.in-Some.number c.rows.stream c.next_row.new.stream c.collect_row.new.stream c.rows.listed c.next_row.new.listed c.collect_row.new.sink
+    c.rows.invariant (c.in-Some.ensures c.args.asked.now) c.in_ok-collect_row.ensures.goes_on c.in_ok-collect_row.ensures.gathers
 
 pub returns : goal.returns
 returns g c =
-    on_way_last g.S.Sink.Took c.args.asked.now c.args.layer.now c.rows.stream c.args.sink.now c.rows.sink c.in_default.ensures.0 c.rows.invariant
+    let docs : g.C.Chunk.content c.over-counted.result.chunk.now ≡ c.args.layer.now.rows =
+    ap g.C.Chunk.content (c.over-counted.ensures ∙ c.deref-chunk.ensures) ∙ ap (λ (its : LayerValue). its.rows) c.layer.view_is in
+    led_last g.S.Sink.Took c.args.asked.now c.args.layer.now (g.C.Chunk.content c.over-counted.result.chunk.now) docs c.args.sink.now c.rows.sink c.rows.at c.rows.stream c.next_row.new.stream c.rows.listed c.next_row.new.listed
+    c.rows.invariant (c.in_default.ensures c.args.asked.now)

@@ -1,4 +1,4 @@
-use Rattle.std.proofs.Common.{◌≡◌, ◌∙◌, ap, sym, subst, refl, true, false, rules, Some}
+use Rattle.std.proofs.Common.{◌≡◌, ◌∙◌, ap, sym, subst, refl}
 use Rattle.row_select.specs.Filters.{hold_weighed}
 use Rattle.row_select.specs.declared.row.Row.{Row}
 use Rattle.row_select.proofs.InTwoParts.{hold_by_weight}

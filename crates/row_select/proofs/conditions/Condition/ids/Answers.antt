@@ -1,4 +1,4 @@
-use Rattle.std.proofs.Common.{◌≡◌, ◌∙◌, ap, subst, sym, true}
+use Rattle.std.proofs.Common.{◌≡◌, ◌∙◌, subst, sym, true}
 use Rattle.row_select.specs.declared.filter.Filter.{Filter}
 use Rattle.row_select.specs.steps.Listing.{ListsIds, lists_ids}
 use Rattle.row_select.proofs.Listed.{lists}

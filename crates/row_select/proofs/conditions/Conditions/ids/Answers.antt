@@ -1,4 +1,4 @@
-use Rattle.std.proofs.Common.{◌≡◌, ◌∙◌, List, ap, sym, subst}
+use Rattle.std.proofs.Common.{◌∙◌, List, subst}
 use Rattle.row_select.specs.Filters.{AreIdsOf}
 use Rattle.row_select.specs.declared.filter.Filter.{Filter}
 use Rattle.row_select.proofs.Listed.{ids_of}
