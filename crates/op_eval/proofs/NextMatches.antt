@@ -1,9 +1,9 @@
 -- The next row that may match a query: what a search that goes from row to row leaves behind, and that a tree finds what its query does.
 use Rattle.std.proofs.Common.{◌≡◌, ℕ, ◌+◌, ◌<◌, ◌≤◌, false, true, cond, List, [], ◌∷◌, ◌++◌, length, get_or, Option, Some, None, Bor, refl, sym, ap, ◌∙◌, subst, arith, ◌^◌}
-use Rattle.std.specs.Prelude.{slice_get, ◌&&◌, ◌==◌, not, unwrap_or, AllPairs}
+use Rattle.std.specs.Prelude.{slice_get, ◌&&◌, ◌==◌, not, AllPairs}
 use Rattle.std.specs.List.{list_any}
 use Rattle.std.proofs.Math.Bool.{and-true}
-use Rattle.std.proofs.lemmas.Bool.{and_right}
+use Rattle.std.proofs.lemmas.Bool.{and_left, and_right}
 use Rattle.std.proofs.lemmas.Option.{get_or_from_slice_get, slice_get-get_or, slice_get_within}
 use Rattle.doc_types.specs.declared.cursor.Cursor.{Cursor}
 use Rattle.doc_types.specs.declared.documents.DocRow.{DocRow}
@@ -14,10 +14,12 @@ use Rattle.op_eval.specs.declared.search.Search.{Search}
 use Rattle.query_tree.specs.TreeKeys.{query_keys}
 use Rattle.op_eval.specs.Matching.{matches, query_finds}
 use Rattle.op_eval.specs.Streams.{Stream, ahead}
-use Rattle.op_eval.specs.steps.Searching.{IsFirstOf, IsSearch, node_found}
-use Rattle.op_eval.specs.steps.Streaming.{IsFirstOpen, IsStream, LooksFrom, StandsAt, is_matching, numbers_from}
-use Rattle.op_eval.specs.steps.Wanted.{is_wanted, lives}
-use Rattle.op_eval.proofs.RowsAhead.{end_ahead, none_ahead, row_ahead}
+use Rattle.op_eval.specs.steps.Searching.{IsSearch, node_found}
+use Rattle.op_eval.specs.steps.Streaming.{IsFirstOpen, IsOpen, IsStream, LooksFrom, StandsAt, is_matching}
+use Rattle.op_eval.specs.steps.Wanted.{is_wanted, lives, numbers_from}
+use Rattle.row_plans.specs.Living.{HasGone}
+use Rattle.row_plans.proofs.LivingRows.{gone_later}
+use Rattle.op_eval.proofs.RowsAhead.{row_ahead}
 use Rattle.op_eval.proofs.Searches.{own_search, search_from, search_of}
 
 -- the search at a later row, under another name of its tree
@@ -27,52 +29,42 @@ search_at belongs place rows from row other root search up same at =
 
 -- ---- rows that are left behind
 module _ (root : Node) (dead : List ℕ) where
-  -- none before the next row that may match
-  up_to : (rows : List DocRow) (low : ℕ) (next : Option ℕ) → low ≤ unwrap_or next (length rows) → unwrap_or next (length rows) ≤ length rows → IsFirstOf rows root low next → numbers_from (is_wanted root dead) low rows ≡ numbers_from (is_wanted root dead) (unwrap_or next (length rows)) rows
-  up_to [] low next up within first = ap (λ n. numbers_from (is_wanted root dead) n []) (omega (arith, up, within))
-  up_to (r ∷ rows) low next up within first =
-      none_ahead (is_wanted root dead) (r ∷ rows) low (unwrap_or next (length (r ∷ rows))) r up within
-      (λ row above below. ap (λ b. b && lives dead row) (first.between row (get_or (r ∷ rows) row r) above below (slice_get-get_or (r ∷ rows) row r (omega (arith, below, within)))))
-
-  -- nor the row itself, if it isn't wanted
+  -- a row that is left, if it isn't wanted
   not_this : (rows : List DocRow) (row : ℕ) → row < length rows → ((its : DocRow) → slice_get rows row ≡ Some its → is_wanted root dead (row, its) ≡ false) → numbers_from (is_wanted root dead) row rows ≡ numbers_from (is_wanted root dead) (row + 1) rows
   not_this [] row within is = absurd (omega arith)
   not_this (r ∷ rows) row within is = row_ahead (is_wanted root dead) (r ∷ rows) row r false within (is (get_or (r ∷ rows) row r) (slice_get-get_or (r ∷ rows) row r within))
 
-module _ (belongs : Cursor → Type 0) (place : Cursor → CursorPlace) (rows : List DocRow) (root : Node) (dead : List ℕ) (start from : ℕ) (before : Search) (looks : LooksFrom belongs place rows root dead start from before) where
-  -- nothing is lost up to the next row that may match
-  to_row : (row : ℕ) → IsFirstOf rows before.root.now from (Some row) → numbers_from (is_wanted root dead) start rows ≡ numbers_from (is_wanted root dead) row rows
-  to_row row first =
-      looks.ahead
-      ∙ up_to root dead rows from (Some row) first.within.0 (omega (arith, first.within.1)) (subst (λ tree. IsFirstOf rows tree from (Some row)) looks.tree first)
+module _ (belongs : Cursor → Type 0) (place : Cursor → CursorPlace) (rows : List DocRow) (root : Node) (dead : List ℕ) (gone start from : ℕ) (before : Search) (looks : LooksFrom belongs place rows root dead gone start from before) where
+  -- the next row that isn't dead and has words that the plan wants, as the tree has it
+  of_tree : (row : ℕ) → IsOpen (is_wanted before.root.now dead) dead rows from row → IsOpen (is_wanted root dead) dead rows from row
+  of_tree row first = subst (λ tree. IsOpen (is_wanted tree dead) dead rows from row) looks.tree first
 
-  -- it isn't wanted
-  pub looks_on : (row : ℕ) (there later : Search) → IsFirstOf rows before.root.now from (Some row) → there.root ≡ before.root → later.root ≡ there.root → IsSearch belongs place rows row there.root.now later → ((its : DocRow) → slice_get rows row ≡ Some its → is_wanted there.root.now dead (row, its) ≡ false) → LooksFrom belongs place rows root dead start (row + 1) later
-  looks_on row there later first same stays at is =
+  -- it doesn't match
+  pub looks_on : (now row : ℕ) (there later : Search) → IsOpen (is_wanted before.root.now dead) dead rows from row → HasGone dead now row → there.root ≡ before.root → later.root ≡ there.root → IsSearch belongs place rows row there.root.now later → ((its : DocRow) → slice_get rows row ≡ Some its → (node_found there.root.now its).matches ≡ false) → LooksFrom belongs place rows root dead now start (row + 1) later
+  looks_on now row there later first behind same stays at is =
       let tree : there.root.now ≡ root = ap (λ (tree : Bor Node). tree.now) same ∙ looks.tree in
       record {
-        on = omega (arith, looks.on, first.within.0);
-        within = omega (arith, first.within.1);
+        on = omega (arith, looks.on, first.on);
+        within = omega (arith, first.within);
         tree = ap (λ (tree : Bor Node). tree.now) stays ∙ tree;
+        behind = gone_later dead now row (row + 1) (omega arith) behind;
         at = search_of belongs place rows row (row + 1) there later (omega arith) stays at;
-        ahead = to_row row first ∙ not_this root dead rows row first.within.1 (λ its here. ap (λ node. is_wanted node dead (row, its)) (sym tree) ∙ is its here);
+        ahead = looks.ahead ∙ sym (of_tree row first).passed
+            ∙ not_this root dead rows row first.within (λ its here. and_left (node_found root its).matches (lives dead row) (ap (λ node. (node_found node its).matches) (sym tree) ∙ is its here));
       }
 
-  -- it may be
-  pub is_first : (row : ℕ) → IsFirstOf rows before.root.now from (Some row) → list_any (λ d. d == row) dead ≡ false → IsFirstOpen (is_wanted root dead) dead rows start (Some row)
-  is_first row first living = record {
-    on = omega (arith, looks.on, first.within.0);
-    within = first.within.1;
-    living = living;
-    passed = sym (to_row row first);
+  -- it may match
+  pub is_first : (row : ℕ) → IsOpen (is_wanted before.root.now dead) dead rows from row → IsFirstOpen (is_wanted root dead) dead rows start (Some row)
+  is_first row first = record {
+    on = omega (arith, looks.on, first.on);
+    within = first.within;
+    living = first.living;
+    passed = (of_tree row first).passed ∙ sym looks.ahead;
   }
 
   -- no row is left
-  pub none_left : IsFirstOf rows before.root.now from None → IsFirstOpen (is_wanted root dead) dead rows start None
-  none_left first =
-      looks.ahead
-      ∙ up_to root dead rows from None looks.within (omega arith) (subst (λ tree. IsFirstOf rows tree from None) looks.tree first)
-      ∙ end_ahead (is_wanted root dead) rows (length rows) (omega arith)
+  pub none_left : IsFirstOpen (is_wanted before.root.now dead) dead rows from None → IsFirstOpen (is_wanted root dead) dead rows start None
+  none_left first = looks.ahead ∙ subst (λ tree. numbers_from (is_wanted tree dead) from rows ≡ []) looks.tree first
 
 -- a row that is dead is passed over
 pub dead_row : (query : Query) (rows : List DocRow) (dead : List ℕ) (row : ℕ) → row < length rows → list_any (λ d. d == row) dead ≡ true → numbers_from (is_matching query dead) row rows ≡ numbers_from (is_matching query dead) (row + 1) rows
@@ -134,11 +126,12 @@ module _ (belongs : Cursor → Type 0) (place : Cursor → CursorPlace) (rows : 
   stands_later from row (Some search) up stands = (stands.0, search_from belongs place rows from row search.root.now search up stands.1)
 
   -- it is behind the row at which it stood
-  pub behind : (from : ℕ) (dead : List ℕ) (search : Option Search) → from < length rows → length (query_keys query) < 2 ^ 16 → AllPairs (λ row later. row < later) dead → StandsAt belongs place rows from query search → IsStream belongs place rows (from + 1) query dead search
-  behind from dead search within few ascend stands = record {
+  pub behind : (from : ℕ) (dead : List ℕ) (gone : ℕ) (search : Option Search) → from < length rows → length (query_keys query) < 2 ^ 16 → AllPairs (λ row later. row < later) dead → HasGone dead gone from → StandsAt belongs place rows from query search → IsStream belongs place rows (from + 1) query dead gone search
+  behind from dead gone search within few ascend before stands = record {
     within = omega (arith, within);
     few = few;
     ascend = ascend;
+    behind = gone_later dead gone from (from + 1) (omega arith) before;
     stands = stands_later from (from + 1) search (omega arith) stands;
   }
 

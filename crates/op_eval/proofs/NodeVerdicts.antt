@@ -33,13 +33,13 @@ use Rattle.op_eval.proofs.TermParts.{items_keys, joint_parts, and_parts, span_pa
 -- ---- keywords that are told apart
 
 module _ (number : List ℕ → ℕ) where
-  apart_left : (ks ls : List Key) → AreApart number (ks ++ ls) → AreApart number ks
+  pub apart_left : (ks ls : List Key) → AreApart number (ks ++ ls) → AreApart number ks
   apart_left ks ls apart = λ a b in_a in_b. apart a b (Contains-append_left ks ls a in_a) (Contains-append_left ks ls b in_b)
 
-  apart_right : (ks ls : List Key) → AreApart number (ks ++ ls) → AreApart number ls
+  pub apart_right : (ks ls : List Key) → AreApart number (ks ++ ls) → AreApart number ls
   apart_right ks ls apart = λ a b in_a in_b. apart a b (Contains-append_right ks ls a in_a) (Contains-append_right ks ls b in_b)
 
-  apart_item : (items : List Item) (at : ℕ) (d : Item) → at < length items → AreApart number (items_keys items) → AreApart number (node_keys (get_or items at d).node)
+  pub apart_item : (items : List Item) (at : ℕ) (d : Item) → at < length items → AreApart number (items_keys items) → AreApart number (node_keys (get_or items at d).node)
   apart_item [] at d within apart = absurd (omega arith)
   apart_item (item ∷ items) zero d within apart = apart_left (node_keys item.node) (items_keys items) apart
   apart_item (item ∷ items) (suc at) d within apart = apart_item items at d (omega arith) (apart_right (node_keys item.node) (items_keys items) apart)
@@ -64,11 +64,11 @@ near_is n = record { left = λ ys. refl; right = flat_none }
 together_is : (ends : List (ℕ × ℕ)) → IsJoin (together ends)
 together_is ends = record { left = λ ys. refl; right = flat_none }
 
-any_none : {X : Type 0} (find : X → Found) → ((x : X) → (find x).matches ≡ false) → (xs : List X) → (any_of (map find xs)).matches ≡ false
+pub any_none : {X : Type 0} (find : X → Found) → ((x : X) → (find x).matches ≡ false) → (xs : List X) → (any_of (map find xs)).matches ≡ false
 any_none find none [] = refl
 any_none find none (x ∷ xs) = or_from (find x).matches (any_of (map find xs)).matches (none x) (any_none find none xs)
 
-kept_matches : (t : Bool) (a b : Found) → a.matches ≡ t → (cond t (either a b) nothing).matches ≡ t
+pub kept_matches : (t : Bool) (a b : Found) → a.matches ≡ t → (cond t (either a b) nothing).matches ≡ t
 kept_matches true a b e = ap (λ m. m || b.matches) e
 kept_matches false a b e = refl
 
@@ -98,7 +98,7 @@ module _ (row : DocRow) (number : List ℕ → ℕ) where
       → node_finds row number node spans ≡ joined join (node_finds row number a spans) (node_finds row number b spans) → (matches_of a spans && matches_of b spans) ≡ false → matches_of node spans ≡ false
   order_fails node a b join spans is finds e = ap (λ (found : Found). found.matches) finds ∙ join_fails join is a b spans e
 
-  ordered_fails : (node a b : Node) (spans : Spans) → IsOrdered node a b → (matches_of a spans && matches_of b spans) ≡ false → matches_of node spans ≡ false
+  pub ordered_fails : (node a b : Node) (spans : Spans) → IsOrdered node a b → (matches_of a spans && matches_of b spans) ≡ false → matches_of node spans ≡ false
   ordered_fails node a b spans (inl is) e = order_fails node a b before spans before_is (ap (λ (n : Node). node_finds row number n spans) is ∙ finds_before row number a b spans) e
   ordered_fails node a b spans (inr (inl (n, is))) e = order_fails node a b (near n) spans (near_is n) (ap (λ (n : Node). node_finds row number n spans) is ∙ finds_near row number n a b spans) e
   ordered_fails node a b spans (inr (inr (inl is))) e =

@@ -32,7 +32,7 @@ abbrev pub IsLoose : How → Type 0
 IsLoose how = ((k : ℕ) × (how ≡ hows.AtLeast k)) ⊎ ((digits : ℕ) × (decimals : ℕ) × (how ≡ hows.Share digits decimals))
 
 -- nothing is listed, or a word isn't there
-abbrev IsLacking : DocRow → List Key → Type 0
+abbrev pub IsLacking : DocRow → List Key → Type 0
 IsLacking row keys = (keys ≡ []) ⊎ HasAbsent row keys
 
 module _ (row : DocRow) (number : List ℕ → ℕ) where
@@ -46,7 +46,7 @@ module _ (row : DocRow) (number : List ℕ → ℕ) where
     | inr absent ↦ inr (absent_seen row keys terms seen absent)
   ]
 
-  close_none : (keys : List Key) (how : How) (spans : Spans) → IsClose how → AreApart number keys → IsLacking row keys → quoted_matches row number keys how spans ≡ false
+  pub close_none : (keys : List Key) (how : How) (spans : Spans) → IsClose how → AreApart number keys → IsLacking row keys → quoted_matches row number keys how spans ≡ false
   close_none keys how spans (inl e) apart (inl none) = ap (λ (h : How). quoted_matches row number keys h spans) e ∙ ap (λ (ks : List Key). quoted_matches row number ks hows.Phrase spans) none
   close_none keys how spans (inl e) apart (inr absent) = ap (λ (h : How). quoted_matches row number keys h spans) e ∙ ap is_some (no_runs row spans keys absent)
   close_none keys how spans (inr (n, e)) apart (inl none) = ap (λ (h : How). quoted_matches row number keys h spans) e ∙ ap (λ (ks : List Key). quoted_matches row number ks (hows.Within n) spans) none
@@ -61,7 +61,7 @@ module _ (row : DocRow) (number : List ℕ → ℕ) where
         | inr not ↦ subst (Tells spanned (quoted_matches row number keys how)) (sym (is ∙ ap (λ t. if t then verdicts.Open else verdicts.No) not)) (λ spans concerns. close_none keys how spans close apart (lacking keys terms seen not))
       ]
 
-  loose_is : (keys : List Key) (how : How) (spans : Spans) → IsLoose how → quoted_matches row number keys how spans ≡ is_enough how (length keys) (count_by (stands_in row spans) keys)
+  pub loose_is : (keys : List Key) (how : How) (spans : Spans) → IsLoose how → quoted_matches row number keys how spans ≡ is_enough how (length keys) (count_by (stands_in row spans) keys)
   loose_is keys how spans (inl (k, e)) =
       ap (λ (h : How). quoted_matches row number keys h spans) e ∙ guard_matches (is_enough (hows.AtLeast k) (length keys) (count_by (stands_in row spans) keys)) _ refl
       ∙ ap (λ (h : How). is_enough h (length keys) (count_by (stands_in row spans) keys)) (sym e)

@@ -1,5 +1,5 @@
 -- The numbers of the rows that pass, row by row; and whether a number is among those of dead rows, which ascend.
-use Rattle.std.proofs.Common.{◌≡◌, ℕ, ◌+◌, ◌-◌, ◌<◌, ◌≤◌, zero, suc, Bool, true, false, ◌==◌, cond, List, [], ◌∷◌, ◌++◌, length, map, take, get_or, Result, Ok, Err, refl, sym, ap, ◌∙◌, subst, inl, inr, arith}
+use Rattle.std.proofs.Common.{◌≡◌, ℕ, ◌+◌, ◌<◌, ◌≤◌, Bool, true, false, ◌==◌, cond, List, [], ◌∷◌, ◌++◌, length, map, take, get_or, Result, Ok, Err, refl, sym, ap, ◌∙◌, inl, inr, arith}
 use Rattle.std.specs.List.{AllPairs, filter, list_any, enumerate_from}
 use Rattle.std.specs.List.Sorted.{IsBinarySearchResult, IsSearchInRange, IsNonDecreasingBy}
 use Rattle.std.specs.Ordering.{nat_cmp, ordering_index}
@@ -7,7 +7,7 @@ use Rattle.std.specs.Result.{is_ok}
 use Rattle.std.specs.declared.cmp.Ordering.TheVariants.{Less, Equal, Greater}
 use Rattle.std.proofs.lemmas.Bool.{cases_eq, cases_lt}
 use Rattle.std.proofs.lemmas.Bool.Decides.{nat_tests}
-use Rattle.std.proofs.lemmas.List.{take_all, map-append, append-nil}
+use Rattle.std.proofs.lemmas.List.{take_all, map-append}
 use Rattle.std.proofs.lemmas.List.Elements.{filter_more}
 use Rattle.std.proofs.lemmas.List.Folds.{list_any_at, list_any_none}
 use Rattle.std.proofs.lemmas.List.FromFn.{length-enumerate_from, get_or-enumerate_from}
@@ -62,23 +62,6 @@ next_kept {X = X} passes xs i x within =
 pub next_passes : {X : Type 0} (passes : ℕ × X → Bool) (xs : List X) (i : ℕ) (x : X) (b : Bool) → i < length xs → passes (i, get_or xs i x) ≡ b → numbers_before passes (i + 1) xs ≡ numbers_before passes i xs ++ cond b (i ∷ []) []
 next_passes passes xs i x b within is = next_kept passes xs i x within ∙ ap (λ c. numbers_before passes i xs ++ cond c (i ∷ []) []) is
 
--- some that don't pass
-pub passed_over : {X : Type 0} (passes : ℕ × X → Bool) (xs : List X) (low more : ℕ) (x : X) → low + more ≤ length xs → ((i : ℕ) → low ≤ i → i < low + more → passes (i, get_or xs i x) ≡ false) → numbers_before passes (low + more) xs ≡ numbers_before passes low xs
-passed_over passes xs low zero x within none = let same : low + 0 ≡ low = omega arith in ap (λ n. numbers_before passes n xs) same
-passed_over passes xs low (suc more) x within none =
-    let next : low + suc more ≡ low + more + 1 = omega arith in
-    ap (λ n. numbers_before passes n xs) next
-    ∙ next_passes passes xs (low + more) x false (omega arith) (none (low + more) (omega arith) (omega arith))
-    ∙ append-nil (numbers_before passes (low + more) xs)
-    ∙ passed_over passes xs low more x (omega arith) (λ i above below. none i above (omega arith))
-
 -- all rows
 pub all_before : {X : Type 0} (passes : ℕ × X → Bool) (xs : List X) (n : ℕ) → length xs ≤ n → numbers_before passes n xs ≡ numbers_of passes xs
 all_before passes xs n long = ap (λ es. map (λ e. e.0) (filter passes es)) (take_all n (enumerate_from 0 xs) (omega (arith, length-enumerate_from 0 xs)))
-
--- as far as this one
-pub passed_to : {X : Type 0} (passes : ℕ × X → Bool) (xs : List X) (low high : ℕ) (x : X) → low ≤ high → high ≤ length xs → ((i : ℕ) → low ≤ i → i < high → passes (i, get_or xs i x) ≡ false) → numbers_before passes high xs ≡ numbers_before passes low xs
-passed_to passes xs low high x up within none =
-    let end : low + (high - low) ≡ high = omega arith in
-    subst (λ n. numbers_before passes n xs ≡ numbers_before passes low xs) end
-    (passed_over passes xs low (high - low) x (omega arith) (λ i above below. none i above (omega arith)))

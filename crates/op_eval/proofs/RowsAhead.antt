@@ -4,7 +4,7 @@ use Rattle.std.specs.Prelude.{drop}
 use Rattle.std.specs.List.{filter, enumerate_from}
 use Rattle.std.proofs.lemmas.List.{at_drop_all, at_drop_more}
 use Rattle.std.proofs.lemmas.List.FromFn.{length-enumerate_from, get_or-enumerate_from}
-use Rattle.op_eval.specs.steps.Streaming.{numbers_from}
+use Rattle.op_eval.specs.steps.Wanted.{numbers_from}
 
 module _ {X : Type 0} (passes : ℕ × X → Bool) where
   abbrev numbers_of_pairs : List (ℕ × X) → List ℕ

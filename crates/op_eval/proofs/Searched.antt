@@ -1,10 +1,8 @@
 -- A search's keywords and terms, as those of its node.
-use Rattle.std.proofs.Common.{◌≡◌, ℕ, Bool, false, List, [], ◌∷◌, ◌++◌, Bor, Some, map, slice_get, Result, Ok, Err, refl, sym, ap, subst, ◌∙◌}
-use Rattle.std.specs.Prelude.{All, IfOk, OnOk}
-use Rattle.std.specs.List.{AllZip, filter, list_any}
-use Rattle.std.proofs.lemmas.List.Elements.{All-head, All-tail}
+use Rattle.std.proofs.Common.{◌≡◌, Bool, false, List, [], ◌∷◌, ◌++◌, Bor, Some, map, Result, Ok, Err, refl, sym, ap, subst, ◌∙◌}
+use Rattle.std.specs.Prelude.{IfOk, OnOk}
+use Rattle.std.specs.List.{list_any}
 use Rattle.doc_types.specs.declared.documents.DocRow.{DocRow}
-use Rattle.doc_types.specs.Chunks.{has_word, hits_of}
 use Rattle.query_tree.specs.declared.key.Key.{Key}
 use Rattle.query_tree.specs.declared.query.Node.{Node}
 use Rattle.query_tree.specs.TreeKeys.{node_keys}
@@ -12,15 +10,14 @@ use Rattle.occ_lists.specs.declared.term.Term.{Term}
 use Rattle.occ_lists.specs.OccLists.{SameMembers}
 use Rattle.op_eval.specs.declared.finding.Finding.{Finding}
 use Rattle.word_rows.specs.declared.marks.RowMarks.{RowMarks}
-use Rattle.word_rows.specs.Keywords.{Spans, allows}
+use Rattle.word_rows.specs.Keywords.{Spans}
 use Rattle.op_eval.specs.Finding.{Found, node_finds, nothing}
 use Rattle.word_rows.specs.RowMarks.{Knows}
 use Rattle.op_eval.specs.steps.Evaluating.{Appends, Finds}
 use Rattle.op_eval.specs.steps.Searching.{node_found}
-use Rattle.word_rows.specs.Slots.{IsTermFor, number_among}
-use Rattle.word_rows.specs.Terms.{AreSeenIn, AreTermsOf, IsSeenIn}
+use Rattle.word_rows.specs.Slots.{number_among}
+use Rattle.word_rows.specs.Terms.{AreSeenIn, AreTermsOf}
 use Rattle.op_eval.specs.steps.Verdicts.{AreApart}
-use Rattle.word_rows.proofs.PlacedRows.{at_one}
 use Rattle.op_eval.proofs.SoundFindings.{sound}
 use Rattle.op_eval.proofs.WordNumbers.{numbers_apart}
 
@@ -34,23 +31,6 @@ words_are (key ∷ keys) = ap (λ words. key.now.word ∷ words) (words_are keys
 
 pub seen_as : (row : DocRow) (keys others : List Key) (items terms : List Term) → keys ≡ others → terms ≡ items → AreSeenIn row keys items → AreSeenIn row others terms
 seen_as row keys others items terms same are seen = subst (λ ks. AreSeenIn row ks terms) same (subst (AreSeenIn row keys) (sym are) seen)
-
--- terms before a row is looked at, in a row that has none of the words
-module _ (rows : List DocRow) (number : List ℕ → ℕ) (row : ℕ) (found : DocRow) (here : slice_get rows row ≡ Some found) where
-  one_absent : (key : Key) (term : Term) → IsTermFor rows number key term → term.present ≡ false → has_word key.word found ≡ false → IsSeenIn found key term
-  one_absent key term is absent none = record {
-    present = absent ∙ sym none;
-    free = λ free. at_one (λ r. filter (allows r key) (hits_of key.word r) ≡ hits_of key.word r) rows (is.free free) row found here;
-  }
-
-  pub all_absent : (keys : List Key) (terms : List Term) → AllZip (IsTermFor rows number) keys terms → All (λ term. term.present ≡ false) terms → All (λ word. has_word word found ≡ false) (map (λ key. key.word) keys) → AreSeenIn found keys terms
-  all_absent [] [] are absent none = tt
-  all_absent [] (term ∷ terms) are absent none = absurd are
-  all_absent (key ∷ keys) [] are absent none = absurd are
-  all_absent (key ∷ keys) (term ∷ terms) are absent none = (
-    one_absent key term are.0 (All-head (λ (t : Term). t.present ≡ false) term terms absent) (All-head (λ word. has_word word found ≡ false) key.word (map (λ (k : Key). k.word) keys) none),
-    all_absent keys terms are.1 (All-tail (λ (t : Term). t.present ≡ false) term terms absent) (All-tail (λ word. has_word word found ≡ false) key.word (map (λ (k : Key). k.word) keys) none),
-  )
 
 -- ---- what is found
 pub appended : {X : Type 0} (old new found : List X) → Appends old new found → old ≡ [] → SameMembers new found

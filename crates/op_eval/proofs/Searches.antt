@@ -1,13 +1,16 @@
 -- What a search answers, as what a query finds: the rows that it has visited, and that a tree over rows finds what its query does.
-use Rattle.std.proofs.Common.{◌≡◌, ℕ, ◌+◌, ◌<◌, ◌≤◌, ◌^◌, Bool, cond, List, [], ◌∷◌, ◌++◌, length, get_or, Option, Some, None, Bor, refl, sym, ap, ◌∙◌, subst, arith}
-use Rattle.std.specs.Prelude.{slice_get, if◌then◌else◌, not, ◌==◌, ◌&&◌, unwrap_or, AllPairs, IsTrue}
+use Rattle.std.proofs.Common.{◌≡◌, ℕ, ◌+◌, ◌<◌, ◌≤◌, ◌^◌, Bool, cond, List, [], ◌∷◌, ◌++◌, length, map, get_or, Option, Some, None, Bor, refl, sym, ap, ◌∙◌, subst, append_assoc, append-nil, arith}
+use Rattle.std.specs.Prelude.{slice_get, if◌then◌else◌, not, ◌==◌, ◌&&◌, AllPairs, IsTrue}
 use Rattle.std.specs.List.{list_any}
 use Rattle.std.specs.Coded.{le_prop}
+use Rattle.std.proofs.Math.Bool.{and-true}
 use Rattle.std.proofs.Math.Logic.{∥∥₁_elim}
+use Rattle.std.proofs.lemmas.List.{length-map}
 use Rattle.std.proofs.lemmas.Option.{slice_get-get_or}
 use Rattle.doc_types.specs.declared.cursor.Cursor.{Cursor}
 use Rattle.doc_types.specs.declared.documents.DocRow.{DocRow}
-use Rattle.doc_types.specs.Chunks.{IsContent, CursorPlace}
+use Rattle.doc_types.specs.Chunks.{IsContent, CursorPlace, rows_with}
+use Rattle.query_tree.specs.declared.key.Key.{Key}
 use Rattle.query_tree.specs.declared.query.Node.{Node}
 use Rattle.query_tree.specs.declared.query.Query.{Query}
 use Rattle.query_tree.specs.TreeKeys.{node_keys, query_keys}
@@ -21,11 +24,15 @@ use Rattle.op_eval.specs.Finding.{Found}
 use Rattle.op_eval.specs.Hits.{AreHits, comes_before}
 use Rattle.op_eval.specs.Matching.{matching, query_finds}
 use Rattle.op_eval.specs.Occurrences.{AreOccurrences}
-use Rattle.op_eval.specs.steps.Searching.{IsFirstOf, IsSearch, node_found}
+use Rattle.op_eval.specs.steps.Searching.{IsSearch, node_found}
+use Rattle.op_eval.specs.steps.Streaming.{IsFirstOpen, IsOpen}
 use Rattle.word_rows.specs.Slots.{words_of}
-use Rattle.op_eval.specs.steps.Wanted.{HasVisited, is_wanted, lives, numbers_before, numbers_of}
+use Rattle.op_eval.specs.steps.Wanted.{HasVisited, is_wanted, lives, numbers_before, numbers_from, numbers_of}
 use Rattle.word_rows.proofs.Passing.{all_weaken}
-use Rattle.op_eval.proofs.RowNumbers.{all_before, next_passes, passed_to}
+use Rattle.row_plans.specs.Living.{HasGone}
+use Rattle.row_plans.proofs.LivingRows.{gone_later}
+use Rattle.op_eval.proofs.RowNumbers.{next_passes}
+use Rattle.op_eval.proofs.RowsAhead.{row_ahead}
 
 -- ---- where a search stands
 -- the search that has gone over no row from one on has gone over none from a later one on
@@ -41,7 +48,7 @@ search_from belongs place rows from row root search up at = record {
   boundaries = at.boundaries;
   spans = at.spans;
   none = at.none;
-  every = at.every;
+  plan = at.plan;
 }
 
 -- under another name of the tree
@@ -58,6 +65,12 @@ own_search belongs place rows from row root search up at =
 pub few : (rows : List DocRow) → ∥ IsContent rows ∥₁ → length rows < 2 ^ 32
 few rows content = ∥∥₁_elim content (hlevel le_prop) (λ is. is.small.few_rows)
 
+-- a count for each keyword
+pub as_many_counts : (rows : List DocRow) (keys given : List (Bor Key)) (counts told : List ℕ) (root : Node) → map (λ (key : Bor Key). key.now) keys ≡ node_keys root → given ≡ keys → counts ≡ map (λ (key : Bor Key). length (rows_with key.now.word rows)) given → told ≡ counts → length told ≡ length (node_keys root)
+as_many_counts rows keys given counts told root own same made as_told =
+    ap length as_told ∙ ap length made ∙ length-map given (λ (key : Bor Key). length (rows_with key.now.word rows)) ∙ ap length same
+    ∙ sym (length-map keys (λ (key : Bor Key). key.now)) ∙ ap length own
+
 -- ---- the rows that are wanted
 some_row : (rows : List DocRow) (row : ℕ) → row < length rows → DocRow
 some_row [] row within = absurd (omega arith)
@@ -67,39 +80,35 @@ some_row (r ∷ rows) row within = r
 pub next_living : (rows : List DocRow) (dead : List ℕ) (row : ℕ) (gone : Bool) → row < length rows → gone ≡ list_any (λ d. d == row) dead → numbers_before (λ (e : ℕ × DocRow). lives dead e.0) (row + 1) rows ≡ numbers_before (λ (e : ℕ × DocRow). lives dead e.0) row rows ++ cond (not gone) (row ∷ []) []
 next_living rows dead row gone within is = next_passes (λ (e : ℕ × DocRow). lives dead e.0) rows row (some_row rows row within) (not gone) within (ap not (sym is))
 
--- none is wanted where none matches
-pub all_passed : (rows : List DocRow) (root : Node) (dead : List ℕ) (low : ℕ) (next : Option ℕ) → low ≤ unwrap_or next (length rows) → unwrap_or next (length rows) ≤ length rows → IsFirstOf rows root low next → numbers_before (is_wanted root dead) (unwrap_or next (length rows)) rows ≡ numbers_before (is_wanted root dead) low rows
-all_passed [] root dead low next up within first = ap (λ n. numbers_before (is_wanted root dead) n []) (omega (arith, up, within))
-all_passed (r ∷ rows) root dead low next up within first =
-    passed_to (is_wanted root dead) (r ∷ rows) low (unwrap_or next (length (r ∷ rows))) r up within
-    (λ row above below. ap (λ b. b && lives dead row) (first.between row (get_or (r ∷ rows) row r) above below (slice_get-get_or (r ∷ rows) row r (omega (arith, below, within)))))
-
 -- one row more is visited
-pub visited_next : (belongs : Cursor → Type 0) (place : Cursor → CursorPlace) (rows : List DocRow) (root : Node) (dead : List ℕ) (from row : ℕ) (before there after : Search) (old new : List ℕ) → HasVisited belongs place rows root dead from before old → IsFirstOf rows before.root.now from (Some row) → there.root ≡ before.root → after.root ≡ there.root → IsSearch belongs place rows row there.root.now after → ((r : DocRow) → slice_get rows row ≡ Some r → new ≡ old ++ (if is_wanted there.root.now dead (row, r) then row ∷ [] else [])) → HasVisited belongs place rows root dead (row + 1) after new
-visited_next belongs place rows root dead from row before there after old new visited first same_first same_second at is =
-    let within : row < length rows = first.within.1 in
+pub visited_next : (belongs : Cursor → Type 0) (place : Cursor → CursorPlace) (rows : List DocRow) (root : Node) (dead : List ℕ) (gone now from row : ℕ) (before there after : Search) (old new : List ℕ) → HasVisited belongs place rows root dead gone from before old → IsOpen (is_wanted before.root.now dead) dead rows from row → HasGone dead now row → there.root ≡ before.root → after.root ≡ there.root → IsSearch belongs place rows row there.root.now after → ((r : DocRow) → slice_get rows row ≡ Some r → new ≡ old ++ (if (node_found there.root.now r).matches then row ∷ [] else [])) → HasVisited belongs place rows root dead now (row + 1) after new
+visited_next belongs place rows root dead gone now from row before there after old new visited first behind same_first same_second at is =
+    let within : row < length rows = first.within in
     let some : DocRow = some_row rows row within in
     let r : DocRow = get_or rows row some in
+    let m : Bool = (node_found root r).matches in
     let its : there.root.now ≡ root = ap (λ (tree : Bor Node). tree.now) same_first ∙ visited.tree in
-    let passed : numbers_before (is_wanted root dead) row rows ≡ numbers_before (is_wanted root dead) from rows =
-    all_passed rows root dead from (Some row) first.within.0 (omega arith) (subst (λ tree. IsFirstOf rows tree from (Some row)) visited.tree first) in
+    let open_row : IsOpen (is_wanted root dead) dead rows from row = subst (λ tree. IsOpen (is_wanted tree dead) dead rows from row) visited.tree first in
+    let step : numbers_from (is_wanted root dead) row rows ≡ cond m (row ∷ []) [] ++ numbers_from (is_wanted root dead) (row + 1) rows =
+    row_ahead (is_wanted root dead) rows row some m within (ap (λ b. m && not b) open_row.living ∙ and-true m) in
     record {
       within = omega arith;
       tree = ap (λ (tree : Bor Node). tree.now) same_second ∙ its;
+      behind = gone_later dead now row (row + 1) (omega arith) behind;
       at = search_of belongs place rows row (row + 1) there after (omega arith) same_second at;
       all =
-          is r (slice_get-get_or rows row some within)
-          ∙ ap (λ tree. old ++ (if is_wanted tree dead (row, r) then row ∷ [] else [])) its
-          ∙ ap (λ ns. ns ++ (if is_wanted root dead (row, r) then row ∷ [] else [])) (visited.all ∙ sym passed)
-          ∙ sym (next_passes (is_wanted root dead) rows row some (is_wanted root dead (row, r)) within refl);
+          ap (λ ns. ns ++ numbers_from (is_wanted root dead) (row + 1) rows)
+          (is r (slice_get-get_or rows row some within) ∙ ap (λ tree. old ++ (if (node_found tree r).matches then row ∷ [] else [])) its)
+          ∙ append_assoc old (cond m (row ∷ []) []) (numbers_from (is_wanted root dead) (row + 1) rows)
+          ∙ ap (λ ns. old ++ ns) (sym step ∙ open_row.passed)
+          ∙ visited.all;
     }
 
 -- no row is left
-pub visited_all : (belongs : Cursor → Type 0) (place : Cursor → CursorPlace) (rows : List DocRow) (root : Node) (dead : List ℕ) (from : ℕ) (search : Search) (found : List ℕ) → HasVisited belongs place rows root dead from search found → IsFirstOf rows search.root.now from None → found ≡ numbers_of (is_wanted root dead) rows
-visited_all belongs place rows root dead from search found visited first =
-    visited.all
-    ∙ sym (all_passed rows root dead from None visited.within (omega arith) (subst (λ tree. IsFirstOf rows tree from None) visited.tree first))
-    ∙ all_before (is_wanted root dead) rows (length rows) (omega arith)
+pub visited_all : (belongs : Cursor → Type 0) (place : Cursor → CursorPlace) (rows : List DocRow) (root : Node) (dead : List ℕ) (gone from : ℕ) (search : Search) (found : List ℕ) → HasVisited belongs place rows root dead gone from search found → IsFirstOpen (is_wanted search.root.now dead) dead rows from None → found ≡ numbers_of (is_wanted root dead) rows
+visited_all belongs place rows root dead gone from search found visited first =
+    let none : numbers_from (is_wanted root dead) from rows ≡ [] = subst (λ tree. numbers_from (is_wanted tree dead) from rows ≡ []) visited.tree first in
+    sym (append-nil found) ∙ ap (λ ns. found ++ ns) (sym none) ∙ visited.all
 
 -- ---- a query and its tree
 matching_root : (tree : Option Node) (keywords : ℕ) (root : Node) (rows : List DocRow) (dead : List ℕ) → tree ≡ Some root → matching (record { root = tree; keywords = keywords }) rows dead ≡ numbers_of (is_wanted root dead) rows
@@ -135,6 +144,9 @@ few_keys query root tree is same few = subst (λ (n : Node). length (node_keys n
 keys_root : (tree : Option Node) (keywords : ℕ) (root : Node) → tree ≡ Some root → query_keys (record { root = tree; keywords = keywords }) ≡ node_keys root
 keys_root None keywords root is = cc
 keys_root (Some node) keywords root is = let same : node ≡ root = cc in ap node_keys same
+
+pub query_keys_are : (query : Query) (root : Node) → query.root ≡ Some root → query_keys query ≡ node_keys root
+query_keys_are query root is = keys_root query.root query.keywords root is
 
 -- what a query's tree opens, as what the query does
 pub opened_by : (query : Query) (root tree : Node) (row : DocRow) (old new : ℕ) → query.root ≡ Some root → tree ≡ root → new ≤ old + present_in row (node_keys tree) → new ≤ old + present_in row (query_keys query)

@@ -10,6 +10,8 @@ pub mod Occurrences
 pub mod Hits
 -- the rows that match, one after another
 pub mod Streams
+-- the lists that rows may open
+pub mod Debts
 -- what serves proofs and private functions alone
 pub mod steps
 -- queries whose keywords are numbered, and their hits

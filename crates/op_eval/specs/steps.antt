@@ -12,3 +12,5 @@ pub mod Searching
 pub mod Wanted
 -- a query's tree between two rows that match
 pub mod Streaming
+-- plans that serve a query's tree
+pub mod Planned

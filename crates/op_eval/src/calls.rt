@@ -2,13 +2,14 @@
 ghost use Rattle.std.specs.Prelude.{◌≡◌, ◌+◌, ◌<◌, ◌≤◌, ◌^◌, ◌++◌, ◌∷◌, ◌==◌, [], Some, length, slice_get, if◌then◌else◌, AllPairs, IsTrue, IfOk, OnOk};
 ghost use Rattle.std.specs.List.{list_any};
 ghost use Rattle.doc_types.specs.declared.documents.DocRow.{DocRow};
-ghost use Rattle.query_tree.specs.TreeKeys.{query_keys};
+ghost use Rattle.query_tree.specs.TreeKeys.{node_keys, query_keys};
 ghost use Rattle.occ_lists.specs.OccLists.{SameMembers};
 ghost use Rattle.word_rows.specs.Keywords.{present_in};
+ghost use Rattle.op_eval.specs.Debts.{due};
 ghost use Rattle.op_eval.specs.Hits.{AreHits, comes_before};
 ghost use Rattle.op_eval.specs.Matching.{matching};
 ghost use Rattle.op_eval.specs.Occurrences.{AreOccurrences};
-ghost use Rattle.op_eval.specs.steps.Searching.{IsSearch};
+ghost use Rattle.op_eval.specs.steps.Searching.{IsSearch, node_found};
 ghost use Rattle.op_eval.specs.steps.Wanted.{is_wanted, lives, numbers_of};
 
 use crate::finding::Finding;
@@ -19,7 +20,8 @@ use query_tree::{Node, Query};
 use srch_base::{Items, NoMemory, Steps};
 use std::alloc::Global;
 
-/// The rows that match the query and aren't dead, ascending.
+/// The rows that match the query and aren't dead, ascending. A list of places is opened once for each keyword of a row whose word
+/// the row has, at most.
 pub fn candidates<C: CountedLists>(
     alloc: Global,
     query: &Query,
@@ -28,7 +30,8 @@ pub fn candidates<C: CountedLists>(
     steps: &mut Steps<C::Book>,
 ) -> Result<Vec<u32>, NoMemory>
     requires dead { AllPairs (λ row later. row < later) dead.now }
-    ensures { IfOk result (λ rows. rows.items ≡ matching query.now (C.content chunk.now) dead.now) }
+    ensures rows { IfOk result (λ rows. rows.items ≡ matching query.now (C.content chunk.now) dead.now) }
+    ensures debt { steps.new ≤ steps.old + due (C.content chunk.now) (query_keys query.now) 0 }
 {
     match &query.root {
         None => living(alloc, chunk, dead),
@@ -67,35 +70,36 @@ fn wanted<C: CountedLists>(
     steps: &mut Steps<C::Book>,
 ) -> Result<Vec<u32>, NoMemory>
     requires dead { AllPairs (λ row later. row < later) dead.now }
-    ensures { IfOk result (λ rows. rows.items ≡ numbers_of (is_wanted root.now dead.now) (C.content chunk.now)) }
+    ensures rows { IfOk result (λ rows. rows.items ≡ numbers_of (is_wanted root.now dead.now) (C.content chunk.now)) }
+    ensures debt { steps.new ≤ steps.old + due (C.content chunk.now) (node_keys root.now) 0 }
 {
     let mut search = Search::over(alloc, root, chunk)?;
     let mut found = Vec::new(alloc);
+    let mut gone = 0;
     let mut from = 0;
-    'rows: while let Some(row) = search.next_row(chunk, from) {
-        put_wanted(&mut search, chunk, row, dead, steps, &mut found)?;
+    'rows: while let Some(row) = search.next_row(chunk, dead, &mut gone, from) {
+        put_matching(&mut search, chunk, row, steps, &mut found)?;
         from = row + 1;
     }
     Ok(found)
 }
 
-/// Adds the row, if it matches and isn't dead.
-fn put_wanted<C: CountedLists>(
+/// Adds the row, if it matches.
+fn put_matching<C: CountedLists>(
     search: &mut Search,
     chunk: &C,
     row: u32,
-    dead: &[u32],
     steps: &mut Steps<C::Book>,
     found: &mut Vec<u32>,
 ) -> Result<(), NoMemory>
     requires row { row < length (C.content chunk.now) }
     requires search { IsSearch (C.belongs chunk.now) (C.place chunk.now) (C.content chunk.now) row search.old.root.now search.old }
-    requires dead { AllPairs (λ row later. row < later) dead.now }
     ensures root { search.new.root ≡ search.old.root }
+    ensures count { (its : DocRow) → slice_get (C.content chunk.now) row ≡ Some its → steps.new ≤ steps.old + present_in its (node_keys search.old.root.now) }
     ensures search { OnOk result (IsSearch (C.belongs chunk.now) (C.place chunk.now) (C.content chunk.now) row search.old.root.now search.new) }
-    ensures found { (its : DocRow) → slice_get (C.content chunk.now) row ≡ Some its → OnOk result (found.new.items ≡ found.old.items ++ (if is_wanted search.old.root.now dead.now (row, its) then row ∷ [] else [])) }
+    ensures found { (its : DocRow) → slice_get (C.content chunk.now) row ≡ Some its → OnOk result (found.new.items ≡ found.old.items ++ (if (node_found search.old.root.now its).matches then row ∷ [] else [])) }
 {
-    if !is_dead(dead, row) && search.matches(chunk, row, steps)? {
+    if search.matches(chunk, row, steps)? {
         found.push(row)?;
     }
     Ok(())

@@ -1,5 +1,6 @@
 //! Laws on queries whose keywords are numbered, and on the hits of a query. The functions do nothing: their contracts are the laws.
-ghost use Rattle.std.specs.Prelude.{List, length, All, Any};
+ghost use Rattle.std.specs.Prelude.{◌≡◌, List, length, sum_by, All, Any};
+ghost use Rattle.doc_types.specs.Chunks.{rows_with};
 ghost use Rattle.doc_types.specs.declared.documents.DocRow.{DocRow};
 ghost use Rattle.doc_types.specs.declared.hits.Hit.{Hit};
 ghost use Rattle.doc_types.specs.declared.schema.Schema.{Schema};
@@ -7,6 +8,7 @@ ghost use Rattle.doc_types.specs.Documents.{IsField};
 ghost use Rattle.query_tree.specs.declared.key.Key.{Key};
 ghost use Rattle.query_tree.specs.declared.query.Query.{Query as QueryValue};
 ghost use Rattle.query_tree.specs.TreeKeys.{query_keys};
+ghost use Rattle.op_eval.specs.Debts.{due};
 ghost use Rattle.op_eval.specs.Hits.{AreHits};
 ghost use Rattle.word_rows.specs.Keywords.{key_places};
 ghost use Rattle.op_eval.specs.Numbered.{AreHitsWithin, IsHitOf, IsNumbered, IsWordAt};
@@ -27,4 +29,9 @@ pub fn each_hit_is_of_a_keyword()
 /// position at one place. So they can be weighed.
 pub fn hits_can_be_weighed()
     ensures { (query : QueryValue) (row : DocRow) (hits : List Hit) → IsNumbered query → All IsField row.doc.fields → AreHits query row hits → AreHitsWithin query.keywords (length row.doc.fields) hits }
+{}
+
+/// All rows of a chunk may open as many lists as their keywords have rows, all counted together.
+pub fn all_rows_owe_their_counts()
+    ensures { (rows : List DocRow) (keys : List Key) → due rows keys 0 ≡ sum_by (λ key. length (rows_with key.word rows)) keys }
 {}

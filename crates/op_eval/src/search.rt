@@ -1,6 +1,6 @@
-//! A query on its way over the rows of a chunk. Only rows that have some word of it are visited, unless it can do without; the
+//! A query on its way over the rows of a chunk. It goes from row to row by a plan, which says what the words of a row must be; the
 //! words that are there decide where they can, and only else are lists of places opened, each keyword's once.
-ghost use Rattle.std.specs.Prelude.{◌≡◌, ◌+◌, ◌<◌, ◌≤◌, ◌^◌, ℕ, List, [], false, Some, All, IfOk, OnOk, length, slice_get};
+ghost use Rattle.std.specs.Prelude.{◌≡◌, ◌+◌, ◌<◌, ◌≤◌, ◌^◌, ℕ, List, [], false, Some, All, AllPairs, IfOk, OnOk, length, slice_get, unwrap_or};
 ghost use Rattle.occ_lists.specs.Terms.{IsPlaced};
 ghost use Rattle.word_rows.specs.RowMarks.{Knows};
 ghost use Rattle.word_rows.specs.Slots.{AreAt, keys_of, number_among};
@@ -9,16 +9,22 @@ ghost use Rattle.query_tree.specs.TreeKeys.{node_keys};
 ghost use Rattle.word_rows.specs.Keywords.{present_in};
 ghost use Rattle.op_eval.specs.Finding.{node_finds};
 ghost use Rattle.occ_lists.specs.OccLists.{SameMembers};
-ghost use Rattle.op_eval.specs.steps.Searching.{IsFirstOf, IsSearch, node_found};
+ghost use Rattle.op_eval.specs.steps.Searching.{IsSearch, node_found};
+ghost use Rattle.op_eval.specs.steps.Streaming.{IsFirstOpen};
+ghost use Rattle.op_eval.specs.steps.Wanted.{is_wanted};
+ghost use Rattle.row_plans.specs.Living.{HasGone};
 ghost use Rattle.word_rows.specs.Terms.{AreSeenIn, AreTermsOf};
 ghost use Rattle.op_eval.specs.steps.Verdicts.{AreApart};
 
 use crate::finding::{Finding, find};
 use crate::matching::{Work, matches};
+use crate::planning::{has_vetoes, plan_of};
 use crate::verdict::{Verdict, judge};
+use crate::walking::{next_row_alive, row_counts};
 use doc_types::{Chunk, CountedLists, Gap};
 use occ_lists::{Buffers, Term};
 use query_tree::Node;
+use row_plans::Plan;
 use srch_base::{NoMemory, Steps};
 use std::alloc::Global;
 use word_rows::{AskedMarks, RowMarks, Slots, asks_for};
@@ -29,8 +35,10 @@ pub(crate) struct Search<'q> {
     pub root: &'q Node,
     pub slots: Slots<'q>,
     pub asked: AskedMarks,
-    /// A row that has none of the words may match.
-    pub every: bool,
+    /// What the words of a row must be, for the row to match.
+    pub plan: Plan,
+    /// A row whose words are so may be vetoed by its words.
+    pub vetoed: bool,
     pub marks: RowMarks,
     pub work: Work,
     gaps: Vec<(u16, (u32, Gap))>,
@@ -45,12 +53,14 @@ impl<'q> Search<'q> {
         ensures { IfOk result (λ search. IsSearch (C.belongs chunk.now) (C.place chunk.now) (C.content chunk.now) 0 root.now search) }
     {
         let slots = Slots::over(alloc, root, chunk)?;
-        let every = may_match(root, &slots.terms);
+        let counts = row_counts(alloc, &slots.keys, chunk)?;
+        let plan = plan_of(alloc, root, &counts)?;
         Ok(Search {
             root,
             slots,
             asked: asks_for(root),
-            every,
+            plan,
+            vetoed: has_vetoes(root),
             marks: RowMarks::new(alloc),
             work: Work {
                 spans: Vec::new(alloc),
@@ -60,30 +70,37 @@ impl<'q> Search<'q> {
         })
     }
 
-    /// The first row from this one on that may match.
-    pub(crate) fn next_row<C: Chunk>(&mut self, chunk: &C, from: u32) -> Option<u32>
-        requires { IsSearch (C.belongs chunk.now) (C.place chunk.now) (C.content chunk.now) from self.old.root.now self.old }
+    /// The first row from this one on that isn't dead and of whose words the plan holds. The first `gone` of the dead rows lie
+    /// before the row at which it begins, and then before that which it answers.
+    pub(crate) fn next_row<C: Chunk>(
+        &mut self,
+        chunk: &C,
+        dead: &[u32],
+        gone: &mut usize,
+        from: u32,
+    ) -> Option<u32>
+        requires from { from ≤ length (C.content chunk.now) }
+        requires ascend { AllPairs (λ row later. row < later) dead.now }
+        requires gone { HasGone dead.now gone.old from }
+        requires search { IsSearch (C.belongs chunk.now) (C.place chunk.now) (C.content chunk.now) from self.old.root.now self.old }
         ensures root { self.new.root ≡ self.old.root }
-        ensures search { IsSearch (C.belongs chunk.now) (C.place chunk.now) (C.content chunk.now) from self.old.root.now self.new }
-        ensures first { IsFirstOf (C.content chunk.now) self.old.root.now from result }
+        ensures gone { HasGone dead.now gone.new (unwrap_or result (length (C.content chunk.now))) }
+        ensures search { IsSearch (C.belongs chunk.now) (C.place chunk.now) (C.content chunk.now) (unwrap_or result (length (C.content chunk.now))) self.old.root.now self.new }
+        ensures first { IsFirstOpen (is_wanted self.old.root.now dead.now) dead.now (C.content chunk.now) from result }
     {
-        if !self.every {
-            return self.slots.next_row(chunk, from);
-        }
-        if from < chunk.rows() {
-            Some(from)
-        } else {
-            None
-        }
+        next_row_alive(&self.plan, chunk, &mut self.slots, dead, gone, from)
     }
 
-    /// Whether the row may match, as far as its words tell.
+    /// Whether the row, of whose words the plan holds, may match, as far as its words tell.
     pub(crate) fn may_match<C: Chunk>(&mut self, chunk: &C, row: u32) -> bool
         requires { IsSearch (C.belongs chunk.now) (C.place chunk.now) (C.content chunk.now) row self.old.root.now self.old }
         ensures root { self.new.root ≡ self.old.root }
         ensures search { IsSearch (C.belongs chunk.now) (C.place chunk.now) (C.content chunk.now) row self.old.root.now self.new }
         ensures passed { result ≡ false → (found : DocRow) → slice_get (C.content chunk.now) row ≡ Some found → (node_found self.old.root.now found).matches ≡ false }
     {
+        if !self.vetoed {
+            return true;
+        }
         self.slots.seek(chunk, row);
         may_match(self.root, &self.slots.terms)
     }

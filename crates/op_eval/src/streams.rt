@@ -32,6 +32,8 @@ pub struct Matches<'a, C: Chunk> {
     dead: &'a [u32],
     /// The rows before this one went by.
     from: u32,
+    /// So many of the dead rows lie before it.
+    gone: usize,
     /// None exactly where the query has no keyword.
     search: Option<Search<'a>>,
     found: Finding,
@@ -50,7 +52,7 @@ impl<'a, C: Chunk> Model for Matches<'a, C> {
 
     ghost view = { λ a. record { query = a.query.now; rows = C.content a.chunk.now; dead = a.dead.now; at = a.from } };
 
-    ghost invariant = { λ a. IsStream (C.belongs a.chunk.now) (C.place a.chunk.now) (C.content a.chunk.now) a.from a.query.now a.dead.now a.search };
+    ghost invariant = { λ a. IsStream (C.belongs a.chunk.now) (C.place a.chunk.now) (C.content a.chunk.now) a.from a.query.now a.dead.now a.gone a.search };
 }
 
 impl<'a, C: Chunk> Matches<'a, C> {
@@ -71,6 +73,7 @@ impl<'a, C: Chunk> Matches<'a, C> {
             chunk,
             dead,
             from: 0,
+            gone: 0,
             search,
             found: Finding::empty(alloc),
             alloc,
@@ -81,7 +84,13 @@ impl<'a, C: Chunk> Matches<'a, C> {
     pub fn row(&mut self) -> Option<u32>
         ensures { GoesOn self.old result self.new }
     {
-        let next = first_open(&mut self.search, self.chunk, self.dead, self.from);
+        let next = first_open(
+            &mut self.search,
+            self.chunk,
+            self.dead,
+            &mut self.gone,
+            self.from,
+        );
         match next {
             Some(row) => self.from = row,
             None => self.from = self.chunk.rows(),

@@ -1,6 +1,5 @@
 //! The next row that isn't dead and may match a query, and what is found in one.
-ghost use Rattle.std.specs.Prelude.{◌≡◌, ◌+◌, ◌<◌, ◌≤◌, ◌^◌, ◌==◌, true, false, Some, length, slice_get, unwrap_or, AllPairs, IfSome, IfOk, OnOk};
-ghost use Rattle.std.specs.List.{list_any};
+ghost use Rattle.std.specs.Prelude.{◌≡◌, ◌+◌, ◌<◌, ◌≤◌, ◌^◌, Some, length, slice_get, unwrap_or, AllPairs, IfSome, IfOk, OnOk};
 ghost use Rattle.doc_types.specs.declared.documents.DocRow.{DocRow};
 ghost use Rattle.occ_lists.specs.OccLists.{SameMembers};
 ghost use Rattle.query_tree.specs.TreeKeys.{query_keys};
@@ -10,6 +9,7 @@ ghost use Rattle.op_eval.specs.Matching.{query_finds};
 ghost use Rattle.op_eval.specs.steps.Searching.{IsSearch};
 ghost use Rattle.op_eval.specs.steps.Streaming.{IsFirstOpen, StandsAt, is_matching};
 ghost use Rattle.op_eval.specs.steps.Wanted.{is_wanted};
+ghost use Rattle.row_plans.specs.Living.{HasGone};
 
 use crate::calls::is_dead;
 use crate::finding::Finding;
@@ -18,22 +18,26 @@ use doc_types::{Chunk, CountedLists};
 use query_tree::Query;
 use srch_base::{NoMemory, Steps};
 
-/// The first row from this one on that isn't dead and may match, as far as its words tell. Without a search any row may.
+/// The first row from this one on that isn't dead and may match, as far as its words tell. Without a search any row may. The first
+/// `gone` of the dead rows lie before the row at which it begins, and then before that which it answers.
 pub(crate) fn first_open<C: Chunk>(
     search: &mut Option<Search>,
     chunk: &C,
     dead: &[u32],
+    gone: &mut usize,
     from: u32,
 ) -> Option<u32>
     requires from { from ≤ length (C.content chunk.now) }
     requires dead { AllPairs (λ row later. row < later) dead.now }
+    requires gone { HasGone dead.now gone.old from }
     requires search { IfSome search.old (λ its. IsSearch (C.belongs chunk.now) (C.place chunk.now) (C.content chunk.now) from its.root.now its) }
+    ensures gone { HasGone dead.now gone.new (unwrap_or result (length (C.content chunk.now))) }
     ensures stands { (query : QueryValue) → StandsAt (C.belongs chunk.now) (C.place chunk.now) (C.content chunk.now) from query search.old → StandsAt (C.belongs chunk.now) (C.place chunk.now) (C.content chunk.now) (unwrap_or result (length (C.content chunk.now))) query search.new }
     ensures first { (query : QueryValue) → StandsAt (C.belongs chunk.now) (C.place chunk.now) (C.content chunk.now) from query search.old → IsFirstOpen (is_matching query dead.now) dead.now (C.content chunk.now) from result }
 {
     match search {
         None => first_living(chunk, dead, from),
-        Some(search) => first_worded(search, chunk, dead, from),
+        Some(search) => first_worded(search, chunk, dead, gone, from),
     }
 }
 
@@ -41,7 +45,8 @@ pub(crate) fn first_open<C: Chunk>(
 fn first_living<C: Chunk>(chunk: &C, dead: &[u32], from: u32) -> Option<u32>
     requires from { from ≤ length (C.content chunk.now) }
     requires dead { AllPairs (λ row later. row < later) dead.now }
-    ensures { (query : QueryValue) → IsFirstOpen (is_matching query dead.now) dead.now (C.content chunk.now) from result }
+    ensures on { from ≤ unwrap_or result (length (C.content chunk.now)) }
+    ensures first { (query : QueryValue) → IsFirstOpen (is_matching query dead.now) dead.now (C.content chunk.now) from result }
 {
     for row in from..chunk.rows() {
         if !is_dead(dead, row) {
@@ -52,33 +57,29 @@ fn first_living<C: Chunk>(chunk: &C, dead: &[u32], from: u32) -> Option<u32>
 }
 
 /// The first row from this one on that isn't dead and may match the tree.
-fn first_worded<C: Chunk>(search: &mut Search, chunk: &C, dead: &[u32], from: u32) -> Option<u32>
+fn first_worded<C: Chunk>(
+    search: &mut Search,
+    chunk: &C,
+    dead: &[u32],
+    gone: &mut usize,
+    from: u32,
+) -> Option<u32>
     requires from { from ≤ length (C.content chunk.now) }
     requires dead { AllPairs (λ row later. row < later) dead.now }
+    requires gone { HasGone dead.now gone.old from }
     requires search { IsSearch (C.belongs chunk.now) (C.place chunk.now) (C.content chunk.now) from search.old.root.now search.old }
+    ensures gone { HasGone dead.now gone.new (unwrap_or result (length (C.content chunk.now))) }
     ensures search { IsSearch (C.belongs chunk.now) (C.place chunk.now) (C.content chunk.now) (unwrap_or result (length (C.content chunk.now))) search.old.root.now search.new }
     ensures first { IsFirstOpen (is_wanted search.old.root.now dead.now) dead.now (C.content chunk.now) from result }
 {
     let mut at = from;
-    'rows: while let Some(row) = search.next_row(chunk, at) {
-        if is_open(search, chunk, dead, row) {
+    'rows: while let Some(row) = search.next_row(chunk, dead, gone, at) {
+        if search.may_match(chunk, row) {
             return Some(row);
         }
         at = row + 1;
     }
     None
-}
-
-/// Whether the row isn't dead and may match. Of a dead one the words aren't looked at.
-fn is_open<C: Chunk>(search: &mut Search, chunk: &C, dead: &[u32], row: u32) -> bool
-    requires search { IsSearch (C.belongs chunk.now) (C.place chunk.now) (C.content chunk.now) row search.old.root.now search.old }
-    requires dead { AllPairs (λ row later. row < later) dead.now }
-    ensures root { search.new.root ≡ search.old.root }
-    ensures search { IsSearch (C.belongs chunk.now) (C.place chunk.now) (C.content chunk.now) row search.old.root.now search.new }
-    ensures living { result ≡ true → list_any (λ d. d == row) dead.now ≡ false }
-    ensures passed { result ≡ false → (its : DocRow) → slice_get (C.content chunk.now) row ≡ Some its → is_wanted search.old.root.now dead.now (row, its) ≡ false }
-{
-    !is_dead(dead, row) && search.may_match(chunk, row)
 }
 
 /// Whether the row matches, and what is found in it, in the place of what was found before. A list of places is opened for each

@@ -1,10 +1,10 @@
 -- the keywords of a query on their way over the rows of a chunk, each with a cursor over those that have its word
-use Rattle.std.specs.Prelude.{◌≡◌, ◌≤◌, ◌<◌, ℕ, List, [], map, length, true, false, Option, Some, None, All, IfSome, slice_get, nat_le, unwrap_or}
+use Rattle.std.specs.Prelude.{◌≡◌, ℕ, List, [], map, true, Option, Some, None, All, slice_get, nat_le, unwrap_or}
 use Rattle.std.specs.List.{AllZip, filter, position}
 use Rattle.std.specs.Str.{bytes_eq}
 use Rattle.doc_types.specs.declared.cursor.Cursor.{Cursor}
 use Rattle.doc_types.specs.declared.documents.DocRow.{DocRow}
-use Rattle.doc_types.specs.Chunks.{CursorPlace, has_word, hits_of, rows_with, next_row}
+use Rattle.doc_types.specs.Chunks.{CursorPlace, hits_of, rows_with, next_row}
 use Rattle.query_tree.specs.declared.key.Key.{Key}
 use Rattle.occ_lists.specs.declared.term.Term.{Term}
 use Rattle.word_rows.specs.declared.slots.Slots.{Slots}
@@ -31,15 +31,6 @@ Stands belongs place rows from word (Some cursor) = IsOver belongs place rows fr
 abbrev pub next_of : (Cursor → CursorPlace) → Option Cursor → Option ℕ
 next_of place None = None
 next_of place (Some cursor) = next_row (place cursor)
-
--- no row from the one number up to the other has one of the words
-pub record NoneBetween (rows : List DocRow) (words : List (List ℕ)) (from to : ℕ) : Type 0 where
-  pub none : (row : ℕ) (found : DocRow) → from ≤ row → row < to → slice_get rows row ≡ Some found → All (λ word. has_word word found ≡ false) words
-
--- the first row from this one on that has one of the words
-pub record IsFirstWith (rows : List DocRow) (words : List (List ℕ)) (from : ℕ) (next : Option ℕ) : Type 0 where
-  pub within : IfSome next (λ row. (from ≤ row) × (row < length rows))
-  pub between : NoneBetween rows words from (unwrap_or next (length rows))
 
 -- ---- terms
 

@@ -25,7 +25,7 @@ pub fn part_last<'t>(node: &Node, terms: &'t [Term]) -> (&'t [Term], &'t [Term])
 
 /// How many keywords the node has, those under NOT too; the greatest number where there are more.
 #[cycle(counting)]
-fn key_count(node: &Node) -> usize
+pub fn key_count(node: &Node) -> usize
     ensures { result ≡ min (length (node_keys node.now)) usize.MAX }
 {
     match node {

@@ -1,4 +1,4 @@
-//! The keywords of a query over the rows of a chunk: which row has their words next, and where they are in a row.
+//! The keywords of a query over the rows of a chunk: which of their words a row has, and where they are in it.
 #![tactic(auto)]
 
 mod asking;
@@ -9,6 +9,6 @@ mod marks;
 mod slots;
 
 pub use asking::{AskedMarks, asks_for};
-pub use counting::{part_first, part_last};
+pub use counting::{key_count, part_first, part_last};
 pub use marks::RowMarks;
 pub use slots::Slots;

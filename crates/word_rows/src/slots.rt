@@ -7,8 +7,8 @@ ghost use Rattle.doc_types.specs.declared.documents.DocRow.{DocRow};
 ghost use Rattle.query_tree.specs.TreeKeys.{node_keys};
 ghost use Rattle.word_rows.specs.Keywords.{has_field, first_uses};
 ghost use Rattle.word_rows.specs.Terms.{AreSeenIn};
-ghost use Rattle.word_rows.specs.steps.Cursors.{with_word, HasPassed, IsMadeFor, IsUnlimited, Passes, earlier, earliest, is_next};
-ghost use Rattle.word_rows.specs.Slots.{AreAt, AreSlots, IsFirstWith, Stands, keys_of, number_among, words_of, next_of};
+ghost use Rattle.word_rows.specs.steps.Cursors.{with_word, HasPassed, IsMadeFor, IsUnlimited, Passes, is_next};
+ghost use Rattle.word_rows.specs.Slots.{AreAt, AreSlots, Stands, keys_of, number_among, words_of, next_of};
 
 use crate::keys::put_keys;
 use doc_types::{Chunk, Cursor, MAX_POSITION};
@@ -58,17 +58,6 @@ impl<'q> Slots<'q> {
     {
         self.pass(chunk, row);
         mark_all(chunk, &self.cursors, row, &mut self.terms);
-    }
-
-    /// The first row from this one on that has some of the words.
-    pub fn next_row<C: Chunk>(&mut self, chunk: &C, from: u32) -> Option<u32>
-        requires { AreSlots (C.belongs chunk.now) (C.place chunk.now) (C.content chunk.now) from self.old }
-        ensures keys { self.new.keys ≡ self.old.keys }
-        ensures slots { AreSlots (C.belongs chunk.now) (C.place chunk.now) (C.content chunk.now) from self.new }
-        ensures first { IsFirstWith (C.content chunk.now) (words_of self.old) from result }
-    {
-        self.pass(chunk, from);
-        earliest(chunk, &self.cursors)
     }
 
     /// Takes each cursor over the rows before this one.
@@ -132,29 +121,6 @@ fn next_of<C: Chunk>(chunk: &C, cursor: Option<Cursor>) -> Option<u32>
     ensures { result ≡ next_of (C.place chunk.now) cursor }
 {
     chunk.row(&cursor?)
-}
-
-/// The earliest of the rows that come next, where one is left.
-fn earliest<C: Chunk>(chunk: &C, cursors: &[Option<Cursor>]) -> Option<u32>
-    requires { All (λ cursor. IfSome cursor (C.belongs chunk.now)) cursors.now }
-    ensures { result ≡ earliest (C.place chunk.now) cursors.now }
-{
-    let mut least = None;
-    for cursor in cursors {
-        least = earlier(least, next_of(chunk, *cursor));
-    }
-    least
-}
-
-/// The earlier of two rows, where there are any.
-fn earlier(a: Option<u32>, b: Option<u32>) -> Option<u32>
-    ensures { result ≡ earlier a b }
-{
-    match (a, b) {
-        (Some(a), Some(b)) => Some(a.min(b)),
-        (Some(a), None) => Some(a),
-        (None, b) => b,
-    }
 }
 
 /// Tells each term whether this row is the next of its cursor.

@@ -1,20 +1,17 @@
 -- a query's tree on its way over the rows of a chunk, from one that may match to the next
-use Rattle.std.specs.Prelude.{◌≡◌, ◌<◌, ◌≤◌, ◌^◌, ◌==◌, ◌&&◌, ℕ, List, [], map, length, drop, Bool, not, Option, Some, None, false, AllPairs}
-use Rattle.std.specs.List.{filter, list_any, enumerate_from}
+use Rattle.std.specs.Prelude.{◌≡◌, ◌<◌, ◌≤◌, ◌^◌, ◌==◌, ◌&&◌, ℕ, List, [], length, Bool, not, Option, Some, None, false, AllPairs}
+use Rattle.std.specs.List.{list_any}
 use Rattle.doc_types.specs.declared.cursor.Cursor.{Cursor}
 use Rattle.doc_types.specs.declared.documents.DocRow.{DocRow}
 use Rattle.doc_types.specs.Chunks.{CursorPlace}
 use Rattle.query_tree.specs.declared.query.Node.{Node}
 use Rattle.query_tree.specs.declared.query.Query.{Query}
 use Rattle.query_tree.specs.TreeKeys.{query_keys}
+use Rattle.row_plans.specs.Living.{HasGone}
 use Rattle.op_eval.specs.declared.search.Search.{Search}
 use Rattle.op_eval.specs.Matching.{matches}
 use Rattle.op_eval.specs.steps.Searching.{IsSearch}
-use Rattle.op_eval.specs.steps.Wanted.{is_wanted}
-
--- the numbers of the rows from this one on that pass, ascending
-abbrev pub numbers_from : {X : Type 0} → (ℕ × X → Bool) → ℕ → List X → List ℕ
-numbers_from passes n rows = map (λ e. e.0) (filter passes (drop n (enumerate_from 0 rows)))
+use Rattle.op_eval.specs.steps.Wanted.{is_wanted, numbers_from}
 
 -- the row matches the query, and is none of the dead ones
 abbrev pub is_matching : Query → List ℕ → ℕ × DocRow → Bool
@@ -33,10 +30,11 @@ IsFirstOpen passes dead rows from None = numbers_from passes from rows ≡ []
 IsFirstOpen passes dead rows from (Some row) = IsOpen passes dead rows from row
 
 -- The search has gone over no row from this one on, and none from the start up to it passes.
-pub record LooksFrom (belongs : Cursor → Type 0) (place : Cursor → CursorPlace) (rows : List DocRow) (root : Node) (dead : List ℕ) (start from : ℕ) (search : Search) : Type 0 where
+pub record LooksFrom (belongs : Cursor → Type 0) (place : Cursor → CursorPlace) (rows : List DocRow) (root : Node) (dead : List ℕ) (gone start from : ℕ) (search : Search) : Type 0 where
   pub on : start ≤ from
   pub within : from ≤ length rows
   pub tree : search.root.now ≡ root
+  pub behind : HasGone dead gone from
   pub at : IsSearch belongs place rows from search.root.now search
   pub ahead : numbers_from (is_wanted root dead) start rows ≡ numbers_from (is_wanted root dead) from rows
 
@@ -46,8 +44,9 @@ StandsAt belongs place rows from query None = query.root ≡ None
 StandsAt belongs place rows from query (Some its) = (query.root ≡ Some its.root.now) × IsSearch belongs place rows from its.root.now its
 
 -- What is so between two rows: so far all rows before this one went by.
-pub record IsStream (belongs : Cursor → Type 0) (place : Cursor → CursorPlace) (rows : List DocRow) (from : ℕ) (query : Query) (dead : List ℕ) (search : Option Search) : Type 0 where
+pub record IsStream (belongs : Cursor → Type 0) (place : Cursor → CursorPlace) (rows : List DocRow) (from : ℕ) (query : Query) (dead : List ℕ) (gone : ℕ) (search : Option Search) : Type 0 where
   pub within : from ≤ length rows
   pub few : length (query_keys query) < 2 ^ 16
   pub ascend : AllPairs (λ row later. row < later) dead
+  pub behind : HasGone dead gone from
   pub stands : StandsAt belongs place rows from query search

@@ -1,6 +1,6 @@
 -- cursors on their way from row to row, and terms as they are made
-use Rattle.std.specs.Prelude.{◌≡◌, ◌≤◌, ◌<◌, ℕ, List, [], true, false, Option, Some, None, Bool, ◌==◌, slice_get, nat_le, min, ◌∷◌, ◌++◌, if◌then◌else◌}
-use Rattle.std.specs.List.{filter, fold, list_any}
+use Rattle.std.specs.Prelude.{◌≡◌, ◌≤◌, ◌<◌, ℕ, List, [], true, false, Option, Some, None, Bool, ◌==◌, slice_get, nat_le, ◌∷◌, ◌++◌, if◌then◌else◌}
+use Rattle.std.specs.List.{filter, list_any}
 use Rattle.std.specs.Option.{option_map_or}
 use Rattle.std.specs.Str.{bytes_eq}
 use Rattle.doc_types.specs.declared.cursor.Cursor.{Cursor}
@@ -30,16 +30,6 @@ abbrev pub Passes : (Cursor → Type 0) → (Cursor → CursorPlace) → ℕ →
 Passes belongs place row None new = new ≡ None
 Passes belongs place row (Some old) None = ⊥
 Passes belongs place row (Some old) (Some new) = HasPassed belongs place row old new
-
--- the earlier of two rows, where there are any
-abbrev pub earlier : Option ℕ → Option ℕ → Option ℕ
-earlier None b = b
-earlier (Some a) None = Some a
-earlier (Some a) (Some b) = Some (min a b)
-
--- the earliest of the rows that come next
-abbrev pub earliest : (Cursor → CursorPlace) → List (Option Cursor) → Option ℕ
-earliest place cursors = fold (λ least cursor. earlier least (next_of place cursor)) None cursors
 
 -- the words with this one, which is added if it isn't there
 abbrev pub with_word : List (List ℕ) → List ℕ → List (List ℕ)

@@ -1,6 +1,7 @@
 use Rattle.std.proofs.Common.{◌≡◌}
 use Rattle.query_tree.specs.declared.query.Query.{Query}
-use Rattle.op_eval.specs.steps.Streaming.{is_matching, numbers_from}
+use Rattle.op_eval.specs.steps.Streaming.{is_matching}
+use Rattle.op_eval.specs.steps.Wanted.{numbers_from}
 use Rattle.op_eval.proofs.wanted.first_living.Given as goal
 
 abbrev pub invariant-loop-row : goal.invariant-loop-row

@@ -1,10 +1,15 @@
 use Rattle.std.proofs.Common.{length}
 use Rattle.std.specs.Prelude.{unwrap_or}
+use Rattle.row_plans.proofs.LivingRows.{gone_later}
 use Rattle.op_eval.proofs.NextMatches.{opens_for, stands_now}
 use Rattle.op_eval.proofs.wanted.first_open.Goals as goal
 
 pub returns-in-None-clause-first : goal.returns-in-None-clause-first
-returns-in-None-clause-first g c = λ query stands. c.first_living.ensures query
+returns-in-None-clause-first g c = λ query stands. c.first_living.ensures.first query
+
+pub returns-in-None-clause-gone : goal.returns-in-None-clause-gone
+returns-in-None-clause-gone g c =
+    gone_later c.args.dead.now c.args.gone.now c.args.from (unwrap_or c.first_living.result (length (g.C.Chunk.content c.args.chunk.now))) c.first_living.ensures.on c.requires.gone
 
 pub returns-in-Some-clause-stands : goal.returns-in-Some-clause-stands
 returns-in-Some-clause-stands g c = λ query stands.

@@ -12,5 +12,5 @@ overflow_add-self g c =
 
 pub invariant_of-self-2 : goal.invariant_of-self-2
 invariant_of-self-2 g c =
-    behind (g.C.Chunk.belongs c.self.inside.chunk.now) (g.C.Chunk.place c.self.inside.chunk.now) (g.C.Chunk.content c.self.inside.chunk.now) c.self.inside.query.now c.self.inside.from c.self.inside.dead.now c.row_matches.new.search
-    (subst (λ (it : Stream). it.at < length it.rows) (sym c.self.view_is) c.requires) c.self.invariant.few c.self.invariant.ascend c.row_matches.ensures.stands
+    behind (g.C.Chunk.belongs c.self.inside.chunk.now) (g.C.Chunk.place c.self.inside.chunk.now) (g.C.Chunk.content c.self.inside.chunk.now) c.self.inside.query.now c.self.inside.from c.self.inside.dead.now c.self.inside.gone c.row_matches.new.search
+    (subst (λ (it : Stream). it.at < length it.rows) (sym c.self.view_is) c.requires) c.self.invariant.few c.self.invariant.ascend c.self.invariant.behind c.row_matches.ensures.stands

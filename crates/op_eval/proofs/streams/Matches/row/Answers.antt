@@ -1,4 +1,5 @@
 use Rattle.std.proofs.Common.{ℕ, refl, sym, subst, arith}
+use Rattle.row_plans.specs.Living.{HasGone}
 use Rattle.op_eval.specs.Streams.{GoesTo, Stream}
 use Rattle.op_eval.specs.steps.Streaming.{StandsAt}
 use Rattle.op_eval.proofs.streams.Matches.row.Goals as goal
@@ -10,6 +11,7 @@ invariant_of-self g c =
       within = omega (arith, first.within);
       few = c.self.invariant.few;
       ascend = c.self.invariant.ascend;
+      behind = c.in-Some.ensures.gone;
       stands = c.in-Some.ensures.stands c.self.inside.query.now c.self.invariant.stands;
     }
 
@@ -18,6 +20,7 @@ invariant_of-self-in-None g c = record {
   within = omega (arith, c.rows-self-inside.ensures);
   few = c.self.invariant.few;
   ascend = c.self.invariant.ascend;
+  behind = subst (HasGone c.self.inside.dead.now c.first_open-next.new.gone) (sym c.rows-self-inside.ensures) c.in-None.ensures.gone;
   stands =
       subst (λ (n : ℕ). StandsAt (g.C.Chunk.belongs c.self.inside.chunk.now) (g.C.Chunk.place c.self.inside.chunk.now) (g.C.Chunk.content c.self.inside.chunk.now) n c.self.inside.query.now c.first_open-next.new.search)
       (sym c.rows-self-inside.ensures)

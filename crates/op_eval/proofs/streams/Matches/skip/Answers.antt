@@ -12,5 +12,5 @@ overflow_add-self g c =
 
 pub invariant_of-self : goal.invariant_of-self
 invariant_of-self g c =
-    behind (g.C.Chunk.belongs c.self.inside.chunk.now) (g.C.Chunk.place c.self.inside.chunk.now) (g.C.Chunk.content c.self.inside.chunk.now) c.self.inside.query.now c.self.inside.from c.self.inside.dead.now c.self.inside.search
-    (subst (λ (it : Stream). it.at < length it.rows) (sym c.self.view_is) c.requires) c.self.invariant.few c.self.invariant.ascend c.self.invariant.stands
+    behind (g.C.Chunk.belongs c.self.inside.chunk.now) (g.C.Chunk.place c.self.inside.chunk.now) (g.C.Chunk.content c.self.inside.chunk.now) c.self.inside.query.now c.self.inside.from c.self.inside.dead.now c.self.inside.gone c.self.inside.search
+    (subst (λ (it : Stream). it.at < length it.rows) (sym c.self.view_is) c.requires) c.self.invariant.few c.self.invariant.ascend c.self.invariant.behind c.self.invariant.stands

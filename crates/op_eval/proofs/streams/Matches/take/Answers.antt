@@ -12,10 +12,10 @@ overflow_add-self g c =
 
 pub invariant_of-self-then-told : goal.invariant_of-self-then-told
 invariant_of-self-then-told g c =
-    behind (g.C.Chunk.belongs c.self.inside.chunk.now) (g.C.Chunk.place c.self.inside.chunk.now) (g.C.Chunk.content c.self.inside.chunk.now) c.self.inside.query.now c.self.inside.from c.self.inside.dead.now c.find_row.new.search
-    (subst (λ (it : Stream). it.at < length it.rows) (sym c.self.view_is) c.requires) c.self.invariant.few c.self.invariant.ascend c.find_row.ensures.stands
+    behind (g.C.Chunk.belongs c.self.inside.chunk.now) (g.C.Chunk.place c.self.inside.chunk.now) (g.C.Chunk.content c.self.inside.chunk.now) c.self.inside.query.now c.self.inside.from c.self.inside.dead.now c.self.inside.gone c.find_row.new.search
+    (subst (λ (it : Stream). it.at < length it.rows) (sym c.self.view_is) c.requires) c.self.invariant.few c.self.invariant.ascend c.self.invariant.behind c.find_row.ensures.stands
 
 pub invariant_of-self-else-told : goal.invariant_of-self-else-told
 invariant_of-self-else-told g c =
-    behind (g.C.Chunk.belongs c.self.inside.chunk.now) (g.C.Chunk.place c.self.inside.chunk.now) (g.C.Chunk.content c.self.inside.chunk.now) c.self.inside.query.now c.self.inside.from c.self.inside.dead.now c.find_row.new.search
-    (subst (λ (it : Stream). it.at < length it.rows) (sym c.self.view_is) c.requires) c.self.invariant.few c.self.invariant.ascend c.find_row.ensures.stands
+    behind (g.C.Chunk.belongs c.self.inside.chunk.now) (g.C.Chunk.place c.self.inside.chunk.now) (g.C.Chunk.content c.self.inside.chunk.now) c.self.inside.query.now c.self.inside.from c.self.inside.dead.now c.self.inside.gone c.find_row.new.search
+    (subst (λ (it : Stream). it.at < length it.rows) (sym c.self.view_is) c.requires) c.self.invariant.few c.self.invariant.ascend c.self.invariant.behind c.find_row.ensures.stands
