@@ -33,7 +33,7 @@ module _ (keys : List Key) where
       let same : at + (later - at) ≡ later = omega (arith, l) in
       omega (arith, due_some rows at (later - at) (omega (arith, same, within)), ap (due rows keys) same)
 
-  due_end : (rows : List DocRow) (at : ℕ) → length rows ≤ at → due rows keys at ≡ 0
+  pub due_end : (rows : List DocRow) (at : ℕ) → length rows ≤ at → due rows keys at ≡ 0
   due_end rows at l = at_drop_all (sum_by (λ row. present_in row keys)) rows at l
 
 -- ---- a stream's calls

@@ -1,15 +1,15 @@
 //! A query on its way over the rows of a chunk. It goes from row to row by a plan, which says what the words of a row must be; the
 //! words that are there decide where they can, and only else are lists of places opened, each keyword's once.
-ghost use Rattle.std.specs.Prelude.{◌≡◌, ◌+◌, ◌<◌, ◌≤◌, ◌^◌, ℕ, List, [], false, Some, All, AllPairs, IfOk, OnOk, length, slice_get, unwrap_or};
+ghost use Rattle.std.specs.Prelude.{◌≡◌, ◌+◌, ◌<◌, ◌≤◌, ◌^◌, ℕ, List, [], true, false, Some, All, AllPairs, IfOk, OnOk, length, slice_get, unwrap_or};
 ghost use Rattle.occ_lists.specs.Terms.{IsPlaced};
 ghost use Rattle.word_rows.specs.RowMarks.{Knows};
-ghost use Rattle.word_rows.specs.Slots.{AreAt, keys_of, number_among};
+ghost use Rattle.word_rows.specs.Slots.{AreAt, AreSlots, keys_of, number_among};
 ghost use Rattle.doc_types.specs.declared.documents.DocRow.{DocRow};
 ghost use Rattle.query_tree.specs.TreeKeys.{node_keys};
 ghost use Rattle.word_rows.specs.Keywords.{present_in};
 ghost use Rattle.op_eval.specs.Finding.{node_finds};
 ghost use Rattle.occ_lists.specs.OccLists.{SameMembers};
-ghost use Rattle.op_eval.specs.steps.Searching.{IsSearch, node_found};
+ghost use Rattle.op_eval.specs.steps.Searching.{IsSearch, KnowsRow, node_found};
 ghost use Rattle.op_eval.specs.steps.Streaming.{IsFirstOpen};
 ghost use Rattle.op_eval.specs.steps.Wanted.{is_wanted};
 ghost use Rattle.row_plans.specs.Living.{HasGone};
@@ -39,6 +39,8 @@ pub(crate) struct Search<'q> {
     pub plan: Plan,
     /// A row whose words are so may be vetoed by its words.
     pub vetoed: bool,
+    /// The row that was looked at last, if the terms still know which words it has.
+    pub known: Option<u32>,
     pub marks: RowMarks,
     pub work: Work,
     gaps: Vec<(u16, (u32, Gap))>,
@@ -61,6 +63,7 @@ impl<'q> Search<'q> {
             asked: asks_for(root),
             plan,
             vetoed: has_vetoes(root),
+            known: None,
             marks: RowMarks::new(alloc),
             work: Work {
                 spans: Vec::new(alloc),
@@ -88,6 +91,7 @@ impl<'q> Search<'q> {
         ensures search { IsSearch (C.belongs chunk.now) (C.place chunk.now) (C.content chunk.now) (unwrap_or result (length (C.content chunk.now))) self.old.root.now self.new }
         ensures first { IsFirstOpen (is_wanted self.old.root.now dead.now) dead.now (C.content chunk.now) from result }
     {
+        self.known = None;
         next_row_alive(&self.plan, chunk, &mut self.slots, dead, gone, from)
     }
 
@@ -101,7 +105,7 @@ impl<'q> Search<'q> {
         if !self.vetoed {
             return true;
         }
-        self.slots.seek(chunk, row);
+        seek(&mut self.slots, &mut self.known, chunk, row);
         may_match(self.root, &self.slots.terms)
     }
 
@@ -119,7 +123,7 @@ impl<'q> Search<'q> {
         ensures search { IsSearch (C.belongs chunk.now) (C.place chunk.now) (C.content chunk.now) row self.old.root.now self.new }
         ensures told { (found : DocRow) → slice_get (C.content chunk.now) row ≡ Some found → IfOk result (λ told. told ≡ (node_found self.old.root.now found).matches) }
     {
-        self.slots.seek(chunk, row);
+        seek(&mut self.slots, &mut self.known, chunk, row);
         match judge(self.root, &self.slots.terms, false) {
             Verdict::No => Ok(false),
             Verdict::Yes => Ok(true),
@@ -151,7 +155,7 @@ impl<'q> Search<'q> {
         ensures hits { (its : DocRow) → slice_get (C.content chunk.now) row ≡ Some its → length (node_keys self.old.root.now) < 2 ^ 16 → OnOk result (SameMembers found.new.hits.items (node_found self.old.root.now its).hits) }
     {
         found.clear();
-        self.slots.seek(chunk, row);
+        seek(&mut self.slots, &mut self.known, chunk, row);
         if !may_match(self.root, &self.slots.terms) {
             return Ok(false);
         }
@@ -186,9 +190,38 @@ impl<'q> Search<'q> {
         ensures marks { (found : DocRow) → slice_get (C.content chunk.now) row ≡ Some found → OnOk result (Knows found self.old.root.now self.new.marks) }
         ensures placed { OnOk result (All IsPlaced self.new.slots.terms.items) }
     {
+        self.known = None;
         self.marks.load(chunk, row, self.asked, &mut self.gaps)?;
         self.slots.load(chunk, row, &self.marks.spans, &mut self.work.buffers, steps)?;
         Ok(())
+    }
+}
+
+/// Goes to the row: each term knows afterwards whether the row has its word. At the row that was looked at last nothing is left to
+/// do.
+fn seek<C: Chunk>(slots: &mut Slots, known: &mut Option<u32>, chunk: &C, row: u32)
+    requires slots { AreSlots (C.belongs chunk.now) (C.place chunk.now) (C.content chunk.now) row slots.old }
+    requires known { KnowsRow (C.place chunk.now) (C.content chunk.now) slots.old known.old }
+    ensures keys { slots.new.keys ≡ slots.old.keys }
+    ensures slots { AreSlots (C.belongs chunk.now) (C.place chunk.now) (C.content chunk.now) row slots.new }
+    ensures known { KnowsRow (C.place chunk.now) (C.content chunk.now) slots.new known.new }
+    ensures at { AreAt (C.place chunk.now) (C.content chunk.now) row slots.new }
+    ensures seen { (found : DocRow) → slice_get (C.content chunk.now) row ≡ Some found → AreSeenIn found (keys_of slots.new) slots.new.terms.items }
+{
+    if is_row(*known, row) {
+        return;
+    }
+    slots.seek(chunk, row);
+    *known = Some(row);
+}
+
+/// Whether it is this row.
+fn is_row(known: Option<u32>, row: u32) -> bool
+    ensures { result ≡ true → known ≡ Some row }
+{
+    match known {
+        Some(known) => known == row,
+        None => false,
     }
 }
 

@@ -5,6 +5,7 @@ ghost use Rattle.doc_types.specs.declared.documents.DocRow.{DocRow};
 ghost use Rattle.occ_lists.specs.OccLists.{SameMembers};
 ghost use Rattle.query_tree.specs.TreeKeys.{query_keys};
 ghost use Rattle.word_rows.specs.Keywords.{present_in};
+ghost use Rattle.op_eval.specs.Debts.{owed};
 ghost use Rattle.op_eval.specs.Hits.{comes_before};
 ghost use Rattle.op_eval.specs.Matching.{matches};
 ghost use Rattle.op_eval.specs.Streams.{GoesOn, Takes};
@@ -24,7 +25,8 @@ use std::mem;
 /// A query on its way over the rows of a chunk.
 ///
 /// `row` goes on to the next row that isn't dead and may match, as far as its words tell. That one is taken, told of without its
-/// hits, or skipped. After want of memory all is as before, so that the row can be taken then. Contracts see it as a `Stream`.
+/// hits, or skipped. After want of memory all is as before, so that the row can be taken then. What was opened and what the rows
+/// ahead may still open never rise together. Contracts see it as a `Stream`.
 #[derive(Drop)]
 pub struct Matches<'a, C: Chunk> {
     query: &'a Query,
@@ -80,9 +82,11 @@ impl<'a, C: Chunk> Matches<'a, C> {
         })
     }
 
-    /// Goes on to the next row that isn't dead and may match, as far as its words tell. It stays at one where it stands.
+    /// Goes on to the next row that isn't dead and may match, as far as its words tell. It stays at one where it stands. No list of
+    /// places is opened, and what is owed doesn't rise.
     pub fn row(&mut self) -> Option<u32>
-        ensures { GoesOn self.old result self.new }
+        ensures goes { GoesOn self.old result self.new }
+        ensures debt { owed self.new ≤ owed self.old }
     {
         let next = first_open(
             &mut self.search,
@@ -113,6 +117,8 @@ impl<'a, C: CountedLists> Matches<'a, C> {
     pub fn take(&mut self, hits: &mut Hits, steps: &mut Steps<C::Book>) -> Result<bool, NoMemory>
         requires { self.old.at < length self.old.rows }
         ensures takes { IfOk result (λ told. Takes self.old told hits.old hits.new self.new) }
+        ensures debt { OnOk result (steps.new + owed self.new ≤ steps.old + owed self.old) }
+        ensures failed { OnErr result (steps.new ≤ steps.old + owed self.old) }
         ensures count { (doc : DocRow) → slice_get self.old.rows self.old.at ≡ Some doc → steps.new ≤ steps.old + present_in doc (query_keys self.old.query) }
         ensures same { OnErr result (self.new ≡ self.old) }
         ensures kept { OnErr result (hits.new ≡ hits.old) }
@@ -138,6 +144,8 @@ impl<'a, C: CountedLists> Matches<'a, C> {
     pub fn matches(&mut self, steps: &mut Steps<C::Book>) -> Result<bool, NoMemory>
         requires { self.old.at < length self.old.rows }
         ensures stands { OnOk result (self.new ≡ record self.old { at = self.old.at + 1 }) }
+        ensures debt { OnOk result (steps.new + owed self.new ≤ steps.old + owed self.old) }
+        ensures failed { OnErr result (steps.new ≤ steps.old + owed self.old) }
         ensures told { (doc : DocRow) → slice_get self.old.rows self.old.at ≡ Some doc → IfOk result (λ told. told ≡ matches self.old.query doc) }
         ensures count { (doc : DocRow) → slice_get self.old.rows self.old.at ≡ Some doc → steps.new ≤ steps.old + present_in doc (query_keys self.old.query) }
         ensures same { OnErr result (self.new ≡ self.old) }

@@ -1,5 +1,5 @@
 -- a query's tree on its way over the rows of a chunk
-use Rattle.std.specs.Prelude.{◌≡◌, ℕ, List, []}
+use Rattle.std.specs.Prelude.{◌≡◌, ℕ, List, [], Option, Some, None, slice_get}
 use Rattle.doc_types.specs.declared.cursor.Cursor.{Cursor}
 use Rattle.doc_types.specs.declared.documents.DocRow.{DocRow}
 use Rattle.doc_types.specs.Chunks.{CursorPlace}
@@ -9,11 +9,18 @@ use Rattle.op_eval.specs.declared.search.Search.{Search}
 use Rattle.op_eval.specs.Finding.{Found, node_finds}
 use Rattle.op_eval.specs.steps.Planned.{Serves}
 use Rattle.word_rows.specs.RowMarks.{AreMarks, asks_boundaries, asks_spans}
-use Rattle.word_rows.specs.Slots.{AreSlots, keys_of, number_among}
+use Rattle.word_rows.specs.Slots.{AreAt, AreSlots, keys_of, number_among}
+use Rattle.word_rows.specs.Terms.{AreSeenIn}
+use Rattle.word_rows.specs.declared.slots.Slots.{Slots}
 
 -- what the node finds in the row
 abbrev pub node_found : Node → DocRow → Found
 node_found node row = node_finds row (number_among (node_keys node)) node []
+
+-- where a row is known, each cursor has gone over the rows before it, and the terms know its words
+abbrev pub KnowsRow : (Cursor → CursorPlace) → List DocRow → Slots → Option ℕ → Type 0
+KnowsRow place rows slots None = Unit {0}
+KnowsRow place rows slots (Some row) = AreAt place rows row slots × ((found : DocRow) → slice_get rows row ≡ Some found → AreSeenIn found (keys_of slots) slots.terms.items)
 
 -- The search is one of the node over these rows, and has gone over no row from this one on.
 pub record IsSearch (belongs : Cursor → Type 0) (place : Cursor → CursorPlace) (rows : List DocRow) (from : ℕ) (node : Node) (search : Search) : Type 0 where
@@ -25,3 +32,4 @@ pub record IsSearch (belongs : Cursor → Type 0) (place : Cursor → CursorPlac
   pub spans : search.asked.spans ≡ asks_spans node
   pub none : search.work.spans.items ≡ []
   pub plan : Serves search.plan node
+  pub known : KnowsRow place rows search.slots search.known

@@ -20,7 +20,7 @@ returns-then-not-may_match-clause-told g c = λ found here.
     let node = c.args.self.now.root.now in
     sym
     (c.may_match.ensures (search rules) found (number_among (node_keys node)) (node_apart node)
-    (seen_as found (keys_of c.seek.new.self) (node_keys node) c.seek.new.self.terms.items c.deref.result.now
+    (seen_as found (keys_of c.seek.new.slots) (node_keys node) c.seek.new.slots.terms.items c.deref.result.now
     (ap (λ keys. map (λ (key : Bor Key). key.now) keys.items) c.seek.ensures.keys ∙ c.requires.search.keys) c.deref.ensures.value (c.seek.ensures.seen found here)))
 
 pub returns-then-not-may_match-clause-occs : goal.returns-then-not-may_match-clause-occs
@@ -28,7 +28,7 @@ returns-then-not-may_match-clause-occs g c = λ found here passes.
     let node = c.args.self.now.root.now in
     let fails : (node_found node found).matches ≡ false =
     c.may_match.ensures (search rules) found (number_among (node_keys node)) (node_apart node)
-    (seen_as found (keys_of c.seek.new.self) (node_keys node) c.seek.new.self.terms.items c.deref.result.now
+    (seen_as found (keys_of c.seek.new.slots) (node_keys node) c.seek.new.slots.terms.items c.deref.result.now
     (ap (λ keys. map (λ (key : Bor Key). key.now) keys.items) c.seek.ensures.keys ∙ c.requires.search.keys) c.deref.ensures.value (c.seek.ensures.seen found here)) in
     ap (list_any passes) (c.clear.ensures.occs ∙ sym (ap (λ (all : Found). all.occurrences) (nothing_found node found fails)))
 
@@ -37,7 +37,7 @@ returns-then-not-may_match-clause-hits g c = λ found here few passes.
     let node = c.args.self.now.root.now in
     let fails : (node_found node found).matches ≡ false =
     c.may_match.ensures (search rules) found (number_among (node_keys node)) (node_apart node)
-    (seen_as found (keys_of c.seek.new.self) (node_keys node) c.seek.new.self.terms.items c.deref.result.now
+    (seen_as found (keys_of c.seek.new.slots) (node_keys node) c.seek.new.slots.terms.items c.deref.result.now
     (ap (λ keys. map (λ (key : Bor Key). key.now) keys.items) c.seek.ensures.keys ∙ c.requires.search.keys) c.deref.ensures.value (c.seek.ensures.seen found here)) in
     ap (list_any passes) (c.clear.ensures.hits ∙ sym (ap (λ (all : Found). all.hits) (nothing_found node found fails)))
 

@@ -10,7 +10,7 @@ returns-in-No-clause-told g c = λ found here.
     let node = c.args.self.now.root.now in
     sym
     (c.in-No.ensures found (number_among (node_keys node)) (node_apart node)
-    (seen_as found (keys_of c.seek.new.self) (node_keys node) c.seek.new.self.terms.items c.deref.result.now
+    (seen_as found (keys_of c.seek.new.slots) (node_keys node) c.seek.new.slots.terms.items c.deref.result.now
     (ap (λ keys. map (λ (key : Bor Key). key.now) keys.items) c.seek.ensures.keys ∙ c.requires.search.keys) c.deref.ensures.value (c.seek.ensures.seen found here))
     [] (λ unspanned. refl))
 
@@ -19,6 +19,6 @@ returns-in-Yes-clause-told g c = λ found here.
     let node = c.args.self.now.root.now in
     sym
     (c.in-Yes.ensures found (number_among (node_keys node)) (node_apart node)
-    (seen_as found (keys_of c.seek.new.self) (node_keys node) c.seek.new.self.terms.items c.deref.result.now
+    (seen_as found (keys_of c.seek.new.slots) (node_keys node) c.seek.new.slots.terms.items c.deref.result.now
     (ap (λ keys. map (λ (key : Bor Key). key.now) keys.items) c.seek.ensures.keys ∙ c.requires.search.keys) c.deref.ensures.value (c.seek.ensures.seen found here))
     [] (λ unspanned. refl))

@@ -9,5 +9,5 @@ pub returns-clause-passed : goal.returns-clause-passed
 returns-clause-passed g c = λ fails found here.
     let node = c.args.self.now.root.now in
     c.may_match.ensures fails found (number_among (node_keys node)) (node_apart node)
-    (seen_as found (keys_of c.seek.new.self) (node_keys node) c.seek.new.self.terms.items c.deref.result.now
+    (seen_as found (keys_of c.seek.new.slots) (node_keys node) c.seek.new.slots.terms.items c.deref.result.now
     (ap (λ keys. map (λ (key : Bor Key). key.now) keys.items) c.seek.ensures.keys ∙ c.requires.keys) c.deref.ensures.value (c.seek.ensures.seen found here))

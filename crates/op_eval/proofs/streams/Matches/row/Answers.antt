@@ -1,7 +1,9 @@
-use Rattle.std.proofs.Common.{ℕ, refl, sym, subst, arith}
+use Rattle.std.proofs.Common.{ℕ, Some, refl, sym, subst, arith}
 use Rattle.row_plans.specs.Living.{HasGone}
+use Rattle.query_tree.specs.TreeKeys.{query_keys}
 use Rattle.op_eval.specs.Streams.{GoesTo, Stream}
 use Rattle.op_eval.specs.steps.Streaming.{StandsAt}
+use Rattle.op_eval.proofs.Debt.{due_end, row_owes}
 use Rattle.op_eval.proofs.streams.Matches.row.Goals as goal
 
 pub invariant_of-self : goal.invariant_of-self
@@ -27,9 +29,23 @@ invariant_of-self-in-None g c = record {
       (c.in-None.ensures.stands c.self.inside.query.now c.self.invariant.stands);
 }
 
-pub returns-in-Some : goal.returns-in-Some
-returns-in-Some g c =
+pub returns-in-Some-clause-goes : goal.returns-in-Some-clause-goes
+returns-in-Some-clause-goes g c =
     let first = c.in-Some.ensures.first c.self.inside.query.now c.self.invariant.stands in
     let new : Stream = record { query = c.self.inside.query.now; rows = g.C.Chunk.content c.self.inside.chunk.now; dead = c.self.inside.dead.now; at = c.in-Some.row } in
     subst (λ (old : Stream). GoesTo old c.in-Some.row new) c.self.view_is
     (record { stands = refl; on = first.on; within = first.within; living = first.living; kept = first.passed })
+
+pub returns-in-Some-clause-debt : goal.returns-in-Some-clause-debt
+returns-in-Some-clause-debt g c =
+    let first = c.in-Some.ensures.first c.self.inside.query.now c.self.invariant.stands in
+    let new : Stream = record { query = c.self.inside.query.now; rows = g.C.Chunk.content c.self.inside.chunk.now; dead = c.self.inside.dead.now; at = c.in-Some.row } in
+    row_owes c.args.self.now new (Some c.in-Some.row)
+    (subst (λ (old : Stream). GoesTo old c.in-Some.row new) c.self.view_is
+    (record { stands = refl; on = first.on; within = first.within; living = first.living; kept = first.passed }))
+
+pub returns-in-None-clause-debt : goal.returns-in-None-clause-debt
+returns-in-None-clause-debt g c =
+    let rows = g.C.Chunk.content c.self.inside.chunk.now in
+    let none = due_end (query_keys c.self.inside.query.now) rows c.rows-self-inside.result (omega (arith, c.rows-self-inside.ensures)) in
+    omega (arith, none)
