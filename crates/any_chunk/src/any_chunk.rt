@@ -152,6 +152,14 @@ impl CopyBytes for AnyChunk {
         self.image().front(n)
     }
 
+    fn list_bytes(&self, n: u32) -> &[u8] {
+        self.image().list_bytes(n)
+    }
+
+    fn count_at(&self, n: u32) -> u32 {
+        self.image().count_of(n)
+    }
+
     fn hit_bytes(&self, cursor: &Cursor) -> &[u8] {
         self.image().hit_bytes(cursor)
     }

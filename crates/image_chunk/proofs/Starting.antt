@@ -100,6 +100,14 @@ module _ (bytes : List ℕ) (is : Image bytes) (word : List ℕ) (n : ℕ) (know
   rises : Rising 0 NO_ROW (its.entry ∷ its.more)
   rises = subst (Rising 0 NO_ROW) its.is rising
 
+  -- its bytes are those of its posting list, to the end
+  pub list_whole : drop at list ≡ word_postings rows word
+  unfolding word_postings
+  list_whole = ap (drop at) same ∙ spelled_in
+
+  pub list_within : at ≤ length list
+  list_within = omega (arith, ap length spelled, length-drop at list, list_some (its.entry ∷ its.more) (omega arith))
+
   pub is_list : IsList list at
   is_list = (its.entry, its.more, spelled, rises)
 

@@ -8,7 +8,8 @@ ghost use Rattle.std.specs.Prelude.{◌≡◌, ◌<◌, ◌≤◌, ℕ, List, So
 ghost use Rattle.std.specs.Option.{option_map};
 ghost use Rattle.chunk_image.specs.Marks.{row_marks};
 ghost use Rattle.posting_codec.specs.HitLists.{hit_list};
-ghost use Rattle.doc_types.specs.Chunks.{fields_ahead, first_place, hits_ahead, next_place, next_row, place_from};
+ghost use Rattle.doc_types.specs.Chunks.{fields_ahead, first_place, hits_ahead, next_place, next_row, place_from, rows_with};
+ghost use Rattle.chunk_image.specs.ChunkImage.{word_postings};
 ghost use Rattle.doc_types.specs.declared.documents.DocRow.{DocRow};
 ghost use Rattle.image_parts.specs.Images.{ArePartsOf, HasZones, HaveImage};
 ghost use Rattle.image_chunk.specs.Images.{Image};
@@ -146,10 +147,22 @@ impl ImageChunk {
         }
     }
 
+    /// The bytes of the posting list of the word of this number.
+    #[inline]
+    pub fn list_bytes(&self, number: u32) -> &[u8]
+        requires { number < length self.now.image.0.1 }
+        ensures { (word : List ℕ) → slice_get self.now.image.0.1 number ≡ Some word → result.now ≡ word_postings self.now.image.0.0 word }
+    {
+        let whole = self.list(number);
+        let begin = self.parts.list(self.bytes.as_slice(), number);
+        &whole[begin..]
+    }
+
     /// How many rows have the word of this number.
     #[inline]
-    pub(crate) fn count_of(&self, number: u32) -> u32
+    pub fn count_of(&self, number: u32) -> u32
         requires { number < length self.now.image.0.1 }
+        ensures { (word : List ℕ) → slice_get self.now.image.0.1 number ≡ Some word → result ≡ length (rows_with word self.now.image.0.0) }
     {
         self.parts.count(self.bytes.as_slice(), number)
     }

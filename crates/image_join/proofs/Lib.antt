@@ -2,6 +2,7 @@ pub mod Ahead
 pub mod Collected
 pub mod Few
 pub mod Imaged
+pub mod InOrder
 pub mod Joined
 pub mod Laid
 pub mod Least
@@ -15,6 +16,7 @@ pub mod Ordered
 pub mod Passed
 pub mod Results
 pub mod Spelled
+pub mod Stacked
 pub mod Tabled
 pub mod Taken
 pub mod Worded

@@ -112,7 +112,7 @@ listed word n (r ∷ rs) entries up each all =
           listed word (n + 1) rs entries rising (all_later word n r rs entries each rising) (λ k row here has. subst (λ m. list_any (λ (entry : Entry). entry.0 == m) entries ≡ true) (omega arith) (all (suc k) row here has))
     ] refl
 
-spelled_postings : (least : ℕ) (entries : List (ℕ × List (ℕ × ℕ))) → spelled_list least (map spell entries) ≡ posting_list least entries
+pub spelled_postings : (least : ℕ) (entries : List (ℕ × List (ℕ × ℕ))) → spelled_list least (map spell entries) ≡ posting_list least entries
 spelled_postings least [] = refl
 spelled_postings least (e ∷ es) = ap (λ l. spelled_posting least e.0 (hit_list e.1) ++ l) (spelled_postings (e.0 + 1) es)
 

@@ -6,3 +6,5 @@ pub mod Numbering
 pub mod Entries
 -- the words that were gone over
 pub mod Merging
+-- posting lists one behind the other
+pub mod Stacking

@@ -1,7 +1,8 @@
 //! What a chunk hands out of its bytes.
-ghost use Rattle.std.specs.Prelude.{◌≡◌, ◌<◌, IsSome, Some, All, length, slice_get};
+ghost use Rattle.std.specs.Prelude.{◌≡◌, ◌<◌, ℕ, List, IsSome, Some, All, length, slice_get};
 ghost use Rattle.std.specs.Option.{option_map};
-ghost use Rattle.doc_types.specs.Chunks.{first_place, hits_ahead, next_row};
+ghost use Rattle.doc_types.specs.Chunks.{first_place, hits_ahead, next_row, rows_with};
+ghost use Rattle.chunk_image.specs.ChunkImage.{word_postings};
 ghost use Rattle.posting_codec.specs.HitLists.{hit_list};
 ghost use Rattle.chunk_image.specs.Marks.{row_marks};
 
@@ -18,6 +19,16 @@ pub trait CopyBytes: Chunk {
         requires { n < length (Self.words_of self.now) }
         ensures belongs { Self.belongs self.now result }
         ensures first { option_map (λ word. first_place word (Self.content self.now)) (slice_get (Self.words_of self.now) n) ≡ Some (Self.place self.now result) };
+
+    /// The bytes of the posting list of the word of this number.
+    fn list_bytes(&self, n: u32) -> &[u8]
+        requires { n < length (Self.words_of self.now) }
+        ensures { (word : List ℕ) → slice_get (Self.words_of self.now) n ≡ Some word → result.now ≡ word_postings (Self.content self.now) word };
+
+    /// How many rows have the word of this number.
+    fn count_at(&self, n: u32) -> u32
+        requires { n < length (Self.words_of self.now) }
+        ensures { (word : List ℕ) → slice_get (Self.words_of self.now) n ≡ Some word → result ≡ length (rows_with word (Self.content self.now)) };
 
     /// The bytes of the word's hit list in the next row that has it.
     fn hit_bytes(&self, cursor: &Cursor) -> &[u8]

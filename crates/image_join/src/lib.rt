@@ -13,6 +13,7 @@ mod joining;
 mod lists;
 mod ordering;
 mod parts;
+mod stacking;
 mod words;
 
 pub use copying::CopyBytes;

@@ -1,9 +1,10 @@
 //! The chunks that are put together. Contracts see one as its rows and words, without its kind.
-ghost use Rattle.std.specs.Prelude.{◌≡◌, ◌<◌, ◌^◌, length, map, All, slice_get, slice_index_or, IfOk};
+ghost use Rattle.std.specs.Prelude.{◌≡◌, ◌<◌, ◌^◌, ℕ, List, Some, length, map, All, slice_get, slice_index_or, IfOk};
 ghost use Rattle.std.specs.List.{flat_map};
 ghost use Rattle.std.specs.Option.{option_map};
-ghost use Rattle.doc_types.specs.Chunks.{AreWordsOf};
+ghost use Rattle.doc_types.specs.Chunks.{AreWordsOf, rows_with};
 ghost use Rattle.doc_types.specs.Snapshots.{all_living, living};
+ghost use Rattle.chunk_image.specs.ChunkImage.{word_postings};
 ghost use Rattle.chunk_image.specs.Marks.{row_marks};
 ghost use Rattle.image_join.specs.steps.Parts.{AreLaid, all_rows, living_of, row_at};
 
@@ -39,6 +40,13 @@ impl<C: CopyBytes> Part<C> {
         ensures { result ≡ length self.now.rows }
     {
         self.chunk.rows()
+    }
+
+    /// How many rows stand before its first one.
+    pub(crate) fn first(&self) -> u32
+        ensures { result ≡ self.now.first }
+    {
+        self.first
     }
 
     /// The row's id.
@@ -107,6 +115,22 @@ impl<C: CopyBytes> Part<C> {
         } else {
             None
         }
+    }
+
+    /// The bytes of the posting list of the word of this number.
+    pub(crate) fn list(&self, n: u32) -> &[u8]
+        requires { n < length self.now.words }
+        ensures { (word : List ℕ) → slice_get self.now.words n ≡ Some word → result.now ≡ word_postings self.now.rows word }
+    {
+        self.chunk.list_bytes(n)
+    }
+
+    /// How many rows have the word of this number.
+    pub(crate) fn count(&self, n: u32) -> u32
+        requires { n < length self.now.words }
+        ensures { (word : List ℕ) → slice_get self.now.words n ≡ Some word → result ≡ length (rows_with word self.now.rows) }
+    {
+        self.chunk.count_at(n)
     }
 }
 

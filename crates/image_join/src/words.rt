@@ -1,5 +1,5 @@
 //! The words of all parts, merged: word table, dictionary and postings.
-ghost use Rattle.std.specs.Prelude.{◌≡◌, ◌≢◌, ◌≤◌, ◌+◌, ◌<◌, ◌++◌, ℕ, List, Option, Some, None, true, [], length, slice_get, All, IfOk, OnOk, MatchOption, MatchBool};
+ghost use Rattle.std.specs.Prelude.{◌≡◌, ◌≢◌, ◌≤◌, ◌+◌, ◌<◌, ◌++◌, ℕ, List, Option, Some, None, true, [], length, slice_get, All, IfOk, IsTrue, OnOk, MatchOption, MatchBool};
 ghost use Rattle.std.specs.List.{flat_map};
 ghost use Rattle.std.specs.Option.{option_map};
 ghost use Rattle.doc_types.specs.Chunks.{AreWordsOf};
@@ -8,10 +8,12 @@ ghost use Rattle.image_join.specs.steps.Entries.{AreEntriesOf, entries_in, lent}
 ghost use Rattle.image_join.specs.steps.Merging.{AreTables, IsBefore, IsDone, IsLeast, StandAt, StandsAt, added, is_ahead, lesser};
 ghost use Rattle.image_join.specs.steps.Numbering.{AreNumbered};
 ghost use Rattle.image_join.specs.steps.Parts.{PartValue};
+ghost use Rattle.image_join.specs.steps.Stacking.{AreInOrder};
 
 use crate::copying::CopyBytes;
 use crate::lists::{collect, put_in_order, put_list};
 use crate::parts::Part;
+use crate::stacking::{stack_word, stand_in_order};
 use doc_types::MAX_WORD_BYTES;
 use image_write::{count_in, place_in, put_entry};
 use srch_base::NoMemory;
@@ -46,20 +48,55 @@ pub(crate) fn tables_of<C: CopyBytes>(
     let mut nexts = nexts_of(alloc, parts)?;
     let mut found = Vec::new(alloc);
     let most = word_count(parts);
+    let in_order = stand_in_order(numbers);
     'words: for _ in 0..most {
         let word = match least_word(&nexts) {
             Some(word) => word,
             None => return Ok(tables),
         };
-        found.clear();
-        take_word(parts, numbers, word, &mut nexts, &mut found)?;
-        put_word(word, &mut found, &mut tables)?;
+        go_over(
+            parts,
+            numbers,
+            in_order,
+            word,
+            &mut nexts,
+            &mut found,
+            &mut tables,
+        )?;
     }
     // Each round goes over a word of a part at least.
     match least_word(&nexts) {
         Some(_) => Err(NoMemory),
         None => Ok(tables),
     }
+}
+
+/// Appends a word, which is the least of the parts' next ones, with its entries, where it has some, and goes over it. The list is
+/// used for each word.
+fn go_over<'p, C: CopyBytes>(
+    parts: &'p [Part<C>],
+    numbers: &[u32],
+    in_order: bool,
+    word: &[u8],
+    nexts: &mut [Next<'p>],
+    found: &mut Vec<(u32, &'p [u8])>,
+    tables: &mut Tables,
+) -> Result<(), NoMemory>
+    requires words { All (λ part. AreWordsOf part.rows part.words) parts.now }
+    requires stand { (last : Option (List ℕ)) × StandAt last parts.now nexts.old }
+    requires within { All (λ part. part.first + length part.rows ≤ length numbers.now) parts.now }
+    requires order { IsTrue in_order → AreInOrder numbers.now }
+    ensures long { length nexts.new ≡ length nexts.old }
+    ensures nexts { OnOk result ((last : Option (List ℕ)) → StandAt last parts.now nexts.old → IsLeast last parts.now word.now → StandAt (Some word.now) parts.now nexts.new) }
+    ensures tables { OnOk result ((last : Option (List ℕ)) → StandAt last parts.now nexts.old → IsLeast last parts.now word.now → (rows : List AnyRow) (words : List (List ℕ)) → AreTables rows words tables.old → AreEntriesOf word.now rows (flat_map (entries_in word.now numbers.now) parts.now) → AreTables rows (added (flat_map (entries_in word.now numbers.now) parts.now) words word.now) tables.new) }
+{
+    if in_order {
+        stack_word(parts, word, nexts, tables)?;
+        return Ok(());
+    }
+    found.clear();
+    take_word(parts, numbers, word, nexts, found)?;
+    put_word(word, found, tables)
 }
 
 /// No word.
@@ -107,7 +144,7 @@ fn first_of<C: CopyBytes>(part: &Part<C>) -> Next<'_>
 }
 
 /// The part's word behind the one of this number.
-fn next_of<C: CopyBytes>(part: &Part<C>, number: u32) -> Next<'_>
+pub(crate) fn next_of<C: CopyBytes>(part: &Part<C>, number: u32) -> Next<'_>
     requires { number < length part.now.words }
     ensures number { result.number ≡ number + 1 }
     ensures front { option_map (λ word. word.now) result.word ≡ slice_get part.now.words (number + 1) }
@@ -200,7 +237,7 @@ fn take_from<'p, C: CopyBytes>(
 
 /// Whether the next word is this one.
 #[inline]
-fn is_next(next: Next<'_>, word: &[u8]) -> bool
+pub(crate) fn is_next(next: Next<'_>, word: &[u8]) -> bool
     ensures { MatchBool result (option_map (λ own. own.now) next.entry.word ≡ Some word.now) (option_map (λ own. own.now) next.entry.word ≢ Some word.now) }
 {
     match next.word {

@@ -1,9 +1,9 @@
-use Rattle.std.proofs.Common.{◌≡◌, ◌++◌, [], List, ℕ, Option, Some, All, length, subst, sym, ap, ◌∙◌, arith}
+use Rattle.std.proofs.Common.{◌≡◌, List, ℕ, Option, Some, All, length, refl, subst, sym, ap, ◌∙◌}
 use Rattle.std.specs.List.{flat_map}
 use Rattle.std.specs.Vec.{with_items}
 use Rattle.std.proofs.lemmas.List.{with_items_is}
 use Rattle.doc_types.specs.Chunks.{AreWordsOf}
-use Rattle.image_join.specs.steps.Entries.{Entry, entries_in, lent}
+use Rattle.image_join.specs.steps.Entries.{entries_in}
 use Rattle.image_join.specs.steps.Merging.{IsLeast, StandAt}
 use Rattle.image_join.specs.steps.Parts.{PartValue}
 use Rattle.image_join.proofs.Merged.{merged_all, merged_more, merged_none}
@@ -28,13 +28,10 @@ words-preserved g c =
     let stand : StandAt last parts c.deref.result.now = subst (StandAt last parts) (sym c.deref.ensures.value) c.words.invariant.stand in
     let least : IsLeast last parts word = c.in-Some.ensures last parts are stand in
     let nexts : StandAt last parts c.deref_mut.result.now = subst (StandAt last parts) (sym c.deref_mut.ensures.value) c.words.invariant.stand in
-    let passed : StandAt (Some word) parts c.take_word.new.nexts = c.in_ok-take_word.ensures.nexts last nexts least in
-    let size : length c.take_word.new.nexts ≡ c.words.nexts.len = c.in_ok-take_word.ensures.long ∙ ap length c.deref_mut.ensures.value ∙ sym c.words.nexts.ok.0 in
-    let after : StandAt (Some word) parts (with_items c.words.nexts c.take_word.new.nexts).items = subst (StandAt (Some word) parts) (sym (with_items_is c.words.nexts c.take_word.new.nexts size)) passed in
-    let none : lent c.clear.new.self.items ≡ [] = ap lent c.clear.ensures.items in
-    let found : lent c.take_word.new.found.items ≡ flat_map (entries_in word c.args.numbers.now) parts =
-    c.in_ok-take_word.ensures.found last nexts least ∙ ap (λ (l : List Entry). l ++ flat_map (entries_in word c.args.numbers.now) parts) none in
-    merged_more parts c.args.numbers.now c.words.nexts.items (with_items c.words.nexts c.take_word.new.nexts).items c.words.tables c.put_word.new.tables word (lent c.take_word.new.found.items) c.words.invariant are least after found c.in_ok-put_word.ensures
+    let passed : StandAt (Some word) parts c.go_over.new.nexts = c.in_ok-go_over.ensures.nexts last nexts least in
+    let size : length c.go_over.new.nexts ≡ c.words.nexts.len = c.in_ok-go_over.ensures.long ∙ ap length c.deref_mut.ensures.value ∙ sym c.words.nexts.ok.0 in
+    let after : StandAt (Some word) parts (with_items c.words.nexts c.go_over.new.nexts).items = subst (StandAt (Some word) parts) (sym (with_items_is c.words.nexts c.go_over.new.nexts size)) passed in
+    merged_more parts c.args.numbers.now c.words.nexts.items (with_items c.words.nexts c.go_over.new.nexts).items c.words.tables c.go_over.new.tables word (flat_map (entries_in word c.args.numbers.now) parts) c.words.invariant are least after refl (c.in_ok-go_over.ensures.tables last nexts least)
 
 pub returns-in-None-least_word : goal.returns-in-None-least_word
 returns-in-None-least_word g c =

@@ -46,7 +46,6 @@ take_from-requires-clause-front g c =
 pub take_from-requires-clause-words : goal.take_from-requires-clause-words
 take_from-requires-clause-words g c =
     let parts : List PartValue = c.args.parts.now in
-    let i = c.loop-number.number in
     let part = c.index-parts-number.result in
-    let here : part ≡ part_at parts i = c.index-parts-number.is ∙ get_or_default parts i part blank_part c.loop-number-test.true in
-    subst (λ (p : PartValue). AreWordsOf p.rows p.words) (sym here) (c.requires.words i blank_part c.loop-number-test.true)
+    let here : part ≡ part_at parts c.loop-number.number = c.index-parts-number.is ∙ get_or_default parts c.loop-number.number part blank_part c.loop-number-test.true in
+    subst (λ p. AreWordsOf p.rows p.words) (sym here) (c.requires.words c.loop-number.number blank_part c.loop-number-test.true)

@@ -1,0 +1,182 @@
+//! The posting list of a word where the rows of all parts keep their order: the lists of the parts, one behind the other.
+//!
+//! No row is dead then, and the ids of each part lie above those of the parts before, as they do where documents come with new ids
+//! one after the other. A part's rows are so many rows further on in the image, all of them; so of its list only the distance of the
+//! first entry changes, and the other bytes are copied as they are.
+ghost use Rattle.std.specs.Prelude.{◌≡◌, ◌<◌, ◌≤◌, ◌+◌, ◌++◌, ◌∷◌, ℕ, List, Option, Some, IsTrue, length, slice_get, true, All, IfOk, OnOk};
+ghost use Rattle.std.specs.List.{flat_map};
+ghost use Rattle.std.specs.Option.{option_map};
+ghost use Rattle.doc_types.specs.declared.cursor.TheConstants.{NO_ROW};
+ghost use Rattle.doc_types.specs.declared.documents.DocRow.{DocRow as AnyRow};
+ghost use Rattle.doc_types.specs.Chunks.{AreWordsOf, rows_with};
+ghost use Rattle.posting_codec.specs.PostingLists.{posting_list};
+ghost use Rattle.image_join.specs.steps.Entries.{AreEntriesOf};
+ghost use Rattle.image_join.specs.steps.Merging.{AreTables, IsBefore, IsLeast, StandAt, StandsAt, added, is_ahead};
+ghost use Rattle.image_join.specs.steps.Stacking.{AreInOrder, ArePosted, Posting, at_front, behind, moved, stacked_in};
+
+use crate::copying::CopyBytes;
+use crate::parts::Part;
+use crate::words::{Next, Tables, is_next, next_of};
+use doc_types::{MAX_WORD_BYTES, NO_ROW};
+use image_write::{place_in, put_entry};
+use posting_codec::{number_at, put_number};
+use srch_base::NoMemory;
+
+/// How far a posting list is: the least row that can stand next, and how many entries there are.
+#[derive(Clone, Copy)]
+pub(crate) struct Reached {
+    pub(crate) least: u32,
+    pub(crate) count: u32,
+}
+
+/// Whether each row's number is its place among all rows.
+pub(crate) fn stand_in_order(numbers: &[u32]) -> bool
+    ensures { IsTrue result → AreInOrder numbers.now }
+{
+    if numbers.len() >= NO_ROW as usize {
+        return false;
+    }
+    for (place, number) in numbers.iter().enumerate() {
+        if *number as usize != place {
+            return false;
+        }
+    }
+    true
+}
+
+/// Appends a posting list, whose rows lie so many rows further on here, to one where this is the least row that can stand next.
+fn put_moved(list: &[u8], by: u32, least: u32, out: &mut Vec<u8>) -> Result<(), NoMemory>
+    requires { (entry : Posting) × (entries : List Posting) × (list.now ≡ posting_list 0 (entry ∷ entries)) × (by + entry.0 < NO_ROW) }
+    ensures least { OnOk result ((entry : Posting) (entries : List Posting) → list.now ≡ posting_list 0 (entry ∷ entries) → by + entry.0 < NO_ROW → least ≤ by + entry.0) }
+    ensures list { OnOk result ((entry : Posting) (entries : List Posting) → list.now ≡ posting_list 0 (entry ∷ entries) → by + entry.0 < NO_ROW → out.new.items ≡ out.old.items ++ posting_list least (moved by (entry ∷ entries))) }
+{
+    let (ahead, behind) = number_at(list, 0);
+    let row = by + (ahead - 1);
+    if row < least {
+        return Err(NoMemory);
+    }
+    put_number(row - least + 1, out)?;
+    out.extend_from_slice(&list[behind..])?;
+    Ok(())
+}
+
+/// The row behind the last one that has the word of this number.
+fn behind_of<C: CopyBytes>(chunk: &C, word: u32) -> u32
+    requires word { word < length (C.words_of chunk.now) }
+    requires few { length (C.content chunk.now) < NO_ROW }
+    ensures is { (w : List ℕ) → slice_get (C.words_of chunk.now) word ≡ Some w → result ≡ behind 0 (rows_with w (C.content chunk.now)) }
+    ensures within { result ≤ length (C.content chunk.now) }
+{
+    let mut cursor = chunk.start_at(word);
+    let mut behind = 0;
+    while let Some(row) = chunk.row(&cursor) {
+        behind = row + 1;
+        chunk.advance(&mut cursor);
+    }
+    behind
+}
+
+/// The same of a part.
+fn behind_in<C: CopyBytes>(part: &Part<C>, word: u32) -> u32
+    requires word { word < length part.now.words }
+    requires few { length part.now.rows < NO_ROW }
+    ensures is { (w : List ℕ) → slice_get part.now.words word ≡ Some w → result ≡ behind 0 (rows_with w part.now.rows) }
+    ensures within { result ≤ length part.now.rows }
+{
+    let chunk: &C = &part.chunk;
+    behind_of(chunk, word)
+}
+
+/// Appends the entries of the part's word of this number, and says how far the list is then.
+fn put_stacked<C: CopyBytes>(
+    part: &Part<C>,
+    word: u32,
+    reached: Reached,
+    out: &mut Vec<u8>,
+) -> Result<Reached, NoMemory>
+    requires word { word < length part.now.words }
+    requires words { AreWordsOf part.now.rows part.now.words }
+    requires few { part.now.first + length part.now.rows < NO_ROW }
+    ensures { IfOk result (λ after. (w : List ℕ) → slice_get part.now.words word ≡ Some w → ArePosted (stacked_in w part.now) out.old.items out.new.items reached after) }
+{
+    let by = part.first();
+    put_moved(part.list(word), by, reached.least, out)?;
+    let least = by + behind_in(part, word);
+    let count = reached.count.checked_add(part.count(word)).ok_or(NoMemory)?;
+    Ok(Reached { least, count })
+}
+
+/// Appends the entries of a word in a part, if it is the part's next one, and gives where the part stands and how far the list is
+/// then.
+fn stack_from<'p, C: CopyBytes>(
+    part: &'p Part<C>,
+    word: &[u8],
+    next: Next<'p>,
+    reached: Reached,
+    out: &mut Vec<u8>,
+) -> Result<(Next<'p>, Reached), NoMemory>
+    requires words { AreWordsOf part.now.rows part.now.words }
+    requires few { part.now.first + length part.now.rows < NO_ROW }
+    requires front { option_map (λ word. word.now) next.word ≡ slice_get part.now.words next.number }
+    ensures next { IfOk result (λ after. (last : Option (List ℕ)) → StandsAt last part.now next.entry → IsBefore last word.now part.now → is_ahead last word.now ≡ true → StandsAt (Some word.now) part.now after.0) }
+    ensures posted { IfOk result (λ after. (last : Option (List ℕ)) → StandsAt last part.now next.entry → IsBefore last word.now part.now → is_ahead last word.now ≡ true → ArePosted (stacked_in word.now part.now) out.old.items out.new.items reached after.1) }
+{
+    if !is_next(next, word) {
+        return Ok((next, reached));
+    }
+    let after = put_stacked(part, next.number, reached, out)?;
+    Ok((next_of(part, next.number), after))
+}
+
+/// Appends the entries of a word, which is the least of the parts' next ones, goes over it, and says how far the list is then.
+fn stack_lists<'p, C: CopyBytes>(
+    parts: &'p [Part<C>],
+    word: &[u8],
+    nexts: &mut [Next<'p>],
+    out: &mut Vec<u8>,
+) -> Result<Reached, NoMemory>
+    requires words { All (λ part. AreWordsOf part.rows part.words) parts.now }
+    requires stand { (last : Option (List ℕ)) × StandAt last parts.now nexts.old }
+    requires few { All (λ part. part.first + length part.rows < NO_ROW) parts.now }
+    ensures long { length nexts.new ≡ length nexts.old }
+    ensures nexts { OnOk result ((last : Option (List ℕ)) → StandAt last parts.now nexts.old → IsLeast last parts.now word.now → StandAt (Some word.now) parts.now nexts.new) }
+    ensures posted { IfOk result (λ after. (last : Option (List ℕ)) → StandAt last parts.now nexts.old → IsLeast last parts.now word.now → ArePosted (flat_map (stacked_in word.now) parts.now) out.old.items out.new.items at_front after) }
+{
+    let mut reached = Reached { least: 0, count: 0 };
+    for (number, part) in parts.iter().enumerate() {
+        let (next, after) = stack_from(part, word, nexts[number], reached, out)?;
+        nexts[number] = next;
+        reached = after;
+    }
+    Ok(reached)
+}
+
+/// Appends a word, which is the least of the parts' next ones, with its entries, where it has some, and goes over it.
+pub(crate) fn stack_word<'p, C: CopyBytes>(
+    parts: &'p [Part<C>],
+    word: &[u8],
+    nexts: &mut [Next<'p>],
+    tables: &mut Tables,
+) -> Result<(), NoMemory>
+    requires words { All (λ part. AreWordsOf part.rows part.words) parts.now }
+    requires stand { (last : Option (List ℕ)) × StandAt last parts.now nexts.old }
+    requires few { All (λ part. part.first + length part.rows < NO_ROW) parts.now }
+    ensures long { length nexts.new ≡ length nexts.old }
+    ensures nexts { OnOk result ((last : Option (List ℕ)) → StandAt last parts.now nexts.old → IsLeast last parts.now word.now → StandAt (Some word.now) parts.now nexts.new) }
+    ensures tables { OnOk result ((last : Option (List ℕ)) → StandAt last parts.now nexts.old → IsLeast last parts.now word.now → (rows : List AnyRow) (words : List (List ℕ)) → AreTables rows words tables.old → AreEntriesOf word.now rows (flat_map (stacked_in word.now) parts.now) → AreTables rows (added (flat_map (stacked_in word.now) parts.now) words word.now) tables.new) }
+{
+    let place = place_in(&tables.dictionary)?;
+    let list = place_in(&tables.postings)?;
+    let reached = stack_lists(parts, word, nexts, &mut tables.postings)?;
+    if reached.count == 0 {
+        return Ok(());
+    }
+    if word.len() > MAX_WORD_BYTES {
+        return Err(NoMemory);
+    }
+    put_entry(place, reached.count, list, &mut tables.table)?;
+    tables.dictionary.push(word.len() as u8)?;
+    tables.dictionary.extend_from_slice(word)?;
+    tables.words = tables.words.checked_add(1).ok_or(NoMemory)?;
+    Ok(())
+}
