@@ -15,8 +15,11 @@ use Rattle.doc_search.proofs.Gathering.{on_way_last, on_way_next, on_way_past, s
 
 -- what is left is left at a later row too
 pub leaves_later : (question : Question) (docs : List DocRow) (from to : ℕ) (rows : ListedRows) → from ≤ to → Leaves question docs from rows → Leaves question docs to rows
-leaves_later question docs from to rows up leaves =
-    IfSome_then rows.ids leaves (λ ids so. (so.0, λ k doc on there holding. so.1 k doc (omega (arith, up, on)) there holding))
+leaves_later question docs from to rows up leaves = record {
+  first = leaves.first;
+  ends = leaves.ends;
+  listed = IfSome_then rows.ids leaves.listed (λ ids so. (so.0, λ k doc on there holding. so.1 k doc (omega (arith, up, on)) there holding));
+}
 
 -- past the rows that fail, the stream went on by itself
 pub goes_past : (question : Question) (docs : List DocRow) (at from : ℕ) (old : Stream) (row : Option ℕ) (new : Stream) (rows : ListedRows) → GoBy question docs at from → Leaves question docs (from + 1) rows → GoesOn (record old { at = from }) row new → GoesPast question docs at old row new rows

@@ -18,3 +18,5 @@ pub mod OneFound
 pub mod ListedIds
 -- a search that goes on past rows that fail
 pub mod Leading
+-- rows before the least id that a condition allows, and behind the greatest
+pub mod Bounded

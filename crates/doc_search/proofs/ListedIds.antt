@@ -67,14 +67,14 @@ unlike_from a b n up above other = grind (arith, ints)
 
 -- ---- rows
 module _ (docs : List DocRow) (ascend : AllPairs (λ row later. row.doc.id < later.doc.id) docs) where
-  ids_below : (k m : ℕ) (doc other : DocRow) → k < m → slice_get docs k ≡ Some doc → slice_get docs m ≡ Some other → doc.doc.id < other.doc.id
+  pub ids_below : (k m : ℕ) (doc other : DocRow) → k < m → slice_get docs k ≡ Some doc → slice_get docs m ≡ Some other → doc.doc.id < other.doc.id
   ids_below k m doc other before here there =
       let low : get_or docs k doc ≡ doc = get_or_from_slice_get docs k doc doc here in
       let high : get_or docs m doc ≡ other = get_or_from_slice_get docs m other doc there in
       let apart : (get_or docs k doc).doc.id < (get_or docs m doc).doc.id = ascend k m doc before (slice_get_within docs m other there) in
       subst (λ (row : DocRow). doc.doc.id < row.doc.id) high (subst (λ (row : DocRow). row.doc.id < (get_or docs m doc).doc.id) low apart)
 
-  ids_to : (k m : ℕ) (doc other : DocRow) → k ≤ m → slice_get docs k ≡ Some doc → slice_get docs m ≡ Some other → doc.doc.id ≤ other.doc.id
+  pub ids_to : (k m : ℕ) (doc other : DocRow) → k ≤ m → slice_get docs k ≡ Some doc → slice_get docs m ≡ Some other → doc.doc.id ≤ other.doc.id
   ids_to k m doc other up here there = elim (cases_lt k m) [
     | inl before ↦ omega (arith, ids_below k m doc other before here there)
     | inr after ↦

@@ -1,11 +1,12 @@
-//! The rows of a chunk that have one of the ids that a condition lists, one after the other. Since rows ascend by their ids and the
-//! list is in order, each is found by halving what lies behind the last one, and no other row is asked of its conditions.
+//! The rows of a chunk that may pass by their ids, one after the other: those between the least and the greatest id that conditions
+//! allow, and of these the ones whose id a condition lists. Since rows ascend by their ids and a list is in order, each is found by
+//! halving what lies behind the last one, and no other row is asked of its conditions.
 ghost use Rattle.std.specs.Prelude.{◌≡◌, ◌+◌, ◌<◌, ◌≤◌, pos, int_lt, true, Some, drop, length, slice_get, AllPairs, List};
 ghost use Rattle.std.specs.List.Sorted.{IsSorted};
 ghost use Rattle.std.specs.Ordering.{int_cmp, int_eq};
 ghost use Rattle.doc_types.specs.declared.documents.DocRow.{DocRow};
 ghost use Rattle.doc_search.specs.declared.question.Question.{Question as QuestionValue};
-ghost use Rattle.doc_search.specs.steps.ListedRows.{GoBy, HaveIds, IsFirstFrom, Leaves};
+ghost use Rattle.doc_search.specs.steps.ListedRows.{GoBy, HaveIds, IsEndOf, IsFirstFrom, IsFirstOf, Leaves};
 
 use doc_types::Chunk;
 use row_select::Conditions;
@@ -13,18 +14,25 @@ use row_select::Conditions;
 /// Which rows of a chunk may pass by their ids.
 #[derive(Drop)]
 pub(crate) struct ListedRows<'a> {
-    /// The ids that a condition lists, in order. None where none does: then each row may pass.
+    /// The first row that may pass by the least id that a condition allows.
+    first: u32,
+    /// The row behind the last one that may pass by the greatest.
+    end: u32,
+    /// The ids that a condition lists, in order. None where none does: then each row between these two may pass.
     ids: Option<&'a [i128]>,
     /// How many of them belong to rows that went by, or to no row.
     passed: usize,
 }
 
 impl<'a> ListedRows<'a> {
-    /// Before all rows.
-    pub(crate) fn over(conditions: &'a Conditions<'_>) -> ListedRows<'a>
-        ensures { (question : QuestionValue) (docs : List DocRow) → conditions.now ≡ question.filters → Leaves question docs 0 result }
+    /// Before all rows of a chunk.
+    pub(crate) fn over<C: Chunk>(chunk: &C, conditions: &'a Conditions<'_>) -> ListedRows<'a>
+        requires { AllPairs (λ row later. row.doc.id < later.doc.id) (C.content chunk.now) }
+        ensures { (question : QuestionValue) → conditions.now ≡ question.filters → Leaves question (C.content chunk.now) 0 result }
     {
         ListedRows {
+            first: first_of(chunk, conditions),
+            end: end_of(chunk, conditions),
             ids: conditions.ids(),
             passed: 0,
         }
@@ -38,9 +46,44 @@ impl<'a> ListedRows<'a> {
         ensures within { result ≤ length (C.content chunk.now) }
         ensures next { (question : QuestionValue) → Leaves question (C.content chunk.now) at self.old → GoBy question (C.content chunk.now) at result × Leaves question (C.content chunk.now) (result + 1) self.new }
     {
+        let rows = chunk.rows();
+        let from = at.max(self.first).min(rows);
+        if from >= self.end {
+            return rows;
+        }
         match self.ids {
-            None => at,
-            Some(ids) => next_listed(chunk, ids, &mut self.passed, at),
+            None => from,
+            Some(ids) => next_listed(chunk, ids, &mut self.passed, from),
+        }
+    }
+}
+
+/// The first row that may pass by the least id that a condition allows.
+fn first_of<C: Chunk>(chunk: &C, conditions: &Conditions<'_>) -> u32
+    requires { AllPairs (λ row later. row.doc.id < later.doc.id) (C.content chunk.now) }
+    ensures { (question : QuestionValue) → conditions.now ≡ question.filters → IsFirstOf question (C.content chunk.now) result }
+{
+    match conditions.low_id() {
+        None => 0,
+        Some(low) => first_from(chunk, 0, low),
+    }
+}
+
+/// The row behind the last one that may pass by the greatest id that a condition allows.
+fn end_of<C: Chunk>(chunk: &C, conditions: &Conditions<'_>) -> u32
+    requires { AllPairs (λ row later. row.doc.id < later.doc.id) (C.content chunk.now) }
+    ensures { (question : QuestionValue) → conditions.now ≡ question.filters → IsEndOf question (C.content chunk.now) result }
+{
+    let rows = chunk.rows();
+    match conditions.high_id() {
+        None => rows,
+        Some(high) => {
+            let last = first_from(chunk, 0, high);
+            if has_id(chunk, last, high) {
+                last + 1
+            } else {
+                last
+            }
         }
     }
 }

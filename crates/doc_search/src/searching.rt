@@ -3,8 +3,8 @@
 //!
 //! A document's conditions that look at no weight come before its hits, since to find these the places of its words are read. They
 //! are asked of the chunk, which reads the columns alone that they look at; the row with all values is made of a document that is
-//! found. Where a condition lists ids, only the rows that have them are looked at. Nothing is kept of a document but what the sink
-//! takes, and one row and one list of hits serve for all of them.
+//! found. Of rows that conditions on the id rule out none is looked at. Nothing is kept of a document but what the sink takes, and
+//! one row and one list of hits serve for all of them.
 ghost use Rattle.std.specs.Prelude.{◌≡◌, ◌+◌, ◌<◌, ◌≤◌, ◌++◌, ◌∷◌, [], List, IfOk, OnOk, All, AllPairs, Some, true, length, slice_get};
 ghost use Rattle.std.specs.List.{filter};
 ghost use Rattle.doc_types.specs.declared.documents.DocRow.{DocRow};
@@ -100,7 +100,7 @@ fn collect_layer<L: Ledger, C: HitLists, S: Sink>(
     let counted = Counted::<C, L>::over(chunk);
     let dead = layer.dead.as_slice();
     let mut stream = Matches::over(asked.alloc, &asked.question.query, &counted, dead)?;
-    let mut listed = ListedRows::over(&asked.conditions);
+    let mut listed = ListedRows::over(&counted, &asked.conditions);
     let mut at = 0;
     'rows: while let Some(number) = next_row(&mut stream, &mut listed, &counted, at) {
         collect_row(asked, &counted, number, &mut stream, scratch, sink, steps)?;
@@ -109,7 +109,7 @@ fn collect_layer<L: Ledger, C: HitLists, S: Sink>(
     Ok(())
 }
 
-/// Goes on from this row to the next one that may match and isn't dead, and passes over those that have none of the listed ids.
+/// Goes on from this row to the next one that may match and isn't dead, and passes over those that conditions on the id rule out.
 fn next_row<C: Chunk>(
     stream: &mut Matches<'_, C>,
     listed: &mut ListedRows<'_>,

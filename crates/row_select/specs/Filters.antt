@@ -60,3 +60,11 @@ hold_weighed conditions row = list_all (λ condition. not (is_weighed condition)
 pub record AreIdsOf (conditions : List Filter) (numbers : List ℤ) : Type 0 where
   pub ascend : IsSorted int_cmp numbers
   pub all : (row : Row) → hold_unweighed conditions row ≡ true → is_among numbers (pos row.id) ≡ true
+
+-- No row of which those conditions hold that aren't on its weight has an id below this number.
+abbrev pub IsLowOf : List Filter → ℤ → Type 0
+IsLowOf conditions low = (row : Row) → hold_unweighed conditions row ≡ true → int_lt (pos row.id) low ≡ false
+
+-- nor one above this number
+abbrev pub IsHighOf : List Filter → ℤ → Type 0
+IsHighOf conditions high = (row : Row) → hold_unweighed conditions row ≡ true → int_lt high (pos row.id) ≡ false

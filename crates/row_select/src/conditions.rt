@@ -3,7 +3,7 @@ ghost use Rattle.std.specs.Prelude.{◌≡◌, ◌<◌, ◌||◌, IfOk, IfSome, 
 ghost use Rattle.std.specs.List.Sorted.{IsSorted};
 ghost use Rattle.std.specs.Ordering.{int_cmp};
 ghost use Rattle.doc_types.specs.declared.documents.DocRow.{DocRow};
-ghost use Rattle.row_select.specs.Filters.{AreIdsOf, hold_unweighed, hold_weighed, holds, is_among, is_weighed};
+ghost use Rattle.row_select.specs.Filters.{AreIdsOf, IsHighOf, IsLowOf, hold_unweighed, hold_weighed, holds, is_among, is_weighed};
 ghost use Rattle.row_select.specs.declared.row.Row.{Row as RowValue};
 ghost use Rattle.row_select.specs.steps.Listing.{AreListed, ListsIds, passes, row_of};
 
@@ -76,6 +76,30 @@ impl<'a> Conditions<'a> {
         for condition in &self.list {
             if let Some(ids) = condition.ids() {
                 return Some(ids);
+            }
+        }
+        None
+    }
+
+    /// A number that no id is below of those rows of which those conditions hold: that of the first condition that says one.
+    pub fn low_id(&self) -> Option<&i128>
+        ensures { IfSome result (λ low. IsLowOf self.now low.now) }
+    {
+        for condition in &self.list {
+            if let Some(low) = condition.filter.low() {
+                return Some(low);
+            }
+        }
+        None
+    }
+
+    /// A number that no id is above of those rows of which those conditions hold.
+    pub fn high_id(&self) -> Option<&i128>
+        ensures { IfSome result (λ high. IsHighOf self.now high.now) }
+    {
+        for condition in &self.list {
+            if let Some(high) = condition.filter.high() {
+                return Some(high);
             }
         }
         None

@@ -1,7 +1,7 @@
 //! The conditions of WHERE on columns (the manual of Sphinx, "SELECT syntax").
-ghost use Rattle.std.specs.Prelude.{◌≡◌};
+ghost use Rattle.std.specs.Prelude.{◌≡◌, IfSome};
 ghost use Rattle.row_select.specs.Filters.{compares, holds, is_weighed};
-ghost use Rattle.row_select.specs.steps.Listing.{column_of, is_equal, lists_ids};
+ghost use Rattle.row_select.specs.steps.Listing.{IsHigh, IsLow, bounds_above, bounds_below, column_of, is_equal, is_from, is_up_to, lists_ids};
 
 use crate::row::{ColumnRef, Row};
 use srch_base::Items;
@@ -84,6 +84,54 @@ impl Filter {
         }
     }
 
+    /// A number that no id is below of which it holds, where it says one.
+    pub(crate) fn low(&self) -> Option<&i128>
+        ensures { IfSome result (λ low. IsLow self.now low.now) }
+    {
+        if !self.bounds_below() {
+            return None;
+        }
+        match self {
+            Filter::Compare { value, .. } => Some(value),
+            Filter::Between { low, .. } => Some(low),
+            Filter::Among { .. } => None,
+        }
+    }
+
+    /// A number that no id is above of which it holds, where it says one.
+    pub(crate) fn high(&self) -> Option<&i128>
+        ensures { IfSome result (λ high. IsHigh self.now high.now) }
+    {
+        if !self.bounds_above() {
+            return None;
+        }
+        match self {
+            Filter::Compare { value, .. } => Some(value),
+            Filter::Between { high, .. } => Some(high),
+            Filter::Among { .. } => None,
+        }
+    }
+
+    fn bounds_below(&self) -> bool
+        ensures { result ≡ bounds_below self.now }
+    {
+        match self {
+            Filter::Compare { column, op, .. } => column.is_id() && op.is_from(),
+            Filter::Between { column, .. } => column.is_id(),
+            Filter::Among { .. } => false,
+        }
+    }
+
+    fn bounds_above(&self) -> bool
+        ensures { result ≡ bounds_above self.now }
+    {
+        match self {
+            Filter::Compare { column, op, .. } => column.is_id() && op.is_up_to(),
+            Filter::Between { column, .. } => column.is_id(),
+            Filter::Among { .. } => false,
+        }
+    }
+
     /// Whether the condition is one on the weight.
     pub(crate) fn is_weighed(&self) -> bool
         ensures { result ≡ is_weighed self.now }
@@ -101,6 +149,21 @@ impl CompareOp {
         ensures { result ≡ is_equal self }
     {
         matches!(self, CompareOp::Equal)
+    }
+
+    fn is_from(self) -> bool
+        ensures { result ≡ is_from self }
+    {
+        matches!(
+            self,
+            CompareOp::Equal | CompareOp::Greater | CompareOp::AtLeast
+        )
+    }
+
+    fn is_up_to(self) -> bool
+        ensures { result ≡ is_up_to self }
+    {
+        matches!(self, CompareOp::Equal | CompareOp::Less | CompareOp::AtMost)
     }
 
     /// Whether a value compares so with a number.

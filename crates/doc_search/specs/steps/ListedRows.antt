@@ -45,9 +45,18 @@ pub record IsPast (question : Question) (docs : List DocRow) (at from : ℕ) (id
   pub by : GoBy question docs at from
   pub left : HaveIds question docs from ids
 
--- what is looked for from a row on
-abbrev pub Leaves : Question → List DocRow → ℕ → ListedRows → Type 0
-Leaves question docs from rows = IfSome rows.ids (λ ids. IsSorted int_cmp ids.now × HaveIds question docs from (drop rows.passed ids.now))
+-- no document before this row passes, or none from this row on
+abbrev pub IsFirstOf : Question → List DocRow → ℕ → Type 0
+IsFirstOf question docs first = (k : ℕ) (doc : DocRow) → k < first → slice_get docs k ≡ Some doc → holds_of question doc ≡ false
+
+abbrev pub IsEndOf : Question → List DocRow → ℕ → Type 0
+IsEndOf question docs end = (k : ℕ) (doc : DocRow) → end ≤ k → slice_get docs k ≡ Some doc → holds_of question doc ≡ false
+
+-- What is looked for from a row on.
+pub record Leaves (question : Question) (docs : List DocRow) (from : ℕ) (rows : ListedRows) : Type 0 where
+  pub first : IsFirstOf question docs rows.first
+  pub ends : IsEndOf question docs rows.end
+  pub listed : IfSome rows.ids (λ ids. IsSorted int_cmp ids.now × HaveIds question docs from (drop rows.passed ids.now))
 
 -- A search went on from a row: past those that fail, and then to the next that may match, or to the end.
 pub record GoesPast (question : Question) (docs : List DocRow) (at : ℕ) (old : Stream) (row : Option ℕ) (new : Stream) (rows : ListedRows) : Type 0 where

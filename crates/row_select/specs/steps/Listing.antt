@@ -1,5 +1,5 @@
 -- The column of a condition, and the numbers that it lists.
-use Rattle.std.specs.Prelude.{◌≡◌, ℤ, pos, List, [], ◌∷◌, Bool, true, false, ◌&&◌, ◌||◌, not, int_le, if◌then◌else◌, IsPermutation}
+use Rattle.std.specs.Prelude.{◌≡◌, ℤ, pos, List, [], ◌∷◌, Bool, true, false, ◌&&◌, ◌||◌, not, int_le, int_lt, if◌then◌else◌, IsPermutation}
 use Rattle.std.specs.List.Sorted.{IsSorted}
 use Rattle.std.specs.Ordering.{int_cmp}
 use Rattle.doc_types.specs.declared.documents.DocRow.{DocRow}
@@ -64,3 +64,38 @@ lists_ids (filters.Between column low high) = false
 pub record ListsIds (condition : Filter) (numbers : List ℤ) : Type 0 where
   pub ascend : IsSorted int_cmp numbers
   pub all : (row : Row) → (is_weighed condition || holds condition row) ≡ true → is_among numbers (pos row.id) ≡ true
+
+-- a comparison is for numbers from one on, or for those up to one
+abbrev pub is_from : CompareOp → Bool
+is_from operators.Equal = true
+is_from operators.NotEqual = false
+is_from operators.Less = false
+is_from operators.Greater = true
+is_from operators.AtMost = false
+is_from operators.AtLeast = true
+
+abbrev pub is_up_to : CompareOp → Bool
+is_up_to operators.Equal = true
+is_up_to operators.NotEqual = false
+is_up_to operators.Less = true
+is_up_to operators.Greater = false
+is_up_to operators.AtMost = true
+is_up_to operators.AtLeast = false
+
+-- a condition asks for ids from one on, or for those up to one
+abbrev pub bounds_below : Filter → Bool
+bounds_below (filters.Compare column op number) = is_id column && is_from op
+bounds_below (filters.Among column numbers negated) = false
+bounds_below (filters.Between column low high) = is_id column
+
+abbrev pub bounds_above : Filter → Bool
+bounds_above (filters.Compare column op number) = is_id column && is_up_to op
+bounds_above (filters.Among column numbers negated) = false
+bounds_above (filters.Between column low high) = is_id column
+
+-- no row of which the condition holds has an id below this number, or above it
+abbrev pub IsLow : Filter → ℤ → Type 0
+IsLow condition low = (row : Row) → (is_weighed condition || holds condition row) ≡ true → int_lt (pos row.id) low ≡ false
+
+abbrev pub IsHigh : Filter → ℤ → Type 0
+IsHigh condition high = (row : Row) → (is_weighed condition || holds condition row) ≡ true → int_lt high (pos row.id) ≡ false

@@ -4,6 +4,7 @@ use Rattle.doc_types.specs.declared.documents.DocRow.{DocRow}
 use Rattle.doc_types.specs.Snapshots.{LayerValue}
 use Rattle.op_eval.specs.Streams.{Stream}
 use Rattle.doc_search.specs.declared.question.Question.{Question}
+use Rattle.doc_search.specs.steps.ListedRows.{Leaves}
 use Rattle.doc_search.proofs.Gathering.{on_way_first}
 use Rattle.doc_search.proofs.Leading.{led_last, led_on, led_to, led_within}
 use Rattle.doc_search.proofs.searching.collect_layer.Goals as goal
@@ -18,7 +19,8 @@ rows-init g c =
           (c.in_ok-stream.ensures ∙ ap (λ (its : Question). record { query = its.query; rows = g.C.Chunk.content c.over-counted.result.chunk.now; dead = c.as_slice-dead.result.now; at = 0 }) c.asked.view_is);
       stands = ap (λ (it : Stream). it.at) c.in_ok-stream.ensures;
       within = omega arith;
-      leaves = c.over-listed.ensures c.args.asked.now c.args.layer.now.rows (c.asked.invariant ∙ ap (λ (its : Question). its.filters) c.asked.view_is);
+      leaves = subst (λ (rows : List DocRow). Leaves c.args.asked.now rows 0 c.over-listed.result) docs
+          (c.over-listed.ensures c.args.asked.now (c.asked.invariant ∙ ap (λ (its : Question). its.filters) c.asked.view_is));
     }
 
 pub next_row-requires-clause-docs : goal.next_row-requires-clause-docs
