@@ -6,7 +6,7 @@ use Rattle.std.proofs.lemmas.List.{get_or_default, take_all, take_more}
 use Rattle.std.proofs.lemmas.List.Elements.{All-append, All-cons, All-nil}
 use Rattle.std.proofs.lemmas.Option.{get_or_from_slice_get, slice_get_within}
 use Rattle.doc_types.specs.Chunks.{AreWordsOf}
-use Rattle.image_join.specs.steps.Merging.{IsBefore, IsDone, IsLeast, StandAt, StandsAt, is_ahead, less, lesser, next_at}
+use Rattle.image_join.specs.steps.Merging.{IsBefore, IsDone, IsHeaded, IsLeast, blank_next, StandAt, StandsAt, is_ahead, less, lesser, next_at}
 use Rattle.image_join.specs.declared.words.Next.{Next}
 use Rattle.image_join.specs.steps.Parts.{PartValue, blank_part, part_at}
 use Rattle.image_join.proofs.Lesser.{value}
@@ -104,3 +104,9 @@ pub least_all : (last : Option (List ℕ)) (parts : List PartValue) (i : ℕ) (f
     → MatchOption found (All (IsDone last) parts) (λ word. IsLeast last parts word.now)
 least_all last parts i None past is = subst (All (IsDone last)) (take_all i parts past) is
 least_all last parts i (Some word) past is = record { ahead = is.0; each = subst (All (IsBefore last word.now)) (take_all i parts past) is.1 }
+
+-- each next word's first bytes are at hand
+pub all_headed : (last : Option (List ℕ)) (parts : List PartValue) (nexts : List Next) → StandAt last parts nexts → All IsHeaded nexts
+all_headed last parts nexts stand k d low =
+    let here : next_at nexts k ≡ get_or nexts k d = get_or_default nexts k blank_next d low in
+    subst IsHeaded here (stand.each k (omega (arith, low, stand.long))).headed

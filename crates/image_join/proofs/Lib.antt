@@ -1,6 +1,7 @@
 pub mod Ahead
 pub mod Collected
 pub mod Few
+pub mod Headed
 pub mod Imaged
 pub mod InOrder
 pub mod Joined

@@ -5,7 +5,7 @@ use Rattle.std.proofs.lemmas.Option.{get_or_from_slice_get, slice_get-get_or, sl
 use Rattle.doc_types.specs.declared.documents.DocRow.{DocRow}
 use Rattle.doc_types.specs.Chunks.{AreWordsOf, rows_with}
 use Rattle.image_join.specs.steps.Entries.{entries_in}
-use Rattle.image_join.specs.steps.Merging.{IsBefore, StandsAt, is_ahead, less}
+use Rattle.image_join.specs.steps.Merging.{IsBefore, IsHeaded, StandsAt, is_ahead, less}
 use Rattle.image_join.specs.steps.Parts.{PartValue}
 use Rattle.image_join.proofs.Least.{in_order, le_told}
 use Rattle.image_join.specs.declared.words.Next.{Next}
@@ -69,6 +69,7 @@ module _ (last : Option (List ℕ)) (part : PartValue) (next : Next) (word : Lis
         is ∙ sym (le_true head n low))
         (below_or_not head n);
     front = stands.front;
+    headed = stands.headed;
   }
 
   -- and the word has no row in it
@@ -82,8 +83,9 @@ module _ (last : Option (List ℕ)) (part : PartValue) (next : Next) (word : Lis
       none (r ∷ rs) few = absurd (few (omega arith))
 
   -- where it is the next word, those behind it are ahead now
-  pub goes_on : (after : Next) → slice_get part.words head ≡ Some word → after.number ≡ head + 1 → value after.word ≡ slice_get part.words (head + 1) → StandsAt (Some word) part after
-  goes_on after here at front = record {
+  pub goes_on : (after : Next) → slice_get part.words head ≡ Some word → after.number ≡ head + 1 → value after.word ≡ slice_get part.words (head + 1) → IsHeaded after → StandsAt (Some word) part after
+  goes_on after here at front headed = record {
+    headed = headed;
     front = front ∙ ap (slice_get part.words) (sym at);
     split = λ n own here_at.
         ⊎_elim

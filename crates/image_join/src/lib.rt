@@ -2,9 +2,10 @@
 //!
 //! A segment keeps nothing but its image, so there are no documents to copy and to index anew when some of them become one. What
 //! lives of them is gone over in the order of the ids, which gives each row its new number. Columns and marks are copied row by row.
-//! The dictionaries are merged as sorted lists are, the least of the next words first; a posting list is the lists of its word, one
-//! behind the other or by new numbers, with each hit list copied as it is: only how far an entry lies behind the one before is
-//! written anew. So the costs are those of copying, with one comparison for each word of each segment.
+//! The dictionaries are merged as sorted lists are, the least of the next words first, most of them told by their first bytes. Where
+//! the rows of all segments keep their order, a posting list is the lists of its word, one behind the other, of which only the
+//! distance of the first entry is written anew (`stacking.rt`); else it's their entries that live, by new numbers, with each hit list
+//! copied as it is. So the costs are those of copying, with one comparison for each word of each segment.
 #![tactic(auto)]
 
 mod columns;

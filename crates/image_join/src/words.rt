@@ -4,8 +4,9 @@ ghost use Rattle.std.specs.List.{flat_map};
 ghost use Rattle.std.specs.Option.{option_map};
 ghost use Rattle.doc_types.specs.Chunks.{AreWordsOf};
 ghost use Rattle.doc_types.specs.declared.documents.DocRow.{DocRow as AnyRow};
+ghost use Rattle.image_write.specs.Heads.{IsRead, head};
 ghost use Rattle.image_join.specs.steps.Entries.{AreEntriesOf, entries_in, lent};
-ghost use Rattle.image_join.specs.steps.Merging.{AreTables, IsBefore, IsDone, IsLeast, StandAt, StandsAt, added, is_ahead, lesser};
+ghost use Rattle.image_join.specs.steps.Merging.{AreTables, IsBefore, IsDone, IsHeaded, IsLeast, StandAt, StandsAt, added, is_ahead, less, lesser};
 ghost use Rattle.image_join.specs.steps.Numbering.{AreNumbered};
 ghost use Rattle.image_join.specs.steps.Parts.{PartValue};
 ghost use Rattle.image_join.specs.steps.Stacking.{AreInOrder};
@@ -15,7 +16,7 @@ use crate::lists::{collect, put_in_order, put_list};
 use crate::parts::Part;
 use crate::stacking::{stack_word, stand_in_order};
 use doc_types::MAX_WORD_BYTES;
-use image_write::{count_in, place_in, put_entry};
+use image_write::{count_in, head_of, place_in, put_entry, tells};
 use srch_base::NoMemory;
 use std::alloc::Global;
 
@@ -28,11 +29,12 @@ pub(crate) struct Tables {
     pub(crate) postings: Vec<u8>,
 }
 
-/// Where a part stands among its words: the number of the next one, and that word, if one is left.
+/// Where a part stands among its words: the number of the next one, and that word, if one is left, with its first bytes as a number.
 #[derive(Clone, Copy)]
 pub(crate) struct Next<'p> {
     pub(crate) number: u32,
     pub(crate) word: Option<&'p [u8]>,
+    pub(crate) head: u64,
 }
 
 /// Word table, dictionary and postings of the rows that have these numbers.
@@ -133,14 +135,31 @@ fn nexts_of<C: CopyBytes>(alloc: Global, parts: &[Part<C>]) -> Result<Vec<Next<'
     Ok(nexts)
 }
 
+/// Where a part stands before this word of it, if one is left.
+fn before<'p>(number: u32, word: Option<&'p [u8]>) -> Next<'p>
+    ensures number { result.number ≡ number }
+    ensures word { option_map (λ own. own.now) result.word ≡ option_map (λ own. own.now) word.entry }
+    ensures headed { IsHeaded result }
+{
+    match word {
+        Some(own) => Next {
+            number,
+            word,
+            head: head_of(own),
+        },
+        None => Next {
+            number,
+            word,
+            head: 0,
+        },
+    }
+}
+
 /// The first word of a part.
 fn first_of<C: CopyBytes>(part: &Part<C>) -> Next<'_>
     ensures { StandsAt None part.now result }
 {
-    Next {
-        number: 0,
-        word: part.word(0),
-    }
+    before(0, part.word(0))
 }
 
 /// The part's word behind the one of this number.
@@ -148,48 +167,67 @@ pub(crate) fn next_of<C: CopyBytes>(part: &Part<C>, number: u32) -> Next<'_>
     requires { number < length part.now.words }
     ensures number { result.number ≡ number + 1 }
     ensures front { option_map (λ word. word.now) result.word ≡ slice_get part.now.words (number + 1) }
+    ensures headed { IsHeaded result }
 {
     let count = part.words();
     let behind = number + 1;
     if behind < count {
-        Next {
-            number: behind,
-            word: part.word(behind),
-        }
+        before(behind, part.word(behind))
     } else {
-        Next {
-            number: behind,
-            word: None,
-        }
+        before(behind, None)
     }
 }
 
 /// The least of the parts' next words, if there is one.
 fn least_word<'p>(nexts: &[Next<'p>]) -> Option<&'p [u8]>
+    requires { All IsHeaded nexts.now }
     ensures { (last : Option (List ℕ)) (parts : List PartValue) → All (λ part. AreWordsOf part.rows part.words) parts → StandAt last parts nexts.now → MatchOption result (All (IsDone last) parts) (λ word. IsLeast last parts word.now) }
 {
-    let mut least: Option<&[u8]> = None;
+    let mut least = before(0, None);
     for next in nexts {
-        least = lesser(least, next.word);
+        least = lesser(least, *next);
     }
-    least
+    least.word
 }
 
 /// The lesser of two words, where they are there.
-fn lesser<'p>(word: Option<&'p [u8]>, other: Option<&'p [u8]>) -> Option<&'p [u8]>
-    ensures { option_map (λ word. word.now) result ≡ lesser (option_map (λ word. word.now) word.entry) (option_map (λ word. word.now) other.entry) }
+#[inline]
+fn lesser<'p>(least: Next<'p>, other: Next<'p>) -> Next<'p>
+    requires least { IsHeaded least }
+    requires other { IsHeaded other }
+    ensures word { option_map (λ own. own.now) result.word ≡ lesser (option_map (λ own. own.now) least.entry.word) (option_map (λ own. own.now) other.entry.word) }
+    ensures headed { IsHeaded result }
 {
-    match (word, other) {
+    match (least.word, other.word) {
         (Some(first), Some(second)) => {
-            if second.cmp(first).is_lt() {
-                Some(second)
+            if goes_before(second, other.head, first, least.head) {
+                other
             } else {
-                Some(first)
+                least
             }
         }
-        (Some(first), None) => Some(first),
-        (None, second) => second,
+        (Some(_), None) => least,
+        (None, _) => other,
     }
+}
+
+/// Whether a word stands before another one, where these are their heads. Most words are told by these.
+#[inline]
+#[tactic(auto, using(crate::proofs::Headed::smaller, crate::proofs::Headed::greater, crate::proofs::Headed::equal))]
+fn goes_before(word: &[u8], own: u64, other: &[u8], its: u64) -> bool
+    requires own { own ≡ head word.now }
+    requires read { IsRead word.now }
+    requires its { its ≡ head other.now }
+    requires its_read { IsRead other.now }
+    ensures { result ≡ less word.now other.now }
+{
+    if own < its {
+        return true;
+    }
+    if its < own || tells(own) {
+        return false;
+    }
+    word.cmp(other).is_lt()
 }
 
 /// Appends the entries of a word, which is the least of the parts' next ones, and goes over it.

@@ -4,7 +4,7 @@ use Rattle.std.specs.Ordering.{nat_cmp, ordering_then}
 use Rattle.std.specs.Cmp.Lexicographic.{slice_cmp}
 use Rattle.std.specs.declared.cmp.Ordering.TheVariants.{Less}
 use Rattle.std.proofs.lemmas.Cmp.{ranked, by_ranked, nat_cmp_total, tied_itself}
-use Rattle.image_write.specs.steps.Heads.{HasBytes, IsRead, followed, head, size}
+use Rattle.image_write.specs.Heads.{HasBytes, IsRead, followed, head, size}
 
 -- a smaller number with bytes behind it is smaller, whatever is behind the greater one
 greater : (n m k : ℕ) (a b : List ℕ) → m < k → HasBytes n a → followed n m a < followed n k b

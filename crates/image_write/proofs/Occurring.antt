@@ -16,7 +16,7 @@ use Rattle.row_laws.specs.AlikeRows.{postings}
 use Rattle.image_write.specs.declared.gathering.Occurrence.{Occurrence}
 use Rattle.image_write.specs.Written.{row_of}
 use Rattle.image_write.specs.steps.Gathering.{Place, Entry, places_of}
-use Rattle.image_write.specs.steps.Heads.{IsRead, head}
+use Rattle.image_write.specs.Heads.{IsRead, head}
 use Rattle.image_write.specs.steps.Places.{AreFew, HasHead, doc_places, docs_places, field_places, is_at, occurrence_of, place_at, word_at, token_in, token_at}
 
 abbrev plain : Doc → DocRow

@@ -16,7 +16,7 @@ use Rattle.std.proofs.lemmas.Map.Text.{is_eq-slice_cmp}
 use Rattle.std.proofs.lemmas.Slice.Eq.{bytes_eq-Decides}
 use Rattle.doc_types.specs.declared.documents.Doc.{Doc}
 use Rattle.image_write.specs.declared.gathering.Occurrence.{Occurrence}
-use Rattle.image_write.specs.steps.Heads.{head, tells}
+use Rattle.image_write.specs.Heads.{head, tells}
 use Rattle.image_write.specs.steps.Places.{AreFew, AreInOrder, HasHead, docs_places, is_at, order, place_at, rest_at, word_at}
 use Rattle.image_write.proofs.Beginnings.{heads_order, told}
 use Rattle.image_write.proofs.Occurring.{places_each}

@@ -2,5 +2,7 @@
 pub mod Written
 -- headers
 pub mod Headers
+-- the first bytes of a word
+pub mod Heads
 -- what serves proofs alone
 pub mod steps

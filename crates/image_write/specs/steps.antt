@@ -2,7 +2,5 @@
 pub mod Marking
 -- words with their places, and how these are grouped
 pub mod Gathering
--- the first bytes of a word
-pub mod Heads
 -- occurrences of words
 pub mod Places

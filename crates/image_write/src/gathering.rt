@@ -10,7 +10,7 @@ ghost use Rattle.std.specs.Ordering.{nat_cmp};
 ghost use Rattle.std.specs.Str.{bytes_eq};
 ghost use Rattle.std.specs.Cmp.Lexicographic.{slice_cmp};
 ghost use Rattle.doc_types.specs.declared.documents.Doc.{Doc as AnyDoc};
-ghost use Rattle.image_write.specs.steps.Heads.{IsRead};
+ghost use Rattle.image_write.specs.Heads.{IsRead};
 ghost use Rattle.image_write.specs.steps.Places.{AreFew, AreInOrder, HasFewWords, HasHead, doc_places, docs_places, field_places, order, token_at, word_at};
 
 use crate::heads::{head_of, tells};

@@ -1,6 +1,6 @@
 //! The first bytes of a word as a number. Most words differ there, so most comparisons of words are of two numbers.
 ghost use Rattle.std.specs.Prelude.{◌≡◌, ◌+◌, ◌*◌, ◌<◌, slice_index_or};
-ghost use Rattle.image_write.specs.steps.Heads.{IsRead, head, size, tells};
+ghost use Rattle.image_write.specs.Heads.{IsRead, head, size, tells};
 
 /// The first seven bytes of a word, the first one highest, with 0 for each that it doesn't have, and lowest how many bytes it has,
 /// or 8 where it has more than seven.
@@ -9,7 +9,7 @@ ghost use Rattle.image_write.specs.steps.Heads.{IsRead, head, size, tells};
 /// is below 8; longer ones may differ.
 #[inline]
 #[tactic(auto, using(crate::proofs::Beginnings::eight, crate::proofs::Beginnings::eight_bytes))]
-pub(crate) fn head_of(word: &[u8]) -> u64
+pub fn head_of(word: &[u8]) -> u64
     ensures is { result ≡ head word.now }
     ensures bytes { IsRead word.now }
 {
@@ -30,7 +30,7 @@ pub(crate) fn head_of(word: &[u8]) -> u64
 
 /// Whether a head tells its word.
 #[inline]
-pub(crate) fn tells(head: u64) -> bool
+pub fn tells(head: u64) -> bool
     ensures { result ≡ tells head }
 {
     head % 256 < 8

@@ -10,6 +10,7 @@ mod lists;
 mod marks;
 mod words;
 
+pub use heads::{head_of, tells};
 pub use image::{
     Counts, MAX_IMAGE, count_in, header_of, place_in, room_of, write_counted, write_docs,
     write_image,

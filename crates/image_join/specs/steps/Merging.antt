@@ -7,6 +7,7 @@ use Rattle.std.specs.declared.cmp.Ordering.TheVariants.{Less}
 use Rattle.doc_types.specs.declared.documents.DocRow.{DocRow}
 use Rattle.doc_types.specs.Chunks.{rows_with}
 use Rattle.chunk_image.specs.ChunkImage.{dictionary_bytes, postings_bytes, table_bytes}
+use Rattle.image_write.specs.Heads.{IsRead, head}
 use Rattle.image_join.specs.declared.words.Next.{Next}
 use Rattle.image_join.specs.declared.words.Tables.{Tables}
 use Rattle.image_join.specs.steps.Parts.{PartValue, part_at}
@@ -28,15 +29,20 @@ lesser (Some word) (Some other) = if less other word then Some other else Some w
 
 -- where a part stands for none
 abbrev pub blank_next : Next
-blank_next = record { number = 0; word = None }
+blank_next = record { number = 0; word = None; head = 0 }
 
 abbrev pub next_at : List Next → ℕ → Next
 next_at nexts k = get_or nexts k blank_next
+
+-- the next word's first bytes are at hand as a number
+pub record IsHeaded (next : Next) : Type 0 where
+  pub is : (word : List ℕ) → option_map (λ word. word.now) next.word ≡ Some word → (next.head ≡ head word) × IsRead word
 
 -- the part's words from this number on are those ahead, and the first of them is at hand
 pub record StandsAt (last : Option (List ℕ)) (part : PartValue) (next : Next) : Type 0 where
   pub split : (n : ℕ) (word : List ℕ) → slice_get part.words n ≡ Some word → is_ahead last word ≡ nat_le next.number n
   pub front : option_map (λ word. word.now) next.word ≡ slice_get part.words next.number
+  pub headed : IsHeaded next
 
 -- so each part stands
 pub record StandAt (last : Option (List ℕ)) (parts : List PartValue) (nexts : List Next) : Type 0 where

@@ -14,7 +14,7 @@ use Rattle.row_laws.specs.AlikeRows.{postings}
 use Rattle.image_write.specs.declared.gathering.Occurrence.{Occurrence}
 use Rattle.image_write.specs.Written.{row_of}
 use Rattle.image_write.specs.steps.Gathering.{Place, WordPlaces, places_of}
-use Rattle.image_write.specs.steps.Heads.{IsRead, head, tells}
+use Rattle.image_write.specs.Heads.{IsRead, head, tells}
 
 -- the token at these numbers, that which an occurrence tells, its word, and its place
 abbrev pub token_in : List Doc → ℕ → ℕ → ℕ → Option TokenWord

@@ -6,6 +6,7 @@ use Rattle.doc_types.specs.Chunks.{AreWordsOf}
 use Rattle.image_join.specs.steps.Entries.{entries_in}
 use Rattle.image_join.specs.steps.Merging.{IsLeast, StandAt}
 use Rattle.image_join.specs.steps.Parts.{PartValue}
+use Rattle.image_join.proofs.Least.{all_headed}
 use Rattle.image_join.proofs.Merged.{merged_all, merged_more, merged_none}
 use Rattle.image_join.proofs.words.tables_of.Goals as goal
 
@@ -39,3 +40,9 @@ returns-in-None-least_word g c =
     let last = c.words.invariant.last in
     let stand : StandAt last parts c.deref-2.result.now = subst (StandAt last parts) (sym c.deref-2.ensures.value) c.words.invariant.stand in
     merged_all parts c.args.numbers.now c.words.nexts.items c.words.tables c.words.invariant c.word_count-most.ensures (c.in-None-least_word.ensures last parts c.word_count-most.ensures stand)
+
+pub least_word-requires : goal.least_word-requires
+least_word-requires g c = all_headed c.words.invariant.last c.args.parts.now c.deref.result.now (subst (StandAt c.words.invariant.last c.args.parts.now) (sym c.deref.ensures.value) c.words.invariant.stand)
+
+pub least_word-requires-2 : goal.least_word-requires-2
+least_word-requires-2 g c = all_headed c.words.invariant.last c.args.parts.now c.deref-2.result.now (subst (StandAt c.words.invariant.last c.args.parts.now) (sym c.deref-2.ensures.value) c.words.invariant.stand)

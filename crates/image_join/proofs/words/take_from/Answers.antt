@@ -24,7 +24,7 @@ next_of-requires g c = slice_get_within c.args.part.now.words c.args.next.number
 
 pub returns-clause-next : goal.returns-clause-next
 returns-clause-next g c = λ last stands before ahead.
-    goes_on last c.args.part.now c.args.next c.args.word.now c.requires.words stands before ahead c.next_of.result (sym c.requires.front ∙ c.if-not-is_next.ensures) c.next_of.ensures.number c.next_of.ensures.front
+    goes_on last c.args.part.now c.args.next c.args.word.now c.requires.words stands before ahead c.next_of.result (sym c.requires.front ∙ c.if-not-is_next.ensures) c.next_of.ensures.number c.next_of.ensures.front c.next_of.ensures.headed
 
 pub returns-clause-found : goal.returns-clause-found
 returns-clause-found g c = λ last stands before ahead. c.in_ok-collect.ensures c.args.word.now (sym c.requires.front ∙ c.if-not-is_next.ensures)

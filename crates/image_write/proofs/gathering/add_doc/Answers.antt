@@ -1,6 +1,6 @@
 use Rattle.std.proofs.Common.{◌++◌, rules, arith, refl, ap, subst, ◌∙◌, All}
 use Rattle.doc_types.specs.declared.tokens.FieldTokens.{FieldTokens}
-use Rattle.image_write.specs.steps.Heads.{IsRead}
+use Rattle.image_write.specs.Heads.{IsRead}
 use Rattle.image_write.specs.steps.Places.{doc_places}
 use Rattle.image_write.proofs.Columned.{all_more}
 use Rattle.image_write.proofs.Meeting.{all_met, all_taken, field_more}

@@ -1,5 +1,5 @@
 use Rattle.std.proofs.Common.{◌≡◌, ◌++◌, All, drop, take}
-use Rattle.image_write.specs.steps.Heads.{IsRead}
+use Rattle.image_write.specs.Heads.{IsRead}
 use Rattle.image_write.specs.steps.Places.{field_places}
 use Rattle.image_write.proofs.gathering.add_field.Given as goal
 

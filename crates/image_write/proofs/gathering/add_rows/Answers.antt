@@ -1,6 +1,6 @@
 use Rattle.std.proofs.Common.{rules, arith, refl, sym, subst, All, map}
 use Rattle.doc_types.specs.declared.documents.Doc.{Doc}
-use Rattle.image_write.specs.steps.Heads.{IsRead}
+use Rattle.image_write.specs.Heads.{IsRead}
 use Rattle.image_write.specs.steps.Places.{AreFew, docs_places}
 use Rattle.image_write.proofs.Columned.{all_more}
 use Rattle.image_write.proofs.Meeting.{all_lent, all_met, doc_more, lent_at}
