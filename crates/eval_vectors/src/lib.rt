@@ -21,4 +21,8 @@ mod sizes;
 #[cfg(test)]
 mod telling;
 #[cfg(test)]
+mod visiting;
+#[cfg(test)]
+mod watched;
+#[cfg(test)]
 mod weights;

@@ -14,7 +14,8 @@ const DOCUMENTS: u64 = 10_000;
 
 /// Queries with how many documents they find. `seven` stands in 7, 14, .., 9,996. `rare phrase` are two, and 50, 150, .., 9,950
 /// have its words the other way round. `mark` stands at 5 to 11 in remainders 0 to 6 by 36, of which 0 comes 277 times and each
-/// other one 278 times. The query of five words finds 2,000 by their last digits; 1,428 of `seven`, of which 21, 91, .. and 63,
+/// other one 278 times. `red` stands in the 5,000 odd ones but 8,765, and `fox` in 1, 101, .., 9,901, where `red fox` stands, and in
+/// 2, 102, .., 9,902 without it. The query of five words finds 2,000 by their last digits; 1,428 of `seven`, of which 21, 91, .. and 63,
 /// 133, .. are among these, 143 and 142; 102 of `rare`, of which 350, 1,050, .., 9,450 have `seven`, 14.
 const COUNTS: &str = r#"
 all ⇒ 10000
@@ -26,11 +27,15 @@ phrase << rare ⇒ 100
 "all mark"~10 ⇒ 1945
 all NEAR/10 mark ⇒ 1945
 ten1 | ten3 | seven | rare | absent ⇒ 3231
+red ⇒ 4999
+fox ⇒ 200
+"red fox" ⇒ 100
+red -fox ⇒ 4899
 absent ⇒ 0
 "#;
 
 /// The text of a document, of 40 words: `all`; `seven` in each seventh one; `rare phrase` in two, and `phrase rare` in each
-/// hundredth one; then `mark` among 35 words of the number's last digit.
+/// hundredth one, or `red fox` or `fox` in each hundredth one, or `red` in odd ones; then `mark` among 35 words of the number's last digit.
 fn text_of(alloc: Global, number: u64) -> Result<String, Fail> {
     let mut text = String::new(alloc);
     text.push_str("all ")?;
@@ -38,6 +43,9 @@ fn text_of(alloc: Global, number: u64) -> Result<String, Fail> {
     text.push_str(match number {
         1_234 | 8_765 => "rare phrase",
         _ if number % 100 == 50 => "phrase rare",
+        _ if number % 100 == 1 => "red fox",
+        _ if number % 100 == 2 => "no fox",
+        _ if number % 2 == 1 => "red no",
         _ => "no no",
     })?;
     let digit = number % 10;
@@ -52,7 +60,7 @@ fn text_of(alloc: Global, number: u64) -> Result<String, Fail> {
 }
 
 /// The chunk of the documents.
-fn chunk_of_many(alloc: Global, index: &IndexConf) -> Result<RamChunk, Fail>
+pub(crate) fn chunk_of_many(alloc: Global, index: &IndexConf) -> Result<RamChunk, Fail>
     requires { IsSoundIndex index.now }
 {
     let mut rows = Vec::new(alloc);

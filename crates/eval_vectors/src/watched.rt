@@ -1,0 +1,144 @@
+//! A chunk that counts the lists of places that are opened, and how often a row is sought.
+use doc_types::{Chunk, Cursor, Gap, HitLists, Value, ZoneSpan};
+use srch_base::{NoMemory, Steps};
+use std::alloc::Global;
+use std::sync::Arc;
+use std::sync::atomic::{AtomicU64, Ordering};
+use std::sync::ledger::Ledger;
+
+/// A chunk with two counts.
+#[derive(Drop)]
+pub(crate) struct Watched<C> {
+    chunk: C,
+    lists: Arc<AtomicU64, Global>,
+    seeks: Arc<AtomicU64, Global>,
+}
+
+impl<C: Drop> Watched<C> {
+    pub(crate) fn over(alloc: Global, chunk: C) -> Result<Watched<C>, NoMemory> {
+        Ok(Watched {
+            chunk,
+            lists: Arc::new(alloc, AtomicU64::new(0))?,
+            seeks: Arc::new(alloc, AtomicU64::new(0))?,
+        })
+    }
+
+    /// Counts from 0.
+    pub(crate) fn begin(&self) {
+        self.lists.store(0, Ordering::SeqCst);
+        self.seeks.store(0, Ordering::SeqCst);
+    }
+
+    /// How many lists were opened, and how often a row was sought.
+    pub(crate) fn counts(&self) -> (u64, u64) {
+        (
+            self.lists.load(Ordering::SeqCst),
+            self.seeks.load(Ordering::SeqCst),
+        )
+    }
+}
+
+impl<C: Chunk> Chunk for Watched<C> {
+    ghost content = { λ watched. C.content watched.chunk };
+
+    ghost words_of = { λ watched. C.words_of watched.chunk };
+
+    ghost belongs = { λ watched cursor. C.belongs watched.chunk cursor };
+
+    ghost place = { λ watched cursor. C.place watched.chunk cursor };
+
+    fn rows(&self) -> u32 {
+        self.chunk.rows()
+    }
+
+    fn fields(&self) -> u16 {
+        self.chunk.fields()
+    }
+
+    fn id(&self, row: u32) -> u64 {
+        self.chunk.id(row)
+    }
+
+    fn born(&self, row: u32) -> u64 {
+        self.chunk.born(row)
+    }
+
+    fn value(&self, row: u32, attr: u16) -> Value {
+        self.chunk.value(row, attr)
+    }
+
+    fn find(&self, id: u64) -> Option<u32> {
+        self.chunk.find(id)
+    }
+
+    fn words(&self) -> u32 {
+        self.chunk.words()
+    }
+
+    fn word_at(&self, n: u32) -> &[u8] {
+        self.chunk.word_at(n)
+    }
+
+    fn count(&self, word: &[u8]) -> u32 {
+        self.chunk.count(word)
+    }
+
+    fn start(&self, word: &[u8]) -> Option<Cursor> {
+        self.chunk.start(word)
+    }
+
+    fn row(&self, cursor: &Cursor) -> Option<u32> {
+        self.chunk.row(cursor)
+    }
+
+    fn advance(&self, cursor: &mut Cursor) {
+        self.chunk.advance(cursor);
+    }
+
+    fn seek(&self, cursor: &mut Cursor, row: u32) -> u32 {
+        self.seeks.store(
+            self.seeks.load(Ordering::SeqCst).saturating_add(1),
+            Ordering::SeqCst,
+        );
+        self.chunk.seek(cursor, row)
+    }
+
+    fn lasts(&self, row: u32, into: &mut Vec<u32>) -> Result<(), NoMemory> {
+        self.chunk.lasts(row, into)
+    }
+
+    fn gaps(&self, row: u32, into: &mut Vec<(u16, (u32, Gap))>) -> Result<(), NoMemory> {
+        self.chunk.gaps(row, into)
+    }
+
+    fn spans(&self, row: u32, into: &mut Vec<(u16, ZoneSpan)>) -> Result<(), NoMemory> {
+        self.chunk.spans(row, into)
+    }
+
+    ghost whole = { λ watched. C.whole watched.chunk };
+
+    ghost all_words = { λ watched. C.all_words watched.chunk };
+
+    ghost places = { λ watched cursor belongs. C.places watched.chunk cursor belongs };
+
+    ghost nexts = { λ watched cursor belongs. C.nexts watched.chunk cursor belongs };
+}
+
+impl<C: HitLists> HitLists for Watched<C> {
+    fn open<L: Ledger>(
+        &self,
+        cursor: &Cursor,
+        into: &mut Vec<(u16, u32)>,
+        steps: &mut Steps<L>,
+    ) -> Result<(), NoMemory> {
+        self.lists.store(
+            self.lists.load(Ordering::SeqCst).saturating_add(1),
+            Ordering::SeqCst,
+        );
+        self.chunk.open(cursor, into, steps)
+    }
+
+    fn fields_at<L: Ledger>(&self, cursor: &Cursor, steps: &mut Steps<L>) -> u32 {
+        self.chunk.fields_at(cursor, steps)
+    }
+}
