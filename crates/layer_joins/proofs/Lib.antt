@@ -12,3 +12,5 @@ pub mod Limits
 pub mod Kept
 -- layers behind a place, and rows at one
 pub mod Behind
+-- layers that are put together more than once
+pub mod Again

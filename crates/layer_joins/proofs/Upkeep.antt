@@ -1,5 +1,4 @@
 -- What stays where layers are put together.
-use Rattle.std.specs.Prelude.{Result, Ok, Err, OnOk, OnErr}
 use Rattle.std.proofs.Common.{◌≡◌, ℕ, ◌<◌, List, [], ◌∷◌, ◌++◌, Option, Some, None, false, All, length, refl, sym, ap, subst, ◌∙◌, take, drop, arith, append-nil}
 use Rattle.std.specs.List.Sorted.{IsPermutation}
 use Rattle.std.proofs.Math.ListN.{drop_of_length-le}
@@ -44,7 +43,7 @@ joined_by old start (Some layer) new memory is layers =
     let some : 0 < length layer.rows = omega (arith, is.0, length_permutation (all_living (drop start old)) layer.rows is.1.sorted) in
     record { start = start; memory = memory; rows = layer.rows; are = is.1.sorted; layers = layers ∙ ap (λ last. take start old ++ last) (some_rows layer layer.rows refl some is.1.memory is.1.whole) }
 
-living_of : (rows : List DocRow) → all_living (layers_of rows) ≡ rows
+pub living_of : (rows : List DocRow) → all_living (layers_of rows) ≡ rows
 living_of [] = refl
 living_of (row ∷ rows) = whole_layer (record { rows = row ∷ rows; disk = false; dead = [] }) refl
 
@@ -64,8 +63,3 @@ live_joined old new may apart = sym (rows_of_permutation (all_living old.layers)
 -- a layer of documents of the schema
 pub rows_are : (schema : Schema) (rows : List DocRow) (layer : LayerValue) → All (λ row. IsDocOf schema row.doc) rows → IsLayerOf rows layer → AreRowsOf schema layer.rows
 rows_are schema rows layer docs is = record { ids = is.ascend; docs = All-permutation (λ (row : DocRow). IsDocOf schema row.doc) rows layer.rows is.sorted docs }
-
--- where putting together was tried, they were or nothing was
-pub merged_or_not : {T E : Type 0} (result : Result T E) (old new : SnapshotValue) → OnOk result (MayMerge old new) → OnErr result (new ≡ old) → MayMerge old new
-merged_or_not (Ok value) old new ok err = ok
-merged_or_not (Err fault) old new ok err = not_merged old new err

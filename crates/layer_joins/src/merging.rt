@@ -42,24 +42,25 @@ fn first_in_memory<C: Chunk>(layers: &[Layer<C>]) -> usize
     first
 }
 
-/// The first layer from this one on that it is cheap by now to put together with all behind it, if there is one.
+/// The last layer from this one on that it is cheap by now to put together with all behind it, if there is one.
 fn cheap_start<C: Chunk>(layers: &[Layer<C>], first: usize) -> Option<usize>
     requires { length layers.now < 2 ^ 16 }
     ensures { IfSome result (λ start. (first ≤ start) × (start < length layers.now)) }
 {
     let mut behind = live_count(layers);
+    let mut start = None;
     for (index, layer) in layers.iter().enumerate() {
         let rows = u64::from(layer.live_count());
         behind = behind.saturating_sub(rows);
         let last = index + 1 == layers.len();
         if index >= first && (is_mostly_dead(layer) || (!last && FAN_IN * rows <= behind)) {
-            return Some(index);
+            start = Some(index);
         }
     }
-    None
+    start
 }
 
-/// The first layer that is to become one with all behind it, if there is one.
+/// The layer that is to become one with all behind it next, if there is one.
 fn merge_start<C: Chunk>(layers: &[Layer<C>]) -> Option<usize>
     requires { length layers.now < 2 ^ 16 }
     ensures start { IfSome result (λ start. start < length layers.now) }
@@ -142,16 +143,21 @@ fn merge_from<C: JoinChunk>(
     Ok(())
 }
 
-/// Puts the last layers together, where they are in memory and that is cheap by now. After an error all is as before.
-#[tactic(auto, using(crate::proofs::Upkeep::merged_or_not, crate::proofs::Upkeep::not_merged))]
+/// Puts the last layers together while they are in memory and that is cheap by now. After an error what was put together before it
+/// stays so, and all else is as before.
+#[tactic(auto, using(crate::proofs::Again::merged_again, crate::proofs::Again::of_merged, crate::proofs::Upkeep::not_merged))]
 pub fn merge_last<C: JoinChunk>(alloc: Global, snapshot: &mut Snapshot<C>) -> Result<(), NoMemory>
     requires of { AreOfOne (all_living snapshot.old.layers) }
     requires sound { AreLayers snapshot.old.layers }
     ensures merges { MayMerge snapshot.old snapshot.new }
     ensures sound { AreLayers snapshot.new.layers }
 {
-    match merge_start(snapshot.layers.as_slice()) {
-        Some(start) => merge_from(alloc, snapshot, start),
-        None => Ok(()),
+    let most = snapshot.layers.as_slice().len();
+    for _ in 0..most {
+        match merge_start(snapshot.layers.as_slice()) {
+            Some(start) => merge_from(alloc, snapshot, start)?,
+            None => return Ok(()),
+        }
     }
+    Ok(())
 }
