@@ -43,6 +43,7 @@ impl<C: CopyBytes> Part<C> {
     }
 
     /// How many rows stand before its first one.
+    #[inline]
     pub(crate) fn first(&self) -> u32
         ensures { result ≡ self.now.first }
     {
@@ -97,6 +98,7 @@ impl<C: CopyBytes> Part<C> {
     }
 
     /// How many words it has.
+    #[inline]
     pub(crate) fn words(&self) -> u32
         ensures count { result ≡ length self.now.words }
         ensures are { AreWordsOf self.now.rows self.now.words }
@@ -105,6 +107,7 @@ impl<C: CopyBytes> Part<C> {
     }
 
     /// The word of this number, if it has so many.
+    #[inline]
     pub(crate) fn word(&self, n: u32) -> Option<&[u8]>
         ensures word { option_map (λ word. word.now) result ≡ slice_get self.now.words n }
         ensures are { AreWordsOf self.now.rows self.now.words }
@@ -118,6 +121,7 @@ impl<C: CopyBytes> Part<C> {
     }
 
     /// The bytes of the posting list of the word of this number.
+    #[inline]
     pub(crate) fn list(&self, n: u32) -> &[u8]
         requires { n < length self.now.words }
         ensures { (word : List ℕ) → slice_get self.now.words n ≡ Some word → result.now ≡ word_postings self.now.rows word }
@@ -126,6 +130,7 @@ impl<C: CopyBytes> Part<C> {
     }
 
     /// How many rows have the word of this number.
+    #[inline]
     pub(crate) fn count(&self, n: u32) -> u32
         requires { n < length self.now.words }
         ensures { (word : List ℕ) → slice_get self.now.words n ≡ Some word → result ≡ length (rows_with word self.now.rows) }

@@ -10,15 +10,16 @@ ghost use Rattle.doc_types.specs.declared.cursor.TheConstants.{NO_ROW};
 ghost use Rattle.doc_types.specs.declared.documents.DocRow.{DocRow as AnyRow};
 ghost use Rattle.doc_types.specs.Chunks.{AreWordsOf, rows_with};
 ghost use Rattle.posting_codec.specs.PostingLists.{posting_list};
+ghost use Rattle.image_write.specs.Heads.{IsRead, head};
 ghost use Rattle.image_join.specs.steps.Entries.{AreEntriesOf};
-ghost use Rattle.image_join.specs.steps.Merging.{AreTables, IsBefore, IsLeast, StandAt, StandsAt, added, is_ahead};
+ghost use Rattle.image_join.specs.steps.Merging.{AreTables, IsBefore, IsHeaded, IsLeast, StandAt, StandsAt, added, is_ahead};
 ghost use Rattle.image_join.specs.steps.Stacking.{AreInOrder, ArePosted, Posting, at_front, behind, moved, stacked_in};
 
 use crate::copying::CopyBytes;
 use crate::parts::Part;
 use crate::words::{Next, Tables, is_next, next_of};
 use doc_types::{MAX_WORD_BYTES, NO_ROW};
-use image_write::{place_in, put_entry};
+use image_write::{head_of, place_in, put_entry};
 use posting_codec::{number_at, put_number};
 use srch_base::NoMemory;
 
@@ -45,6 +46,7 @@ pub(crate) fn stand_in_order(numbers: &[u32]) -> bool
 }
 
 /// Appends a posting list, whose rows lie so many rows further on here, to one where this is the least row that can stand next.
+#[inline]
 fn put_moved(list: &[u8], by: u32, least: u32, out: &mut Vec<u8>) -> Result<(), NoMemory>
     requires { (entry : Posting) × (entries : List Posting) × (list.now ≡ posting_list 0 (entry ∷ entries)) × (by + entry.0 < NO_ROW) }
     ensures least { OnOk result ((entry : Posting) (entries : List Posting) → list.now ≡ posting_list 0 (entry ∷ entries) → by + entry.0 < NO_ROW → least ≤ by + entry.0) }
@@ -77,6 +79,7 @@ fn behind_of<C: CopyBytes>(chunk: &C, word: u32) -> u32
 }
 
 /// The same of a part.
+#[inline]
 fn behind_in<C: CopyBytes>(part: &Part<C>, word: u32) -> u32
     requires word { word < length part.now.words }
     requires few { length part.now.rows < NO_ROW }
@@ -88,6 +91,7 @@ fn behind_in<C: CopyBytes>(part: &Part<C>, word: u32) -> u32
 }
 
 /// Appends the entries of the part's word of this number, and says how far the list is then.
+#[inline]
 fn put_stacked<C: CopyBytes>(
     part: &Part<C>,
     word: u32,
@@ -106,11 +110,13 @@ fn put_stacked<C: CopyBytes>(
     Ok(Reached { least, count })
 }
 
-/// Appends the entries of a word in a part, if it is the part's next one, and gives where the part stands and how far the list is
-/// then.
+/// Appends the entries of a word, whose head this is, in a part, if it is the part's next one, and gives where the part stands and
+/// how far the list is then.
+#[inline]
 fn stack_from<'p, C: CopyBytes>(
     part: &'p Part<C>,
     word: &[u8],
+    word_head: u64,
     next: Next<'p>,
     reached: Reached,
     out: &mut Vec<u8>,
@@ -118,10 +124,13 @@ fn stack_from<'p, C: CopyBytes>(
     requires words { AreWordsOf part.now.rows part.now.words }
     requires few { part.now.first + length part.now.rows < NO_ROW }
     requires front { option_map (λ word. word.now) next.word ≡ slice_get part.now.words next.number }
+    requires headed { IsHeaded next }
+    requires head { word_head ≡ head word.now }
+    requires read { IsRead word.now }
     ensures next { IfOk result (λ after. (last : Option (List ℕ)) → StandsAt last part.now next.entry → IsBefore last word.now part.now → is_ahead last word.now ≡ true → StandsAt (Some word.now) part.now after.0) }
     ensures posted { IfOk result (λ after. (last : Option (List ℕ)) → StandsAt last part.now next.entry → IsBefore last word.now part.now → is_ahead last word.now ≡ true → ArePosted (stacked_in word.now part.now) out.old.items out.new.items reached after.1) }
 {
-    if !is_next(next, word) {
+    if !is_next(next, word, word_head) {
         return Ok((next, reached));
     }
     let after = put_stacked(part, next.number, reached, out)?;
@@ -142,9 +151,10 @@ fn stack_lists<'p, C: CopyBytes>(
     ensures nexts { OnOk result ((last : Option (List ℕ)) → StandAt last parts.now nexts.old → IsLeast last parts.now word.now → StandAt (Some word.now) parts.now nexts.new) }
     ensures posted { IfOk result (λ after. (last : Option (List ℕ)) → StandAt last parts.now nexts.old → IsLeast last parts.now word.now → ArePosted (flat_map (stacked_in word.now) parts.now) out.old.items out.new.items at_front after) }
 {
+    let word_head = head_of(word);
     let mut reached = Reached { least: 0, count: 0 };
     for (number, part) in parts.iter().enumerate() {
-        let (next, after) = stack_from(part, word, nexts[number], reached, out)?;
+        let (next, after) = stack_from(part, word, word_head, nexts[number], reached, out)?;
         nexts[number] = next;
         reached = after;
     }

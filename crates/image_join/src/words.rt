@@ -136,6 +136,7 @@ fn nexts_of<C: CopyBytes>(alloc: Global, parts: &[Part<C>]) -> Result<Vec<Next<'
 }
 
 /// Where a part stands before this word of it, if one is left.
+#[inline]
 fn before<'p>(number: u32, word: Option<&'p [u8]>) -> Next<'p>
     ensures number { result.number ≡ number }
     ensures word { option_map (λ own. own.now) result.word ≡ option_map (λ own. own.now) word.entry }
@@ -156,6 +157,7 @@ fn before<'p>(number: u32, word: Option<&'p [u8]>) -> Next<'p>
 }
 
 /// The first word of a part.
+#[inline]
 fn first_of<C: CopyBytes>(part: &Part<C>) -> Next<'_>
     ensures { StandsAt None part.now result }
 {
@@ -163,6 +165,7 @@ fn first_of<C: CopyBytes>(part: &Part<C>) -> Next<'_>
 }
 
 /// The part's word behind the one of this number.
+#[inline]
 pub(crate) fn next_of<C: CopyBytes>(part: &Part<C>, number: u32) -> Next<'_>
     requires { number < length part.now.words }
     ensures number { result.number ≡ number + 1 }
@@ -230,6 +233,25 @@ fn goes_before(word: &[u8], own: u64, other: &[u8], its: u64) -> bool
     word.cmp(other).is_lt()
 }
 
+/// Whether two words are one, where these are their heads. Most words are told by these.
+#[inline]
+#[tactic(auto, using(crate::proofs::Headed::another, crate::proofs::Headed::one))]
+fn is_same(word: &[u8], own: u64, other: &[u8], its: u64) -> bool
+    requires own { own ≡ head word.now }
+    requires read { IsRead word.now }
+    requires its { its ≡ head other.now }
+    requires its_read { IsRead other.now }
+    ensures { MatchBool result (word.now ≡ other.now) (word.now ≢ other.now) }
+{
+    if own != its {
+        return false;
+    }
+    if tells(own) {
+        return true;
+    }
+    word == other
+}
+
 /// Appends the entries of a word, which is the least of the parts' next ones, and goes over it.
 fn take_word<'p, C: CopyBytes>(
     parts: &'p [Part<C>],
@@ -245,41 +267,50 @@ fn take_word<'p, C: CopyBytes>(
     ensures nexts { OnOk result ((last : Option (List ℕ)) → StandAt last parts.now nexts.old → IsLeast last parts.now word.now → StandAt (Some word.now) parts.now nexts.new) }
     ensures found { OnOk result ((last : Option (List ℕ)) → StandAt last parts.now nexts.old → IsLeast last parts.now word.now → lent found.new.items ≡ lent found.old.items ++ flat_map (entries_in word.now numbers.now) parts.now) }
 {
+    let word_head = head_of(word);
     for (number, part) in parts.iter().enumerate() {
         let next = nexts[number];
-        nexts[number] = take_from(part, numbers, word, next, found)?;
+        nexts[number] = take_from(part, numbers, word, word_head, next, found)?;
     }
     Ok(())
 }
 
-/// Appends the entries of a word in a part, if it is the part's next one, and gives where the part stands then.
+/// Appends the entries of a word, whose head this is, in a part, if it is the part's next one, and gives where the part stands then.
+#[inline]
 fn take_from<'p, C: CopyBytes>(
     part: &'p Part<C>,
     numbers: &[u32],
     word: &[u8],
+    word_head: u64,
     next: Next<'p>,
     found: &mut Vec<(u32, &'p [u8])>,
 ) -> Result<Next<'p>, NoMemory>
     requires words { AreWordsOf part.now.rows part.now.words }
     requires within { part.now.first + length part.now.rows ≤ length numbers.now }
     requires front { option_map (λ word. word.now) next.word ≡ slice_get part.now.words next.number }
+    requires headed { IsHeaded next }
+    requires head { word_head ≡ head word.now }
+    requires read { IsRead word.now }
     ensures next { IfOk result (λ after. (last : Option (List ℕ)) → StandsAt last part.now next.entry → IsBefore last word.now part.now → is_ahead last word.now ≡ true → StandsAt (Some word.now) part.now after) }
     ensures found { OnOk result ((last : Option (List ℕ)) → StandsAt last part.now next.entry → IsBefore last word.now part.now → is_ahead last word.now ≡ true → lent found.new.items ≡ lent found.old.items ++ entries_in word.now numbers.now part.now) }
 {
-    if !is_next(next, word) {
+    if !is_next(next, word, word_head) {
         return Ok(next);
     }
     collect(part, next.number, numbers, found)?;
     Ok(next_of(part, next.number))
 }
 
-/// Whether the next word is this one.
+/// Whether the next word is this one, where this is its head.
 #[inline]
-pub(crate) fn is_next(next: Next<'_>, word: &[u8]) -> bool
+pub(crate) fn is_next(next: Next<'_>, word: &[u8], word_head: u64) -> bool
+    requires next { IsHeaded next }
+    requires head { word_head ≡ head word.now }
+    requires read { IsRead word.now }
     ensures { MatchBool result (option_map (λ own. own.now) next.entry.word ≡ Some word.now) (option_map (λ own. own.now) next.entry.word ≢ Some word.now) }
 {
     match next.word {
-        Some(own) => own == word,
+        Some(own) => is_same(own, next.head, word, word_head),
         None => false,
     }
 }

@@ -1,4 +1,4 @@
-use Rattle.std.proofs.Common.{◌≡◌, ◌<◌, ◌++◌, ℕ, List, Option, Some, length, get_or, subst, sym, ap, ◌∙◌, arith}
+use Rattle.std.proofs.Common.{◌≡◌, ◌<◌, ℕ, List, Option, Some, length, subst, sym, ◌∙◌, arith}
 use Rattle.std.proofs.lemmas.List.{get_or_default, length-set}
 use Rattle.doc_types.specs.Chunks.{AreWordsOf}
 use Rattle.image_join.specs.steps.Merging.{IsBefore, IsLeast, StandAt, StandsAt, next_at}
@@ -40,3 +40,14 @@ returns-clause-nexts g c = λ last stand least. record {
   long = c.loop-number.invariant.long ∙ stand.long;
   each = λ k low. c.loop-number.invariant.nexts last stand least k (omega (arith, low, c.loop-number-test.false));
 }
+
+pub stack_from-requires-clause-headed : goal.stack_from-requires-clause-headed
+stack_from-requires-clause-headed g c =
+    let parts : List PartValue = c.args.parts.now in
+    let i = c.loop-number.number in
+    let last = c.requires.stand.0 in
+    let part = c.index-parts-number.result in
+    let here : part ≡ part_at parts i = c.index-parts-number.is ∙ get_or_default parts i part blank_part c.loop-number-test.true in
+    let stands : StandsAt last part (next_at c.loop-number.nexts i) =
+    subst (StandsAt last part) (sym (c.loop-number.invariant.later i (omega arith))) (subst (λ p. StandsAt last p (next_at c.args.nexts.now i)) (sym here) (c.requires.stand.1.each i c.loop-number-test.true)) in
+    stands.headed

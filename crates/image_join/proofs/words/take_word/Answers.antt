@@ -1,4 +1,4 @@
-use Rattle.std.proofs.Common.{◌≡◌, ◌<◌, ◌++◌, ℕ, List, Option, Some, length, get_or, subst, sym, ap, ◌∙◌, arith}
+use Rattle.std.proofs.Common.{◌≡◌, ◌<◌, ℕ, List, Option, Some, length, subst, sym, ◌∙◌, arith}
 use Rattle.std.proofs.lemmas.List.{get_or_default, length-set}
 use Rattle.doc_types.specs.Chunks.{AreWordsOf}
 use Rattle.image_join.specs.steps.Merging.{IsBefore, IsLeast, StandAt, StandsAt, next_at}
@@ -42,6 +42,17 @@ take_from-requires-clause-front g c =
     let stands : StandsAt last part (next_at c.loop-number.nexts i) =
     subst (StandsAt last part) (sym (c.loop-number.invariant.later i (omega arith))) (subst (λ p. StandsAt last p (next_at c.args.nexts.now i)) (sym here) (c.requires.stand.1.each i c.loop-number-test.true)) in
     stands.front
+
+pub take_from-requires-clause-headed : goal.take_from-requires-clause-headed
+take_from-requires-clause-headed g c =
+    let parts : List PartValue = c.args.parts.now in
+    let i = c.loop-number.number in
+    let last = c.requires.stand.0 in
+    let part = c.index-parts-number.result in
+    let here : part ≡ part_at parts i = c.index-parts-number.is ∙ get_or_default parts i part blank_part c.loop-number-test.true in
+    let stands : StandsAt last part (next_at c.loop-number.nexts i) =
+    subst (StandsAt last part) (sym (c.loop-number.invariant.later i (omega arith))) (subst (λ p. StandsAt last p (next_at c.args.nexts.now i)) (sym here) (c.requires.stand.1.each i c.loop-number-test.true)) in
+    stands.headed
 
 pub take_from-requires-clause-words : goal.take_from-requires-clause-words
 take_from-requires-clause-words g c =
