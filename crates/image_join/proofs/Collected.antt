@@ -1,5 +1,5 @@
 -- The entries of a word, collected from the parts.
-use Rattle.std.proofs.Common.{◌≡◌, ◌≢◌, ℕ, zero, suc, ◌+◌, ◌<◌, ◌≤◌, List, [], ◌∷◌, ◌++◌, Bool, true, false, cond, ◌==◌, ◌||◌, Some, slice_get, slice_index, length, map, get_or, refl, sym, ap, subst, ◌∙◌, arith, All, Contains}
+use Rattle.std.proofs.Common.{◌≡◌, ◌≢◌, ℕ, zero, suc, ◌+◌, ◌<◌, List, [], ◌∷◌, Bool, true, false, cond, ◌==◌, ◌||◌, Some, slice_get, length, map, get_or, refl, sym, ap, subst, ◌∙◌, arith, All, Contains}
 use Rattle.std.specs.List.{filter, flat_map, list_any, enumerate_from}
 use Rattle.std.specs.Option.{option_map_or}
 use Rattle.std.proofs.lemmas.Bool.Decides.{nat_tests}
@@ -10,7 +10,7 @@ use Rattle.doc_types.specs.declared.cursor.TheConstants.{NO_ROW}
 use Rattle.doc_types.specs.declared.documents.DocRow.{DocRow}
 use Rattle.doc_types.specs.Chunks.{has_word, hits_of, rows_with}
 use Rattle.posting_codec.specs.HitLists.{hit_list}
-use Rattle.image_join.specs.steps.Entries.{AreEntriesOf, Entry, IsEntryOf, entries_from, entries_in, entry_of}
+use Rattle.image_join.specs.steps.Entries.{AreEntriesOf, Entry, IsEntryOf, entries_in, entry_of}
 use Rattle.image_join.specs.steps.Numbering.{AreNumbered, IsNumbered, number_in}
 use Rattle.image_join.specs.steps.Parts.{PartValue, blank_part, part_at}
 

@@ -1,7 +1,6 @@
 -- Rows of an image have no more words than it has bytes.
-use Rattle.std.proofs.Common.{◌≡◌, ℕ, zero, suc, ◌+◌, ◌-◌, ◌<◌, ◌≤◌, List, [], ◌∷◌, ◌++◌, Bool, true, false, cond, ◌||◌, nat_lt, ◌%◌, ◌/◌, Some, slice_get, length, map, get_or, refl, sym, ap, ◌∙◌, arith, All, Contains, length-append}
-use Rattle.std.specs.List.{filter, flat_map, list_any, enumerate_from, sum_by}
-use Rattle.std.specs.Str.{bytes_eq}
+use Rattle.std.proofs.Common.{◌≡◌, ℕ, zero, suc, ◌+◌, ◌-◌, ◌<◌, ◌≤◌, List, [], ◌∷◌, ◌++◌, Bool, true, false, cond, ◌||◌, nat_lt, ◌%◌, ◌/◌, length, map, get_or, refl, sym, ap, ◌∙◌, arith, All, Contains, length-append}
+use Rattle.std.specs.List.{filter, list_any, enumerate_from, sum_by}
 use Rattle.std.proofs.lemmas.List.{length-map}
 use Rattle.std.proofs.lemmas.List.Concat.{length-flat_map}
 use Rattle.std.proofs.lemmas.List.Elements.{All-head, All-tail}
@@ -12,7 +11,7 @@ use Rattle.doc_types.specs.declared.documents.DocRow.{DocRow}
 use Rattle.doc_types.specs.declared.schema.Schema.{Schema}
 use Rattle.doc_types.specs.declared.tokens.FieldTokens.{FieldTokens}
 use Rattle.doc_types.specs.declared.tokens.TokenWord.{TokenWord}
-use Rattle.doc_types.specs.Chunks.{AreWordsOf, has_word, hits_of, is_word, positions_of, rows_with}
+use Rattle.doc_types.specs.Chunks.{AreWordsOf, has_word, hits_of, is_word, positions_of}
 use Rattle.doc_types.specs.Documents.{word_count}
 use Rattle.doc_types.proofs.FieldParts.{parts}
 use Rattle.row_laws.specs.AlikeRows.{postings}

@@ -1,11 +1,11 @@
 -- The rows of all parts that live, and their order.
-use Rattle.std.proofs.Common.{◌≡◌, ◌≢◌, ℕ, zero, suc, ◌+◌, ◌<◌, ◌≤◌, ◌^◌, List, [], ◌∷◌, ◌++◌, not, ◌==◌, length, map, get_or, refl, sym, ap, subst, ◌∙◌, arith, All, AllPairs}
-use Rattle.std.specs.List.{filter, flat_map, list_any, enumerate_from, sum_by}
+use Rattle.std.proofs.Common.{◌≡◌, ℕ, zero, suc, ◌+◌, ◌<◌, List, [], ◌∷◌, ◌++◌, not, ◌==◌, length, map, get_or, refl, sym, ap, subst, ◌∙◌, arith, All, AllPairs}
+use Rattle.std.specs.List.{filter, flat_map, list_any, enumerate_from}
 use Rattle.std.specs.List.Sorted.{IsNonDecreasingBy, IsPermutation}
 use Rattle.std.proofs.Math.ListN.{get_or-map}
-use Rattle.std.proofs.lemmas.List.{get_or_default, length-map, map-append}
-use Rattle.std.proofs.lemmas.List.Elements.{All-append, All-cons, All-filter, All-head, All-map, All-nil, All-tail}
-use Rattle.std.proofs.lemmas.List.Sorted.{All-permutation, IsNonDecreasingBy-from_default, IsPermutation-map, length_permutation}
+use Rattle.std.proofs.lemmas.List.{length-map, map-append}
+use Rattle.std.proofs.lemmas.List.Elements.{All-append, All-cons, All-filter, All-head, All-nil, All-tail}
+use Rattle.std.proofs.lemmas.List.Sorted.{All-permutation, IsNonDecreasingBy-from_default, IsPermutation-map}
 use Rattle.doc_types.specs.declared.documents.DocRow.{DocRow}
 use Rattle.doc_types.specs.declared.schema.Schema.{Schema}
 use Rattle.doc_types.specs.Documents.{AreRowsOf, IsDocOf}
@@ -13,7 +13,7 @@ use Rattle.layer_joins.specs.Joins.{AreApart}
 use Rattle.layer_joins.proofs.Ids.{apart_permutation, ascending}
 use Rattle.image_join.specs.declared.ordering.Living.{Living}
 use Rattle.image_join.specs.steps.Numbering.{IsThere, all_living_in, living_in, row_in}
-use Rattle.image_join.specs.steps.Parts.{PartValue, blank_part, blank_row, living_of, part_at, row_at}
+use Rattle.image_join.specs.steps.Parts.{PartValue, blank_row, living_of, part_at, row_at}
 use Rattle.image_join.proofs.Livings.{living_as}
 use Rattle.image_join.proofs.Numbers.{blank}
 

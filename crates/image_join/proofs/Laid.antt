@@ -1,9 +1,7 @@
 -- Parts that are laid one behind the other.
-use Rattle.std.proofs.Common.{◌≡◌, ℕ, zero, suc, ◌+◌, ◌-◌, ◌<◌, ◌≤◌, List, [], ◌∷◌, ◌++◌, length, get_or, sym, ap, ◌∙◌, arith, length-append, append-nil}
-use Rattle.std.specs.List.{flat_map}
+use Rattle.std.proofs.Common.{◌≡◌, ℕ, zero, suc, ◌+◌, ◌-◌, ◌<◌, ◌≤◌, List, [], ◌∷◌, ◌++◌, length, get_or, ap, ◌∙◌, arith, length-append, append-nil}
 use Rattle.std.proofs.lemmas.List.{get_or_append_left, get_or-append-add}
 use Rattle.std.proofs.lemmas.List.Concat.{flat_map-append}
-use Rattle.doc_types.specs.declared.documents.DocRow.{DocRow}
 use Rattle.image_join.specs.steps.Parts.{AreLaid, PartValue, all_rows, blank_row, part_at, row_at}
 
 laid_from : (n : ℕ) (parts : List PartValue) (k : ℕ) → AreLaid n parts → k < length parts → n ≤ (part_at parts k).first

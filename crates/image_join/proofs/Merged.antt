@@ -1,16 +1,14 @@
 -- The words that were gone over, and what was written of them.
-use Rattle.std.proofs.Common.{◌≡◌, ◌<◌, ◌≤◌, ℕ, ◌+◌, List, [], ◌++◌, true, Option, Some, None, nat_le, length, get_or, replicate, slice_get, slice_index, refl, sym, ap, subst, ◌∙◌, arith, All}
+use Rattle.std.proofs.Common.{◌≡◌, ℕ, List, [], Option, Some, None, sym, subst, All}
 use Rattle.std.specs.List.{flat_map}
-use Rattle.std.proofs.lemmas.Bool.Decides.{nat_tests}
-use Rattle.std.proofs.lemmas.List.{get_or-replicate, length-replicate}
 use Rattle.doc_types.specs.declared.documents.DocRow.{DocRow}
 use Rattle.doc_types.specs.Chunks.{AreWordsOf}
 use Rattle.image_join.specs.declared.words.Next.{Next}
 use Rattle.image_join.specs.declared.words.Tables.{Tables}
 use Rattle.image_join.specs.steps.Entries.{AreEntriesOf, Entry, entries_in}
-use Rattle.image_join.specs.steps.Merging.{AreTables, AreWordsUpTo, IsDone, IsLeast, StandAt, StandsAt, added, is_ahead}
+use Rattle.image_join.specs.steps.Merging.{AreTables, AreWordsUpTo, IsDone, IsLeast, StandAt, added}
 use Rattle.image_join.specs.steps.Numbering.{AreNumbered}
-use Rattle.image_join.specs.steps.Parts.{PartValue, part_at}
+use Rattle.image_join.specs.steps.Parts.{PartValue}
 use Rattle.image_join.proofs.Collected.{collected}
 use Rattle.image_join.proofs.Worded.{words_all, words_more, words_none}
 

@@ -1,11 +1,10 @@
 -- The table of new numbers, one row more at a time.
-use Rattle.std.proofs.Common.{◌≡◌, ◌≢◌, ℕ, ◌+◌, ◌<◌, ◌≤◌, List, Some, slice_get, slice_index, length, map, get_or, set, replicate, refl, sym, ap, subst, ◌∙◌, arith, All, ◌⊎◌, inl, inr, ⊎_elim, true, false, ◌==◌}
+use Rattle.std.proofs.Common.{◌≡◌, ◌≢◌, ℕ, ◌+◌, ◌<◌, List, Some, slice_index, length, map, get_or, set, replicate, refl, sym, ap, subst, ◌∙◌, arith, All, ◌⊎◌, inl, inr, ⊎_elim, true, false, ◌==◌}
 use Rattle.std.proofs.Math.ListN.{get_or-map}
 use Rattle.std.proofs.lemmas.Bool.Decides.{nat_tests}
 use Rattle.std.proofs.lemmas.List.{get_or-set_other, get_or-set_same, get_or-replicate, get_or_default, length-map, length-replicate, length-set}
 use Rattle.std.proofs.lemmas.Option.{slice_get-get_or}
 use Rattle.doc_types.specs.declared.cursor.TheConstants.{NO_ROW}
-use Rattle.doc_types.specs.declared.documents.DocRow.{DocRow}
 use Rattle.image_join.specs.declared.ordering.Living.{Living}
 use Rattle.image_join.specs.steps.Numbering.{AreNumbered, IsNumbered, IsThere, number_in, place_in, row_in}
 use Rattle.image_join.specs.steps.Parts.{AreLaid, PartValue, all_rows, blank_part, blank_row, part_at, row_at}

@@ -1,10 +1,8 @@
 -- A word is gone over.
-use Rattle.std.proofs.Common.{◌≡◌, ◌≢◌, ℕ, zero, suc, ◌+◌, ◌<◌, ◌≤◌, List, [], ◌∷◌, ◌++◌, Bool, true, false, Option, Some, None, nat_le, slice_get, slice_index, length, get_or, refl, sym, ap, subst, ◌∙◌, arith, All, Contains, ◌⊎◌, inl, inr, ⊎_elim}
+use Rattle.std.proofs.Common.{◌≡◌, ◌≢◌, ℕ, ◌+◌, ◌<◌, ◌≤◌, List, [], ◌∷◌, Bool, true, false, Option, Some, None, nat_le, slice_get, length, get_or, refl, sym, ap, subst, ◌∙◌, arith, ◌⊎◌, ⊎_elim}
 use Rattle.std.proofs.lemmas.Bool.Decides.{nat_tests}
-use Rattle.std.proofs.lemmas.Option.{get_or_from_slice_get, slice_get-get_or, slice_get_within}
-use Rattle.doc_types.specs.declared.documents.DocRow.{DocRow}
+use Rattle.std.proofs.lemmas.Option.{slice_get-get_or, slice_get_within}
 use Rattle.doc_types.specs.Chunks.{AreWordsOf, rows_with}
-use Rattle.image_join.specs.steps.Entries.{entries_in}
 use Rattle.image_join.specs.steps.Merging.{IsBefore, IsHeaded, StandsAt, is_ahead, less}
 use Rattle.image_join.specs.steps.Parts.{PartValue}
 use Rattle.image_join.proofs.Least.{in_order, le_told}

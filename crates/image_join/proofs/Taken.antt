@@ -1,5 +1,5 @@
 -- The parts are gone over, one part more at a time.
-use Rattle.std.proofs.Common.{◌≡◌, ◌≢◌, ℕ, ◌+◌, ◌<◌, ◌≤◌, List, [], ◌∷◌, ◌++◌, Option, None, Some, length, get_or, set, take, slice_index, sym, ap, subst, ◌∙◌, arith, append_assoc, append-nil, ◌⊎◌, ⊎_elim}
+use Rattle.std.proofs.Common.{◌≡◌, ℕ, ◌+◌, ◌<◌, ◌≤◌, List, [], ◌∷◌, ◌++◌, None, Some, length, get_or, set, take, sym, ap, subst, ◌∙◌, arith, append_assoc, append-nil, ◌⊎◌, ⊎_elim}
 use Rattle.std.specs.List.{flat_map}
 use Rattle.std.proofs.lemmas.List.{get_or-set_other, get_or-append-add, get_or-set_same, get_or_append_left, get_or_default, take_more}
 use Rattle.std.proofs.lemmas.List.Concat.{flat_map-append}

@@ -1,5 +1,5 @@
 -- The words of the rows, one word more at a time.
-use Rattle.std.proofs.Common.{◌≡◌, ◌≢◌, ℕ, zero, suc, ◌+◌, ◌<◌, List, [], ◌∷◌, ◌++◌, Bool, true, false, Option, Some, None, slice_get, length, get_or, refl, sym, ap, subst, ◌∙◌, arith, All, AllPairs, Contains, ◌≤◌, ◌⊎◌, ⊎_elim, length-append}
+use Rattle.std.proofs.Common.{◌≡◌, ℕ, zero, ◌+◌, ◌<◌, List, [], ◌∷◌, ◌++◌, Bool, true, false, Option, Some, None, slice_get, length, get_or, refl, sym, ap, ◌∙◌, arith, All, AllPairs, Contains, ◌≤◌, ◌⊎◌, ⊎_elim, length-append}
 use Rattle.std.specs.Cmp.Lexicographic.{slice_cmp}
 use Rattle.std.specs.Ordering.{nat_cmp}
 use Rattle.std.specs.declared.cmp.Ordering.TheVariants.{Less}
@@ -9,7 +9,7 @@ use Rattle.std.proofs.lemmas.Option.{slice_get-get_or, slice_get_within}
 use Rattle.doc_types.specs.declared.documents.DocRow.{DocRow}
 use Rattle.doc_types.specs.Chunks.{AreWordsOf, has_word, rows_with}
 use Rattle.image_join.specs.steps.Entries.{AreEntriesOf, Entry}
-use Rattle.image_join.specs.steps.Merging.{AreWordsUpTo, IsBefore, IsDone, IsLeast, added, is_ahead, less}
+use Rattle.image_join.specs.steps.Merging.{AreWordsUpTo, IsDone, IsLeast, added, is_ahead, less}
 use Rattle.image_join.specs.steps.Numbering.{AreNumbered}
 use Rattle.image_join.specs.steps.Parts.{PartValue, blank_part, part_at}
 use Rattle.image_join.proofs.Collected.{HasAt, contains_row, with_word}

@@ -1,5 +1,5 @@
 -- Images of rows that were put together.
-use Rattle.std.specs.Prelude.{◌≡◌, List, All, ℕ}
+use Rattle.std.specs.Prelude.{List, All, ℕ}
 use Rattle.doc_types.specs.declared.documents.DocRow.{DocRow}
 use Rattle.doc_types.specs.declared.schema.Schema.{Schema}
 use Rattle.doc_types.specs.Documents.{IsDocOf}

@@ -1,5 +1,5 @@
 -- The entries of a word: rows by their new numbers, each with the bytes of its hit list.
-use Rattle.std.specs.Prelude.{◌≡◌, ◌<◌, ◌≤◌, ℕ, ◌+◌, List, [], ◌∷◌, ◌++◌, ◌==◌, true, Some, if◌then◌else◌, length, map, slice_get, slice_index, All}
+use Rattle.std.specs.Prelude.{◌≡◌, ◌<◌, ◌≤◌, ℕ, ◌+◌, List, [], ◌∷◌, ◌++◌, ◌==◌, true, Some, if◌then◌else◌, map, slice_get, slice_index, All}
 use Rattle.std.specs.List.{flat_map, list_any}
 use Rattle.std.specs.Option.{option_map_or}
 use Rattle.std.specs.Borrow.{Bor}

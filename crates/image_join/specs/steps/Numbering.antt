@@ -1,5 +1,5 @@
 -- The rows that live, and the numbers that they get.
-use Rattle.std.specs.Prelude.{◌≡◌, ◌≢◌, ◌<◌, ◌≤◌, ℕ, ◌+◌, List, [], ◌∷◌, ◌==◌, not, length, map, slice_get, slice_index, All}
+use Rattle.std.specs.Prelude.{◌≡◌, ◌≢◌, ◌<◌, ◌≤◌, ℕ, ◌+◌, List, ◌==◌, not, length, map, slice_get, slice_index, All}
 use Rattle.std.specs.List.{filter, list_any, flat_map, enumerate_from}
 use Rattle.doc_types.specs.declared.cursor.TheConstants.{NO_ROW}
 use Rattle.doc_types.specs.declared.documents.DocRow.{DocRow}

@@ -1,8 +1,8 @@
 -- The chunks that are put together, and the rows of them.
-use Rattle.std.specs.Prelude.{◌≡◌, ◌<◌, ◌≤◌, ℕ, ◌+◌, List, [], ◌∷◌, false, length, All, AllPairs, get_or}
+use Rattle.std.specs.Prelude.{◌≡◌, ◌<◌, ℕ, ◌+◌, List, [], ◌∷◌, false, length, AllPairs, get_or}
 use Rattle.std.specs.List.{flat_map}
 use Rattle.doc_types.specs.declared.documents.DocRow.{DocRow}
-use Rattle.doc_types.specs.Chunks.{AreWordsOf, IsContent}
+use Rattle.doc_types.specs.Chunks.{AreWordsOf}
 use Rattle.doc_types.specs.Snapshots.{living}
 
 -- a part: its rows, its words, the numbers of its dead rows, and how many rows stand before its first one

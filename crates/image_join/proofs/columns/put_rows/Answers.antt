@@ -1,4 +1,4 @@
-use Rattle.std.proofs.Common.{◌≡◌, ◌∙◌, ◌<◌, ◌++◌, length, map, get_or, rules, sym, ap, subst, arith}
+use Rattle.std.proofs.Common.{◌≡◌, ◌∙◌, ◌++◌, get_or, rules, ap, subst, arith}
 use Rattle.doc_types.specs.declared.documents.DocRow.{DocRow}
 use Rattle.chunk_image.specs.ChunkImage.{HasRoom, row_bytes}
 use Rattle.chunk_image.specs.Marks.{row_marks}

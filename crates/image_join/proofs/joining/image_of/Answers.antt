@@ -1,4 +1,4 @@
-use Rattle.std.proofs.Common.{◌≡◌, ◌<◌, ◌^◌, ◌++◌, List, ℕ, All, length, map, rules, sym, ap, ◌∙◌, arith, Vec, Global}
+use Rattle.std.proofs.Common.{◌≡◌, ◌++◌, List, ℕ, length, map, rules, sym, ap, ◌∙◌, arith, Vec, Global}
 use Rattle.std.proofs.lemmas.List.{length-map}
 use Rattle.doc_types.specs.declared.documents.DocRow.{DocRow}
 use Rattle.doc_types.specs.declared.schema.Schema.{Schema}
@@ -7,7 +7,6 @@ use Rattle.doc_types.specs.Schemas.{IsSchema}
 use Rattle.chunk_image.specs.ChunkImage.{IsImageOf, rows_bytes}
 use Rattle.image_write.specs.declared.image.Counts.{Counts}
 use Rattle.image_write.specs.Headers.{counted}
-use Rattle.image_join.specs.declared.ordering.Living.{Living}
 use Rattle.image_join.specs.steps.Numbering.{AreNumbered, row_in}
 use Rattle.image_join.specs.steps.Parts.{PartValue}
 use Rattle.image_join.proofs.Imaged.{image_is}

@@ -1,17 +1,15 @@
-use Rattle.std.proofs.Common.{◌≡◌, ◌<◌, ◌≤◌, ◌^◌, List, ℕ, All, AllPairs, length, map, refl, sym, ap, subst, ◌∙◌, arith, Vec, Global}
-use Rattle.std.specs.List.{sum_by}
+use Rattle.std.proofs.Common.{◌≡◌, ◌≤◌, List, ℕ, length, map, sym, ap, subst, ◌∙◌, arith, Vec, Global}
 use Rattle.std.specs.List.Sorted.{IsPermutation}
 use Rattle.std.proofs.lemmas.List.{length-map}
 use Rattle.std.proofs.lemmas.List.Sorted.{length_permutation}
 use Rattle.doc_types.specs.declared.documents.DocRow.{DocRow}
 use Rattle.doc_types.specs.declared.schema.Schema.{Schema}
-use Rattle.doc_types.specs.Documents.{AreRowsOf, word_count}
+use Rattle.doc_types.specs.Documents.{AreRowsOf}
 use Rattle.doc_types.specs.Schemas.{IsSchema}
 use Rattle.doc_types.specs.Snapshots.{all_living}
 use Rattle.chunk_image.specs.ChunkImage.{IsImageOf}
 use Rattle.image_join.specs.JoinedImages.{IsJoinedImage}
-use Rattle.image_join.specs.declared.ordering.Living.{Living}
-use Rattle.image_join.specs.steps.Numbering.{IsThere, all_living_in, row_in}
+use Rattle.image_join.specs.steps.Numbering.{all_living_in, row_in}
 use Rattle.image_join.specs.steps.Parts.{PartValue}
 use Rattle.image_join.proofs.Few.{few_words}
 use Rattle.image_join.proofs.Joined.{moved_rows, rows_ascend, rows_of, there}

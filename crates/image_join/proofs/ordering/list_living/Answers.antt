@@ -1,4 +1,4 @@
-use Rattle.std.proofs.Common.{◌≡◌, ◌<◌, get_or, length, rules, arith}
+use Rattle.std.proofs.Common.{◌<◌, length, rules}
 use Rattle.std.proofs.lemmas.List.{get_or_default}
 use Rattle.image_join.specs.steps.Parts.{blank_row, row_at}
 use Rattle.image_join.proofs.Livings.{living_more}

@@ -1,4 +1,4 @@
-use Rattle.std.proofs.Common.{ℕ, ◌<◌, List, AllPairs, rules, subst, sym}
+use Rattle.std.proofs.Common.{ℕ, ◌<◌, List, AllPairs, rules, subst}
 use Rattle.std.specs.Arc.{arc_value}
 use Rattle.image_join.proofs.parts.part_of.Goals as goal
 

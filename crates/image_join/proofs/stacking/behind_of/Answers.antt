@@ -1,4 +1,4 @@
-use Rattle.std.proofs.Common.{◌≡◌, ◌<◌, ◌+◌, length, ap, ◌∙◌, arith}
+use Rattle.std.proofs.Common.{◌<◌, ◌+◌, length, ap, ◌∙◌, arith}
 use Rattle.doc_types.specs.Chunks.{CursorPlace}
 use Rattle.image_join.specs.steps.Stacking.{behind}
 use Rattle.image_join.proofs.Ahead.{next_below}

@@ -1,4 +1,4 @@
-use Rattle.std.proofs.Common.{◌≡◌, ◌+◌, ◌-◌, length, take, drop, ap, ◌∙◌, arith}
+use Rattle.std.proofs.Common.{◌+◌, ◌-◌, length, take, drop, arith}
 use Rattle.image_join.proofs.Stacked.{first_there, moved_there, others, rest_there}
 use Rattle.image_join.proofs.stacking.put_moved.Goals as goal
 

@@ -1,13 +1,9 @@
-use Rattle.std.proofs.Common.{◌≡◌, ◌++◌, ◌+◌, ◌<◌, [], List, ℕ, All, length, refl, subst, sym, ap, ◌∙◌, arith, rules}
+use Rattle.std.proofs.Common.{List, sym, rules}
 use Rattle.std.specs.List.{flat_map}
-use Rattle.doc_types.specs.declared.cursor.TheConstants.{NO_ROW}
-use Rattle.doc_types.specs.declared.documents.DocRow.{DocRow}
-use Rattle.image_join.specs.declared.words.Tables.{Tables}
-use Rattle.image_join.specs.steps.Entries.{AreEntriesOf, Entry, entries_in, lent}
-use Rattle.image_join.specs.steps.Merging.{AreTables, added}
+use Rattle.image_join.specs.steps.Entries.{entries_in}
 use Rattle.image_join.specs.steps.Parts.{PartValue}
-use Rattle.image_join.specs.steps.Stacking.{AreInOrder, stacked_in}
-use Rattle.image_join.proofs.InOrder.{all_entries, all_few, tables_for}
+use Rattle.image_join.specs.steps.Stacking.{stacked_in}
+use Rattle.image_join.proofs.InOrder.{all_entries, tables_for}
 use Rattle.image_join.proofs.words.go_over.Goals as goal
 
 pub returns-then-in_order-clause-tables : goal.returns-then-in_order-clause-tables

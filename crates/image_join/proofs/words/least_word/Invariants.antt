@@ -1,4 +1,4 @@
-use Rattle.std.proofs.Common.{◌≡◌, ℕ, List, Option, All, take}
+use Rattle.std.proofs.Common.{ℕ, List, Option, All, take}
 use Rattle.doc_types.specs.Chunks.{AreWordsOf}
 use Rattle.image_join.specs.steps.Merging.{IsHeaded, StandAt}
 use Rattle.image_join.specs.steps.Parts.{PartValue}

@@ -1,4 +1,4 @@
-use Rattle.std.proofs.Common.{◌∙◌, ap, rules, sym}
+use Rattle.std.proofs.Common.{◌∙◌, ap, rules}
 use Rattle.image_join.proofs.Lesser.{first_is, second_is, value}
 use Rattle.image_join.proofs.words.lesser.Goals as goal
 

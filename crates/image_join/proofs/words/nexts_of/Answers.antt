@@ -1,4 +1,4 @@
-use Rattle.std.proofs.Common.{◌≡◌, ◌+◌, ◌++◌, ◌∷◌, [], List, length, ap, ◌∙◌, arith, length-append}
+use Rattle.std.proofs.Common.{◌≡◌, ◌∷◌, [], List, length, ap, ◌∙◌, arith, length-append}
 use Rattle.image_join.specs.steps.Parts.{PartValue}
 use Rattle.image_join.proofs.Taken.{first_more}
 use Rattle.image_join.proofs.words.nexts_of.Goals as goal

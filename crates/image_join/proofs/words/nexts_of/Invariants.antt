@@ -1,4 +1,4 @@
-use Rattle.std.proofs.Common.{◌≡◌, ◌<◌, ℕ, length, Option, None}
+use Rattle.std.proofs.Common.{◌≡◌, ◌<◌, ℕ, length, None}
 use Rattle.image_join.specs.steps.Merging.{StandsAt, next_at}
 use Rattle.image_join.specs.steps.Parts.{part_at}
 use Rattle.image_join.proofs.words.nexts_of.Given as goal

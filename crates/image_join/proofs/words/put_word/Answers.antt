@@ -1,8 +1,7 @@
-use Rattle.std.proofs.Common.{◌≡◌, ◌+◌, ◌<◌, ◌++◌, ◌∷◌, [], ℕ, List, length, rules, sym, ap, subst, ◌∙◌, arith}
-use Rattle.std.specs.Int.{w32, to_le_bytes}
+use Rattle.std.proofs.Common.{◌≡◌, ◌+◌, ◌<◌, ◌++◌, ◌∷◌, [], ℕ, List, length, rules, sym, ◌∙◌, arith}
 use Rattle.std.specs.Borrow.{Bor}
 use Rattle.std.proofs.lemmas.List.{length-map}
-use Rattle.image_join.specs.steps.Entries.{Entry, Rising, lent, spelled_list}
+use Rattle.image_join.specs.steps.Entries.{Rising, lent, spelled_list}
 use Rattle.image_join.proofs.Tabled.{word_put}
 use Rattle.image_join.proofs.words.put_word.Goals as goal
 

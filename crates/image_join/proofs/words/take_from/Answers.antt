@@ -1,4 +1,4 @@
-use Rattle.std.proofs.Common.{◌≡◌, ◌≢◌, ◌++◌, ◌<◌, ◌∙◌, [], Some, slice_get, length, sym, ap, append-nil}
+use Rattle.std.proofs.Common.{◌≡◌, ◌∙◌, [], sym, ap, append-nil}
 use Rattle.std.specs.List.{flat_map}
 use Rattle.std.proofs.lemmas.Option.{slice_get_within}
 use Rattle.image_join.specs.steps.Entries.{entries_in, entry_of, lent}

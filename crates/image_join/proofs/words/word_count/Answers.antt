@@ -1,4 +1,4 @@
-use Rattle.std.proofs.Common.{All, List, arith, subst}
+use Rattle.std.proofs.Common.{All, subst}
 use Rattle.std.proofs.lemmas.List.{take_all}
 use Rattle.doc_types.specs.Chunks.{AreWordsOf}
 use Rattle.image_write.proofs.Columned.{all_more}
