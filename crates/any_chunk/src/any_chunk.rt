@@ -148,6 +148,10 @@ impl CopyBytes for AnyChunk {
         self.image().attrs()
     }
 
+    fn size(&self) -> usize {
+        self.image().as_bytes().len()
+    }
+
     fn start_at(&self, n: u32) -> Cursor {
         self.image().front(n)
     }

@@ -14,6 +14,9 @@ pub trait CopyBytes: Chunk {
     fn attrs(&self) -> u16
         ensures { All (λ row. length row.doc.values ≡ result) (Self.content self.now) };
 
+    /// How many bytes its image takes: what is copied of it takes no more. Room alone goes by it, so no clause says it.
+    fn size(&self) -> usize;
+
     /// A cursor before all rows that have the word of this number.
     fn start_at(&self, n: u32) -> Cursor
         requires { n < length (Self.words_of self.now) }

@@ -56,7 +56,7 @@ fn image_of<C: CopyBytes>(
     ensures few { OnOk result (length order.now ≤ MAX_IMAGE) }
 {
     let (fields, attrs) = shape_of(parts, order);
-    let mut columns = Vec::new(alloc);
+    let mut columns = Vec::with_capacity(alloc, order.len().saturating_mul(row_size(attrs)))?;
     let mut marks = Vec::new(alloc);
     put_rows(parts, order, attrs, &mut columns, &mut marks)?;
     let numbers = numbers_of(alloc, parts, count, order)?;
@@ -71,6 +71,11 @@ fn image_of<C: CopyBytes>(
         postings: place_in(&tables.postings)?,
     };
     assembled(alloc, &counts, &columns, &marks, &tables)
+}
+
+/// How many bytes the columns of a row with so many attributes take.
+fn row_size(attrs: u16) -> usize {
+    20 + 8 * attrs as usize
 }
 
 /// The parts of an image, one behind the other.

@@ -39,12 +39,21 @@ pub(crate) fn order_of<C: CopyBytes>(
 fn list_all<C: CopyBytes>(alloc: Global, parts: &[Part<C>]) -> Result<Vec<Living>, NoMemory>
     ensures { IfOk result (λ order. order.items ≡ all_living_in parts.now) }
 {
-    let mut order = Vec::new(alloc);
+    let mut order = Vec::with_capacity(alloc, row_count(parts))?;
     for (number, part) in parts.iter().enumerate() {
         let number = count_in(number)?;
         list_living(part, number, &mut order)?;
     }
     Ok(order)
+}
+
+/// How many rows the parts have, those that are dead too.
+fn row_count<C: CopyBytes>(parts: &[Part<C>]) -> usize {
+    let mut count: usize = 0;
+    for part in parts {
+        count = count.saturating_add(part.rows() as usize);
+    }
+    count
 }
 
 /// Appends the rows of a part that live.

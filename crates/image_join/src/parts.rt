@@ -97,6 +97,11 @@ impl<C: CopyBytes> Part<C> {
         self.chunk.attrs()
     }
 
+    /// How many bytes its image takes.
+    pub(crate) fn size(&self) -> usize {
+        self.chunk.size()
+    }
+
     /// How many words it has.
     #[inline]
     pub(crate) fn words(&self) -> u32

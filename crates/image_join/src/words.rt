@@ -46,7 +46,7 @@ pub(crate) fn tables_of<C: CopyBytes>(
     requires { (rows : List AnyRow) × AreNumbered parts.now numbers.now rows }
     ensures { IfOk result (λ tables. (rows : List AnyRow) → AreNumbered parts.now numbers.now rows → (words : List (List ℕ)) × AreWordsOf rows words × AreTables rows words tables) }
 {
-    let mut tables = no_tables(alloc);
+    let mut tables = no_tables(alloc, room_for(parts))?;
     let mut nexts = nexts_of(alloc, parts)?;
     let mut found = Vec::new(alloc);
     let most = word_count(parts);
@@ -101,16 +101,26 @@ fn go_over<'p, C: CopyBytes>(
     put_word(word, found, tables)
 }
 
-/// No word.
-fn no_tables(alloc: Global) -> Tables
-    ensures { (rows : List AnyRow) → AreTables rows [] result }
+/// No word, and room for so many bytes of postings.
+fn no_tables(alloc: Global, room: usize) -> Result<Tables, NoMemory>
+    ensures { IfOk result (λ tables. (rows : List AnyRow) → AreTables rows [] tables) }
 {
-    Tables {
+    Ok(Tables {
         words: 0,
         table: Vec::new(alloc),
         dictionary: Vec::new(alloc),
-        postings: Vec::new(alloc),
+        postings: Vec::with_capacity(alloc, room)?,
+    })
+}
+
+/// How many bytes the parts' images take. Their postings, which are most of them, take no more, also once they are put together.
+/// A list that grew by itself to that size would have left its former places behind as memory that nobody uses.
+fn room_for<C: CopyBytes>(parts: &[Part<C>]) -> usize {
+    let mut room: usize = 0;
+    for part in parts {
+        room = room.saturating_add(part.size());
     }
+    room
 }
 
 /// How many words the parts have, each counted in each part that has it, or `u64::MAX`.

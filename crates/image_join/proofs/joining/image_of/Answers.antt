@@ -32,7 +32,7 @@ returns-clause-is g c =
     let columns = c.put_rows.new.columns.items in
     let marks = c.put_rows.new.marks.items in
     let counts : Counts = record { rows = c.in_ok-count_in.field-0; fields = c.shape_of-fields.result.0; attrs = c.shape_of-fields.result.1; words = c.in_ok-count_in-2.field-0; marks = c.in_ok-place_in.field-0; dictionary = c.in_ok-place_in-2.field-0; postings = c.in_ok-place_in-3.field-0 } in
-    let columns_are : columns ≡ rows_bytes 0 rows = c.in_ok-put_rows.ensures.columns ∙ ap (λ (l : List ℕ). l ++ rows_bytes 0 rows) c.new-columns.ensures.items in
+    let columns_are : columns ≡ rows_bytes 0 rows = c.in_ok-put_rows.ensures.columns ∙ ap (λ (l : List ℕ). l ++ rows_bytes 0 rows) c.in_ok-columns.ensures.items in
     let numbered : AreNumbered parts c.deref.result.now rows = search rules in
     let its = c.in_ok-tables.ensures rows numbered in
     let bytes : List ℕ = counted counts ++ columns ++ marks ++ tables.table.items ++ tables.dictionary.items ++ tables.postings.items in

@@ -11,7 +11,7 @@ use Rattle.image_join.proofs.Merged.{merged_all, merged_more, merged_none}
 use Rattle.image_join.proofs.words.tables_of.Goals as goal
 
 pub words-init : goal.words-init
-words-init g c = merged_none c.args.parts.now c.args.numbers.now c.in_ok-nexts.nexts.items c.no_tables-tables.result c.in_ok-nexts.ensures c.no_tables-tables.ensures
+words-init g c = merged_none c.args.parts.now c.args.numbers.now c.in_ok-nexts.nexts.items c.in_ok-tables.tables c.in_ok-nexts.ensures c.in_ok-tables.ensures
 
 pub returns-in-None : goal.returns-in-None
 returns-in-None g c =
