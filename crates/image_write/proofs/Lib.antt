@@ -1,4 +1,5 @@
 pub mod Beginnings
+pub mod Endings
 pub mod Marked
 pub mod Grouped
 pub mod Columned

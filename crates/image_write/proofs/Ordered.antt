@@ -1,5 +1,5 @@
 -- Occurrences sorted by their order are sorted by their words, and those of each word stand as they stood before.
-use Rattle.std.proofs.Common.{◌≡◌, ℕ, ◌+◌, ◌%◌, ◌<◌, List, [], ◌∷◌, Bool, true, false, cond, not, ◌&&◌, ◌||◌, refl, sym, ap, subst, ◌∙◌, arith, map, All}
+use Rattle.std.proofs.Common.{◌≡◌, ℕ, ◌+◌, ◌<◌, List, [], ◌∷◌, Bool, true, false, cond, not, ◌&&◌, ◌||◌, refl, sym, ap, subst, ◌∙◌, arith, map, All}
 use Rattle.std.specs.Cmp.{IsTotalOrder, IsStrictWeakOrder}
 use Rattle.std.specs.List.{filter, list_any}
 use Rattle.std.specs.List.Sorted.{IsPermutation, IsSortedBy, IsStableBy, ties}
@@ -8,7 +8,6 @@ use Rattle.std.specs.Cmp.Lexicographic.{slice_cmp}
 use Rattle.std.specs.Ordering.{is_eq, is_lt, nat_cmp, ordering_reverse, ordering_then}
 use Rattle.std.specs.declared.cmp.Ordering.{Ordering}
 use Rattle.std.specs.declared.cmp.Ordering.TheVariants.{Less, Equal, Greater}
-use Rattle.std.proofs.lemmas.Bool.Decides.{nat_tests}
 use Rattle.std.proofs.lemmas.Cmp.{by_ranked, nat_cmp_total, nat_list_cmp_total, on_total, ranked, then_total, tied_itself}
 use Rattle.std.proofs.lemmas.List.Elements.{All-head, All-tail}
 use Rattle.std.proofs.lemmas.List.Sorted.{All-permutation, list_any-IsPermutation, ranks_by}
@@ -94,13 +93,10 @@ module _ (docs : List Doc) where
       is ∙ ap (λ l. slice_cmp nat_cmp l (word_at docs b)) (sym (rest_seen a seen)) ∙ ap (slice_cmp nat_cmp (rest_at docs a)) (sym (rest_seen b its))
       ∙ ap (λ o. ordering_then o (slice_cmp nat_cmp (rest_at docs a) (rest_at docs b))) e
 
-  short : (n : ℕ) → tells n ≡ true → n % 256 < 8
-  short n e = grind (arith, nat_tests)
-
   -- words of one head that tells them
   same_word : (a b : Occurrence) → HasHead docs a → HasHead docs b → a.head ≡ b.head → tells a.head ≡ true → word_at docs a ≡ word_at docs b
   same_word a b has its e told_so =
-      told (word_at docs a) (word_at docs b) has.read its.read (sym has.is ∙ e ∙ its.is) (subst (λ n. n % 256 < 8) has.is (short a.head told_so))
+      told (word_at docs a) (word_at docs b) has.read its.read (sym has.is ∙ e ∙ its.is) (ap tells (sym has.is) ∙ told_so)
 
   -- which isn't before another by its order isn't by its word
   not_before : (a b : Occurrence) → HasHead docs a → HasHead docs b → goes_before a b ≡ false → word_before a b ≡ false

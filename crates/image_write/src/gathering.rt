@@ -23,7 +23,7 @@ use std::cmp::Ordering;
 /// Where a word stands in some documents.
 #[derive(Clone, Copy)]
 pub(crate) struct Occurrence {
-    /// The word's first seven bytes and its length, as a number.
+    /// The word's head: its first bytes, as a number.
     pub(crate) head: u64,
     /// Its document and its field there, as one number: a document has 32 of them.
     pub(crate) stand: u32,

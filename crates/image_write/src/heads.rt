@@ -1,12 +1,22 @@
 //! The first bytes of a word as a number. Most words differ there, so most comparisons of words are of two numbers.
-ghost use Rattle.std.specs.Prelude.{◌≡◌, ◌+◌, ◌*◌, ◌<◌, slice_index_or};
-ghost use Rattle.image_write.specs.Heads.{IsRead, head, size, tells};
+ghost use Rattle.std.specs.Prelude.{◌≡◌, ◌+◌, ◌*◌, ◌<◌, ◌≤◌, drop, length, slice_index_or};
+ghost use Rattle.image_write.specs.Heads.{IsRead, eighth, ending, head, rank, tells};
 
-/// The first seven bytes of a word, the first one highest, with 0 for each that it doesn't have, and lowest how many bytes it has,
-/// or 8 where it has more than seven.
+/// The byte behind those that have a head's numbers wholly.
+const EIGHTH: usize = 7;
+
+/// The greatest byte that is too low to be told as the eighth.
+const LOW: u64 = 47;
+
+/// The number of the bytes that are too high for that.
+const HIGH: u64 = 123;
+
+/// The first seven bytes of a word, the first one highest, with 0 for each that it doesn't have, and lowest how it goes on: the
+/// number of its bytes where they are no more than these, or else a number of the eighth byte, which is even where that byte is a
+/// digit, a letter or another one near to them, and no byte follows.
 ///
 /// Of two words the one with the smaller number stands before the other. Two words with one number are equal where its lowest byte
-/// is below 8; longer ones may differ.
+/// is below 8 or even; others may differ.
 #[inline]
 #[tactic(auto, using(crate::proofs::Beginnings::eight, crate::proofs::Beginnings::eight_bytes))]
 pub fn head_of(word: &[u8]) -> u64
@@ -23,7 +33,7 @@ pub fn head_of(word: &[u8]) -> u64
         byte_of(word, 4),
         byte_of(word, 5),
         byte_of(word, 6),
-        size_of(word),
+        ending_of(word),
     );
     high * 4_294_967_296 + low
 }
@@ -33,16 +43,43 @@ pub fn head_of(word: &[u8]) -> u64
 pub fn tells(head: u64) -> bool
     ensures { result ≡ tells head }
 {
-    head % 256 < 8
+    head % 256 < 8 || head % 2 == 0
 }
 
-/// How many bytes a word has, or 8 where it has more.
+/// How a word goes on behind its first seven bytes.
 #[inline]
-fn size_of(word: &[u8]) -> u64
-    ensures is { result ≡ size word.now }
+#[tactic(auto, using(crate::proofs::Endings::ends, crate::proofs::Endings::goes_on))]
+fn ending_of(word: &[u8]) -> u64
+    ensures is { result ≡ ending (length word.now) (drop 7 word.now) }
     ensures small { result < 256 }
 {
-    if word.len() < 8 { word.len() as u64 } else { 8 }
+    match word.get(EIGHTH) {
+        None => word.len() as u64,
+        Some(byte) => eighth_of(word.len() > EIGHTH + 1, *byte),
+    }
+}
+
+/// A number of the eighth byte, and of whether more follow. It is even where it tells both.
+#[inline]
+fn eighth_of(more: bool, byte: u8) -> u64
+    ensures is { result ≡ eighth more byte }
+    ensures small { result < 256 }
+{
+    let rank = rank_of(byte);
+    if !more && 0 < rank && rank < HIGH {
+        8 + 2 * rank
+    } else {
+        9 + 2 * rank
+    }
+}
+
+/// A byte as one of 124 numbers.
+#[inline]
+fn rank_of(byte: u8) -> u64
+    ensures is { result ≡ rank byte }
+    ensures small { result ≤ 123 }
+{
+    u64::from(byte).saturating_sub(LOW).min(HIGH)
 }
 
 /// Four bytes as a number, the first one highest.
