@@ -20,8 +20,25 @@ ghost use Rattle.posting_codec.specs.steps.Parts.{IsPart};
 use srch_base::NoMemory;
 
 /// Appends the number's spelling, 1 to 5 bytes.
+#[inline]
 #[tactic(auto, unfolding(crate::specs::Numbers::number))]
 pub fn put_number(value: u32, out: &mut Vec<u8>) -> Result<(), NoMemory>
+    ensures ok { OnOk result (out.new.items ≡ out.old.items ++ number value) }
+    ensures err { OnErr result (out.new.items ≡ out.old.items) }
+{
+    if value < 128 {
+        out.push(value as u8)?;
+        Ok(())
+    } else {
+        put_long(value, out)
+    }
+}
+
+/// Appends a spelling of 2 to 5 bytes. Out of line, since few numbers have one.
+#[inline(never)]
+#[tactic(auto, unfolding(crate::specs::Numbers::number))]
+fn put_long(value: u32, out: &mut Vec<u8>) -> Result<(), NoMemory>
+    requires { 128 ≤ value }
     ensures ok { OnOk result (out.new.items ≡ out.old.items ++ number value) }
     ensures err { OnErr result (out.new.items ≡ out.old.items) }
 {
@@ -30,9 +47,7 @@ pub fn put_number(value: u32, out: &mut Vec<u8>) -> Result<(), NoMemory>
     let c = (value / 128 / 128 % 128) as u8;
     let d = (value / 128 / 128 / 128 % 128) as u8;
     let e = (value / 128 / 128 / 128 / 128) as u8;
-    if value < 128 {
-        out.extend_from_slice(&[a])?;
-    } else if value / 128 < 128 {
+    if value / 128 < 128 {
         out.extend_from_slice(&[128 + a, b])?;
     } else if value / 128 / 128 < 128 {
         out.extend_from_slice(&[128 + a, 128 + b, c])?;
