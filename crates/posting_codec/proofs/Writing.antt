@@ -1,9 +1,10 @@
 -- A hit list while it is written.
-use Rattle.std.proofs.Common.{◌≡◌, ℕ, suc, ◌+◌, ◌-◌, List, [], ◌∷◌, ◌++◌, length, drop, take, get_or, refl, sym, ap, subst, ◌∙◌, append_assoc, append-nil, add-one, arith, length-append, ◌<◌, ◌^◌}
+use Rattle.std.proofs.Common.{◌≡◌, ℕ, suc, ◌+◌, ◌-◌, ◌/◌, ◌%◌, Bool, cond, List, [], ◌∷◌, ◌++◌, length, drop, take, get_or, refl, sym, ap, subst, ◌∙◌, append_assoc, append-nil, add-one, arith, length-append, ◌<◌, ◌≤◌, ◌^◌}
 use Rattle.std.proofs.Math.Seq.{drop-cons, drop-length}
+use Rattle.std.proofs.lemmas.Bool.{lt-ltb}
 use Rattle.std.proofs.lemmas.List.{take_at}
 use Rattle.posting_codec.specs.HitLists.{IsHit, key, Ascend, AreHits, differences, hit_list}
-use Rattle.posting_codec.specs.Numbers.{number}
+use Rattle.posting_codec.specs.Numbers.{number, spelled}
 use Rattle.posting_codec.proofs.Entries.{list_short}
 
 -- what was appended to the list at the start, and the differences of the hits from this one on, are the spelling
@@ -43,6 +44,24 @@ written_all hits start out i last w e =
 
 pub written_front : (hits : List (ℕ × ℕ)) (start out : List ℕ) (i last : ℕ) → Written hits start out i last → take (length start) out ≡ start
 written_front hits start out i last w = rw w.grown (take_at start w.bytes (length start) refl)
+
+-- a number of one byte
+small : (n : ℕ) → n < 128 → number n ≡ n ∷ []
+unfolding number
+small n less = ap (λ (b : Bool). cond b (n ∷ []) ((128 + n % 128) ∷ spelled 3 (n / 128))) (lt-ltb n 128 less)
+
+-- the length and the spelling of a list of one hit whose key is small
+only_spelled : (hit : ℕ × ℕ) (k : ℕ) → k ≡ key hit → k < 128 → 2 ∷ 1 ∷ k ∷ [] ≡ number (length (hit_list (hit ∷ []))) ++ hit_list (hit ∷ [])
+unfolding hit_list
+only_spelled hit k is less =
+    let list : number 1 ++ (number (key hit - 0) ++ []) ≡ 1 ∷ k ∷ [] =
+    ap (λ (l : List ℕ). l ++ (number (key hit - 0) ++ [])) (small 1 (omega arith)) ∙ ap (λ (n : ℕ). 1 ∷ (number n ++ [])) (omega (arith, is)) ∙ ap (λ (l : List ℕ). 1 ∷ (l ++ [])) (small k less) in
+    sym (ap (λ (l : List ℕ). number (length l) ++ l) list ∙ ap (λ (l : List ℕ). l ++ (1 ∷ k ∷ [])) (small 2 (omega arith)))
+
+pub one_spelled : (hits : List (ℕ × ℕ)) (d : ℕ × ℕ) (k : ℕ) → 1 ≤ length hits → length hits < 2 → k ≡ key (get_or hits 0 d) → k < 128 → 2 ∷ 1 ∷ k ∷ [] ≡ number (length (hit_list hits)) ++ hit_list hits
+one_spelled [] d k some few is less = absurd (omega (arith, some))
+one_spelled (hit ∷ []) d k some few is less = only_spelled hit k is less
+one_spelled (hit ∷ next ∷ hits) d k some few is less = absurd (omega (arith, few))
 
 -- so many bytes were counted, and the differences of the hits from this one on are the rest of the spelling
 pub record Counted (hits : List (ℕ × ℕ)) (i last counted : ℕ) : Type 0 where

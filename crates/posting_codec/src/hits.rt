@@ -57,6 +57,25 @@ pub fn put_hits(hits: &[(u16, u32)], out: &mut Vec<u8>) -> Result<(), NoMemory>
     Ok(())
 }
 
+/// Appends the length of a hit list's spelling and the spelling, or a front of them where memory is refused. Most words stand once in
+/// a row, near its beginning: these three bytes are known.
+#[inline]
+pub(crate) fn put_measured(hits: &[(u16, u32)], out: &mut Vec<u8>) -> Result<(), NoMemory>
+    requires { AreHits hits.now }
+    ensures ok { OnOk result (out.new.items ≡ out.old.items ++ (number (length (hit_list hits.now)) ++ hit_list hits.now)) }
+    ensures front { take (length out.old.items) out.new.items ≡ out.old.items }
+{
+    if let [hit] = hits {
+        let key = key_of(*hit);
+        if key < 128 {
+            out.extend_from_slice(&[2, 1, key as u8])?;
+            return Ok(());
+        }
+    }
+    put_number(hits_length(hits), out)?;
+    put_hits(hits, out)
+}
+
 /// Appends the count and the differences, or a front of them where memory is refused.
 #[tactic(auto, using(crate::proofs::Writing::written_none, crate::proofs::Writing::written_more, crate::proofs::Writing::written_all, crate::proofs::Writing::written_front, crate::proofs::Writing::hit_here))]
 fn put_counted(hits: &[(u16, u32)], out: &mut Vec<u8>) -> Result<(), NoMemory>

@@ -15,7 +15,7 @@ ghost use Rattle.posting_codec.specs.HitLists.{AreHits, hit_list};
 ghost use Rattle.posting_codec.specs.PostingLists.{IsEntry, IsEntryAt, least_after, posting, spelled_posting};
 ghost use Rattle.posting_codec.specs.steps.Heads.{IsHeadAt, head_length};
 
-use crate::hits::{hits_length, put_hits, read_hits};
+use crate::hits::{put_measured, read_hits};
 use crate::numbers::{number_at, put_number, read_number};
 use srch_base::NoMemory;
 use std::alloc::Global;
@@ -64,8 +64,7 @@ fn put_entry(distance: u32, hits: &[(u16, u32)], out: &mut Vec<u8>) -> Result<()
     ensures front { take (length out.old.items) out.new.items ≡ out.old.items }
 {
     put_number(distance, out)?;
-    put_number(hits_length(hits), out)?;
-    put_hits(hits, out)
+    put_measured(hits, out)
 }
 
 /// The entry that is spelled at a place behind that of another row, or at the front of a list: its row, its hits, and the place
