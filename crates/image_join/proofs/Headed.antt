@@ -24,7 +24,7 @@ another a b x y own its other same = other (own ∙ ap head same ∙ sym its)
 pub one : (a b : List ℕ) (x y : ℕ) → x ≡ head a → IsRead a → y ≡ head b → IsRead b → x ≡ y → tells x ≡ true → a ≡ b
 one a b x y own read its its_read same tell =
     let short : tells (head a) ≡ true = ap tells (sym own) ∙ tell in
-    told a b read its_read (sym own ∙ same ∙ its) (grind (arith, nat_tests))
+    told a b read its_read (sym own ∙ same ∙ its) short
 
 pub equal : (a b : List ℕ) (x y : ℕ) → x ≡ head a → IsRead a → y ≡ head b → IsRead b → x ≡ y → tells x ≡ true → false ≡ less a b
 equal a b x y own read its its_read same tell =
