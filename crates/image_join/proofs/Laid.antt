@@ -43,3 +43,15 @@ laid_more n (a ∷ ps) part laid at = (laid.0, laid_more (n + length a.rows) ps 
 pub rows_more : (parts : List PartValue) (part : PartValue) → length (all_rows (parts ++ part ∷ [])) ≡ length (all_rows parts) + length part.rows
 rows_more parts part =
     ap length (flat_map-append (λ (p : PartValue). p.rows) parts (part ∷ []) ∙ ap (λ l. all_rows parts ++ l) (append-nil part.rows)) ∙ length-append (all_rows parts) part.rows
+
+laid_behind : (n : ℕ) (parts : List PartValue) (k : ℕ) → AreLaid n parts → suc k < length parts → (part_at parts (suc k)).first ≡ (part_at parts k).first + length (part_at parts k).rows
+laid_behind n [] k laid low = absurd (omega (arith, low))
+laid_behind n (a ∷ []) k laid low = absurd (omega (arith, low))
+laid_behind n (a ∷ b ∷ ps) zero laid low = omega (arith, laid.0, laid.1.0)
+laid_behind n (a ∷ b ∷ ps) (suc k) laid low = laid_behind (n + length a.rows) (b ∷ ps) k laid.1 (omega (arith, low))
+
+-- a part begins where the one before it ends
+pub laid_next : (n : ℕ) (parts : List PartValue) (k : ℕ) → AreLaid n parts → k + 1 < length parts → (part_at parts (k + 1)).first ≡ (part_at parts k).first + length (part_at parts k).rows
+laid_next n parts k laid low =
+    let next : k + 1 ≡ suc k = omega arith in
+    ap (λ (m : ℕ). (part_at parts m).first) next ∙ laid_behind n parts k laid (omega (arith, low))

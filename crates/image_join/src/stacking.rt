@@ -13,6 +13,7 @@ ghost use Rattle.posting_codec.specs.PostingLists.{posting_list};
 ghost use Rattle.image_write.specs.Heads.{IsRead, head};
 ghost use Rattle.image_join.specs.steps.Entries.{AreEntriesOf};
 ghost use Rattle.image_join.specs.steps.Merging.{AreTables, IsBefore, IsHeaded, IsLeast, StandAt, StandsAt, added, is_ahead};
+ghost use Rattle.image_join.specs.steps.Parts.{AreLaid};
 ghost use Rattle.image_join.specs.steps.Stacking.{AreInOrder, ArePosted, Posting, at_front, behind, moved, stacked_in};
 
 use crate::copying::CopyBytes;
@@ -45,19 +46,16 @@ pub(crate) fn stand_in_order(numbers: &[u32]) -> bool
     true
 }
 
-/// Appends a posting list, whose rows lie so many rows further on here, to one where this is the least row that can stand next.
+/// Appends a posting list, whose rows lie so many rows further on here, to one where this is the least row that can stand next,
+/// which is none of those further on.
 #[inline]
 fn put_moved(list: &[u8], by: u32, least: u32, out: &mut Vec<u8>) -> Result<(), NoMemory>
-    requires { (entry : Posting) × (entries : List Posting) × (list.now ≡ posting_list 0 (entry ∷ entries)) × (by + entry.0 < NO_ROW) }
-    ensures least { OnOk result ((entry : Posting) (entries : List Posting) → list.now ≡ posting_list 0 (entry ∷ entries) → by + entry.0 < NO_ROW → least ≤ by + entry.0) }
-    ensures list { OnOk result ((entry : Posting) (entries : List Posting) → list.now ≡ posting_list 0 (entry ∷ entries) → by + entry.0 < NO_ROW → out.new.items ≡ out.old.items ++ posting_list least (moved by (entry ∷ entries))) }
+    requires list { (entry : Posting) × (entries : List Posting) × (list.now ≡ posting_list 0 (entry ∷ entries)) × (by + entry.0 < NO_ROW) }
+    requires least { least ≤ by }
+    ensures { OnOk result ((entry : Posting) (entries : List Posting) → list.now ≡ posting_list 0 (entry ∷ entries) → by + entry.0 < NO_ROW → out.new.items ≡ out.old.items ++ posting_list least (moved by (entry ∷ entries))) }
 {
     let (ahead, behind) = number_at(list, 0);
-    let row = by + (ahead - 1);
-    if row < least {
-        return Err(NoMemory);
-    }
-    put_number(row - least + 1, out)?;
+    put_number(by - least + ahead, out)?;
     out.extend_from_slice(&list[behind..])?;
     Ok(())
 }
@@ -101,7 +99,9 @@ fn put_stacked<C: CopyBytes>(
     requires word { word < length part.now.words }
     requires words { AreWordsOf part.now.rows part.now.words }
     requires few { part.now.first + length part.now.rows < NO_ROW }
-    ensures { IfOk result (λ after. (w : List ℕ) → slice_get part.now.words word ≡ Some w → ArePosted (stacked_in w part.now) out.old.items out.new.items reached after) }
+    requires least { reached.least ≤ part.now.first }
+    ensures within { IfOk result (λ after. after.least ≤ part.now.first + length part.now.rows) }
+    ensures posted { IfOk result (λ after. (w : List ℕ) → slice_get part.now.words word ≡ Some w → ArePosted (stacked_in w part.now) out.old.items out.new.items reached after) }
 {
     let by = part.first();
     put_moved(part.list(word), by, reached.least, out)?;
@@ -123,10 +123,12 @@ fn stack_from<'p, C: CopyBytes>(
 ) -> Result<(Next<'p>, Reached), NoMemory>
     requires words { AreWordsOf part.now.rows part.now.words }
     requires few { part.now.first + length part.now.rows < NO_ROW }
+    requires least { reached.least ≤ part.now.first }
     requires front { option_map (λ word. word.now) next.word ≡ slice_get part.now.words next.number }
     requires headed { IsHeaded next }
     requires head { word_head ≡ head word.now }
     requires read { IsRead word.now }
+    ensures within { IfOk result (λ after. after.1.least ≤ part.now.first + length part.now.rows) }
     ensures next { IfOk result (λ after. (last : Option (List ℕ)) → StandsAt last part.now next.entry → IsBefore last word.now part.now → is_ahead last word.now ≡ true → StandsAt (Some word.now) part.now after.0) }
     ensures posted { IfOk result (λ after. (last : Option (List ℕ)) → StandsAt last part.now next.entry → IsBefore last word.now part.now → is_ahead last word.now ≡ true → ArePosted (stacked_in word.now part.now) out.old.items out.new.items reached after.1) }
 {
@@ -147,6 +149,7 @@ fn stack_lists<'p, C: CopyBytes>(
     requires words { All (λ part. AreWordsOf part.rows part.words) parts.now }
     requires stand { (last : Option (List ℕ)) × StandAt last parts.now nexts.old }
     requires few { All (λ part. part.first + length part.rows < NO_ROW) parts.now }
+    requires laid { AreLaid 0 parts.now }
     ensures long { length nexts.new ≡ length nexts.old }
     ensures nexts { OnOk result ((last : Option (List ℕ)) → StandAt last parts.now nexts.old → IsLeast last parts.now word.now → StandAt (Some word.now) parts.now nexts.new) }
     ensures posted { IfOk result (λ after. (last : Option (List ℕ)) → StandAt last parts.now nexts.old → IsLeast last parts.now word.now → ArePosted (flat_map (stacked_in word.now) parts.now) out.old.items out.new.items at_front after) }
@@ -171,6 +174,7 @@ pub(crate) fn stack_word<'p, C: CopyBytes>(
     requires words { All (λ part. AreWordsOf part.rows part.words) parts.now }
     requires stand { (last : Option (List ℕ)) × StandAt last parts.now nexts.old }
     requires few { All (λ part. part.first + length part.rows < NO_ROW) parts.now }
+    requires laid { AreLaid 0 parts.now }
     ensures long { length nexts.new ≡ length nexts.old }
     ensures nexts { OnOk result ((last : Option (List ℕ)) → StandAt last parts.now nexts.old → IsLeast last parts.now word.now → StandAt (Some word.now) parts.now nexts.new) }
     ensures tables { OnOk result ((last : Option (List ℕ)) → StandAt last parts.now nexts.old → IsLeast last parts.now word.now → (rows : List AnyRow) (words : List (List ℕ)) → AreTables rows words tables.old → AreEntriesOf word.now rows (flat_map (stacked_in word.now) parts.now) → AreTables rows (added (flat_map (stacked_in word.now) parts.now) words word.now) tables.new) }

@@ -8,7 +8,7 @@ ghost use Rattle.image_write.specs.Heads.{IsRead, head};
 ghost use Rattle.image_join.specs.steps.Entries.{AreEntriesOf, entries_in, lent};
 ghost use Rattle.image_join.specs.steps.Merging.{AreTables, IsBefore, IsDone, IsHeaded, IsLeast, StandAt, StandsAt, added, is_ahead, less, lesser};
 ghost use Rattle.image_join.specs.steps.Numbering.{AreNumbered};
-ghost use Rattle.image_join.specs.steps.Parts.{PartValue};
+ghost use Rattle.image_join.specs.steps.Parts.{AreLaid, PartValue};
 ghost use Rattle.image_join.specs.steps.Stacking.{AreInOrder};
 
 use crate::copying::CopyBytes;
@@ -43,7 +43,8 @@ pub(crate) fn tables_of<C: CopyBytes>(
     parts: &[Part<C>],
     numbers: &[u32],
 ) -> Result<Tables, NoMemory>
-    requires { (rows : List AnyRow) × AreNumbered parts.now numbers.now rows }
+    requires laid { AreLaid 0 parts.now }
+    requires numbered { (rows : List AnyRow) × AreNumbered parts.now numbers.now rows }
     ensures { IfOk result (λ tables. (rows : List AnyRow) → AreNumbered parts.now numbers.now rows → (words : List (List ℕ)) × AreWordsOf rows words × AreTables rows words tables) }
 {
     let mut tables = no_tables(alloc, room_for(parts))?;
@@ -87,6 +88,7 @@ fn go_over<'p, C: CopyBytes>(
     requires words { All (λ part. AreWordsOf part.rows part.words) parts.now }
     requires stand { (last : Option (List ℕ)) × StandAt last parts.now nexts.old }
     requires within { All (λ part. part.first + length part.rows ≤ length numbers.now) parts.now }
+    requires laid { AreLaid 0 parts.now }
     requires order { IsTrue in_order → AreInOrder numbers.now }
     ensures long { length nexts.new ≡ length nexts.old }
     ensures nexts { OnOk result ((last : Option (List ℕ)) → StandAt last parts.now nexts.old → IsLeast last parts.now word.now → StandAt (Some word.now) parts.now nexts.new) }

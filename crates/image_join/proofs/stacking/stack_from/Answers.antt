@@ -28,4 +28,4 @@ returns-clause-next g c = λ last stands before ahead.
     goes_on last c.args.part.now c.args.next c.args.word.now c.requires.words stands before ahead c.next_of.result (sym c.requires.front ∙ c.if-not-is_next.ensures) c.next_of.ensures.number c.next_of.ensures.front c.next_of.ensures.headed
 
 pub returns-clause-posted : goal.returns-clause-posted
-returns-clause-posted g c = λ last stands before ahead. c.in_ok-after.ensures c.args.word.now (sym c.requires.front ∙ c.if-not-is_next.ensures)
+returns-clause-posted g c = λ last stands before ahead. c.in_ok-after.ensures.posted c.args.word.now (sym c.requires.front ∙ c.if-not-is_next.ensures)

@@ -1,9 +1,10 @@
-use Rattle.std.proofs.Common.{◌≡◌, ◌<◌, ℕ, List, Option, Some, length, subst, sym, ◌∙◌, arith}
+use Rattle.std.proofs.Common.{◌≡◌, ◌+◌, ◌≤◌, ◌<◌, ℕ, List, Option, Some, length, subst, sym, ◌∙◌, arith}
 use Rattle.std.proofs.lemmas.List.{get_or_default, length-set}
 use Rattle.doc_types.specs.Chunks.{AreWordsOf}
 use Rattle.image_join.specs.steps.Merging.{IsBefore, IsLeast, StandAt, StandsAt, next_at}
 use Rattle.image_join.specs.steps.Parts.{PartValue, blank_part, part_at}
 use Rattle.image_join.specs.steps.Stacking.{at_front}
+use Rattle.image_join.proofs.Laid.{laid_next}
 use Rattle.image_join.proofs.Stacked.{stacked_more}
 use Rattle.image_join.proofs.Taken.{later_more, nexts_more}
 use Rattle.image_join.proofs.stacking.stack_lists.Goals as goal
@@ -28,6 +29,10 @@ loop-number-preserved g c =
     let before : (last : Option (List ℕ)) → IsLeast last parts word → IsBefore last word part = λ last least. subst (IsBefore last word) (sym here) (least.each i blank_part c.loop-number-test.true) in
     record {
       long = length-set c.loop-number.nexts i c.in_ok-next.next ∙ c.loop-number.invariant.long;
+      room = λ low.
+          let next = laid_next 0 parts i c.requires.laid low in
+          let ends : c.in_ok-next.after.least ≤ (part_at parts i).first + length (part_at parts i).rows = subst (λ (p : PartValue). c.in_ok-next.after.least ≤ p.first + length p.rows) here c.in_ok-next.ensures.within in
+          omega (arith, next, ends);
       later = later_more c.loop-number.nexts c.args.nexts.now i c.in_ok-next.next c.loop-number.invariant.later;
       nexts = λ last stand least. nexts_more word parts c.loop-number.nexts i c.in_ok-next.next within
           (subst (λ p. StandsAt (Some word) p c.in_ok-next.next) here (c.in_ok-next.ensures.next last (stands last stand) (before last least) least.ahead)) (c.loop-number.invariant.nexts last stand least);
@@ -51,3 +56,11 @@ stack_from-requires-clause-headed g c =
     let stands : StandsAt last part (next_at c.loop-number.nexts i) =
     subst (StandsAt last part) (sym (c.loop-number.invariant.later i (omega arith))) (subst (λ p. StandsAt last p (next_at c.args.nexts.now i)) (sym here) (c.requires.stand.1.each i c.loop-number-test.true)) in
     stands.headed
+
+pub stack_from-requires-clause-least : goal.stack_from-requires-clause-least
+stack_from-requires-clause-least g c =
+    let parts : List PartValue = c.args.parts.now in
+    let i = c.loop-number.number in
+    let part = c.index-parts-number.result in
+    let here : part ≡ part_at parts i = c.index-parts-number.is ∙ get_or_default parts i part blank_part c.loop-number-test.true in
+    subst (λ (p : PartValue). c.loop-number.reached.least ≤ p.first) (sym here) (c.loop-number.invariant.room c.loop-number-test.true)
