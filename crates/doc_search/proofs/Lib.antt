@@ -2,8 +2,6 @@
 pub mod Numbered
 -- what a search gathers, document by document and layer by layer
 pub mod Gathering
--- the values of a document
-pub mod Values
 -- what the weight of a document asks of its hits
 pub mod Weighing
 -- each document has hits

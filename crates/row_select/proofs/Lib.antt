@@ -18,3 +18,5 @@ pub mod Collected
 pub mod Listed
 -- conditions on the weight, and those on other columns
 pub mod InTwoParts
+-- the values of a document, read one after the other
+pub mod Values

@@ -1,3 +1,4 @@
+pub mod ChunkRows
 pub mod Collecting
 pub mod Listing
 pub mod Selecting

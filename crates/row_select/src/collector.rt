@@ -6,6 +6,7 @@ ghost use Rattle.row_select.specs.declared.row.Row.{Row};
 ghost use Rattle.row_select.specs.steps.Collecting.{IsBordered};
 ghost use Rattle.row_select.specs.steps.Selecting.{AreFirst};
 
+use crate::found::FoundRow;
 use crate::order::Order;
 use crate::page::{Page, top};
 use crate::row::Row;
@@ -53,10 +54,10 @@ impl<'a> Collector<'a> {
     }
 
     /// Offers a row; a copy is kept where the page may need it. After an error nothing was offered.
-    pub fn offer(&mut self, row: &Row) -> Result<(), NoMemory>
+    pub fn offer<R: FoundRow>(&mut self, row: &R) -> Result<(), NoMemory>
         ensures order { self.new.order ≡ self.old.order }
         ensures page { self.new.page ≡ self.old.page }
-        ensures keeps { (offered : List Row) → Keeps offered self.old → OnOk result (Keeps (offered ++ row.now ∷ []) self.new) }
+        ensures keeps { (offered : List Row) → Keeps offered self.old → OnOk result (Keeps (offered ++ R.as_row row.now ∷ []) self.new) }
         ensures unchanged { OnErr result (self.new ≡ self.old) }
         // It never keeps more than twice the rows that it may need.
         ensures few { length self.new.kept ≤ 2 * page_end self.new.page }
@@ -75,11 +76,16 @@ impl<'a> Collector<'a> {
 }
 
 /// Adds a copy of a row where it may be among the first `end`, and drops what no longer is once there are twice as many.
-fn add_row(rows: &mut Vec<Row>, order: &Order, end: usize, row: &Row) -> Result<(), NoMemory>
+fn add_row<R: FoundRow>(
+    rows: &mut Vec<Row>,
+    order: &Order,
+    end: usize,
+    row: &R,
+) -> Result<(), NoMemory>
     requires bordered { IsBordered order.now end rows.old.items }
     requires few { length rows.old.items ≤ 2 * end }
     ensures bordered { IsBordered order.now end rows.new.items }
-    ensures keeps { (offered : List Row) → AreEnough order.now end offered rows.old.items → OnOk result (AreEnough order.now end (offered ++ row.now ∷ []) rows.new.items) }
+    ensures keeps { (offered : List Row) → AreEnough order.now end offered rows.old.items → OnOk result (AreEnough order.now end (offered ++ R.as_row row.now ∷ []) rows.new.items) }
     ensures unchanged { OnErr result (rows.new.items ≡ rows.old.items) }
     ensures few { length rows.new.items ≤ 2 * end }
 {
@@ -94,9 +100,9 @@ fn add_row(rows: &mut Vec<Row>, order: &Order, end: usize, row: &Row) -> Result<
 }
 
 /// Whether a row is known to stand behind `end` others.
-fn is_behind(rows: &[Row], order: &Order, end: usize, row: &Row) -> bool
+fn is_behind<R: FoundRow>(rows: &[Row], order: &Order, end: usize, row: &R) -> bool
     requires bordered { IsBordered order.now end rows.now }
-    ensures behind { result ≡ true → end ≤ count_not_after order.now row.now rows.now }
+    ensures behind { result ≡ true → end ≤ count_not_after order.now (R.as_row row.now) rows.now }
     ensures open { result ≡ false → 0 < end }
 {
     if end == 0 {

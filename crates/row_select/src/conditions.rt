@@ -1,15 +1,12 @@
 //! The conditions of a search, made ready once and then asked of many rows.
-ghost use Rattle.std.specs.Prelude.{◌≡◌, ◌<◌, ◌||◌, IfOk, IfSome, Some, length, slice_get};
+ghost use Rattle.std.specs.Prelude.{◌≡◌, IfOk, IfSome};
 ghost use Rattle.std.specs.List.Sorted.{IsSorted};
 ghost use Rattle.std.specs.Ordering.{int_cmp};
-ghost use Rattle.doc_types.specs.declared.documents.DocRow.{DocRow};
 ghost use Rattle.row_select.specs.Filters.{AreIdsOf, IsHighOf, IsLowOf, hold_unweighed, hold_weighed, holds, is_among, is_weighed};
-ghost use Rattle.row_select.specs.declared.row.Row.{Row as RowValue};
-ghost use Rattle.row_select.specs.steps.Listing.{AreListed, ListsIds, passes, row_of};
+ghost use Rattle.row_select.specs.steps.Listing.{AreListed, ListsIds, passes};
 
 use crate::filter::Filter;
-use crate::row::Row;
-use doc_types::Chunk;
+use crate::found::FoundRow;
 use srch_base::NoMemory;
 use std::alloc::Global;
 use std::marker::Model;
@@ -44,28 +41,14 @@ impl<'a> Conditions<'a> {
         Ok(Conditions { list })
     }
 
-    /// Whether those conditions hold of a row that aren't on its weight. They may be asked before it has one.
-    pub fn hold_unweighed(&self, row: &Row) -> bool
-        ensures { result ≡ hold_unweighed self.now row.now }
+    /// Whether those conditions hold of a row that aren't on its weight. They may be asked before it has one. Only the columns are
+    /// read that are asked for, one after the other until a condition fails.
+    pub fn hold_unweighed<R: FoundRow>(&self, row: &R) -> bool
+        ensures { result ≡ hold_unweighed self.now (R.as_row row.now) }
     {
         self.list
             .iter()
             .all(|condition| condition.is_weighed() || condition.holds(row))
-    }
-
-    /// The same of a row of a chunk whose documents have so many attributes: it is `hold_unweighed` of each row with that document's
-    /// id and values. Of the chunk only the columns are read that are asked for, one after the other until a condition fails.
-    pub fn hold_unweighed_of<C: Chunk>(&self, chunk: &C, number: u32, attrs: u16) -> bool
-        requires number { number < length (C.content chunk.now) }
-        requires attrs { (doc : DocRow) → slice_get (C.content chunk.now) number ≡ Some doc → length doc.doc.values ≡ attrs }
-        ensures { (doc : DocRow) (row : RowValue) → slice_get (C.content chunk.now) number ≡ Some doc → row.id ≡ doc.doc.id → row.values ≡ doc.doc.values → result ≡ hold_unweighed self.now row }
-    {
-        for condition in &self.list {
-            if !condition.passes_of(chunk, number, attrs) {
-                return false;
-            }
-        }
-        true
     }
 
     /// Numbers, in order, among which is the id of each row of which those conditions hold that aren't on its weight: those that
@@ -106,8 +89,8 @@ impl<'a> Conditions<'a> {
     }
 
     /// Whether those hold that are on its weight.
-    pub fn hold_weighed(&self, row: &Row) -> bool
-        ensures { result ≡ hold_weighed self.now row.now }
+    pub fn hold_weighed<R: FoundRow>(&self, row: &R) -> bool
+        ensures { result ≡ hold_weighed self.now (R.as_row row.now) }
     {
         self.list.iter().all(|condition| !condition.is_weighed() || condition.holds(row))
     }
@@ -145,19 +128,10 @@ impl<'a> Condition<'a> {
         self.filter.is_weighed()
     }
 
-    fn holds(&self, row: &Row) -> bool
-        ensures { result ≡ holds self.now row.now }
+    fn holds<R: FoundRow>(&self, row: &R) -> bool
+        ensures { result ≡ holds self.now (R.as_row row.now) }
     {
-        self.passes(&self.filter.column().value(row))
-    }
-
-    /// Whether it holds of a row of a chunk, or is on the weight.
-    fn passes_of<C: Chunk>(&self, chunk: &C, number: u32, attrs: u16) -> bool
-        requires number { number < length (C.content chunk.now) }
-        requires attrs { (doc : DocRow) → slice_get (C.content chunk.now) number ≡ Some doc → length doc.doc.values ≡ attrs }
-        ensures { (doc : DocRow) → slice_get (C.content chunk.now) number ≡ Some doc → result ≡ (is_weighed self.now || holds self.now (row_of doc)) }
-    {
-        self.is_weighed() || self.passes(&self.filter.column().value_of(chunk, number, attrs))
+        self.passes(&row.value(self.filter.column()))
     }
 
     /// The numbers that it lists, where it asks for one of some ids.

@@ -3,7 +3,8 @@ ghost use Rattle.std.specs.Prelude.{◌≡◌, IfSome};
 ghost use Rattle.row_select.specs.Filters.{compares, holds, is_weighed};
 ghost use Rattle.row_select.specs.steps.Listing.{IsHigh, IsLow, bounds_above, bounds_below, column_of, is_equal, is_from, is_up_to, lists_ids};
 
-use crate::row::{ColumnRef, Row};
+use crate::found::FoundRow;
+use crate::row::ColumnRef;
 use srch_base::Items;
 
 /// A condition on a column. The numbers that it names may lie outside of what the column can hold.
@@ -41,18 +42,18 @@ pub enum CompareOp {
 
 impl Filter {
     /// Whether the condition holds of a row.
-    pub fn holds(&self, row: &Row) -> bool
-        ensures { result ≡ holds self.now row.now }
+    pub fn holds<R: FoundRow>(&self, row: &R) -> bool
+        ensures { result ≡ holds self.now (R.as_row row.now) }
     {
         match self {
-            Filter::Compare { column, op, value } => op.holds(column.value(row), *value),
+            Filter::Compare { column, op, value } => op.holds(row.value(*column), *value),
             Filter::Among {
                 column,
                 values,
                 negated,
-            } => values.as_slice().contains(&column.value(row)) != *negated,
+            } => values.as_slice().contains(&row.value(*column)) != *negated,
             Filter::Between { column, low, high } => {
-                let value = column.value(row);
+                let value = row.value(*column);
                 *low <= value && value <= *high
             }
         }

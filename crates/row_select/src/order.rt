@@ -2,7 +2,8 @@
 ghost use Rattle.std.specs.Prelude.{◌≡◌};
 ghost use Rattle.row_select.specs.Orders.{by_key, by_keys};
 
-use crate::row::{ColumnRef, Row};
+use crate::found::FoundRow;
+use crate::row::ColumnRef;
 use srch_base::Items;
 use std::cmp::Ordering;
 
@@ -14,8 +15,8 @@ pub struct Order {
 
 impl Order {
     /// How a row stands to another one: `Less` where it comes first.
-    pub fn compare(&self, row: &Row, other: &Row) -> Ordering
-        ensures { result ≡ by_keys self.now.keys row.now other.now }
+    pub fn compare<R: FoundRow, O: FoundRow>(&self, row: &R, other: &O) -> Ordering
+        ensures { result ≡ by_keys self.now.keys (R.as_row row.now) (O.as_row other.now) }
     {
         for (column, descending) in self.keys.as_slice() {
             let ordering = compare_by(*column, *descending, row, other);
@@ -23,16 +24,21 @@ impl Order {
                 return ordering;
             }
         }
-        row.id.cmp(&other.id)
+        row.id().cmp(&other.id())
     }
 }
 
 /// How two rows stand by one key.
-fn compare_by(column: ColumnRef, descending: bool, row: &Row, other: &Row) -> Ordering
-    ensures { result ≡ by_key (column, descending) row.now other.now }
+fn compare_by<R: FoundRow, O: FoundRow>(
+    column: ColumnRef,
+    descending: bool,
+    row: &R,
+    other: &O,
+) -> Ordering
+    ensures { result ≡ by_key (column, descending) (R.as_row row.now) (O.as_row other.now) }
 {
-    let value = column.value(row);
-    let next = column.value(other);
+    let value = row.value(column);
+    let next = other.value(column);
     if descending {
         next.cmp(&value)
     } else {

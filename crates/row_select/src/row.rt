@@ -1,11 +1,10 @@
 //! A document that a select found, as its conditions and its order see it.
-ghost use Rattle.std.specs.Prelude.{◌≡◌, ◌<◌, IfOk, Some, length, slice_get};
-ghost use Rattle.doc_types.specs.declared.documents.DocRow.{DocRow};
+ghost use Rattle.std.specs.Prelude.{◌≡◌, IfOk};
 ghost use Rattle.row_select.specs.Columns.{column_value};
 ghost use Rattle.row_select.specs.Filters.{is_weight};
-ghost use Rattle.row_select.specs.steps.Listing.{is_id, row_of};
+ghost use Rattle.row_select.specs.steps.Listing.{is_id};
 
-use doc_types::{Chunk, Value};
+use doc_types::Value;
 use srch_base::{Items, NoMemory};
 use std::alloc::Global;
 
@@ -61,21 +60,6 @@ impl ColumnRef {
                 None => 0,
             },
             ColumnRef::Weight => i128::from(row.weight),
-        }
-    }
-
-    /// What a row of a chunk, whose documents have so many attributes, holds in this column, with the weight 0.
-    pub(crate) fn value_of<C: Chunk>(self, chunk: &C, number: u32, attrs: u16) -> i128
-        requires number { number < length (C.content chunk.now) }
-        requires attrs { (doc : DocRow) → slice_get (C.content chunk.now) number ≡ Some doc → length doc.doc.values ≡ attrs }
-        ensures { (doc : DocRow) → slice_get (C.content chunk.now) number ≡ Some doc → result ≡ column_value self (row_of doc) }
-    {
-        match self {
-            ColumnRef::Id => i128::from(chunk.id(number)),
-            ColumnRef::Attr(place) if place < attrs => match chunk.value(number, place) {
-                Value::Whole(value) => i128::from(value),
-            },
-            ColumnRef::Attr(_) | ColumnRef::Weight => 0,
         }
     }
 

@@ -1,6 +1,6 @@
 //! Where found rows go, one after the other: a page, groups, a facet, a count, or several of these at once.
 use crate::collector::Collector;
-use crate::row::Row;
+use crate::found::FoundRow;
 use srch_base::NoMemory;
 
 /// What takes the rows that a search finds, one after the other.
@@ -12,8 +12,8 @@ pub trait Sink {
     ghost Took: { Self → List Row → Self → Type 0 };
 
     /// Offers a row. After an error the sink is of no use.
-    fn offer(&mut self, row: &Row) -> Result<(), NoMemory>
-        ensures { (first : Self) (rows : List Row) → Took first rows self.old → OnOk result (Took first (rows ++ row.now ∷ []) self.new) };
+    fn offer<R: FoundRow>(&mut self, row: &R) -> Result<(), NoMemory>
+        ensures { (first : Self) (rows : List Row) → Took first rows self.old → OnOk result (Took first (rows ++ R.as_row row.now ∷ []) self.new) };
 
     // Nothing was offered to it yet.
     ghost nothing: { (first : Self) → Took first [] first };
@@ -27,7 +27,7 @@ impl Sink for Collector<'_> {
 
     ghost nothing = { λ first. record { order = refl; page = refl; keeps = λ so. so } };
 
-    fn offer(&mut self, row: &Row) -> Result<(), NoMemory> {
+    fn offer<R: FoundRow>(&mut self, row: &R) -> Result<(), NoMemory> {
         Collector::offer(self, row)
     }
 }
@@ -46,7 +46,7 @@ impl Sink for RowCount {
 
     ghost nothing = { λ first. Prim.search rules };
 
-    fn offer(&mut self, row: &Row) -> Result<(), NoMemory> {
+    fn offer<R: FoundRow>(&mut self, row: &R) -> Result<(), NoMemory> {
         self.rows = self.rows.checked_add(1).ok_or(NoMemory)?;
         Ok(())
     }
@@ -64,7 +64,7 @@ impl<A: Sink, B: Sink> Sink for Both<A, B> {
 
     ghost nothing = { λ first. (A.nothing first.first, B.nothing first.second) };
 
-    fn offer(&mut self, row: &Row) -> Result<(), NoMemory> {
+    fn offer<R: FoundRow>(&mut self, row: &R) -> Result<(), NoMemory> {
         self.first.offer(row)?;
         self.second.offer(row)
     }

@@ -2,7 +2,6 @@
 use Rattle.std.specs.Prelude.{◌≡◌, ℤ, pos, List, [], ◌∷◌, Bool, true, false, ◌&&◌, ◌||◌, not, int_le, int_lt, if◌then◌else◌, IsPermutation}
 use Rattle.std.specs.List.Sorted.{IsSorted}
 use Rattle.std.specs.Ordering.{int_cmp}
-use Rattle.doc_types.specs.declared.documents.DocRow.{DocRow}
 use Rattle.row_select.specs.Filters.{compares, holds, is_among, is_weighed}
 use Rattle.row_select.specs.declared.filter.CompareOp.{CompareOp}
 use Rattle.row_select.specs.declared.filter.CompareOp.TheVariants as operators
@@ -23,10 +22,6 @@ abbrev pub passes : Filter → ℤ → Bool
 passes (filters.Compare column op number) value = compares op value number
 passes (filters.Among column numbers negated) value = if negated then not (is_among numbers value) else is_among numbers value
 passes (filters.Between column low high) value = int_le low value && int_le value high
-
--- a document as a row without a weight
-abbrev pub row_of : DocRow → Row
-row_of doc = record { id = doc.doc.id; weight = 0; values = doc.doc.values }
 
 -- the numbers with which a condition compares another one, where these are single ones
 abbrev pub listed : Filter → List ℤ

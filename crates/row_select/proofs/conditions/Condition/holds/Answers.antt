@@ -9,8 +9,8 @@ use Rattle.row_select.proofs.Listed.{holds_by}
 use Rattle.row_select.proofs.conditions.Condition.holds.Goals as goal
 
 pub returns : goal.returns
-returns c =
+returns g c =
     let fits : SFits w128 c.value.result = search rules in
     c.passes.ensures
-    ∙ ap (passes c.args.self.now) (to_z-of_z w128 c.value.result fits ∙ c.value.ensures ∙ ap (λ column. column_value column c.args.row.now) (c.column.ensures ∙ ap (λ (its : Filter). column_of its) c.self.view_is))
-    ∙ holds_by c.args.self.now c.args.row.now
+    ∙ ap (passes c.args.self.now) (to_z-of_z w128 c.value.result fits ∙ c.value.ensures ∙ ap (λ column. column_value column (g.R.FoundRow.as_row c.args.row.now)) (c.column.ensures ∙ ap (λ (its : Filter). column_of its) c.self.view_is))
+    ∙ holds_by c.args.self.now (g.R.FoundRow.as_row c.args.row.now)

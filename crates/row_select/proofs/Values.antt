@@ -1,6 +1,6 @@
--- What a document's row holds: its id and its values.
+-- What is read of a document: its values, one after the other.
 use Rattle.std.proofs.Common.{◌≡◌, ℕ, ◌+◌, ◌≤◌, List, [], ◌∷◌, ◌++◌, Some, slice_get, length, take, get_or, sym, ap, ◌∙◌}
-use Rattle.std.specs.Option.{option_and_then, option_map}
+use Rattle.std.specs.Option.{option_and_then}
 use Rattle.std.proofs.lemmas.List.{take_all, take_more}
 use Rattle.std.proofs.lemmas.Option.{get_or_from_slice_get, slice_get_within}
 use Rattle.doc_types.specs.declared.documents.DocRow.{DocRow}
@@ -8,11 +8,6 @@ use Rattle.doc_types.specs.declared.schema.Value.{Value}
 use Rattle.doc_types.specs.Chunks.{value_at}
 
 module _ (docs : List DocRow) (number : ℕ) (doc : DocRow) (here : slice_get docs number ≡ Some doc) where
-  pub id_is : (id : ℕ) → option_map (λ (found : DocRow). found.doc.id) (slice_get docs number) ≡ Some id → id ≡ doc.doc.id
-  id_is id told =
-      let both : Some doc.doc.id ≡ Some id = ap (option_map (λ (found : DocRow). found.doc.id)) (sym here) ∙ told in
-      cc
-
   value_of : (attr : ℕ) → value_at docs number attr ≡ slice_get doc.doc.values attr
   value_of attr = ap (option_and_then (λ (found : DocRow). slice_get found.doc.values attr)) here
 
