@@ -10,7 +10,7 @@ use Rattle.std.proofs.lemmas.List.Folds.{list_any_at, list_any_none}
 use Rattle.std.proofs.lemmas.List.Sums.{AllPass-from_list_all}
 use Rattle.std.proofs.lemmas.List.Sorted.{list_any-IsPermutation, searchable_from_sorted}
 use Rattle.row_select.specs.Columns.{column_value}
-use Rattle.row_select.specs.Filters.{AreIdsOf, holds, is_among, is_weighed}
+use Rattle.row_select.specs.Filters.{AreIdsOf, holds, is_among, is_equal, is_id, is_weighed, lists_ids}
 use Rattle.row_select.specs.declared.filter.CompareOp.{CompareOp}
 use Rattle.row_select.specs.declared.filter.CompareOp.TheVariants as operators
 use Rattle.row_select.specs.declared.filter.Filter.{Filter}
@@ -18,7 +18,7 @@ use Rattle.row_select.specs.declared.filter.Filter.TheVariants as filters
 use Rattle.row_select.specs.declared.row.ColumnRef.{ColumnRef}
 use Rattle.row_select.specs.declared.row.ColumnRef.TheVariants as columns
 use Rattle.row_select.specs.declared.row.Row.{Row}
-use Rattle.row_select.specs.steps.Listing.{AreListed, ListsIds, column_of, is_equal, is_id, listed, lists_ids, passes}
+use Rattle.row_select.specs.steps.Listing.{AreListed, ListsIds, column_of, listed, passes}
 
 -- what a search among numbers in order finds
 pub number_found : (numbers : List ℤ) (number : ℤ) (found : Result ℕ ℕ) → IsSorted int_cmp numbers → IsSearchInRange found (length numbers) → IsBinarySearchResult (λ n. int_cmp n number) numbers found → is_ok found ≡ is_among numbers number

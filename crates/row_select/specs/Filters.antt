@@ -56,6 +56,55 @@ hold_unweighed conditions row = list_all (λ condition. is_weighed condition || 
 abbrev pub hold_weighed : List Filter → Row → Bool
 hold_weighed conditions row = list_all (λ condition. not (is_weighed condition) || holds condition row) conditions
 
+-- a column is the id
+abbrev pub is_id : ColumnRef → Bool
+is_id columns.Id = true
+is_id (columns.Attr place) = false
+is_id columns.Weight = false
+
+-- a comparison is for one number
+abbrev pub is_equal : CompareOp → Bool
+is_equal operators.Equal = true
+is_equal operators.NotEqual = false
+is_equal operators.Less = false
+is_equal operators.Greater = false
+is_equal operators.AtMost = false
+is_equal operators.AtLeast = false
+
+-- a condition asks for one of some ids
+abbrev pub lists_ids : Filter → Bool
+lists_ids (filters.Compare column op number) = is_id column && is_equal op
+lists_ids (filters.Among column numbers negated) = is_id column && not negated
+lists_ids (filters.Between column low high) = false
+
+-- a comparison is for numbers from one on, or for those up to one
+abbrev pub is_from : CompareOp → Bool
+is_from operators.Equal = true
+is_from operators.NotEqual = false
+is_from operators.Less = false
+is_from operators.Greater = true
+is_from operators.AtMost = false
+is_from operators.AtLeast = true
+
+abbrev pub is_up_to : CompareOp → Bool
+is_up_to operators.Equal = true
+is_up_to operators.NotEqual = false
+is_up_to operators.Less = true
+is_up_to operators.Greater = false
+is_up_to operators.AtMost = true
+is_up_to operators.AtLeast = false
+
+-- a condition asks for ids from one on, or for those up to one
+abbrev pub bounds_below : Filter → Bool
+bounds_below (filters.Compare column op number) = is_id column && is_from op
+bounds_below (filters.Among column numbers negated) = false
+bounds_below (filters.Between column low high) = is_id column
+
+abbrev pub bounds_above : Filter → Bool
+bounds_above (filters.Compare column op number) = is_id column && is_up_to op
+bounds_above (filters.Among column numbers negated) = false
+bounds_above (filters.Between column low high) = is_id column
+
 -- These numbers, in order, have the id of each row of which those conditions hold that aren't on its weight.
 pub record AreIdsOf (conditions : List Filter) (numbers : List ℤ) : Type 0 where
   pub ascend : IsSorted int_cmp numbers

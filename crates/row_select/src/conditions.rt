@@ -1,8 +1,9 @@
 //! The conditions of a search, made ready once and then asked of many rows.
-ghost use Rattle.std.specs.Prelude.{◌≡◌, IfOk, IfSome};
+ghost use Rattle.std.specs.Prelude.{◌≡◌, false, IfNone, IfOk, IfSome};
+ghost use Rattle.std.specs.List.{list_any};
 ghost use Rattle.std.specs.List.Sorted.{IsSorted};
 ghost use Rattle.std.specs.Ordering.{int_cmp};
-ghost use Rattle.row_select.specs.Filters.{AreIdsOf, IsHighOf, IsLowOf, hold_unweighed, hold_weighed, holds, is_among, is_weighed};
+ghost use Rattle.row_select.specs.Filters.{AreIdsOf, IsHighOf, IsLowOf, bounds_above, bounds_below, hold_unweighed, hold_weighed, holds, is_among, is_weighed, lists_ids};
 ghost use Rattle.row_select.specs.steps.Listing.{AreListed, ListsIds, passes};
 
 use crate::filter::Filter;
@@ -30,7 +31,7 @@ impl<'a> Model for Conditions<'a> {
 }
 
 impl<'a> Conditions<'a> {
-    /// Takes 16 bytes for each number of a list.
+    /// Takes 16 bytes for each number of a list, and as many for a comparison.
     pub fn over(alloc: Global, filters: &'a [Filter]) -> Result<Conditions<'a>, NoMemory>
         ensures { IfOk result (λ conditions. conditions ≡ filters.now) }
     {
@@ -54,7 +55,8 @@ impl<'a> Conditions<'a> {
     /// Numbers, in order, among which is the id of each row of which those conditions hold that aren't on its weight: those that
     /// the first condition lists that asks for one of some ids. None where no condition does.
     pub fn ids(&self) -> Option<&[i128]>
-        ensures { IfSome result (λ ids. AreIdsOf self.now ids.now) }
+        ensures ids { IfSome result (λ ids. AreIdsOf self.now ids.now) }
+        ensures none { IfNone result (list_any lists_ids self.now ≡ false) }
     {
         for condition in &self.list {
             if let Some(ids) = condition.ids() {
@@ -64,9 +66,11 @@ impl<'a> Conditions<'a> {
         None
     }
 
-    /// A number that no id is below of those rows of which those conditions hold: that of the first condition that says one.
+    /// A number that no id is below of those rows of which those conditions hold: that of the first condition that says one. None
+    /// where no condition does.
     pub fn low_id(&self) -> Option<&i128>
-        ensures { IfSome result (λ low. IsLowOf self.now low.now) }
+        ensures low { IfSome result (λ low. IsLowOf self.now low.now) }
+        ensures none { IfNone result (list_any bounds_below self.now ≡ false) }
     {
         for condition in &self.list {
             if let Some(low) = condition.filter.low() {
@@ -76,9 +80,10 @@ impl<'a> Conditions<'a> {
         None
     }
 
-    /// A number that no id is above of those rows of which those conditions hold.
+    /// A number that no id is above of those rows of which those conditions hold. None where no condition says one.
     pub fn high_id(&self) -> Option<&i128>
-        ensures { IfSome result (λ high. IsHighOf self.now high.now) }
+        ensures high { IfSome result (λ high. IsHighOf self.now high.now) }
+        ensures none { IfNone result (list_any bounds_above self.now ≡ false) }
     {
         for condition in &self.list {
             if let Some(high) = condition.filter.high() {
@@ -134,9 +139,10 @@ impl<'a> Condition<'a> {
         self.passes(&row.value(self.filter.column()))
     }
 
-    /// The numbers that it lists, where it asks for one of some ids.
+    /// The numbers that it lists, where it asks for one of some ids. None where it doesn't.
     fn ids(&self) -> Option<&[i128]>
-        ensures { IfSome result (λ ids. ListsIds self.now ids.now) }
+        ensures ids { IfSome result (λ ids. ListsIds self.now ids.now) }
+        ensures none { IfNone result (lists_ids self.now ≡ false) }
     {
         if self.filter.lists_ids() {
             Some(&self.listed)

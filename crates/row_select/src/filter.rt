@@ -1,7 +1,7 @@
 //! The conditions of WHERE on columns (the manual of Sphinx, "SELECT syntax").
-ghost use Rattle.std.specs.Prelude.{◌≡◌, IfSome};
-ghost use Rattle.row_select.specs.Filters.{compares, holds, is_weighed};
-ghost use Rattle.row_select.specs.steps.Listing.{IsHigh, IsLow, bounds_above, bounds_below, column_of, is_equal, is_from, is_up_to, lists_ids};
+ghost use Rattle.std.specs.Prelude.{◌≡◌, false, IfNone, IfSome};
+ghost use Rattle.row_select.specs.Filters.{bounds_above, bounds_below, compares, holds, is_equal, is_from, is_up_to, is_weighed, lists_ids};
+ghost use Rattle.row_select.specs.steps.Listing.{IsHigh, IsLow, column_of};
 
 use crate::found::FoundRow;
 use crate::row::ColumnRef;
@@ -85,9 +85,10 @@ impl Filter {
         }
     }
 
-    /// A number that no id is below of which it holds, where it says one.
+    /// A number that no id is below of which it holds. None where it says none.
     pub(crate) fn low(&self) -> Option<&i128>
-        ensures { IfSome result (λ low. IsLow self.now low.now) }
+        ensures low { IfSome result (λ low. IsLow self.now low.now) }
+        ensures none { IfNone result (bounds_below self.now ≡ false) }
     {
         if !self.bounds_below() {
             return None;
@@ -99,9 +100,10 @@ impl Filter {
         }
     }
 
-    /// A number that no id is above of which it holds, where it says one.
+    /// A number that no id is above of which it holds.
     pub(crate) fn high(&self) -> Option<&i128>
-        ensures { IfSome result (λ high. IsHigh self.now high.now) }
+        ensures high { IfSome result (λ high. IsHigh self.now high.now) }
+        ensures none { IfNone result (bounds_above self.now ≡ false) }
     {
         if !self.bounds_above() {
             return None;

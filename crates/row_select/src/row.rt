@@ -1,8 +1,7 @@
 //! A document that a select found, as its conditions and its order see it.
 ghost use Rattle.std.specs.Prelude.{◌≡◌, IfOk};
 ghost use Rattle.row_select.specs.Columns.{column_value};
-ghost use Rattle.row_select.specs.Filters.{is_weight};
-ghost use Rattle.row_select.specs.steps.Listing.{is_id};
+ghost use Rattle.row_select.specs.Filters.{is_id, is_weight};
 
 use doc_types::Value;
 use srch_base::{Items, NoMemory};

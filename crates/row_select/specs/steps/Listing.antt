@@ -3,12 +3,9 @@ use Rattle.std.specs.Prelude.{◌≡◌, ℤ, pos, List, [], ◌∷◌, Bool, tr
 use Rattle.std.specs.List.Sorted.{IsSorted}
 use Rattle.std.specs.Ordering.{int_cmp}
 use Rattle.row_select.specs.Filters.{compares, holds, is_among, is_weighed}
-use Rattle.row_select.specs.declared.filter.CompareOp.{CompareOp}
-use Rattle.row_select.specs.declared.filter.CompareOp.TheVariants as operators
 use Rattle.row_select.specs.declared.filter.Filter.{Filter}
 use Rattle.row_select.specs.declared.filter.Filter.TheVariants as filters
 use Rattle.row_select.specs.declared.row.ColumnRef.{ColumnRef}
-use Rattle.row_select.specs.declared.row.ColumnRef.TheVariants as columns
 use Rattle.row_select.specs.declared.row.Row.{Row}
 
 -- the column that a condition looks at
@@ -34,59 +31,10 @@ pub record AreListed (condition : Filter) (numbers : List ℤ) : Type 0 where
   pub same : IsPermutation (listed condition) numbers
   pub ascend : IsSorted int_cmp numbers
 
--- a column is the id
-abbrev pub is_id : ColumnRef → Bool
-is_id columns.Id = true
-is_id (columns.Attr place) = false
-is_id columns.Weight = false
-
--- a comparison is for one number
-abbrev pub is_equal : CompareOp → Bool
-is_equal operators.Equal = true
-is_equal operators.NotEqual = false
-is_equal operators.Less = false
-is_equal operators.Greater = false
-is_equal operators.AtMost = false
-is_equal operators.AtLeast = false
-
--- a condition asks for one of some ids
-abbrev pub lists_ids : Filter → Bool
-lists_ids (filters.Compare column op number) = is_id column && is_equal op
-lists_ids (filters.Among column numbers negated) = is_id column && not negated
-lists_ids (filters.Between column low high) = false
-
 -- These numbers, in order, have the id of each row of which the condition holds.
 pub record ListsIds (condition : Filter) (numbers : List ℤ) : Type 0 where
   pub ascend : IsSorted int_cmp numbers
   pub all : (row : Row) → (is_weighed condition || holds condition row) ≡ true → is_among numbers (pos row.id) ≡ true
-
--- a comparison is for numbers from one on, or for those up to one
-abbrev pub is_from : CompareOp → Bool
-is_from operators.Equal = true
-is_from operators.NotEqual = false
-is_from operators.Less = false
-is_from operators.Greater = true
-is_from operators.AtMost = false
-is_from operators.AtLeast = true
-
-abbrev pub is_up_to : CompareOp → Bool
-is_up_to operators.Equal = true
-is_up_to operators.NotEqual = false
-is_up_to operators.Less = true
-is_up_to operators.Greater = false
-is_up_to operators.AtMost = true
-is_up_to operators.AtLeast = false
-
--- a condition asks for ids from one on, or for those up to one
-abbrev pub bounds_below : Filter → Bool
-bounds_below (filters.Compare column op number) = is_id column && is_from op
-bounds_below (filters.Among column numbers negated) = false
-bounds_below (filters.Between column low high) = is_id column
-
-abbrev pub bounds_above : Filter → Bool
-bounds_above (filters.Compare column op number) = is_id column && is_up_to op
-bounds_above (filters.Among column numbers negated) = false
-bounds_above (filters.Between column low high) = is_id column
 
 -- no row of which the condition holds has an id below this number, or above it
 abbrev pub IsLow : Filter → ℤ → Type 0

@@ -1,0 +1,7 @@
+use Rattle.std.proofs.Common.{◌≡◌, false, take}
+use Rattle.std.specs.List.{list_any}
+use Rattle.row_select.specs.Filters.{bounds_below}
+use Rattle.row_select.proofs.conditions.Conditions.low_id.Given as goal
+
+abbrev pub invariant-loop-condition : goal.invariant-loop-condition
+invariant-loop-condition l = list_any bounds_below (take l.condition-index l.condition-items) ≡ false
