@@ -8,7 +8,7 @@ ghost use Rattle.group_facet.specs.declared.facets.Facet.{Facet as FacetValue};
 
 use crate::facets::Facet;
 use indexmap::IndexMap;
-use row_select::Row;
+use row_select::{FoundRow, Row};
 use srch_base::NoMemory;
 use std::alloc::Global;
 
@@ -33,10 +33,10 @@ impl<'a> FacetCounts<'a> {
     }
 
     /// Offers a row. After an error the counts are of no use.
-    pub fn offer(&mut self, row: &Row) -> Result<(), NoMemory>
-        ensures { (facet : FacetValue) (offered : List RowValue) → GathersFacet facet offered self.old → OnOk result (GathersFacet facet (offered ++ row.now ∷ []) self.new) }
+    pub fn offer<R: FoundRow>(&mut self, row: &R) -> Result<(), NoMemory>
+        ensures { (facet : FacetValue) (offered : List RowValue) → GathersFacet facet offered self.old → OnOk result (GathersFacet facet (offered ++ R.as_row row.now ∷ []) self.new) }
     {
-        let value = self.facet.column.value(row);
+        let value = row.value(self.facet.column);
         match self.counts.get_mut(&value) {
             Some(count) => *count = count.checked_add(1).ok_or(NoMemory)?,
             None => {

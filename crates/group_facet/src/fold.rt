@@ -7,7 +7,7 @@ ghost use Rattle.group_facet.specs.Folds.{IsFolded};
 ghost use Rattle.group_facet.specs.RunningFolds.{IsRunning, fold_of};
 
 use indexmap::IndexSet;
-use row_select::{ColumnRef, Row};
+use row_select::{ColumnRef, FoundRow};
 use srch_base::NoMemory;
 use std::alloc::Global;
 
@@ -51,49 +51,53 @@ pub(crate) struct KeptValue {
 }
 
 impl KeptValue {
-    fn of(column: ColumnRef, row: &Row) -> KeptValue
+    fn of<R: FoundRow>(column: ColumnRef, row: &R) -> KeptValue
         ensures column { result.column ≡ column }
-        ensures value { result.value ≡ column_value column row.now }
+        ensures value { result.value ≡ column_value column (R.as_row row.now) }
     {
         KeptValue {
             column,
-            value: column.value(row),
+            value: row.value(column),
         }
     }
 
     /// The lesser of the number and what one row more has.
-    fn lesser(self, row: &Row) -> KeptValue
+    fn lesser<R: FoundRow>(self, row: &R) -> KeptValue
         ensures column { result.column ≡ self.column }
-        ensures value { result.value ≡ int_min (column_value self.column row.now) self.value }
+        ensures value { result.value ≡ int_min (column_value self.column (R.as_row row.now)) self.value }
     {
         KeptValue {
             column: self.column,
-            value: self.column.value(row).min(self.value),
+            value: row.value(self.column).min(self.value),
         }
     }
 
     /// The greater of them.
-    fn greater(self, row: &Row) -> KeptValue
+    fn greater<R: FoundRow>(self, row: &R) -> KeptValue
         ensures column { result.column ≡ self.column }
-        ensures value { result.value ≡ int_max (column_value self.column row.now) self.value }
+        ensures value { result.value ≡ int_max (column_value self.column (R.as_row row.now)) self.value }
     {
         KeptValue {
             column: self.column,
-            value: self.column.value(row).max(self.value),
+            value: row.value(self.column).max(self.value),
         }
     }
 }
 
 impl Running {
     /// Of one row alone.
-    pub(crate) fn first(alloc: Global, fold: Fold, row: &Row) -> Result<Running, NoMemory>
-        ensures { IfOk result (λ running. (fold_of running ≡ fold) × IsRunning running (row.now ∷ [])) }
+    pub(crate) fn first<R: FoundRow>(
+        alloc: Global,
+        fold: Fold,
+        row: &R,
+    ) -> Result<Running, NoMemory>
+        ensures { IfOk result (λ running. (fold_of running ≡ fold) × IsRunning running (R.as_row row.now ∷ [])) }
     {
         Ok(match fold {
             Fold::Count => Running::Count(1),
             Fold::Distinct(column) => {
                 let mut values = IndexSet::new(alloc);
-                values.insert(column.value(row))?;
+                values.insert(row.value(column))?;
                 Running::Distinct(SeenValues { column, values })
             }
             Fold::Least(column) => Running::Least(KeptValue::of(column, row)),
@@ -103,21 +107,21 @@ impl Running {
     }
 
     /// Of one row more.
-    pub(crate) fn add(&mut self, row: &Row) -> Result<(), NoMemory>
+    pub(crate) fn add<R: FoundRow>(&mut self, row: &R) -> Result<(), NoMemory>
         ensures fold { fold_of self.new ≡ fold_of self.old }
-        ensures running { (rows : List RowValue) → IsRunning self.old rows → OnOk result (IsRunning self.new (rows ++ row.now ∷ [])) }
+        ensures running { (rows : List RowValue) → IsRunning self.old rows → OnOk result (IsRunning self.new (rows ++ R.as_row row.now ∷ [])) }
     {
         match self {
             Running::Count(count) => *count = count.checked_add(1).ok_or(NoMemory)?,
             Running::Distinct(seen) => {
-                seen.values.insert(seen.column.value(row))?;
+                seen.values.insert(row.value(seen.column))?;
             }
             Running::Least(least) => *least = least.lesser(row),
             Running::Greatest(greatest) => *greatest = greatest.greater(row),
             Running::Sum(sum) => {
                 sum.value = sum
                     .value
-                    .checked_add(sum.column.value(row))
+                    .checked_add(row.value(sum.column))
                     .ok_or(NoMemory)?;
             }
         }

@@ -3,7 +3,7 @@ ghost use Rattle.std.specs.Prelude.{◌≡◌};
 ghost use Rattle.group_facet.specs.Groups.{group_key};
 
 use crate::fold::Fold;
-use row_select::{ColumnRef, Order, Row};
+use row_select::{ColumnRef, FoundRow, Order, Row};
 use srch_base::Items;
 
 /// How rows are grouped, and what is known of a group.
@@ -30,11 +30,11 @@ pub struct GroupRow {
 
 impl Group {
     /// The group of a row, by its key.
-    pub(crate) fn key(&self, row: &Row) -> i128
-        ensures { result ≡ group_key self.now.by row.now }
+    pub(crate) fn key<R: FoundRow>(&self, row: &R) -> i128
+        ensures { result ≡ group_key self.now.by (R.as_row row.now) }
     {
         match self.by {
-            Some(column) => column.value(row),
+            Some(column) => row.value(column),
             None => 0,
         }
     }

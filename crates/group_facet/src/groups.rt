@@ -10,7 +10,7 @@ ghost use Rattle.group_facet.specs.declared.grouping.Group.{Group as GroupValue}
 use crate::grouping::{Group, GroupRow};
 use crate::part::Part;
 use indexmap::IndexMap;
-use row_select::Row;
+use row_select::{FoundRow, Row};
 use srch_base::NoMemory;
 use std::alloc::Global;
 
@@ -38,8 +38,8 @@ impl<'a> Groups<'a> {
     }
 
     /// Offers a row. After an error the groups are of no use.
-    pub fn offer(&mut self, row: &Row) -> Result<(), NoMemory>
-        ensures { (group : GroupValue) (offered : List RowValue) → GathersGroups group offered self.old → OnOk result (GathersGroups group (offered ++ row.now ∷ []) self.new) }
+    pub fn offer<R: FoundRow>(&mut self, row: &R) -> Result<(), NoMemory>
+        ensures { (group : GroupValue) (offered : List RowValue) → GathersGroups group offered self.old → OnOk result (GathersGroups group (offered ++ R.as_row row.now ∷ []) self.new) }
     {
         let key = self.group.key(row);
         match self.parts.get_mut(&key) {

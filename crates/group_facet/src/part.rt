@@ -11,7 +11,7 @@ ghost use Rattle.group_facet.specs.Gathering.{IsPart};
 
 use crate::fold::{Fold, Running};
 use crate::grouping::{Group, GroupRow};
-use row_select::{Order, Row};
+use row_select::{FoundRow, Order, Row};
 use srch_base::{Items, NoMemory};
 use std::alloc::Global;
 
@@ -24,8 +24,12 @@ pub(crate) struct Part {
 
 impl Part {
     /// Of one row alone.
-    pub(crate) fn first(alloc: Global, group: &Group, row: &Row) -> Result<Part, NoMemory>
-        ensures { IfOk result (IsPart group.now (row.now ∷ [])) }
+    pub(crate) fn first<R: FoundRow>(
+        alloc: Global,
+        group: &Group,
+        row: &R,
+    ) -> Result<Part, NoMemory>
+        ensures { IfOk result (IsPart group.now (R.as_row row.now ∷ [])) }
     {
         let best = row.copy()?;
         let folds = first_folds(alloc, group.folds.as_slice(), row)?;
@@ -33,8 +37,8 @@ impl Part {
     }
 
     /// Of one row more.
-    pub(crate) fn add(&mut self, group: &Group, row: &Row) -> Result<(), NoMemory>
-        ensures { (rows : List RowValue) → IsPart group.now rows self.old → OnOk result (IsPart group.now (rows ++ row.now ∷ []) self.new) }
+    pub(crate) fn add<R: FoundRow>(&mut self, group: &Group, row: &R) -> Result<(), NoMemory>
+        ensures { (rows : List RowValue) → IsPart group.now rows self.old → OnOk result (IsPart group.now (rows ++ R.as_row row.now ∷ []) self.new) }
     {
         keep_first(&mut self.best, &group.within, row)?;
         add_to_folds(&mut self.folds, row)?;
@@ -56,8 +60,12 @@ impl Part {
 }
 
 /// The aggregates of one row.
-fn first_folds(alloc: Global, folds: &[Fold], row: &Row) -> Result<Vec<Running>, NoMemory>
-    ensures { IfOk result (λ running. AreRunning folds.now (row.now ∷ []) running.items) }
+fn first_folds<R: FoundRow>(
+    alloc: Global,
+    folds: &[Fold],
+    row: &R,
+) -> Result<Vec<Running>, NoMemory>
+    ensures { IfOk result (λ running. AreRunning folds.now (R.as_row row.now ∷ []) running.items) }
 {
     let mut running = Vec::with_capacity(alloc, folds.len())?;
     for fold in folds {
@@ -67,8 +75,8 @@ fn first_folds(alloc: Global, folds: &[Fold], row: &Row) -> Result<Vec<Running>,
 }
 
 /// The aggregates of one row more.
-fn add_to_folds(folds: &mut [Running], row: &Row) -> Result<(), NoMemory>
-    ensures { (which : List FoldValue) (rows : List RowValue) → AreRunning which rows folds.old → OnOk result (AreRunning which (rows ++ row.now ∷ []) folds.new) }
+fn add_to_folds<R: FoundRow>(folds: &mut [Running], row: &R) -> Result<(), NoMemory>
+    ensures { (which : List FoldValue) (rows : List RowValue) → AreRunning which rows folds.old → OnOk result (AreRunning which (rows ++ R.as_row row.now ∷ []) folds.new) }
 {
     for fold in folds.iter_mut() {
         fold.add(row)?;
@@ -77,8 +85,8 @@ fn add_to_folds(folds: &mut [Running], row: &Row) -> Result<(), NoMemory>
 }
 
 /// Puts a row in the place of the first, where it comes before that.
-fn keep_first(first: &mut Row, within: &Order, row: &Row) -> Result<(), NoMemory>
-    ensures { (rows : List RowValue) → IsFirst within.now.keys rows first.old → OnOk result (IsFirst within.now.keys (rows ++ row.now ∷ []) first.new) }
+fn keep_first<R: FoundRow>(first: &mut Row, within: &Order, row: &R) -> Result<(), NoMemory>
+    ensures { (rows : List RowValue) → IsFirst within.now.keys rows first.old → OnOk result (IsFirst within.now.keys (rows ++ R.as_row row.now ∷ []) first.new) }
 {
     if within.compare(row, first).is_lt() {
         *first = row.copy()?;

@@ -1,7 +1,7 @@
 //! Groups and facets as sinks: what a search finds is offered to them in its one pass.
 use crate::facet_counts::FacetCounts;
 use crate::groups::Groups;
-use row_select::{Row, Sink};
+use row_select::{FoundRow, Sink};
 use srch_base::NoMemory;
 
 impl Sink for Groups<'_> {
@@ -13,7 +13,7 @@ impl Sink for Groups<'_> {
 
     ghost nothing = { λ first group so. so };
 
-    fn offer(&mut self, row: &Row) -> Result<(), NoMemory> {
+    fn offer<R: FoundRow>(&mut self, row: &R) -> Result<(), NoMemory> {
         Groups::offer(self, row)?;
         Ok(())
     }
@@ -28,7 +28,7 @@ impl Sink for FacetCounts<'_> {
 
     ghost nothing = { λ first facet so. so };
 
-    fn offer(&mut self, row: &Row) -> Result<(), NoMemory> {
+    fn offer<R: FoundRow>(&mut self, row: &R) -> Result<(), NoMemory> {
         FacetCounts::offer(self, row)?;
         Ok(())
     }

@@ -15,18 +15,18 @@ one_more : (own : List Row) (row : Row) (n m : ℕ) → m ≡ n + 1 → n ≡ le
 one_more own row n m more is = omega (arith, more, is, length-append own (row ∷ []))
 
 pub returns-in_ok-count-in-Some : goal.returns-in_ok-count-in-Some
-returns-in_ok-count-in-Some c = λ facet offered so.
+returns-in_ok-count-in-Some g c = λ facet offered so.
     let w = c.in_ok-count-in-Some.field-0 in
     let held : ℤ = to_z w128 (of_z w128 c.value-value.result) in
     let back : held ≡ c.value-value.result = search rules in
     let more : w ≡ c.in-Some.count.now + 1 = search rules in
-    let its = old_row (group_key (Some facet.column)) (λ rows n. n ≡ length rows) offered c.args.row.now c.args.self.now.counts.entries (c.get_mut.follows.lender w).entries held c.in-Some.count.now w
-    (back ∙ c.value-value.ensures ∙ ap (λ (f : Facet). column_value f.column c.args.row.now) so.asked) c.get_mut.ensures.unique so.keys (sym c.in-Some.ensures.value) (c.get_mut.follows.holds w).0 (c.get_mut.follows.holds w).1
-    (λ own. one_more own c.args.row.now c.in-Some.count.now w more) so.counts in
+    let its = old_row (group_key (Some facet.column)) (λ rows n. n ≡ length rows) offered (g.R.FoundRow.as_row c.args.row.now) c.args.self.now.counts.entries (c.get_mut.follows.lender w).entries held c.in-Some.count.now w
+    (back ∙ c.value-value.ensures ∙ ap (λ (f : Facet). column_value f.column (g.R.FoundRow.as_row c.args.row.now)) so.asked) c.get_mut.ensures.unique so.keys (sym c.in-Some.ensures.value) (c.get_mut.follows.holds w).0 (c.get_mut.follows.holds w).1
+    (λ own. one_more own (g.R.FoundRow.as_row c.args.row.now) c.in-Some.count.now w more) so.counts in
     record { asked = so.asked; keys = its.0; counts = its.1 }
 
 pub returns-in_ok-insert-in-None : goal.returns-in_ok-insert-in-None
-returns-in_ok-insert-in-None c = λ facet offered so.
+returns-in_ok-insert-in-None g c = λ facet offered so.
     let held : ℤ = to_z w128 (of_z w128 c.value-value.result) in
     let back : held ≡ c.value-value.result = search rules in
     let same : c.get_mut.follows.lender-at-none ≡ c.args.self.now.counts = c.get_mut.follows.holds-at-none in
@@ -34,6 +34,6 @@ returns-in_ok-insert-in-None c = λ facet offered so.
     let entered : c.insert.new.self.entries ≡ insert_entry int_eq c.get_mut.follows.lender-at-none.entries held 1 = search rules in
     let longer : c.insert.new.self.entries ≡ c.args.self.now.counts.entries ++ (held, 1) ∷ [] =
     entered ∙ ap (λ m. insert_entry int_eq m.entries held 1) same ∙ insert_entry-new int_eq c.args.self.now.counts held 1 none in
-    let its = new_row (group_key (Some facet.column)) (λ rows n. n ≡ length rows) offered c.args.row.now c.args.self.now.counts.entries c.insert.new.self.entries held 1
-    (back ∙ c.value-value.ensures ∙ ap (λ (f : Facet). column_value f.column c.args.row.now) so.asked) so.keys none longer (omega arith) so.counts in
+    let its = new_row (group_key (Some facet.column)) (λ rows n. n ≡ length rows) offered (g.R.FoundRow.as_row c.args.row.now) c.args.self.now.counts.entries c.insert.new.self.entries held 1
+    (back ∙ c.value-value.ensures ∙ ap (λ (f : Facet). column_value f.column (g.R.FoundRow.as_row c.args.row.now)) so.asked) so.keys none longer (omega arith) so.counts in
     record { asked = so.asked; keys = its.0; counts = its.1 }
