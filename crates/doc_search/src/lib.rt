@@ -5,7 +5,6 @@ mod laws;
 mod listed_rows;
 mod question;
 mod ready;
-mod rows;
 mod searching;
 
 pub use laws::a_search_shows_one_list;

@@ -2,9 +2,9 @@
 //! collector for the page, groups, a facet, a count, or several of these.
 //!
 //! A document's conditions that look at no weight come before its hits, since to find these the places of its words are read. They
-//! are asked of the chunk, which reads the columns alone that they look at; the row with all values is made of a document that is
-//! found. Of rows that conditions on the id rule out none is looked at. Nothing is kept of a document but what the sink takes, and
-//! one row and one list of hits serve for all of them.
+//! are asked of the document where it stands in the chunk, and so is all that the sink looks at: of a document that is found no
+//! column is read that isn't asked for, and who keeps it makes the copy. Of rows that conditions on the id rule out none is looked
+//! at. Nothing is kept of a document but what the sink takes, and one list of hits serves for all of them.
 ghost use Rattle.std.specs.Prelude.{◌≡◌, ◌+◌, ◌<◌, ◌≤◌, ◌++◌, ◌∷◌, [], List, IfOk, OnOk, All, AllPairs, Some, true, length, slice_get};
 ghost use Rattle.std.specs.List.{filter};
 ghost use Rattle.doc_types.specs.declared.documents.DocRow.{DocRow};
@@ -23,12 +23,11 @@ ghost use Rattle.doc_search.specs.steps.Gathering.{Gathers, IsAskedOfDocs, IsWei
 use crate::listed_rows::ListedRows;
 use crate::question::Question;
 use crate::ready::ReadyQuestion;
-use crate::rows::{Scratch, read_row};
 use doc_types::{Chunk, Counted, CountedLists, HitLists, Hits, Layer, Snapshot};
 use op_eval::Matches;
 use rankers::{Ranker, weight};
-use row_select::{Collector, Row, Sink};
-use srch_base::{NoMemory, Steps};
+use row_select::{ChunkRow, Collector, Row, Sink};
+use srch_base::{Items, NoMemory, Steps};
 use std::alloc::Global;
 use std::marker::Brand;
 use std::sync::ledger::{Blank, Ledger};
@@ -78,18 +77,26 @@ fn search_layers<L: Ledger, C: HitLists, S: Sink>(
 {
     let asked = ReadyQuestion::over(alloc, question)?;
     let mut steps = Steps::<L>::new(blank);
-    let mut scratch = Scratch::new(alloc);
+    let mut hits = no_hits(alloc);
     for layer in layers {
-        collect_layer(&asked, layer, &mut scratch, sink, &mut steps)?;
+        collect_layer(&asked, layer, &mut hits, sink, &mut steps)?;
     }
     Ok(())
+}
+
+/// No hits. They take no memory.
+fn no_hits(alloc: Global) -> Hits {
+    Hits {
+        keywords: 0,
+        list: Items::new(Vec::new(alloc)),
+    }
 }
 
 /// Offers what is found in a layer, with its lists counted in the ledger of the steps.
 fn collect_layer<L: Ledger, C: HitLists, S: Sink>(
     asked: &ReadyQuestion<'_>,
     layer: &Layer<C>,
-    scratch: &mut Scratch,
+    hits: &mut Hits,
     sink: &mut S,
     steps: &mut Steps<L>,
 ) -> Result<(), NoMemory>
@@ -103,7 +110,7 @@ fn collect_layer<L: Ledger, C: HitLists, S: Sink>(
     let mut listed = ListedRows::over(&counted, &asked.conditions);
     let mut at = 0;
     'rows: while let Some(number) = next_row(&mut stream, &mut listed, &counted, at) {
-        collect_row(asked, &counted, number, &mut stream, scratch, sink, steps)?;
+        collect_row(asked, &counted, number, &mut stream, hits, sink, steps)?;
         at = number + 1;
     }
     Ok(())
@@ -145,7 +152,7 @@ fn collect_row<C: CountedLists, S: Sink>(
     chunk: &C,
     number: u32,
     stream: &mut Matches<'_, C>,
-    scratch: &mut Scratch,
+    hits: &mut Hits,
     sink: &mut S,
     steps: &mut Steps<C::Book>,
 ) -> Result<(), NoMemory>
@@ -154,15 +161,13 @@ fn collect_row<C: CountedLists, S: Sink>(
     ensures goes_on { OnOk result (stream.new ≡ record stream.old { at = number + 1 }) }
     ensures gathers { (first : S) (before : List DocRow) (doc : DocRow) → slice_get (C.content chunk.now) number ≡ Some doc → Gathers S.Took asked.now first before sink.old → OnOk result (Gathers S.Took asked.now first (before ++ filter (matches asked.now.query) (doc ∷ [])) sink.new) }
 {
-    if !asked
-        .conditions
-        .hold_unweighed_of(chunk, number, asked.question.attrs)
-    {
+    let unweighed = ChunkRow::new(asked.alloc, chunk, number, asked.question.attrs, 0);
+    if !asked.conditions.hold_unweighed(&unweighed) {
         stream.skip();
         return Ok(());
     }
-    match weight_of(asked, stream, &mut scratch.hits, steps)? {
-        Some(weight) => offer(asked, chunk, number, weight, &mut scratch.row, sink),
+    match weight_of(asked, stream, hits, steps)? {
+        Some(weight) => offer(asked, chunk, number, weight, sink),
         None => Ok(()),
     }
 }
@@ -220,14 +225,12 @@ fn weight_ranked<C: CountedLists>(
     Ok(Some(weight(question.ranker, hits, &question.weights)))
 }
 
-/// Offers a document that matches and passed the conditions that look at no weight, if it passes the others too. Only then its
-/// values are copied.
+/// Offers a document that matches and passed the conditions that look at no weight, if it passes the others too.
 fn offer<C: Chunk, S: Sink>(
     asked: &ReadyQuestion<'_>,
     chunk: &C,
     number: u32,
     weight: u64,
-    row: &mut Row,
     sink: &mut S,
 ) -> Result<(), NoMemory>
     requires asked { IsAskedOfDocs asked.now (C.content chunk.now) }
@@ -235,10 +238,9 @@ fn offer<C: Chunk, S: Sink>(
     requires passes { (doc : DocRow) → slice_get (C.content chunk.now) number ≡ Some doc → hold_unweighed asked.now.filters (unweighed doc) ≡ true }
     ensures { (first : S) (before : List DocRow) (doc : DocRow) → slice_get (C.content chunk.now) number ≡ Some doc → IsWeighed asked.now doc (Some weight) → Gathers S.Took asked.now first before sink.old → OnOk result (Gathers S.Took asked.now first (before ++ doc ∷ []) sink.new) }
 {
-    row.weight = weight;
-    if asked.conditions.hold_weighed(row) {
-        read_row(asked.alloc, chunk, number, asked.question.attrs, row)?;
-        sink.offer(row)?;
+    let row = ChunkRow::new(asked.alloc, chunk, number, asked.question.attrs, weight);
+    if asked.conditions.hold_weighed(&row) {
+        sink.offer(&row)?;
     }
     Ok(())
 }

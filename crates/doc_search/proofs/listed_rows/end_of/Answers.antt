@@ -9,10 +9,10 @@ returns-in-None g c = λ question same k doc behind here.
 
 pub returns-then-has_id : goal.returns-then-has_id
 returns-then-has_id g c = λ question same.
-    end_at question (g.C.Chunk.content c.args.chunk.now) c.args.conditions.now same c.requires c.in-Some.high.now c.first_from-last.result c.in-Some.ensures c.first_from-last.ensures
+    end_at question (g.C.Chunk.content c.args.chunk.now) c.args.conditions.now same c.requires c.in-Some.high.now c.first_from-last.result c.in-Some.ensures.high c.first_from-last.ensures
     c.has_id.result (c.has_id.ensures.within c.if-has_id.true) c.has_id.ensures.told c.if-has_id.true
 
 pub returns-else-has_id : goal.returns-else-has_id
 returns-else-has_id g c = λ question same.
-    end_before question (g.C.Chunk.content c.args.chunk.now) c.args.conditions.now same c.requires c.in-Some.high.now c.first_from-last.result c.in-Some.ensures c.first_from-last.ensures
+    end_before question (g.C.Chunk.content c.args.chunk.now) c.args.conditions.now same c.requires c.in-Some.high.now c.first_from-last.result c.in-Some.ensures.high c.first_from-last.ensures
     c.has_id.result c.has_id.ensures.told c.if-has_id.false
