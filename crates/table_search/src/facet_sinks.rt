@@ -7,7 +7,7 @@ ghost use Rattle.row_select.specs.declared.row.Row.{Row as RowValue};
 ghost use Rattle.table_search.specs.Gathering.{GatherFacets};
 
 use group_facet::{Facet, FacetCounts};
-use row_select::{Row, Sink};
+use row_select::{FoundRow, Sink};
 use srch_base::{Items, NoMemory};
 use std::alloc::Global;
 
@@ -53,8 +53,8 @@ fn finish_all(
 }
 
 /// Offers a row to each facet.
-fn offer_to_all(list: &mut [FacetCounts<'_>], row: &Row) -> Result<(), NoMemory>
-    ensures { (facets : List FacetValue) (offered : List RowValue) → GatherFacets facets offered list.old → OnOk result (GatherFacets facets (offered ++ row.now ∷ []) list.new) }
+fn offer_to_all<R: FoundRow>(list: &mut [FacetCounts<'_>], row: &R) -> Result<(), NoMemory>
+    ensures { (facets : List FacetValue) (offered : List RowValue) → GatherFacets facets offered list.old → OnOk result (GatherFacets facets (offered ++ R.as_row row.now ∷ []) list.new) }
 {
     for counts in list.iter_mut() {
         counts.offer(row)?;
@@ -71,7 +71,7 @@ impl Sink for FacetSinks<'_> {
 
     ghost nothing = { λ first facets so. so };
 
-    fn offer(&mut self, row: &Row) -> Result<(), NoMemory> {
+    fn offer<R: FoundRow>(&mut self, row: &R) -> Result<(), NoMemory> {
         offer_to_all(&mut self.list, row)
     }
 }
