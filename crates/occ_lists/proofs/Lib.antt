@@ -8,6 +8,8 @@ pub mod Between
 pub mod Beginning
 -- NEAR as two passes
 pub mod NearPairs
+-- places close to one, and what NEAR makes of them
+pub mod ClosePlaces
 -- the boundaries next to a position
 pub mod Boundaries
 -- SENTENCE and PARAGRAPH

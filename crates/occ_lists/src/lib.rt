@@ -4,6 +4,7 @@
 mod buffers;
 mod cover;
 mod joins;
+mod nearness;
 mod occ;
 mod order;
 mod places;
@@ -15,6 +16,7 @@ mod windows;
 pub use buffers::Buffers;
 pub use cover::Cover;
 pub use joins::{put_before, put_near, put_together};
+pub use nearness::stand_apart;
 pub use occ::Occ;
 pub use order::sort_distinct;
 pub use places::within;

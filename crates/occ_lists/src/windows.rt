@@ -24,21 +24,24 @@ struct Proximity {
     size: u64,
 }
 
-/// Appends the windows of a proximity n of the keywords, by their places inside the spans.
+/// Appends the windows of a proximity n of the keywords, by their places inside the spans, and to a list of their own the widest of
+/// those from each place at which one begins, which hold the places that the windows hold.
 ///
-/// They may be many: from each place each place that n lets it reach.
+/// The windows may be many: from each place each place that n lets it reach.
 pub fn put_windows(
     n: u32,
     terms: &[Term],
     spans: &[(u16, ZoneSpan)],
     buffers: &mut Buffers,
     out: &mut Vec<Occ>,
+    longest: &mut Vec<Occ>,
 ) -> Result<(), NoMemory>
     requires { All IsPlaced terms.now }
-    ensures { OnOk result (SameMembers out.new.items (out.old.items ++ windows n (listed_in spans.now terms.now))) }
+    ensures windows { OnOk result (SameMembers out.new.items (out.old.items ++ windows n (listed_in spans.now terms.now))) }
+    ensures widest { OnOk result (CoverAlike longest.old.items longest.new.items (windows n (listed_in spans.now terms.now))) }
 {
     let proximity = gathered(n, terms, spans, buffers)?;
-    proximity.put_all(out)?;
+    proximity.put_both(out, longest)?;
     keep(proximity, buffers);
     Ok(())
 }
@@ -61,13 +64,16 @@ pub fn put_widest(
 }
 
 impl Proximity {
-    /// Appends the windows from each place to each at which one ends.
-    fn put_all(&self, out: &mut Vec<Occ>) -> Result<(), NoMemory>
+    /// Appends the windows from each place to each at which one ends, and to the other list that to the last of these.
+    fn put_both(&self, out: &mut Vec<Occ>, longest: &mut Vec<Occ>) -> Result<(), NoMemory>
         requires { IsSorted self.now }
-        ensures { OnOk result (out.new.items ≡ out.old.items ++ made self.now) }
+        ensures made { OnOk result (out.new.items ≡ out.old.items ++ made self.now) }
+        ensures widest { OnOk result (longest.new.items ≡ longest.old.items ++ widest self.now) }
     {
         for from in self.all.iter() {
-            put_each(*from, self.ends_from(*from), out)?;
+            let ends = self.ends_from(*from);
+            put_each(*from, ends, out)?;
+            put_last(*from, ends, longest)?;
         }
         Ok(())
     }
