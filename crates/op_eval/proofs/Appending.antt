@@ -2,7 +2,7 @@
 use Rattle.std.proofs.Common.{◌≡◌, ℕ, Bool, true, false, cond, List, [], ◌∷◌, ◌++◌, length, take, refl, sym, ◌∙◌, ap, subst, append_assoc, append-nil, inl, inr, arith}
 use Rattle.std.specs.Prelude.{◌&&◌, ◌||◌, ◌==◌, not}
 use Rattle.std.specs.List.{filter, flat_map, list_all, list_any}
-use Rattle.std.proofs.lemmas.Bool.{cases_Bool, cond-true, cond-false, and_from, ne_eqb}
+use Rattle.std.proofs.lemmas.Bool.{cases_Bool, cond-true, cond-false, and_from, ne_eqb, true≢false}
 use Rattle.std.proofs.lemmas.List.{take_at}
 use Rattle.std.proofs.lemmas.List.Concat.{flat_map-append}
 use Rattle.std.proofs.lemmas.List.Elements.{filter_agree}
@@ -13,7 +13,7 @@ use Rattle.occ_lists.specs.Places.{holds}
 use Rattle.occ_lists.specs.Joined.{before, is_near, hull, same_field, ends_before, crosses}
 use Rattle.occ_lists.specs.OccLists.{SameMembers}
 use Rattle.occ_lists.specs.Terms.{CoverAlike}
-use Rattle.occ_lists.proofs.Members.{same_refl, same_is, same_trans, same_append, same_filter, same_pairs}
+use Rattle.occ_lists.proofs.Members.{same_refl, same_is, same_trans, same_append, same_filter, same_pairs, same_empty}
 use Rattle.op_eval.specs.declared.finding.Finding.{Finding}
 use Rattle.op_eval.specs.declared.joining.Join.{Join}
 use Rattle.op_eval.specs.declared.joining.Join.TheVariants as joins
@@ -80,6 +80,24 @@ cover_alike old new occs none c =
 pub not_empty : {X : Type 0} (empty : Bool) (n : ℕ) (xs : List X) → n ≡ length xs → empty ≡ (n == 0) → not empty ≡ is_some xs
 not_empty empty n [] long is = ap not (is ∙ ap (λ m. m == 0) long)
 not_empty empty n (x ∷ xs) long is = ap not (is ∙ ap (λ m. m == 0) long ∙ ne_eqb (length (x ∷ xs)) 0 (λ e. absurd (omega (arith, e))))
+
+nothing_inside : (hits : List Hit) → filter (is_inside []) hits ≡ []
+nothing_inside [] = refl
+nothing_inside (hit ∷ hits) = nothing_inside hits
+
+-- of no occurrences
+pub made_none : {short : Type 0} (occs : List Occ) (hits : List Hit) (old : Finding) → occs ≡ [] → Finds short (made occs hits) old old false
+made_none {short} occs hits old none =
+    subst (λ (list : List Occ). Finds short (made list hits) old old false) (sym none) (record {
+      matches = refl;
+      occurrences = appends_none old.occs.items;
+      hits = λ is. subst (Appends old.hits.items old.hits.items) (sym (nothing_inside hits)) (appends_none old.hits.items);
+    })
+
+-- a list with these members, by its length
+pub empty_same : {X : Type 0} (n : ℕ) (xs ys : List X) → n ≡ length xs → (n == 0) ≡ true → SameMembers xs ys → ys ≡ []
+empty_same n [] ys long is same = same_empty [] ys same refl
+empty_same n (x ∷ xs) ys long is same = absurd (true≢false (sym is ∙ ap (λ m. m == 0) long ∙ ne_eqb (length (x ∷ xs)) 0 (λ e. absurd (omega (arith, e)))))
 
 pub made_same : {short : Type 0} (occs other : List Occ) (hits more : List Hit) (old new : Finding) (told : Bool) → SameMembers occs other → (short → SameMembers hits more) → Finds (Unit {0}) (made occs hits) old new told → Finds short (made other more) old new told
 made_same occs other hits more old new told same hit f = record {

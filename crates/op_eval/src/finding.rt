@@ -11,6 +11,7 @@ ghost use Rattle.word_rows.specs.RowMarks.{AreMarks};
 ghost use Rattle.op_eval.specs.steps.Evaluating.{Finds, Holds, OfEachItem, OfEachPair, OfEachRow, founds_in, join_by, part_finds, part_in};
 ghost use Rattle.word_rows.specs.Terms.{IsShort};
 
+use crate::apart::are_apart;
 use crate::joining::{Join, put_made};
 use crate::matching::{Work, is_among, terms_first, terms_last};
 use crate::quoting::{find_quoted, find_words};
@@ -228,6 +229,9 @@ fn find_joined(
     ensures found { OfEachPair a.now b.now terms.now marks.now (λ row number. IfOk result (λ told. Finds (IsShort number) (joined (join_by marks.now join) (node_finds row number a.now work.old.spans.items) (node_finds row number b.now work.old.spans.items)) out.old out.new told)) }
 {
     let (left, right) = terms_last(b, terms);
+    if are_apart(join, a, b, left, right, &work.spans) {
+        return Ok(false);
+    }
     let first = find_apart(a, left, marks, work)?;
     let second = find_apart(b, right, marks, work)?;
     put_made(join, first, second, marks, &mut work.buffers, out)

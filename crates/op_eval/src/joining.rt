@@ -95,6 +95,12 @@ pub(crate) fn put_made(
 {
     let mut made = buffers.take_occs();
     put_joined(join, &first.occs, &second.occs, marks, &mut made)?;
+    if made.is_empty() {
+        buffers.keep_occs(made);
+        first.keep(buffers);
+        second.keep(buffers);
+        return Ok(false);
+    }
     out.occs.extend_from_slice(&made)?;
     let Finding { occs, mut hits } = first;
     buffers.keep_occs(occs);

@@ -1,6 +1,7 @@
 //! Which rows of a chunk match a query, and where.
 #![tactic(auto)]
 
+mod apart;
 mod calls;
 mod finding;
 mod joining;

@@ -17,7 +17,7 @@ use crate::joining::put_inside;
 use crate::matching::Work;
 use crate::quorum::is_enough;
 use doc_types::{Hit, ZoneSpan};
-use occ_lists::{Occ, Term, put_runs, put_widest, put_windows, within};
+use occ_lists::{Occ, Term, put_runs, put_windows, within};
 use query_tree::How;
 use srch_base::NoMemory;
 
@@ -176,6 +176,10 @@ fn find_phrase(terms: &[Term], work: &mut Work, out: &mut Finding) -> Result<boo
     let mut runs = work.buffers.take_occs();
     put_runs(terms, &work.spans, &mut ends, &mut runs)?;
     work.buffers.keep_places(ends);
+    if runs.is_empty() {
+        work.buffers.keep_occs(runs);
+        return Ok(false);
+    }
     out.occs.extend_from_slice(&runs)?;
     let mut hits = work.buffers.take_hits();
     put_hits(terms, &work.spans, &mut hits)?;
@@ -195,11 +199,22 @@ fn find_proximity(
     ensures found { IfOk result (λ told. Finds (AreShort terms.now) (made (windows n (listed_in work.old.spans.items terms.now)) (flat_map (term_hits work.old.spans.items) terms.now)) out.old out.new told) }
 {
     let mut windows = work.buffers.take_occs();
-    put_windows(n, terms, &work.spans, &mut work.buffers, &mut windows)?;
+    let mut widest = work.buffers.take_occs();
+    put_windows(
+        n,
+        terms,
+        &work.spans,
+        &mut work.buffers,
+        &mut windows,
+        &mut widest,
+    )?;
+    if windows.is_empty() {
+        work.buffers.keep_occs(windows);
+        work.buffers.keep_occs(widest);
+        return Ok(false);
+    }
     out.occs.extend_from_slice(&windows)?;
     work.buffers.keep_occs(windows);
-    let mut widest = work.buffers.take_occs();
-    put_widest(n, terms, &work.spans, &mut work.buffers, &mut widest)?;
     let mut hits = work.buffers.take_hits();
     put_hits(terms, &work.spans, &mut hits)?;
     let some = put_inside(widest, hits, &mut work.buffers, out)?;

@@ -156,7 +156,7 @@ impl<'q> Search<'q> {
     {
         found.clear();
         seek(&mut self.slots, &mut self.known, chunk, row);
-        if !may_match(self.root, &self.slots.terms) {
+        if is_ruled_out(self.vetoed, self.root, &self.slots.terms) {
             return Ok(false);
         }
         self.load(chunk, row, steps)?;
@@ -223,6 +223,13 @@ fn is_row(known: Option<u32>, row: u32) -> bool
         Some(known) => known == row,
         None => false,
     }
+}
+
+/// Whether the row's words rule it out. Where none of them vetoes, a row of whose words the plan holds isn't looked at again.
+fn is_ruled_out(vetoed: bool, root: &Node, terms: &[Term]) -> bool
+    ensures { result ≡ true → (row : DocRow) (number : List ℕ → ℕ) → AreApart number (node_keys root.now) → AreSeenIn row (node_keys root.now) terms.now → (node_finds row number root.now []).matches ≡ false }
+{
+    vetoed && !may_match(root, terms)
 }
 
 /// Whether a row may match, as far as its words tell.

@@ -1,4 +1,4 @@
-use Rattle.std.proofs.Common.{ℕ, true, List, [], ◌∷◌, get_or, map, take, IfOk, refl, ap, ◌∙◌, subst}
+use Rattle.std.proofs.Common.{◌≡◌, ℕ, true, List, [], ◌∷◌, ◌++◌, get_or, map, take, IfOk, refl, ap, ◌∙◌, subst}
 use Rattle.std.specs.List.{flat_map}
 use Rattle.std.proofs.lemmas.List.{take_all}
 use Rattle.query_tree.specs.declared.query.Item.{Item}
@@ -6,10 +6,10 @@ use Rattle.query_tree.specs.TreeKeys.{node_keys}
 use Rattle.op_eval.specs.declared.joining.Join.TheVariants as joins
 use Rattle.word_rows.specs.Keywords.{Spans}
 use Rattle.op_eval.specs.Finding.{Found, all_of, any_of, node_finds}
-use Rattle.op_eval.specs.steps.Evaluating.{Finds, Holds, founds_in, part_finds, part_in}
+use Rattle.op_eval.specs.steps.Evaluating.{Finds, Holds, founds_in, join_by, part_finds, part_in}
 use Rattle.word_rows.specs.Terms.{IsShort, IsTermOf}
 use Rattle.op_eval.specs.steps.Worded.{quoted_by, term_places, worded}
-use Rattle.op_eval.proofs.Appending.{finds_either, finds_hardly, finds_perhaps, passed_all}
+use Rattle.op_eval.proofs.Appending.{finds_either, finds_hardly, finds_perhaps, made_none, passed_all}
 use Rattle.op_eval.proofs.Forward.{forward_places, forward_quoted, forward_same}
 use Rattle.op_eval.proofs.NodeParts.{either_found, items_found, joined_found, perhaps_found, span_found, told_forward, told_joined, told_when}
 use Rattle.op_eval.proofs.SoundFindings.{sound}
@@ -114,6 +114,14 @@ find_joined-returns-clause-found t c = λ row number z left right.
     told_joined c.args.marks.now c.args.join c.in_ok-first.first c.in_ok-second.second (node_finds row number c.args.a.now spans) (node_finds row number c.args.b.now spans) c.args.out.now c.put_made.new.out c.put_made.result c.put_made.ensures.found
     (c.in_ok-first.ensures.found row number parts.0 left)
     (subst (λ (s : Spans). Holds (IsShort number) (node_finds row number c.args.b.now s) c.in_ok-second.second) c.in_ok-first.ensures.spans (c.in_ok-second.ensures.found row number parts.1 right))
+
+pub find_joined-returns-then-are_apart-clause-found : goal.find_joined-returns-then-are_apart-clause-found
+find_joined-returns-then-are_apart-clause-found t c = λ row number z left right.
+    let parts = zip_last (IsTermOf row number) (node_keys c.args.a.now) (node_keys c.args.b.now) c.args.terms.now c.terms_last.result.0.now c.terms_last.result.1.now z c.terms_last.ensures.whole c.terms_last.ensures.own in
+    let spans = c.args.work.now.spans.items in
+    let occs = λ (s : Spans). join_by c.args.marks.now c.args.join (node_finds row number c.args.a.now s).occurrences (node_finds row number c.args.b.now s).occurrences in
+    made_none (occs spans) ((node_finds row number c.args.a.now spans).hits ++ (node_finds row number c.args.b.now spans).hits) c.args.out.now
+    (subst (λ (s : Spans). occs s ≡ []) c.deref.ensures.value (c.are_apart.ensures c.if-are_apart.true row number c.args.marks.now parts.0 parts.1))
 
 pub find_apart-returns-clause-forward : goal.find_apart-returns-clause-forward
 find_apart-returns-clause-forward t c = forward_same c.sort_distinct.new.list.items c.find.new.out.occs.items c.sort_distinct.ensures.same c.in_ok-find.ensures.forward

@@ -1,4 +1,4 @@
-use Rattle.std.proofs.Common.{◌≡◌, false, Bor, map, All, IfOk, subst, sym, ap, ◌∙◌, rules}
+use Rattle.std.proofs.Common.{◌≡◌, false, Bor, map, All, IfOk, subst, sym, ap, ◌∙◌}
 use Rattle.std.specs.List.{list_any}
 use Rattle.query_tree.specs.declared.key.Key.{Key}
 use Rattle.query_tree.specs.TreeKeys.{node_keys}
@@ -15,28 +15,28 @@ use Rattle.op_eval.proofs.search.Search.find.Goals as goal
 pub find-told-requires-clause-placed : goal.find-told-requires-clause-placed
 find-told-requires-clause-placed g c = subst (All IsPlaced) (sym c.deref-2.ensures.value) c.in_ok-load.ensures.placed
 
-pub returns-then-not-may_match-clause-told : goal.returns-then-not-may_match-clause-told
-returns-then-not-may_match-clause-told g c = λ found here.
+pub returns-then-is_ruled_out-clause-told : goal.returns-then-is_ruled_out-clause-told
+returns-then-is_ruled_out-clause-told g c = λ found here.
     let node = c.args.self.now.root.now in
     sym
-    (c.may_match.ensures (search rules) found (number_among (node_keys node)) (node_apart node)
+    (c.is_ruled_out.ensures c.if-is_ruled_out.true found (number_among (node_keys node)) (node_apart node)
     (seen_as found (keys_of c.seek.new.slots) (node_keys node) c.seek.new.slots.terms.items c.deref.result.now
     (ap (λ keys. map (λ (key : Bor Key). key.now) keys.items) c.seek.ensures.keys ∙ c.requires.search.keys) c.deref.ensures.value (c.seek.ensures.seen found here)))
 
-pub returns-then-not-may_match-clause-occs : goal.returns-then-not-may_match-clause-occs
-returns-then-not-may_match-clause-occs g c = λ found here passes.
+pub returns-then-is_ruled_out-clause-occs : goal.returns-then-is_ruled_out-clause-occs
+returns-then-is_ruled_out-clause-occs g c = λ found here passes.
     let node = c.args.self.now.root.now in
     let fails : (node_found node found).matches ≡ false =
-    c.may_match.ensures (search rules) found (number_among (node_keys node)) (node_apart node)
+    c.is_ruled_out.ensures c.if-is_ruled_out.true found (number_among (node_keys node)) (node_apart node)
     (seen_as found (keys_of c.seek.new.slots) (node_keys node) c.seek.new.slots.terms.items c.deref.result.now
     (ap (λ keys. map (λ (key : Bor Key). key.now) keys.items) c.seek.ensures.keys ∙ c.requires.search.keys) c.deref.ensures.value (c.seek.ensures.seen found here)) in
     ap (list_any passes) (c.clear.ensures.occs ∙ sym (ap (λ (all : Found). all.occurrences) (nothing_found node found fails)))
 
-pub returns-then-not-may_match-clause-hits : goal.returns-then-not-may_match-clause-hits
-returns-then-not-may_match-clause-hits g c = λ found here few passes.
+pub returns-then-is_ruled_out-clause-hits : goal.returns-then-is_ruled_out-clause-hits
+returns-then-is_ruled_out-clause-hits g c = λ found here few passes.
     let node = c.args.self.now.root.now in
     let fails : (node_found node found).matches ≡ false =
-    c.may_match.ensures (search rules) found (number_among (node_keys node)) (node_apart node)
+    c.is_ruled_out.ensures c.if-is_ruled_out.true found (number_among (node_keys node)) (node_apart node)
     (seen_as found (keys_of c.seek.new.slots) (node_keys node) c.seek.new.slots.terms.items c.deref.result.now
     (ap (λ keys. map (λ (key : Bor Key). key.now) keys.items) c.seek.ensures.keys ∙ c.requires.search.keys) c.deref.ensures.value (c.seek.ensures.seen found here)) in
     ap (list_any passes) (c.clear.ensures.hits ∙ sym (ap (λ (all : Found). all.hits) (nothing_found node found fails)))
