@@ -25,7 +25,7 @@ first_kept : (b rest : Bool) (hit : Hit) (kept : List Hit) → (rest ≡ true �
 first_kept true rest hit kept later some = omega arith
 first_kept false rest hit kept later some = later some
 
-some_kept : (p : Hit → Bool) (hits : List Hit) → list_any p hits ≡ true → 0 < length (filter p hits)
+pub some_kept : (p : Hit → Bool) (hits : List Hit) → list_any p hits ≡ true → 0 < length (filter p hits)
 some_kept p [] some = absurd (false≢true some)
 some_kept p (hit ∷ hits) some = first_kept (p hit) (list_any p hits) hit (filter p hits) (some_kept p hits) some
 
@@ -70,29 +70,27 @@ module _ (words together most weight : ℕ) (few : words ≤ 16777216) (short : 
       let whole = mul-le (words + (together - 1) * most) weight 272747200258 MAX_FIELD_WEIGHT (omega arith) light in
       omega arith
 
--- the sum of what so many fields give
-pub record IsSummed (ranker : Ranker) (most : ℕ) (weights : List ℕ) (hits : List Hit) (count total : ℕ) : Type 0 where
-  pub value : total ≡ sum_by (λ e. field_value ranker most e.0 e.1 hits) (take count (enumerate_from 0 weights))
+-- the sum of what so many fields give, by their numbers and weights
+pub record IsSummed (gives : ℕ → ℕ → ℕ) (weights : List ℕ) (count total : ℕ) : Type 0 where
+  pub value : total ≡ sum_by (λ e. gives e.0 e.1) (take count (enumerate_from 0 weights))
   pub bound : total ≤ count * 2 ^ 54
 
-module _ (ranker : Ranker) (most : ℕ) (weights : List ℕ) (hits : List Hit) (count total : ℕ) (summed : IsSummed ranker most weights hits count total) where
+module _ (gives : ℕ → ℕ → ℕ) (weights : List ℕ) (count total : ℕ) (summed : IsSummed gives weights count total) where
   -- one field more
-  pub summed_more : (more : ℕ) → count < length weights → more ≡ field_value ranker most count (get_or weights count 0) hits → more ≤ 2 ^ 54
-      → IsSummed ranker most weights hits (count + 1) (total + more)
+  pub summed_more : (more : ℕ) → count < length weights → more ≡ gives count (get_or weights count 0) → more ≤ 2 ^ 54 → IsSummed gives weights (count + 1) (total + more)
   summed_more more inside is small =
-      let value : ℕ × ℕ → ℕ = λ e. field_value ranker most e.0 e.1 hits in
+      let of : ℕ × ℕ → ℕ = λ e. gives e.0 e.1 in
       let same : 0 + count ≡ count = omega arith in
-      let step = sum_by_more value (enumerate_from 0 weights) count (0, 0) (omega (arith, length-enumerate_from 0 weights)) in
-      let next = ap value (get_or-enumerate_from 0 weights count (0, 0) inside) ∙ ap (λ n. field_value ranker most n (get_or weights count 0) hits) same in
+      let step = sum_by_more of (enumerate_from 0 weights) count (0, 0) (omega (arith, length-enumerate_from 0 weights)) in
+      let next = ap of (get_or-enumerate_from 0 weights count (0, 0) inside) ∙ ap (λ n. gives n (get_or weights count 0)) same in
       let so_far = summed.value in
       let bound = summed.bound in
       record { value = omega arith; bound = omega arith }
 
   -- all fields
-  pub summed_all : length weights ≤ count → total ≡ fields_value ranker most weights hits
+  pub summed_all : length weights ≤ count → total ≡ sum_by (λ e. gives e.0 e.1) (enumerate_from 0 weights)
   summed_all all =
-      summed.value
-      ∙ ap (sum_by (λ e. field_value ranker most e.0 e.1 hits)) (take_all count (enumerate_from 0 weights) (omega (arith, length-enumerate_from 0 weights)))
+      summed.value ∙ ap (sum_by (λ e. gives e.0 e.1)) (take_all count (enumerate_from 0 weights) (omega (arith, length-enumerate_from 0 weights)))
 
 -- what a ranker that looks at hits gives
 pub ranked_is : (ranker : Ranker) (keywords : ℕ) (weights : List ℕ) (hits : List Hit) → ranker ≢ rankers.None

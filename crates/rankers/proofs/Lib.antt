@@ -16,3 +16,5 @@ pub mod FieldValues
 pub mod WholeOffsets
 -- the greatest of what hits give, one hit more at a time
 pub mod AnyOrder
+-- hits of one keyword
+pub mod LoneValues

@@ -9,7 +9,7 @@ use Rattle.std.proofs.lemmas.List.Folds.{list_any-append}
 use Rattle.doc_types.specs.declared.hits.Hit.{Hit}
 use Rattle.rankers.specs.Weight.{in_field}
 
-longer : (b : Bool) (n : ℕ) (ns : List ℕ) → length (cond b ns (n ∷ ns)) ≡ cond b 0 1 + length ns
+pub longer : (b : Bool) (n : ℕ) (ns : List ℕ) → length (cond b ns (n ∷ ns)) ≡ cond b 0 1 + length ns
 longer true n ns = omega arith
 longer false n ns = omega arith
 

@@ -5,6 +5,7 @@ use Rattle.doc_types.specs.declared.hits.Hit.{Hit}
 use Rattle.doc_types.specs.declared.tokens.TheConstants.{MAX_POSITION}
 use Rattle.rankers.specs.declared.ranker.Ranker.{Ranker}
 use Rattle.rankers.specs.declared.ranker.Ranker.TheVariants as rankers
+use Rattle.rankers.specs.Fields.{has_bit}
 use Rattle.rankers.specs.Weight.{Differ, in_field, hit_count, word_count, lcs}
 
 -- a hit whose numbers are within the limits, whatever the query and the fields
@@ -34,3 +35,19 @@ field_value ranker most number weight hits =
 -- what all fields give
 abbrev pub fields_value : Ranker → ℕ → List ℕ → List Hit → ℕ
 fields_value ranker most weights hits = sum_by (λ e. field_value ranker most e.0 e.1 hits) (enumerate_from 0 weights)
+
+-- what a field gives that has hits of one keyword alone, where the number of its hits isn't asked for
+abbrev pub lone_value : Ranker → ℕ → ℕ → ℕ
+lone_value rankers.None number weight = 0
+lone_value rankers.WordCount number weight = 0
+lone_value rankers.Proximity number weight = weight
+lone_value rankers.MatchAny number weight = weight
+lone_value rankers.FieldMask number weight = 2 ^ number
+
+-- what a field gives, with its bit or without
+abbrev pub value_by_bit : Ranker → ℕ → ℕ → ℕ → ℕ
+value_by_bit ranker fields number weight = if has_bit fields number then lone_value ranker number weight else 0
+
+-- what all fields give whose bits are set
+abbrev pub values_by_bits : Ranker → ℕ → List ℕ → ℕ
+values_by_bits ranker fields weights = sum_by (λ e. value_by_bit ranker fields e.0 e.1) (enumerate_from 0 weights)

@@ -1,8 +1,7 @@
-use Rattle.std.proofs.Common.{◌≡◌, ℕ, max, get_or, take, map, ap, sym, ◌∙◌}
+use Rattle.std.proofs.Common.{ℕ, max, get_or, ap, sym, ◌∙◌}
 use Rattle.std.specs.List.{count_by}
-use Rattle.std.proofs.lemmas.List.{take_all}
 use Rattle.doc_types.specs.declared.hits.Hit.{Hit}
-use Rattle.rankers.specs.Weight.{greatest, in_field, same_offset}
+use Rattle.rankers.specs.Weight.{in_field, same_offset}
 use Rattle.rankers.proofs.AnyOrder.{counted, greatest_more, greatest_same}
 use Rattle.rankers.proofs.OffsetRing.{ord_max_is}
 use Rattle.rankers.proofs.offsets.longest_in_any_order.Goals as goal

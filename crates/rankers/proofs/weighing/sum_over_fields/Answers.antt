@@ -21,10 +21,10 @@ field_value-sum-requires-clause-most c = most_small (goal.at.field_value-sum-req
 
 pub loop-field-preserved : goal.loop-field-preserved
 loop-field-preserved c =
-    summed_more c.args.ranker (c.from.result * c.sum_of.result) c.args.weights.now c.args.hits.now.list c.loop-field.field c.loop-field.sum c.loop-field.invariant c.field_value-sum.result
+    summed_more (λ number weight. field_value c.args.ranker (c.from.result * c.sum_of.result) number weight c.args.hits.now.list) c.args.weights.now c.loop-field.field c.loop-field.sum c.loop-field.invariant c.field_value-sum.result
     c.loop-field-test.true (c.field_value-sum.ensures.value ∙ ap (field_value c.args.ranker (c.from.result * c.sum_of.result) c.loop-field.field (get_or c.args.weights.now c.loop-field.field 0)) c.as_slice.ensures) c.field_value-sum.ensures.bound
 
 pub returns : goal.returns
 returns c =
-    summed_all c.args.ranker (c.from.result * c.sum_of.result) c.args.weights.now c.args.hits.now.list c.loop-field.field c.loop-field.sum c.loop-field.invariant c.loop-field-test.false
+    summed_all (λ number weight. field_value c.args.ranker (c.from.result * c.sum_of.result) number weight c.args.hits.now.list) c.args.weights.now c.loop-field.field c.loop-field.sum c.loop-field.invariant c.loop-field-test.false
     ∙ ap (λ most. fields_value c.args.ranker most c.args.weights.now c.args.hits.now.list) (most_is (goal.at.returns c).After-sum_of)

@@ -1,5 +1,6 @@
+use Rattle.rankers.specs.steps.FieldValue.{field_value}
 use Rattle.rankers.proofs.FieldValues.{IsSummed}
 use Rattle.rankers.proofs.weighing.sum_over_fields.Given as goal
 
 abbrev pub invariant-loop-field : goal.invariant-loop-field
-invariant-loop-field l = IsSummed l.ranker l.most l.weights l.hits.list l.field l.sum
+invariant-loop-field l = IsSummed (λ number weight. field_value l.ranker l.most number weight l.hits.list) l.weights l.field l.sum
