@@ -28,3 +28,5 @@ pub mod Ends
 pub mod ZonesAsked
 -- how many terms are present in a row
 pub mod PresentCounts
+-- the bits of fields
+pub mod FieldBits

@@ -27,7 +27,7 @@ no_parts word (field ∷ fields) n none =
     ap (λ tokens. map (λ x. (n, x)) (map (λ (token : TokenWord). token.position) tokens) ++ parts (n + 1) (positions_of word) fields) (none_kept (is_word word) field.words both.0)
     ∙ no_parts word fields (n + 1) both.1
 
-no_hits : (word : List ℕ) (row : DocRow) → has_word word row ≡ false → hits_of word row ≡ []
+pub no_hits : (word : List ℕ) (row : DocRow) → has_word word row ≡ false → hits_of word row ≡ []
 no_hits word row none = no_parts word row.doc.fields 0 none
 
 -- a number that is it
@@ -36,7 +36,7 @@ it_is row None told = absurd (true≢false (sym told))
 it_is row (Some n) told = ap Some (eqb-true n row told)
 
 module _ (belongs : Cursor → Type 0) (place : Cursor → CursorPlace) (rows : List DocRow) (row : ℕ) (word : List ℕ) (found : DocRow) (here : slice_get rows row ≡ Some found) where
-  comes_next : has_word word found ≡ true → next_with word rows row ≡ Some row
+  pub comes_next : has_word word found ≡ true → next_with word rows row ≡ Some row
   comes_next has = it_is row (next_with word rows row) (is_first_at (has_word word) 0 row row rows found (sym (zero-add row)) here ∙ has)
 
   pub is_left : (cursor : Option Cursor) → next_of place cursor ≡ next_with word rows row → has_word word found ≡ true → IfSome cursor (λ its. IsSome (next_row (place its)))

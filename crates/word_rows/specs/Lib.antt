@@ -6,5 +6,7 @@ pub mod RowMarks
 pub mod Terms
 -- the keywords of a query on their way over the rows of a chunk
 pub mod Slots
+-- keywords of which a row's fields tell all
+pub mod Fields
 -- what serves proofs and private functions alone
 pub mod steps

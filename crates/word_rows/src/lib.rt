@@ -3,6 +3,7 @@
 
 mod asking;
 mod counting;
+mod fields;
 mod keys;
 mod loading;
 mod marks;
@@ -10,5 +11,6 @@ mod slots;
 
 pub use asking::{AskedMarks, asks_for};
 pub use counting::{key_count, part_first, part_last};
+pub use fields::looks_at_fields;
 pub use marks::RowMarks;
 pub use slots::Slots;
