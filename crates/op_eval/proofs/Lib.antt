@@ -48,3 +48,5 @@ pub mod Numbering
 pub mod Walked
 -- the lists that rows may open
 pub mod Debt
+-- what is found by fields alone
+pub mod ByFields

@@ -49,6 +49,7 @@ search_from belongs place rows from row root search up at = record {
   spans = at.spans;
   none = at.none;
   plan = at.plan;
+  fields = at.fields;
   known = at.known;
 }
 

@@ -36,7 +36,7 @@ some_filter : {X : Type 0} (p : X → Bool) (xs : List X) → is_some (filter p 
 some_filter p [] = refl
 some_filter p (x ∷ xs) = some_kept (p x) x (filter p xs) ∙ ap (λ t. p x || t) (some_filter p xs)
 
-filter_always : {X : Type 0} (xs : List X) → filter (λ (x : X). true) xs ≡ xs
+pub filter_always : {X : Type 0} (xs : List X) → filter (λ (x : X). true) xs ≡ xs
 filter_always [] = refl
 filter_always (x ∷ xs) = ap (λ ys. x ∷ ys) (filter_always xs)
 

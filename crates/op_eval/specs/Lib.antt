@@ -12,6 +12,8 @@ pub mod Hits
 pub mod Streams
 -- the lists that rows may open
 pub mod Debts
+-- queries that the fields of words decide
+pub mod Fields
 -- what serves proofs and private functions alone
 pub mod steps
 -- queries whose keywords are numbered, and their hits

@@ -7,6 +7,7 @@ ghost use Rattle.word_rows.specs.Slots.{AreAt, AreSlots, keys_of, number_among};
 ghost use Rattle.doc_types.specs.declared.documents.DocRow.{DocRow};
 ghost use Rattle.query_tree.specs.TreeKeys.{node_keys};
 ghost use Rattle.word_rows.specs.Keywords.{present_in};
+ghost use Rattle.op_eval.specs.Fields.{AreFieldsOf, IsFieldWord};
 ghost use Rattle.op_eval.specs.Finding.{node_finds};
 ghost use Rattle.occ_lists.specs.OccLists.{SameMembers};
 ghost use Rattle.op_eval.specs.steps.Searching.{IsSearch, KnowsRow, node_found};
@@ -27,7 +28,7 @@ use query_tree::Node;
 use row_plans::Plan;
 use srch_base::{NoMemory, Steps};
 use std::alloc::Global;
-use word_rows::{AskedMarks, RowMarks, Slots, asks_for};
+use word_rows::{AskedMarks, RowMarks, Slots, asks_for, looks_at_fields};
 
 /// A query's tree over a chunk.
 #[derive(Drop)]
@@ -39,6 +40,8 @@ pub(crate) struct Search<'q> {
     pub plan: Plan,
     /// A row whose words are so may be vetoed by its words.
     pub vetoed: bool,
+    /// It is one keyword, whose limits look at fields alone.
+    pub by_fields: bool,
     /// The row that was looked at last, if the terms still know which words it has.
     pub known: Option<u32>,
     pub marks: RowMarks,
@@ -63,6 +66,7 @@ impl<'q> Search<'q> {
             asked: asks_for(root),
             plan,
             vetoed: has_vetoes(root),
+            by_fields: is_field_word(root),
             known: None,
             marks: RowMarks::new(alloc),
             work: Work {
@@ -127,6 +131,7 @@ impl<'q> Search<'q> {
         match judge(self.root, &self.slots.terms, false) {
             Verdict::No => Ok(false),
             Verdict::Yes => Ok(true),
+            Verdict::Open if self.by_fields => Ok(self.fields(chunk, row, steps) != 0),
             Verdict::Open => {
                 self.load(chunk, row, steps)?;
                 let told = matches(self.root, &self.slots.terms, &self.marks, &mut self.work);
@@ -135,6 +140,26 @@ impl<'q> Search<'q> {
                 told
             }
         }
+    }
+
+    /// The fields in which the row has hits, as bits, where the tree is one keyword whose limits look at fields alone. It matches
+    /// where there is one.
+    pub(crate) fn fields<C: CountedLists>(
+        &mut self,
+        chunk: &C,
+        row: u32,
+        steps: &mut Steps<C::Book>,
+    ) -> u32
+        requires row { row < length (C.content chunk.now) }
+        requires search { IsSearch (C.belongs chunk.now) (C.place chunk.now) (C.content chunk.now) row self.old.root.now self.old }
+        requires word { IsFieldWord self.old.root.now }
+        ensures count { (its : DocRow) → slice_get (C.content chunk.now) row ≡ Some its → steps.new ≤ steps.old + present_in its (node_keys self.old.root.now) }
+        ensures root { self.new.root ≡ self.old.root }
+        ensures search { IsSearch (C.belongs chunk.now) (C.place chunk.now) (C.content chunk.now) row self.old.root.now self.new }
+        ensures fields { (its : DocRow) → slice_get (C.content chunk.now) row ≡ Some its → AreFieldsOf (node_found self.old.root.now its) result }
+    {
+        seek(&mut self.slots, &mut self.known, chunk, row);
+        self.slots.fields(chunk, row, steps)
     }
 
     /// Whether the row matches, and what is found in it, in the place of what was found before.
@@ -194,6 +219,16 @@ impl<'q> Search<'q> {
         self.marks.load(chunk, row, self.asked, &mut self.gaps)?;
         self.slots.load(chunk, row, &self.marks.spans, &mut self.work.buffers, steps)?;
         Ok(())
+    }
+}
+
+/// Whether the tree is one keyword whose limits look at fields alone.
+fn is_field_word(root: &Node) -> bool
+    ensures { result ≡ true → IsFieldWord root.now }
+{
+    match root {
+        Node::Word(key) => looks_at_fields(key),
+        _ => false,
     }
 }
 

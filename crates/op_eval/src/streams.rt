@@ -1,20 +1,21 @@
 //! The rows that may match a query one after another, for a caller that looks at each of them once: one row is taken, with its hits
 //! where it matches, and another one is passed over, so that no list of its places is opened.
-ghost use Rattle.std.specs.Prelude.{◌≡◌, ◌+◌, ◌<◌, ◌≤◌, ◌^◌, Some, length, slice_get, AllPairs, IsTrue, IfOk, OnErr, OnOk};
+ghost use Rattle.std.specs.Prelude.{◌≡◌, ◌+◌, ◌<◌, ◌≤◌, ◌^◌, Some, true, length, slice_get, AllPairs, IsTrue, IfOk, OnErr, OnOk};
 ghost use Rattle.doc_types.specs.declared.documents.DocRow.{DocRow};
 ghost use Rattle.occ_lists.specs.OccLists.{SameMembers};
 ghost use Rattle.query_tree.specs.TreeKeys.{query_keys};
 ghost use Rattle.word_rows.specs.Keywords.{present_in};
 ghost use Rattle.op_eval.specs.Debts.{owed};
+ghost use Rattle.op_eval.specs.Fields.{AreFieldsOf, GoesByFields};
 ghost use Rattle.op_eval.specs.Hits.{comes_before};
-ghost use Rattle.op_eval.specs.Matching.{matches};
+ghost use Rattle.op_eval.specs.Matching.{matches, query_finds};
 ghost use Rattle.op_eval.specs.Streams.{GoesOn, Takes};
 ghost use Rattle.op_eval.specs.steps.Streaming.{StandsAt};
 
 use crate::calls::sort_hits;
 use crate::finding::Finding;
 use crate::search::Search;
-use crate::wanted::{find_row, first_open, row_matches};
+use crate::wanted::{find_row, first_open, row_fields, row_matches};
 use doc_types::{Chunk, CountedLists, Hit, Hits};
 use query_tree::Query;
 use srch_base::{Items, NoMemory, Steps};
@@ -102,6 +103,16 @@ impl<'a, C: Chunk> Matches<'a, C> {
         next
     }
 
+    /// Whether the query is one keyword whose limits look at fields alone, so that `take_fields` tells all.
+    pub fn goes_by_fields(&self) -> bool
+        ensures { result ≡ true → GoesByFields self.now.query }
+    {
+        match &self.search {
+            None => false,
+            Some(search) => search.by_fields,
+        }
+    }
+
     /// Goes on behind the row at which it stands, and doesn't look whether it matches.
     pub fn skip(&mut self)
         requires { self.old.at < length self.old.rows }
@@ -137,6 +148,21 @@ impl<'a, C: CountedLists> Matches<'a, C> {
             hand_over(self.alloc, &mut self.found.hits, &mut hits.list);
         }
         Ok(told)
+    }
+
+    /// The fields in which the row at which it stands has hits, as bits, of a query that goes by fields; and goes on behind it. It
+    /// matches where there is one. No place is read.
+    pub fn take_fields(&mut self, steps: &mut Steps<C::Book>) -> u32
+        requires within { self.old.at < length self.old.rows }
+        requires word { GoesByFields self.old.query }
+        ensures stands { self.new ≡ record self.old { at = self.old.at + 1 } }
+        ensures debt { steps.new + owed self.new ≤ steps.old + owed self.old }
+        ensures fields { (doc : DocRow) → slice_get self.old.rows self.old.at ≡ Some doc → AreFieldsOf (query_finds self.old.query doc) result }
+        ensures count { (doc : DocRow) → slice_get self.old.rows self.old.at ≡ Some doc → steps.new ≤ steps.old + present_in doc (query_keys self.old.query) }
+    {
+        let fields = row_fields(self.query, self.chunk, self.from, &mut self.search, steps);
+        self.from += 1;
+        fields
     }
 
     /// Whether the row at which it stands matches, and goes on behind it. Its hits aren't looked for: where its words decide, no

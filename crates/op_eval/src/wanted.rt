@@ -5,6 +5,7 @@ ghost use Rattle.occ_lists.specs.OccLists.{SameMembers};
 ghost use Rattle.query_tree.specs.TreeKeys.{query_keys};
 ghost use Rattle.query_tree.specs.declared.query.Query.{Query as QueryValue};
 ghost use Rattle.word_rows.specs.Keywords.{present_in};
+ghost use Rattle.op_eval.specs.Fields.{AreFieldsOf, GoesByFields};
 ghost use Rattle.op_eval.specs.Matching.{query_finds};
 ghost use Rattle.op_eval.specs.steps.Searching.{IsSearch};
 ghost use Rattle.op_eval.specs.steps.Streaming.{IsFirstOpen, StandsAt, is_matching};
@@ -126,5 +127,26 @@ pub(crate) fn row_matches<C: CountedLists>(
     match search {
         None => Ok(true),
         Some(search) => search.matches(chunk, row, steps),
+    }
+}
+
+/// The fields in which the row has hits, as bits, where the query is one keyword whose limits look at fields alone.
+pub(crate) fn row_fields<C: CountedLists>(
+    query: &Query,
+    chunk: &C,
+    row: u32,
+    search: &mut Option<Search>,
+    steps: &mut Steps<C::Book>,
+) -> u32
+    requires row { row < length (C.content chunk.now) }
+    requires word { GoesByFields query.now }
+    requires stands { StandsAt (C.belongs chunk.now) (C.place chunk.now) (C.content chunk.now) row query.now search.old }
+    ensures stands { StandsAt (C.belongs chunk.now) (C.place chunk.now) (C.content chunk.now) row query.now search.new }
+    ensures count { (its : DocRow) → slice_get (C.content chunk.now) row ≡ Some its → steps.new ≤ steps.old + present_in its (query_keys query.now) }
+    ensures fields { (its : DocRow) → slice_get (C.content chunk.now) row ≡ Some its → AreFieldsOf (query_finds query.now its) result }
+{
+    match search {
+        None => 0,
+        Some(search) => search.fields(chunk, row, steps),
     }
 }

@@ -1,11 +1,12 @@
 -- a query's tree on its way over the rows of a chunk
-use Rattle.std.specs.Prelude.{◌≡◌, ℕ, List, [], Option, Some, None, slice_get}
+use Rattle.std.specs.Prelude.{◌≡◌, ℕ, List, [], true, Option, Some, None, slice_get}
 use Rattle.doc_types.specs.declared.cursor.Cursor.{Cursor}
 use Rattle.doc_types.specs.declared.documents.DocRow.{DocRow}
 use Rattle.doc_types.specs.Chunks.{CursorPlace}
 use Rattle.query_tree.specs.declared.query.Node.{Node}
 use Rattle.query_tree.specs.TreeKeys.{node_keys}
 use Rattle.op_eval.specs.declared.search.Search.{Search}
+use Rattle.op_eval.specs.Fields.{IsFieldWord}
 use Rattle.op_eval.specs.Finding.{Found, node_finds}
 use Rattle.op_eval.specs.steps.Planned.{Serves}
 use Rattle.word_rows.specs.RowMarks.{AreMarks, asks_boundaries, asks_spans}
@@ -32,4 +33,5 @@ pub record IsSearch (belongs : Cursor → Type 0) (place : Cursor → CursorPlac
   pub spans : search.asked.spans ≡ asks_spans node
   pub none : search.work.spans.items ≡ []
   pub plan : Serves search.plan node
+  pub fields : search.by_fields ≡ true → IsFieldWord node
   pub known : KnowsRow place rows search.slots search.known
