@@ -122,6 +122,11 @@ ordered_members : (xs : List Hit) → SameMembers (in_order xs) xs
 ordered_members [] passes = refl
 ordered_members (x ∷ xs) passes = members passes x (in_order xs) ∙ ap (λ b. passes x || b) (ordered_members xs passes)
 
+-- what all of them have
+pub all_ordered : (P : Hit → Type 0) (xs : List Hit) → All P xs → All P (in_order xs)
+all_ordered P [] all = All-nil P
+all_ordered P (x ∷ xs) all = all_with P x (in_order xs) (All-head P x xs all) (all_ordered P xs (All-tail P x xs all))
+
 abbrev pub hits_of : Query → DocRow → List Hit
 hits_of query doc = in_order (query_finds query doc).hits
 

@@ -1,6 +1,7 @@
 -- What the weight of a document asks of its hits, and a row that holds it.
-use Rattle.std.proofs.Common.{◌≡◌, ◌<◌, ℕ, Bool, true, false, List, Some, refl, length, slice_get, sym, ap, subst, ◌∙◌, arith, ⊎_elim}
-use Rattle.std.specs.Prelude.{◌==◌, if◌then◌else◌}
+use Rattle.std.proofs.Common.{◌≡◌, ◌≢◌, ◌<◌, ◌≤◌, ℕ, Bool, true, false, List, Some, None, refl, length, slice_get, sym, ap, subst, ◌∙◌, arith, ⊎_elim}
+use Rattle.std.specs.Prelude.{◌==◌, not, if◌then◌else◌}
+use Rattle.std.proofs.lemmas.Bool.{eq-eqb, ne_eqb}
 use Rattle.std.proofs.lemmas.List.Elements.{All-weaker}
 use Rattle.std.proofs.lemmas.Option.{get_or_from_slice_get, slice_get_within, slice_get_cases}
 use Rattle.doc_types.specs.declared.documents.DocRow.{DocRow}
@@ -9,19 +10,23 @@ use Rattle.doc_types.specs.declared.hits.Hits.{Hits}
 use Rattle.doc_types.specs.declared.schema.Schema.{Schema}
 use Rattle.doc_types.specs.Documents.{AreRowsOf, IsDocOf}
 use Rattle.query_tree.specs.declared.query.Query.{Query}
+use Rattle.op_eval.specs.Fields.{AreFieldsOf, GoesByFields}
 use Rattle.op_eval.specs.Hits.{AreHits}
-use Rattle.op_eval.specs.Matching.{matches}
+use Rattle.op_eval.specs.Matching.{matches, query_finds}
 use Rattle.op_eval.specs.Numbered.{AreHitsWithin, IsHitWithin}
 use Rattle.op_eval.specs.Streams.{Stream, Takes}
+use Rattle.op_eval.proofs.ByFields.{one_keyword}
 use Rattle.op_eval.proofs.NumberedHits.{can_be_weighed}
 use Rattle.word_rows.proofs.Opening.{row_there}
 use Rattle.rankers.specs.declared.ranker.Ranker.{Ranker}
 use Rattle.rankers.specs.declared.ranker.Ranker.TheVariants as rankers
+use Rattle.rankers.specs.Fields as fields_of
+use Rattle.rankers.specs.Fields.{AreOfOne}
 use Rattle.rankers.specs.Weight.{AreRanked, IsRanked, weight}
 use Rattle.row_select.specs.declared.row.Row.{Row}
 use Rattle.doc_search.specs.Searches.{IsAskedOf, IsRowOf}
 use Rattle.doc_search.specs.declared.question.Question.{Question}
-use Rattle.doc_search.proofs.SomeHits.{are_its_hits, hits_of}
+use Rattle.doc_search.proofs.SomeHits.{all_ordered, are_its_hits, hits_of}
 use Rattle.doc_search.specs.steps.Gathering.{HasRead, IsAskedOfDocs, IsWeightOf, IsWeighed}
 
 -- a hit within the limits can be ranked
@@ -99,3 +104,35 @@ row_of question doc row read weighed = record {
   weight = weighed.is;
   values = read.values;
 }
+
+-- ---- by the fields that have hits
+
+-- there is a weight for each field, and fields are few
+pub few_weights : (question : Question) (docs : List DocRow) → IsAskedOfDocs question docs → length question.weights.list ≤ 32
+few_weights question docs asked = omega (arith, asked.asked.weights, asked.asked.few_fields)
+
+-- a document that matches weighs what its fields tell
+pub fields_weigh : (question : Question) (docs : List DocRow) (query : Query) (number fields weighed : ℕ) (doc : DocRow) → IsAskedOfDocs question docs → query ≡ question.query → GoesByFields query → slice_get docs number ≡ Some doc → AreFieldsOf (query_finds query doc) fields → fields ≢ 0
+    → ((hits : Hits) (position word : ℕ) → hits.keywords ≢ 0 → AreRanked hits question.weights.list → AreOfOne position word hits.list → fields_of.AreFieldsOf fields hits.list → weighed ≡ weight question.ranker hits question.weights.list)
+    → IsWeighed question doc (Some weighed)
+fields_weigh question docs query number fields weighed doc asked same word here are some is =
+    let its : AreFieldsOf (query_finds question.query doc) fields = subst (λ (q : Query). AreFieldsOf (query_finds q doc) fields) same are in
+    let alone = one_keyword question.query (subst GoesByFields same word) in
+    let hits : Hits = record { keywords = question.query.keywords; list = hits_of question.query doc } in
+    let ordered = are_its_hits question.query doc in (
+      its.told ∙ ap not (ne_eqb fields 0 some),
+      record {
+        hits = hits_of question.query doc;
+        are = ordered;
+        is =
+            is hits its.position its.word
+            (λ none. absurd (omega (arith, none, asked.asked.numbered.count, alone)))
+            (are_ranked asked.schema question doc hits asked.asked (doc_of asked.schema docs number doc asked.rows here) refl ordered)
+            (all_ordered (λ hit. (hit.query ≡ its.position) × (hit.word ≡ its.word)) (query_finds question.query doc).hits its.one)
+            (λ field. its.each field ∙ sym (ordered.all (λ hit. hit.field == field)));
+      },
+    )
+
+-- one without a field doesn't match
+pub no_field_matches : (question : Question) (query : Query) (fields : ℕ) (doc : DocRow) → query ≡ question.query → AreFieldsOf (query_finds query doc) fields → fields ≡ 0 → IsWeighed question doc None
+no_field_matches question query fields doc same are none = ap (λ q. matches q doc) (sym same) ∙ (are.told ∙ ap not (eq-eqb fields 0 none))

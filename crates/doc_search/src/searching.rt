@@ -5,12 +5,13 @@
 //! are asked of the document where it stands in the chunk, and so is all that the sink looks at: of a document that is found no
 //! column is read that isn't asked for, and who keeps it makes the copy. Of rows that conditions on the id rule out none is looked
 //! at. Nothing is kept of a document but what the sink takes, and one list of hits serves for all of them.
-ghost use Rattle.std.specs.Prelude.{◌≡◌, ◌+◌, ◌<◌, ◌≤◌, ◌++◌, ◌∷◌, [], List, IfOk, OnOk, All, AllPairs, Some, true, length, slice_get};
+ghost use Rattle.std.specs.Prelude.{◌≡◌, ◌≢◌, ◌+◌, ◌<◌, ◌≤◌, ◌++◌, ◌∷◌, [], List, IfOk, OnOk, All, AllPairs, Some, true, length, slice_get};
 ghost use Rattle.std.specs.List.{filter};
 ghost use Rattle.doc_types.specs.declared.documents.DocRow.{DocRow};
 ghost use Rattle.doc_types.specs.declared.schema.Schema.{Schema};
 ghost use Rattle.doc_types.specs.Documents.{AreRowsOf};
 ghost use Rattle.doc_types.specs.Snapshots.{all_living, living};
+ghost use Rattle.op_eval.specs.Fields.{GoesByFields};
 ghost use Rattle.op_eval.specs.Matching.{matches};
 ghost use Rattle.rankers.specs.declared.ranker.Ranker.TheVariants as rankers;
 ghost use Rattle.row_select.specs.Filters.{hold_unweighed};
@@ -25,7 +26,7 @@ use crate::question::Question;
 use crate::ready::ReadyQuestion;
 use doc_types::{Chunk, Counted, CountedLists, HitLists, Hits, Layer, Snapshot};
 use op_eval::Matches;
-use rankers::{Ranker, weight};
+use rankers::{Ranker, weight, weight_of_fields};
 use row_select::{ChunkRow, Collector, Row, Sink};
 use srch_base::{Items, NoMemory, Steps};
 use std::alloc::Global;
@@ -187,8 +188,37 @@ fn weight_of<C: CountedLists>(
 {
     match asked.question.ranker {
         Ranker::None => weight_unranked(stream, steps),
-        _ => weight_ranked(asked, stream, hits, steps),
+        Ranker::WordCount => weight_ranked(asked, stream, hits, steps),
+        _ => {
+            if stream.goes_by_fields() {
+                Ok(weight_by_fields(asked, stream, steps))
+            } else {
+                weight_ranked(asked, stream, hits, steps)
+            }
+        }
     }
+}
+
+/// The same by the fields that have hits, for a query that they decide and a ranker that doesn't count hits.
+fn weight_by_fields<C: CountedLists>(
+    asked: &ReadyQuestion<'_>,
+    stream: &mut Matches<'_, C>,
+    steps: &mut Steps<C::Book>,
+) -> Option<u64>
+    requires asked { IsAskedOfDocs asked.now stream.old.rows }
+    requires query { stream.old.query ≡ asked.now.query }
+    requires within { stream.old.at < length stream.old.rows }
+    requires word { GoesByFields stream.old.query }
+    requires ranker { asked.now.ranker ≢ rankers.WordCount }
+    ensures goes_on { stream.new ≡ record stream.old { at = stream.old.at + 1 } }
+    ensures weighed { (doc : DocRow) → slice_get stream.old.rows stream.old.at ≡ Some doc → IsWeighed asked.now doc result }
+{
+    let question = asked.question;
+    let fields = stream.take_fields(steps);
+    if fields == 0 {
+        return None;
+    }
+    Some(weight_of_fields(question.ranker, fields, &question.weights))
 }
 
 /// The same by the ranker that gives each document one weight, for which no hits are looked for.
