@@ -25,6 +25,8 @@ ROOT = Path(__file__).resolve().parent.parent
 NAME = r"[^\W\d][\w'?!-]*"
 HEADER = re.compile(rf"^(?:(?:abbrev|unfoldable|opaque)\s+)?(?:pub\s+)?(?:(record|data)\s+)?({NAME}|\S*◌\S*)\s*(?=[:({{])")
 IMPORT = re.compile(r"(?:pub |ghost )?use Rattle\.([\w.«»]+?)(?:\.\{([^}]*)\}|\s+as\s+(\w+))?;?$")
+# a clause's own name is no definition that it uses
+NAMED_CLAUSE = re.compile(r"^(\s+(?:requires|ensures)(?: \*)?) \w+ \{", re.M)
 FUNCTION = re.compile(r"^(\s*)(pub )?(?:const |unsafe )*fn (\w+)")
 
 
@@ -224,7 +226,7 @@ class House:
         reached = {}
         todo = []
         for crate, title, names, text in roots:
-            for definition in self.used(names, text):
+            for definition in self.used(names, NAMED_CLAUSE.sub(r"\1 {", text)):
                 if definition not in reached:
                     reached[definition] = f"a clause of {crate}::{title}"
                     todo.append(definition)
