@@ -1,6 +1,6 @@
 //! A query on its way over the rows of a chunk. It goes from row to row by a plan, which says what the words of a row must be; the
 //! words that are there decide where they can, and only else are lists of places opened, each keyword's once.
-ghost use Rattle.std.specs.Prelude.{◌≡◌, ◌+◌, ◌<◌, ◌≤◌, ◌^◌, ℕ, List, [], true, false, Some, All, AllPairs, IfOk, OnOk, length, slice_get, unwrap_or};
+ghost use Rattle.std.specs.Prelude.{◌≡◌, ◌+◌, ◌<◌, ◌≤◌, ◌^◌, ℕ, List, [], true, false, Some, All, AllPairs, IfOk, IsTrue, OnOk, ◌↔◌, length, slice_get, unwrap_or};
 ghost use Rattle.occ_lists.specs.Terms.{IsPlaced};
 ghost use Rattle.word_rows.specs.RowMarks.{Knows};
 ghost use Rattle.word_rows.specs.Slots.{AreAt, AreSlots, keys_of, number_among};
@@ -224,7 +224,7 @@ impl<'q> Search<'q> {
 
 /// Whether the tree is one keyword whose limits look at fields alone.
 fn is_field_word(root: &Node) -> bool
-    ensures { result ≡ true → IsFieldWord root.now }
+    ensures { IsTrue result ↔ IsFieldWord root.now }
 {
     match root {
         Node::Word(key) => looks_at_fields(key),

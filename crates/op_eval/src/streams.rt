@@ -1,6 +1,6 @@
 //! The rows that may match a query one after another, for a caller that looks at each of them once: one row is taken, with its hits
 //! where it matches, and another one is passed over, so that no list of its places is opened.
-ghost use Rattle.std.specs.Prelude.{◌≡◌, ◌+◌, ◌<◌, ◌≤◌, ◌^◌, Some, true, length, slice_get, AllPairs, IsTrue, IfOk, OnErr, OnOk};
+ghost use Rattle.std.specs.Prelude.{◌≡◌, ◌+◌, ◌<◌, ◌≤◌, ◌^◌, Some, ◌↔◌, length, slice_get, AllPairs, IsTrue, IfOk, OnErr, OnOk};
 ghost use Rattle.doc_types.specs.declared.documents.DocRow.{DocRow};
 ghost use Rattle.occ_lists.specs.OccLists.{SameMembers};
 ghost use Rattle.query_tree.specs.TreeKeys.{query_keys};
@@ -105,7 +105,7 @@ impl<'a, C: Chunk> Matches<'a, C> {
 
     /// Whether the query is one keyword whose limits look at fields alone, so that `take_fields` tells all.
     pub fn goes_by_fields(&self) -> bool
-        ensures { result ≡ true → GoesByFields self.now.query }
+        ensures { IsTrue result ↔ GoesByFields self.now.query }
     {
         match &self.search {
             None => false,

@@ -1,6 +1,6 @@
 //! The fields in which a keyword has a place, for one whose limits look at nothing but fields. The chunk tells the fields that have
 //! its word without reading its places, so no memory is taken.
-ghost use Rattle.std.specs.Prelude.{◌≡◌, ◌∷◌, ◌+◌, ◌<◌, ◌≤◌, [], length, map, Some, slice_get, true, if◌then◌else◌};
+ghost use Rattle.std.specs.Prelude.{◌≡◌, ◌∷◌, ◌+◌, ◌<◌, ◌≤◌, [], length, map, Some, slice_get, IsTrue, ◌↔◌, if◌then◌else◌};
 ghost use Rattle.std.specs.List.{AllZip};
 ghost use Rattle.doc_types.specs.declared.documents.DocRow.{DocRow};
 ghost use Rattle.doc_types.specs.Chunks.{has_word};
@@ -18,7 +18,7 @@ use srch_base::Steps;
 
 /// Whether the keyword's limits and marks look at nothing but the field of a place.
 pub fn looks_at_fields(key: &Key) -> bool
-    ensures { result ≡ true → LooksAtFields key.now }
+    ensures { IsTrue result ↔ LooksAtFields key.now }
 {
     if key.start || key.end {
         return false;

@@ -1,5 +1,5 @@
 -- a query's tree on its way over the rows of a chunk
-use Rattle.std.specs.Prelude.{◌≡◌, ℕ, List, [], true, Option, Some, None, slice_get}
+use Rattle.std.specs.Prelude.{◌≡◌, ℕ, List, [], Option, Some, None, slice_get, IsTrue, ◌↔◌}
 use Rattle.doc_types.specs.declared.cursor.Cursor.{Cursor}
 use Rattle.doc_types.specs.declared.documents.DocRow.{DocRow}
 use Rattle.doc_types.specs.Chunks.{CursorPlace}
@@ -33,5 +33,5 @@ pub record IsSearch (belongs : Cursor → Type 0) (place : Cursor → CursorPlac
   pub spans : search.asked.spans ≡ asks_spans node
   pub none : search.work.spans.items ≡ []
   pub plan : Serves search.plan node
-  pub fields : search.by_fields ≡ true → IsFieldWord node
+  pub fields : IsTrue search.by_fields ↔ IsFieldWord node
   pub known : KnowsRow place rows search.slots search.known
