@@ -1,11 +1,12 @@
 -- The rows ahead of a cursor.
-use Rattle.std.proofs.Common.{◌≡◌, ℕ, ◌+◌, ◌<◌, List, [], ◌∷◌, true, false, cond, Some, slice_get, length, map, get_or, sym, ap, ◌∙◌, arith, All, length-append}
+use Rattle.std.proofs.Common.{◌≡◌, ℕ, ◌+◌, ◌<◌, ◌≤◌, List, [], ◌∷◌, true, false, cond, Some, slice_get, length, map, get_or, sym, ap, ◌∙◌, arith, All, length-append}
 use Rattle.std.specs.List.{filter, enumerate_from}
 use Rattle.std.proofs.lemmas.List.{get_or-append-add}
-use Rattle.std.proofs.lemmas.List.Elements.{All-cons}
+use Rattle.std.proofs.lemmas.List.Elements.{All-cons, All-head, All-tail}
 use Rattle.std.proofs.lemmas.Option.{get_or_from_slice_get, slice_get_within}
 use Rattle.doc_types.specs.declared.documents.DocRow.{DocRow}
 use Rattle.doc_types.specs.Chunks.{CursorPlace, IsCursorPlace, has_word, next_row, rows_with}
+use Rattle.image_join.specs.steps.Stacking.{behind}
 
 abbrev numbers : List ℕ → ℕ → List DocRow → List ℕ
 numbers word n rows = map (λ (e : ℕ × DocRow). e.0) (filter (λ e. has_word word e.1) (enumerate_from n rows))
@@ -29,3 +30,13 @@ next_below rows place row is next =
     ap (λ (l : List ℕ). get_or l (length is.behind + 0) row) (sym is.both) ∙ get_or-append-add is.behind place.ahead 0 row ∙ get_or_from_slice_get place.ahead 0 row row e in
     let low : get_or (rows_with place.word rows) (length is.behind + 0) row < 0 + length rows = below place.word 0 rows (length is.behind + 0) row long in
     omega (arith, here, low)
+
+behind_low : (n most : ℕ) (rows : List ℕ) → n ≤ most → All (λ row. row < most) rows → behind n rows ≤ most
+behind_low n most [] low all = low
+behind_low n most (r ∷ rs) low all =
+    let here : r < most = All-head (λ (row : ℕ). row < most) r rs all in
+    behind_low (r + 1) most rs (omega (arith, here)) (All-tail (λ (row : ℕ). row < most) r rs all)
+
+-- none of the rows lies behind the last one
+pub behind_within : (word : List ℕ) (rows : List DocRow) → behind 0 (rows_with word rows) ≤ length rows
+behind_within word rows = behind_low 0 (length rows) (rows_with word rows) (omega arith) (λ k d h. let low = below word 0 rows k d h in omega (arith, low))

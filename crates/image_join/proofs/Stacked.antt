@@ -173,6 +173,16 @@ pub list_of : (word list : List ℕ) (part : PartValue) (its : Begins part.first
 unfolding word_postings
 list_of word list part its is = is ∙ ap (posting_list 0) its.is
 
+only : (e : Posting) (es : List Posting) → length (map (λ (x : Posting). x.0) (e ∷ es)) ≡ 1 → behind 0 (map (λ (x : Posting). x.0) (e ∷ es)) ≡ e.0 + 1
+only e [] one = refl
+only e (x ∷ xs) one = absurd (omega (arith, one))
+
+-- where one row has the word, the row behind the first is that behind the last
+pub behind_one : (word : List ℕ) (part : PartValue) (its : Begins part.first (postings word 0 part.rows)) → length (rows_with word part.rows) ≡ 1 → behind 0 (rows_with word part.rows) ≡ its.entry.0 + 1
+behind_one word part its one =
+    let own : map (λ (e : Posting). e.0) (its.entry ∷ its.more) ≡ rows_with word part.rows = ap (map (λ (e : Posting). e.0)) (sym its.is) ∙ rows_of word (with_word word 0 part.rows) in
+    ap (behind 0) (sym own) ∙ only its.entry its.more (ap length own ∙ one)
+
 -- the entries of a part were appended
 pub posted_part : (word : List ℕ) (part : PartValue) (its : Begins part.first (postings word 0 part.rows)) (old new : List ℕ) (before after : Reached) → part.first + length part.rows < NO_ROW
     → before.least ≤ part.first + its.entry.0 → new ≡ old ++ posting_list before.least (moved part.first (its.entry ∷ its.more))

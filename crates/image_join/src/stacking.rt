@@ -47,17 +47,18 @@ pub(crate) fn stand_in_order(numbers: &[u32]) -> bool
 }
 
 /// Appends a posting list, whose rows lie so many rows further on here, to one where this is the least row that can stand next,
-/// which is none of those further on.
+/// which is none of those further on. Gives the row behind the first one.
 #[inline]
-fn put_moved(list: &[u8], by: u32, least: u32, out: &mut Vec<u8>) -> Result<(), NoMemory>
+fn put_moved(list: &[u8], by: u32, least: u32, out: &mut Vec<u8>) -> Result<u32, NoMemory>
     requires list { (entry : Posting) × (entries : List Posting) × (list.now ≡ posting_list 0 (entry ∷ entries)) × (by + entry.0 < NO_ROW) }
     requires least { least ≤ by }
-    ensures { OnOk result ((entry : Posting) (entries : List Posting) → list.now ≡ posting_list 0 (entry ∷ entries) → by + entry.0 < NO_ROW → out.new.items ≡ out.old.items ++ posting_list least (moved by (entry ∷ entries))) }
+    ensures behind { IfOk result (λ behind. (entry : Posting) (entries : List Posting) → list.now ≡ posting_list 0 (entry ∷ entries) → by + entry.0 < NO_ROW → behind ≡ by + entry.0 + 1) }
+    ensures list { OnOk result ((entry : Posting) (entries : List Posting) → list.now ≡ posting_list 0 (entry ∷ entries) → by + entry.0 < NO_ROW → out.new.items ≡ out.old.items ++ posting_list least (moved by (entry ∷ entries))) }
 {
     let (ahead, behind) = number_at(list, 0);
     put_number(by - least + ahead, out)?;
     out.extend_from_slice(&list[behind..])?;
-    Ok(())
+    Ok(by + ahead)
 }
 
 /// The row behind the last one that has the word of this number.
@@ -88,6 +89,23 @@ fn behind_in<C: CopyBytes>(part: &Part<C>, word: u32) -> u32
     behind_of(chunk, word)
 }
 
+/// The row behind the last one of the part that has the word of this number, where so many have it, and this one stands behind the
+/// first of them. Most words of a small part are in one row of it, so that its list needn't be gone over.
+#[inline]
+fn behind_all<C: CopyBytes>(part: &Part<C>, word: u32, rows: u32, first: u32) -> u32
+    requires word { word < length part.now.words }
+    requires few { part.now.first + length part.now.rows < NO_ROW }
+    requires rows { (w : List ℕ) → slice_get part.now.words word ≡ Some w → rows ≡ length (rows_with w part.now.rows) }
+    requires first { (w : List ℕ) → slice_get part.now.words word ≡ Some w → rows ≡ 1 → first ≡ part.now.first + behind 0 (rows_with w part.now.rows) }
+    ensures is { (w : List ℕ) → slice_get part.now.words word ≡ Some w → result ≡ part.now.first + behind 0 (rows_with w part.now.rows) }
+    ensures within { result ≤ part.now.first + length part.now.rows }
+{
+    if rows == 1 {
+        return first;
+    }
+    part.first() + behind_in(part, word)
+}
+
 /// Appends the entries of the part's word of this number, and says how far the list is then.
 #[inline]
 fn put_stacked<C: CopyBytes>(
@@ -104,9 +122,10 @@ fn put_stacked<C: CopyBytes>(
     ensures posted { IfOk result (λ after. (w : List ℕ) → slice_get part.now.words word ≡ Some w → ArePosted (stacked_in w part.now) out.old.items out.new.items reached after) }
 {
     let by = part.first();
-    put_moved(part.list(word), by, reached.least, out)?;
-    let least = by + behind_in(part, word);
-    let count = reached.count.checked_add(part.count(word)).ok_or(NoMemory)?;
+    let first = put_moved(part.list(word), by, reached.least, out)?;
+    let rows = part.count(word);
+    let least = behind_all(part, word, rows, first);
+    let count = reached.count.checked_add(rows).ok_or(NoMemory)?;
     Ok(Reached { least, count })
 }
 
