@@ -46,8 +46,8 @@ pub(crate) fn stand_in_order(numbers: &[u32]) -> bool
     true
 }
 
-/// Appends a posting list, whose rows lie so many rows further on here, to one where this is the least row that can stand next,
-/// which is none of those further on. Gives the row behind the first one.
+/// Appends a posting list, whose rows lie so many rows further on here, to one that ends before them, where this is the least row
+/// that can stand next. Gives the row behind the first one that was appended.
 #[inline]
 fn put_moved(list: &[u8], by: u32, least: u32, out: &mut Vec<u8>) -> Result<u32, NoMemory>
     requires list { (entry : Posting) × (entries : List Posting) × (list.now ≡ posting_list 0 (entry ∷ entries)) × (by + entry.0 < NO_ROW) }
