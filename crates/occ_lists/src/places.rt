@@ -14,6 +14,7 @@ pub(crate) fn is_before(place: (u16, u32), later: (u16, u32)) -> bool
 }
 
 /// The places that lie inside each of the spans, each of which has its field's number beside it.
+#[inline]
 pub fn within<'a>(places: &'a [(u16, u32)], spans: &[(u16, ZoneSpan)]) -> &'a [(u16, u32)]
     requires { ArePlaces places.now }
     ensures ascend { ArePlaces result.now }

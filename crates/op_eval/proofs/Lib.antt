@@ -15,6 +15,8 @@ pub mod Forward
 pub mod Appending
 -- what keywords find by their terms
 pub mod TermPlaces
+-- what keywords by themselves find
+pub mod WordedPlaces
 -- keywords of which NEAR makes nothing
 pub mod FarWords
 -- what is found of nodes that are made of others

@@ -54,17 +54,6 @@ fn at_place(place: (u16, u32)) -> Occ
     }
 }
 
-/// Appends an occurrence at each place of the keyword.
-fn put_places(term: &Term, spans: &[(u16, ZoneSpan)], occs: &mut Vec<Occ>) -> Result<(), NoMemory>
-    requires { IsPlaced term.now }
-    ensures { OnOk result (occs.new.items ≡ occs.old.items ++ map at_place (term_places spans.now term.now)) }
-{
-    for place in within(&term.places, spans) {
-        occs.push(at_place(*place))?;
-    }
-    Ok(())
-}
-
 /// The number of a word as hits have it, where it is short enough.
 fn hit_word(number: usize) -> u16
     ensures { number < 2 ^ 16 → result ≡ number }
@@ -100,6 +89,25 @@ fn put_hits(terms: &[Term], spans: &[(u16, ZoneSpan)], hits: &mut Vec<Hit>) -> R
     Ok(())
 }
 
+/// Appends an occurrence and a hit at each place of the keyword.
+fn put_keyword(term: &Term, spans: &[(u16, ZoneSpan)], out: &mut Finding) -> Result<(), NoMemory>
+    requires { IsPlaced term.now }
+    ensures occs { OnOk result (out.new.occs.items ≡ out.old.occs.items ++ map at_place (term_places spans.now term.now)) }
+    ensures hits { term.now.word < 2 ^ 16 → OnOk result (out.new.hits.items ≡ out.old.hits.items ++ term_hits spans.now term.now) }
+{
+    let word = hit_word(term.word);
+    for place in within(&term.places, spans) {
+        out.occs.push(at_place(*place))?;
+        out.hits.push(Hit {
+            query: term.query,
+            word,
+            field: place.0,
+            position: place.1,
+        })?;
+    }
+    Ok(())
+}
+
 /// Appends an occurrence and a hit at each place of each keyword.
 fn put_keywords(
     terms: &[Term],
@@ -111,9 +119,9 @@ fn put_keywords(
     ensures hits { AreShort terms.now → OnOk result (out.new.hits.items ≡ out.old.hits.items ++ flat_map (term_hits spans.now) terms.now) }
 {
     for term in terms {
-        put_places(term, spans, &mut out.occs)?;
+        put_keyword(term, spans, out)?;
     }
-    put_hits(terms, spans, &mut out.hits)
+    Ok(())
 }
 
 /// What a keyword by itself finds.
@@ -125,8 +133,12 @@ pub(crate) fn find_words(
     requires { All IsPlaced terms.now }
     ensures { IfOk result (λ told. Finds (AreShort terms.now) (worded spans.now terms.now) out.old out.new told) }
 {
+    let count = standing(terms, spans);
+    if count == 0 {
+        return Ok(false);
+    }
     put_keywords(terms, spans, out)?;
-    Ok(standing(terms, spans) > 0)
+    Ok(true)
 }
 
 /// What keywords that are quoted together find.
