@@ -1,5 +1,5 @@
 -- Rows that the tests read are what a chunk holds.
-use Rattle.std.proofs.Common.{◌≡◌, ℕ, ◌-◌, ◌<◌, ◌≤◌, ◌*◌, List, [], ◌∷◌, ◌++◌, Some, length, length-append, get_or, slice_get, nat_lt, sym, arith, All, AllPairs, ap, ◌⊎◌, inl, inr}
+use Rattle.std.proofs.Common.{◌≡◌, ◌≢◌, false, refl, subst, ℕ, ◌-◌, ◌<◌, ◌≤◌, ◌*◌, List, [], ◌∷◌, ◌++◌, Some, length, length-append, get_or, slice_get, nat_lt, sym, arith, All, AllPairs, ap, ◌⊎◌, inl, inr}
 use Rattle.std.specs.List.{sum_by}
 use Rattle.std.specs.Bool.{IsTrue}
 use Rattle.std.proofs.lemmas.Bool.{cases_lt}
@@ -14,7 +14,9 @@ use Rattle.doc_types.specs.declared.tokens.FieldTokens.{FieldTokens}
 use Rattle.doc_types.specs.Documents.{IsDocOf, word_count}
 use Rattle.doc_types.specs.Schemas.{IsSchema}
 use Rattle.doc_types.specs.Chunks.{IsContent}
-use Rattle.eval_vectors.specs.steps.Reading.{AreFewRows, IsShortField, IsShortRow}
+use Rattle.doc_types.specs.Snapshots.{AreLayers, IsLayer, LayerValue, all_living}
+use Rattle.doc_types.proofs.Living.{whole_layer}
+use Rattle.eval_vectors.specs.steps.Reading.{AreFewRows, IsShortField, IsShortRow, whole}
 
 -- one more short field
 pub more_short : (fields : List FieldTokens) (field : FieldTokens) → All IsShortField fields → IsShortField field → All IsShortField (fields ++ field ∷ [])
@@ -73,3 +75,19 @@ content schema rows limits are =
       of = are.of;
       small = record { few_rows = omega (arith, are.few); few_words = omega (arith, words, are.few) };
     }
+
+-- rows of a chunk, of which none is dead
+whole_is : (rows : List DocRow) → IsContent rows → IsLayer (whole rows)
+whole_is rows content = record { content = content; ascend = λ i j d l h. absurd (omega (arith, h)); rows = All-nil (λ row. row < length rows) }
+
+-- one layer of them
+pub one_whole : (layer : LayerValue) (rows : List DocRow) → layer ≡ whole rows → IsContent rows → AreLayers (layer ∷ [])
+one_whole layer rows is content =
+    let living : all_living (whole rows ∷ []) ≡ rows = whole_layer (whole rows) refl in
+    let apart : AllPairs (λ (row other : DocRow). row.doc.id ≢ other.doc.id) rows = λ i j d l h same. absurd (omega (arith, same, content.of.ids i j d l h)) in
+    subst (λ (l : LayerValue). AreLayers (l ∷ [])) (sym is) (record {
+      each = All-cons IsLayer (whole rows) [] (whole_is rows content) (All-nil IsLayer);
+      distinct = subst (λ (l : List DocRow). AllPairs (λ (row other : DocRow). row.doc.id ≢ other.doc.id) l) (sym living) apart;
+      few_layers = omega arith;
+      few_rows = omega (arith, ap length living, content.small.few_rows);
+    })

@@ -1,9 +1,11 @@
 //! Documents from the texts of their fields: the rows of a chunk.
 ghost use Rattle.std.specs.Prelude.{◌<◌, All, AllPairs, IfOk, IsTrue, OnOk};
+ghost use Rattle.doc_types.specs.Chunks.{IsContent};
+ghost use Rattle.doc_types.specs.Documents.{AreRowsOf};
 ghost use Rattle.eval_vectors.specs.steps.Reading.{AreFewRows, IsShortField, IsShortRow, IsSoundIndex};
 
 use doc_tokens::tokens;
-use doc_types::{Doc, DocRow, FieldTokens};
+use doc_types::{Chunk, Doc, DocRow, FieldTokens};
 use image_chunk::RamChunk;
 use index_conf::IndexConf;
 use srch_base::Items;
@@ -88,6 +90,8 @@ pub(crate) fn push(
 pub(crate) fn built(alloc: Global, index: &IndexConf, rows: Vec<DocRow>) -> Result<RamChunk, Fail>
     requires index { IsSoundIndex index.now }
     requires rows { AreFewRows index.now.schema rows.items }
+    ensures rows { IfOk result (λ chunk. AreRowsOf index.now.schema (⟦<RamChunk as Chunk>⟧.content chunk)) }
+    ensures content { IfOk result (λ chunk. IsContent (⟦<RamChunk as Chunk>⟧.content chunk)) }
 {
     Ok(RamChunk::build(alloc, rows)?)
 }

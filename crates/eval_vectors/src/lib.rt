@@ -15,6 +15,8 @@ mod pages;
 #[cfg(test)]
 mod queries;
 #[cfg(test)]
+mod selecting;
+#[cfg(test)]
 mod sets;
 #[cfg(test)]
 mod sizes;

@@ -1,6 +1,7 @@
 //! Runs over queries and what they find, as docs/cases/evaluation.md tells it.
 ghost use Rattle.std.specs.Prelude.{◌<◌, ◌^◌, IfOk, length};
 ghost use Rattle.query_tree.specs.TreeKeys.{query_keys};
+ghost use Rattle.op_eval.specs.Numbered.{IsNumbered};
 ghost use Rattle.eval_vectors.specs.steps.Reading.{IsSoundIndex};
 
 use crate::cases::{DOCUMENTS, QUERIES};
@@ -18,7 +19,8 @@ use std::test::Fail;
 /// The query that a short text is, as the index means it.
 pub(crate) fn query_of(alloc: Global, text: &str, index: &IndexConf) -> Result<Query, Fail>
     requires { IsSoundIndex index.now }
-    ensures { IfOk result (λ query. length (query_keys query) < 2 ^ 16) }
+    ensures numbered { IfOk result IsNumbered }
+    ensures few { IfOk result (λ query. length (query_keys query) < 2 ^ 16) }
 {
     if text.len() > 10_000 {
         return Err("a text above 10,000 bytes".into());

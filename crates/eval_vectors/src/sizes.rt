@@ -1,9 +1,13 @@
 //! Many documents: how many of them queries find, worked out by how they are made.
+ghost use Rattle.std.specs.Prelude.{IfOk};
+ghost use Rattle.doc_types.specs.Chunks.{IsContent};
+ghost use Rattle.doc_types.specs.Documents.{AreRowsOf};
 ghost use Rattle.eval_vectors.specs.steps.Reading.{IsSoundIndex};
 
 use crate::documents::{built, push};
 use crate::queries::{Asked, try_lines};
 use crate::sets::index_of;
+use doc_types::Chunk;
 use image_chunk::RamChunk;
 use index_conf::IndexConf;
 use std::alloc::Global;
@@ -62,6 +66,8 @@ fn text_of(alloc: Global, number: u64) -> Result<String, Fail> {
 /// The chunk of the documents.
 pub(crate) fn chunk_of_many(alloc: Global, index: &IndexConf) -> Result<RamChunk, Fail>
     requires { IsSoundIndex index.now }
+    ensures rows { IfOk result (λ chunk. AreRowsOf index.now.schema (⟦<RamChunk as Chunk>⟧.content chunk)) }
+    ensures content { IfOk result (λ chunk. IsContent (⟦<RamChunk as Chunk>⟧.content chunk)) }
 {
     let mut rows = Vec::new(alloc);
     'numbers: for number in 0..DOCUMENTS {

@@ -1,4 +1,6 @@
 //! A chunk that counts the lists of places that are opened, and how often a row is sought, or whose lists can't be opened.
+ghost use Rattle.std.specs.Prelude.{◌≡◌, IfOk};
+
 use doc_types::{Chunk, Cursor, Gap, HitLists, Value, ZoneSpan};
 use srch_base::{NoMemory, Steps};
 use std::alloc::Global;
@@ -17,7 +19,9 @@ pub(crate) struct Watched<C> {
 
 impl<C: Drop> Watched<C> {
     /// A chunk whose lists are opened and counted.
-    pub(crate) fn over(alloc: Global, chunk: C) -> Result<Watched<C>, NoMemory> {
+    pub(crate) fn over(alloc: Global, chunk: C) -> Result<Watched<C>, NoMemory>
+        ensures { IfOk result (λ watched. watched.chunk ≡ chunk) }
+    {
         Watched::made(alloc, chunk, false)
     }
 
@@ -26,7 +30,9 @@ impl<C: Drop> Watched<C> {
         Watched::made(alloc, chunk, true)
     }
 
-    fn made(alloc: Global, chunk: C, is_shut: bool) -> Result<Watched<C>, NoMemory> {
+    fn made(alloc: Global, chunk: C, is_shut: bool) -> Result<Watched<C>, NoMemory>
+        ensures { IfOk result (λ watched. watched.chunk ≡ chunk) }
+    {
         Ok(Watched {
             chunk,
             lists: Arc::new(alloc, AtomicU64::new(0))?,
