@@ -18,3 +18,5 @@ pub mod WholeOffsets
 pub mod AnyOrder
 -- hits of one keyword
 pub mod LoneValues
+-- hits whose fields ascend
+pub mod Runs
