@@ -1,6 +1,6 @@
 -- The table of the words that were met, as it is after some hits.
-use Rattle.std.proofs.Common.{◌≡◌, ◌≢◌, ℕ, ◌+◌, ◌<◌, Bool, true, false, cond, ◌||◌, ◌==◌, nat_eq, List, [], ◌∷◌, ◌++◌, map, length, get_or, take, set, inl, inr, refl, sym, ap, ◌∙◌, subst, arith}
-use Rattle.std.specs.List.{All}
+use Rattle.std.proofs.Common.{◌≡◌, ◌≢◌, ℕ, ◌+◌, ◌<◌, Bool, true, false, cond, ◌||◌, ◌&&◌, ◌==◌, nat_eq, List, [], ◌∷◌, ◌++◌, map, length, get_or, take, set, inl, inr, refl, sym, ap, ◌∙◌, subst, arith}
+use Rattle.std.specs.List.{All, list_any}
 use Rattle.std.specs.Set.{unique_keys, is_member, distinct_count}
 use Rattle.std.proofs.lemmas.Bool.{cases_eq, or_left, or_right, eq-eqb, ne_eqb, eqb-true, true≢false}
 use Rattle.std.proofs.lemmas.List.{length-set, take_more, get_or-set_same, get_or-set_other, map-append, append-nil}
@@ -155,6 +155,33 @@ module _ (field : ℕ) (met : List Bool) (count : ℕ) (hits : List Hit) (i : �
         (AreMet field (set met (get_or hits i d).word true) (count + 1))
         (sym (take_more hits i d inside))
         (met_more field met count (take i hits) (get_or hits i d) own (omega arith) are (subst (λ (w : ℕ). get_or met w false ≡ false) here new)))
+
+-- ---- hits that are looked for among those before them
+
+member_kept : (word : ℕ) (b : Bool) (hit : Hit) (hits : List Hit) → is_member nat_eq (map (λ (h : Hit). h.word) (cond b (hit ∷ hits) hits)) word ≡ ((b && nat_eq word hit.word) || is_member nat_eq (map (λ (h : Hit). h.word) hits) word)
+member_kept word true hit hits = refl
+member_kept word false hit hits = refl
+
+any_is_member : (field word : ℕ) (hits : List Hit) → list_any (λ hit. (hit.field == field) && (hit.word == word)) hits ≡ is_member nat_eq (words_in field hits) word
+any_is_member field word [] = refl
+any_is_member field word (hit ∷ hits) =
+    ap (λ b. ((hit.field == field) && (hit.word == word)) || b) (any_is_member field word hits)
+    ∙ (ap (λ b. ((hit.field == field) && b) || is_member nat_eq (words_in field hits) word) (flipped hit.word word)
+    ∙ sym (member_kept word (hit.field == field) hit (in_field field hits)))
+
+module _ (field : ℕ) (hits : List Hit) (i : ℕ) (d : Hit) (inside : i < length hits) where
+  -- a hit of another field, and one of this field, whose word was met or not
+  pub count_other : (get_or hits i d).field ≢ field → distinct_count nat_eq (words_in field (take (i + 1) hits)) ≡ distinct_count nat_eq (words_in field (take i hits))
+  count_other other =
+      ap (λ hs. distinct_count nat_eq (words_in field hs)) (take_more hits i d inside) ∙ ap (distinct_count nat_eq) (words_other field (take i hits) (get_or hits i d) other)
+
+  pub count_own : (get_or hits i d).field ≡ field → (met : Bool) → met ≡ list_any (λ hit. (hit.field == field) && (hit.word == (get_or hits i d).word)) (take i hits)
+      → distinct_count nat_eq (words_in field (take (i + 1) hits)) ≡ distinct_count nat_eq (words_in field (take i hits)) + cond met 0 1
+  count_own own met is =
+      ap (λ hs. distinct_count nat_eq (words_in field hs)) (take_more hits i d inside)
+      ∙ (ap (distinct_count nat_eq) (words_push field (take i hits) (get_or hits i d) own)
+      ∙ (distinct_push (words_in field (take i hits)) (get_or hits i d).word
+      ∙ ap (λ b. distinct_count nat_eq (words_in field (take i hits)) + cond b 0 1) (sym (is ∙ any_is_member field (get_or hits i d).word (take i hits)))))
 
 pub met_same : (field : ℕ) (met met' : List Bool) (count count' : ℕ) (hits : List Hit) → met' ≡ met → count' ≡ count → AreMet field met count hits → AreMet field met' count' hits
 met_same field met met' count count' hits e f are =
