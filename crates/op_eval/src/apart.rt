@@ -40,14 +40,21 @@ pub(crate) fn are_apart(
     }
 }
 
+/// Whether the node is a keyword.
+pub(crate) fn is_word(node: &Node) -> bool
+    ensures { IsTrue result → (key : KeyValue) × (node.now ≡ nodes.Word key) }
+{
+    match node {
+        Node::Word(_) => true,
+        _ => false,
+    }
+}
+
 /// Whether both nodes are keywords.
 fn are_words(a: &Node, b: &Node) -> bool
     ensures { IsTrue result → ((key : KeyValue) × (a.now ≡ nodes.Word key)) × ((key : KeyValue) × (b.now ≡ nodes.Word key)) }
 {
-    match (a, b) {
-        (Node::Word(_), Node::Word(_)) => true,
-        _ => false,
-    }
+    is_word(a) && is_word(b)
 }
 
 /// Whether no places of the first of these and of the first of those are near each other.

@@ -11,7 +11,7 @@ ghost use Rattle.word_rows.specs.RowMarks.{AreMarks};
 ghost use Rattle.op_eval.specs.steps.Evaluating.{Finds, Holds, OfEachItem, OfEachPair, OfEachRow, founds_in, join_by, part_finds, part_in};
 ghost use Rattle.word_rows.specs.Terms.{IsShort};
 
-use crate::apart::are_apart;
+use crate::apart::{are_apart, is_word};
 use crate::joining::{Join, put_made};
 use crate::matching::{Work, is_among, terms_first, terms_last};
 use crate::quoting::{find_quoted, find_words};
@@ -124,8 +124,30 @@ fn find_either(
 {
     let (left, right) = terms_last(b, terms);
     let first = find(a, left, marks, work, out)?;
-    let second = find(b, right, marks, work, out)?;
+    let second = find_simply(b, right, marks, work, out)?;
     Ok(first | second)
+}
+
+/// What the node finds. A keyword is looked for at once: a chain of `|` has one at each of its links, and most rows have few of them.
+#[cycle(finding)]
+fn find_simply(
+    node: &Node,
+    terms: &[Term],
+    marks: &RowMarks,
+    work: &mut Work,
+    out: &mut Finding,
+) -> Result<bool, NoMemory>
+    requires placed { All IsPlaced terms.now }
+    requires marks { AreMarks marks.now }
+    requires forward { All IsForward out.old.occs.items }
+    ensures spans { OnOk result (work.new.spans.items ≡ work.old.spans.items) }
+    ensures forward { OnOk result (All IsForward out.new.occs.items) }
+    ensures found { OfEachRow node.now terms.now marks.now (λ row number. IfOk result (λ told. Finds (IsShort number) (node_finds row number node.now work.old.spans.items) out.old out.new told)) }
+{
+    if is_word(node) {
+        return find_words(terms, &work.spans, out);
+    }
+    find(node, terms, marks, work, out)
 }
 
 /// What a node finds, and another one where that matches.

@@ -180,8 +180,9 @@ impl<'q> Search<'q> {
         ensures hits { (its : DocRow) → slice_get (C.content chunk.now) row ≡ Some its → length (node_keys self.old.root.now) < 2 ^ 16 → OnOk result (SameMembers found.new.hits.items (node_found self.old.root.now its).hits) }
     {
         found.clear();
+        let judged = self.is_judged(row);
         seek(&mut self.slots, &mut self.known, chunk, row);
-        if is_ruled_out(self.vetoed, self.root, &self.slots.terms) {
+        if is_ruled_out(judged, self.root, &self.slots.terms) {
             return Ok(false);
         }
         self.load(chunk, row, steps)?;
@@ -195,6 +196,11 @@ impl<'q> Search<'q> {
         // Want of memory may have left some in force.
         self.work.spans.clear();
         told
+    }
+
+    /// Whether the row's words needn't be looked at again, where the plan holds of them: none vetoes, or they were looked at last.
+    fn is_judged(&self, row: u32) -> bool {
+        !self.vetoed || is_row(self.known, row)
     }
 
     /// Reads what the query asks of the row.
@@ -260,11 +266,11 @@ fn is_row(known: Option<u32>, row: u32) -> bool
     }
 }
 
-/// Whether the row's words rule it out. Where none of them vetoes, a row of whose words the plan holds isn't looked at again.
-fn is_ruled_out(vetoed: bool, root: &Node, terms: &[Term]) -> bool
+/// Whether the row's words rule it out, where that wasn't looked at before.
+fn is_ruled_out(judged: bool, root: &Node, terms: &[Term]) -> bool
     ensures { result ≡ true → (row : DocRow) (number : List ℕ → ℕ) → AreApart number (node_keys root.now) → AreSeenIn row (node_keys root.now) terms.now → (node_finds row number root.now []).matches ≡ false }
 {
-    vetoed && !may_match(root, terms)
+    !judged && !may_match(root, terms)
 }
 
 /// Whether a row may match, as far as its words tell.

@@ -86,9 +86,20 @@ pub find_either-returns-clause-found : goal.find_either-returns-clause-found
 find_either-returns-clause-found t c = λ row number z left right.
     let parts = zip_last (IsTermOf row number) (node_keys c.args.a.now) (node_keys c.args.b.now) c.args.terms.now c.terms_last.result.0.now c.terms_last.result.1.now z c.terms_last.ensures.whole c.terms_last.ensures.own in
     let spans = c.args.work.now.spans.items in
-    finds_either (node_finds row number c.args.a.now spans) (node_finds row number c.args.b.now spans) c.args.out.now c.find.new.out c.find-2.new.out c.in_ok-first.first c.in_ok-second.second
+    finds_either (node_finds row number c.args.a.now spans) (node_finds row number c.args.b.now spans) c.args.out.now c.find.new.out c.find_simply.new.out c.in_ok-first.first c.in_ok-second.second
     (c.in_ok-first.ensures.found row number parts.0 left)
-    (subst (λ (s : Spans). Finds (IsShort number) (node_finds row number c.args.b.now s) c.find.new.out c.find-2.new.out c.in_ok-second.second) c.in_ok-first.ensures.spans (c.in_ok-second.ensures.found row number parts.1 right))
+    (subst (λ (s : Spans). Finds (IsShort number) (node_finds row number c.args.b.now s) c.find.new.out c.find_simply.new.out c.in_ok-second.second) c.in_ok-first.ensures.spans (c.in_ok-second.ensures.found row number parts.1 right))
+
+pub find_simply-returns-then-is_word-clause-forward : goal.find_simply-returns-then-is_word-clause-forward
+find_simply-returns-then-is_word-clause-forward t c =
+    told_forward _ (worded c.deref.result.now c.args.terms.now) c.args.out.now c.find_words.new.out c.find_words.result c.requires.forward (forward_places (flat_map (term_places c.deref.result.now) c.args.terms.now)) c.find_words.ensures
+
+pub find_simply-returns-then-is_word-clause-found : goal.find_simply-returns-then-is_word-clause-found
+find_simply-returns-then-is_word-clause-found t c = λ row number z knows.
+    let word = c.is_word.ensures c.if-is_word.true in
+    subst (λ (f : Found). IfOk c.find_words.result (λ told. Finds (IsShort number) f c.args.out.now c.find_words.new.out told))
+    (ap (λ (s : Spans). worded s c.args.terms.now) c.deref.ensures.value ∙ node_worded row number c.args.work.now.spans.items c.args.node.now word.0 c.args.terms.now word.1 z)
+    (told_when (worded c.deref.result.now c.args.terms.now) c.args.out.now c.find_words.new.out c.find_words.result (terms_short row number (node_keys c.args.node.now) c.args.terms.now z) c.find_words.ensures)
 
 pub find_perhaps-returns-in_ok-find-clause-found : goal.find_perhaps-returns-in_ok-find-clause-found
 find_perhaps-returns-in_ok-find-clause-found t c = λ row number z left right.

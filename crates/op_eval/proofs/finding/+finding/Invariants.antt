@@ -34,7 +34,10 @@ abbrev pub decreases-find : goal.decreases-find
 decreases-find l = 4 * goal.size-find l
 
 abbrev pub decreases-find_either : goal.decreases-find_either
-decreases-find_either l = 4 * max (size-Node l.a.now) (size-Node l.b.now) + 1
+decreases-find_either l = 4 * max (size-Node l.a.now) (size-Node l.b.now) + 2
+
+abbrev pub decreases-find_simply : goal.decreases-find_simply
+decreases-find_simply l = 4 * goal.size-find_simply l + 1
 
 abbrev pub decreases-find_perhaps : goal.decreases-find_perhaps
 decreases-find_perhaps l = 4 * max (size-Node l.a.now) (size-Node l.b.now) + 1
