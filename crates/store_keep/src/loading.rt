@@ -1,5 +1,5 @@
 //! The documents of a log's records. Each is moved out of its record, so that it is in memory once.
-ghost use Rattle.std.specs.Prelude.{◌≡◌, ◌<◌, ◌^◌, ◌==◌, ◌+◌, ℕ, List, [], false, if◌then◌else◌, IfOk, IfSome, OnOk, Some, length, map};
+ghost use Rattle.std.specs.Prelude.{◌≡◌, ◌<◌, ◌^◌, ◌==◌, ◌+◌, ◌++◌, ℕ, List, [], false, if◌then◌else◌, IfOk, IfSome, OnOk, Some, length, map};
 ghost use Rattle.std.specs.BTreeMap.{IsOrdered, get};
 ghost use Rattle.std.specs.List.{sum_by};
 ghost use Rattle.std.specs.Map.{values_of};
@@ -12,7 +12,7 @@ ghost use Rattle.doc_types.specs.declared.schema.Schema.{Schema as AnySchema};
 ghost use Rattle.gate_log.specs.Reading.{record_of};
 ghost use Rattle.gate_log.specs.declared.records.LogRecord.{LogRecord};
 ghost use Rattle.layer_commit.specs.steps.Trying.{row_after, row_then};
-ghost use Rattle.store_keep.specs.steps.Loads.{AreRowsAt, IsLoaded, IsOfBytes, IsSnapshotOf, Takes, TakesLog, TakesRecord, bad_record, before_next, number_after};
+ghost use Rattle.store_keep.specs.steps.Loads.{AreRowsAt, HaveRows, IsLoaded, IsOfBytes, IsSnapshotOf, Takes, TakesLog, TakesRecord, bad_record, before_next, number_after};
 
 use crate::fault::StoreFault;
 use any_chunk::AnyChunk;
@@ -30,6 +30,9 @@ const MOST_ROWS: usize = 1 << 31;
 
 /// The most words in them, each occurrence counted.
 const MOST_WORDS: u32 = 1 << 31;
+
+/// The most of them that are put into one layer.
+const MOST_IN_ONE: usize = 10_000;
 
 /// What was read of the logs so far.
 #[derive(Drop)]
@@ -147,8 +150,7 @@ impl Loaded {
         } = self;
         let number = number_of(last, through);
         let rows = content_of(alloc, rows)?;
-        let mut layers = Vec::new(alloc);
-        layers.push(layer_of(alloc, rows)?)?;
+        let layers = layers_of(alloc, rows)?;
         Ok(Snapshot {
             number,
             shape: 0,
@@ -211,6 +213,56 @@ fn damage_of(file: u32, place: u64, kind: LogKind) -> Damage
         LogKind::Number => DamageKind::RecordNumber,
     };
     Damage { file, place, kind }
+}
+
+/// Layers in memory of these rows: three where they are many. So the sort of a layer's words is smaller, and the memory of rows that
+/// have their layer serves for the next one; four layers of one size would become one with the next commit.
+#[tactic(auto, using(crate::proofs::Layers::one_layer, crate::proofs::Layers::in_three))]
+fn layers_of(alloc: Global, rows: Vec<DocRow>) -> Result<Vec<Layer<AnyChunk>>, NoMemory>
+    requires { IsContent rows.items }
+    ensures { IfOk result (λ layers. HaveRows rows.items layers.items) }
+{
+    if rows.len() <= MOST_IN_ONE {
+        let mut layers = Vec::new(alloc);
+        layers.push(layer_of(alloc, rows)?)?;
+        return Ok(layers);
+    }
+    let third = rows.len() / 3;
+    let (first, rest) = split(rows, third)?;
+    let (second, last) = split(rest, third)?;
+    three_layers(alloc, first, second, last)
+}
+
+/// Three layers in memory, each of its rows, which are let go as soon as it is made.
+fn three_layers(
+    alloc: Global,
+    first: Vec<DocRow>,
+    second: Vec<DocRow>,
+    last: Vec<DocRow>,
+) -> Result<Vec<Layer<AnyChunk>>, NoMemory>
+    requires first { IsContent first.items }
+    requires second { IsContent second.items }
+    requires last { IsContent last.items }
+    ensures { IfOk result (λ layers. HaveRows (first.items ++ (second.items ++ last.items)) layers.items) }
+{
+    let mut layers = Vec::new(alloc);
+    layers.push(layer_of(alloc, first)?)?;
+    layers.push(layer_of(alloc, second)?)?;
+    layers.push(layer_of(alloc, last)?)?;
+    Ok(layers)
+}
+
+/// The first rows, so many at most, and the others.
+fn split(rows: Vec<DocRow>, count: usize) -> Result<(Vec<DocRow>, Vec<DocRow>), NoMemory>
+    requires { IsContent rows.items }
+    ensures all { IfOk result (λ parts. parts.0.items ++ parts.1.items ≡ rows.items) }
+    ensures first { IfOk result (λ parts. IsContent parts.0.items) }
+    ensures others { IfOk result (λ parts. IsContent parts.1.items) }
+{
+    let mut rows = rows;
+    let count = count.min(rows.len());
+    let others = rows.split_off(count)?;
+    Ok((rows, others))
 }
 
 /// A layer in memory of these rows.

@@ -2,17 +2,18 @@
 use Rattle.std.specs.Prelude.{◌≡◌, ◌≢◌, ℕ, ◌<◌, ◌≤◌, List, [], ◌∷◌, ◌++◌, Option, Some, None, Result, Ok, Err, IfSome, All, false, length, map}
 use Rattle.std.specs.BTreeMap.{BTreeMap, get}
 use Rattle.std.specs.FinMap as finite
-use Rattle.std.specs.List.{fold}
+use Rattle.std.specs.List.{flat_map, fold}
 use Rattle.std.specs.Ordering.{nat_cmp}
 use Rattle.doc_bytes.specs.Reading.{txn_at}
 use Rattle.doc_types.specs.declared.documents.DocRow.{DocRow}
 use Rattle.doc_types.specs.declared.schema.Schema.{Schema}
 use Rattle.doc_types.specs.declared.transactions.Txn.{Txn}
 use Rattle.doc_types.specs.declared.transactions.TxnOp.{TxnOp}
+use Rattle.doc_types.specs.Chunks.{IsContent}
 use Rattle.doc_types.specs.Commits.{Change, change_of}
 use Rattle.doc_types.specs.Documents.{IsDocOf}
 use Rattle.doc_types.specs.Rows.{Rows}
-use Rattle.doc_types.specs.Snapshots.{SnapshotValue, live}
+use Rattle.doc_types.specs.Snapshots.{LayerValue, SnapshotValue, live}
 use Rattle.step_history.specs.History.{AreOf}
 use Rattle.gate_log.specs.Logs.{AreRecords, last_number, spelled}
 use Rattle.gate_log.specs.Reading.{Begins, behind}
@@ -90,6 +91,18 @@ pub record IsSnapshotOf (schema : Schema) (through : ℕ) (records : List LogRec
   pub memory : All (λ layer. layer.disk ≡ false) snapshot.layers
   pub of : AreOf schema snapshot
   pub newer : (id : ℕ) (row : DocRow) → finite.get (live snapshot) id ≡ Some row → through < row.born
+
+-- a layer in memory of which all rows live
+pub record IsWhole (layer : LayerValue) : Type 0 where
+  pub memory : layer.disk ≡ false
+  pub none : layer.dead ≡ []
+  pub content : IsContent layer.rows
+
+-- such layers, which have the rows, one after the other
+pub record HaveRows (rows : List DocRow) (layers : List LayerValue) : Type 0 where
+  pub each : All IsWhole layers
+  pub are : flat_map (λ layer. layer.rows) layers ≡ rows
+  pub few : length layers ≤ 3
 
 -- what comes before the record behind these
 abbrev pub before_next : ℕ → List LogRecord → Before
