@@ -234,7 +234,8 @@ fn weight_unranked<C: CountedLists>(
     Ok(if found { Some(1) } else { None })
 }
 
-/// The same by the hits.
+/// The same by the hits. Out of line: a weight has tables on the stack, for which rows that go another way would pay.
+#[inline(never)]
 fn weight_ranked<C: CountedLists>(
     asked: &ReadyQuestion<'_>,
     stream: &mut Matches<'_, C>,
