@@ -15,38 +15,44 @@ const READS: [(&[u32], &[u32], usize, usize, &str); 6] = [
     (&[], &[2], 0, 3, "|failed||"),
 ];
 
-/// Appends what one read gives.
-fn put_read(link: &mut MemoryLink, room: usize, given: &mut Vec<u8>) -> Result<(), Fail> {
-    let mut buffer = [0; 16];
-    let into = buffer.get_mut(..room).ok_or("no such room")?;
-    let got = match link.read(into) {
-        Ok(count) => into.get(..count).ok_or("too many")?,
-        Err(Failed) => b"failed",
-    };
-    given.extend_from_slice(got)?;
-    given.push(b'|')?;
-    Ok(())
+/// What one read gives.
+fn read<'a>(link: &mut MemoryLink, into: &'a mut [u8]) -> Result<&'a [u8], Fail> {
+    match link.read(into) {
+        Ok(count) => Ok(into.get(..count).ok_or("too many")?),
+        Err(Failed) => Ok(b"failed"),
+    }
 }
 
 /// What so many reads give.
-fn reads(alloc: Global, link: &mut MemoryLink, room: usize, count: usize) -> Result<Vec<u8>, Fail> {
+fn reads(
+    alloc: Global,
+    link: &mut MemoryLink,
+    into: &mut [u8],
+    count: usize,
+) -> Result<Vec<u8>, Fail> {
     let mut given = Vec::new(alloc);
     for _ in 0..count {
-        put_read(link, room, &mut given)?;
+        given.extend_from_slice(read(link, into)?)?;
+        given.push(b'|')?;
     }
     Ok(given)
+}
+
+/// The link of a row.
+fn link_of(alloc: Global, cuts: &[u32], failing: &[u32]) -> Result<MemoryLink, Fail> {
+    let input = Vec::from_slice(alloc, b"abcdef")?;
+    let cuts = Vec::from_slice(alloc, cuts)?;
+    let failing = Vec::from_slice(alloc, failing)?;
+    Ok(MemoryLink::new(alloc, input, cuts, failing))
 }
 
 /// The number of the first link whose reads give something else.
 fn first_other_read(alloc: Global) -> Result<Option<usize>, Fail> {
     for (at, (cuts, failing, room, count, wants)) in READS.iter().enumerate() {
-        let mut link = MemoryLink::new(
-            alloc,
-            Vec::from_slice(alloc, b"abcdef")?,
-            Vec::from_slice(alloc, cuts)?,
-            Vec::from_slice(alloc, failing)?,
-        );
-        if reads(alloc, &mut link, *room, *count)?.as_slice() != wants.as_bytes() {
+        let mut link = link_of(alloc, cuts, failing)?;
+        let mut buffer = [0; 16];
+        let into = buffer.get_mut(..*room).ok_or("no such room")?;
+        if reads(alloc, &mut link, into, *count)?.as_slice() != wants.as_bytes() {
             return Ok(Some(at));
         }
     }
@@ -59,17 +65,22 @@ fn a_memory_link_reads_in_its_pieces(rt: HostRuntime) -> Result<(), Fail> {
     Ok(())
 }
 
+/// Writes to a link whose second call fails, and what each gives.
+const WRITES: [(&[u8], Result<usize, Failed>); 4] = [
+    (b"ab", Ok(2)),
+    (b"cd", Err(Failed)),
+    (b"", Ok(0)),
+    (b"e", Ok(1)),
+];
+
 #[test]
 fn a_memory_link_takes_what_is_written(rt: HostRuntime) -> Result<(), Fail> {
-    let alloc = rt.alloc();
-    let failing = Vec::from_slice(alloc, &[2])?;
-    let mut link = MemoryLink::new(alloc, Vec::new(alloc), Vec::new(alloc), failing);
-    assert!(rt; link.write(b"ab") == Ok(2));
-    assert!(rt; link.write(b"cd") == Err(Failed));
-    assert!(rt; link.clone()?.written() == b"ab".as_slice());
-    assert!(rt; link.write(b"") == Ok(0));
-    assert!(rt; link.write(b"e") == Ok(1));
+    let mut link = link_of(rt.alloc(), &[], &[2])?;
+    for (bytes, wanted) in WRITES {
+        assert!(rt; link.write(bytes) == wanted);
+    }
     assert!(rt; link.written() == b"abe".as_slice());
+    assert!(rt; link.clone()?.written() == b"abe".as_slice());
     Ok(())
 }
 
@@ -77,7 +88,7 @@ fn a_memory_link_takes_what_is_written(rt: HostRuntime) -> Result<(), Fail> {
 fn a_list_door_gives_its_lines(rt: HostRuntime) -> Result<(), Fail> {
     let alloc = rt.alloc();
     let mut lines = Vec::new(alloc);
-    lines.push(MemoryLink::new(alloc, Vec::new(alloc), Vec::new(alloc), Vec::new(alloc)))?;
+    lines.push(link_of(alloc, &[], &[])?)?;
     let mut door = ListDoor::new(alloc, lines)?;
     let mut line = door.next()?.ok_or("no line")?;
     line.write(b"bye")?;

@@ -9,12 +9,18 @@ const STREAM: [u8; 16] = [1, 0, 0, 0, 0x0e, 0, 0, 0, 0, 3, 0, 0, 0, 0x03, b'a', 
 
 const PAYLOADS: [&[u8]; 3] = [&[0x0e], &[], &[0x03, b'a', b'b']];
 
-/// Feeds a piece and takes the packets that are whole then: how many of those expected.
-fn take_packets(framer: &mut Framer, piece: &[u8], expected: &[&[u8]]) -> Result<usize, Fail> {
+/// Feeds a piece of bytes.
+fn feed(framer: &mut Framer, piece: &[u8]) -> Result<(), Fail> {
     if framer.held() > 1000 || piece.len() > 1000 {
         return Err("too many bytes".into());
     }
     framer.feed(piece).ok().ok_or("memory")?;
+    Ok(())
+}
+
+/// Feeds a piece and takes the packets that are whole then: how many of those expected.
+fn take_packets(framer: &mut Framer, piece: &[u8], expected: &[&[u8]]) -> Result<usize, Fail> {
+    feed(framer, piece)?;
     for (taken, payload) in expected.iter().enumerate() {
         if framer.needs_more(0) {
             return Ok(taken);
@@ -26,21 +32,20 @@ fn take_packets(framer: &mut Framer, piece: &[u8], expected: &[&[u8]]) -> Result
     Ok(expected.len())
 }
 
-/// Whether the stream gives its packets, and nothing is left, where it is cut after so many bytes.
-fn is_read_in_two(alloc: Global, cut: usize) -> Result<bool, Fail> {
-    let mut framer = Framer::new(alloc).ok().ok_or("memory")?;
-    let front = STREAM.get(..cut).ok_or("a short stream")?;
-    let back = STREAM.get(cut..).ok_or("a short stream")?;
-    let before = take_packets(&mut framer, front, &PAYLOADS)?;
+/// Whether a stream of two pieces gives its packets, and nothing is left.
+fn is_read_in_two(framer: &mut Framer, front: &[u8], back: &[u8]) -> Result<bool, Fail> {
+    let before = take_packets(framer, front, &PAYLOADS)?;
     let rest = PAYLOADS.get(before..).ok_or("too many packets")?;
-    let after = take_packets(&mut framer, back, rest)?;
+    let after = take_packets(framer, back, rest)?;
     Ok(after == rest.len() && framer.next(0) == Next::NeedMore && framer.held() == 0)
 }
 
 /// The first cut at which the stream gives other packets.
 fn first_wrong_cut(alloc: Global) -> Result<Option<usize>, Fail> {
     for cut in 0..=STREAM.len() {
-        if !is_read_in_two(alloc, cut)? {
+        let (front, back) = STREAM.split_at_checked(cut).ok_or("a short stream")?;
+        let mut framer = Framer::new(alloc).ok().ok_or("memory")?;
+        if !is_read_in_two(&mut framer, front, back)? {
             return Ok(Some(cut));
         }
     }

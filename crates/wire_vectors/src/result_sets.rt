@@ -29,15 +29,20 @@ fn columns_of(alloc: Global, names: &[&[u8]], kind: ColumnKind) -> Result<Items<
     Ok(Items::new(columns))
 }
 
+/// A row of numbers.
+fn row_of(alloc: Global, numbers: &[i128]) -> Result<Items<Cell>, Fail> {
+    let mut cells = Vec::new(alloc);
+    for number in numbers {
+        cells.push(Cell::Whole(*number))?;
+    }
+    Ok(Items::new(cells))
+}
+
 /// Rows of numbers.
 fn rows_of(alloc: Global, rows: &[&[i128]]) -> Result<Items<Items<Cell>>, Fail> {
     let mut list = Vec::new(alloc);
     for row in rows {
-        let mut cells = Vec::new(alloc);
-        for number in *row {
-            cells.push(Cell::Whole(*number))?;
-        }
-        list.push(Items::new(cells))?;
+        list.push(row_of(alloc, row)?)?;
     }
     Ok(Items::new(list))
 }
