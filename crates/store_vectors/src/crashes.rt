@@ -1,6 +1,6 @@
 //! What each kind of crash leaves of a disk in memory, after calls that are written as a text.
 use crate::careful_disk::CarefulDisk;
-use crate::log_texts::bytes_of;
+use crate::log_texts::{bytes_of, call_of};
 use chunk_store::{Disk, MemoryDisk, read_whole};
 use std::alloc::Global;
 use std::test::Fail;
@@ -35,16 +35,9 @@ w 0 0 0a; s 0; d 0; w 0 0 0b; d 0; w 0 0 0c; w 0 1 0d ⇒ 0=0a | 0=0c0d | 0=0101
 
 /// Makes one call of a text.
 fn make_call(alloc: Global, disk: &mut CarefulDisk, call: &str) -> Result<(), Fail> {
-    let mut words = call.split(' ');
-    let kind = words.next().ok_or("no call")?;
-    let file = words.next().ok_or("no file")?.parse::<u32>()?;
+    let (kind, file, at, digits) = call_of(call)?;
     match kind {
-        "w" => {
-            let at = words.next().ok_or("no place")?.parse::<u64>()?;
-            let digits = words.next().ok_or("no bytes")?.trim_matches('-');
-            let bytes = bytes_of(alloc, digits)?;
-            disk.write(file, at, &bytes)?;
-        }
+        "w" => disk.write(file, at, &bytes_of(alloc, digits.trim_matches('-'))?)?,
         "s" => disk.sync(file)?,
         "d" => disk.remove(file)?,
         _ => {

@@ -2,7 +2,7 @@
 ghost use Rattle.std.specs.Prelude.{◌<◌, ◌^◌, length};
 
 use crate::log_bytes::{PAYLOAD, WORKED};
-use crate::log_texts::{LOG, bytes_of, put_log};
+use crate::log_texts::{LOG, bytes_of, call_of, put_log};
 use chunk_store::{DirDisk, Disk};
 use gate_log::{GateLog, Staged};
 use srch_base::{Failed, OpenFault};
@@ -87,55 +87,60 @@ fn put_len(len: Result<Option<u64>, Failed>, text: &mut String) -> Result<(), Fa
     Ok(())
 }
 
-/// What is read of a file.
-fn read_of(
+/// Puts what is read of a file.
+fn put_read(
     alloc: Global,
     disk: &mut DirDisk<&HostRuntime>,
     (file, at): (u32, u64),
     into: &mut [u8],
-) -> Result<String, Fail> {
+    text: &mut String,
+) -> Result<(), Fail> {
     match disk.read(file, at, into) {
-        Ok(()) => Ok(hex::encode(alloc, &*into)?),
-        Err(Failed) => Ok(String::from_str(alloc, "failed")?),
+        Ok(()) => text.push_str(hex::encode(alloc, &*into)?.as_str())?,
+        Err(Failed) => text.push_str("failed")?,
     }
+    Ok(())
 }
 
-/// What a call answers.
-fn answer(alloc: Global, disk: &mut DirDisk<&HostRuntime>, call: &str) -> Result<String, Fail> {
-    let mut text = String::new(alloc);
-    let mut words = call.split(' ');
-    let kind = words.next().ok_or("no call")?;
-    let file = words.next().ok_or("no file")?.parse::<u32>()?;
-    let at = words.next().unwrap_or("0").parse::<u64>()?;
-    let rest = words.next().unwrap_or("");
+/// Puts what a call answers.
+fn put_answer(
+    alloc: Global,
+    disk: &mut DirDisk<&HostRuntime>,
+    (kind, file, at, rest): (&str, u32, u64, &str),
+    text: &mut String,
+) -> Result<(), Fail> {
     match kind {
-        "l" => put_len(disk.len(file), &mut text)?,
+        "l" => put_len(disk.len(file), text)?,
         "s" => text.push_str(word(disk.sync(file)))?,
         "d" => text.push_str(word(disk.remove(file)))?,
-        "w" => {
-            let bytes = bytes_of(alloc, rest)?;
-            text.push_str(word(disk.write(file, at, &bytes)))?;
-        }
+        "w" => text.push_str(word(disk.write(file, at, &bytes_of(alloc, rest)?)))?,
         _ => {
             let mut room = [0; 8];
-            let count = rest.parse::<usize>()?;
-            let into = room.get_mut(..count).ok_or("no such room")?;
-            text = read_of(alloc, disk, (file, at), into)?;
+            let into = room
+                .get_mut(..rest.parse::<usize>()?)
+                .ok_or("no such room")?;
+            put_read(alloc, disk, (file, at), into, text)?;
         }
     }
-    Ok(text)
+    Ok(())
+}
+
+/// Fails where a call answers something else.
+fn try_call(alloc: Global, disk: &mut DirDisk<&HostRuntime>, line: &str) -> Result<(), Fail> {
+    let (call, wanted) = line.split_once(" ⇒ ").ok_or("a line without an arrow")?;
+    let mut found = String::new(alloc);
+    put_answer(alloc, disk, call_of(call)?, &mut found)?;
+    if found.as_str() != wanted {
+        return Err(Fail::new(format!(in alloc; "{call} ⇒ {found}")?));
+    }
+    Ok(())
 }
 
 /// Opens a folder, and fails where a call of a table answers something else.
 fn try_calls(rt: &HostRuntime, path: &str, table: &str) -> Result<(), Fail> {
-    let alloc = rt.alloc();
-    let mut disk = DirDisk::open(rt, alloc, path)?;
+    let mut disk = DirDisk::open(rt, rt.alloc(), path)?;
     for line in table.lines() {
-        let (call, wanted) = line.split_once(" ⇒ ").ok_or("a line without an arrow")?;
-        let found = answer(alloc, &mut disk, call)?;
-        if found.as_str() != wanted {
-            return Err(Fail::new(format!(in alloc; "{call} ⇒ {found}")?));
-        }
+        try_call(rt.alloc(), &mut disk, line)?;
     }
     Ok(())
 }
@@ -165,14 +170,19 @@ fn a_folder_keeps_what_is_written(rt: HostRuntime) -> Result<(), Fail> {
     Ok(())
 }
 
+/// Makes a folder where the file 0 would be, and a device where the file 2 would be.
+fn make_others(rt: &HostRuntime, path: &str) -> Result<(), Fail> {
+    let name = format!(in rt.alloc(); "{path}/0")?;
+    fs::create_dir(rt, name.as_str())?;
+    let name = format!(in rt.alloc(); "{path}/2")?;
+    symlink(rt, "/dev/full", name.as_str())?;
+    Ok(())
+}
+
 #[test]
 fn a_folder_or_a_device_is_no_file(rt: HostRuntime) -> Result<(), Fail> {
-    let alloc = rt.alloc();
     let path = folder(&rt, "inside")?;
-    let name = format!(in alloc; "{path}/0")?;
-    fs::create_dir(&rt, name.as_str())?;
-    let name = format!(in alloc; "{path}/2")?;
-    symlink(&rt, "/dev/full", name.as_str())?;
+    make_others(&rt, path.as_str())?;
     try_calls(&rt, path.as_str(), CALLS_ON_NO_FILE)?;
     fs::remove_dir_all(&rt, path.as_str())?;
     Ok(())
@@ -187,14 +197,18 @@ fn can_open(rt: &HostRuntime, name: &str) -> bool {
         .is_ok()
 }
 
+/// Makes the file 0, which nobody may open, and says whether it can be opened all the same.
+fn is_open_to_all(rt: &HostRuntime, path: &str) -> Result<bool, Fail> {
+    let name = format!(in rt.alloc(); "{path}/0")?;
+    fs::write(rt, name.as_str(), "closed")?;
+    fs::set_permissions(rt, name.as_str(), Permissions::from_mode(0))?;
+    Ok(can_open(rt, name.as_str()))
+}
+
 #[test]
 fn a_file_that_cannot_be_opened_is_a_fault(rt: HostRuntime) -> Result<(), Fail> {
-    let alloc = rt.alloc();
     let path = folder(&rt, "closed")?;
-    let name = format!(in alloc; "{path}/0")?;
-    fs::write(&rt, name.as_str(), "closed")?;
-    fs::set_permissions(&rt, name.as_str(), Permissions::from_mode(0))?;
-    let wanted = if can_open(&rt, name.as_str()) {
+    let wanted = if is_open_to_all(&rt, path.as_str())? {
         "l 0 ⇒ 6"
     } else {
         "l 0 ⇒ failed"
@@ -210,24 +224,32 @@ fn can_make(rt: &HostRuntime, path: &str) -> Result<bool, Fail> {
     Ok(fs::create_dir(rt, name.as_str()).is_ok())
 }
 
+/// Fails where calls on a folder that may not be written answer something else.
+fn try_without_leave(rt: &HostRuntime, path: &str, is_free: bool) -> Result<(), Fail> {
+    if !is_free {
+        return try_calls(rt, path, CALLS_WITHOUT_LEAVE);
+    }
+    let table = CALLS_WITHOUT_LEAVE.replace(rt.alloc(), "failed", "done")?;
+    try_calls(rt, path, table.as_str())
+}
+
+/// Gives a folder these permissions.
+fn permit(rt: &HostRuntime, path: &str, mode: u32) -> Result<(), Fail> {
+    fs::set_permissions(rt, path, Permissions::from_mode(mode))?;
+    Ok(())
+}
+
 #[test]
 fn a_folder_without_leave_is_a_fault(rt: HostRuntime) -> Result<(), Fail> {
-    let alloc = rt.alloc();
     let path = folder(&rt, "kept_as_it_is")?;
-    let path = path.as_str();
-    try_calls(&rt, path, "w 0 0 636c6f736564 ⇒ done")?;
-    fs::set_permissions(&rt, path, Permissions::from_mode(0o555))?;
-    let is_free = can_make(&rt, path)?;
-    if is_free {
-        let table = CALLS_WITHOUT_LEAVE.replace(alloc, "failed", "done")?;
-        try_calls(&rt, path, table.as_str())?;
-    } else {
-        try_calls(&rt, path, CALLS_WITHOUT_LEAVE)?;
-    }
-    fs::set_permissions(&rt, path, Permissions::from_mode(0))?;
-    assert_eq!(rt; refusal(&rt, path).is_none(), is_free);
-    fs::set_permissions(&rt, path, Permissions::from_mode(0o755))?;
-    fs::remove_dir_all(&rt, path)?;
+    try_calls(&rt, path.as_str(), "w 0 0 636c6f736564 ⇒ done")?;
+    permit(&rt, path.as_str(), 0o555)?;
+    let is_free = can_make(&rt, path.as_str())?;
+    try_without_leave(&rt, path.as_str(), is_free)?;
+    permit(&rt, path.as_str(), 0)?;
+    assert_eq!(rt; refusal(&rt, path.as_str()).is_none(), is_free);
+    permit(&rt, path.as_str(), 0o755)?;
+    fs::remove_dir_all(&rt, path.as_str())?;
     Ok(())
 }
 
@@ -244,17 +266,20 @@ fn longest(file: &File) -> u64 {
     len
 }
 
+/// Calls on a file that has its greatest length. The system writes nothing of the first write, and one byte of the second.
+fn calls_at_the_end(rt: &HostRuntime, path: &str) -> Result<String, Fail> {
+    let name = format!(in rt.alloc(); "{path}/0")?;
+    let len = longest(&File::create(rt, name.as_str())?);
+    let last = len.saturating_sub(1);
+    Ok(format!(in rt.alloc();
+        "w 0 {len} 7a ⇒ failed\nw 0 {last} 7a7b ⇒ failed\nl 0 ⇒ {len}\nw 1 0 7a ⇒ done"
+    )?)
+}
+
 #[test]
 fn a_file_that_cannot_grow_is_a_fault(rt: HostRuntime) -> Result<(), Fail> {
-    let alloc = rt.alloc();
     let path = folder(&rt, "long")?;
-    let name = format!(in alloc; "{path}/0")?;
-    let len = longest(&File::create(&rt, name.as_str())?);
-    let last = len.saturating_sub(1);
-    // The system writes nothing of the first one, and one byte of the second.
-    let table = format!(in alloc;
-        "w 0 {len} 7a ⇒ failed\nw 0 {last} 7a7b ⇒ failed\nl 0 ⇒ {len}\nw 1 0 7a ⇒ done"
-    )?;
+    let table = calls_at_the_end(&rt, path.as_str())?;
     try_calls(&rt, path.as_str(), table.as_str())?;
     fs::remove_dir_all(&rt, path.as_str())?;
     Ok(())
@@ -306,18 +331,27 @@ fn written_log(rt: &HostRuntime, path: &str, payload: &[u8]) -> Result<String, F
     Ok(read)
 }
 
+/// The bytes of the log's file in a folder.
+fn bytes_in(rt: &HostRuntime, path: &str) -> Result<Vec<u8>, Fail> {
+    let name = format!(in rt.alloc(); "{path}/{LOG}")?;
+    Ok(fs::read(rt, name.as_str())?)
+}
+
+/// Whether a log of this record is read up to its last byte, and has these bytes.
+fn stands_in(rt: &HostRuntime, path: &str, payload: &[u8], bytes: &[u8]) -> Result<bool, Fail> {
+    if payload.len() != 35 {
+        return Err("another payload".into());
+    }
+    let is_read = written_log(rt, path, payload)?.as_str().ends_with(" to 48");
+    Ok(is_read && bytes_in(rt, path)?.as_slice() == bytes)
+}
+
 #[test]
 fn a_log_stands_in_a_folder(rt: HostRuntime) -> Result<(), Fail> {
-    let alloc = rt.alloc();
+    let payload = bytes_of(rt.alloc(), PAYLOAD)?;
+    let bytes = bytes_of(rt.alloc(), WORKED.lines().last().ok_or("no log")?)?;
     let path = folder(&rt, "log")?;
-    let payload = bytes_of(alloc, PAYLOAD)?;
-    assert_eq!(rt; payload.len(), 35);
-    let read = written_log(&rt, path.as_str(), &payload)?;
-    assert_eq!(rt; read.as_str().ends_with(" to 48"), true);
-    let name = format!(in alloc; "{path}/{LOG}")?;
-    let bytes = fs::read(&rt, name.as_str())?;
-    let last = WORKED.lines().last().ok_or("no log")?;
-    assert_eq!(rt; bytes.as_slice(), bytes_of(alloc, last)?.as_slice());
+    assert!(rt; stands_in(&rt, path.as_str(), &payload, &bytes)?);
     fs::remove_dir_all(&rt, path.as_str())?;
     Ok(())
 }

@@ -142,32 +142,46 @@ fn each_front_of_a_log_is_read_so(rt: HostRuntime) -> Result<(), Fail> {
     Ok(())
 }
 
+/// Where a log's last record ends, whether a record is staged, and whether its gate may be open.
+fn state(log: &GateLog) -> (u64, bool, bool) {
+    (log.end(), log.is_staged(), log.pending())
+}
+
+/// The states of a log on a disk once it is made, once a record is staged, and once its gate is open.
+fn states(disk: &mut CarefulDisk, appended: &Staged) -> Result<[(u64, bool, bool); 3], Fail>
+    requires { appended.now.number < 2 ^ 63 }
+{
+    let mut log = GateLog::create(disk, LOG)?;
+    let made = state(&log);
+    log.stage(disk, appended)?;
+    let staged = state(&log);
+    log.open_gate(disk)?;
+    Ok([made, staged, state(&log)])
+}
+
+/// The last record's end and the count of records that are read of a log.
+fn read_counts(alloc: Global, disk: &mut CarefulDisk) -> Result<(u64, usize), Fail> {
+    let (log, records) = GateLog::read(alloc, disk, LOG)?;
+    Ok((log.end(), records.len()))
+}
+
+/// How a long record begins.
+const LONG: &[u8] = &[0x70, 0x11, 1, 0, 7, 0, 0, 0, 0, 0, 0, 0];
+
+/// The states of a log of a long record.
+const STATES: [(u64, bool, bool); 3] = [
+    (0, false, false),
+    (0, true, false),
+    (70_013, false, false),
+];
+
 #[test]
 fn a_record_says_what_is_staged(rt: HostRuntime) -> Result<(), Fail> {
-    let alloc = rt.alloc();
-    let mut disk = CarefulDisk::new(MemoryDisk::new(alloc, Vec::new(alloc)));
-    let mut log = GateLog::create(&mut disk, LOG)?;
-    assert_eq!(rt;
-        (log.end(), log.is_staged(), log.pending()),
-        (0, false, false)
-    );
-    let record = Staged::new(alloc, 7, &[0; 70_000])?;
+    let mut disk = CarefulDisk::new(MemoryDisk::new(rt.alloc(), Vec::new(rt.alloc())));
+    let record = Staged::new(rt.alloc(), 7, &[0; 70_000])?;
     assert_eq!(rt; (record.number(), record.len()), (7, 70_013));
-    assert_eq!(rt;
-        record.as_bytes().get(..12),
-        Some([0x70, 0x11, 1, 0, 7, 0, 0, 0, 0, 0, 0, 0].as_slice())
-    );
-    log.stage(&mut disk, &record)?;
-    assert_eq!(rt;
-        (log.end(), log.is_staged(), log.pending()),
-        (0, true, false)
-    );
-    log.open_gate(&mut disk)?;
-    assert_eq!(rt;
-        (log.end(), log.is_staged(), log.pending()),
-        (70_013, false, false)
-    );
-    let (read, records) = GateLog::read(alloc, &mut disk, LOG)?;
-    assert_eq!(rt; (read.end(), records.len()), (70_013, 1));
+    assert!(rt; record.as_bytes().starts_with(LONG));
+    assert!(rt; states(&mut disk, &record)? == STATES);
+    assert_eq!(rt; read_counts(rt.alloc(), &mut disk)?, (70_013, 1));
     Ok(())
 }

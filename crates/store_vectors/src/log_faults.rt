@@ -67,11 +67,17 @@ fn read_twice(alloc: Global, failing: u64) -> Result<String, Fail> {
     Ok(text)
 }
 
+/// The call that fails, and what two readings give.
+const READINGS: [(u64, &str); 3] = [
+    (4, "a device failed, to 0"),
+    (5, "a device failed, to 0"),
+    (6, "to 0, a device failed"),
+];
+
 #[test]
 fn a_log_is_read_again_after_a_fault(rt: HostRuntime) -> Result<(), Fail> {
-    let alloc = rt.alloc();
-    assert_eq!(rt; read_twice(alloc, 4)?.as_str(), "a device failed, to 0");
-    assert_eq!(rt; read_twice(alloc, 5)?.as_str(), "a device failed, to 0");
-    assert_eq!(rt; read_twice(alloc, 6)?.as_str(), "to 0, a device failed");
+    for (failing, wanted) in READINGS {
+        assert_eq!(rt; read_twice(rt.alloc(), failing)?.as_str(), wanted);
+    }
     Ok(())
 }

@@ -13,6 +13,15 @@ pub(crate) fn bytes_of(alloc: Global, digits: &str) -> Result<Vec<u8>, Fail> {
     Ok(hex::decode(alloc, digits.as_str())?)
 }
 
+/// The parts of a call that is written as a text: its kind, a file, a place, which is 0 where none is named, and the rest.
+pub(crate) fn call_of(call: &str) -> Result<(&str, u32, u64, &str), Fail> {
+    let mut words = call.split(' ');
+    let kind = words.next().ok_or("no call")?;
+    let file = words.next().ok_or("no file")?.parse::<u32>()?;
+    let at = words.next().unwrap_or("0").parse::<u64>()?;
+    Ok((kind, file, at, words.next().unwrap_or("")))
+}
+
 fn put_records(alloc: Global, records: &[LogRecord], text: &mut String) -> Result<(), Fail> {
     for record in records {
         let payload = hex::encode(alloc, record.payload.as_slice())?;
