@@ -1,5 +1,5 @@
 //! How far a query goes over many documents: at how many rows `Matches` stops, how many lists of places it opens there, and how often
-//! it seeks a row on its way.
+//! it seeks a row on its way; and how many lists `candidates` opens.
 ghost use Rattle.std.specs.Prelude.{◌≡◌, ◌<◌, ◌^◌, length};
 ghost use Rattle.query_tree.specs.TreeKeys.{query_keys};
 ghost use Rattle.eval_vectors.specs.steps.Reading.{IsSoundIndex};
@@ -11,7 +11,7 @@ use crate::telling::compare;
 use crate::watched::Watched;
 use doc_types::{Chunk, Counted, HitLists, Hits};
 use index_conf::IndexConf;
-use op_eval::Matches;
+use op_eval::{Matches, candidates};
 use query_tree::Query;
 use srch_base::{Items, Steps};
 use std::alloc::Global;
@@ -25,19 +25,19 @@ use std::test::Fail;
 /// `seven`, of which 14 have both. A word that the query has twice is two keywords, each with a list. By going to each row that has
 /// one of its words, `"red fox"` would seek some 10,000 times.
 const VISITS: &str = r#"
-"red fox" ⇒ 100 rows, 200 lists, seeks within 1200
-fox red ⇒ 100 rows, 200 lists, seeks within 1200
-all rare ⇒ 102 rows, 204 lists, seeks within 600
-"rare phrase" ⇒ 102 rows, 204 lists, seeks within 600
-phrase << rare ⇒ 102 rows, 204 lists, seeks within 600
-all seven rare ⇒ 14 rows, 42 lists, seeks within 600
-rare -seven ⇒ 88 rows, 88 lists, seeks within 800
-all -absent ⇒ 10000 rows, 10000 lists, seeks within 60000
-rare MAYBE all ⇒ 102 rows, 204 lists, seeks within 600
-"seven rare absent"/2 ⇒ 14 rows, 28 lists, seeks within 10000
-"seven rare absent"/1 ⇒ 1516 rows, 1530 lists, seeks within 15000
-(all rare) | (all absent) ⇒ 102 rows, 306 lists, seeks within 1000
-all absent ⇒ 0 rows, 0 lists, seeks within 2
+"red fox" ⇒ 100 rows, 200 lists, 200 lists of candidates, seeks within 1200
+fox red ⇒ 100 rows, 200 lists, 0 lists of candidates, seeks within 1200
+all rare ⇒ 102 rows, 204 lists, 0 lists of candidates, seeks within 600
+"rare phrase" ⇒ 102 rows, 204 lists, 204 lists of candidates, seeks within 600
+phrase << rare ⇒ 102 rows, 204 lists, 204 lists of candidates, seeks within 600
+all seven rare ⇒ 14 rows, 42 lists, 0 lists of candidates, seeks within 600
+rare -seven ⇒ 88 rows, 88 lists, 0 lists of candidates, seeks within 800
+all -absent ⇒ 10000 rows, 10000 lists, 0 lists of candidates, seeks within 60000
+rare MAYBE all ⇒ 102 rows, 204 lists, 0 lists of candidates, seeks within 600
+"seven rare absent"/2 ⇒ 14 rows, 28 lists, 0 lists of candidates, seeks within 10000
+"seven rare absent"/1 ⇒ 1516 rows, 1530 lists, 0 lists of candidates, seeks within 15000
+(all rare) | (all absent) ⇒ 102 rows, 306 lists, 0 lists of candidates, seeks within 1000
+all absent ⇒ 0 rows, 0 lists, 0 lists of candidates, seeks within 2
 "#;
 
 /// At how many rows the query stops, where each of them is taken.
@@ -68,6 +68,22 @@ fn stops<L: Ledger, C: HitLists>(
     Err(Fail::new("more stops than rows"))
 }
 
+/// Looks which rows match.
+fn look<L: Ledger, C: HitLists>(
+    alloc: Global,
+    query: &Query,
+    chunk: &C,
+    blank: Blank,
+) -> Result<(), Fail>
+    requires name { blank.name ≡ L.name }
+    requires parts { blank.parts ≡ L.parts }
+    requires some { 0 < blank.parts }
+{
+    let mut steps = Steps::<L>::new(blank);
+    candidates(alloc, query, &Counted::<C, L>::over(chunk), &[], &mut steps)?;
+    Ok(())
+}
+
 /// What a query comes to: the rows at which it stops and the lists that it opens, and whether its seeks don't pass those of the line.
 fn visits<C: HitLists>(
     alloc: Global,
@@ -81,10 +97,15 @@ fn visits<C: HitLists>(
     chunk.begin();
     let rows = stops::<Brand, _>(alloc, query, chunk, Blank::new(1))?;
     let (lists, seeks) = chunk.counts();
+    chunk.begin();
+    look::<Brand, _>(alloc, query, chunk, Blank::new(1))?;
+    let (looked, _) = chunk.counts();
     Ok(if seeks <= most {
-        format!(in alloc; "{rows} rows, {lists} lists")?
+        format!(in alloc; "{rows} rows, {lists} lists, {looked} lists of candidates")?
     } else {
-        format!(in alloc; "{rows} rows, {lists} lists, {seeks} seeks")?
+        format!(in alloc;
+            "{rows} rows, {lists} lists, {looked} lists of candidates, {seeks} seeks"
+        )?
     })
 }
 
