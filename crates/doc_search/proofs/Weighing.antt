@@ -27,7 +27,7 @@ use Rattle.row_select.specs.declared.row.Row.{Row}
 use Rattle.doc_search.specs.Searches.{IsAskedOf, IsRowOf}
 use Rattle.doc_search.specs.declared.question.Question.{Question}
 use Rattle.doc_search.proofs.SomeHits.{all_ordered, are_its_hits, hits_of}
-use Rattle.doc_search.specs.steps.Gathering.{HasRead, IsAskedOfDocs, IsWeightOf, IsWeighed}
+use Rattle.doc_search.specs.steps.Gathering.{GivesOne, HasRead, IsAskedOfDocs, IsWeightOf, IsWeighed}
 
 -- a hit within the limits can be ranked
 is_ranked : (keywords fields : ℕ) (hit : Hit) → IsHitWithin keywords fields hit → IsRanked keywords fields hit
@@ -85,13 +85,23 @@ whichever false n = refl
 one_weight : (ranker : Ranker) (hits : Hits) (weights : List ℕ) → ranker ≡ rankers.None → weight ranker hits weights ≡ 1
 one_weight ranker hits weights is = ap (λ (its : Ranker). weight its hits weights) is ∙ whichever (hits.keywords == 0) 1
 
-pub weighs_one : (question : Question) (query : Query) (doc : DocRow) → question.ranker ≡ rankers.None → query ≡ question.query → matches query doc ≡ true → IsWeighed question doc (Some 1)
-weighs_one question query doc unranked same fits = (
+pub one_by_ranker : (question : Question) → question.ranker ≡ rankers.None → GivesOne question
+one_by_ranker question is = λ hits. one_weight question.ranker (record { keywords = question.query.keywords; list = hits }) question.weights.list is
+
+-- and so is each document of a query without a keyword
+no_keywords : (ranker : Ranker) (keywords : ℕ) (hits : List Hit) (weights : List ℕ) → keywords ≡ 0 → weight ranker (record { keywords = keywords; list = hits }) weights ≡ 1
+no_keywords ranker keywords hits weights none = ap (λ (count : ℕ). weight ranker (record { keywords = count; list = hits }) weights) none
+
+pub one_without_keywords : (question : Question) → question.query.keywords ≡ 0 → GivesOne question
+one_without_keywords question none = λ hits. no_keywords question.ranker question.query.keywords hits question.weights.list none
+
+pub weighs_one : (question : Question) (query : Query) (doc : DocRow) → GivesOne question → query ≡ question.query → matches query doc ≡ true → IsWeighed question doc (Some 1)
+weighs_one question query doc gives same fits = (
   ap (λ its. matches its doc) (sym same) ∙ fits,
   record {
     hits = hits_of question.query doc;
     are = are_its_hits question.query doc;
-    is = sym (one_weight question.ranker (record { keywords = question.query.keywords; list = hits_of question.query doc }) question.weights.list unranked);
+    is = sym (gives (hits_of question.query doc));
   },
 )
 

@@ -19,7 +19,7 @@ ghost use Rattle.row_select.specs.declared.row.Row.{Row as RowValue};
 ghost use Rattle.doc_search.specs.Searches.{AreFound, AreShown, IsAskedOf};
 ghost use Rattle.doc_search.specs.declared.question.Question.{Question as QuestionValue};
 ghost use Rattle.doc_search.specs.steps.ListedRows.{GoesPast, Leaves};
-ghost use Rattle.doc_search.specs.steps.Gathering.{Gathers, IsAskedOfDocs, IsWeighed, StandsAt, unweighed};
+ghost use Rattle.doc_search.specs.steps.Gathering.{Gathers, GivesOne, IsAskedOfDocs, IsWeighed, StandsAt, unweighed};
 
 use crate::listed_rows::ListedRows;
 use crate::question::Question;
@@ -186,8 +186,10 @@ fn weight_of<C: CountedLists>(
     ensures goes_on { OnOk result (stream.new ≡ record stream.old { at = stream.old.at + 1 }) }
     ensures weighed { (doc : DocRow) → slice_get stream.old.rows stream.old.at ≡ Some doc → IfOk result (IsWeighed asked.now doc) }
 {
+    if gives_one(asked.question) {
+        return weight_alike(stream, steps);
+    }
     match asked.question.ranker {
-        Ranker::None => weight_unranked(stream, steps),
         Ranker::WordCount => weight_ranked(asked, stream, hits, steps),
         _ => {
             if stream.goes_by_fields() {
@@ -221,14 +223,26 @@ fn weight_by_fields<C: CountedLists>(
     Some(weight_of_fields(question.ranker, fields, &question.weights))
 }
 
-/// The same by the ranker that gives each document one weight, for which no hits are looked for.
-fn weight_unranked<C: CountedLists>(
+/// Whether each document that matches weighs 1, whatever hits it has: by the ranker that looks at none, or since the query has no
+/// keyword.
+#[tactic(auto, using(crate::proofs::Weighing::one_by_ranker, crate::proofs::Weighing::one_without_keywords))]
+fn gives_one(question: &Question) -> bool
+    ensures { result ≡ true → GivesOne question.now }
+{
+    match question.ranker {
+        Ranker::None => true,
+        _ => question.query.keywords == 0,
+    }
+}
+
+/// The same where each document that matches weighs 1: no hits are looked for.
+fn weight_alike<C: CountedLists>(
     stream: &mut Matches<'_, C>,
     steps: &mut Steps<C::Book>,
 ) -> Result<Option<u64>, NoMemory>
     requires { stream.old.at < length stream.old.rows }
     ensures goes_on { OnOk result (stream.new ≡ record stream.old { at = stream.old.at + 1 }) }
-    ensures weighed { (question : QuestionValue) (doc : DocRow) → question.ranker ≡ rankers.None → stream.old.query ≡ question.query → slice_get stream.old.rows stream.old.at ≡ Some doc → IfOk result (IsWeighed question doc) }
+    ensures weighed { (question : QuestionValue) (doc : DocRow) → GivesOne question → stream.old.query ≡ question.query → slice_get stream.old.rows stream.old.at ≡ Some doc → IfOk result (IsWeighed question doc) }
 {
     let found = stream.matches(steps)?;
     Ok(if found { Some(1) } else { None })

@@ -35,6 +35,10 @@ pub record HasRead (doc : DocRow) (row : Row) : Type 0 where
 abbrev pub unweighed : DocRow → Row
 unweighed doc = record { id = doc.doc.id; weight = 0; values = doc.doc.values }
 
+-- whatever hits a document has, its weight is 1
+abbrev pub GivesOne : Question → Type 0
+GivesOne question = (hits : List Hit) → weight question.ranker (record { keywords = question.query.keywords; list = hits }) question.weights.list ≡ 1
+
 -- the document's weight, if it matches
 abbrev pub IsWeighed : Question → DocRow → Option ℕ → Type 0
 IsWeighed question doc None = matches question.query doc ≡ false

@@ -1,7 +1,8 @@
-use Rattle.std.proofs.Common.{◌∙◌, ap, sym}
-use Rattle.doc_search.specs.declared.question.Question.{Question}
+use Rattle.std.proofs.Common.{◌≡◌, true, rules, subst}
+use Rattle.doc_search.specs.steps.Gathering.{GivesOne}
 use Rattle.doc_search.proofs.searching.weight_of.Goals as goal
 
-pub returns-in-None-clause-weighed : goal.returns-in-None-clause-weighed
-returns-in-None-clause-weighed g c = λ doc here.
-    c.weight_unranked.ensures.weighed c.args.asked.now doc (ap (λ (its : Question). its.ranker) (sym c.asked.view_is) ∙ c.in-None.is) c.requires.query here
+pub returns-then-gives_one-clause-weighed : goal.returns-then-gives_one-clause-weighed
+returns-then-gives_one-clause-weighed g c = λ doc here.
+    let yes : c.gives_one.result ≡ true = search rules in
+    c.weight_alike.ensures.weighed c.args.asked.now doc (subst GivesOne c.asked.view_is (c.gives_one.ensures yes)) c.requires.query here
