@@ -8,27 +8,36 @@ use std::alloc::Global;
 use std::test::Fail;
 
 /// Ids that are inserted one by one. A commit is told by its number, the shape, which stays in memory, and how many layers there
-/// are: three layers behind one of their size make one of them all.
-const INSERTED: [(u64, &str); 19] = [
+/// are: four layers behind one of their size make one of them all.
+const INSERTED: [(u64, &str); 28] = [
     (5, "1 0 1"),
     (5, "5 is there"),
     (9, "2 0 2"),
     (8, "3 0 3"),
-    (7, "4 0 1"),
-    (6, "5 0 2"),
-    (4, "6 0 3"),
-    (3, "7 0 4"),
-    (2, "8 0 2"),
-    (1, "9 0 3"),
-    (20, "10 0 4"),
-    (19, "11 0 5"),
-    (18, "12 0 3"),
-    (17, "13 0 4"),
-    (16, "14 0 5"),
-    (15, "15 0 6"),
-    (14, "16 0 1"),
+    (7, "4 0 4"),
+    (6, "5 0 1"),
+    (4, "6 0 2"),
+    (3, "7 0 3"),
+    (2, "8 0 4"),
+    (1, "9 0 5"),
+    (20, "10 0 2"),
+    (19, "11 0 3"),
+    (18, "12 0 4"),
+    (17, "13 0 5"),
+    (16, "14 0 6"),
+    (15, "15 0 3"),
+    (14, "16 0 4"),
+    (21, "17 0 5"),
+    (22, "18 0 6"),
+    (23, "19 0 7"),
+    (24, "20 0 4"),
+    (25, "21 0 5"),
+    (26, "22 0 6"),
+    (27, "23 0 7"),
+    (28, "24 0 8"),
+    (29, "25 0 1"),
     (9, "9 is there"),
-    (30, "17 0 2"),
+    (30, "26 0 2"),
 ];
 
 /// What inserting the id tells.

@@ -9,7 +9,7 @@ use std::alloc::Global;
 use std::test::Fail;
 
 /// A transaction and what becomes of it, as over layers. A layer more than half of whose rows are dead becomes one with those
-/// behind it, and so does one with three times its living rows behind it.
+/// behind it, and so does one with four times its living rows behind it.
 const COMMITS: &str = "
 +1 +2 +3 +4 +5 ⇒ 0 removed, 1 / 1@1 2@1 3@1 4@1 5@1
 -1 -2 ⇒ 2 removed, 2 / (1@1) (2@1) 3@1 4@1 5@1
@@ -27,7 +27,7 @@ const COMMITS: &str = "
 -1 =3 ⇒ 1 removed, 11 / 3@11 4@6 9@10
 +10 +11 +12 +13 ⇒ 0 removed, 12 / 3@11 4@6 9@10 / 10@12 11@12 12@12 13@12
 +22 ⇒ 0 removed, 13 / 3@11 4@6 9@10 / 10@12 11@12 12@12 13@12 / 22@13
-+23 +24 +25 ⇒ 0 removed, 14 / 3@11 4@6 9@10 / 10@12 11@12 12@12 13@12 / 22@13 23@14 24@14 25@14
++23 +24 +25 +26 ⇒ 0 removed, 14 / 3@11 4@6 9@10 / 10@12 11@12 12@12 13@12 / 22@13 23@14 24@14 25@14 26@14
 * +1 ⇒ 0 removed, 15 / 1@15
 * ⇒ 0 removed, 16
 ";

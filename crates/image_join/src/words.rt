@@ -1,5 +1,5 @@
 //! The words of all parts, merged: word table, dictionary and postings.
-ghost use Rattle.std.specs.Prelude.{◌≡◌, ◌≢◌, ◌≤◌, ◌+◌, ◌<◌, ◌++◌, ℕ, List, Option, Some, None, true, [], length, slice_get, All, IfOk, IsTrue, OnOk, MatchOption, MatchBool};
+ghost use Rattle.std.specs.Prelude.{◌≡◌, ◌≢◌, ◌≤◌, ◌+◌, ◌<◌, ◌++◌, ℕ, List, Option, Some, None, true, [], length, slice_get, All, IfOk, IsTrue, OnOk, MatchOption, MatchBool, if◌then◌else◌};
 ghost use Rattle.std.specs.List.{flat_map};
 ghost use Rattle.std.specs.Option.{option_map};
 ghost use Rattle.doc_types.specs.Chunks.{AreWordsOf};
@@ -19,6 +19,12 @@ use doc_types::MAX_WORD_BYTES;
 use image_write::{count_in, head_of, place_in, put_entry, tells};
 use srch_base::NoMemory;
 use std::alloc::Global;
+
+/// How many bytes the entry of a word takes in the word table.
+const ENTRY: usize = 12;
+
+/// How many bytes a word of seven letters takes in the dictionary.
+const SHORT_WORD: usize = 8;
 
 /// The parts of an image that are about words, as far as they are written, and how many words they have.
 #[derive(Drop)]
@@ -47,10 +53,10 @@ pub(crate) fn tables_of<C: CopyBytes>(
     requires numbered { (rows : List AnyRow) × AreNumbered parts.now numbers.now rows }
     ensures { IfOk result (λ tables. (rows : List AnyRow) → AreNumbered parts.now numbers.now rows → (words : List (List ℕ)) × AreWordsOf rows words × AreTables rows words tables) }
 {
-    let mut tables = no_tables(alloc, room_for(parts))?;
+    let most = word_count(parts);
+    let mut tables = no_tables(alloc, most, room_for(parts))?;
     let mut nexts = nexts_of(alloc, parts)?;
     let mut found = Vec::new(alloc);
-    let most = word_count(parts);
     let in_order = stand_in_order(numbers);
     'words: for _ in 0..most {
         let word = match least_word(&nexts) {
@@ -103,15 +109,16 @@ fn go_over<'p, C: CopyBytes>(
     put_word(word, found, tables)
 }
 
-/// No word, and room for so many bytes of postings.
-fn no_tables(alloc: Global, room: usize) -> Result<Tables, NoMemory>
+/// No word, and room for the entries of so many words, for these words where they are short, and for so many bytes of postings.
+fn no_tables(alloc: Global, words: u64, postings: usize) -> Result<Tables, NoMemory>
     ensures { IfOk result (λ tables. (rows : List AnyRow) → AreTables rows [] tables) }
 {
+    let words = words as usize;
     Ok(Tables {
         words: 0,
-        table: Vec::new(alloc),
-        dictionary: Vec::new(alloc),
-        postings: Vec::with_capacity(alloc, room)?,
+        table: Vec::with_capacity(alloc, words.saturating_mul(ENTRY))?,
+        dictionary: Vec::with_capacity(alloc, words.saturating_mul(SHORT_WORD))?,
+        postings: Vec::with_capacity(alloc, postings)?,
     })
 }
 
@@ -213,22 +220,39 @@ fn lesser<'p>(least: Next<'p>, other: Next<'p>) -> Next<'p>
     ensures word { option_map (λ own. own.now) result.word ≡ lesser (option_map (λ own. own.now) least.entry.word) (option_map (λ own. own.now) other.entry.word) }
     ensures headed { IsHeaded result }
 {
+    let is_less = goes_first(least, other);
+    Next {
+        number: other.number,
+        word: chosen(is_less, other.word, least.word),
+        head: chosen(is_less, other.head, least.head),
+    }
+}
+
+/// The first value where this holds, or else the second. Which word is the least can't be foreseen, so no branch hangs on it.
+#[inline]
+fn chosen<T: Copy>(is_first: bool, first: T, second: T) -> T
+    ensures { result ≡ (if is_first then first else second) }
+{
+    if is_first { first } else { second }
+}
+
+/// Whether the other word is there, and stands before this one if this one is there.
+#[inline]
+fn goes_first(least: Next<'_>, other: Next<'_>) -> bool
+    requires least { IsHeaded least }
+    requires other { IsHeaded other }
+    ensures { option_map (λ own. own.now) (if result then other.entry.word else least.entry.word) ≡ lesser (option_map (λ own. own.now) least.entry.word) (option_map (λ own. own.now) other.entry.word) }
+{
     match (least.word, other.word) {
-        (Some(first), Some(second)) => {
-            if goes_before(second, other.head, first, least.head) {
-                other
-            } else {
-                least
-            }
-        }
-        (Some(_), None) => least,
-        (None, _) => other,
+        (Some(first), Some(second)) => goes_before(second, other.head, first, least.head),
+        (Some(_), None) => false,
+        (None, _) => true,
     }
 }
 
 /// Whether a word stands before another one, where these are their heads. Most words are told by these.
 #[inline]
-#[tactic(auto, using(crate::proofs::Headed::smaller, crate::proofs::Headed::greater, crate::proofs::Headed::equal))]
+#[tactic(auto, using(crate::proofs::Headed::by_heads, crate::proofs::Headed::by_one_head))]
 fn goes_before(word: &[u8], own: u64, other: &[u8], its: u64) -> bool
     requires own { own ≡ head word.now }
     requires read { IsRead word.now }
@@ -236,13 +260,10 @@ fn goes_before(word: &[u8], own: u64, other: &[u8], its: u64) -> bool
     requires its_read { IsRead other.now }
     ensures { result ≡ less word.now other.now }
 {
-    if own < its {
-        return true;
+    if own == its && !tells(own) {
+        return word.cmp(other).is_lt();
     }
-    if its < own || tells(own) {
-        return false;
-    }
-    word.cmp(other).is_lt()
+    own < its
 }
 
 /// Whether two words are one, where these are their heads. Most words are told by these.

@@ -13,7 +13,7 @@ use std::mem;
 use std::sync::Arc;
 
 /// A layer becomes one with those behind it as soon as they have so many times its rows.
-const FAN_IN: u64 = 3;
+const FAN_IN: u64 = 4;
 
 /// The most layers in memory that are left as they are.
 const MOST_LAYERS: usize = 32;

@@ -215,8 +215,8 @@ fn damage_of(file: u32, place: u64, kind: LogKind) -> Damage
     Damage { file, place, kind }
 }
 
-/// Layers in memory of these rows: three where they are many. So the sort of a layer's words is smaller, and the memory of rows that
-/// have their layer serves for the next one; four layers of one size would become one with the next commit.
+/// Layers in memory of these rows: three where they are many, fewer than would become one with the next commit. So the sort of a
+/// layer's words is smaller, and the memory of rows that have their layer serves for the next one.
 #[tactic(auto, using(crate::proofs::Layers::one_layer, crate::proofs::Layers::in_three))]
 fn layers_of(alloc: Global, rows: Vec<DocRow>) -> Result<Vec<Layer<AnyChunk>>, NoMemory>
     requires { IsContent rows.items }
