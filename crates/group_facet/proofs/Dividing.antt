@@ -1,5 +1,5 @@
 -- Rows in parts by a key, with what is kept of each part: with one row more.
-use Rattle.std.proofs.Common.{◌≡◌, ℤ, Bool, true, false, ◌||◌, List, [], ◌∷◌, ◌++◌, All, cond, filter, if◌then◌else◌, map, Option, None, Some, refl, sym, subst, ◌∙◌, ap, true≢false, is_some, unwrap_or}
+use Rattle.std.proofs.Common.{◌≡◌, ℤ, Bool, true, false, ◌||◌, List, [], ◌∷◌, ◌++◌, All, cond, filter, if◌then◌else◌, map, None, Some, refl, sym, subst, ◌∙◌, ap, true≢false, is_some, unwrap_or}
 use Rattle.std.specs.List.{IsDistinct, AllByRecursion, list_any}
 use Rattle.std.specs.Map.{keys_of, lookup, set_value}
 use Rattle.std.specs.Ordering.{int_eq}
@@ -7,7 +7,6 @@ use Rattle.std.proofs.lemmas.Bool.Decides.{Decides-int_eq}
 use Rattle.std.proofs.lemmas.Cmp.{int_eq_equiv}
 use Rattle.std.proofs.lemmas.List.{append-nil, map-append}
 use Rattle.std.proofs.lemmas.List.Elements.{All-nil, All-cons, All-head, All-tail, All-append, filter-append}
-use Rattle.std.proofs.lemmas.Map.Keys.{IsDistinct-head}
 use Rattle.indexmap.specs.IndexSet.{insert_key}
 use Rattle.row_select.specs.declared.row.Row.{Row}
 use Rattle.group_facet.specs.Distinct.{first_seen}

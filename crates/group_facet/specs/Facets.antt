@@ -3,7 +3,6 @@ use Rattle.std.specs.Prelude.{◌≡◌, ℕ, ℤ, Some, List, length, map, take
 use Rattle.std.specs.List.Sorted.{IsSorted}
 use Rattle.std.specs.Ordering.{int_cmp, nat_cmp, ordering_then}
 use Rattle.std.specs.declared.cmp.Ordering.{Ordering}
-use Rattle.row_select.specs.Columns.{column_value}
 use Rattle.row_select.specs.declared.row.ColumnRef.{ColumnRef}
 use Rattle.row_select.specs.declared.row.Row.{Row}
 use Rattle.group_facet.specs.Distinct.{first_seen}

@@ -1,6 +1,5 @@
 -- Groups while their rows come one after the other.
-use Rattle.std.specs.Prelude.{◌≡◌, ℤ, List, All, length, map}
-use Rattle.std.specs.List.{AllZip}
+use Rattle.std.specs.Prelude.{◌≡◌, List, All, map}
 use Rattle.std.specs.Map.{keys_of}
 use Rattle.row_select.specs.declared.row.Row.{Row}
 use Rattle.group_facet.specs.Distinct.{first_seen}

@@ -1,5 +1,5 @@
 -- The aggregates over the rows that came so far.
-use Rattle.std.specs.Prelude.{◌≡◌, List, [], ◌∷◌, ◌++◌, length}
+use Rattle.std.specs.Prelude.{◌≡◌, List, length}
 use Rattle.std.specs.List.{AllZip}
 use Rattle.row_select.specs.declared.row.Row.{Row}
 use Rattle.group_facet.specs.Distinct.{first_seen}

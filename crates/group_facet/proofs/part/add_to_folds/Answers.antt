@@ -1,6 +1,6 @@
-use Rattle.std.proofs.Common.{◌≤◌, ◌<◌, length, arith, rules}
+use Rattle.std.proofs.Common.{◌≤◌, ◌<◌, length, arith}
 use Rattle.group_facet.specs.steps.Folding.{GoesOn}
-use Rattle.group_facet.proofs.Beside.{amid_first, amid_last, amid_more}
+use Rattle.group_facet.proofs.Beside.{amid_last, amid_more}
 use Rattle.group_facet.proofs.Folding.{gone_on}
 use Rattle.group_facet.proofs.part.add_to_folds.Goals as goal
 

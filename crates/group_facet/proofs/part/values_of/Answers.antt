@@ -1,4 +1,4 @@
-use Rattle.std.proofs.Common.{◌≡◌, ℤ, List, [], ◌∷◌, rules, subst, sym, to_z, of_z}
+use Rattle.std.proofs.Common.{◌≡◌, ℤ, List, rules, subst, sym, to_z, of_z}
 use mir.Syntax.{w128}
 use Rattle.row_select.specs.declared.row.Row.{Row}
 use Rattle.group_facet.specs.Folds.{IsFolded}

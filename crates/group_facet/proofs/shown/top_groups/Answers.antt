@@ -1,6 +1,4 @@
-use Rattle.std.proofs.Common.{◌≡◌, ◌∙◌, List, ap, length, rules, subst, IsPermutation, Vec, Global}
-use Rattle.group_facet.specs.ShownGroups.{kept}
-use Rattle.group_facet.specs.declared.grouping.GroupRow.{GroupRow}
+use Rattle.std.proofs.Common.{subst, IsPermutation}
 use Rattle.group_facet.proofs.shown.top_groups.Goals as goal
 
 pub returns-clause-rows : goal.returns-clause-rows

@@ -1,7 +1,7 @@
 use Rattle.std.proofs.Common.{◌≡◌, ◌∙◌, ℕ, ℤ, List, ap, length, map, subst, take, drop, Some, IsPermutation, Vec, Global}
 use Rattle.std.specs.List.Sorted.{IsSorted}
 use Rattle.std.proofs.lemmas.Result.{IfOk-weaker}
-use Rattle.group_facet.specs.Facets.{IsFacet, by_facet, value_counts}
+use Rattle.group_facet.specs.Facets.{by_facet, value_counts}
 use Rattle.group_facet.specs.Groups.{part}
 use Rattle.group_facet.specs.declared.facets.Facet.{Facet}
 use Rattle.group_facet.proofs.Counted.{entries_of}

@@ -1,6 +1,4 @@
-use Rattle.std.proofs.Common.{◌≡◌, ◌∙◌, ap, rules, subst, sym, [], ◌∷◌, ◌++◌}
-use Rattle.std.specs.Int.{int_max, int_min}
-use Rattle.row_select.specs.Columns.{column_value}
+use Rattle.std.proofs.Common.{◌≡◌, rules, subst, sym, [], ◌∷◌, ◌++◌}
 use Rattle.group_facet.specs.Distinct.{first_seen}
 use Rattle.group_facet.specs.Folds.{IsGreatest, IsLeast, column_values}
 use Rattle.group_facet.specs.RunningFolds.{IsRunning}

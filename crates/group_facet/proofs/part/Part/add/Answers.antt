@@ -1,4 +1,4 @@
-use Rattle.std.proofs.Common.{◌≡◌, ◌∙◌, ◌≤◌, ◌++◌, [], ◌∷◌, length, rules, subst, sym, arith}
+use Rattle.std.proofs.Common.{◌≡◌, ◌∙◌, ◌++◌, [], ◌∷◌, length, rules, subst, sym, arith}
 use Rattle.std.proofs.lemmas.List.{take-append-le, take_all}
 use Rattle.group_facet.specs.RunningFolds.{AreRunning}
 use Rattle.group_facet.proofs.part.Part.add.Goals as goal
