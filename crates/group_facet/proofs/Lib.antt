@@ -14,3 +14,5 @@ pub mod Counted
 pub mod Beside
 -- the groups of what is kept of each
 pub mod Finished
+-- entries that are found and written by their place
+pub mod KeyPlaces

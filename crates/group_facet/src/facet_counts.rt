@@ -7,17 +7,21 @@ ghost use Rattle.group_facet.specs.GatheringFacets.{GathersFacet};
 ghost use Rattle.group_facet.specs.declared.facets.Facet.{Facet as FacetValue};
 
 use crate::facets::Facet;
+use crate::places::place_of;
 use indexmap::IndexMap;
 use row_select::{FoundRow, Row};
 use srch_base::NoMemory;
 use std::alloc::Global;
 
-/// The counts of a facet over the rows that were offered so far. A row costs one look-up, and isn't copied.
+/// The counts of a facet over the rows that were offered so far. A row costs one look-up, or none where the row before had the same
+/// value, and isn't copied.
 #[derive(Drop)]
 pub struct FacetCounts<'a> {
     alloc: Global,
     facet: &'a Facet,
     counts: IndexMap<i128, u64>,
+    /// The place of the value that was found last.
+    last: usize,
 }
 
 impl<'a> FacetCounts<'a> {
@@ -29,6 +33,7 @@ impl<'a> FacetCounts<'a> {
             alloc,
             facet,
             counts: IndexMap::new(alloc),
+            last: 0,
         }
     }
 
@@ -37,9 +42,14 @@ impl<'a> FacetCounts<'a> {
         ensures { (facet : FacetValue) (offered : List RowValue) → GathersFacet facet offered self.old → OnOk result (GathersFacet facet (offered ++ R.as_row row.now ∷ []) self.new) }
     {
         let value = row.value(self.facet.column);
-        match self.counts.get_mut(&value) {
-            Some(count) => *count = count.checked_add(1).ok_or(NoMemory)?,
+        match place_of(&self.counts, self.last, &value) {
+            Some(place) => {
+                self.last = place;
+                let count = &mut self.counts[place];
+                *count = count.checked_add(1).ok_or(NoMemory)?;
+            }
             None => {
+                self.last = self.counts.len();
                 self.counts.insert(value, 1)?;
             }
         }
@@ -54,6 +64,7 @@ impl<'a> FacetCounts<'a> {
             alloc,
             facet,
             counts,
+            ..
         } = self;
         let mut values = values_of(alloc, counts)?;
         put_in_order(&mut values, facet);

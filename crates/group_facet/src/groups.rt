@@ -9,6 +9,7 @@ ghost use Rattle.group_facet.specs.declared.grouping.Group.{Group as GroupValue}
 
 use crate::grouping::{Group, GroupRow};
 use crate::part::Part;
+use crate::places::place_of;
 use indexmap::IndexMap;
 use row_select::{FoundRow, Row};
 use srch_base::NoMemory;
@@ -16,13 +17,15 @@ use std::alloc::Global;
 
 /// The groups of the rows that were offered so far.
 ///
-/// A row of a group that is there costs one look-up and one step of each aggregate; it is copied only where it becomes the first
-/// of its group by WITHIN GROUP ORDER BY. No list of rows is kept.
+/// A row of a group that is there costs one look-up, or none where the row before was of the same group, and one step of each
+/// aggregate; it is copied only where it becomes the first of its group by WITHIN GROUP ORDER BY. No list of rows is kept.
 #[derive(Drop)]
 pub struct Groups<'a> {
     alloc: Global,
     group: &'a Group,
     parts: IndexMap<i128, Part>,
+    /// The place of the group that was found last.
+    last: usize,
 }
 
 impl<'a> Groups<'a> {
@@ -34,6 +37,7 @@ impl<'a> Groups<'a> {
             alloc,
             group,
             parts: IndexMap::new(alloc),
+            last: 0,
         }
     }
 
@@ -42,10 +46,14 @@ impl<'a> Groups<'a> {
         ensures { (group : GroupValue) (offered : List RowValue) → GathersGroups group offered self.old → OnOk result (GathersGroups group (offered ++ R.as_row row.now ∷ []) self.new) }
     {
         let key = self.group.key(row);
-        match self.parts.get_mut(&key) {
-            Some(part) => part.add(self.group, row)?,
+        match place_of(&self.parts, self.last, &key) {
+            Some(place) => {
+                self.last = place;
+                self.parts[place].add(self.group, row)?;
+            }
             None => {
                 let part = Part::first(self.alloc, self.group, row)?;
+                self.last = self.parts.len();
                 self.parts.insert(key, part)?;
             }
         }

@@ -7,6 +7,7 @@ mod fold;
 mod grouping;
 mod groups;
 mod part;
+mod places;
 mod shown;
 mod sinks;
 
