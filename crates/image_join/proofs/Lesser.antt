@@ -1,14 +1,16 @@
 -- The lesser of two words.
-use Rattle.std.proofs.Common.{◌≡◌, ℕ, List, true, false, Option, Some, refl}
+use Rattle.std.proofs.Common.{◌≡◌, List, ℕ, Bool, true, false, Option, sym, ap, ◌∙◌, if◌then◌else◌}
 use Rattle.std.specs.Borrow.{Bor}
 use Rattle.std.specs.Option.{option_map}
-use Rattle.image_join.specs.steps.Merging.{less, lesser}
+use Rattle.image_join.specs.declared.words.Next.{Next}
+use Rattle.image_join.specs.steps.Merging.{IsHeaded}
 
 abbrev pub value : Option (Bor (List ℕ)) → Option (List ℕ)
 value word = option_map (λ (lent : Bor (List ℕ)). lent.now) word
 
-pub second_is : (word other : Option (Bor (List ℕ))) (a b : Bor (List ℕ)) → word ≡ Some a → other ≡ Some b → less b.now a.now ≡ true → Some b.now ≡ lesser (value word) (value other)
-second_is word other a b one two e = rw (one, two, e) refl
-
-pub first_is : (word other : Option (Bor (List ℕ))) (a b : Bor (List ℕ)) → word ≡ Some a → other ≡ Some b → less b.now a.now ≡ false → Some a.now ≡ lesser (value word) (value other)
-first_is word other a b one two e = rw (one, two, e) refl
+-- of two words with their heads one is taken with its head
+pub chosen_headed : (b : Bool) (least other result : Next) → result.word ≡ (if b then other.word else least.word) → result.head ≡ (if b then other.head else least.head) → IsHeaded least → IsHeaded other → IsHeaded result
+chosen_headed true least other result word number one two =
+    record { is = λ w e. let own = two.is w (ap value (sym word) ∙ e) in (number ∙ own.0, own.1) }
+chosen_headed false least other result word number one two =
+    record { is = λ w e. let own = one.is w (ap value (sym word) ∙ e) in (number ∙ own.0, own.1) }
