@@ -1,7 +1,10 @@
 //! Facets: values with their counts, in each order, and paged.
-use crate::rows::{DOCUMENTS, ROWS, all_rows, column, compare, short};
+use crate::rows::{DOCUMENTS, ROWS, all_rows, column, offer_all, short};
+use crate::tables::{Asking, try_table};
 use group_facet::{Facet, FacetCounts, facet};
+use row_select::Row;
 use std::alloc::Global;
+use std::fmt::Write;
 use std::test::Fail;
 
 /// The column, the order, the page, and the values that are shown, each with the number of rows that have it.
@@ -38,64 +41,65 @@ gid; count desc; 0 20 ⇒
 gid; value asc; 0 20 ⇒ 
 ";
 
-fn facet_of(text: &str) -> Result<Facet, Fail> {
-    let mut parts = text.split("; ");
-    let column = column(parts.next().ok_or("no column")?)?;
-    let (by, way) = parts
-        .next()
-        .ok_or("no order")?
-        .split_once(' ')
-        .ok_or("no way")?;
-    let mut numbers = parts.next().ok_or("no page")?.split(' ');
-    Ok(Facet {
+fn facet_of(text: &str) -> Option<Facet> {
+    let mut words = text.split("; ");
+    let column = column(words.next()?)?;
+    let (by, way) = words.next()?.split_once(' ')?;
+    let (offset, count) = words.next()?.split_once(' ')?;
+    Some(Facet {
         column,
         by_count: by == "count",
         descending: way == "desc",
-        offset: short(numbers.next())?,
-        count: short(numbers.next())?,
+        offset: short(Some(offset))?,
+        count: short(Some(count))?,
     })
 }
 
-/// Values with their counts, as the tables write them.
-fn told(alloc: Global, values: &[(i128, u64)]) -> Result<String, Fail> {
-    let mut text = String::new(alloc);
-    for (value, count) in values {
-        if !text.is_empty() {
-            text.push_str(" / ")?;
-        }
-        write!(text, "{value} {count}")?;
-    }
-    Ok(text)
-}
-
 /// The facet of rows that are offered one after the other.
-fn offered(alloc: Global, rows: &str, asked: &Facet) -> Result<Vec<(i128, u64)>, Fail> {
+fn offered(alloc: Global, rows: &[Row], asked: &Facet) -> Option<Vec<(i128, u64)>> {
     let mut counts = FacetCounts::new(alloc, asked);
-    for row in all_rows(alloc, rows)?.iter() {
-        counts.offer(row)?;
-    }
-    Ok(counts.finish()?)
+    offer_all(rows, &mut counts)?;
+    counts.finish().ok()
 }
 
-fn try_line(alloc: Global, rows: &str, line: &str) -> Result<(), Fail> {
-    let (text, wanted) = line.split_once(" ⇒ ").ok_or("a line without an arrow")?;
+/// The facet of rows.
+fn found(alloc: Global, rows: &[Row], asked: &Facet, asking: &Asking) -> Option<Vec<(i128, u64)>> {
+    match asking {
+        Asking::Facet => facet(alloc, rows, asked).ok(),
+        _ => offered(alloc, rows, asked),
+    }
+}
+
+/// Appends values with their counts, as the tables write them.
+fn put_values(values: &[(i128, u64)], into: &mut String) -> Option<()> {
+    for (place, (value, count)) in values.iter().enumerate() {
+        if place > 0 {
+            into.push_str(" / ").ok()?;
+        }
+        write!(into, "{value} {count}").ok()?;
+    }
+    Some(())
+}
+
+/// Appends the facet that a text asks for.
+pub(crate) fn put_facet(
+    alloc: Global,
+    rows: &str,
+    text: &str,
+    asking: &Asking,
+    into: &mut String,
+) -> Option<()> {
     let asked = facet_of(text)?;
-    let at_once = facet(alloc, &all_rows(alloc, rows)?, &asked)?;
-    compare(alloc, text, told(alloc, &at_once)?.as_str(), wanted)?;
-    let one_by_one = offered(alloc, rows, &asked)?;
-    compare(alloc, text, told(alloc, &one_by_one)?.as_str(), wanted)
-}
-
-fn try_table(alloc: Global, rows: &str, table: &str) -> Result<(), Fail> {
-    for line in table.lines() {
-        try_line(alloc, rows, line)?;
-    }
-    Ok(())
+    let rows = all_rows(alloc, rows)?;
+    put_values(found(alloc, &rows, &asked, asking)?.as_slice(), into)
 }
 
 #[test]
 fn facets_show_their_values(rt: HostRuntime) -> Result<(), Fail> {
-    try_table(rt.alloc(), ROWS, FACETS)?;
-    try_table(rt.alloc(), DOCUMENTS, OF_DOCUMENTS)?;
-    try_table(rt.alloc(), "", OF_NONE)
+    for asking in [&Asking::Facet, &Asking::OfferedFacet] {
+        try_table(rt.alloc(), ROWS, FACETS, asking)?;
+        try_table(rt.alloc(), DOCUMENTS, OF_DOCUMENTS, asking)?;
+        try_table(rt.alloc(), "", OF_NONE, asking)?;
+    }
+    Ok(())
 }

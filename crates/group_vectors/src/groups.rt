@@ -1,8 +1,11 @@
 //! Groups in the order in which they are first seen: key, row and aggregates.
-use crate::rows::{DOCUMENTS, ROWS, all_rows, column, compare, folds, letter_of, order_by};
+use crate::rows::{DOCUMENTS, ROWS, all_rows, column, folds, letter_of, offer_all, order_by};
+use crate::tables::{Asking, try_table};
 use group_facet::{Group, GroupRow, Groups, group};
+use row_select::{ColumnRef, Row};
 use srch_base::Items;
 use std::alloc::Global;
+use std::fmt::Write;
 use std::test::Fail;
 
 /// The column that is grouped by or `none`, WITHIN GROUP ORDER BY, the aggregates, and the groups: the key, the letter of the row,
@@ -43,82 +46,81 @@ none; weight desc; count, sum price, greatest id, distinct gid ⇒
 none; weight desc;  ⇒ 
 ";
 
+/// The column that is grouped by, if any.
+fn key_of(name: &str) -> Option<Option<ColumnRef>> {
+    match name {
+        "none" => Some(None),
+        _ => Some(Some(column(name)?)),
+    }
+}
+
 /// What groups are asked for by a line of a table.
-pub(crate) fn group_of(alloc: Global, text: &str) -> Result<Group, Fail> {
-    let mut parts = text.split("; ");
-    let by = match parts.next().ok_or("no column")? {
-        "none" => None,
-        name => Some(column(name)?),
-    };
-    let within = order_by(alloc, parts.next().ok_or("no order")?)?;
-    let folds = folds(alloc, parts.next().ok_or("no aggregates")?)?;
-    Ok(Group {
+pub(crate) fn group_of(alloc: Global, text: &str) -> Option<Group> {
+    let (by, rest) = text.split_once("; ")?;
+    let (within, aggregates) = rest.split_once("; ")?;
+    let by = key_of(by)?;
+    let within = order_by(alloc, within)?;
+    Some(Group {
         by,
         within,
-        folds: Items::new(folds),
+        folds: Items::new(folds(alloc, aggregates)?),
     })
 }
 
-fn put_group(alloc: Global, rows: &str, group: &GroupRow, into: &mut String) -> Result<(), Fail> {
-    if !into.is_empty() {
-        into.push_str(" / ")?;
-    }
-    let key = group.key;
-    let letter = letter_of(alloc, rows, group.best.id)?;
-    write!(into, "{key} {letter}")?;
+/// Appends a group, as the tables write it.
+fn put_group(rows: &str, group: &GroupRow, into: &mut String) -> Option<()> {
+    let (key, letter) = (group.key, letter_of(rows, group.best.id)?);
+    write!(into, "{key} {letter}").ok()?;
     for value in group.folded.as_slice() {
-        write!(into, " {value}")?;
+        write!(into, " {value}").ok()?;
     }
-    Ok(())
+    Some(())
 }
 
-/// The groups, as the tables write them.
-fn told(alloc: Global, rows: &str, groups: &[GroupRow]) -> Result<String, Fail> {
-    let mut text = String::new(alloc);
-    for group in groups {
-        put_group(alloc, rows, group, &mut text)?;
+fn put_all(rows: &str, groups: &[GroupRow], into: &mut String) -> Option<()> {
+    for (place, group) in groups.iter().enumerate() {
+        if place > 0 {
+            into.push_str(" / ").ok()?;
+        }
+        put_group(rows, group, into)?;
     }
-    Ok(text)
+    Some(())
 }
 
 /// The groups of rows that are offered one after the other.
-pub(crate) fn offered(alloc: Global, rows: &str, asked: &Group) -> Result<Vec<GroupRow>, Fail> {
+pub(crate) fn offered(alloc: Global, rows: &[Row], asked: &Group) -> Option<Vec<GroupRow>> {
     let mut groups = Groups::new(alloc, asked);
-    for row in all_rows(alloc, rows)?.iter() {
-        groups.offer(row)?;
-    }
-    Ok(groups.finish()?)
+    offer_all(rows, &mut groups)?;
+    groups.finish().ok()
 }
 
-/// Tries a line over rows at once and one after the other.
-fn try_line(alloc: Global, rows: &str, line: &str) -> Result<(), Fail> {
-    let (text, wanted) = line.split_once(" ⇒ ").ok_or("a line without an arrow")?;
+/// The groups of rows.
+fn found(alloc: Global, rows: Vec<Row>, asked: &Group, asking: &Asking) -> Option<Vec<GroupRow>> {
+    match asking {
+        Asking::Groups => group(rows, asked).ok(),
+        _ => offered(alloc, rows.as_slice(), asked),
+    }
+}
+
+/// Appends the groups that a text asks for.
+pub(crate) fn put_groups(
+    alloc: Global,
+    rows: &str,
+    text: &str,
+    asking: &Asking,
+    into: &mut String,
+) -> Option<()> {
     let asked = group_of(alloc, text)?;
-    let at_once = group(all_rows(alloc, rows)?, &asked)?;
-    compare(alloc, text, told(alloc, rows, &at_once)?.as_str(), wanted)?;
-    let one_by_one = offered(alloc, rows, &asked)?;
-    compare(
-        alloc,
-        text,
-        told(alloc, rows, &one_by_one)?.as_str(),
-        wanted,
-    )
-}
-
-fn try_table(alloc: Global, rows: &str, table: &str) -> Result<(), Fail> {
-    for line in table.lines() {
-        try_line(alloc, rows, line)?;
-    }
-    Ok(())
+    let found = found(alloc, all_rows(alloc, rows)?, &asked, asking)?;
+    put_all(rows, found.as_slice(), into)
 }
 
 #[test]
 fn groups_are_those_of_their_rows(rt: HostRuntime) -> Result<(), Fail> {
-    try_table(rt.alloc(), ROWS, GROUPS)?;
-    try_table(rt.alloc(), DOCUMENTS, OF_DOCUMENTS)
-}
-
-#[test]
-fn no_rows_have_no_group(rt: HostRuntime) -> Result<(), Fail> {
-    try_table(rt.alloc(), "", OF_NONE)
+    for asking in [&Asking::Groups, &Asking::OfferedGroups] {
+        try_table(rt.alloc(), ROWS, GROUPS, asking)?;
+        try_table(rt.alloc(), DOCUMENTS, OF_DOCUMENTS, asking)?;
+        try_table(rt.alloc(), "", OF_NONE, asking)?;
+    }
+    Ok(())
 }

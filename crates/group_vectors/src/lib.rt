@@ -11,3 +11,5 @@ mod passes;
 mod rows;
 #[cfg(test)]
 mod shown;
+#[cfg(test)]
+mod tables;

@@ -1,10 +1,9 @@
 //! The rows of the tables, and the words of the tables that they have in common.
 use doc_types::Value;
 use group_facet::Fold;
-use row_select::{ColumnRef, CompareOp, Order, Page, Row};
+use row_select::{ColumnRef, CompareOp, Order, Page, Row, Sink};
 use srch_base::Items;
 use std::alloc::Global;
-use std::test::Fail;
 
 /// Rows, in the order in which they are found: a letter that stands for the row, its id, its weight and two attributes, gid and
 /// price.
@@ -26,132 +25,127 @@ B 2 2 20 5
 C 3 1 10 -1
 ";
 
-/// Fails with a text and with what was found for it, where this isn't what is wanted.
-pub(crate) fn compare(alloc: Global, text: &str, found: &str, wanted: &str) -> Result<(), Fail> {
-    if found == wanted {
-        return Ok(());
-    }
-    Err(Fail::new(format!(in alloc; "{text} ⇒ {found}")?))
+pub(crate) fn number(text: Option<&str>) -> Option<i128> {
+    text?.parse::<i128>().ok()
 }
 
-pub(crate) fn number(text: Option<&str>) -> Result<i128, Fail> {
-    Ok(text.ok_or("no number")?.parse().or(Err("no number"))?)
+pub(crate) fn short(text: Option<&str>) -> Option<u32> {
+    text?.parse::<u32>().ok()
 }
 
-pub(crate) fn short(text: Option<&str>) -> Result<u32, Fail> {
-    Ok(text.ok_or("no number")?.parse().or(Err("no number"))?)
-}
-
-fn natural(text: Option<&str>) -> Result<u64, Fail> {
-    Ok(text.ok_or("no number")?.parse().or(Err("no number"))?)
+fn natural(text: Option<&str>) -> Option<u64> {
+    text?.parse::<u64>().ok()
 }
 
 /// A whole number that an attribute holds.
-fn held(text: Option<&str>) -> Result<Value, Fail> {
-    Ok(Value::Whole(text.ok_or("no value")?.parse().or(Err("no value"))?))
+fn held(text: Option<&str>) -> Option<Value> {
+    Some(Value::Whole(text?.parse::<i64>().ok()?))
 }
 
-/// The letter of a row and the row, as the table writes it.
-fn lettered_row(alloc: Global, line: &str) -> Result<(char, Row), Fail> {
+/// A row, as the table writes it.
+fn row(alloc: Global, line: &str) -> Option<Row> {
     let mut words = line.split(' ');
-    let letter = words.next().ok_or("no letter")?.chars().next();
+    let _letter = words.next()?;
     let id = natural(words.next())?;
     let weight = natural(words.next())?;
-    let values = Vec::from_array(alloc, [held(words.next())?, held(words.next())?])?;
-    let row = Row {
+    let values = [held(words.next())?, held(words.next())?];
+    Some(Row {
         id,
         weight,
-        values: Items::new(values),
-    };
-    Ok((letter.ok_or("no letter")?, row))
+        values: Items::new(Vec::from_array(alloc, values).ok()?),
+    })
 }
 
 /// The rows of a table.
-pub(crate) fn all_rows(alloc: Global, table: &str) -> Result<Vec<Row>, Fail> {
+pub(crate) fn all_rows(alloc: Global, table: &str) -> Option<Vec<Row>> {
     let mut rows = Vec::new(alloc);
     for line in table.lines() {
-        let (_, row) = lettered_row(alloc, line)?;
-        rows.push(row)?;
+        rows.push(row(alloc, line)?).ok()?;
     }
-    Ok(rows)
+    Some(rows)
+}
+
+/// Offers rows to a sink.
+pub(crate) fn offer_all<S: Sink>(rows: &[Row], sink: &mut S) -> Option<()> {
+    for row in rows {
+        sink.offer(row).ok()?;
+    }
+    Some(())
 }
 
 /// The letter of the row of a table with this id.
-pub(crate) fn letter_of(alloc: Global, table: &str, id: u64) -> Result<char, Fail> {
+pub(crate) fn letter_of(table: &str, id: u64) -> Option<&str> {
     for line in table.lines() {
-        let (letter, row) = lettered_row(alloc, line)?;
-        if row.id == id {
-            return Ok(letter);
+        let (letter, rest) = line.split_once(' ')?;
+        if natural(rest.split(' ').next())? == id {
+            return Some(letter);
         }
     }
-    Err("a row that isn't in the table".into())
+    None
 }
 
-pub(crate) fn column(name: &str) -> Result<ColumnRef, Fail> {
+pub(crate) fn column(name: &str) -> Option<ColumnRef> {
     match name {
-        "id" => Ok(ColumnRef::Id),
-        "weight" => Ok(ColumnRef::Weight),
-        "gid" => Ok(ColumnRef::Attr(0)),
-        "price" => Ok(ColumnRef::Attr(1)),
-        "beyond" => Ok(ColumnRef::Attr(2)),
-        _ => Err("no column".into()),
+        "id" => Some(ColumnRef::Id),
+        "weight" => Some(ColumnRef::Weight),
+        "gid" => Some(ColumnRef::Attr(0)),
+        "price" => Some(ColumnRef::Attr(1)),
+        "beyond" => Some(ColumnRef::Attr(2)),
+        _ => None,
     }
 }
 
-pub(crate) fn comparison(sign: &str) -> Result<CompareOp, Fail> {
+pub(crate) fn comparison(sign: &str) -> Option<CompareOp> {
     match sign {
-        "=" => Ok(CompareOp::Equal),
-        "<>" => Ok(CompareOp::NotEqual),
-        "<" => Ok(CompareOp::Less),
-        ">" => Ok(CompareOp::Greater),
-        "<=" => Ok(CompareOp::AtMost),
-        ">=" => Ok(CompareOp::AtLeast),
-        _ => Err("no comparison".into()),
+        "=" => Some(CompareOp::Equal),
+        "<>" => Some(CompareOp::NotEqual),
+        "<" => Some(CompareOp::Less),
+        ">" => Some(CompareOp::Greater),
+        "<=" => Some(CompareOp::AtMost),
+        ">=" => Some(CompareOp::AtLeast),
+        _ => None,
     }
 }
 
 /// The order by these keys, which may be none.
-pub(crate) fn order_by(alloc: Global, text: &str) -> Result<Order, Fail> {
+pub(crate) fn order_by(alloc: Global, text: &str) -> Option<Order> {
     let mut keys = Vec::new(alloc);
-    for key in text.split(", ") {
-        if !key.is_empty() {
-            let (name, way) = key.split_once(' ').ok_or("a key without asc or desc")?;
-            keys.push((column(name)?, way == "desc"))?;
-        }
+    for key in text.split_terminator(", ") {
+        let (name, way) = key.split_once(' ')?;
+        keys.push((column(name)?, way == "desc")).ok()?;
     }
-    Ok(Order {
+    Some(Order {
         keys: Items::new(keys),
     })
 }
 
-fn fold(text: &str) -> Result<Fold, Fail> {
+fn fold(text: &str) -> Option<Fold> {
     if text == "count" {
-        return Ok(Fold::Count);
+        return Some(Fold::Count);
     }
-    let (name, of) = text.split_once(' ').ok_or("an aggregate without a column")?;
+    let (name, of) = text.split_once(' ')?;
+    let column = column(of)?;
     match name {
-        "distinct" => Ok(Fold::Distinct(column(of)?)),
-        "least" => Ok(Fold::Least(column(of)?)),
-        "greatest" => Ok(Fold::Greatest(column(of)?)),
-        "sum" => Ok(Fold::Sum(column(of)?)),
-        _ => Err("no aggregate".into()),
+        "distinct" => Some(Fold::Distinct(column)),
+        "least" => Some(Fold::Least(column)),
+        "greatest" => Some(Fold::Greatest(column)),
+        "sum" => Some(Fold::Sum(column)),
+        _ => None,
     }
 }
 
 /// These aggregates, which may be none.
-pub(crate) fn folds(alloc: Global, text: &str) -> Result<Vec<Fold>, Fail> {
+pub(crate) fn folds(alloc: Global, text: &str) -> Option<Vec<Fold>> {
     let mut folds = Vec::new(alloc);
-    for name in text.split(", ") {
-        if !name.is_empty() {
-            folds.push(fold(name)?)?;
-        }
+    for name in text.split_terminator(", ") {
+        folds.push(fold(name)?).ok()?;
     }
-    Ok(folds)
+    Some(folds)
 }
 
-pub(crate) fn page_of(text: &str) -> Result<Page, Fail> {
+pub(crate) fn page_of(text: &str) -> Option<Page> {
     let mut numbers = text.split(' ');
-    Ok(Page {
+    Some(Page {
         offset: short(numbers.next())?,
         count: short(numbers.next())?,
         max_matches: short(numbers.next())?,

@@ -1,9 +1,11 @@
 //! Which groups are shown: HAVING, orders, ties and pages.
 use crate::groups::{group_of, offered};
-use crate::rows::{DOCUMENTS, ROWS, column, compare, comparison, number, page_of};
-use group_facet::{GroupColumn, GroupPage, Having, ShownGroups, top_groups};
+use crate::rows::{DOCUMENTS, ROWS, all_rows, column, comparison, number, page_of};
+use crate::tables::{Asking, try_table};
+use group_facet::{GroupColumn, GroupPage, GroupRow, Having, ShownGroups, top_groups};
 use srch_base::Items;
 use std::alloc::Global;
+use std::fmt::Write;
 use std::test::Fail;
 
 /// HAVING or `-`, the order of groups, the page, and how many groups HAVING keeps with the keys of those that are shown. The groups
@@ -58,80 +60,75 @@ const OF_NONE: &str = "\
 f0 > 1; f0 desc; 0 20 1000 ⇒ 0:
 ";
 
-fn group_column(name: &str) -> Result<GroupColumn, Fail> {
+fn group_column(name: &str) -> Option<GroupColumn> {
     match name {
-        "key" => Ok(GroupColumn::Key),
-        "f0" => Ok(GroupColumn::Folded(0)),
-        "f1" => Ok(GroupColumn::Folded(1)),
-        "f9" => Ok(GroupColumn::Folded(9)),
-        name => Ok(GroupColumn::Best(column(name)?)),
+        "key" => Some(GroupColumn::Key),
+        "f0" => Some(GroupColumn::Folded(0)),
+        "f1" => Some(GroupColumn::Folded(1)),
+        "f9" => Some(GroupColumn::Folded(9)),
+        _ => Some(GroupColumn::Best(column(name)?)),
     }
 }
 
-fn having_of(text: &str) -> Result<Option<Having>, Fail> {
+/// The condition of a line, if it has one.
+fn having_of(text: &str) -> Option<Option<Having>> {
     if text == "-" {
-        return Ok(None);
+        return Some(None);
     }
     let mut words = text.split(' ');
-    let column = group_column(words.next().ok_or("no column")?)?;
-    let op = comparison(words.next().ok_or("no comparison")?)?;
+    let column = group_column(words.next()?)?;
+    let op = comparison(words.next()?)?;
     let value = number(words.next())?;
-    Ok(Some(Having { column, op, value }))
+    Some(Some(Having { column, op, value }))
 }
 
-fn keys_of(alloc: Global, text: &str) -> Result<Vec<(GroupColumn, bool)>, Fail> {
+fn keys_of(alloc: Global, text: &str) -> Option<Vec<(GroupColumn, bool)>> {
     let mut keys = Vec::new(alloc);
-    for key in text.split(", ") {
-        if !key.is_empty() {
-            let (name, way) = key.split_once(' ').ok_or("a key without asc or desc")?;
-            keys.push((group_column(name)?, way == "desc"))?;
-        }
+    for key in text.split_terminator(", ") {
+        let (name, way) = key.split_once(' ')?;
+        keys.push((group_column(name)?, way == "desc")).ok()?;
     }
-    Ok(keys)
+    Some(keys)
 }
 
-fn asked_by(alloc: Global, text: &str) -> Result<GroupPage, Fail> {
-    let mut parts = text.split("; ");
-    let having = having_of(parts.next().ok_or("no condition")?)?;
-    let keys = keys_of(alloc, parts.next().ok_or("no order")?)?;
-    let page = page_of(parts.next().ok_or("no page")?)?;
-    Ok(GroupPage {
-        having,
-        keys: Items::new(keys),
-        page,
+/// What a line of a table asks for.
+fn asked_by(alloc: Global, text: &str) -> Option<GroupPage> {
+    let (condition, rest) = text.split_once("; ")?;
+    let (keys, page) = rest.split_once("; ")?;
+    Some(GroupPage {
+        having: having_of(condition)?,
+        page: page_of(page)?,
+        keys: Items::new(keys_of(alloc, keys)?),
     })
 }
 
-/// How many groups there are and the keys of those that are shown, as the tables write them.
-fn told(alloc: Global, shown: &ShownGroups) -> Result<String, Fail> {
-    let mut text = String::new(alloc);
+/// The groups by gid, each with its row of the greatest weight, and two aggregates.
+fn groups_of(alloc: Global, rows: &str) -> Option<Vec<GroupRow>> {
+    let asked = group_of(alloc, "gid; weight desc; count, sum price")?;
+    offered(alloc, &all_rows(alloc, rows)?, &asked)
+}
+
+/// Appends how many groups there are and the keys of those that are shown, as the tables write them.
+fn put_found(shown: &ShownGroups, into: &mut String) -> Option<()> {
     let found = shown.found;
-    write!(text, "{found}:")?;
+    write!(into, "{found}:").ok()?;
     for group in shown.rows.iter() {
         let key = group.key;
-        write!(text, " {key}")?;
+        write!(into, " {key}").ok()?;
     }
-    Ok(text)
+    Some(())
 }
 
-fn try_line(alloc: Global, rows: &str, line: &str) -> Result<(), Fail> {
-    let (text, wanted) = line.split_once(" ⇒ ").ok_or("a line without an arrow")?;
-    let asked = group_of(alloc, "gid; weight desc; count, sum price")?;
-    let groups = offered(alloc, rows, &asked)?;
-    let shown = top_groups(groups, &asked_by(alloc, text)?)?;
-    compare(alloc, text, told(alloc, &shown)?.as_str(), wanted)
-}
-
-fn try_table(alloc: Global, rows: &str, table: &str) -> Result<(), Fail> {
-    for line in table.lines() {
-        try_line(alloc, rows, line)?;
-    }
-    Ok(())
+/// Appends the groups that a text shows.
+pub(crate) fn put_shown(alloc: Global, rows: &str, text: &str, into: &mut String) -> Option<()> {
+    let asked = asked_by(alloc, text)?;
+    let shown = top_groups(groups_of(alloc, rows)?, &asked).ok()?;
+    put_found(&shown, into)
 }
 
 #[test]
 fn groups_are_shown_in_order(rt: HostRuntime) -> Result<(), Fail> {
-    try_table(rt.alloc(), ROWS, SHOWN)?;
-    try_table(rt.alloc(), DOCUMENTS, OF_DOCUMENTS)?;
-    try_table(rt.alloc(), "", OF_NONE)
+    try_table(rt.alloc(), ROWS, SHOWN, &Asking::Shown)?;
+    try_table(rt.alloc(), DOCUMENTS, OF_DOCUMENTS, &Asking::Shown)?;
+    try_table(rt.alloc(), "", OF_NONE, &Asking::Shown)
 }
