@@ -14,6 +14,10 @@ mod packets;
 #[cfg(test)]
 mod reading;
 #[cfg(test)]
+mod spelling;
+#[cfg(test)]
+mod tables;
+#[cfg(test)]
 mod token_values;
 #[cfg(test)]
 mod values;

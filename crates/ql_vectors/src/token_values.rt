@@ -2,35 +2,40 @@
 //! are worked out by hand from the rules.
 ghost use Rattle.ql_lex.specs.Shapes.{IsQuotedText};
 
+use crate::tables::{Telling, try_table};
 use ql_lex::TokenKind::{Name, Quoted, SysVar};
 use ql_lex::{Sign, Token, number_of, put_text, sign_of, token_name};
-use srch_base::NoMemory;
 use std::alloc::Global;
+use std::test::Fail;
 
 /// Whether a text token has this value, which is appended.
-fn has_value(alloc: Global, token: &[u8], value: &str) -> Result<bool, NoMemory>
+fn has_value(alloc: Global, token: &[u8], value: &str) -> bool
     requires { IsQuotedText token.now }
 {
-    let mut out = b"x".to_vec(alloc)?;
-    put_text(token, &mut out)?;
-    let same = match out.as_slice() {
+    let mut out = Vec::new(alloc);
+    if out.push(b'x').is_err() || put_text(token, &mut out).is_err() {
+        return false;
+    }
+    match out.as_slice() {
         [b'x', rest @ ..] => rest == value.as_bytes(),
         _ => false,
-    };
-    Ok(same)
+    }
 }
 
 #[test]
 fn gives_values(rt: HostRuntime) {
     let alloc = rt.alloc();
-    assert!(rt; has_value(alloc, b"''", "") == Ok(true));
-    assert!(rt; has_value(alloc, b"'a b'", "a b") == Ok(true));
-    assert!(rt; has_value(alloc, b"\"it's\"", "it's") == Ok(true));
-    assert!(rt; has_value(alloc, b"'\\n\\r\\t\\0'", "\n\r\t\0") == Ok(true));
-    assert!(rt; has_value(alloc, b"'\\'\\\"\\\\'", "'\"\\") == Ok(true));
-    assert!(rt; has_value(alloc, b"'\\N\\x\\%'", "Nx%") == Ok(true));
-    assert!(rt; has_value(alloc, b"'\\\\n'", "\\n") == Ok(true));
-    assert!(rt; has_value(alloc, b"'\\\xd0\xbf\\\r'", "п\r") == Ok(true));
+    let found = [
+        has_value(alloc, b"''", ""),
+        has_value(alloc, b"'a b'", "a b"),
+        has_value(alloc, b"\"it's\"", "it's"),
+        has_value(alloc, b"'\\n\\r\\t\\0'", "\n\r\t\0"),
+        has_value(alloc, b"'\\'\\\"\\\\'", "'\"\\"),
+        has_value(alloc, b"'\\N\\x\\%'", "Nx%"),
+        has_value(alloc, b"'\\\\n'", "\\n"),
+        has_value(alloc, b"'\\\xd0\xbf\\\r'", "п\r"),
+    ];
+    assert!(rt; found == [true; 8]);
 }
 
 #[test]
@@ -40,55 +45,77 @@ fn gives_names(rt: HostRuntime) {
         text: b"rt_1",
         at: 0,
     };
-    assert!(rt; token_name(&plain) == b"rt_1".as_slice());
     let quoted = Token {
         kind: Quoted,
         text: b"`Ab`",
         at: 0,
     };
-    assert!(rt; token_name(&quoted) == b"Ab".as_slice());
     let variable = Token {
         kind: SysVar,
         text: b"@@a.B",
         at: 0,
     };
-    assert!(rt; token_name(&variable) == b"a.B".as_slice());
+    let found = [
+        token_name(&plain) == b"rt_1".as_slice(),
+        token_name(&quoted) == b"Ab".as_slice(),
+        token_name(&variable) == b"a.B".as_slice(),
+    ];
+    assert!(rt; found == [true; 3]);
 }
 
 /// Some bytes, and the sign that they spell, if any.
-const SIGNS: [(&[u8], Option<Sign>); 16] = [
-    (b"(", Some(Sign::OpenParen)),
-    (b")", Some(Sign::CloseParen)),
-    (b",", Some(Sign::Comma)),
-    (b";", Some(Sign::Semicolon)),
-    (b"*", Some(Sign::Star)),
-    (b"-", Some(Sign::Minus)),
-    (b"=", Some(Sign::Equal)),
-    (b"!=", Some(Sign::NotEqual)),
-    (b"<>", Some(Sign::NotEqual)),
-    (b"<", Some(Sign::Less)),
-    (b">", Some(Sign::Greater)),
-    (b"<=", Some(Sign::LessOrEqual)),
-    (b">=", Some(Sign::GreaterOrEqual)),
-    (b"!", None),
-    (b"=>", None),
-    (b"", None),
-];
+const SIGNS: &str = r#"
+( ⇒ open
+) ⇒ close
+, ⇒ comma
+; ⇒ semicolon
+* ⇒ star
+- ⇒ minus
+= ⇒ equal
+!= ⇒ not equal
+<> ⇒ not equal
+< ⇒ less
+> ⇒ greater
+<= ⇒ less or equal
+>= ⇒ greater or equal
+! ⇒ none
+=> ⇒ none
+ ⇒ none
+"#;
 
-/// The number of the first bytes that spell another sign.
-fn first_other_sign() -> Option<usize> {
-    for (at, (bytes, sign)) in SIGNS.iter().enumerate() {
-        if sign_of(bytes) != *sign {
-            return Some(at);
-        }
+fn sign_word(sign: Sign) -> &'static str {
+    match sign {
+        Sign::OpenParen => "open",
+        Sign::CloseParen => "close",
+        Sign::Comma => "comma",
+        Sign::Semicolon => "semicolon",
+        Sign::Star => "star",
+        Sign::Minus => "minus",
+        Sign::Equal => "equal",
+        Sign::NotEqual => "not equal",
+        Sign::Less => "less",
+        Sign::Greater => "greater",
+        Sign::LessOrEqual => "less or equal",
+        Sign::GreaterOrEqual => "greater or equal",
     }
-    None
+}
+
+/// Appends the sign that bytes spell, or `none`.
+pub(crate) fn put_sign(bytes: &[u8], into: &mut String) -> Option<()> {
+    into.push_str(match sign_of(bytes) {
+        Some(sign) => sign_word(sign),
+        None => "none",
+    })
+    .ok()
 }
 
 #[test]
-fn gives_numbers_and_signs(rt: HostRuntime) {
-    assert!(rt; number_of(b"0") == 0);
-    assert!(rt; number_of(b"007") == 7);
-    assert!(rt; number_of(b"18446744073709551615") == u64::MAX);
-    assert_eq!(rt; first_other_sign(), None);
+fn gives_numbers_and_signs(rt: HostRuntime) -> Result<(), Fail> {
+    let found = [
+        number_of(b"0"),
+        number_of(b"007"),
+        number_of(b"18446744073709551615"),
+    ];
+    assert!(rt; found == [0, 7, u64::MAX]);
+    try_table(rt.alloc(), SIGNS, &Telling::Sign)
 }
