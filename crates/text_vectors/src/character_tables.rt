@@ -1,10 +1,10 @@
 //! Character tables: what is wrong with a text that is none, and which values the others give. All of it is worked out by
 //! hand from the forms of `charset_table` in Sphinx's manual.
-use crate::spelling::written_text;
 use crate::tables::{Telling, try_table};
-use charset_map::{Charset, CharsetKind};
+use charset_map::{Charset, CharsetFault, CharsetKind};
 use srch_base::Or;
 use std::alloc::Global;
+use std::fmt::Write;
 use std::test::Fail;
 
 /// Texts that are no table, and the place and the kind of the first fault.
@@ -69,29 +69,29 @@ U+0..U+D7FF->U+1..U+E000: ⟨U+D7FF⟩ ⇒ ⟨U+E000⟩
 
 /// Characters, and the values that the default table gives them by its text.
 const DEFAULTS: &str = r#"
-0 ⇒ 0
-9 ⇒ 9
-A ⇒ a
-Z ⇒ z
-_ ⇒ _
-a ⇒ a
-z ⇒ z
-- ⇒ none
-  ⇒ none
-@ ⇒ none
-[ ⇒ none
-А ⇒ а
-П ⇒ п
-Я ⇒ я
-а ⇒ а
-я ⇒ я
-Ё ⇒ ё
-ё ⇒ ё
-Ѐ ⇒ none
-Џ ⇒ none
-ѐ ⇒ none
-ђ ⇒ none
-ä ⇒ none
+default: 0 ⇒ 0
+default: 9 ⇒ 9
+default: A ⇒ a
+default: Z ⇒ z
+default: _ ⇒ _
+default: a ⇒ a
+default: z ⇒ z
+default: - ⇒ none
+default:   ⇒ none
+default: @ ⇒ none
+default: [ ⇒ none
+default: А ⇒ а
+default: П ⇒ п
+default: Я ⇒ я
+default: а ⇒ а
+default: я ⇒ я
+default: Ё ⇒ ё
+default: ё ⇒ ё
+default: Ѐ ⇒ none
+default: Џ ⇒ none
+default: ѐ ⇒ none
+default: ђ ⇒ none
+default: ä ⇒ none
 "#;
 
 fn kind_word(kind: CharsetKind) -> &'static str {
@@ -104,51 +104,47 @@ fn kind_word(kind: CharsetKind) -> &'static str {
     }
 }
 
-/// The place and the kind of a text's fault.
-pub(crate) fn fault_told(alloc: Global, text: &str) -> Result<String, Fail> {
-    let text = written_text(alloc, text)?;
-    if text.len() > 1000 {
-        return Err("a table above 1000 bytes".into());
-    }
-    match Charset::read(alloc, text.as_str()) {
-        Err(Or::Fault(fault)) => {
-            let place = fault.place;
-            let kind = kind_word(fault.kind);
-            Ok(format!(in alloc; "{place} {kind}")?)
+/// Appends the values of some characters, each of which may be `none`.
+pub(crate) fn put_folded(table: &Charset, characters: &str, into: &mut String) -> Option<()> {
+    for (place, character) in characters.chars().enumerate() {
+        if place > 0 {
+            into.push(' ').ok()?;
         }
-        _ => Err("no fault".into()),
+        match table.fold(character) {
+            Some(value) => into.push(value).ok()?,
+            None => into.push_str("none").ok()?,
+        }
     }
+    Some(())
 }
 
-/// The value of a character, or `none`.
-fn value_told(alloc: Global, table: &Charset, character: &str) -> Result<String, Fail> {
-    let mut told = String::new(alloc);
-    match table.fold(character.chars().next().ok_or("no character")?) {
-        Some(value) => told.push(value)?,
-        None => told.push_str("none")?,
+/// The table of a text, or the default one.
+pub(crate) fn table_of(alloc: Global, text: &str) -> Result<Charset, Or<CharsetFault>> {
+    if text == "default" {
+        return Ok(Charset::default_table(alloc)?);
     }
-    Ok(told)
+    if text.len() > 1000 {
+        return Err(Or::NoMemory);
+    }
+    Charset::read(alloc, text)
 }
 
-/// The value that the table of a text gives the character behind it.
-pub(crate) fn folded(alloc: Global, text: &str) -> Result<String, Fail> {
-    let text = written_text(alloc, text)?;
-    let (table, character) = text.as_str().rsplit_once(": ").ok_or("no character")?;
-    if table.len() > 1000 {
-        return Err("a table above 1000 bytes".into());
+/// Appends the place and the kind of a table's fault, or the values that it gives the characters behind it.
+pub(crate) fn put_values(alloc: Global, text: &str, into: &mut String) -> Option<()> {
+    let (text, characters) = text.rsplit_once(": ").unwrap_or((text, ""));
+    match table_of(alloc, text) {
+        Ok(table) => put_folded(&table, characters, into),
+        Err(Or::Fault(fault)) => {
+            let (place, kind) = (fault.place, kind_word(fault.kind));
+            write!(into, "{place} {kind}").ok()
+        }
+        Err(Or::NoMemory) => None,
     }
-    let table = Charset::read(alloc, table).ok().ok_or("no table")?;
-    value_told(alloc, &table, character)
-}
-
-/// The value that the default table gives a character.
-pub(crate) fn folded_by_default(alloc: Global, text: &str) -> Result<String, Fail> {
-    value_told(alloc, &Charset::default_table(alloc)?, text)
 }
 
 #[test]
 fn tables_are_those_of_their_texts(rt: HostRuntime) -> Result<(), Fail> {
-    try_table(rt.alloc(), FAULTS, Telling::TableFault)?;
-    try_table(rt.alloc(), VALUES, Telling::Folded)?;
-    try_table(rt.alloc(), DEFAULTS, Telling::FoldedByDefault)
+    try_table(rt.alloc(), FAULTS, &Telling::Values)?;
+    try_table(rt.alloc(), VALUES, &Telling::Values)?;
+    try_table(rt.alloc(), DEFAULTS, &Telling::Values)
 }

@@ -1,49 +1,14 @@
 //! Where a text stops being a configuration, and why. One table has whole texts with the line and the kind of the first
-//! fault, the other lines in an index that is whole without them. Both are worked out by hand from the grammar and the
-//! order of the kinds.
-use crate::configuration_limits::expanded;
-use crate::spelling::written_out;
+//! fault, another lines in an index that is whole without them, a third changes of an index, and two more the limits and the
+//! order of the kinds. All are worked out by hand from the grammar and the order of the kinds.
+use crate::configuration_limits::LIMITS;
+use crate::configuration_orders::ORDERS;
 use crate::tables::{Telling, try_table};
-use conf_text::{ConfFault, ConfKind, read_conf};
+use conf_text::{ConfFault, read_conf};
 use srch_base::Or;
 use std::alloc::Global;
+use std::fmt::Write;
 use std::test::Fail;
-
-/// The kinds in words, as users see them.
-pub(crate) fn kind_word(kind: ConfKind) -> &'static str {
-    match kind {
-        ConfKind::NotText => "not UTF-8",
-        ConfKind::Syntax => "syntax",
-        ConfKind::UnknownSection => "unknown section",
-        ConfKind::UnknownKey => "unknown key",
-        ConfKind::BadValue => "bad value",
-        ConfKind::Repeated => "repeated",
-        ConfKind::Missing => "missing key",
-        ConfKind::Limit => "limit",
-    }
-}
-
-/// The line and the kind of the fault of a text, or none where it is a configuration.
-pub(crate) fn fault_of(alloc: Global, text: &[u8]) -> Result<Option<(u32, ConfKind)>, Fail> {
-    match read_conf(alloc, text) {
-        Ok(_) => Ok(None),
-        Err(Or::Fault(ConfFault { line, kind })) => Ok(Some((line, kind))),
-        Err(Or::NoMemory) => Err("memory".into()),
-    }
-}
-
-/// The fault of a text in words, or `none`.
-pub(crate) fn fault_told(alloc: Global, text: &[u8]) -> Result<String, Fail> {
-    let mut told = String::new(alloc);
-    match fault_of(alloc, text)? {
-        Some((line, kind)) => {
-            let word = kind_word(kind);
-            write!(told, "{line} {word}")?;
-        }
-        None => told.push_str("none")?,
-    }
-    Ok(told)
-}
 
 /// Texts that are no configuration, with the line and the kind of the first fault. In turn: no index; a line that isn't UTF-8,
 /// before all else; lines where the grammar can't have them; a text that ends in a section, which is the last line's fault
@@ -113,82 +78,113 @@ index rt {¶type = plain¶rt_feld = x¶ ⇒ 2 bad value
 
 /// Lines in an index that has a type, a path and a field, and the kind of the first fault where there is one.
 const LINES: &str = r#"
-type = RT ⇒ bad value
-type = ⇒ bad value
-type = rt ⇒ repeated
-path = ⇒ bad value
-path = q ⇒ repeated
-rt_field = ID ⇒ bad value
-rt_field = 1st ⇒ bad value
-rt_field = a b ⇒ bad value
-rt_field = ⇒ bad value
-rt_field = _1 ⇒ none
-RT_Field = Ab9 ⇒ none
-rt_attr_uint = id ⇒ bad value
-rt_attr_bool = a-b ⇒ bad value
-rt_attr_bigint = я ⇒ bad value
-rt_attr_timestamp = t ⇒ none
-charset_table = A..Z->a..y ⇒ bad value
-charset_table = ⇒ bad value
-charset_table = a, a->b ⇒ bad value
-charset_table = я ⇒ bad value
-charset_table = A..Z->a..z, \¶ a..z ⇒ none
-html_strip = 2 ⇒ bad value
-html_strip = yes ⇒ bad value
-html_strip = 01 ⇒ bad value
-html_strip = 0 ⇒ none
-index_sp = ⇒ bad value
-index_sp = 1 ⇒ none
-morphology = None ⇒ bad value
-morphology = stem_en ⇒ bad value
-morphology = none # no stems ⇒ none
-min_word_len = 2 ⇒ bad value
-min_word_len = 1 ⇒ none
-index_zones = ⇒ bad value
-index_zones = h1, ⇒ bad value
-index_zones = ,h1 ⇒ bad value
-index_zones = h1 h2 ⇒ bad value
-index_zones = 1h ⇒ bad value
-index_zones = h1, H1 ⇒ bad value
-index_zones = h1, h* ⇒ bad value
-index_zones = h1 , th-2:x_ ⇒ bad value
-html_strip = 1¶index_zones = h1 , th-2:x_ ⇒ none
-index_zones = h1¶html_strip = 1 ⇒ none
-rt_mem_limit = ⇒ none
-dict = keywords ⇒ none
-docinfo = extern = x ⇒ none
-mlock = { ⇒ none
-preopen = a#b ⇒ none
-ondisk_attrs = \¶ ⇒ none
-charset_type = utf-8 ⇒ none
-dict = a¶dict = b ⇒ repeated
-html_strip = 0¶html_strip = 2 ⇒ bad value
-html_strip = 1¶index_zones = a¶index_zones = b ⇒ repeated
-rt_attr_uint = a¶rt_attr_uint = id ⇒ bad value
+⟨rt⟩type = RT¶}¶ ⇒ bad value
+⟨rt⟩type =¶}¶ ⇒ bad value
+⟨rt⟩type = rt¶}¶ ⇒ repeated
+⟨rt⟩path =¶}¶ ⇒ bad value
+⟨rt⟩path = q¶}¶ ⇒ repeated
+⟨rt⟩rt_field = ID¶}¶ ⇒ bad value
+⟨rt⟩rt_field = 1st¶}¶ ⇒ bad value
+⟨rt⟩rt_field = a b¶}¶ ⇒ bad value
+⟨rt⟩rt_field =¶}¶ ⇒ bad value
+⟨rt⟩rt_field = _1¶}¶ ⇒ none
+⟨rt⟩RT_Field = Ab9¶}¶ ⇒ none
+⟨rt⟩rt_attr_uint = id¶}¶ ⇒ bad value
+⟨rt⟩rt_attr_bool = a-b¶}¶ ⇒ bad value
+⟨rt⟩rt_attr_bigint = я¶}¶ ⇒ bad value
+⟨rt⟩rt_attr_timestamp = t¶}¶ ⇒ none
+⟨rt⟩charset_table = A..Z->a..y¶}¶ ⇒ bad value
+⟨rt⟩charset_table =¶}¶ ⇒ bad value
+⟨rt⟩charset_table = a, a->b¶}¶ ⇒ bad value
+⟨rt⟩charset_table = я¶}¶ ⇒ bad value
+⟨rt⟩charset_table = A..Z->a..z, \¶ a..z¶}¶ ⇒ none
+⟨rt⟩html_strip = 2¶}¶ ⇒ bad value
+⟨rt⟩html_strip = yes¶}¶ ⇒ bad value
+⟨rt⟩html_strip = 01¶}¶ ⇒ bad value
+⟨rt⟩html_strip = 0¶}¶ ⇒ none
+⟨rt⟩index_sp =¶}¶ ⇒ bad value
+⟨rt⟩index_sp = 1¶}¶ ⇒ none
+⟨rt⟩morphology = None¶}¶ ⇒ bad value
+⟨rt⟩morphology = stem_en¶}¶ ⇒ bad value
+⟨rt⟩morphology = none # no stems¶}¶ ⇒ none
+⟨rt⟩min_word_len = 2¶}¶ ⇒ bad value
+⟨rt⟩min_word_len = 1¶}¶ ⇒ none
+⟨rt⟩index_zones =¶}¶ ⇒ bad value
+⟨rt⟩index_zones = h1,¶}¶ ⇒ bad value
+⟨rt⟩index_zones = ,h1¶}¶ ⇒ bad value
+⟨rt⟩index_zones = h1 h2¶}¶ ⇒ bad value
+⟨rt⟩index_zones = 1h¶}¶ ⇒ bad value
+⟨rt⟩index_zones = h1, H1¶}¶ ⇒ bad value
+⟨rt⟩index_zones = h1, h*¶}¶ ⇒ bad value
+⟨rt⟩index_zones = h1 , th-2:x_¶}¶ ⇒ bad value
+⟨rt⟩html_strip = 1¶index_zones = h1 , th-2:x_¶}¶ ⇒ none
+⟨rt⟩index_zones = h1¶html_strip = 1¶}¶ ⇒ none
+⟨rt⟩rt_mem_limit =¶}¶ ⇒ none
+⟨rt⟩dict = keywords¶}¶ ⇒ none
+⟨rt⟩docinfo = extern = x¶}¶ ⇒ none
+⟨rt⟩mlock = {¶}¶ ⇒ none
+⟨rt⟩preopen = a#b¶}¶ ⇒ none
+⟨rt⟩ondisk_attrs = \¶¶}¶ ⇒ none
+⟨rt⟩charset_type = utf-8¶}¶ ⇒ none
+⟨rt⟩dict = a¶dict = b¶}¶ ⇒ repeated
+⟨rt⟩html_strip = 0¶html_strip = 2¶}¶ ⇒ bad value
+⟨rt⟩html_strip = 1¶index_zones = a¶index_zones = b¶}¶ ⇒ repeated
+⟨rt⟩rt_attr_uint = a¶rt_attr_uint = id¶}¶ ⇒ bad value
 "#;
 
-/// The fault of a text in which `%` and a letter stand for samples.
-pub(crate) fn conf_told(alloc: Global, text: &str) -> Result<String, Fail> {
-    let template = expanded(alloc, text)?;
-    let text = written_out(alloc, template.as_str())?;
-    fault_told(alloc, text.as_slice())
+/// An index with two fields and two attributes, changed at one place, with the line and the kind of the fault that the change makes.
+/// After the first ones it is still a configuration. The last two have the most bytes, and one more.
+const CHANGES: &str = r#"
+index rt¶{¶type = rt¶path = data/rt¶rt_field = title¶rt_field = content¶rt_attr_uint = gid¶rt_attr_bigint = price¶} ⇒ none
+index rt{¶type = rt¶path = data/rt¶rt_field = title¶rt_field = content¶rt_attr_uint = gid¶rt_attr_bigint = price¶}¶ ⇒ none
+⟨tab⟩Index  RT⟨tab⟩{ # {¶type = rt¶path = data/rt¶rt_field = title¶rt_field = content¶rt_attr_uint = gid¶rt_attr_bigint = price¶}¶ ⇒ none
+index rt¶¶# one¶⟨tab⟩{¶type = rt¶path = data/rt¶rt_field = title¶rt_field = content¶rt_attr_uint = gid¶rt_attr_bigint = price¶}¶ ⇒ none
+index rt¶{¶type=rt¶path = data/rt¶rt_field = title¶rt_field = content¶rt_attr_uint = gid¶rt_attr_bigint = price¶}¶ ⇒ none
+index rt¶{¶ty\¶pe = \¶rt¶path = data/rt¶rt_field = title¶rt_field = content¶rt_attr_uint = gid¶rt_attr_bigint = price¶}¶ ⇒ none
+index rt¶{¶#\¶}¶type = rt⟨tab⟩# = plain¶path = data/rt¶rt_field = title¶rt_field = content¶rt_attr_uint = gid¶rt_attr_bigint = price¶}¶ ⇒ none
+index rt¶{¶type = rt¶path = data/rt¶rt_field = title¶rt_feld = content¶rt_attr_uint = gid¶rt_attr_bigint = price¶}¶ ⇒ 6 unknown key
+index rt¶{¶type = rt¶rt_field = title¶rt_field = content¶rt_attr_uint = gid¶rt_attr_bigint = price¶}¶ ⇒ 8 missing key
+index rt¶{¶type = rt¶path = data/rt¶charset_table = A..Z->a..y¶rt_field = title¶rt_field = content¶rt_attr_uint = gid¶rt_attr_bigint = price¶}¶ ⇒ 5 bad value
+index rt¶{¶type = rt¶path = \¶\¶data/rt¶type = rt¶rt_field = title¶rt_field = content¶rt_attr_uint = gid¶rt_attr_bigint = price¶}¶ ⇒ 7 repeated
+index rt¶{¶type = rt¶path = # data/rt¶rt_field = title¶rt_field = content¶rt_attr_uint = gid¶rt_attr_bigint = price¶}¶ ⇒ 4 bad value
+index rt¶{¶type = rt#1¶path = data/rt¶rt_field = title¶rt_field = content¶rt_attr_uint = gid¶rt_attr_bigint = price¶}¶ ⇒ 3 bad value
+index rt¶{¶type = rt¶path = data/rt¶rt_field = title¶rt_field = content¶rt_attr_uint = gid¶rt_attr_bigint = price¶}¶#   ⟨         × 131057⟩ ⇒ none
+index rt¶{¶type = rt¶path = data/rt¶rt_field = title¶rt_field = content¶rt_attr_uint = gid¶rt_attr_bigint = price¶}¶#   ⟨         × 131057⟩⟨xff⟩ ⇒ 1 limit
+"#;
+
+/// Appends a fault: its line and its kind, or the kind alone.
+fn put_kind(fault: ConfFault, telling: &Telling, into: &mut String) -> Option<()> {
+    let ConfFault { line, kind } = fault;
+    match telling {
+        Telling::FaultKind => into.push_str(kind.text()).ok()?,
+        _ => write!(into, "{line} {kind}").ok()?,
+    }
+    if into.as_str().ends_with(kind.text()) {
+        Some(())
+    } else {
+        None
+    }
 }
 
-/// The kind of the fault of the index with its head, a line `type = rt`, a path, a field, then these lines and `}`.
-pub(crate) fn lines_told(alloc: Global, lines: &str) -> Result<String, Fail> {
-    let mut text = Vec::from_slice(alloc, b"index rt {\ntype = rt\npath = p\nrt_field = f\n")?;
-    text.extend_from_slice(written_out(alloc, lines)?.as_slice())?;
-    text.extend_from_slice(b"\n}\n")?;
-    let mut told = String::new(alloc);
-    told.push_str(match fault_of(alloc, text.as_slice())? {
-        Some((_, kind)) => kind_word(kind),
-        None => "none",
-    })?;
-    Ok(told)
+/// Appends the fault of a text, or `none` where it is a configuration.
+pub(crate) fn put_fault(
+    alloc: Global,
+    text: &[u8],
+    telling: &Telling,
+    into: &mut String,
+) -> Option<()> {
+    match read_conf(alloc, text).err() {
+        None => into.push_str("none").ok(),
+        Some(Or::Fault(fault)) => put_kind(fault, telling, into),
+        Some(Or::NoMemory) => None,
+    }
 }
 
 #[test]
 fn tells_where_a_text_breaks_the_grammar(rt: HostRuntime) -> Result<(), Fail> {
-    try_table(rt.alloc(), TEXTS, Telling::Conf)?;
-    try_table(rt.alloc(), LINES, Telling::Lines)
+    try_table(rt.alloc(), TEXTS, &Telling::Fault)?;
+    try_table(rt.alloc(), LINES, &Telling::FaultKind)?;
+    try_table(rt.alloc(), CHANGES, &Telling::Fault)?;
+    try_table(rt.alloc(), LIMITS, &Telling::Fault)?;
+    try_table(rt.alloc(), ORDERS, &Telling::Fault)
 }

@@ -4,13 +4,14 @@
 ghost use Rattle.std.specs.Prelude.{◌≡◌, [], ◌∷◌, codes, IfOk};
 ghost use Rattle.doc_types.specs.Schemas.{AreZones};
 
+use crate::character_tables::table_of;
 use crate::evaluated_fields::FIELDS;
-use crate::spelling::written_text;
+use crate::marks::{MARKS, put_marks};
 use crate::tables::{Telling, try_table};
 use charset_map::Charset;
-use doc_tokens::{TooLong, tokens};
-use doc_types::{FieldTokens, Gap, ZoneSpan};
-use mark_scan::MarkRules;
+use doc_tokens::tokens;
+use doc_types::{FieldTokens, Gap, TokenWord, ZoneSpan};
+use mark_scan::{MarkRules, marks};
 use srch_base::{Items, Name, NoMemory, Or};
 use std::alloc::Global;
 use std::fmt::Write;
@@ -73,28 +74,36 @@ const PLAIN: &str = r#"
 0 0 0123456789_0123456789_0123456789_0123456789-абвгдежзийклмнопрстуфхцчшщъыьэюяабвгдежзийк ⇒ 0123456789_0123456789_0123456789_012345678 1, абвгдежзийклмнопрстуфхцчшщъыьэюяабвгдежзий 2 ⇒ 
 "#;
 
-fn letter(gap: Gap) -> &'static str {
-    match gap {
-        Gap::None => "",
-        Gap::Sentence => "s",
-        Gap::Paragraph => "p",
-    }
-}
+/// A `!` that is in the table ends a sentence for the marks, but is no boundary of a word.
+const WITH_MARK: &str = r#"
+1 1 ab!cd e! f? g ⇒ ab!cd 1, e! 2, f 3, g 5s ⇒ 
+"#;
 
-/// The words of tokens, as the tables above write them.
-fn written(alloc: Global, tokens: &FieldTokens) -> Result<String, Fail> {
-    let mut text = String::new(alloc);
-    for word in tokens.words.as_slice() {
-        if !text.is_empty() {
-            text.push_str(", ")?;
-        }
-        text.push_str(std::str::from_utf8(word.word.as_bytes()).or(Err("no UTF-8"))?)?;
-        let position = word.position;
-        let gap = letter(word.gap);
-        text.push_str(format!(in alloc; " {position}{gap}")?.as_str())?;
-    }
-    Ok(text)
-}
+/// Texts, and the position of the last word or the one that is too great.
+const LAST: &str = r#"
+1 1 ⟨ab  × 65535⟩! ⇒ 65535
+1 1 ⟨ab  × 65533⟩! a ⇒ 65535
+1 1 ⟨ab  × 65536⟩ ⇒ too long at 65536
+1 1 ⟨ab  × 70000⟩ ⇒ too long at 65536
+1 1 ⟨ab  × 65533⟩! a b ⇒ too long at 65536
+1 1 ⟨ab  × 65534⟩! a ⇒ too long at 65536
+1 1 ⟨ab  × 65535⟩! a ⇒ too long at 65537
+"#;
+
+/// Long texts, and how many words and spans they have.
+const LONG: &str = r#"
+1 0 ⟨Я × 50000⟩ ⇒ 1 words, 0 spans
+1 0 ⟨<th> × 10000⟩ ⇒ 0 words, 0 spans
+1 0 ⟨<th><i>a</i></th> × 5000⟩ ⇒ 5000 words, 10000 spans
+"#;
+
+/// Runs of letters of four bytes, and how many bytes their words have: at most 42 times 4.
+const BYTES: &str = r#"
+0 0 ⟨𐐨 × 1⟩ ⇒ 4
+0 0 ⟨𐐨 × 41⟩ ⇒ 164
+0 0 ⟨𐐨 × 42⟩ ⇒ 168
+0 0 ⟨𐐨 × 43⟩ ⇒ 168
+"#;
 
 /// The rules of an index with the zones `th`, `i`, `td` and `em`.
 fn rules(alloc: Global, strip: bool, sp: bool) -> Result<MarkRules, NoMemory>
@@ -109,19 +118,12 @@ fn rules(alloc: Global, strip: bool, sp: bool) -> Result<MarkRules, NoMemory>
     Ok(MarkRules { strip, sp, zones })
 }
 
-/// The tokens of a text by a table and these rules.
-fn read(
-    alloc: Global,
-    charset: &Charset,
-    strip: bool,
-    sp: bool,
-    text: &str,
-) -> Result<FieldTokens, Or<TooLong>> {
-    if text.len() > 10_000_000 {
-        return Err(Or::NoMemory);
+fn letter(gap: Gap) -> &'static str {
+    match gap {
+        Gap::None => "",
+        Gap::Sentence => "s",
+        Gap::Paragraph => "p",
     }
-    let rules = rules(alloc, strip, sp)?;
-    tokens(alloc, charset, &rules, text)
 }
 
 /// The name of a zone.
@@ -135,122 +137,113 @@ fn zone_name(zone: u16) -> &'static str {
     }
 }
 
-/// Spans, as the table above writes them.
-fn written_spans(alloc: Global, spans: &[ZoneSpan]) -> Result<String, Fail> {
-    let mut text = String::new(alloc);
-    for span in spans {
-        if !text.is_empty() {
-            text.push_str(", ")?;
+/// Appends words, as the tables write them.
+fn put_words(words: &[TokenWord], into: &mut String) -> Option<()> {
+    for (number, word) in words.iter().enumerate() {
+        if number > 0 {
+            into.push_str(", ").ok()?;
         }
-        put_span(span, &mut text)?;
+        into.push_str(std::str::from_utf8(word.word.as_bytes()).ok()?)
+            .ok()?;
+        let (position, gap) = (word.position, letter(word.gap));
+        write!(into, " {position}{gap}").ok()?;
     }
-    Ok(text)
+    Some(())
 }
 
-/// Appends a span, as the table above writes it.
-fn put_span(span: &ZoneSpan, text: &mut String) -> Result<(), Fail> {
-    let zone = zone_name(span.zone);
-    let first = span.first;
-    let last = span.last;
-    write!(text, "{zone} {first}-{last}")?;
-    Ok(())
-}
-
-/// The words and spans of a text by the default table, which stands after its `html_strip` and `index_sp`.
-pub(crate) fn tokens_told(alloc: Global, line: &str) -> Result<String, Fail> {
-    let (strip, rest) = line.split_once(' ').ok_or("no html_strip")?;
-    let (sp, text) = rest.split_once(' ').ok_or("no index_sp")?;
-    let text = written_text(alloc, text)?;
-    let charset = Charset::default_table(alloc).or(Err("no table"))?;
-    let found = read(alloc, &charset, strip == "1", sp == "1", text.as_str()).or(Err("no tokens"))?;
-    let words = written(alloc, &found)?;
-    let spans = written_spans(alloc, found.spans.as_slice())?;
-    Ok(format!(in alloc; "{words} ⇒ {spans}")?)
-}
-
-/// A `!` that is in the table ends a sentence for the marks, but is no boundary of a word.
-#[test]
-fn letters_make_no_boundary(rt: HostRuntime) -> Result<(), Fail> {
-    let alloc = rt.alloc();
-    let charset = Charset::read(alloc, "a..z, !").or(Err("no table"))?;
-    let found = read(alloc, &charset, true, true, "ab!cd e! f? g").or(Err("no tokens"))?;
-    let list = written(alloc, &found)?;
-    assert_eq!(rt; list.as_str(), "ab!cd 1, e! 2, f 3, g 5s");
-    Ok(())
-}
-
-/// Texts, and the position of the last word or the one that is too great.
-const LAST: &str = r#"
-⟨ab  × 65535⟩! ⇒ 65535
-⟨ab  × 65533⟩! a ⇒ 65535
-⟨ab  × 65536⟩ ⇒ too long at 65536
-⟨ab  × 70000⟩ ⇒ too long at 65536
-⟨ab  × 65533⟩! a b ⇒ too long at 65536
-⟨ab  × 65534⟩! a ⇒ too long at 65536
-⟨ab  × 65535⟩! a ⇒ too long at 65537
-"#;
-
-/// The position of the last word of a text, or the one that is too great.
-pub(crate) fn last_told(alloc: Global, text: &str) -> Result<String, Fail> {
-    let text = written_text(alloc, text)?;
-    let charset = Charset::default_table(alloc).or(Err("no table"))?;
-    match read(alloc, &charset, true, true, text.as_str()) {
-        Ok(found) => {
-            let last = found.words.as_slice().last().ok_or("no word")?.position;
-            Ok(format!(in alloc; "{last}")?)
+/// Appends spans, as the tables write them.
+fn put_spans(spans: &[ZoneSpan], into: &mut String) -> Option<()> {
+    for (number, span) in spans.iter().enumerate() {
+        if number > 0 {
+            into.push_str(", ").ok()?;
         }
-        Err(Or::Fault(fault)) => {
-            let position = fault.position;
-            Ok(format!(in alloc; "too long at {position}")?)
+        let (zone, first, last) = (zone_name(span.zone), span.first, span.last);
+        write!(into, "{zone} {first}-{last}").ok()?;
+    }
+    Some(())
+}
+
+/// Appends what is told of tokens.
+fn put_found(found: &FieldTokens, telling: &Telling, into: &mut String) -> Option<()> {
+    let (words, spans) = (found.words.as_slice(), found.spans.as_slice());
+    let number = match telling {
+        Telling::Last => words.last()?.position as usize,
+        Telling::WordBytes => words.first()?.word.as_bytes().len(),
+        Telling::Sizes => {
+            let (words, spans) = (words.len(), spans.len());
+            return write!(into, "{words} words, {spans} spans").ok();
         }
-        Err(Or::NoMemory) => Err("no memory".into()),
+        _ => {
+            put_words(words, into)?;
+            into.push_str(" ⇒ ").ok()?;
+            return put_spans(spans, into);
+        }
+    };
+    write!(into, "{number}").ok()
+}
+
+/// Appends what is told of a text by a table and rules.
+fn put_told(
+    alloc: Global,
+    charset: &Charset,
+    rules: &MarkRules,
+    text: &str,
+    telling: &Telling,
+    into: &mut String,
+) -> Option<()>
+    requires { AreZones rules.now.zones }
+{
+    if text.len() > 10_000_000 {
+        return None;
+    }
+    match telling {
+        Telling::Marks => put_marks(marks(alloc, charset, rules, text).ok()?.as_slice(), into),
+        _ => match tokens(alloc, charset, rules, text) {
+            Ok(found) => put_found(&found, telling, into),
+            Err(Or::Fault(fault)) => {
+                let position = fault.position;
+                write!(into, "too long at {position}").ok()
+            }
+            Err(Or::NoMemory) => None,
+        },
     }
 }
 
-/// Long texts, and how many words and spans they have.
-const LONG: &str = r#"
-⟨Я × 50000⟩ ⇒ 1 words, 0 spans
-⟨<th> × 10000⟩ ⇒ 0 words, 0 spans
-⟨<th><i>a</i></th> × 5000⟩ ⇒ 5000 words, 10000 spans
-"#;
-
-/// How many words and spans a text has.
-pub(crate) fn sizes_told(alloc: Global, text: &str) -> Result<String, Fail> {
-    let text = written_text(alloc, text)?;
-    let charset = Charset::default_table(alloc).or(Err("no table"))?;
-    let found = read(alloc, &charset, true, false, text.as_str()).or(Err("no tokens"))?;
-    let (words, spans) = (found.words.len(), found.spans.len());
-    Ok(format!(in alloc; "{words} words, {spans} spans")?)
+/// The character table of a table.
+fn table_text(telling: &Telling) -> &'static str {
+    match telling {
+        Telling::WordBytes => "U+10428..U+1044F",
+        Telling::TokensWithMark => "a..z, !",
+        _ => "default",
+    }
 }
 
-/// Runs of letters of four bytes, and how many bytes their words have: at most 42 times 4.
-const BYTES: &str = r#"
-⟨𐐨 × 1⟩ ⇒ 4
-⟨𐐨 × 41⟩ ⇒ 164
-⟨𐐨 × 42⟩ ⇒ 168
-⟨𐐨 × 43⟩ ⇒ 168
-"#;
-
-/// How many bytes the first word of a text has, whose letters have four.
-pub(crate) fn word_bytes(alloc: Global, text: &str) -> Result<String, Fail> {
-    let text = written_text(alloc, text)?;
-    let charset = Charset::read(alloc, "U+10428..U+1044F").or(Err("no table"))?;
-    let found = read(alloc, &charset, false, false, text.as_str()).or(Err("no tokens"))?;
-    let word = found.words.as_slice().first().ok_or("no word")?;
-    let bytes = word.word.as_bytes().len();
-    Ok(format!(in alloc; "{bytes}")?)
+/// Appends what is told of a text, which stands after its `html_strip` and `index_sp`.
+pub(crate) fn put_read(
+    alloc: Global,
+    line: &str,
+    telling: &Telling,
+    into: &mut String,
+) -> Option<()> {
+    let (strip, rest) = line.split_once(' ')?;
+    let (sp, text) = rest.split_once(' ')?;
+    let charset = table_of(alloc, table_text(telling)).ok()?;
+    let rules = rules(alloc, strip == "1", sp == "1").ok()?;
+    put_told(alloc, &charset, &rules, text, telling, into)
 }
 
 #[test]
-fn texts_have_their_words(rt: HostRuntime) -> Result<(), Fail> {
-    try_table(rt.alloc(), MARKUP, Telling::Tokens)?;
-    try_table(rt.alloc(), PLAIN, Telling::Tokens)?;
-    try_table(rt.alloc(), FIELDS, Telling::Tokens)
+fn texts_have_their_marks_and_words(rt: HostRuntime) -> Result<(), Fail> {
+    try_table(rt.alloc(), MARKS, &Telling::Marks)?;
+    try_table(rt.alloc(), MARKUP, &Telling::Tokens)?;
+    try_table(rt.alloc(), PLAIN, &Telling::Tokens)?;
+    try_table(rt.alloc(), FIELDS, &Telling::Tokens)?;
+    try_table(rt.alloc(), WITH_MARK, &Telling::TokensWithMark)
 }
 
 #[test]
 fn words_and_positions_have_limits(rt: HostRuntime) -> Result<(), Fail> {
-    try_table(rt.alloc(), BYTES, Telling::WordBytes)?;
-    try_table(rt.alloc(), LAST, Telling::Last)?;
-    try_table(rt.alloc(), LONG, Telling::Sizes)
+    try_table(rt.alloc(), BYTES, &Telling::WordBytes)?;
+    try_table(rt.alloc(), LAST, &Telling::Last)?;
+    try_table(rt.alloc(), LONG, &Telling::Sizes)
 }

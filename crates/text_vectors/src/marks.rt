@@ -1,19 +1,15 @@
 //! The marks of a text, by kind and place, worked out by hand from Sphinx's manual for `html_strip`, `index_sp` and
 //! `index_zones`.
-use crate::tables::{Telling, try_table};
-use charset_map::Charset;
-use mark_scan::{Mark, MarkKind, MarkRules, marks};
-use srch_base::{Items, Name};
-use std::alloc::Global;
+use mark_scan::{Mark, MarkKind};
 use std::fmt::Write;
 use std::test::Fail;
 
-/// Texts in an index with the zones `th` and `i`, each after its `html_strip` and `index_sp`, with their marks: their kinds, and the
+/// Texts, each after its `html_strip` and `index_sp`, with their marks: their kinds, and the
 /// places of their first bytes and after them. In turn: zones and tags; a tag of a zone that closes itself opens nothing, but ends
 /// a paragraph; the end of a comment is searched after its beginning; a `!` of what is no comment ends a sentence; what is no tag is
 /// plain text; an inline tag that is a zone separates, and so does an unknown tag; characters of the same run are looked at across
 /// removed tags, and no others. The last six are texts whose markup isn't looked at.
-const MARKS: &str = r#"
+pub(crate) const MARKS: &str = r#"
 1 1  ⇒ 
 1 1 a ⇒ text 0-1
 1 0 <th>hello</th> x <th>world</th> ⇒ open th 0-4, text 4-9, close th 9-14, text 14-17, open th 17-21, text 21-26, close th 26-31
@@ -42,7 +38,7 @@ const MARKS: &str = r#"
 0 1 <b>. ⇒ text 0-4, sentence 3-4
 "#;
 
-/// The word for a kind of marks, in an index with the zones `th` and `i`.
+/// The word for a kind of marks.
 fn kind_word(kind: MarkKind) -> &'static str {
     match kind {
         MarkKind::Text => "text",
@@ -58,48 +54,14 @@ fn kind_word(kind: MarkKind) -> &'static str {
     }
 }
 
-/// Appends a mark, as the tables write it.
-fn put_mark(mark: &Mark, text: &mut String) -> Result<(), Fail> {
-    let kind = kind_word(mark.kind);
-    let from = mark.from;
-    let to = mark.to;
-    write!(text, "{kind} {from}-{to}")?;
-    Ok(())
-}
-
-/// Marks, as the tables write them.
-fn written(alloc: Global, marks: &[Mark]) -> Result<String, Fail> {
-    let mut list = String::new(alloc);
-    for mark in marks {
-        if !list.is_empty() {
-            list.push_str(", ")?;
+/// Appends marks, as the table writes them.
+pub(crate) fn put_marks(marks: &[Mark], into: &mut String) -> Option<()> {
+    for (number, mark) in marks.iter().enumerate() {
+        if number > 0 {
+            into.push_str(", ").ok()?;
         }
-        put_mark(mark, &mut list)?;
+        let (kind, from, to) = (kind_word(mark.kind), mark.from, mark.to);
+        write!(into, "{kind} {from}-{to}").ok()?;
     }
-    Ok(list)
-}
-
-/// The marks of a text, which stands after its `html_strip` and `index_sp`.
-pub(crate) fn marks_told(alloc: Global, line: &str) -> Result<String, Fail> {
-    let (strip, rest) = line.split_once(' ').ok_or("no html_strip")?;
-    let (sp, text) = rest.split_once(' ').ok_or("no index_sp")?;
-    if text.len() > 1000 {
-        return Err("a text above 1000 bytes".into());
-    }
-    let mut zones = Vec::new(alloc);
-    zones.push(Name::from_slice(alloc, b"th")?)?;
-    zones.push(Name::from_slice(alloc, b"i")?)?;
-    let rules = MarkRules {
-        strip: strip == "1",
-        sp: sp == "1",
-        zones: Items::new(zones),
-    };
-    let charset = Charset::default_table(alloc)?;
-    let found = marks(alloc, &charset, &rules, text)?;
-    written(alloc, found.as_slice())
-}
-
-#[test]
-fn marks_texts(rt: HostRuntime) -> Result<(), Fail> {
-    try_table(rt.alloc(), MARKS, Telling::Marks)
+    Some(())
 }

@@ -6,7 +6,7 @@ ghost use Rattle.name_table.specs.Order.{IsInOrder};
 
 use crate::tables::{Telling, try_table};
 use name_table::{NameTable, value_at, words_of};
-use std::alloc::Global;
+use std::fmt::Write;
 use std::test::Fail;
 
 macro_rules! keywords {
@@ -103,21 +103,6 @@ Z ⇒ none
 Änd ⇒ none
 "#;
 
-/// The place of a word, or `none`.
-pub(crate) fn place_told(alloc: Global, word: &str) -> Result<String, Fail> {
-    let mut told = String::new(alloc);
-    match keyword_table().find(word.as_bytes()) {
-        Some(place) => write!(told, "{place}")?,
-        None => told.push_str("none")?,
-    }
-    Ok(told)
-}
-
-#[test]
-fn finds_words_in_either_case(rt: HostRuntime) -> Result<(), Fail> {
-    try_table(rt.alloc(), PLACES, Telling::Place)
-}
-
 /// Places, and the values there.
 const VALUES: &str = r#"
 0 ⇒ AND
@@ -126,24 +111,35 @@ const VALUES: &str = r#"
 60 ⇒ none
 "#;
 
-/// The value at a place, or `none`.
-pub(crate) fn value_told(alloc: Global, place: &str) -> Result<String, Fail> {
-    let mut told = String::new(alloc);
-    let place = place.parse::<u16>().or(Err("no place"))?;
-    told.push_str(keyword_at(place).unwrap_or("none"))?;
-    Ok(told)
+/// Appends the place of a word, or `none`.
+pub(crate) fn put_place(word: &str, into: &mut String) -> Option<()> {
+    match keyword_table().find(word.as_bytes()) {
+        Some(place) => write!(into, "{place}").ok()?,
+        None => into.push_str("none").ok()?,
+    }
+    Some(())
+}
+
+/// Appends the value at a place, or `none`.
+pub(crate) fn put_value(place: &str, into: &mut String) -> Option<()> {
+    let place = place.parse::<u16>().ok()?;
+    into.push_str(keyword_at(place).unwrap_or("none")).ok()
 }
 
 #[test]
-fn gives_the_value_at_a_place(rt: HostRuntime) -> Result<(), Fail> {
-    try_table(rt.alloc(), VALUES, Telling::Value)
+fn words_have_places_and_values(rt: HostRuntime) -> Result<(), Fail> {
+    try_table(rt.alloc(), PLACES, &Telling::Place)?;
+    try_table(rt.alloc(), VALUES, &Telling::Value)
 }
 
 #[test]
 fn checks_the_order(rt: HostRuntime) {
-    assert!(rt; NameTable::<0>::new(&[]).check());
-    assert!(rt; NameTable::<3>::new(&["a", "aa", "b"]).check());
-    assert!(rt; !NameTable::<3>::new(&["aa", "a", "b"]).check());
-    assert!(rt; !NameTable::<2>::new(&["a", "a"]).check());
-    assert!(rt; !NameTable::<2>::new(&["a", "B"]).check());
+    let found = [
+        NameTable::<0>::new(&[]).check(),
+        NameTable::<3>::new(&["a", "aa", "b"]).check(),
+        NameTable::<3>::new(&["aa", "a", "b"]).check(),
+        NameTable::<2>::new(&["a", "a"]).check(),
+        NameTable::<2>::new(&["a", "B"]).check(),
+    ];
+    assert!(rt; found == [true, true, false, false, false]);
 }
