@@ -5,9 +5,7 @@ mod client_door;
 mod client_line;
 mod client_stream;
 mod opening;
-mod retrying;
-#[cfg(test)]
-mod tests;
+pub mod retrying;
 
 pub use client_door::ClientDoor;
 pub use client_line::ClientLine;

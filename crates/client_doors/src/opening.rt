@@ -15,6 +15,29 @@ pub fn standard_door(alloc: Global, input: Stdin, output: Stdout) -> ClientDoor
     ClientDoor::new(alloc, Source::Standard { input, output })
 }
 
+/// A door over a listener that others share.
+fn shared_door(alloc: Global, listener: &Arc<TcpListener, Global>) -> io::Result<ClientDoor>
+    ensures { IfOk result IsFresh }
+{
+    let shared = Arc::try_clone(listener)?;
+    Ok(ClientDoor::new(alloc, Source::Listener(shared)))
+}
+
+/// So many doors over a listener.
+fn shared_doors(
+    alloc: Global,
+    listener: &Arc<TcpListener, Global>,
+    n: u32,
+) -> io::Result<Vec<ClientDoor>>
+    ensures { IfOk result (λ doors. (length doors.items ≡ n) × All IsFresh doors.items) }
+{
+    let mut doors = Vec::new(alloc);
+    for _ in 0..n {
+        doors.push(shared_door(alloc, listener)?)?;
+    }
+    Ok(doors)
+}
+
 /// So many doors over one listener at an address.
 pub fn listening_doors<R: Net<Listener = TcpListener, Stream = TcpStream>>(
     rt: &R,
@@ -25,10 +48,5 @@ pub fn listening_doors<R: Net<Listener = TcpListener, Stream = TcpStream>>(
     ensures { IfOk result (λ doors. (length doors.items ≡ n) × All IsFresh doors.items) }
 {
     let listener = Arc::new(alloc, TcpListener::bind(rt, listen)?)?;
-    let mut doors = Vec::new(alloc);
-    for _ in 0..n {
-        let shared = Arc::try_clone(&listener)?;
-        doors.push(ClientDoor::new(alloc, Source::Listener(shared)))?;
-    }
-    Ok(doors)
+    shared_doors(alloc, &listener, n)
 }

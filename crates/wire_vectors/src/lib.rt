@@ -1,6 +1,9 @@
-//! Tests by tables of values from outside over `mysql_wire`, `reply_rows`, `doc_types` and `srch_base`, which are proved once without them.
+//! Tests by tables of values from outside over `mysql_wire`, `reply_rows`, `doc_types`, `client_doors` and `srch_base`, which are
+//! proved once without them.
 #![tactic(auto)]
 
+#[cfg(test)]
+mod clients;
 #[cfg(test)]
 mod documents;
 #[cfg(test)]
@@ -15,3 +18,5 @@ mod replies;
 mod result_sets;
 #[cfg(test)]
 mod small_texts;
+#[cfg(test)]
+mod telling;

@@ -1,5 +1,6 @@
 //! Links and doors over memory: the pieces in which a link gives its input, the calls that fail, and the lines that come
 //! back to a door. All values are worked out by hand.
+use crate::telling::try_told;
 use srch_base::{Door, Failed, Link, ListDoor, MemoryLink};
 use std::alloc::Global;
 use std::test::Fail;
@@ -46,22 +47,25 @@ fn link_of(alloc: Global, cuts: &[u32], failing: &[u32]) -> Result<MemoryLink, F
     Ok(MemoryLink::new(alloc, input, cuts, failing))
 }
 
-/// The number of the first link whose reads give something else.
-fn first_other_read(alloc: Global) -> Result<Option<usize>, Fail> {
-    for (at, (cuts, failing, room, count, wants)) in READS.iter().enumerate() {
-        let mut link = link_of(alloc, cuts, failing)?;
-        let mut buffer = [0; 16];
-        let into = buffer.get_mut(..*room).ok_or("no such room")?;
-        if reads(alloc, &mut link, into, *count)?.as_slice() != wants.as_bytes() {
-            return Ok(Some(at));
-        }
-    }
-    Ok(None)
+/// What so many reads of the link of a row give, into so much room.
+fn reads_of(
+    alloc: Global,
+    (cuts, failing): (&[u32], &[u32]),
+    room: usize,
+    count: usize,
+) -> Result<Vec<u8>, Fail> {
+    let mut link = link_of(alloc, cuts, failing)?;
+    let mut buffer = [0; 16];
+    let into = buffer.get_mut(..room).ok_or("no such room")?;
+    reads(alloc, &mut link, into, count)
 }
 
 #[test]
 fn a_memory_link_reads_in_its_pieces(rt: HostRuntime) -> Result<(), Fail> {
-    assert_eq!(rt; first_other_read(rt.alloc())?, None);
+    for (cuts, failing, room, count, wants) in READS {
+        let given = reads_of(rt.alloc(), (cuts, failing), room, count)?;
+        try_told("reads", str::from_utf8(&given)?, wants)?;
+    }
     Ok(())
 }
 
@@ -73,28 +77,43 @@ const WRITES: [(&[u8], Result<usize, Failed>); 4] = [
     (b"e", Ok(1)),
 ];
 
-#[test]
-fn a_memory_link_takes_what_is_written(rt: HostRuntime) -> Result<(), Fail> {
-    let mut link = link_of(rt.alloc(), &[], &[2])?;
+/// Whether a link gives that, and has what was written, as its copy has.
+fn takes(link: &mut MemoryLink) -> Result<bool, Fail> {
     for (bytes, wanted) in WRITES {
-        assert!(rt; link.write(bytes) == wanted);
+        if link.write(bytes) != wanted {
+            return Ok(false);
+        }
     }
-    assert!(rt; link.written() == b"abe".as_slice());
-    assert!(rt; link.clone()?.written() == b"abe".as_slice());
-    Ok(())
+    let written = b"abe".as_slice();
+    Ok(link.written() == written && link.clone()?.written() == written)
 }
 
 #[test]
-fn a_list_door_gives_its_lines(rt: HostRuntime) -> Result<(), Fail> {
-    let alloc = rt.alloc();
+fn a_memory_link_takes_what_is_written(rt: HostRuntime) -> Result<(), Fail> {
+    assert!(rt; takes(&mut link_of(rt.alloc(), &[], &[2])?)?);
+    Ok(())
+}
+
+/// A door of one line, which it gave and has back with a word written.
+fn door_after_bye(alloc: Global) -> Result<ListDoor, Fail> {
     let mut lines = Vec::new(alloc);
     lines.push(link_of(alloc, &[], &[])?)?;
     let mut door = ListDoor::new(alloc, lines)?;
     let mut line = door.next()?.ok_or("no line")?;
     line.write(b"bye")?;
     door.done(line);
-    assert!(rt; door.next()?.is_none());
+    Ok(door)
+}
+
+/// Whether a door gives no further line, and has one back with what was written.
+fn has_one_line(door: &mut ListDoor) -> Result<bool, Fail> {
+    let is_last = door.next()?.is_none();
     let returned = door.returned().first().ok_or("nothing came back")?;
-    assert!(rt; returned.written() == b"bye".as_slice());
+    Ok(is_last && returned.written() == b"bye".as_slice())
+}
+
+#[test]
+fn a_list_door_gives_its_lines(rt: HostRuntime) -> Result<(), Fail> {
+    assert!(rt; has_one_line(&mut door_after_bye(rt.alloc())?)?);
     Ok(())
 }

@@ -14,7 +14,7 @@ fn feed(framer: &mut Framer, piece: &[u8]) -> Result<(), Fail> {
     if framer.held() > 1000 || piece.len() > 1000 {
         return Err("too many bytes".into());
     }
-    framer.feed(piece).ok().ok_or("memory")?;
+    framer.feed(piece)?;
     Ok(())
 }
 
@@ -32,24 +32,28 @@ fn take_packets(framer: &mut Framer, piece: &[u8], expected: &[&[u8]]) -> Result
     Ok(expected.len())
 }
 
-/// Whether a stream of two pieces gives its packets, and nothing is left.
-fn is_read_in_two(framer: &mut Framer, front: &[u8], back: &[u8]) -> Result<bool, Fail> {
+/// Whether a stream of two pieces gives a framer its packets, and nothing is left.
+fn reads_in_two(framer: &mut Framer, front: &[u8], back: &[u8]) -> Result<bool, Fail> {
     let before = take_packets(framer, front, &PAYLOADS)?;
     let rest = PAYLOADS.get(before..).ok_or("too many packets")?;
     let after = take_packets(framer, back, rest)?;
     Ok(after == rest.len() && framer.next(0) == Next::NeedMore && framer.held() == 0)
 }
 
-/// The first cut at which the stream gives other packets.
-fn first_wrong_cut(alloc: Global) -> Result<Option<usize>, Fail> {
+/// Whether the stream is read so where it is cut here.
+fn is_read_in_two(alloc: Global, cut: usize) -> Result<bool, Fail> {
+    let (front, back) = STREAM.split_at_checked(cut).ok_or("a short stream")?;
+    reads_in_two(&mut Framer::new(alloc)?, front, back)
+}
+
+/// Fails at the first cut at which the stream gives other packets.
+fn try_cuts(alloc: Global) -> Result<(), Fail> {
     for cut in 0..=STREAM.len() {
-        let (front, back) = STREAM.split_at_checked(cut).ok_or("a short stream")?;
-        let mut framer = Framer::new(alloc).ok().ok_or("memory")?;
-        if !is_read_in_two(&mut framer, front, back)? {
-            return Ok(Some(cut));
+        if !is_read_in_two(alloc, cut)? {
+            return Err(Fail::new(format_args!("cut at {cut}")));
         }
     }
-    Ok(None)
+    Ok(())
 }
 
 /// Fronts of streams, and what is answered to them: a part of a header or of a packet, a packet above 8,388,608 bytes, a
@@ -68,30 +72,28 @@ const FRONTS: [(&[u8], Next<'static>); 5] = [
     (&[1, 0, 0, 1, 0x0e], Next::OutOfOrder { seq: 1 }),
 ];
 
-/// Whether a front is answered so, and a refusal again after more bytes.
-fn is_answered(alloc: Global, front: &[u8], want: Next<'_>) -> Result<bool, Fail> {
-    let mut framer = Framer::new(alloc).ok().ok_or("memory")?;
-    take_packets(&mut framer, front, &[])?;
+/// Whether a framer answers a front so, and a refusal again after more bytes.
+fn answers(framer: &mut Framer, front: &[u8], want: Next<'_>) -> Result<bool, Fail> {
+    feed(framer, front)?;
     if framer.next(0) != want {
         return Ok(false);
     }
-    take_packets(&mut framer, b"more bytes", &[])?;
+    feed(framer, b"more bytes")?;
     Ok(want == Next::NeedMore || framer.next(1) == want)
 }
 
-/// The number of the first front that is answered otherwise.
-fn first_other_answer(alloc: Global) -> Result<Option<usize>, Fail> {
+/// Fails at the first front that is answered otherwise.
+fn try_fronts(alloc: Global) -> Result<(), Fail> {
     for (at, (front, want)) in FRONTS.iter().enumerate() {
-        if !is_answered(alloc, front, *want)? {
-            return Ok(Some(at));
+        if !answers(&mut Framer::new(alloc)?, front, *want)? {
+            return Err(Fail::new(format_args!("front {at}")));
         }
     }
-    Ok(None)
+    Ok(())
 }
 
 #[test]
 fn packets_come_whole_and_headers_are_refused_for_ever(rt: HostRuntime) -> Result<(), Fail> {
-    assert_eq!(rt; first_wrong_cut(rt.alloc())?, None);
-    assert_eq!(rt; first_other_answer(rt.alloc())?, None);
-    Ok(())
+    try_cuts(rt.alloc())?;
+    try_fronts(rt.alloc())
 }

@@ -1,10 +1,13 @@
 //! What is read of payloads: what clients send to the greeting, and what a client reads of replies, numbers in each spelling, OK, EOF,
 //! ERR, columns and rows; and the first field that is faulty in payloads that are none of these.
+ghost use Rattle.std.specs.Prelude.{◌<◌, ◌^◌, length};
+
+use crate::telling::try_told;
 use mysql_wire::{
-    ColumnKind, WireFault, read_column, read_eof, read_err, read_greeting, read_lenenc, read_ok,
-    read_response41, read_row,
+    Column, ColumnKind, WireErr, WireFault, read_column, read_eof, read_err, read_greeting,
+    read_lenenc, read_ok, read_response41, read_row,
 };
-use srch_base::Or;
+use srch_base::{Or, Text};
 use std::alloc::Global;
 use std::test::Fail;
 
@@ -97,97 +100,101 @@ fn put_fault(fault: Or<WireFault>, told: &mut String) -> Result<(), Fail> {
     Ok(())
 }
 
-/// Appends what a payload of numbers is read as.
-fn put_numbers(kind: &str, payload: &[u8], told: &mut String) -> Result<(), Fail> {
-    if payload.len() > 1000 {
-        return Err("a long payload".into());
-    }
+/// The numbers that a payload of one or two numbers is read as, 0 in place of a second one.
+fn numbers_in(kind: &str, payload: &[u8]) -> Result<(u64, u16), Or<WireFault>>
+    requires { length payload.now < 2 ^ 32 }
+{
     match kind {
-        "greeting" => match read_greeting(payload) {
-            Ok(greeting) => write!(told, "connection {}", greeting.connection)?,
-            Err(fault) => put_fault(fault, told)?,
-        },
-        "number" => match read_lenenc(payload) {
-            Ok(number) => write!(told, "{number}")?,
-            Err(fault) => put_fault(fault, told)?,
-        },
-        "ok" => match read_ok(payload) {
-            Ok(ok) => write!(told, "{} changed, status {}", ok.affected, ok.status)?,
-            Err(fault) => put_fault(fault, told)?,
-        },
-        "eof" => match read_eof(payload) {
-            Ok(end) => write!(told, "status {}", end.status)?,
-            Err(fault) => put_fault(fault, told)?,
-        },
-        _ => return Err("no such payload".into()),
+        "greeting" => Ok((u64::from(read_greeting(payload)?.connection), 0)),
+        "number" => Ok((read_lenenc(payload)?, 0)),
+        "ok" => {
+            let ok = read_ok(payload)?;
+            Ok((ok.affected, ok.status))
+        }
+        _ => Ok((u64::from(read_eof(payload)?.status), 0)),
+    }
+}
+
+/// Appends the numbers of a payload.
+fn put_numbers(kind: &str, (first, second): (u64, u16), told: &mut String) -> Result<(), Fail> {
+    match kind {
+        "greeting" => write!(told, "connection {first}")?,
+        "number" => write!(told, "{first}")?,
+        "ok" => write!(told, "{first} changed, status {second}")?,
+        "eof" => write!(told, "status {first}")?,
+        _ => return Err(Fail::new("no such payload")),
+    }
+    Ok(())
+}
+
+/// Appends what a refusal says.
+fn put_refusal(refusal: &WireErr, told: &mut String) -> Result<(), Fail> {
+    let state = str::from_utf8(&refusal.state)?;
+    let text = str::from_utf8(refusal.text.as_bytes())?;
+    write!(told, "{} {state} {text}", refusal.code)?;
+    Ok(())
+}
+
+/// Appends what a payload of a refusal is read as.
+fn put_err(alloc: Global, payload: &[u8], told: &mut String) -> Result<(), Fail>
+    requires { length payload.now < 2 ^ 32 }
+{
+    match read_err(alloc, payload) {
+        Ok(refusal) => put_refusal(&refusal, told),
+        Err(fault) => put_fault(fault, told),
+    }
+}
+
+/// Appends a column's name and kind.
+fn put_named(column: &Column, told: &mut String) -> Result<(), Fail> {
+    let kind = if column.kind == ColumnKind::Unsigned {
+        "Unsigned"
+    } else {
+        "another kind"
+    };
+    write!(told, "{}, {kind}", str::from_utf8(column.name.as_bytes())?)?;
+    Ok(())
+}
+
+/// Appends what a payload of a column is read as.
+fn put_column(alloc: Global, payload: &[u8], told: &mut String) -> Result<(), Fail>
+    requires { length payload.now < 2 ^ 32 }
+{
+    match read_column(alloc, payload) {
+        Ok(column) => put_named(&column, told),
+        Err(fault) => put_fault(fault, told),
+    }
+}
+
+/// Appends the values of a row.
+fn put_values(row: &[Option<Text>], told: &mut String) -> Result<(), Fail> {
+    for value in row {
+        match value {
+            Some(value) => write!(told, " '{}'", str::from_utf8(value.as_bytes())?)?,
+            None => told.push_str(" NULL")?,
+        }
     }
     Ok(())
 }
 
 /// Appends what a payload of a row is read as.
-fn put_row(alloc: Global, payload: &[u8], told: &mut String) -> Result<(), Fail> {
-    if payload.len() > 1000 {
-        return Err("a long payload".into());
-    }
+fn put_row(alloc: Global, payload: &[u8], told: &mut String) -> Result<(), Fail>
+    requires { length payload.now < 2 ^ 32 }
+{
     match read_row(alloc, payload) {
-        Ok(row) => {
-            for value in &row {
-                match value {
-                    Some(value) => write!(told, " '{}'", str::from_utf8(value.as_bytes())?)?,
-                    None => told.push_str(" NULL")?,
-                }
-            }
-        }
-        Err(fault) => put_fault(fault, told)?,
+        Ok(row) => put_values(&row, told),
+        Err(fault) => put_fault(fault, told),
     }
-    Ok(())
-}
-
-/// Appends what a payload of texts is read as.
-fn put_texts(alloc: Global, kind: &str, payload: &[u8], told: &mut String) -> Result<(), Fail> {
-    if payload.len() > 1000 {
-        return Err("a long payload".into());
-    }
-    match kind {
-        "err" => match read_err(alloc, payload) {
-            Ok(refusal) => {
-                let state = str::from_utf8(&refusal.state)?;
-                let text = str::from_utf8(refusal.text.as_bytes())?;
-                write!(told, "{} {state} {text}", refusal.code)?;
-            }
-            Err(fault) => put_fault(fault, told)?,
-        },
-        "column" => match read_column(alloc, payload) {
-            Ok(column) => {
-                let is_unsigned = column.kind == ColumnKind::Unsigned;
-                let kind = if is_unsigned {
-                    "Unsigned"
-                } else {
-                    "another kind"
-                };
-                write!(told, "{}, {kind}", str::from_utf8(column.name.as_bytes())?)?;
-            }
-            Err(fault) => put_fault(fault, told)?,
-        },
-        "row" => put_row(alloc, payload, told)?,
-        _ => put_numbers(kind, payload, told)?,
-    }
-    Ok(())
 }
 
 /// Appends what a payload is read as that a client sends to the greeting.
-fn put_response(payload: &[u8], told: &mut String) -> Result<(), Fail> {
-    if payload.len() > 1000 {
-        return Err("a long payload".into());
-    }
+fn put_response(payload: &[u8], told: &mut String) -> Result<(), Fail>
+    requires { length payload.now < 2 ^ 32 }
+{
     match read_response41(payload) {
         Ok(response) => {
-            write!(
-                told,
-                "{} '{}' ",
-                response.flags,
-                str::from_utf8(response.user)?
-            )?;
+            let user = str::from_utf8(response.user)?;
+            write!(told, "{} '{user}' ", response.flags)?;
             match response.database {
                 Some(database) => write!(told, "'{}'", str::from_utf8(database)?)?,
                 None => told.push_str("none")?,
@@ -198,21 +205,39 @@ fn put_response(payload: &[u8], told: &mut String) -> Result<(), Fail> {
     Ok(())
 }
 
+/// Appends what a payload of a kind is read as.
+fn put_payload(alloc: Global, kind: &str, payload: &[u8], told: &mut String) -> Result<(), Fail>
+    requires { length payload.now < 2 ^ 32 }
+{
+    match kind {
+        "err" => put_err(alloc, payload, told),
+        "column" => put_column(alloc, payload, told),
+        "row" => put_row(alloc, payload, told),
+        "response" => put_response(payload, told),
+        _ => match numbers_in(kind, payload) {
+            Ok(numbers) => put_numbers(kind, numbers, told),
+            Err(fault) => put_fault(fault, told),
+        },
+    }
+}
+
+/// What a payload of a kind is read as.
+fn told_of(alloc: Global, kind: &str, payload: &[u8]) -> Result<String, Fail> {
+    if payload.len() > 1000 {
+        return Err(Fail::new("a long payload"));
+    }
+    let mut told = String::new(alloc);
+    put_payload(alloc, kind, payload, &mut told)?;
+    Ok(told)
+}
+
 /// Fails where a payload of the table is read as something else.
 fn try_payload(alloc: Global, line: &str) -> Result<(), Fail> {
     let (case, wanted) = line.split_once(" ⇒ ").ok_or("a line without an arrow")?;
     let (kind, digits) = case.split_once(' ').ok_or("a line without a payload")?;
     let payload = hex::decode(alloc, digits.as_bytes())?;
-    let mut told = String::new(alloc);
-    if kind == "response" {
-        put_response(&payload, &mut told)?;
-    } else {
-        put_texts(alloc, kind, &payload, &mut told)?;
-    }
-    if told.as_str().trim_start() != wanted {
-        return Err(Fail::new(format!(in alloc; "{case} ⇒ {told}")?));
-    }
-    Ok(())
+    let told = told_of(alloc, kind, &payload)?;
+    try_told(case, told.as_str().trim_start(), wanted)
 }
 
 #[test]

@@ -43,15 +43,21 @@ const ONE_CHANGED: &[u8] = b"\x07\0\0\x01\0\x01\0\x02\0\0\0";
 
 const EIGHTH_END: &[u8] = b"\x05\0\0\x08\xfe\0\0\x02\0";
 
+/// Whether OK is written so.
+fn are_ok() -> bool {
+    ok_packet(1, 0, 2).bytes() == NOTHING_CHANGED && ok_packet(1, 1, 2).bytes() == ONE_CHANGED
+}
+
+/// Whether the greeting, EOF and a refusal are written so.
+fn are_recorded() -> bool {
+    greeting(1).bytes() == GREETING.as_slice()
+        && eof_packet(8, 2).bytes() == EIGHTH_END
+        && err_packet(1, 1037, *b"HY001", b"out of memory").bytes() == OUT_OF_MEMORY.as_slice()
+}
+
 #[test]
 fn small_packets_are_the_recorded_bytes(rt: HostRuntime) {
-    assert!(rt; greeting(1).bytes() == GREETING.as_slice());
-    for (changed, bytes) in [(0, NOTHING_CHANGED), (1, ONE_CHANGED)] {
-        assert!(rt; ok_packet(1, changed, 2).bytes() == bytes);
-    }
-    assert!(rt; eof_packet(8, 2).bytes() == EIGHTH_END);
-    let refusal = err_packet(1, 1037, *b"HY001", b"out of memory");
-    assert!(rt; refusal.bytes() == OUT_OF_MEMORY.as_slice());
+    assert!(rt; are_ok() && are_recorded());
 }
 
 /// Appends a packet, and gives the next number.
@@ -59,23 +65,21 @@ fn put_one(seq: u8, payload: &[u8], out: &mut Vec<u8>) -> Result<u8, Fail> {
     if payload.len() >= 1000 {
         return Err("the payload is long".into());
     }
-    Ok(put_packet(seq, payload, out).ok().ok_or("memory")?)
+    Ok(put_packet(seq, payload, out)?)
 }
 
 /// A column's payload.
 fn column_payload(alloc: Global, name: &[u8], kind: ColumnKind) -> Result<Vec<u8>, Fail> {
     let name = Name::new(Vec::from_slice(alloc, name)?);
     let mut payload = Vec::new(alloc);
-    put_column(&Column { name, kind }, &mut payload)
-        .ok()
-        .ok_or("memory")?;
+    put_column(&Column { name, kind }, &mut payload)?;
     Ok(payload)
 }
 
 /// A row's payload.
 fn row_payload(alloc: Global, cells: &[Cell]) -> Result<Vec<u8>, Fail> {
     let mut payload = Vec::new(alloc);
-    put_row(cells, &mut payload).ok().ok_or("memory")?;
+    put_row(cells, &mut payload)?;
     Ok(payload)
 }
 
@@ -84,41 +88,68 @@ const COLUMNS: [&[u8]; 2] = [b"id", b"weight()"];
 
 const ROWS: [(i128, i128); 3] = [(1, 2), (2, 2), (3, 1)];
 
-/// The packets of the recorded result set, as they are written.
-fn written_set(alloc: Global) -> Result<Vec<u8>, Fail> {
-    let mut out = Vec::new(alloc);
+/// Appends the packet with the count of columns.
+fn put_count(alloc: Global, seq: u8, out: &mut Vec<u8>) -> Result<u8, Fail> {
     let mut count = Vec::new(alloc);
-    put_lenenc(2, &mut count).ok().ok_or("memory")?;
-    let mut seq = put_one(1, &count, &mut out)?;
-    for name in COLUMNS {
-        let payload = column_payload(alloc, name, ColumnKind::Unsigned)?;
-        seq = put_one(seq, &payload, &mut out)?;
-    }
-    out.extend_from_slice(eof_packet(seq, 2).bytes())?;
-    seq = seq.wrapping_add(1);
-    for (first, second) in ROWS {
-        let payload = row_payload(alloc, &[Cell::Whole(first), Cell::Whole(second)])?;
-        seq = put_one(seq, &payload, &mut out)?;
-    }
-    out.extend_from_slice(eof_packet(seq, 2).bytes())?;
-    Ok(out)
+    put_lenenc(2, &mut count)?;
+    put_one(seq, &count, out)
 }
 
-#[test]
-fn a_result_set_is_the_recorded_bytes(rt: HostRuntime) -> Result<(), Fail> {
-    assert!(rt; written_set(rt.alloc())?.as_slice() == ROW_SET);
+/// Appends the packets of the columns.
+fn put_columns(alloc: Global, mut seq: u8, out: &mut Vec<u8>) -> Result<u8, Fail> {
+    for name in COLUMNS {
+        let payload = column_payload(alloc, name, ColumnKind::Unsigned)?;
+        seq = put_one(seq, &payload, out)?;
+    }
+    Ok(seq)
+}
+
+/// Appends the packets of the rows.
+fn put_rows(alloc: Global, mut seq: u8, out: &mut Vec<u8>) -> Result<u8, Fail> {
+    for (first, second) in ROWS {
+        let payload = row_payload(alloc, &[Cell::Whole(first), Cell::Whole(second)])?;
+        seq = put_one(seq, &payload, out)?;
+    }
+    Ok(seq)
+}
+
+/// Appends EOF.
+fn put_end(seq: u8, out: &mut Vec<u8>) -> Result<u8, Fail> {
+    out.extend_from_slice(eof_packet(seq, 2).bytes())?;
+    Ok(seq.wrapping_add(1))
+}
+
+/// Appends the packets of the recorded result set.
+fn put_set(alloc: Global, out: &mut Vec<u8>) -> Result<(), Fail> {
+    let seq = put_count(alloc, 1, out)?;
+    let seq = put_columns(alloc, seq, out)?;
+    let seq = put_end(seq, out)?;
+    let seq = put_rows(alloc, seq, out)?;
+    put_end(seq, out)?;
     Ok(())
 }
 
 #[test]
-fn cells_are_their_digits_or_their_text(rt: HostRuntime) -> Result<(), Fail> {
-    let text = Text::new(Vec::from_slice(rt.alloc(), b"searchd")?);
+fn a_result_set_is_the_recorded_bytes(rt: HostRuntime) -> Result<(), Fail> {
+    let mut out = Vec::new(rt.alloc());
+    put_set(rt.alloc(), &mut out)?;
+    assert!(rt; out.as_slice() == ROW_SET);
+    Ok(())
+}
+
+/// A row of a text and two numbers.
+fn three_cells(alloc: Global) -> Result<Vec<u8>, Fail> {
+    let text = Text::new(Vec::from_slice(alloc, b"searchd")?);
     let cells = [Cell::Text(text), Cell::Whole(-1), Cell::Whole(i128::MIN)];
-    let row = row_payload(rt.alloc(), &cells)?;
-    assert!(rt;
-        row.as_slice()
-            == b"\x07searchd\x02-1\x28-170141183460469231731687303715884105728".as_slice()
-    );
+    row_payload(alloc, &cells)
+}
+
+/// How it is written.
+const THREE_CELLS: &[u8] = b"\x07searchd\x02-1\x28-170141183460469231731687303715884105728";
+
+#[test]
+fn cells_are_their_digits_or_their_text(rt: HostRuntime) -> Result<(), Fail> {
+    assert!(rt; three_cells(rt.alloc())?.as_slice() == THREE_CELLS);
     Ok(())
 }
 
@@ -130,12 +161,16 @@ const KINDS: [(ColumnKind, &[u8]); 4] = [
     (ColumnKind::Text, b"\x21\0\xff\0\0\0\xfd\0\0"),
 ];
 
+/// Whether a column tells its kind by these fields.
+fn tells_its_kind(alloc: Global, kind: ColumnKind, fields: &[u8]) -> Result<bool, Fail> {
+    let payload = column_payload(alloc, b"@@version_comment", kind)?;
+    Ok(payload.len() == 56 && payload.get(44..53) == Some(fields))
+}
+
 #[test]
 fn columns_tell_their_kinds(rt: HostRuntime) -> Result<(), Fail> {
     for (kind, fields) in KINDS {
-        let payload = column_payload(rt.alloc(), b"@@version_comment", kind)?;
-        assert_eq!(rt; payload.len(), 56);
-        assert_eq!(rt; payload.get(44..53), Some(fields));
+        assert!(rt; tells_its_kind(rt.alloc(), kind, fields)?);
     }
     Ok(())
 }

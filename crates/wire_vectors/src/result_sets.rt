@@ -47,31 +47,32 @@ fn rows_of(alloc: Global, rows: &[&[i128]]) -> Result<Items<Items<Cell>>, Fail> 
     Ok(Items::new(list))
 }
 
-/// Whether a set of such columns and rows is written as these bytes, from a packet's number on, and the packet after it has the
-/// other number.
-fn is_written(
+/// A set of such columns and rows.
+fn set_of(
     alloc: Global,
     (names, kind): (&[&[u8]], ColumnKind),
     rows: &[&[i128]],
+) -> Result<ResultSet, Fail> {
+    Ok(ResultSet {
+        columns: columns_of(alloc, names, kind)?,
+        rows: rows_of(alloc, rows)?,
+    })
+}
+
+/// Whether a set is written as these bytes, from a packet's number on, and the packet after it has the other number.
+fn is_written(
+    alloc: Global,
+    set: &ResultSet,
     status: u16,
     numbers: (u8, u8),
     bytes: &[u8],
 ) -> Result<bool, Fail> {
-    let columns = columns_of(alloc, names, kind)?;
-    let rows = rows_of(alloc, rows)?;
-    let mut replies = Replies::new(alloc, numbers.0).ok().ok_or("memory")?;
-    replies
-        .put_set(alloc, &ResultSet { columns, rows }, status)
-        .ok()
-        .ok_or("memory")?;
+    let mut replies = Replies::new(alloc, numbers.0)?;
+    replies.put_set(alloc, set, status)?;
     let is_same = replies.bytes() == bytes;
     replies.put_ok(0, 0);
-    Ok(
-        is_same
-            && replies
-                .bytes()
-                .ends_with(&[7, 0, 0, numbers.1, 0, 0, 0, 0, 0, 0, 0]),
-    )
+    let last = [7, 0, 0, numbers.1, 0, 0, 0, 0, 0, 0, 0];
+    Ok(is_same && replies.bytes().ends_with(&last))
 }
 
 /// The columns of the recorded set, and its rows.
@@ -79,27 +80,42 @@ const RECORDED: (&[&[u8]], ColumnKind) = (&[b"id", b"weight()"], ColumnKind::Uns
 
 const ROWS: &[&[i128]] = &[&[1, 2], &[2, 2], &[3, 1]];
 
+/// The columns of a set of texts, and of one of ids.
+const TEXTS: (&[&[u8]], ColumnKind) = (&[b"Database"], ColumnKind::Text);
+
+const IDS: (&[&[u8]], ColumnKind) = (&[b"id"], ColumnKind::Unsigned);
+
 #[test]
 fn sets_are_these_bytes_and_numbers_go_on_from_0_after_255(rt: HostRuntime) -> Result<(), Fail> {
     let alloc = rt.alloc();
-    assert!(rt; is_written(alloc, RECORDED, ROWS, 2, (1, 9), ROW_SET)?);
-    let texts: (&[&[u8]], ColumnKind) = (&[b"Database"], ColumnKind::Text);
-    assert!(rt; is_written(alloc, texts, &[], 2, (1, 5), NO_ROWS)?);
-    let ids: (&[&[u8]], ColumnKind) = (&[b"id"], ColumnKind::Unsigned);
-    assert!(rt; is_written(alloc, ids, &[&[7], &[8]], 10, (253, 3), WRAPPED)?);
+    assert!(rt; is_written(alloc, &set_of(alloc, RECORDED, ROWS)?, 2, (1, 9), ROW_SET)?);
+    assert!(rt; is_written(alloc, &set_of(alloc, TEXTS, &[])?, 2, (1, 5), NO_ROWS)?);
+    assert!(rt;
+        is_written(
+            alloc,
+            &set_of(alloc, IDS, &[&[7], &[8]])?,
+            10,
+            (253, 3),
+            WRAPPED
+        )?
+    );
     Ok(())
+}
+
+/// Whether replies go on from one another, and begin anew.
+fn go_on(alloc: Global) -> Result<bool, Fail> {
+    let mut replies = Replies::new(alloc, 1)?;
+    replies.put_ok(3, 10);
+    replies.put_eof(2);
+    let is_short = replies.bytes() == SHORT;
+    replies.begin(255);
+    replies.put_ok(0, 2);
+    replies.put_error(1064, *b"42000", b"no");
+    Ok(is_short && replies.is_refused() && replies.bytes() == REFUSED)
 }
 
 #[test]
 fn replies_go_on_from_one_another_and_begin_anew(rt: HostRuntime) -> Result<(), Fail> {
-    let mut replies = Replies::new(rt.alloc(), 1).ok().ok_or("memory")?;
-    replies.put_ok(3, 10);
-    replies.put_eof(2);
-    assert_eq!(rt; replies.bytes(), SHORT);
-    replies.begin(255);
-    replies.put_ok(0, 2);
-    replies.put_error(1064, *b"42000", b"no");
-    assert!(rt; replies.is_refused());
-    assert_eq!(rt; replies.bytes(), REFUSED);
+    assert!(rt; go_on(rt.alloc())?);
     Ok(())
 }
