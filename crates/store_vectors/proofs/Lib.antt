@@ -1,1 +1,3 @@
+pub mod Known
 pub mod LastNumber
+pub mod Rooms

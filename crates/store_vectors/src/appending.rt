@@ -20,11 +20,7 @@ pub(crate) fn look(alloc: Global, disk: &mut CarefulDisk, seen: &mut String) -> 
 }
 
 /// Makes the file of a log.
-pub(crate) fn create(
-    alloc: Global,
-    disk: &mut CarefulDisk,
-    seen: &mut String,
-) -> Result<GateLog, Fail>
+fn create(alloc: Global, disk: &mut CarefulDisk, seen: &mut String) -> Result<GateLog, Fail>
     ensures quiet { IfOk result (λ log. (log.staged ≡ None) × (log.pending ≡ false)) }
     ensures first { IfOk result (λ log. log.last ≡ None) }
 {
@@ -97,4 +93,15 @@ pub(crate) fn append(
     let staged = Staged::new(alloc, number, payload)?;
     stage(alloc, disk, log, &staged, seen)?;
     open_gate(alloc, disk, log, seen)
+}
+
+/// Makes a log, and appends two records.
+pub(crate) fn append_two(
+    alloc: Global,
+    disk: &mut CarefulDisk,
+    seen: &mut String,
+) -> Result<(), Fail> {
+    let mut log = create(alloc, disk, seen)?;
+    append(alloc, disk, &mut log, 7, &[0x0a], seen)?;
+    append(alloc, disk, &mut log, 8, &[1, 1], seen)
 }

@@ -1,6 +1,7 @@
 //! What each kind of crash leaves of a disk in memory, after calls that are written as a text.
 use crate::careful_disk::CarefulDisk;
-use crate::log_texts::{bytes_of, call_of};
+use crate::log_texts::call_of;
+use crate::telling::{bytes_of, put_digits, try_told};
 use chunk_store::{Disk, MemoryDisk, read_whole};
 use std::alloc::Global;
 use std::test::Fail;
@@ -66,34 +67,47 @@ fn shown(alloc: Global, disk: &mut MemoryDisk) -> Result<String, Fail> {
     let mut text = String::new(alloc);
     for file in 0..2 {
         if let Some(bytes) = read_whole(alloc, disk, file)? {
-            let blank = if text.is_empty() { "" } else { " " };
-            let digits = hex::encode(alloc, bytes.as_slice())?;
-            write!(text, "{blank}{file}={digits}")?;
+            write!(text, " {file}=")?;
+            put_digits(alloc, &bytes, &mut text)?;
         }
     }
     Ok(text)
 }
 
-/// The first crash that leaves other files, from 1, or 0. What it leaves is left by a crash of that disk too.
-fn first_other(alloc: Global, calls: &str, wanted: &str) -> Result<usize, Fail> {
+/// Fails where a disk has other files.
+fn try_files(alloc: Global, disk: &mut MemoryDisk, case: &str, wanted: &str) -> Result<(), Fail> {
+    let shown = shown(alloc, disk)?;
+    try_told(case, shown.as_str().trim(), wanted.trim())
+}
+
+/// Fails where a crash leaves other files. What it leaves is left by a crash of that disk too.
+fn try_crash(
+    alloc: Global,
+    disk: &MemoryDisk,
+    (count, pick): (u64, u8),
+    case: &str,
+    wanted: &str,
+) -> Result<(), Fail> {
+    let mut left = disk.after_crash(count, pick)?;
+    let mut again = left.after_crash(left.calls(), 2)?;
+    try_files(alloc, &mut left, case, wanted)?;
+    try_files(alloc, &mut again, case, wanted)
+}
+
+/// Fails at the first crash that leaves other files.
+fn try_crashes(alloc: Global, calls: &str, wanted: &str) -> Result<(), Fail> {
     let (disk, count) = made(alloc, calls)?;
     for (pick, wanted) in wanted.split('|').enumerate() {
-        let mut left = disk.after_crash(count, u8::try_from(pick)?)?;
-        let mut again = left.after_crash(left.calls(), 2)?;
-        if shown(alloc, &mut left)?.as_str() != wanted.trim()
-            || shown(alloc, &mut again)?.as_str() != wanted.trim()
-        {
-            return Ok(pick.saturating_add(1));
-        }
+        try_crash(alloc, &disk, (count, u8::try_from(pick)?), calls, wanted)?;
     }
-    Ok(0)
+    Ok(())
 }
 
 #[test]
 fn a_crash_leaves_these_files(rt: HostRuntime) -> Result<(), Fail> {
     for line in CRASHES.lines().skip(1) {
         let (calls, wanted) = line.split_once(" ⇒ ").ok_or("a line without an arrow")?;
-        assert_eq!(rt; first_other(rt.alloc(), calls, wanted)?, 0, "{calls}");
+        try_crashes(rt.alloc(), calls, wanted)?;
     }
     Ok(())
 }

@@ -1,9 +1,10 @@
 //! The bytes of logs, and what is read of logs that are damaged or cut. All bytes and answers are worked out by hand.
-ghost use Rattle.std.specs.Prelude.{◌<◌, ◌^◌, length};
+ghost use Rattle.std.specs.Prelude.{◌<◌, ◌^◌, IfOk};
 
 use crate::careful_disk::CarefulDisk;
-use crate::log_texts::{LOG, bytes_of, put_log};
-use chunk_store::{Disk, MemoryDisk, read_whole, remake};
+use crate::log_texts::LOG;
+use crate::telling::{What, bytes_of, put_file, range_of, read_of, try_told};
+use chunk_store::{MemoryDisk, remake};
 use gate_log::{GateLog, Staged};
 use std::alloc::Global;
 use std::test::Fail;
@@ -62,84 +63,103 @@ ff ⇒ to 0
 01 00000000 0700000000000000 01 05000000 0900000000000000 aa 00 ⇒ record length at 13
 01 00000000 0700000000000000 01 00000000 0900000000000000 01 ⇒ record number at 13";
 
-/// What is read of a log of these bytes.
-fn read_as(alloc: Global, bytes: &[u8]) -> Result<String, Fail> {
+/// Fails where something else is read of a log of these bytes.
+fn try_bytes(alloc: Global, case: &str, bytes: &[u8], wanted: &str) -> Result<(), Fail> {
     let mut disk = MemoryDisk::new(alloc, Vec::new(alloc));
     remake(&mut disk, LOG, bytes)?;
-    let mut text = String::new(alloc);
-    put_log(alloc, &mut disk, &mut text)?;
-    Ok(text)
+    try_told(case, read_of(alloc, &mut disk, What::Log)?.as_str(), wanted)
 }
 
-/// The bytes of the log's file.
-fn digits_of<D: Disk>(alloc: Global, disk: &mut D) -> Result<String, Fail> {
-    let bytes = read_whole(alloc, disk, LOG)?.ok_or("no log")?;
-    Ok(hex::encode(alloc, bytes.as_slice())?)
+/// Puts the digits of the log's file, and the end of a line.
+fn put_line(alloc: Global, disk: &mut CarefulDisk, text: &mut String) -> Result<(), Fail> {
+    put_file(alloc, disk, LOG, text)?;
+    Ok(text.push('\n')?)
 }
 
-/// The log once it is made in place of an older file, once a record is staged, and once its gate is open, a line each.
-fn written(alloc: Global, number: u64, payload: &[u8]) -> Result<String, Fail>
-    requires number { number < 2 ^ 63 }
-    requires small { length payload.now < 2 ^ 32 }
+/// Puts the log once it is made in place of an older file, once a record is staged, and once its gate is open, a line each.
+fn put_written(
+    alloc: Global,
+    disk: &mut CarefulDisk,
+    record: &Staged,
+    text: &mut String,
+) -> Result<(), Fail>
+    requires { record.now.number < 2 ^ 63 }
+{
+    remake(disk, LOG, b"an older file")?;
+    let mut log = GateLog::create(disk, LOG)?;
+    put_line(alloc, disk, text)?;
+    log.stage(disk, record)?;
+    put_line(alloc, disk, text)?;
+    log.open_gate(disk)?;
+    put_line(alloc, disk, text)
+}
+
+/// The record of the worked log.
+fn worked_record(alloc: Global) -> Result<Staged, Fail>
+    ensures { IfOk result (λ record. record.number < 2 ^ 63) }
+{
+    let payload = bytes_of(alloc, PAYLOAD)?;
+    if payload.len() != 35 {
+        return Err(Fail::new("another payload"));
+    }
+    Ok(Staged::new(alloc, 1, &payload)?)
+}
+
+/// The lines of the worked log.
+fn written(alloc: Global, record: &Staged) -> Result<String, Fail>
+    requires { record.now.number < 2 ^ 63 }
 {
     let mut disk = CarefulDisk::new(MemoryDisk::new(alloc, Vec::new(alloc)));
-    remake(&mut disk, LOG, b"an older file")?;
-    let mut log = GateLog::create(&mut disk, LOG)?;
-    let made = digits_of(alloc, &mut disk)?;
-    let record = Staged::new(alloc, number, payload)?;
-    log.stage(&mut disk, &record)?;
-    let staged = digits_of(alloc, &mut disk)?;
-    log.open_gate(&mut disk)?;
-    let opened = digits_of(alloc, &mut disk)?;
-    Ok(format!(in alloc; "{made}\n{staged}\n{opened}")?)
+    let mut text = String::new(alloc);
+    put_written(alloc, &mut disk, record, &mut text)?;
+    Ok(text)
 }
 
 #[test]
 fn the_worked_log_is_written_so(rt: HostRuntime) -> Result<(), Fail> {
-    let alloc = rt.alloc();
-    let payload = bytes_of(alloc, PAYLOAD)?;
-    assert_eq!(rt; payload.len(), 35);
-    let lines = written(alloc, 1, &payload)?;
-    assert_eq!(rt; lines.as_str(), WORKED.replace(alloc, " ", "")?.as_str());
-    Ok(())
+    let lines = written(rt.alloc(), &worked_record(rt.alloc())?)?;
+    let wanted = WORKED.replace(rt.alloc(), " ", "")?;
+    try_told("the worked log", lines.as_str().trim_end(), wanted.as_str())
 }
 
 #[test]
 fn logs_are_read_so(rt: HostRuntime) -> Result<(), Fail> {
-    let alloc = rt.alloc();
     for line in LOGS.lines() {
         let (digits, wanted) = line.split_once(" ⇒ ").ok_or("a line without an arrow")?;
-        let bytes = bytes_of(alloc, digits.trim_matches('-'))?;
-        assert_eq!(rt; read_as(alloc, &bytes)?.as_str(), wanted, "{digits}");
+        let bytes = bytes_of(rt.alloc(), digits.trim_matches('-'))?;
+        try_bytes(rt.alloc(), digits, &bytes, wanted)?;
     }
     Ok(())
 }
 
-/// The first front of the log with both records of which something else is read, by its length.
-fn first_other(alloc: Global, bytes: &[u8]) -> Result<Option<usize>, Fail> {
+/// The bytes of the log with both records.
+fn both_records(alloc: Global) -> Result<Vec<u8>, Fail> {
+    let mut bytes = bytes_of(alloc, WORKED.lines().last().ok_or("no log")?)?;
+    if bytes.pop() != Some(0) {
+        return Err(Fail::new("another end"));
+    }
+    bytes.extend_from_slice(&bytes_of(alloc, SECOND)?)?;
+    Ok(bytes)
+}
+
+/// Fails at the first front of the log with both records of which something else is read.
+fn try_fronts(alloc: Global, bytes: &[u8]) -> Result<(), Fail> {
     for line in FRONTS.lines() {
         let (range, wanted) = line.split_once(" ⇒ ").ok_or("a line without an arrow")?;
-        let (from, to) = range.split_once(' ').ok_or("no range")?;
-        for len in from.parse::<usize>()?..=to.parse::<usize>()? {
-            let front = bytes.get(..len).ok_or("no such front")?;
-            if read_as(alloc, front)?.as_str() != wanted {
-                return Ok(Some(len));
-            }
+        let (from, to) = range_of(range)?;
+        for len in from..=to {
+            let front = bytes.get(..len as usize).ok_or("no such front")?;
+            try_bytes(alloc, range, front, wanted)?;
         }
     }
-    Ok(None)
+    Ok(())
 }
 
 #[test]
 fn each_front_of_a_log_is_read_so(rt: HostRuntime) -> Result<(), Fail> {
-    let alloc = rt.alloc();
-    let last = WORKED.lines().last().ok_or("no log")?;
-    let mut bytes = bytes_of(alloc, last)?;
-    assert_eq!(rt; bytes.pop(), Some(0));
-    bytes.extend_from_slice(&bytes_of(alloc, SECOND)?)?;
-    assert_eq!(rt; bytes.len(), 62);
-    assert_eq!(rt; first_other(alloc, &bytes)?, None);
-    Ok(())
+    let bytes = both_records(rt.alloc())?;
+    assert!(rt; bytes.len() == 62);
+    try_fronts(rt.alloc(), &bytes)
 }
 
 /// Where a log's last record ends, whether a record is staged, and whether its gate may be open.
@@ -175,13 +195,21 @@ const STATES: [(u64, bool, bool); 3] = [
     (70_013, false, false),
 ];
 
+/// Whether a long record begins so, and its log has these states and is read again.
+fn is_long(alloc: Global, disk: &mut CarefulDisk, record: &Staged) -> Result<bool, Fail>
+    requires { record.now.number < 2 ^ 63 }
+{
+    let begins_so = record.as_bytes().starts_with(LONG);
+    let has_so_many = record.number() == 7 && record.len() == 70_013;
+    let is_staged_so = states(disk, record)? == STATES;
+    let is_read_so = read_counts(alloc, disk)? == (70_013, 1);
+    Ok(begins_so && has_so_many && is_staged_so && is_read_so)
+}
+
 #[test]
 fn a_record_says_what_is_staged(rt: HostRuntime) -> Result<(), Fail> {
     let mut disk = CarefulDisk::new(MemoryDisk::new(rt.alloc(), Vec::new(rt.alloc())));
     let record = Staged::new(rt.alloc(), 7, &[0; 70_000])?;
-    assert_eq!(rt; (record.number(), record.len()), (7, 70_013));
-    assert!(rt; record.as_bytes().starts_with(LONG));
-    assert!(rt; states(&mut disk, &record)? == STATES);
-    assert_eq!(rt; read_counts(rt.alloc(), &mut disk)?, (70_013, 1));
+    assert!(rt; is_long(rt.alloc(), &mut disk, &record)?);
     Ok(())
 }

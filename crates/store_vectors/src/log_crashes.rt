@@ -2,9 +2,10 @@
 ghost use Rattle.std.specs.Prelude.{◌≡◌, ◌<◌, ◌^◌, None, false, IfOk};
 ghost use Rattle.gate_log.specs.Logs.{MayFollow, last_number};
 
-use crate::appending::{append, create};
+use crate::appending::{append, append_two};
 use crate::careful_disk::CarefulDisk;
-use crate::log_texts::{LOG, put_log};
+use crate::log_texts::LOG;
+use crate::telling::{What, range_of, read_after, try_crash};
 use chunk_store::{Disk, MemoryDisk};
 use gate_log::{GateLog, LogRecord};
 use std::alloc::Global;
@@ -38,10 +39,7 @@ to 0 ⇒ 7: to 13
 /// A disk on which a log was made and two records were appended.
 fn first_run(alloc: Global) -> Result<MemoryDisk, Fail> {
     let mut disk = CarefulDisk::new(MemoryDisk::new(alloc, Vec::new(alloc)));
-    let mut seen = String::new(alloc);
-    let mut log = create(alloc, &mut disk, &mut seen)?;
-    append(alloc, &mut disk, &mut log, 7, &[0x0a], &mut seen)?;
-    append(alloc, &mut disk, &mut log, 8, &[1, 1], &mut seen)?;
+    append_two(alloc, &mut disk, &mut String::new(alloc))?;
     Ok(disk.below)
 }
 
@@ -81,13 +79,6 @@ fn gone_on(alloc: Global, left: MemoryDisk) -> Result<MemoryDisk, Fail> {
     Ok(disk.below)
 }
 
-/// What is read of the log of a disk.
-fn read_of(alloc: Global, disk: &mut MemoryDisk) -> Result<String, Fail> {
-    let mut text = String::new(alloc);
-    put_log(alloc, disk, &mut text)?;
-    Ok(text)
-}
-
 /// Fails where something else is read after the four crashes after so many calls.
 fn try_crashes(
     alloc: Global,
@@ -97,18 +88,12 @@ fn try_crashes(
     (before, after): (&str, &str),
 ) -> Result<(), Fail> {
     for (pick, wanted) in wanted.split(" | ").enumerate() {
-        let mut left = disk.after_crash(calls, u8::try_from(pick)?)?;
         let wanted = match wanted {
             "before" => before,
             "after" => after,
             wanted => wanted,
         };
-        let read = read_of(alloc, &mut left)?;
-        if read.as_str() != wanted {
-            return Err(Fail::new(format!(in alloc;
-                "{before} after {calls} calls, crash {pick}: {read}"
-            )?));
-        }
+        try_crash(alloc, disk, (calls, u8::try_from(pick)?), What::Log, wanted)?;
     }
     Ok(())
 }
@@ -122,8 +107,8 @@ fn try_stops(
 ) -> Result<(), Fail> {
     for line in table.lines().skip(1) {
         let (range, wanted) = line.split_once(" ⇒ ").ok_or("a line without an arrow")?;
-        let (from, to) = range.split_once(' ').ok_or("no range")?;
-        for calls in from.parse::<u64>()?..=to.parse::<u64>()? {
+        let (from, to) = range_of(range)?;
+        for calls in from..=to {
             try_crashes(alloc, disk, calls, wanted, names)?;
         }
     }
@@ -144,8 +129,7 @@ fn after_going_on(before: &str) -> Result<&'static str, Fail> {
 
 /// Fails where a log that goes on after a crash, and is stopped again, is read as something else.
 fn try_again(alloc: Global, disk: &MemoryDisk, calls: u64, pick: u8) -> Result<(), Fail> {
-    let mut left = disk.after_crash(calls, pick)?;
-    let before = read_of(alloc, &mut left)?;
+    let before = read_after(alloc, disk, (calls, pick), What::Log)?;
     let after = after_going_on(before.as_str())?;
     let disk = gone_on(alloc, disk.after_crash(calls, pick)?)?;
     try_stops(alloc, &disk, STOPS_AGAIN, (before.as_str(), after))
@@ -154,7 +138,7 @@ fn try_again(alloc: Global, disk: &MemoryDisk, calls: u64, pick: u8) -> Result<(
 #[test]
 fn a_crash_leaves_what_was_acknowledged(rt: HostRuntime) -> Result<(), Fail> {
     let disk = first_run(rt.alloc())?;
-    assert_eq!(rt; disk.calls(), 21);
+    assert!(rt; disk.calls() == 21);
     try_stops(rt.alloc(), &disk, STOPS, ("", ""))
 }
 

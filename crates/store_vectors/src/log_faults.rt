@@ -1,7 +1,8 @@
 //! Logs on a disk of which one call fails: what is left then, and that the call can be made again.
-use crate::appending::{append, create, look};
+use crate::appending::{append_two, look};
 use crate::careful_disk::CarefulDisk;
-use crate::log_texts::{LOG, put_log};
+use crate::log_texts::LOG;
+use crate::telling::{What, range_of, read_twice, try_told};
 use chunk_store::{MemoryDisk, remake};
 use std::alloc::Global;
 use std::test::Fail;
@@ -26,9 +27,7 @@ fn seen(alloc: Global, failing: u64) -> Result<String, Fail> {
     let failing = Vec::from_slice(alloc, &[failing])?;
     let mut disk = CarefulDisk::new(MemoryDisk::new(alloc, failing));
     let mut seen = String::new(alloc);
-    let mut log = create(alloc, &mut disk, &mut seen)?;
-    append(alloc, &mut disk, &mut log, 7, &[0x0a], &mut seen)?;
-    append(alloc, &mut disk, &mut log, 8, &[1, 1], &mut seen)?;
+    append_two(alloc, &mut disk, &mut seen)?;
     look(alloc, &mut disk, &mut seen)?;
     Ok(seen)
 }
@@ -39,15 +38,15 @@ fn try_call(alloc: Global, call: u64, wanted: &str) -> Result<(), Fail> {
     if seen.as_str().strip_suffix(DONE) == Some(wanted) {
         return Ok(());
     }
-    Err(Fail::new(format!(in alloc; "call {call}: {seen}")?))
+    Err(Fail::new(format_args!("call {call}: {seen}")))
 }
 
 #[test]
 fn a_call_that_fails_can_be_made_again(rt: HostRuntime) -> Result<(), Fail> {
     for line in FAULTS.lines().skip(1) {
         let (range, wanted) = line.split_once(" ⇒ ").ok_or("a line without an arrow")?;
-        let (from, to) = range.split_once(' ').ok_or("no range")?;
-        for call in from.parse::<u64>()?..=to.parse::<u64>()? {
+        let (from, to) = range_of(range)?;
+        for call in from..=to {
             try_call(rt.alloc(), call, wanted)?;
         }
     }
@@ -56,15 +55,10 @@ fn a_call_that_fails_can_be_made_again(rt: HostRuntime) -> Result<(), Fail> {
 
 /// What two readings of a log without records give where this call fails. The log is made by three calls, and a reading takes
 /// two.
-fn read_twice(alloc: Global, failing: u64) -> Result<String, Fail> {
-    let failing = Vec::from_slice(alloc, &[failing])?;
-    let mut disk = MemoryDisk::new(alloc, failing);
+fn readings(alloc: Global, failing: u64) -> Result<String, Fail> {
+    let mut disk = MemoryDisk::new(alloc, Vec::from_slice(alloc, &[failing])?);
     remake(&mut disk, LOG, &[0])?;
-    let mut text = String::new(alloc);
-    put_log(alloc, &mut disk, &mut text)?;
-    text.push_str(", ")?;
-    put_log(alloc, &mut disk, &mut text)?;
-    Ok(text)
+    read_twice(alloc, &mut disk, What::Log)
 }
 
 /// The call that fails, and what two readings give.
@@ -77,7 +71,11 @@ const READINGS: [(u64, &str); 3] = [
 #[test]
 fn a_log_is_read_again_after_a_fault(rt: HostRuntime) -> Result<(), Fail> {
     for (failing, wanted) in READINGS {
-        assert_eq!(rt; read_twice(rt.alloc(), failing)?.as_str(), wanted);
+        try_told(
+            "two readings",
+            readings(rt.alloc(), failing)?.as_str(),
+            wanted,
+        )?;
     }
     Ok(())
 }

@@ -1,4 +1,5 @@
-//! The bytes of a row, and what a log is read as, as a text.
+//! What a log is read as, as a text.
+use crate::telling::{What, put_digits, read_after};
 use chunk_store::{Disk, MemoryDisk};
 use gate_log::{GateLog, LogRecord};
 use std::alloc::Global;
@@ -6,12 +7,6 @@ use std::test::Fail;
 
 /// The file of each log.
 pub(crate) const LOG: u32 = 2;
-
-/// The bytes that a row spells, two digits each. Blanks between them don't count.
-pub(crate) fn bytes_of(alloc: Global, digits: &str) -> Result<Vec<u8>, Fail> {
-    let digits = digits.replace(alloc, " ", "")?;
-    Ok(hex::decode(alloc, digits.as_str())?)
-}
 
 /// The parts of a call that is written as a text: its kind, a file, a place, which is 0 where none is named, and the rest.
 pub(crate) fn call_of(call: &str) -> Result<(&str, u32, u64, &str), Fail> {
@@ -22,24 +17,28 @@ pub(crate) fn call_of(call: &str) -> Result<(&str, u32, u64, &str), Fail> {
     Ok((kind, file, at, words.next().unwrap_or("")))
 }
 
-fn put_records(alloc: Global, records: &[LogRecord], text: &mut String) -> Result<(), Fail> {
+/// Puts the records of a log, as number:payload, and where it ends.
+fn put_records(
+    alloc: Global,
+    records: &[LogRecord],
+    end: u64,
+    text: &mut String,
+) -> Result<(), Fail> {
     for record in records {
-        let payload = hex::encode(alloc, record.payload.as_slice())?;
-        write!(text, "{}:{payload} ", record.number)?;
+        write!(text, "{}:", record.number)?;
+        put_digits(alloc, record.payload.as_slice(), text)?;
+        text.push(' ')?;
     }
+    write!(text, "to {end}")?;
     Ok(())
 }
 
-/// Puts the records of a log, as number:payload, and where it ends; or why it isn't read.
+/// Puts the records of a log and where it ends, or why it isn't read.
 pub(crate) fn put_log<D: Disk>(alloc: Global, disk: &mut D, text: &mut String) -> Result<(), Fail> {
     match GateLog::read(alloc, disk, LOG) {
-        Ok((log, records)) => {
-            put_records(alloc, &records, text)?;
-            write!(text, "to {}", log.end())?;
-        }
-        Err(fault) => write!(text, "{fault}")?,
+        Ok((log, records)) => put_records(alloc, &records, log.end(), text),
+        Err(fault) => Ok(write!(text, "{fault}")?),
     }
-    Ok(())
 }
 
 /// Puts what is read after each of the four crashes after so many calls.
@@ -52,8 +51,7 @@ pub(crate) fn put_crashes(
     for pick in 0..4 {
         let bar = if pick == 0 { "" } else { " | " };
         text.push_str(bar)?;
-        let mut left = disk.after_crash(calls, pick)?;
-        put_log(alloc, &mut left, text)?;
+        text.push_str(read_after(alloc, disk, (calls, pick), What::Log)?.as_str())?;
     }
     Ok(())
 }

@@ -1,7 +1,8 @@
 //! Crashes while a root is replaced, after each call on the disk: what is read then, also where a second crash comes while the
 //! root of the first one is replaced.
-use crate::replacing::{bytes_of_slot, replace_on};
-use crate::root_texts::{disk_of, put_root};
+use crate::root_replacing::{bytes_of_slot, replace_on};
+use crate::root_texts::disk_of;
+use crate::telling::{What, read_of, try_crash};
 use chunk_store::MemoryDisk;
 use root_slots::RootBytes;
 use std::alloc::Global;
@@ -56,21 +57,18 @@ fn wanted_of(alloc: Global, through: &str) -> Result<String, Fail> {
     Ok(format!(in alloc; "through {through} next 3 logs 0 2 text 0")?)
 }
 
-/// Fails where something else is read after this crash.
-fn try_crash(
+/// Fails where something else is read after a crash of a kind after so many calls, from and to.
+fn try_calls(
     alloc: Global,
     disk: &MemoryDisk,
-    calls: u64,
+    (from, to): (u64, u64),
     pick: u8,
     wanted: &str,
 ) -> Result<(), Fail> {
-    let mut left = disk.after_crash(calls, pick)?;
-    let mut text = String::new(alloc);
-    put_root(alloc, &mut left, &mut text)?;
-    if text.as_str() == wanted {
-        return Ok(());
+    for calls in from..=to {
+        try_crash(alloc, disk, (calls, pick), What::Root, wanted)?;
     }
-    Err(Fail::new(format!(in alloc; "{calls} {pick}: {text}")?))
+    Ok(())
 }
 
 fn try_row(alloc: Global, disk: &MemoryDisk, row: &str) -> Result<(), Fail> {
@@ -79,9 +77,13 @@ fn try_row(alloc: Global, disk: &MemoryDisk, row: &str) -> Result<(), Fail> {
     let to = words.next().ok_or("no number")?.parse::<u64>()?;
     for (pick, through) in words.enumerate() {
         let wanted = wanted_of(alloc, through)?;
-        for calls in from..=to {
-            try_crash(alloc, disk, calls, (pick % 4) as u8, wanted.as_str())?;
-        }
+        try_calls(
+            alloc,
+            disk,
+            (from, to),
+            u8::try_from(pick)?,
+            wanted.as_str(),
+        )?;
     }
     Ok(())
 }
@@ -89,35 +91,39 @@ fn try_row(alloc: Global, disk: &MemoryDisk, row: &str) -> Result<(), Fail> {
 #[test]
 fn a_crash_leaves_a_root(rt: HostRuntime) -> Result<(), Fail> {
     let disk = three_states(rt.alloc())?;
-    assert_eq!(rt; disk.calls(), 30);
+    assert!(rt; disk.calls() == 30);
     for row in CRASHES.lines() {
         try_row(rt.alloc(), &disk, row)?;
     }
     Ok(())
 }
 
-/// Replaces what a crash left, and fails where a second crash leaves anything but that or the new state: after the last call but
-/// one the gate is written and not synced, after the last one the new state is there.
-fn try_again(alloc: Global, first: &MemoryDisk, calls: u64, pick: u8) -> Result<(), Fail> {
-    let mut disk = first.after_crash(calls, pick)?;
-    let mut before = String::new(alloc);
-    put_root(alloc, &mut disk, &mut before)?;
-    replace_by(alloc, &mut disk, 9)?;
-    let after = wanted_of(alloc, "9")?;
+/// Fails where a crash after any call leaves anything but the old state or the new one: after the last call but one the gate is
+/// written and not synced, after the last one the new state is there.
+fn try_each_call(alloc: Global, disk: &MemoryDisk, before: &str, after: &str) -> Result<(), Fail> {
     let last = disk.calls();
-    for second in 0..=last {
-        for outcome in 0..4 {
-            let opened = outcome == 1 || outcome == 2;
-            let is_new = second == last || (second.saturating_add(1) == last && opened);
-            let wanted = if is_new {
-                after.as_str()
-            } else {
-                before.as_str()
-            };
-            try_crash(alloc, &disk, second, outcome, wanted)?;
+    for calls in 0..=last {
+        for pick in 0..4 {
+            let opened = pick == 1 || pick == 2;
+            let is_new = calls == last || (calls.saturating_add(1) == last && opened);
+            let wanted = if is_new { after } else { before };
+            try_crash(alloc, disk, (calls, pick), What::Root, wanted)?;
         }
     }
     Ok(())
+}
+
+/// Replaces what a crash left, and fails where a second crash leaves something else.
+fn try_again(alloc: Global, first: &MemoryDisk, calls: u64, pick: u8) -> Result<(), Fail> {
+    let mut disk = first.after_crash(calls, pick)?;
+    let before = read_of(alloc, &mut disk, What::Root)?;
+    replace_by(alloc, &mut disk, 9)?;
+    try_each_call(
+        alloc,
+        &disk,
+        before.as_str(),
+        wanted_of(alloc, "9")?.as_str(),
+    )
 }
 
 #[test]

@@ -1,5 +1,5 @@
 //! Images of logs with what is read of them, worked out by hand from the layout: the records before a fault, and the fault.
-use crate::root_texts::bytes_of;
+use crate::telling::{bytes_of, put_digits, try_told};
 use chunk_store::{Disk, MemoryDisk};
 use gate_log::{Before, GateLog, LogRead, read_front, read_records};
 use std::alloc::Global;
@@ -47,8 +47,9 @@ fn before_of(words: &str) -> Result<Before, Fail> {
 
 fn put_read(alloc: Global, read: &LogRead, text: &mut String) -> Result<(), Fail> {
     for record in read.records.as_slice() {
-        let payload = hex::encode(alloc, record.payload)?;
-        write!(text, "{}:{}:{payload} ", record.place, record.number)?;
+        write!(text, "{}:{}:", record.place, record.number)?;
+        put_digits(alloc, record.payload, text)?;
+        text.push(' ')?;
     }
     match read.fault {
         Some(kind) => write!(text, "{kind} at {}", read.end)?,
@@ -57,18 +58,20 @@ fn put_read(alloc: Global, read: &LogRead, text: &mut String) -> Result<(), Fail
     Ok(())
 }
 
+/// What is read of a log of these bytes.
+fn read_as(alloc: Global, bytes: &[u8], before: Before) -> Result<String, Fail> {
+    let read = read_records(alloc, bytes, before)?;
+    let mut text = String::new(alloc);
+    put_read(alloc, &read, &mut text)?;
+    Ok(text)
+}
+
 fn try_row(alloc: Global, row: &str) -> Result<(), Fail> {
     let (digits, rest) = row.split_once(" | ").ok_or("no bytes")?;
     let (before, wanted) = rest.split_once(" | ").ok_or("no answer")?;
     let bytes = bytes_of(alloc, digits.trim_matches('.'))?;
-    let before = before_of(before)?;
-    let read = read_records(alloc, &bytes, before)?;
-    let mut text = String::new(alloc);
-    put_read(alloc, &read, &mut text)?;
-    if text.as_str() == wanted {
-        return Ok(());
-    }
-    Err(Fail::new(format!(in alloc; "{row}: {text}")?))
+    let read = read_as(alloc, &bytes, before_of(before)?)?;
+    try_told(row, read.as_str(), wanted)
 }
 
 #[test]
@@ -89,13 +92,23 @@ fn front_on(alloc: Global, file: u32, most: u64) -> Result<String, Fail> {
     }
 }
 
+/// A file, how many of its bytes are read at most, and what is read.
+const FRONTS: [(u32, u64, &str); 5] = [
+    (2, 4, "01020304"),
+    (2, 6, "010203040506"),
+    (2, u64::MAX, "010203040506"),
+    (2, 0, ""),
+    (3, 4, "-"),
+];
+
 #[test]
 fn the_front_of_a_file_is_read(rt: HostRuntime) -> Result<(), Fail> {
-    let alloc = rt.alloc();
-    assert_eq!(rt; front_on(alloc, 2, 4)?.as_str(), "01020304");
-    assert_eq!(rt; front_on(alloc, 2, 6)?.as_str(), "010203040506");
-    assert_eq!(rt; front_on(alloc, 2, u64::MAX)?.as_str(), "010203040506");
-    assert_eq!(rt; front_on(alloc, 2, 0)?.as_str(), "");
-    assert_eq!(rt; front_on(alloc, 3, 4)?.as_str(), "-");
+    for (file, most, wanted) in FRONTS {
+        try_told(
+            "a front",
+            front_on(rt.alloc(), file, most)?.as_str(),
+            wanted,
+        )?;
+    }
     Ok(())
 }

@@ -3,7 +3,8 @@ ghost use Rattle.std.specs.Prelude.{IfOk};
 ghost use Rattle.root_slots.specs.States.{IsState};
 
 use crate::root_texts::disk_of;
-use chunk_store::{MemoryDisk, read_whole};
+use crate::telling::{put_file, try_told};
+use chunk_store::MemoryDisk;
 use root_slots::{Root, RootBytes, RootState};
 use std::alloc::Global;
 use std::test::Fail;
@@ -21,7 +22,7 @@ fn state_on(alloc: Global, disk: &mut MemoryDisk) -> Result<RootState, Fail>
 {
     match Root::read(alloc, disk) {
         Ok((_, state)) => Ok(state.ok_or("no root")?),
-        Err(fault) => Err(Fail::new(format!(in alloc; "{fault}")?)),
+        Err(fault) => Err(Fail::new(fault)),
     }
 }
 
@@ -34,27 +35,13 @@ pub(crate) fn replace_on(
     match Root::read(alloc, disk) {
         Ok((mut root, _)) => {
             if root.full() {
-                return Err(Fail::new(format!(in alloc; "full")?));
+                return Err(Fail::new("full"));
             }
             root.replace(disk, bytes)?;
             Ok(())
         }
-        Err(fault) => Err(Fail::new(format!(in alloc; "{fault}")?)),
+        Err(fault) => Err(Fail::new(fault)),
     }
-}
-
-/// The digits of a file, or `-` where it isn't there.
-fn put_file(
-    alloc: Global,
-    disk: &mut MemoryDisk,
-    file: u32,
-    text: &mut String,
-) -> Result<(), Fail> {
-    match read_whole(alloc, disk, file)? {
-        Some(bytes) => text.push_str(hex::encode(alloc, bytes.as_slice())?.as_str())?,
-        None => text.push('-')?,
-    }
-    Ok(())
 }
 
 /// The digits of both slots.
@@ -77,10 +64,7 @@ pub(crate) fn bytes_of_slot(alloc: Global, slot: &str) -> Result<RootBytes, Fail
 fn try_slots(alloc: Global, disk: &mut MemoryDisk, wanted: &str) -> Result<(), Fail> {
     let slots = slots_on(alloc, disk)?;
     let wanted = wanted.replace(alloc, " ", "")?;
-    if slots.as_str() == wanted.as_str() {
-        return Ok(());
-    }
-    Err(Fail::new(format!(in alloc; "{slots}")?))
+    try_told("the slots", slots.as_str(), wanted.as_str())
 }
 
 /// Fails where a state isn't written as its slot is, as the first on a disk.

@@ -4,8 +4,9 @@ ghost use Rattle.chunk_store.specs.Images.{Told};
 ghost use Rattle.root_slots.specs.Roots.{Stands};
 ghost use Rattle.root_slots.specs.Slots.{Slot, slots_of};
 
-use crate::crashes::{bytes_through, slot_of};
-use crate::root_texts::{put_root, put_slot};
+use crate::root_crashes::{bytes_through, slot_of};
+use crate::root_texts::put_slot;
+use crate::telling::{What, read_after, read_twice, try_told};
 use chunk_store::{Disk, MemoryDisk};
 use root_slots::{Root, RootBytes};
 use srch_base::Failed;
@@ -50,15 +51,14 @@ fn is_replaced<D: Disk>(disk: &mut D, root: &mut Root, bytes: &RootBytes) -> boo
     }
 }
 
-/// Puts which state is read after each of the four crashes now, by the commit that it goes through.
+/// Puts which state is read after each of the four crashes now, by the commit that it goes through, or what else is read.
 fn put_crashes(alloc: Global, disk: &MemoryDisk, seen: &mut String) -> Result<(), Fail> {
     for pick in 0..4 {
-        let mut left = disk.after_crash(disk.calls(), pick)?;
-        match Root::read(alloc, &mut left) {
-            Ok((_, Some(state))) => write!(seen, "{}", state.through)?,
-            Ok((_, None)) => seen.push('0')?,
-            Err(fault) => write!(seen, "{fault}")?,
-        }
+        let read = read_after(alloc, disk, (disk.calls(), pick), What::Root)?;
+        seen.push_str(match read.as_str().split(' ').nth(1) {
+            Some("root") | None => "0",
+            Some(through) => through,
+        })?;
     }
     Ok(())
 }
@@ -80,7 +80,7 @@ fn seen(alloc: Global, disk: &mut MemoryDisk) -> Result<String, Fail> {
             }
             Ok(seen)
         }
-        Err(fault) => Err(Fail::new(format!(in alloc; "{fault}")?)),
+        Err(fault) => Err(Fail::new(fault)),
     }
 }
 
@@ -88,10 +88,7 @@ fn seen(alloc: Global, disk: &mut MemoryDisk) -> Result<String, Fail> {
 fn try_calls(alloc: Global, failing: &[u64], wanted: &str) -> Result<(), Fail> {
     let mut disk = MemoryDisk::new(alloc, Vec::from_slice(alloc, failing)?);
     let seen = seen(alloc, &mut disk)?;
-    if seen.as_str().trim() == wanted {
-        return Ok(());
-    }
-    Err(Fail::new(format!(in alloc; "{failing:?}:{seen}")?))
+    try_told(wanted, seen.as_str().trim(), wanted)
 }
 
 #[test]
@@ -109,34 +106,30 @@ fn a_state_is_replaced_after_a_fault(rt: HostRuntime) -> Result<(), Fail> {
     Ok(())
 }
 
-/// What two readings of two slots give where this call fails. The slots are written by the calls 1 and 2, and a reading takes
-/// four.
-fn read_twice(alloc: Global, failing: u64) -> Result<String, Fail> {
+/// A disk with two slots, of which this call fails. The slots are written by the calls 1 and 2.
+fn failing_disk(alloc: Global, failing: u64) -> Result<MemoryDisk, Fail> {
     let mut disk = MemoryDisk::new(alloc, Vec::from_slice(alloc, &[failing])?);
     let slot = slot_of(alloc, 5)?;
     put_slot(alloc, &mut disk, 0, slot.as_str())?;
     put_slot(alloc, &mut disk, 1, slot.as_str())?;
-    let mut text = String::new(alloc);
-    put_root(alloc, &mut disk, &mut text)?;
-    text.push_str(", then ")?;
-    put_root(alloc, &mut disk, &mut text)?;
-    Ok(text)
+    Ok(disk)
 }
+
+/// The call that fails, and what two readings give, each of which takes four calls.
+const READINGS: [(u64, &str); 5] = [
+    (3, "a device failed, through 5 next 3 logs 0 2 text 0"),
+    (4, "a device failed, through 5 next 3 logs 0 2 text 0"),
+    (5, "a device failed, through 5 next 3 logs 0 2 text 0"),
+    (6, "a device failed, through 5 next 3 logs 0 2 text 0"),
+    (10, "through 5 next 3 logs 0 2 text 0, a device failed"),
+];
 
 #[test]
 fn a_root_is_read_again_after_a_fault(rt: HostRuntime) -> Result<(), Fail> {
-    let read = "through 5 next 3 logs 0 2 text 0";
-    for call in 3..=6 {
-        let text = read_twice(rt.alloc(), call)?;
-        assert_eq!(rt;
-            text.as_str().strip_suffix(read),
-            Some("a device failed, then ")
-        );
+    for (failing, wanted) in READINGS {
+        let mut disk = failing_disk(rt.alloc(), failing)?;
+        let read = read_twice(rt.alloc(), &mut disk, What::Root)?;
+        try_told("two readings", read.as_str(), wanted)?;
     }
-    let text = read_twice(rt.alloc(), 10)?;
-    assert_eq!(rt;
-        text.as_str().strip_prefix(read),
-        Some(", then a device failed")
-    );
     Ok(())
 }

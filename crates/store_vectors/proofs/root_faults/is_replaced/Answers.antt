@@ -1,9 +1,9 @@
 use Rattle.std.proofs.Common.{subst, sym}
 use Rattle.chunk_store.specs.Images.{Told}
 use Rattle.root_slots.specs.declared.root.Root.{Root}
-use Rattle.root_vectors.proofs.Known.{IsKnown, known_done, known_failed}
-use Rattle.root_vectors.proofs.Rooms.{room_by}
-use Rattle.root_vectors.proofs.faults.is_replaced.Goals as goal
+use Rattle.store_vectors.proofs.Known.{IsKnown, known_done, known_failed}
+use Rattle.store_vectors.proofs.Rooms.{room_by}
+use Rattle.store_vectors.proofs.root_faults.is_replaced.Goals as goal
 
 pub replace-requires : goal.replace-requires
 replace-requires g c = record { room = room_by c.full.result c.args.root.now.number c.full.ensures c.if-full.false; stands = c.requires }

@@ -1,4 +1,5 @@
 //! What a root is read as, as a text.
+use crate::telling::bytes_of;
 use chunk_store::{Disk, MemoryDisk};
 use root_slots::{ChunkEntry, Root, RootState};
 use std::alloc::Global;
@@ -12,13 +13,16 @@ fn put_chunk(chunk: &ChunkEntry, text: &mut String) -> Result<(), Fail> {
     Ok(())
 }
 
-/// Puts the numbers of a state, how long its schema's text is, and its chunks, as file:length,dead rows.
-fn put_state(state: &RootState, text: &mut String) -> Result<(), Fail> {
+/// Puts the numbers of a state, how long its schema's text is, its chunks, as file:length,dead rows, and whether the root is full.
+fn put_state(state: &RootState, is_full: bool, text: &mut String) -> Result<(), Fail> {
     write!(text, "through {} next {} ", state.through, state.next_file)?;
     write!(text, "logs {} {} ", state.older, state.newer)?;
     write!(text, "text {}", state.schema_text.as_bytes().len())?;
     for chunk in state.chunks.as_slice() {
         put_chunk(chunk, text)?;
+    }
+    if is_full {
+        text.push_str(" full")?;
     }
     Ok(())
 }
@@ -30,22 +34,10 @@ pub(crate) fn put_root<D: Disk>(
     text: &mut String,
 ) -> Result<(), Fail> {
     match Root::read(alloc, disk) {
-        Ok((root, Some(state))) => {
-            put_state(&state, text)?;
-            if root.full() {
-                text.push_str(" full")?;
-            }
-        }
-        Ok((_, None)) => text.push_str("no root")?,
-        Err(fault) => write!(text, "{fault}")?,
+        Ok((root, Some(state))) => put_state(&state, root.full(), text),
+        Ok((_, None)) => Ok(text.push_str("no root")?),
+        Err(fault) => Ok(write!(text, "{fault}")?),
     }
-    Ok(())
-}
-
-/// The bytes that a row spells, two digits each. Blanks between them don't count.
-pub(crate) fn bytes_of(alloc: Global, digits: &str) -> Result<Vec<u8>, Fail> {
-    let digits = digits.replace(alloc, " ", "")?;
-    Ok(hex::decode(alloc, digits.as_str())?)
 }
 
 /// Writes a slot's file, given as digits, blanks between them. `-` is a file that isn't there.

@@ -1,7 +1,7 @@
 use Rattle.std.proofs.Common.{None}
 use Rattle.root_slots.specs.Openings.{own_of}
-use Rattle.root_vectors.proofs.Rooms.{room_by}
-use Rattle.root_vectors.proofs.replacing.replace_on.Goals as goal
+use Rattle.store_vectors.proofs.Rooms.{room_by}
+use Rattle.store_vectors.proofs.root_replacing.replace_on.Goals as goal
 
 pub replace-requires : goal.replace-requires
 replace-requires c = record {

@@ -1,5 +1,6 @@
 //! Images of two slots with what they are read as, worked out by hand from the layout.
-use crate::root_texts::{disk_of, put_root};
+use crate::root_texts::disk_of;
+use crate::telling::{What, read_of, try_told};
 use std::alloc::Global;
 use std::test::Fail;
 
@@ -102,12 +103,11 @@ fn digits_of(alloc: Global, slot: &str) -> Result<String, Fail> {
 /// Fails where the slots are read as something else.
 fn try_slots(alloc: Global, zeroth: &str, first: &str, wanted: &str) -> Result<(), Fail> {
     let mut disk = disk_of(alloc, zeroth, first)?;
-    let mut text = String::new(alloc);
-    put_root(alloc, &mut disk, &mut text)?;
-    if text.as_str() == wanted {
-        return Ok(());
-    }
-    Err(Fail::new(format!(in alloc; "{zeroth} | {first}: {text}")?))
+    try_told(
+        zeroth,
+        read_of(alloc, &mut disk, What::Root)?.as_str(),
+        wanted,
+    )
 }
 
 fn try_row(alloc: Global, row: &str) -> Result<(), Fail> {
