@@ -5,8 +5,7 @@ use std::test::Fail;
 
 /// The payload of a document of one field with so many words `a`, the last of which has this boundary before it.
 fn payload_of(alloc: Global, words: u32, last: u8) -> Result<Vec<u8>, Fail> {
-    let mut bytes = Vec::new(alloc);
-    bytes.extend_from_slice(&[1, 0, 0, 0, 1, 7, 0, 0, 0, 0, 0, 0, 0])?;
+    let mut bytes = Vec::from_slice(alloc, &[1, 0, 0, 0, 1, 7, 0, 0, 0, 0, 0, 0, 0])?;
     bytes.extend_from_slice(&words.to_le_bytes())?;
     for _ in 1..words {
         bytes.extend_from_slice(&[0, 1, b'a'])?;
@@ -21,13 +20,19 @@ fn ended_at(alloc: Global, words: u32, last: u8) -> Result<Option<u32>, Fail> {
     refused_at(alloc, &short_schema(alloc)?, &bytes)
 }
 
+/// So many words, the last one's boundary, and where the payload is refused: at the last word's boundary, which is behind 17 bytes
+/// and 3 for each word before it.
+const ENDS: [(u32, u8, Option<u32>); 4] = [
+    (65_535, 0, None),
+    (65_534, 1, None),
+    (65_536, 0, Some(196_622)),
+    (65_535, 2, Some(196_619)),
+];
+
 #[test]
 fn positions_end_at_65535(rt: HostRuntime) -> Result<(), Fail> {
-    let alloc = rt.alloc();
-    assert_eq!(rt; ended_at(alloc, 65_535, 0)?, None);
-    assert_eq!(rt; ended_at(alloc, 65_534, 1)?, None);
-    // the last word's boundary: 17 bytes, and 3 for each word before it
-    assert_eq!(rt; ended_at(alloc, 65_536, 0)?, Some(196_622));
-    assert_eq!(rt; ended_at(alloc, 65_535, 2)?, Some(196_619));
+    for (words, last, wanted) in ENDS {
+        assert!(rt; ended_at(rt.alloc(), words, last)? == wanted);
+    }
     Ok(())
 }

@@ -1,5 +1,5 @@
 //! Damaged payloads, each with the place of the first field that breaks the layout.
-use crate::examples::{long_bytes, long_schema, refused_at};
+use crate::examples::{LONG, long_schema, refused_at};
 use doc_types::Schema;
 use std::alloc::Global;
 use std::test::Fail;
@@ -56,39 +56,44 @@ const DAMAGE: &str = "\
 66 01000000 58 ends before the span before it
 70 000000000100000004000000 70 the second span again";
 
-/// The place at which the long payload is refused once bytes of it are replaced.
-fn damaged_at(
-    alloc: Global,
-    schema: &Schema,
-    from: usize,
-    digits: &str,
-) -> Result<Option<u32>, Fail> {
-    let whole = long_bytes(alloc)?;
+/// A payload of which bytes are replaced.
+fn damaged(alloc: Global, whole: &[u8], from: usize, digits: &str) -> Result<Vec<u8>, Fail> {
     let part = hex::decode(alloc, digits)?;
     let mut bytes = Vec::from_slice(alloc, whole.get(..from).ok_or("no front")?)?;
     bytes.extend_from_slice(&part)?;
     bytes.extend_from_slice(whole.get(bytes.len()..).unwrap_or(&[]))?;
+    Ok(bytes)
+}
+
+/// Where a payload is refused once bytes of it are replaced.
+fn damaged_at(
+    alloc: Global,
+    schema: &Schema,
+    whole: &[u8],
+    (from, digits): (usize, &str),
+) -> Result<Option<u32>, Fail> {
+    let bytes = damaged(alloc, whole, from, digits)?;
     refused_at(alloc, schema, &bytes)
 }
 
-/// The first row that is refused elsewhere or not at all, from 1, or 0.
-fn first_wrong(alloc: Global) -> Result<usize, Fail> {
-    let schema = long_schema(alloc)?;
-    for (line, row) in DAMAGE.split('\n').enumerate() {
-        let mut words = row.split(' ');
-        let from = words.next().ok_or("no place")?.parse::<usize>()?;
-        let digits = words.next().ok_or("no bytes")?;
-        let place = words.next().ok_or("no place of a fault")?.parse::<u32>()?;
-        if damaged_at(alloc, &schema, from, digits)? != Some(place) {
-            return Ok(line.saturating_add(1));
-        }
+/// Fails where the row is refused elsewhere or not at all.
+fn try_row(alloc: Global, schema: &Schema, whole: &[u8], row: &str) -> Result<(), Fail> {
+    let mut words = row.split(' ');
+    let from = words.next().ok_or("no place")?.parse::<usize>()?;
+    let digits = words.next().ok_or("no bytes")?;
+    let place = words.next().ok_or("no place of a fault")?.parse::<u32>()?;
+    if damaged_at(alloc, schema, whole, (from, digits))? == Some(place) {
+        return Ok(());
     }
-    Ok(0)
+    Err(Fail::new(row))
 }
 
 #[test]
 fn damage_is_refused_where_it_stands(rt: HostRuntime) -> Result<(), Fail> {
-    let wrong = first_wrong(rt.alloc())?;
-    assert_eq!(rt; wrong, 0);
+    let schema = long_schema(rt.alloc())?;
+    let whole = hex::decode(rt.alloc(), LONG)?;
+    for row in DAMAGE.lines() {
+        try_row(rt.alloc(), &schema, &whole, row)?;
+    }
     Ok(())
 }

@@ -102,8 +102,3 @@ pub(crate) fn refused_at(
         Err(Or::Fault(bad)) => Ok(Some(bad.place)),
     }
 }
-
-/// The bytes of `LONG`.
-pub(crate) fn long_bytes(alloc: Global) -> Result<Vec<u8>, Fail> {
-    Ok(hex::decode(alloc, LONG)?)
-}

@@ -35,22 +35,35 @@ fn written(alloc: Global, schema: &Schema, txn: &Txn) -> Result<Vec<u8>, Fail>
     Ok(out)
 }
 
+/// Fails where a transaction is told otherwise.
+fn try_told(alloc: Global, txn: &Txn, wanted: &str) -> Result<(), Fail> {
+    let mut told = String::new(alloc);
+    put_told(txn, &mut told)?;
+    if told.as_str() == wanted {
+        return Ok(());
+    }
+    Err(Fail::new(told))
+}
+
+/// Fails where a transaction isn't written as these bytes.
+fn try_written(alloc: Global, schema: &Schema, txn: &Txn, bytes: &[u8]) -> Result<(), Fail>
+    requires schema { IsSchema schema.now }
+    requires txn { IsTxnOf schema.now txn.now }
+{
+    if written(alloc, schema, txn)?.get(1..) == Some(bytes) {
+        return Ok(());
+    }
+    Err(Fail::new("written otherwise"))
+}
+
 /// Fails where these bytes are read as another transaction, or that isn't written as they are.
 fn try_spelling(alloc: Global, schema: &Schema, digits: &str, wanted: &str) -> Result<(), Fail>
     requires { IsSchema schema.now }
 {
     let bytes = hex::decode(alloc, digits)?;
     let txn = read(alloc, schema, &bytes)?;
-    let mut told = String::new(alloc);
-    put_told(&txn, &mut told)?;
-    if told.as_str() != wanted {
-        return Err(Fail::new(told));
-    }
-    let out = written(alloc, schema, &txn)?;
-    if out.get(1..) != Some(bytes.as_slice()) {
-        return Err(Fail::new("written otherwise"));
-    }
-    Ok(())
+    try_told(alloc, &txn, wanted)?;
+    try_written(alloc, schema, &txn, &bytes)
 }
 
 #[test]
@@ -94,44 +107,58 @@ fn alone(alloc: Global, schema: &Schema, op: TxnOp) -> Result<Txn, Fail>
     })
 }
 
-#[test]
-fn an_insertion_is_written_as_a_put(rt: HostRuntime) -> Result<(), Fail> {
-    let schema = short_schema(rt.alloc())?;
-    let bytes = hex::decode(rt.alloc(), SHORT)?;
-    let txn = read(rt.alloc(), &schema, &bytes)?;
-    let txn = insertion(rt.alloc(), &schema, txn)?;
-    let out = written(rt.alloc(), &schema, &txn)?;
-    assert!(rt; out.get(1..) == Some(bytes.as_slice()));
-    Ok(())
+/// Fails where the last document of a payload, inserted, isn't written as the payload.
+fn try_insertion(alloc: Global, schema: &Schema, digits: &str) -> Result<(), Fail>
+    requires { IsSchema schema.now }
+{
+    let bytes = hex::decode(alloc, digits)?;
+    let txn = insertion(alloc, schema, read(alloc, schema, &bytes)?)?;
+    try_written(alloc, schema, &txn, &bytes)
 }
 
-/// What the columns of a schema are written as.
-fn columns(alloc: Global, schema: &Schema) -> Result<Vec<u8>, Fail> {
+#[test]
+fn an_insertion_is_written_as_a_put(rt: HostRuntime) -> Result<(), Fail> {
+    try_insertion(rt.alloc(), &short_schema(rt.alloc())?, SHORT)
+}
+
+/// Whether the columns of a schema are written so.
+fn are_columns(alloc: Global, schema: &Schema, wanted: &[u8]) -> Result<bool, Fail> {
     let mut out = Vec::new(alloc);
     put_schema(schema, &mut out)?;
-    Ok(out)
+    Ok(out.as_slice() == wanted)
+}
+
+/// An attribute of each kind.
+const ATTRS: [(&[u8], AttrKind); 4] = [
+    (b"a", AttrKind::Uint),
+    (b"b", AttrKind::Bool),
+    (b"c", AttrKind::Bigint),
+    (b"d", AttrKind::Timestamp),
+];
+
+fn attrs(alloc: Global) -> Result<Items<(Name, AttrKind)>, Fail> {
+    let mut attrs = Vec::new(alloc);
+    for (name, kind) in ATTRS {
+        attrs.push((Name::from_slice(alloc, name)?, kind))?;
+    }
+    Ok(Items::new(attrs))
 }
 
 /// A schema with an attribute of each kind.
 fn with_each_kind(alloc: Global) -> Result<Schema, Fail> {
-    let mut attrs = Vec::new(alloc);
-    attrs.push((Name::from_slice(alloc, b"a")?, AttrKind::Uint))?;
-    attrs.push((Name::from_slice(alloc, b"b")?, AttrKind::Bool))?;
-    attrs.push((Name::from_slice(alloc, b"c")?, AttrKind::Bigint))?;
-    attrs.push((Name::from_slice(alloc, b"d")?, AttrKind::Timestamp))?;
+    let attrs = attrs(alloc)?;
     let mut schema = long_schema(alloc)?;
-    schema.attrs = Items::new(attrs);
+    schema.attrs = attrs;
     Ok(schema)
 }
 
+/// How it is written.
+const EACH_KIND: &[u8] = b"field title\nfield body\nuint a\nbool b\nbigint c\ntimestamp d\n";
+
 #[test]
 fn a_schema_has_a_line_for_each_column(rt: HostRuntime) -> Result<(), Fail> {
-    let short = columns(rt.alloc(), &short_schema(rt.alloc())?)?;
-    assert!(rt; short.as_slice() == b"field title\n".as_slice());
-    let long = columns(rt.alloc(), &with_each_kind(rt.alloc())?)?;
-    assert!(rt;
-        long.as_slice()
-            == b"field title\nfield body\nuint a\nbool b\nbigint c\ntimestamp d\n".as_slice()
-    );
+    let alloc = rt.alloc();
+    assert!(rt; are_columns(alloc, &short_schema(alloc)?, b"field title\n")?);
+    assert!(rt; are_columns(alloc, &with_each_kind(alloc)?, EACH_KIND)?);
     Ok(())
 }

@@ -70,16 +70,28 @@ fn field(alloc: Global, text: &str) -> Result<FieldTokens, NoMemory>
     ensures field { IfOk result IsField }
     ensures few { IfOk result (λ tokens. length tokens.spans < 1000) }
 {
-    if text.len() >= 1000 {
-        return Err(NoMemory);
-    }
     let charset = Charset::default_table(alloc)?;
     let rules = MarkRules {
         strip: false,
         sp: false,
         zones: Items::new(Vec::new(alloc)),
     };
-    match tokens(alloc, &charset, &rules, text) {
+    tokens_of(alloc, &charset, &rules, text)
+}
+
+fn tokens_of(
+    alloc: Global,
+    charset: &Charset,
+    rules: &MarkRules,
+    text: &str,
+) -> Result<FieldTokens, NoMemory>
+    ensures field { IfOk result IsField }
+    ensures few { IfOk result (λ tokens. length tokens.spans < 1000) }
+{
+    if text.len() >= 1000 {
+        return Err(NoMemory);
+    }
+    match tokens(alloc, charset, rules, text) {
         Ok(found) if found.spans.len() < 1000 => Ok(found),
         _ => Err(NoMemory),
     }
@@ -150,14 +162,24 @@ fn an_image_of_one_document(rt: HostRuntime) -> Result<(), Fail> {
     Ok(())
 }
 
+/// The image of the two, which are lent.
+fn lent_image(alloc: Global) -> Result<Vec<u8>, NoMemory> {
+    let first = document(alloc, 3, FIRST)?;
+    let second = document(alloc, 5, SECOND)?;
+    write_two(alloc, &first, &second)
+}
+
+/// The image of their rows.
+fn image_of_rows(alloc: Global) -> Result<Vec<u8>, NoMemory> {
+    let first = document(alloc, 3, FIRST)?;
+    let second = document(alloc, 5, SECOND)?;
+    write_two_rows(alloc, first, second)
+}
+
 #[test]
 fn an_image_of_two_documents(rt: HostRuntime) -> Result<(), Fail> {
-    let first = document(rt.alloc(), 3, FIRST)?;
-    let second = document(rt.alloc(), 5, SECOND)?;
-    let lent = write_two(rt.alloc(), &first, &second)?;
-    assert!(rt; lent.as_slice() == TWO.as_slice());
-    let image = write_two_rows(rt.alloc(), first, second)?;
-    assert!(rt; image.as_slice() == TWO.as_slice());
+    assert!(rt; lent_image(rt.alloc())?.as_slice() == TWO.as_slice());
+    assert!(rt; image_of_rows(rt.alloc())?.as_slice() == TWO.as_slice());
     Ok(())
 }
 
