@@ -2,8 +2,6 @@
 #![tactic(auto)]
 
 #[cfg(test)]
-mod inserted_one_by_one;
-#[cfg(test)]
 mod over_a_store;
 #[cfg(test)]
 mod over_layers;

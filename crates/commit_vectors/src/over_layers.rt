@@ -2,7 +2,7 @@
 ghost use Rattle.std.specs.Prelude.{◌≡◌, [], ◌<◌, ◌^◌};
 
 use crate::scripts::{schema, txn};
-use crate::telling::{duplicate_told, full_told, snapshot_told};
+use crate::telling::{commit_told, duplicate_told, full_told, try_told};
 use doc_types::{PlainChunk, Snapshot};
 use layer_commit::{Refusal, commit};
 use srch_base::{Items, Or};
@@ -51,9 +51,8 @@ fn told(alloc: Global, snapshot: &mut Snapshot<PlainChunk>, line: &str) -> Resul
     let txn = txn(alloc, line)?;
     match commit(alloc, snapshot, &txn, LIMIT) {
         Ok((next, removed)) => {
-            let layers = snapshot_told(alloc, &next)?;
             *snapshot = next;
-            Ok(format!(in alloc; "{removed} removed, {layers}")?)
+            commit_told(alloc, removed, snapshot)
         }
         Err(Or::Fault(Refusal::Duplicate { id })) => duplicate_told(alloc, id),
         Err(Or::Fault(Refusal::Full(full))) => full_told(alloc, full),
@@ -61,20 +60,22 @@ fn told(alloc: Global, snapshot: &mut Snapshot<PlainChunk>, line: &str) -> Resul
     }
 }
 
+/// Fails where the transaction of a line tells something else.
+fn try_line(alloc: Global, snapshot: &mut Snapshot<PlainChunk>, line: &str) -> Result<(), Fail> {
+    let (text, wanted) = line.split_once(" ⇒ ").ok_or("a line without an arrow")?;
+    let found = told(alloc, snapshot, text)?;
+    try_told(text, found.as_str(), wanted)
+}
+
 #[test]
 fn commits_over_layers(rt: HostRuntime) -> Result<(), Fail> {
-    let alloc = rt.alloc();
     let mut snapshot = Snapshot {
         number: 0,
         shape: 0,
-        layers: Items::new(Vec::new(alloc)),
+        layers: Items::new(Vec::new(rt.alloc())),
     };
     for line in COMMITS.lines().skip(1) {
-        let (text, wanted) = line.split_once(" ⇒ ").ok_or("a line without an arrow")?;
-        let found = told(alloc, &mut snapshot, text)?;
-        if found.as_str() != wanted {
-            return Err(Fail::new(format!(in alloc; "{text} ⇒ {found}")?));
-        }
+        try_line(rt.alloc(), &mut snapshot, line)?;
     }
     Ok(())
 }

@@ -45,7 +45,7 @@ fn op(alloc: Global, word: &str) -> Result<TxnOp, Fail>
         return Ok(TxnOp::Clear);
     }
     let (sign, number) = word.split_at_checked(1).ok_or("no operation")?;
-    let id = number.parse::<u64>().map_err(|_| Fail::from("no id"))?;
+    let id = number.parse::<u64>()?;
     match sign {
         "+" => Ok(TxnOp::Insert(doc(alloc, id))),
         "=" => Ok(TxnOp::Put(doc(alloc, id))),

@@ -21,18 +21,27 @@ fn tell_layer<C: Chunk>(layer: &Layer<C>, text: &mut String) -> Result<(), Fail>
     Ok(())
 }
 
-/// The number of the last commit, and the layers after a `/` each.
-pub(crate) fn snapshot_told<C: Chunk>(
+/// How many ids a commit removed, its number, and the layers after a `/` each.
+pub(crate) fn commit_told<C: Chunk>(
     alloc: Global,
+    removed: u32,
     snapshot: &Snapshot<C>,
 ) -> Result<String, Fail> {
     let number = snapshot.number;
-    let mut text = format!(in alloc; "{number}")?;
+    let mut text = format!(in alloc; "{removed} removed, {number}")?;
     for layer in snapshot.layers.as_slice() {
         text.push_str(" /")?;
         tell_layer(layer, &mut text)?;
     }
     Ok(text)
+}
+
+/// Fails where something else is told of a transaction than what is wanted.
+pub(crate) fn try_told(text: &str, told: &str, wanted: &str) -> Result<(), Fail> {
+    if told == wanted {
+        return Ok(());
+    }
+    Err(Fail::new(format_args!("{text} ⇒ {told}")))
 }
 
 /// A refusal at an id that is there.

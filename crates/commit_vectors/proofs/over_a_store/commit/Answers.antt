@@ -1,7 +1,7 @@
 use Rattle.std.proofs.Common.{rules, ◌≡◌, []}
 use Rattle.doc_types.specs.declared.schema.Schema.{Schema}
 use Rattle.doc_types.specs.Transactions.{IsTxnOf}
-use Rattle.commit_vectors.proofs.over_a_store.told.Goals as goal
+use Rattle.commit_vectors.proofs.over_a_store.commit.Goals as goal
 
 pub commit-requires : goal.commit-requires
 commit-requires c =
