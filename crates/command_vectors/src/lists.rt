@@ -7,47 +7,50 @@ use command_line::{Mode, read_mode};
 use std::alloc::Global;
 use std::test::Fail;
 
-/// A mode with the values of its options, as the tables tell it.
-fn mode_told(alloc: Global, mode: Mode) -> Result<String, Fail> {
-    let text = match mode {
-        Mode::Session { config } => format!(in alloc; "session config={config}")?,
+/// Puts a mode with the values of its options, as the tables tell it.
+fn put_mode(mode: Mode<'_>, text: &mut String) -> Result<(), Fail> {
+    match mode {
+        Mode::Session { config } => write!(text, "session config={config}")?,
         Mode::Serve {
             config,
             listen,
             workers,
             sessions,
         } => {
-            format!(in alloc;
-                "serve config={config} listen={listen} workers={workers} sessions={sessions}"
-            )?
+            write!(text, "serve config={config} listen={listen} ")?;
+            write!(text, "workers={workers} sessions={sessions}")?;
         }
-        Mode::Check { config } => format!(in alloc; "check config={config}")?,
-        Mode::Selftest { number, docs } => {
-            format!(in alloc; "selftest number={number} docs={docs}")?
-        }
-    };
+        Mode::Check { config } => write!(text, "check config={config}")?,
+        Mode::Selftest { number, docs } => write!(text, "selftest number={number} docs={docs}")?,
+    }
+    Ok(())
+}
+
+/// What some words stand for.
+fn told(alloc: Global, words: &[String]) -> Result<String, Fail> {
+    let mut text = String::new(alloc);
+    match read_mode(alloc, words)? {
+        Some(mode) => put_mode(mode, &mut text)?,
+        None => text.push_str("Usage")?,
+    }
     Ok(text)
 }
 
 /// What the words of a line stand for.
-fn told(alloc: Global, line: &str) -> Result<String, Fail> {
+fn line_told(alloc: Global, line: &str) -> Result<String, Fail> {
     let words = words_of(alloc, line)?;
-    match read_mode(alloc, words.as_slice())? {
-        Some(mode) => mode_told(alloc, mode),
-        None => Ok(String::from_str(alloc, "Usage")?),
-    }
+    told(alloc, words.as_slice())
 }
 
 /// Fails where the words of a line stand for something else, and says what for.
 fn try_line(alloc: Global, line: &str) -> Result<(), Fail> {
     let (words, meant) = line.split_once(" ⇒ ").ok_or("a line without an arrow")?;
-    let found = told(alloc, words)?;
+    let found = line_told(alloc, words)?;
     let wanted = written_out(alloc, meant)?;
     if found.as_str() == wanted.as_str() {
-        Ok(())
-    } else {
-        Err(Fail::new(format!(in alloc; "{words} ⇒ {found}")?))
+        return Ok(());
     }
+    Err(Fail::new(format_args!("{words} ⇒ {found}")))
 }
 
 /// Tries each line of a table.

@@ -9,7 +9,7 @@ fn push_spelled(text: &mut String, spelled: &str) -> Result<(), Fail> {
         return Ok(());
     }
     let (part, count) = spelled.split_once('×').ok_or("nothing is spelled so")?;
-    for _ in 0..count.parse::<u32>().or(Err("no number"))? {
+    for _ in 0..count.parse::<u32>()? {
         text.push_str(part)?;
     }
     Ok(())
