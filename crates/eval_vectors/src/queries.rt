@@ -42,23 +42,18 @@ pub(crate) enum Asked {
 }
 
 /// What a query comes to. Nothing that it has is let go here, so that its exits are cheap to prove.
-fn answer_of<C: HitLists>(
-    alloc: Global,
-    query: &Query,
-    chunk: &C,
-    asked: &Asked,
-) -> Result<String, Fail>
+fn answer_of<C: HitLists>(alloc: Global, query: &Query, chunk: &C, asked: &Asked) -> Option<String>
     requires { length (query_keys query.now) < 2 ^ 16 }
 {
     match asked {
         Asked::Found => told(alloc, query, chunk),
         Asked::Count => {
-            let count = matching(alloc, query, chunk)?.len();
-            Ok(format!(in alloc; "{count}")?)
+            let count = matching(alloc, query, chunk).ok()?.len();
+            format!(in alloc; "{count}").ok()
         }
         Asked::Opens => {
             let opens = matching(alloc, query, chunk).is_err();
-            Ok(String::from_str(alloc, if opens { "a list" } else { "no list" })?)
+            String::from_str(alloc, if opens { "a list" } else { "no list" }).ok()
         }
     }
 }
@@ -74,7 +69,10 @@ pub(crate) fn answer<C: HitLists>(
     requires { IsSoundIndex index.now }
 {
     let query = query_of(alloc, text, index)?;
-    answer_of(alloc, &query, chunk, asked)
+    match answer_of(alloc, &query, chunk, asked) {
+        Some(answer) => Ok(answer),
+        None => Err("no answer".into()),
+    }
 }
 
 /// Fails with the first of these lines whose query comes to something else, and with what it comes to.
