@@ -101,19 +101,19 @@ pub(crate) fn no_chunk(alloc: Global) -> Result<PlainChunk, NoMemory>
 }
 
 /// The number of the first row of which the chunk answers otherwise.
-fn first_other_row<C: Chunk>(alloc: Global, chunk: &C) -> Result<Option<usize>, Fail>
+fn first_other_row<C: Chunk>(alloc: Global, chunk: &C) -> Option<Option<usize>>
     requires { All HasColumns (C.content chunk.now) }
 {
     for (at, expected) in ROWS.iter().enumerate() {
         if at >= chunk.rows() as usize {
-            return Ok(Some(at));
+            return Some(Some(at));
         }
         let found = told_row(alloc, chunk, at as u32)?;
         if found.as_str() != *expected {
-            return Ok(Some(at));
+            return Some(Some(at));
         }
     }
-    Ok(None)
+    Some(None)
 }
 
 /// The number of the first document that isn't found by its id.
@@ -127,17 +127,17 @@ fn first_other_id<C: Chunk>(chunk: &C) -> Option<usize> {
 }
 
 /// The number of the first word of which the chunk answers otherwise.
-fn first_other_word<C: HitLists>(alloc: Global, chunk: &C) -> Result<Option<usize>, Fail> {
+fn first_other_word<C: HitLists>(alloc: Global, chunk: &C) -> Option<Option<usize>> {
     for (at, (word, expected)) in WORDS.iter().enumerate() {
         if at >= chunk.words() as usize || chunk.word_at(at as u32) != word.as_bytes() {
-            return Ok(Some(at));
+            return Some(Some(at));
         }
-        let found = told_word(alloc, chunk, word.as_bytes())?.ok_or("no row")?;
+        let found = told_word(alloc, chunk, word.as_bytes())?;
         if found.as_str() != *expected || !is_passed_over(chunk, word.as_bytes(), expected) {
-            return Ok(Some(at));
+            return Some(Some(at));
         }
     }
-    Ok(None)
+    Some(None)
 }
 
 /// Whether the word is counted in as many rows as are told, and its cursor passes over rows as it goes over them.
@@ -153,72 +153,52 @@ fn has_absent<C: Chunk>(chunk: &C) -> bool {
         || NO_IDS.iter().any(|id| chunk.find(*id).is_some())
 }
 
+/// How many rows, fields and words the chunk has; the numbers of the first row, the first document and the first word of which it
+/// answers otherwise; and whether it has what is absent.
+type Answers = ((u32, u16, u32), [Option<usize>; 3], bool);
+
+/// The answers of a chunk of the documents.
+const WANTED: Answers = ((10, 3, 30), [None, None, None], false);
+
+fn answers<C: HitLists>(alloc: Global, chunk: &C) -> Option<Answers>
+    requires { All HasColumns (C.content chunk.now) }
+{
+    let others = [
+        first_other_row(alloc, chunk)?,
+        first_other_id(chunk),
+        first_other_word(alloc, chunk)?,
+    ];
+    let counts = (chunk.rows(), chunk.fields(), chunk.words());
+    Some((counts, others, has_absent(chunk)))
+}
+
 #[test]
-fn a_chunk_answers_by_its_rows(rt: HostRuntime) -> Result<(), Fail> {
+fn a_chunk_answers_by_its_documents(rt: HostRuntime) -> Result<(), Fail> {
     let chunk = the_chunk(rt.alloc())?;
-    assert_eq!(rt; chunk.rows(), 10);
-    assert_eq!(rt; chunk.fields(), 3);
-    assert_eq!(rt; first_other_row(rt.alloc(), &chunk)?, None);
-    assert_eq!(rt; first_other_id(&chunk), None);
+    assert_eq!(rt; answers(rt.alloc(), &chunk), Some(WANTED));
     Ok(())
 }
 
 #[test]
-fn a_chunk_answers_by_its_words(rt: HostRuntime) -> Result<(), Fail> {
-    let chunk = the_chunk(rt.alloc())?;
-    assert_eq!(rt; chunk.words(), 30);
-    assert_eq!(rt; first_other_word(rt.alloc(), &chunk)?, None);
-    assert!(rt; !has_absent(&chunk));
-    Ok(())
-}
-
-#[test]
-fn a_chunk_of_any_kind_answers_by_its_rows(rt: HostRuntime) -> Result<(), Fail> {
+fn a_chunk_of_any_kind_answers_by_its_documents(rt: HostRuntime) -> Result<(), Fail> {
     let chunk = AnyChunk::Ram(the_image(rt.alloc())?);
-    assert_eq!(rt; chunk.rows(), 10);
-    assert_eq!(rt; chunk.fields(), 3);
-    assert_eq!(rt; first_other_row(rt.alloc(), &chunk)?, None);
-    assert_eq!(rt; first_other_id(&chunk), None);
+    assert_eq!(rt; answers(rt.alloc(), &chunk), Some(WANTED));
     Ok(())
 }
 
 #[test]
-fn a_chunk_of_any_kind_answers_by_its_words(rt: HostRuntime) -> Result<(), Fail> {
-    let chunk = AnyChunk::Ram(the_image(rt.alloc())?);
-    assert_eq!(rt; chunk.words(), 30);
-    assert_eq!(rt; first_other_word(rt.alloc(), &chunk)?, None);
-    assert!(rt; !has_absent(&chunk));
+fn an_image_answers_by_its_documents(rt: HostRuntime) -> Result<(), Fail> {
+    let chunk = the_image(rt.alloc())?;
+    assert_eq!(rt; answers(rt.alloc(), &chunk), Some(WANTED));
     Ok(())
 }
 
 #[test]
 fn a_chunk_may_have_no_row(rt: HostRuntime) -> Result<(), Fail> {
     let chunk = no_chunk(rt.alloc())?;
-    assert_eq!(rt; chunk.rows(), 0);
-    assert_eq!(rt; chunk.fields(), 0);
-    assert_eq!(rt; chunk.words(), 0);
+    assert_eq!(rt; (chunk.rows(), chunk.fields(), chunk.words()), (0, 0, 0));
     assert!(rt; !has_absent(&chunk));
-    assert_eq!(rt; chunk.find(1), None);
-    assert_eq!(rt; chunk.start(b"hello"), None);
-    Ok(())
-}
-
-#[test]
-fn an_image_answers_by_its_rows(rt: HostRuntime) -> Result<(), Fail> {
-    let chunk = the_image(rt.alloc())?;
-    assert_eq!(rt; chunk.rows(), 10);
-    assert_eq!(rt; chunk.fields(), 3);
-    assert_eq!(rt; first_other_row(rt.alloc(), &chunk)?, None);
-    assert_eq!(rt; first_other_id(&chunk), None);
-    Ok(())
-}
-
-#[test]
-fn an_image_answers_by_its_words(rt: HostRuntime) -> Result<(), Fail> {
-    let chunk = the_image(rt.alloc())?;
-    assert_eq!(rt; chunk.words(), 30);
-    assert_eq!(rt; first_other_word(rt.alloc(), &chunk)?, None);
-    assert!(rt; !has_absent(&chunk));
+    assert!(rt; chunk.find(1).is_none() && chunk.start(b"hello").is_none());
     Ok(())
 }
 

@@ -4,30 +4,29 @@ ghost use Rattle.doc_vectors.specs.steps.Columns.{HasColumns};
 
 use doc_types::{Chunk, Gap, Value};
 use std::alloc::Global;
-use std::test::Fail;
 
 /// Appends the values of the row.
-fn put_values<C: Chunk>(chunk: &C, row: u32, into: &mut String) -> Result<(), Fail>
+fn put_values<C: Chunk>(chunk: &C, row: u32, into: &mut String) -> Option<()>
     requires row { row < length (C.content chunk.now) }
     requires columns { All HasColumns (C.content chunk.now) }
 {
     for attr in 0..2 {
         let Value::Whole(value) = chunk.value(row, attr);
-        write!(into, " {value}")?;
+        write!(into, " {value}").ok()?;
     }
-    Ok(())
+    Some(())
 }
 
 /// Appends the last positions of the fields of the row.
-fn put_lasts<C: Chunk>(alloc: Global, chunk: &C, row: u32, into: &mut String) -> Result<(), Fail>
+fn put_lasts<C: Chunk>(alloc: Global, chunk: &C, row: u32, into: &mut String) -> Option<()>
     requires { row < length (C.content chunk.now) }
 {
     let mut lasts = Vec::new(alloc);
-    chunk.lasts(row, &mut lasts)?;
+    chunk.lasts(row, &mut lasts).ok()?;
     for last in lasts.iter() {
-        write!(into, " {last}")?;
+        write!(into, " {last}").ok()?;
     }
-    Ok(())
+    Some(())
 }
 
 fn letter(gap: Gap) -> &'static str {
@@ -39,46 +38,46 @@ fn letter(gap: Gap) -> &'static str {
 }
 
 /// Appends the boundaries of the row.
-fn put_gaps<C: Chunk>(alloc: Global, chunk: &C, row: u32, into: &mut String) -> Result<(), Fail>
+fn put_gaps<C: Chunk>(alloc: Global, chunk: &C, row: u32, into: &mut String) -> Option<()>
     requires { row < length (C.content chunk.now) }
 {
     let mut gaps = Vec::new(alloc);
-    chunk.gaps(row, &mut gaps)?;
+    chunk.gaps(row, &mut gaps).ok()?;
     for (field, (position, gap)) in gaps.iter() {
         let gap = letter(*gap);
-        write!(into, " {field}.{position}{gap}")?;
+        write!(into, " {field}.{position}{gap}").ok()?;
     }
-    Ok(())
+    Some(())
 }
 
 /// Appends the spans of the row.
-fn put_spans<C: Chunk>(alloc: Global, chunk: &C, row: u32, into: &mut String) -> Result<(), Fail>
+fn put_spans<C: Chunk>(alloc: Global, chunk: &C, row: u32, into: &mut String) -> Option<()>
     requires { row < length (C.content chunk.now) }
 {
     let mut spans = Vec::new(alloc);
-    chunk.spans(row, &mut spans)?;
+    chunk.spans(row, &mut spans).ok()?;
     for (field, span) in spans.iter() {
         let (zone, first, last) = (span.zone, span.first, span.last);
-        write!(into, " {field}.{first}-{last}:{zone}")?;
+        write!(into, " {field}.{first}-{last}:{zone}").ok()?;
     }
-    Ok(())
+    Some(())
 }
 
 /// What the chunk answers of the row: its id and commit, its values, and of its fields the last positions, the boundaries and the
 /// spans.
-pub(crate) fn told_row<C: Chunk>(alloc: Global, chunk: &C, row: u32) -> Result<String, Fail>
+pub(crate) fn told_row<C: Chunk>(alloc: Global, chunk: &C, row: u32) -> Option<String>
     requires row { row < length (C.content chunk.now) }
     requires columns { All HasColumns (C.content chunk.now) }
 {
     let mut text = String::new(alloc);
     let (id, born) = (chunk.id(row), chunk.born(row));
-    write!(text, "{id} by {born}:")?;
+    write!(text, "{id} by {born}:").ok()?;
     put_values(chunk, row, &mut text)?;
-    text.push_str(", last")?;
+    text.push_str(", last").ok()?;
     put_lasts(alloc, chunk, row, &mut text)?;
-    text.push_str(", gaps")?;
+    text.push_str(", gaps").ok()?;
     put_gaps(alloc, chunk, row, &mut text)?;
-    text.push_str(", spans")?;
+    text.push_str(", spans").ok()?;
     put_spans(alloc, chunk, row, &mut text)?;
-    Ok(text)
+    Some(text)
 }

@@ -7,7 +7,6 @@ use srch_base::Steps;
 use std::alloc::Global;
 use std::marker::Brand;
 use std::sync::ledger::{Blank, Ledger};
-use std::test::Fail;
 
 /// Appends a row that has a word, with the fields that do as bits, and the word's places in it.
 fn put_places<L: Ledger, C: HitLists>(
@@ -17,18 +16,18 @@ fn put_places<L: Ledger, C: HitLists>(
     row: u32,
     steps: &mut Steps<L>,
     into: &mut String,
-) -> Result<(), Fail>
+) -> Option<()>
     requires belongs { C.belongs chunk.now cursor.now }
     requires left { IsSome (next_row (C.place chunk.now cursor.now)) }
 {
     let mut places = Vec::new(alloc);
     let fields = chunk.fields_at(cursor, steps);
-    chunk.open(cursor, &mut places, steps)?;
-    write!(into, " {row}/{fields}:")?;
+    chunk.open(cursor, &mut places, steps).ok()?;
+    write!(into, " {row}/{fields}:").ok()?;
     for (field, position) in places.iter() {
-        write!(into, " {field}.{position}")?;
+        write!(into, " {field}.{position}").ok()?;
     }
-    Ok(())
+    Some(())
 }
 
 /// Goes over the rows that have the word, and over none once they are all behind.
@@ -37,17 +36,14 @@ fn told_by<L: Ledger, C: HitLists>(
     chunk: &C,
     word: &[u8],
     blank: Blank,
-) -> Result<Option<String>, Fail>
+) -> Option<String>
     requires name { blank.name ≡ L.name }
     requires parts { blank.parts ≡ L.parts }
     requires some { 0 < blank.parts }
 {
     let mut steps = Steps::<L>::new(blank);
     let mut text = String::new(alloc);
-    let mut cursor = match chunk.start(word) {
-        Some(cursor) => cursor,
-        None => return Ok(None),
-    };
+    let mut cursor = chunk.start(word)?;
     // More turns than there are rows, so that some come after the last row that has the word.
     'rows: for _ in 0..20 {
         if let Some(row) = chunk.row(&cursor) {
@@ -55,15 +51,11 @@ fn told_by<L: Ledger, C: HitLists>(
         }
         chunk.advance(&mut cursor);
     }
-    Ok(Some(text))
+    Some(text)
 }
 
 /// The rows of the chunk that have the word, each with the word's places in it by field and position.
-pub(crate) fn told_word<C: HitLists>(
-    alloc: Global,
-    chunk: &C,
-    word: &[u8],
-) -> Result<Option<String>, Fail> {
+pub(crate) fn told_word<C: HitLists>(alloc: Global, chunk: &C, word: &[u8]) -> Option<String> {
     told_by::<Brand, C>(alloc, chunk, word, Blank::new(1))
 }
 
