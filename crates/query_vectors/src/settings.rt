@@ -50,7 +50,8 @@ fn configuration(name: &str) -> Option<&'static str> {
 pub(crate) fn conf_of(alloc: Global, name: &str) -> Result<Conf, Fail>
     ensures { IfOk result IsSound }
 {
-    let text = written_out(alloc, configuration(name).ok_or("no such index")?)?;
+    let short = configuration(name).ok_or("no such index")?;
+    let text = written_out(alloc, short).ok_or("no text")?;
     let conf = read_conf(alloc, text.as_bytes())
         .ok()
         .ok_or("no configuration")?;

@@ -64,10 +64,10 @@ ZONE:⟨z × 10000⟩ a ⇒ query: name too long at 0
 
 /// Fails where the keywords of a query of 255 words, all but one of them under NOT, aren't numbered up to 255.
 fn try_most_keywords(alloc: Global) -> Result<(), Fail> {
-    let text = written_out(alloc, "a⟨ -a × 254⟩")?;
+    let text = written_out(alloc, "a⟨ -a × 254⟩").ok_or("no text")?;
     let conf = conf_of(alloc, "rt")?;
     let charset = charset_of(alloc, "default")?;
-    let found = told(alloc, text.as_str(), &conf, &charset, Telling::Numbers)?;
+    let found = told(alloc, text.as_str(), &conf, &charset, Telling::Numbers).ok_or("no query")?;
     if found.as_str().ends_with(" a254 a255") {
         Ok(())
     } else {

@@ -1,34 +1,39 @@
 //! Texts in which `⟨x × n⟩` stands for x written n times, and `⟨tab⟩`, `⟨LF⟩` and `⟨CR⟩` for these characters.
 use std::alloc::Global;
-use std::test::Fail;
+
+/// Appends a text so many times.
+fn push_times(text: &mut String, part: &str, count: &str) -> Option<()> {
+    for _ in 0..count.parse::<u32>().ok()? {
+        text.push_str(part).ok()?;
+    }
+    Some(())
+}
 
 /// Appends what stands between `⟨` and `⟩`, written out.
-fn push_spelled(text: &mut String, spelled: &str) -> Result<(), Fail> {
+fn push_spelled(text: &mut String, spelled: &str) -> Option<()> {
     match spelled {
-        "tab" => text.push('\t')?,
-        "LF" => text.push('\n')?,
-        "CR" => text.push('\r')?,
+        "tab" => text.push('\t').ok(),
+        "LF" => text.push('\n').ok(),
+        "CR" => text.push('\r').ok(),
         _ => {
-            let (part, count) = spelled.split_once(" × ").ok_or("nothing is spelled so")?;
-            for _ in 0..count.parse::<u32>()? {
-                text.push_str(part)?;
-            }
+            let (part, count) = spelled.split_once(" × ")?;
+            push_times(text, part, count)
         }
     }
-    Ok(())
 }
 
 /// A text, written out.
-pub(crate) fn written_out(alloc: Global, short: &str) -> Result<String, Fail> {
+pub(crate) fn written_out(alloc: Global, short: &str) -> Option<String> {
     let mut text = String::new(alloc);
     for part in short.split('⟨') {
-        match part.split_once('⟩') {
+        let after = match part.split_once('⟩') {
             Some((spelled, after)) => {
                 push_spelled(&mut text, spelled)?;
-                text.push_str(after)?;
+                after
             }
-            None => text.push_str(part)?,
-        }
+            None => part,
+        };
+        text.push_str(after).ok()?;
     }
-    Ok(text)
+    Some(text)
 }

@@ -15,7 +15,7 @@ use std::alloc::Global;
 use std::test::Fail;
 
 /// How a query is told.
-#[derive(Clone, Copy, Debug)]
+#[derive(Clone, Copy)]
 pub(crate) enum Telling {
     /// By its written form.
     Tree,
@@ -24,32 +24,25 @@ pub(crate) enum Telling {
 }
 
 /// What a session says of a fault.
-fn fault_text(alloc: Global, fault: &QueryFault) -> Result<String, Fail> {
-    let kind = fault.kind;
-    let place = fault.place;
-    let text = match kind {
+fn fault_text(alloc: Global, fault: &QueryFault) -> Option<String> {
+    let (kind, place) = (fault.kind, fault.place);
+    match kind {
         QueryKind::UnknownField | QueryKind::UnknownZone => {
-            let name = std::str::from_utf8(fault.name.as_bytes()).or(Err("no UTF-8"))?;
-            format!(in alloc; "query: {kind} '{name}' at {place}")?
+            let name = std::str::from_utf8(fault.name.as_bytes()).ok()?;
+            format!(in alloc; "query: {kind} '{name}' at {place}").ok()
         }
-        _ => format!(in alloc; "query: {kind} at {place}")?,
-    };
-    Ok(text)
+        _ => format!(in alloc; "query: {kind} at {place}").ok(),
+    }
 }
 
-fn query_text(
-    alloc: Global,
-    query: &Query,
-    schema: &Schema,
-    telling: Telling,
-) -> Result<String, Fail>
+fn query_text(alloc: Global, query: &Query, schema: &Schema, telling: Telling) -> Option<String>
     requires { IsSchema schema.now }
 {
     match telling {
         Telling::Tree => {
             let mut bytes = Vec::new(alloc);
-            put_query(query, schema, &mut bytes)?;
-            Ok(String::from_utf8(bytes).ok().ok_or("no UTF-8")?)
+            put_query(query, schema, &mut bytes).ok()?;
+            String::from_utf8(bytes).ok()
         }
         Telling::Numbers => numbered(alloc, query),
     }
@@ -62,16 +55,16 @@ fn told_by(
     schema: &Schema,
     charset: &Charset,
     telling: Telling,
-) -> Result<String, Fail>
+) -> Option<String>
     requires { IsSchema schema.now }
 {
     if text.len() > 100_000_000 {
-        return Err("a text above 100 MB".into());
+        return None;
     }
     match read_query(alloc, text, schema, charset) {
         Ok(query) => query_text(alloc, &query, schema, telling),
         Err(Or::Fault(fault)) => fault_text(alloc, &fault),
-        Err(Or::NoMemory) => Err("no memory".into()),
+        Err(Or::NoMemory) => None,
     }
 }
 
@@ -82,13 +75,43 @@ pub(crate) fn told(
     conf: &Conf,
     charset: &Charset,
     telling: Telling,
-) -> Result<String, Fail>
+) -> Option<String>
     requires { IsSound conf.now }
 {
     match conf.indexes.as_slice().split_first() {
         Some((index, _)) => told_by(alloc, text, &index.schema, charset, telling),
-        None => Err("no index".into()),
+        None => None,
     }
+}
+
+/// What a text is that is written so.
+fn told_of(
+    alloc: Global,
+    short: &str,
+    conf: &Conf,
+    charset: &Charset,
+    telling: Telling,
+) -> Option<String>
+    requires { IsSound conf.now }
+{
+    let text = written_out(alloc, short)?;
+    told(alloc, text.as_str(), conf, charset, telling)
+}
+
+/// Whether a text, written out, is this one.
+fn is_written(alloc: Global, short: &str, found: &str) -> bool {
+    match written_out(alloc, short) {
+        Some(text) => text.as_str() == found,
+        None => false,
+    }
+}
+
+/// Fails with a text and with what it is, where this isn't what is wanted.
+fn compare(alloc: Global, short: &str, found: &str, wanted: &str) -> Result<(), Fail> {
+    if is_written(alloc, wanted, found) {
+        return Ok(());
+    }
+    Err(Fail::new(format_args!("{short} ⇒ {found}")))
 }
 
 /// Fails with the first of these lines whose text is something else, and with what it is.
@@ -103,10 +126,9 @@ fn try_lines(
 {
     for line in lines.lines() {
         let (short, wanted) = line.split_once(" ⇒ ").ok_or("a line without an arrow")?;
-        let text = written_out(alloc, short)?;
-        let found = told(alloc, text.as_str(), conf, charset, telling)?;
-        if found.as_str() != written_out(alloc, wanted)?.as_str() {
-            return Err(Fail::new(format!(in alloc; "{short} ⇒ {found}")?));
+        match told_of(alloc, short, conf, charset, telling) {
+            Some(found) => compare(alloc, short, found.as_str(), wanted)?,
+            None => return Err(Fail::new(format_args!("{short} can't be told"))),
         }
     }
     Ok(())
