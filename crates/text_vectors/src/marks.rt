@@ -4,7 +4,7 @@ use mark_scan::{Mark, MarkKind};
 use std::fmt::Write;
 use std::test::Fail;
 
-/// Texts, each after its `html_strip` and `index_sp`, with their marks: their kinds, and the
+/// Texts in an index with the zones `th`, `i`, `td` and `em`, each after its `html_strip` and `index_sp`, with their marks: their kinds, and the
 /// places of their first bytes and after them. In turn: zones and tags; a tag of a zone that closes itself opens nothing, but ends
 /// a paragraph; the end of a comment is searched after its beginning; a `!` of what is no comment ends a sentence; what is no tag is
 /// plain text; an inline tag that is a zone separates, and so does an unknown tag; characters of the same run are looked at across
