@@ -2,7 +2,6 @@
 //! `index_zones`.
 use mark_scan::{Mark, MarkKind};
 use std::fmt::Write;
-use std::test::Fail;
 
 /// Texts in an index with the zones `th`, `i`, `td` and `em`, each after its `html_strip` and `index_sp`, with their marks: their kinds, and the
 /// places of their first bytes and after them. In turn: zones and tags; a tag of a zone that closes itself opens nothing, but ends

@@ -2,7 +2,6 @@
 //! `⟨rt⟩` stands for the first lines of an index, and `⟨x × n⟩` is x written n times, with the number of the time, from 0 on, in
 //! the place of `№`.
 use std::alloc::Global;
-use std::test::Fail;
 
 /// The first lines of an index: its head, its type, its path and a field.
 const RT: &str = "index rt {\ntype = rt\npath = p\nrt_field = f\n";
