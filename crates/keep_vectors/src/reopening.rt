@@ -79,6 +79,25 @@ fn calls_of<R: Wait>(rt: &R, alloc: Global, commits: usize) -> Result<u64, NoMem
     Ok(disk.calls())
 }
 
+/// Whether a crash behind the first calls of a disk leaves the documents after so many commits at least, and so many at most, and a
+/// crash while it is opened leaves the same.
+fn leaves<R: Wait>(
+    rt: &R,
+    alloc: Global,
+    whole: &MemoryDisk,
+    at: (u64, u8),
+    range: (u64, u64),
+) -> Result<bool, NoMemory> {
+    let (disk, found) = reopened(rt, alloc, whole, at.0, at.1)?;
+    let Some((documents, records)) = found else {
+        return Ok(false);
+    };
+    if records < range.0 || range.1 < records || documents != after_records(alloc, records)? {
+        return Ok(false);
+    }
+    gives_again(rt, alloc, &disk, found)
+}
+
 /// Fails where a crash behind the first calls of a disk leaves something else than the documents after so many commits at least,
 /// and so many at most.
 fn try_crash<R: Wait>(
@@ -86,18 +105,14 @@ fn try_crash<R: Wait>(
     alloc: Global,
     whole: &MemoryDisk,
     calls: u64,
-    least: u64,
-    most: u64,
+    range: (u64, u64),
 ) -> Result<(), Fail> {
     for pick in 0..OUTCOMES {
-        let (disk, found) = reopened(rt, alloc, whole, calls, pick)?;
-        let (documents, records) = found.ok_or("a disk in memory that fails")?;
-        let wanted = after_records(alloc, records)?;
-        let within = least <= records && records <= most && documents == wanted;
-        if !within || !gives_again(rt, alloc, &disk, found)? {
-            return Err(Fail::new(format!(in alloc;
-                "{calls} {pick}: {documents} after {records}, of {least} to {most}"
-            )?));
+        if !leaves(rt, alloc, whole, (calls, pick), range)? {
+            let (least, most) = range;
+            return Err(Fail::new(format_args!(
+                "call {calls}, pick {pick}: not what {least} to {most} commits leave"
+            )));
         }
     }
     Ok(())
@@ -111,12 +126,12 @@ fn a_crash_leaves_what_was_acknowledged(rt: HostRuntime) -> Result<(), Fail> {
     let mut from = 0;
     for commits in 0..=SCRIPT.len() {
         let to = calls_of(&rt, alloc, commits)?;
+        let range = (accepted(commits.saturating_sub(1)), accepted(commits));
         for calls in from..to {
-            let least = accepted(commits.saturating_sub(1));
-            try_crash(&rt, alloc, &whole, calls, least, accepted(commits))?;
+            try_crash(&rt, alloc, &whole, calls, range)?;
         }
         from = to;
     }
     let all = accepted(SCRIPT.len());
-    try_crash(&rt, alloc, &whole, whole.calls(), all, all)
+    try_crash(&rt, alloc, &whole, whole.calls(), (all, all))
 }

@@ -26,32 +26,43 @@ pub(crate) struct Ran {
     pub(crate) failed: u32,
 }
 
-/// What became of a commit.
-enum Became {
-    Made,
-    Refused,
-    Failed,
-    InDoubt,
-}
-
-/// Makes one commit.
+/// Makes one commit. Gives whether it takes effect, and how many calls said that the disk failed.
 fn commit_one<D: Disk, J: Naming, R: Wait>(
     rt: &R,
     keeper: &mut Keeper<D, J>,
     token: &mut Token<J>,
     txn: &Txn,
-) -> Result<Became, NoMemory>
+) -> Result<(bool, u32), NoMemory>
     requires ready { IsReady D.Disk J.schema J.base keeper.old token.old }
     requires of { IsTxnOf plain txn.now }
     ensures { IsReady D.Disk J.schema J.base keeper.new token.new }
 {
     match keeper.commit(rt, 1, token, txn) {
-        Ok(_) => Ok(Became::Made),
-        Err(CommitFault::Duplicate { .. }) => Ok(Became::Refused),
-        Err(CommitFault::Refused) => Ok(Became::Failed),
-        Err(CommitFault::InDoubt(Doubt::Disk)) => Ok(Became::InDoubt),
+        Ok(_) => Ok((true, 0)),
+        Err(CommitFault::Duplicate { .. }) => Ok((false, 0)),
+        Err(CommitFault::Refused) => Ok((false, 1)),
+        Err(CommitFault::InDoubt(Doubt::Disk)) => Ok((true, 1)),
         Err(_) => Err(NoMemory),
     }
+}
+
+/// Makes the commit at this place of the script.
+fn commit_at<D: Disk, J: Naming, R: Wait>(
+    rt: &R,
+    alloc: Global,
+    keeper: &mut Keeper<D, J>,
+    token: &mut Token<J>,
+    place: usize,
+) -> Result<(bool, u32), NoMemory>
+    requires { IsReady D.Disk J.schema J.base keeper.old token.old }
+    ensures { IsReady D.Disk J.schema J.base keeper.new token.new }
+{
+    let steps: &[i64] = match SCRIPT.get(place) {
+        Some(steps) => steps,
+        None => &[],
+    };
+    let txn = txn(alloc, steps)?;
+    commit_one(rt, keeper, token, &txn)
 }
 
 /// Makes the first commits of the script.
@@ -67,18 +78,7 @@ fn commit_all<D: Disk, J: Naming, R: Wait>(
     ensures { IsReady D.Disk J.schema J.base keeper.new token.new }
 {
     for place in 0..commits {
-        let steps: &[i64] = match SCRIPT.get(place) {
-            Some(steps) => steps,
-            None => &[],
-        };
-        let txn = txn(alloc, steps)?;
-        let became = commit_one(rt, keeper, token, &txn)?;
-        let (made, failed) = match became {
-            Became::Made => (true, 0),
-            Became::Refused => (false, 0),
-            Became::Failed => (false, 1),
-            Became::InDoubt => (true, 1),
-        };
+        let (made, failed) = commit_at(rt, alloc, keeper, token, place)?;
         ran.made.push(made)?;
         ran.failed = ran.failed.saturating_add(failed);
     }
