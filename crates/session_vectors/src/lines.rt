@@ -1,6 +1,6 @@
 //! Lines from the greeting to each of their ends, with their bytes by the protocol's documentation.
 use crate::running::{TWO, tables_of};
-use crate::spelling::written_out;
+use crate::spelling::{push_written, written_out};
 use ql_session::{LinkEnd, serve_link};
 use srch_base::MemoryLink;
 use std::alloc::Global;
@@ -68,16 +68,23 @@ fn ends(
     Ok(got == end && link.written() == written)
 }
 
+/// The bytes of two texts, one behind the other.
+fn joined(alloc: Global, front: &str, rest: &str) -> Result<Vec<u8>, Fail> {
+    let mut bytes = written_out(alloc, front)?;
+    push_written(&mut bytes, rest)?;
+    Ok(bytes)
+}
+
 /// Fails with what is sent where a line ends otherwise, whose first read gives so many bytes.
 fn try_end(alloc: Global, line: &str, cut: u32) -> Result<(), Fail> {
     let (sent, rest) = line.split_once(" ⇒ ").ok_or("a line without an arrow")?;
     let (end, replies) = rest.split_once(" ⇒ ").ok_or("a line with one arrow")?;
-    let input = written_out(alloc, format!(in alloc; "{RESPONSE}{sent}")?.as_str())?;
-    let written = written_out(alloc, format!(in alloc; "{ACCEPTED}{replies}")?.as_str())?;
-    if ends(alloc, input, cut, end_of(end)?, &written)? {
+    let end = end_of(end)?;
+    let written = joined(alloc, ACCEPTED, replies)?;
+    if ends(alloc, joined(alloc, RESPONSE, sent)?, cut, end, &written)? {
         return Ok(());
     }
-    Err(Fail::new(format!(in alloc; "{sent}, first {cut} bytes")?))
+    Err(Fail::new(format_args!("{sent}, first {cut} bytes")))
 }
 
 /// COM_PING, and its OK.

@@ -2,8 +2,13 @@
 //! set as `id | 2 | 1`, with `''` for an empty cell. A column whose kind isn't that of the column of this name has it behind its
 //! name: `g:Uint`. `; ` follows a reply whose status says that another one follows. The status stands before its reply, as in
 //! `3: OK 1`, but for that of AUTOCOMMIT 1 without a transaction, which is 2, or 10 where another reply follows.
+ghost use Rattle.std.specs.Prelude.{◌≤◌, length};
+
 use itoa::Buffer;
-use mysql_wire::{ColumnKind, read_column, read_eof, read_err, read_lenenc, read_ok, read_row};
+use mysql_wire::{
+    ColumnKind, WireErr, read_column, read_eof, read_err, read_lenenc, read_ok, read_row,
+};
+use srch_base::Text;
 use std::alloc::Global;
 use std::test::Fail;
 
@@ -27,6 +32,17 @@ enum Next {
 pub(crate) fn told(alloc: Global, packets: &[u8]) -> Result<Vec<u8>, Fail> {
     let mut text = Vec::new(alloc);
     let mut reply = Vec::new(alloc);
+    tell_all(alloc, packets, &mut reply, &mut text)?;
+    Ok(text)
+}
+
+/// Appends the replies that packets are, and tells each of them before it is whole apart.
+fn tell_all(
+    alloc: Global,
+    packets: &[u8],
+    reply: &mut Vec<u8>,
+    text: &mut Vec<u8>,
+) -> Result<(), Fail> {
     let mut rest = packets;
     let mut number = 1_u8;
     let mut next = Next::Reply(None);
@@ -35,9 +51,9 @@ pub(crate) fn told(alloc: Global, packets: &[u8]) -> Result<Vec<u8>, Fail> {
             break;
         }
         let (payload, after) = packet(rest, number)?;
-        next = tell(alloc, payload, next, &mut reply)?;
+        next = tell(alloc, payload, next, reply)?;
         if let Next::Reply(status) = next {
-            push_reply(status, &mut reply, &mut text)?;
+            push_reply(status, reply, text)?;
         }
         number = number.wrapping_add(1);
         rest = after;
@@ -45,7 +61,7 @@ pub(crate) fn told(alloc: Global, packets: &[u8]) -> Result<Vec<u8>, Fail> {
     if !rest.is_empty() || !matches!(next, Next::Reply(_)) {
         return Err("a reply is cut off".into());
     }
-    Ok(text)
+    Ok(())
 }
 
 /// Moves a whole reply to the others.
@@ -92,10 +108,9 @@ fn tell(alloc: Global, payload: &[u8], next: Next, text: &mut Vec<u8>) -> Result
 }
 
 /// Appends the first packet of a reply.
-fn tell_reply(alloc: Global, payload: &[u8], text: &mut Vec<u8>) -> Result<Next, Fail> {
-    if payload.len() > LONGEST {
-        return Err("a payload is long".into());
-    }
+fn tell_reply(alloc: Global, payload: &[u8], text: &mut Vec<u8>) -> Result<Next, Fail>
+    requires { length payload.now ≤ 65535 }
+{
     match payload.first() {
         Some(0) => {
             let ok = read_ok(payload).ok().ok_or("no OK")?;
@@ -122,36 +137,45 @@ fn tell_number(number: u64, text: &mut Vec<u8>) -> Result<(), Fail> {
     Ok(())
 }
 
-fn tell_refusal(alloc: Global, payload: &[u8], text: &mut Vec<u8>) -> Result<Next, Fail> {
-    if payload.len() > LONGEST {
-        return Err("a payload is long".into());
-    }
+fn tell_refusal(alloc: Global, payload: &[u8], text: &mut Vec<u8>) -> Result<Next, Fail>
+    requires { length payload.now ≤ 65535 }
+{
     let refusal = read_err(alloc, payload).ok().ok_or("no ERR")?;
+    tell_error(&refusal, text)?;
+    Ok(Next::Reply(None))
+}
+
+fn tell_error(refusal: &WireErr, text: &mut Vec<u8>) -> Result<(), Fail> {
     text.extend_from_slice(b"ERR ")?;
     tell_number(u64::from(refusal.code), text)?;
     text.push(b' ')?;
     text.extend_from_slice(&refusal.state)?;
     text.push(b' ')?;
     text.extend_from_slice(refusal.text.as_bytes())?;
-    Ok(Next::Reply(None))
+    Ok(())
 }
 
-/// Appends a column's name, and its kind where the name doesn't say it. So many columns come after it, itself counted.
-fn tell_column(alloc: Global, payload: &[u8], left: u64, text: &mut Vec<u8>) -> Result<Next, Fail> {
-    if payload.len() > LONGEST {
-        return Err("a payload is long".into());
-    }
+/// Appends a column. So many columns come after it, itself counted.
+fn tell_column(alloc: Global, payload: &[u8], left: u64, text: &mut Vec<u8>) -> Result<Next, Fail>
+    requires { length payload.now ≤ 65535 }
+{
     let column = read_column(alloc, payload).ok().ok_or("no column")?;
-    text.extend_from_slice(column.name.as_bytes())?;
-    if column.kind != kind_by_name(column.name.as_bytes()) {
-        text.push(b':')?;
-        text.extend_from_slice(kind_text(column.kind))?;
-    }
+    tell_name(column.name.as_bytes(), column.kind, text)?;
     if left <= 1 {
         return Ok(Next::Columned);
     }
     text.extend_from_slice(b", ")?;
     Ok(Next::Column(left - 1))
+}
+
+/// Appends a column's name, and its kind where the name doesn't say it.
+fn tell_name(name: &[u8], kind: ColumnKind, text: &mut Vec<u8>) -> Result<(), Fail> {
+    text.extend_from_slice(name)?;
+    if kind != kind_by_name(name) {
+        text.push(b':')?;
+        text.extend_from_slice(kind_text(kind))?;
+    }
+    Ok(())
 }
 
 /// The kind that the column of this name has in the replies of these tests.
@@ -199,17 +223,21 @@ fn kind_text(kind: ColumnKind) -> &'static [u8] {
     }
 }
 
-fn tell_row(alloc: Global, payload: &[u8], status: u16, text: &mut Vec<u8>) -> Result<Next, Fail> {
-    if payload.len() > LONGEST {
-        return Err("a payload is long".into());
-    }
+fn tell_row(alloc: Global, payload: &[u8], status: u16, text: &mut Vec<u8>) -> Result<Next, Fail>
+    requires { length payload.now ≤ 65535 }
+{
     let cells = read_row(alloc, payload).ok().ok_or("no row")?;
+    tell_cells(&cells, text)?;
+    Ok(Next::Row(status))
+}
+
+fn tell_cells(cells: &[Option<Text>], text: &mut Vec<u8>) -> Result<(), Fail> {
     let mut before: &[u8] = b" | ";
-    for cell in &cells {
+    for cell in cells {
         text.extend_from_slice(before)?;
         let value = cell.as_ref().ok_or("a NULL")?.as_bytes();
         text.extend_from_slice(if value.is_empty() { b"''" } else { value })?;
         before = b", ";
     }
-    Ok(Next::Row(status))
+    Ok(())
 }

@@ -102,12 +102,26 @@ fn command<'a>(packet: &'a str, text: &'a [u8]) -> Result<Command<'a>, Fail> {
 }
 
 /// Fails where something else is replied than is wanted, with the packet to which it was replied.
-fn try_replied(alloc: Global, packet: &str, found: Vec<u8>, wanted: &str) -> Result<(), Fail> {
-    if found.as_slice() == written_out(alloc, wanted)?.as_slice() {
+fn try_replied(alloc: Global, packet: &str, found: &[u8], wanted: &str) -> Result<(), Fail> {
+    if found == written_out(alloc, wanted)?.as_slice() {
         return Ok(());
     }
-    let found = String::from_utf8(found).ok().unwrap_or(String::new(alloc));
-    Err(Fail::new(format!(in alloc; "{packet} ⇒ {found}")?))
+    let found = str::from_utf8(found).unwrap_or("no UTF-8");
+    Err(Fail::new(format_args!("{packet} ⇒ {found}")))
+}
+
+/// The packets that are replied to a packet.
+fn packets_to(
+    alloc: Global,
+    clients: &mut Clients,
+    client: Client,
+    packet: &str,
+) -> Result<Vec<u8>, Fail> {
+    let text = written_out(alloc, packet)?;
+    match clients.replied(alloc, client, command(packet, &text)?)? {
+        Some(packets) => Ok(packets),
+        None => Err("the session ends".into()),
+    }
 }
 
 /// Fails where something else is replied to the packet of a line, which the first client sends, or the one whose letter stands
@@ -122,15 +136,12 @@ fn try_line(alloc: Global, clients: &mut Clients, line: &str) -> Result<(), Fail
     if packet == "COM_QUIT" {
         return clients.quit(alloc, client);
     }
-    let spelled = packet.strip_prefix("bytes: ");
-    let packet = spelled.unwrap_or(packet);
-    let text = written_out(alloc, packet)?;
-    let packets = clients.replied(alloc, client, command(packet, &text)?)?;
-    let packets = packets.ok_or("the session ends")?;
-    if spelled.is_some() {
-        return try_replied(alloc, packet, packets, wanted);
+    if let Some(packet) = packet.strip_prefix("bytes: ") {
+        let found = packets_to(alloc, clients, client, packet)?;
+        return try_replied(alloc, packet, &found, wanted);
     }
-    try_replied(alloc, packet, told(alloc, &packets)?, wanted)
+    let found = told(alloc, &packets_to(alloc, clients, client, packet)?)?;
+    try_replied(alloc, packet, &found, wanted)
 }
 
 /// Fails with the first text of a table to which something else is replied, each line in sessions of its own over new indexes. `⏎`

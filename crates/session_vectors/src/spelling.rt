@@ -44,17 +44,23 @@ fn push_spelled(bytes: &mut Vec<u8>, spelled: &str) -> Result<(), Fail> {
     Ok(())
 }
 
-/// The bytes of a text, written out.
-pub(crate) fn written_out(alloc: Global, short: &str) -> Result<Vec<u8>, Fail> {
-    let mut bytes = Vec::new(alloc);
+/// Appends the bytes of a text, written out.
+pub(crate) fn push_written(bytes: &mut Vec<u8>, short: &str) -> Result<(), Fail> {
     for part in short.split('⟨') {
         match part.split_once('⟩') {
             Some((spelled, after)) => {
-                push_spelled(&mut bytes, spelled)?;
+                push_spelled(bytes, spelled)?;
                 bytes.extend_from_slice(after.as_bytes())?;
             }
             None => bytes.extend_from_slice(part.as_bytes())?,
         }
     }
+    Ok(())
+}
+
+/// The bytes of a text, written out.
+pub(crate) fn written_out(alloc: Global, short: &str) -> Result<Vec<u8>, Fail> {
+    let mut bytes = Vec::new(alloc);
+    push_written(&mut bytes, short)?;
     Ok(bytes)
 }
