@@ -28,6 +28,21 @@ fn put_piece(pieces: &mut [Piece], position: u32, piece: Piece) -> Result<(), Fa
     Ok(())
 }
 
+/// Puts a word at those places that are in a field.
+fn put_places(
+    places: &[(u16, u32)],
+    word: u32,
+    field: u16,
+    pieces: &mut [Piece],
+) -> Result<(), Fail> {
+    for (of, position) in places {
+        if *of == field {
+            put_piece(pieces, *position, Piece::Word(word))?;
+        }
+    }
+    Ok(())
+}
+
 /// Puts a word at its positions in a field of a row.
 fn put_hits<C: HitLists, L: Ledger>(
     alloc: Global,
@@ -49,9 +64,38 @@ fn put_hits<C: HitLists, L: Ledger>(
         }
         chunk.advance(&mut cursor);
     }
-    for (field, position) in places.iter() {
-        if *field == at.1 {
-            put_piece(pieces, *position, Piece::Word(word))?;
+    put_places(places.as_slice(), word, at.1, pieces)
+}
+
+/// Room for the positions of a field of a row, from 0 to the last.
+fn room_of<C: Chunk>(alloc: Global, chunk: &C, row: u32, field: u16) -> Result<Vec<Piece>, Fail>
+    requires { row < length (C.content chunk.now) }
+{
+    let mut lasts = Vec::new(alloc);
+    chunk.lasts(row, &mut lasts)?;
+    let last = *lasts.get(field as usize).ok_or("no such field")?;
+    let mut pieces = Vec::new(alloc);
+    for _ in 0..=last {
+        pieces.push(Piece::Nothing)?;
+    }
+    Ok(pieces)
+}
+
+/// Puts the boundaries of a field of a row at their positions.
+fn put_gaps<C: Chunk>(
+    alloc: Global,
+    chunk: &C,
+    row: u32,
+    field: u16,
+    pieces: &mut [Piece],
+) -> Result<(), Fail>
+    requires { row < length (C.content chunk.now) }
+{
+    let mut gaps = Vec::new(alloc);
+    chunk.gaps(row, &mut gaps)?;
+    for (of, (position, gap)) in gaps.iter() {
+        if *of == field {
+            put_piece(pieces, *position, Piece::Boundary(*gap))?;
         }
     }
     Ok(())
@@ -67,19 +111,8 @@ fn pieces_of<C: HitLists, L: Ledger>(
 ) -> Result<Vec<Piece>, Fail>
     requires { row < length (C.content chunk.now) }
 {
-    let mut pieces = Vec::new(alloc);
-    let mut lasts = Vec::new(alloc);
-    chunk.lasts(row, &mut lasts)?;
-    for _ in 0..=*lasts.get(field as usize).ok_or("no such field")? {
-        pieces.push(Piece::Nothing)?;
-    }
-    let mut gaps = Vec::new(alloc);
-    chunk.gaps(row, &mut gaps)?;
-    for (of, (position, gap)) in gaps.iter() {
-        if *of == field {
-            put_piece(pieces.as_mut_slice(), *position, Piece::Boundary(*gap))?;
-        }
-    }
+    let mut pieces = room_of(alloc, chunk, row, field)?;
+    put_gaps(alloc, chunk, row, field, pieces.as_mut_slice())?;
     for word in 0..chunk.words() {
         put_hits(
             alloc,
@@ -117,6 +150,19 @@ fn put_told<C: Chunk>(chunk: &C, piece: Piece, into: &mut String) -> Result<(), 
     Ok(())
 }
 
+/// Appends what stands at each position, but for the first, at which nothing can.
+fn put_pieces<C: Chunk>(chunk: &C, pieces: &[Piece], into: &mut String) -> Result<(), Fail> {
+    into.push('(')?;
+    let mut before = "";
+    for piece in pieces.iter().skip(1) {
+        into.push_str(before)?;
+        put_told(chunk, *piece, into)?;
+        before = " ";
+    }
+    into.push(')')?;
+    Ok(())
+}
+
 /// Appends a field of a row.
 fn put_field<C: HitLists, L: Ledger>(
     alloc: Global,
@@ -129,15 +175,7 @@ fn put_field<C: HitLists, L: Ledger>(
     requires { IsSome (field_at (C.content chunk.now) row field) }
 {
     let pieces = pieces_of(alloc, chunk, steps, row, field)?;
-    into.push('(')?;
-    for (position, piece) in pieces.iter().enumerate().skip(1) {
-        if position > 1 {
-            into.push(' ')?;
-        }
-        put_told(chunk, *piece, into)?;
-    }
-    into.push(')')?;
-    Ok(())
+    put_pieces(chunk, pieces.as_slice(), into)
 }
 
 /// Appends the values of a row.

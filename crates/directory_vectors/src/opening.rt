@@ -45,6 +45,20 @@ fn read_schema(alloc: Global, text: &str) -> Result<Schema, Fail>
     }
 }
 
+/// What the files of a line stand for, of which one lacks so many bytes.
+fn told_files<R: Wait>(
+    rt: &R,
+    alloc: Global,
+    schema: &Schema,
+    files: &str,
+    lacking: usize,
+) -> Result<String, Fail>
+    requires { IsSchema schema.now }
+{
+    let disk = disk_of(alloc, files, lacking)?;
+    told(rt, alloc, disk, schema)
+}
+
 /// Fails where one of the directories of a line stands for something else.
 fn try_line<R: Wait>(rt: &R, alloc: Global, schema: &Schema, line: &str) -> Result<(), Fail>
     requires { IsSchema schema.now }
@@ -53,12 +67,11 @@ fn try_line<R: Wait>(rt: &R, alloc: Global, schema: &Schema, line: &str) -> Resu
     let (about, files) = directories.split_once(" | ").ok_or("a line without files")?;
     let wanted = written_out(alloc, wanted)?;
     for lacking in 0..=most_lacking(files)? {
-        let disk = disk_of(alloc, files, lacking)?;
-        let found = told(rt, alloc, disk, schema)?;
+        let found = told_files(rt, alloc, schema, files, lacking)?;
         if found.as_str() != wanted.as_str() {
-            return Err(Fail::new(format!(in alloc;
+            return Err(Fail::new(format_args!(
                 "{about} ({lacking} bytes lacking) ⇒ {found}, wanted: {wanted}"
-            )?));
+            )));
         }
     }
     Ok(())
