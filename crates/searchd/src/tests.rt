@@ -27,13 +27,17 @@ fn both_streams_are_printed_to(rt: HostRuntime) -> Result<(), Fail> {
     Ok(())
 }
 
-/// The path of a folder of the tests that isn't there.
-fn fresh_path(rt: &HostRuntime, alloc: Global, name: &str) -> Result<String, Fail> {
-    let path = format!(in alloc; "searchd_test_{name}")?;
-    if fs::exists(rt, path.as_str())? {
-        fs::remove_dir_all(rt, path.as_str())?;
+/// The folders of an index, and of one below it.
+const MADE: &str = "searchd_test_made";
+
+const BELOW: &str = "searchd_test_made/index";
+
+/// Removes a folder that an earlier run left.
+fn forget(rt: &HostRuntime, path: &str) -> io::Result<()> {
+    if fs::exists(rt, path)? {
+        fs::remove_dir_all(rt, path)?;
     }
-    Ok(path)
+    Ok(())
 }
 
 /// Why no store is given over a folder.
@@ -47,22 +51,30 @@ fn refusal_beside<H: Host>(host: &mut H, path: &str) -> Option<OpenFault> {
     refusal(host, path)
 }
 
+/// Why no store is given below a folder that isn't there, and whether the folder is there then; and why none is given over the folder,
+/// below it, and over it for the second time.
+fn refusals<H: Host>(
+    rt: &HostRuntime,
+    host: &mut H,
+) -> io::Result<(Option<OpenFault>, bool, [Option<OpenFault>; 3])> {
+    let below = refusal(host, BELOW);
+    let is_there = fs::exists(rt, MADE)?;
+    let later = [
+        refusal(host, MADE),
+        refusal(host, BELOW),
+        refusal_beside(host, MADE),
+    ];
+    Ok((below, is_there, later))
+}
+
 #[test]
 fn a_folder_is_made_for_an_index(rt: HostRuntime) -> Result<(), Fail> {
-    let alloc = rt.alloc();
-    let path = fresh_path(&rt, alloc, "made")?;
-    let below = format!(in alloc; "{path}/index")?;
-    let mut host = host(rt);
-    assert_eq!(rt; refusal(&mut host, below.as_str()), Some(OpenFault::Failed));
-    assert_eq!(rt; fs::exists(&rt, path.as_str())?, false);
-    assert_eq!(rt; refusal(&mut host, path.as_str()), None);
-    assert_eq!(rt; refusal(&mut host, below.as_str()), None);
-    assert_eq!(rt; fs::exists(&rt, below.as_str())?, true);
-    assert_eq!(rt;
-        refusal_beside(&mut host, path.as_str()),
-        Some(OpenFault::Failed)
-    );
-    fs::remove_dir_all(&rt, path.as_str())?;
+    forget(&rt, MADE)?;
+    let (below, is_there, later) = refusals(&rt, &mut host(rt))?;
+    assert_eq!(rt; (below, is_there), (Some(OpenFault::Failed), false));
+    assert_eq!(rt; later, [None, None, Some(OpenFault::Failed)]);
+    assert_eq!(rt; fs::exists(&rt, BELOW)?, true);
+    fs::remove_dir_all(&rt, MADE)?;
     Ok(())
 }
 
@@ -123,28 +135,39 @@ fn is_replied(
 }
 
 /// Whether two clients are greeted before either sends a byte, and the first one finds what the second one then inserts.
+fn are_replied(alloc: Global, first: &mut TcpStream, second: &mut TcpStream) -> io::Result<bool> {
+    let numbers = (greeted(first)?, greeted(second)?);
+    let inserted = is_replied(alloc, second, INSERT, INSERTED)?;
+    let found = is_replied(alloc, first, SELECT, FOUND)?;
+    Ok((numbers == (1, 2) || numbers == (2, 1)) && inserted && found)
+}
+
+/// Whether two clients at this address are.
 fn are_served(rt: &HostRuntime, alloc: Global, address: &str) -> io::Result<bool> {
     let mut first = connected(rt, address)?;
     let mut second = connected(rt, address)?;
-    let numbers = (greeted(&mut first)?, greeted(&mut second)?);
-    let inserted = is_replied(alloc, &mut second, INSERT, INSERTED)?;
-    let found = is_replied(alloc, &mut first, SELECT, FOUND)?;
-    Ok((numbers == (1, 2) || numbers == (2, 1)) && inserted && found)
+    are_replied(alloc, &mut first, &mut second)
 }
+
+/// The folder of the index that is served, the path of the configuration, and its text.
+const SERVED: &str = "searchd_test_served";
+
+const CONFIG: &str = "searchd_test_served.conf";
+
+const TEXT: &[u8] = b"index rt {\ntype = rt\npath = searchd_test_served\nrt_field = title\n}\n";
 
 /// How a run ends that two workers serve at this address, each one client.
 fn served<R: Threads + Wait + Sync>(
     rt: &R,
     outside: HostRuntime,
     alloc: Global,
-    config: &str,
     address: &str,
 ) -> Result<Status, NoMemory> {
     let mut words = Vec::new(alloc);
     for word in [
         "serve",
         "--config",
-        config,
+        CONFIG,
         "--listen",
         address,
         "--workers",
@@ -165,22 +188,25 @@ fn free_address(rt: &HostRuntime, alloc: Global) -> Result<String, Fail> {
     Ok(format!(in alloc; "{address}")?)
 }
 
+/// Removes the configuration and the folder of the index that was served.
+fn clear(rt: &HostRuntime) -> io::Result<()> {
+    fs::remove_file(rt, CONFIG)?;
+    fs::remove_dir_all(rt, SERVED)
+}
+
 #[test]
 fn two_clients_of_the_listener_are_served_at_once(rt: HostRuntime) -> Result<(), Fail> {
     let alloc = rt.alloc();
-    let path = fresh_path(&rt, alloc, "served")?;
-    let config = format!(in alloc; "{path}.conf")?;
-    let text = format!(in alloc; "index rt {{\ntype = rt\npath = {path}\nrt_field = title\n}}\n")?;
-    fs::write(&rt, config.as_str(), text.as_bytes())?;
+    forget(&rt, SERVED)?;
+    fs::write(&rt, CONFIG, TEXT)?;
     let address = free_address(&rt, alloc)?;
-    let (config, address) = (config.as_str(), address.as_str());
+    let address = address.as_str();
     let (status, talked) = join(
         &rt,
-        || served(&rt, rt, alloc, config, address),
+        || served(&rt, rt, alloc, address),
         || are_served(&rt, alloc, address),
     );
     assert!(rt; talked? && status? == Status::Done);
-    fs::remove_file(&rt, config)?;
-    fs::remove_dir_all(&rt, path.as_str())?;
+    clear(&rt)?;
     Ok(())
 }
