@@ -55,19 +55,26 @@ LOG_OF_ANOTHER_LENGTH = 01ff0000000100000000000000010000000107000000000000000200
 LOG_OF_TWO = 011800000003000000000000000100000001030000000000000001000000000163000000000118000000040000000000000001000000010400000000000000010000000001640000000000
 "#;
 
-/// Appends bytes: those behind `0x`, those of a name, or else the packet of a query with this text.
-pub(crate) fn put_bytes(alloc: Global, out: &mut Vec<u8>, words: &str) -> Result<(), Fail> {
-    if let Some(digits) = words.strip_prefix("0x") {
-        out.extend_from_slice(&hex::decode(alloc, digits.as_bytes())?)?;
-        return Ok(());
-    }
+/// The digits of a name.
+fn digits_of(name: &str) -> Option<&'static str> {
     for line in NAMED.lines() {
-        if let Some((name, digits)) = line.split_once(" = ") {
-            if name == words {
-                out.extend_from_slice(&hex::decode(alloc, digits.as_bytes())?)?;
-                return Ok(());
+        if let Some((known, digits)) = line.split_once(" = ") {
+            if known == name {
+                return Some(digits);
             }
         }
+    }
+    None
+}
+
+/// Appends bytes: those behind `0x`, those of a name, or else the packet of a query with this text. No words stand for none.
+fn put_bytes(alloc: Global, out: &mut Vec<u8>, words: &str) -> Result<(), Fail> {
+    if words.is_empty() {
+        return Ok(());
+    }
+    if let Some(digits) = words.strip_prefix("0x").or(digits_of(words)) {
+        out.extend_from_slice(&hex::decode(alloc, digits.as_bytes())?)?;
+        return Ok(());
     }
     let length = u16::try_from(words.len().saturating_add(1))?.to_le_bytes();
     out.extend_from_slice(&[length[0], length[1], 0, 0, 3])?;
@@ -75,13 +82,17 @@ pub(crate) fn put_bytes(alloc: Global, out: &mut Vec<u8>, words: &str) -> Result
     Ok(())
 }
 
+/// Appends bytes with `; ` between, one after another.
+pub(crate) fn put_all(alloc: Global, out: &mut Vec<u8>, words: &str) -> Result<(), Fail> {
+    for part in words.split("; ") {
+        put_bytes(alloc, out, part)?;
+    }
+    Ok(())
+}
+
 /// Bytes with `; ` between, one after another.
 pub(crate) fn bytes_of(alloc: Global, words: &str) -> Result<Vec<u8>, Fail> {
     let mut bytes = Vec::new(alloc);
-    for part in words.split("; ") {
-        if !part.is_empty() {
-            put_bytes(alloc, &mut bytes, part)?;
-        }
-    }
+    put_all(alloc, &mut bytes, words)?;
     Ok(bytes)
 }

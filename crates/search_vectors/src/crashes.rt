@@ -3,7 +3,7 @@
 use crate::disks::{crashed, files_of};
 use crate::runs::{run_row, try_row};
 use crate::turn_host::TurnHost;
-use std::alloc::Global;
+use std::alloc::{AllocError, Global};
 use std::sync::Wait;
 use std::test::Fail;
 use std::thread::Threads;
@@ -21,16 +21,22 @@ the index after that | check --config searchd.conf |  | one ~ |  | - ⇒ 0; asks
 const FILES: &str =
     " 0=010100000000000000240000000c006669656c64207469746c650a00000000000000000300000000000000020000000000 2=012300000001000000000000000100000001070000000000000002000000000568656c6c6f0005776f726c640000000000";
 
+/// Fails where a crash by this pick leaves other files of the first store of a host.
+fn try_files(alloc: Global, host: &TurnHost, pick: u8) -> Result<(), Fail> {
+    let store = host.base.stores_back().first().ok_or("no store came back")?;
+    let files = files_of(alloc, &mut crashed(store, pick)?)?;
+    if files.as_str() != FILES {
+        return Err(Fail::new(format_args!("pick {pick}: files{files}")));
+    }
+    Ok(())
+}
+
 /// Fails where a run comes to something else after crashes by this pick, or a crash leaves other files.
 fn try_pick<R: Threads + Wait + Sync>(rt: &R, alloc: Global, pick: u8) -> Result<(), Fail> {
     let mut last = None;
     for row in CRASHES.lines().skip(1) {
         let host = try_row(rt, alloc, row, last.as_ref(), pick)?;
-        let store = host.base.stores_back().first().ok_or("no store came back")?;
-        let files = files_of(alloc, &mut crashed(store, pick)?)?;
-        if files.as_str() != FILES {
-            return Err(Fail::new(format!(in alloc; "pick {pick}, {row}: files{files}")?));
-        }
+        try_files(alloc, &host, pick)?;
         last = Some(host);
     }
     Ok(())
@@ -45,51 +51,76 @@ fn what_was_told_stays_after_a_crash(rt: HostRuntime) -> Result<(), Fail> {
 }
 
 /// Two insertions, and what is then found.
-const COMMITS: &str =
-    "RESP; INSERT INTO rt VALUES (1,'hello'); INSERT INTO rt VALUES (2,'hello'); SELECT id FROM rt; QUIT";
+const DONE: &str =
+    "RESP; INSERT INTO rt VALUES (1,'hello'); INSERT INTO rt VALUES (2,'hello'); SELECT id FROM rt; QUIT => hello 1; accepted; ok 1 2; ok 1 2; ids 2: 1 2";
 
 /// What a run comes to whose store isn't open, and one that serves its line.
 const UNOPENED: &str = "4; asks searchd.conf, in rt, 1 and 0 back; ! searchd: host fault;";
 
 const SERVED: &str = "0; asks searchd.conf, in rt, 1, 1 and 1 back;";
 
-/// What comes of later calls that fail, in this order: what is replied, and how many documents and records a check finds after a crash,
-/// by each pick.
+/// What comes of later calls that fail, in this order: what is sent and replied, and how many documents and records a check finds after a
+/// crash, by each pick.
 const OUTCOMES: [(&str, [u8; 4]); 5] = [
     (
-        "hello 1; accepted; err 1105 HY000 disk fault: nothing was changed; ok 1 2; ids 2: 2",
+        "RESP; INSERT INTO rt VALUES (1,'hello'); INSERT INTO rt VALUES (2,'hello'); SELECT id FROM rt; QUIT => hello 1; accepted; err 1105 HY000 disk fault: nothing was changed; ok 1 2; ids 2: 2",
         [1, 1, 1, 1],
     ),
     (
-        "hello 1; accepted; err 1105 HY000 disk fault: commit in doubt; ok 1 2; ids 2: 1 2",
+        "RESP; INSERT INTO rt VALUES (1,'hello'); INSERT INTO rt VALUES (2,'hello'); SELECT id FROM rt; QUIT => hello 1; accepted; err 1105 HY000 disk fault: commit in doubt; ok 1 2; ids 2: 1 2",
         [2, 2, 2, 2],
     ),
     (
-        "hello 1; accepted; ok 1 2; err 1105 HY000 disk fault: nothing was changed; ids 2: 1",
+        "RESP; INSERT INTO rt VALUES (1,'hello'); INSERT INTO rt VALUES (2,'hello'); SELECT id FROM rt; QUIT => hello 1; accepted; ok 1 2; err 1105 HY000 disk fault: nothing was changed; ids 2: 1",
         [1, 1, 1, 1],
     ),
     (
-        "hello 1; accepted; ok 1 2; err 1105 HY000 disk fault: commit in doubt; ids 2: 1",
+        "RESP; INSERT INTO rt VALUES (1,'hello'); INSERT INTO rt VALUES (2,'hello'); SELECT id FROM rt; QUIT => hello 1; accepted; ok 1 2; err 1105 HY000 disk fault: commit in doubt; ids 2: 1",
         [1, 1, 1, 1],
     ),
     (
-        "hello 1; accepted; ok 1 2; err 1105 HY000 disk fault: commit in doubt; ids 2: 1",
+        "RESP; INSERT INTO rt VALUES (1,'hello'); INSERT INTO rt VALUES (2,'hello'); SELECT id FROM rt; QUIT => hello 1; accepted; ok 1 2; err 1105 HY000 disk fault: commit in doubt; ids 2: 1",
         [1, 2, 2, 1],
     ),
 ];
 
-/// A session of these packets over one line, whose store fails at this call. Fails where it comes to something else.
-fn session<R: Threads + Wait + Sync>(
+/// The row of a session of these packets over one line, whose store fails at this call.
+fn session(alloc: Global, call: u64, line: &str, told: &str) -> Result<String, AllocError> {
+    format!(in alloc;
+        "call {call} | session --config searchd.conf |  | rt !{call} |  | {line} ⇒ {told}"
+    )
+}
+
+/// Whether a check finds so many documents and records after a crash by this pick.
+fn is_left<R: Threads + Wait + Sync>(
     rt: &R,
     alloc: Global,
-    call: u64,
-    line: &str,
-    told: &str,
-) -> Result<TurnHost, Fail> {
+    before: &TurnHost,
+    pick: u8,
+    count: u8,
+) -> Result<bool, Fail> {
     let row = format!(in alloc;
-        "call {call} | session --config searchd.conf |  | rt !{call} |  | {line} ⇒ {told}"
+        "then | check --config searchd.conf |  | rt ~ |  | - ⇒ 0; asks searchd.conf, in rt, 1 and 0 back; rt: {count} documents, 0 disk chunks, {count} log records;"
     )?;
-    try_row(rt, alloc, row.as_str(), None, 0)
+    let (_, differs) = run_row(rt, alloc, row.as_str(), Some(before), pick)?;
+    Ok(differs.is_empty())
+}
+
+/// Whether checks find so many documents and records after crashes by each pick.
+fn are_left<R: Threads + Wait + Sync>(
+    rt: &R,
+    alloc: Global,
+    before: &TurnHost,
+    counts: &[u8; 4],
+) -> Result<bool, Fail> {
+    let mut pick: u8 = 0;
+    for count in counts {
+        if !is_left(rt, alloc, before, pick, *count)? {
+            return Ok(false);
+        }
+        pick = pick.wrapping_add(1);
+    }
+    Ok(true)
 }
 
 /// Whether this outcome is that of a call that fails.
@@ -99,21 +130,9 @@ fn is_outcome<R: Threads + Wait + Sync>(
     call: u64,
     outcome: &(&str, [u8; 4]),
 ) -> Result<bool, Fail> {
-    let (replies, counts) = outcome;
-    let row = format!(in alloc;
-        "a call | session --config searchd.conf |  | rt !{call} |  | {COMMITS} => {replies} ⇒ {SERVED}"
-    )?;
-    let (host, mut differs) = run_row(rt, alloc, row.as_str(), None, 0)?;
-    let mut pick: u8 = 0;
-    for count in counts {
-        let row = format!(in alloc;
-            "then | check --config searchd.conf |  | rt ~ |  | - ⇒ 0; asks searchd.conf, in rt, 1 and 0 back; rt: {count} documents, 0 disk chunks, {count} log records;"
-        )?;
-        let (_, differs_then) = run_row(rt, alloc, row.as_str(), Some(&host), pick)?;
-        differs.push_str(differs_then.as_str())?;
-        pick = pick.wrapping_add(1);
-    }
-    Ok(differs.is_empty())
+    let row = session(alloc, call, outcome.0, SERVED)?;
+    let (host, differs) = run_row(rt, alloc, row.as_str(), None, 0)?;
+    Ok(differs.is_empty() && are_left(rt, alloc, &host, &outcome.1)?)
 }
 
 /// Fails where a call that fails has neither this outcome nor the next one. Gives the outcome that it has.
@@ -128,24 +147,31 @@ fn outcome_from<R: Threads + Wait + Sync>(
             return Ok(at);
         }
     }
-    Err(Fail::new(format!(in alloc; "call {call} after outcome {from}")?))
+    Err(Fail::new(format_args!("call {call} after outcome {from}")))
 }
 
 /// How many calls a session of this line makes on its store.
 fn calls_of<R: Threads + Wait + Sync>(rt: &R, alloc: Global, line: &str) -> Result<u64, Fail> {
-    let host = session(rt, alloc, 0, line, SERVED)?;
+    let row = session(alloc, 0, line, SERVED)?;
+    let host = try_row(rt, alloc, row.as_str(), None, 0)?;
     let store = host.base.stores_back().first().ok_or("no store came back")?;
     Ok(store.calls())
+}
+
+/// Fails where a run is served whose store fails at this call.
+fn try_unopened<R: Threads + Wait + Sync>(rt: &R, alloc: Global, call: u64) -> Result<(), Fail> {
+    let row = session(alloc, call, DONE, UNOPENED)?;
+    try_row(rt, alloc, row.as_str(), None, 0)?;
+    Ok(())
 }
 
 #[test]
 fn each_call_on_a_store_fails_once(rt: HostRuntime) -> Result<(), Fail> {
     let alloc = rt.alloc();
     let opening = calls_of(&rt, alloc, " => hello 1")?;
-    let line = format!(in alloc; "{COMMITS} => hello 1; accepted; ok 1 2; ok 1 2; ids 2: 1 2")?;
-    let all = calls_of(&rt, alloc, line.as_str())?;
+    let all = calls_of(&rt, alloc, DONE)?;
     for call in 1..=opening {
-        session(&rt, alloc, call, line.as_str(), UNOPENED)?;
+        try_unopened(&rt, alloc, call)?;
     }
     let mut at: usize = 0;
     for call in opening.saturating_add(1)..=all {

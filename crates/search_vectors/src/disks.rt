@@ -60,6 +60,14 @@ fn disk_of(
     crashed(&disk, 1)
 }
 
+/// The name of an index, with the `-` of one without a store.
+pub(crate) fn name_of(index: &str) -> &str {
+    match index.split_once(' ') {
+        Some((name, _)) => name,
+        None => index,
+    }
+}
+
 /// The store of an index, with its path.
 fn store_of(
     alloc: Global,
@@ -69,8 +77,7 @@ fn store_of(
 ) -> Result<(Text, MemoryDisk), Fail>
     ensures { IfOk result (λ store. HidesNothing memory_words.ghosts store.1) }
 {
-    let name = index.split(' ').next().ok_or("no name")?;
-    let path = Text::from_slice(alloc, name.as_bytes())?;
+    let path = Text::from_slice(alloc, name_of(index).as_bytes())?;
     Ok((path, disk_of(alloc, index, before, pick)?))
 }
 
@@ -97,16 +104,27 @@ pub(crate) fn stores_of(
     Ok(stores)
 }
 
+/// Appends a file of a disk, as the words of a table spell it.
+fn put_file<D: Disk>(
+    alloc: Global,
+    disk: &mut D,
+    file: u32,
+    told: &mut String,
+) -> Result<(), Fail> {
+    if let Some(length) = disk.len(file)? {
+        let mut bytes = vec![in alloc; 0; usize::try_from(length)?]?;
+        disk.read(file, 0, &mut bytes)?;
+        write!(told, " {file}=")?;
+        told.push_str(hex::encode(alloc, &bytes)?.as_str())?;
+    }
+    Ok(())
+}
+
 /// The files of a disk below number 4, as the words of a table spell them.
 pub(crate) fn files_of<D: Disk>(alloc: Global, disk: &mut D) -> Result<String, Fail> {
     let mut told = String::new(alloc);
     for file in 0..4 {
-        if let Some(length) = disk.len(file)? {
-            let mut bytes = vec![in alloc; 0; usize::try_from(length)?]?;
-            disk.read(file, 0, &mut bytes)?;
-            let digits = hex::encode(alloc, &bytes)?;
-            write!(told, " {file}={digits}")?;
-        }
+        put_file(alloc, disk, file, &mut told)?;
     }
     Ok(told)
 }
