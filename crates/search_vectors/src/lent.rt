@@ -42,19 +42,6 @@ impl<T: Drop> Lent<T> {
         Ok(())
     }
 
-    /// Remembers one thing that is given, with room for it to come back.
-    pub(crate) fn give_one(&mut self, thing: &T) -> Result<(), NoMemory>
-        ensures gave { OnOk result (map (λ thing. thing.value) self.new.gave.items ≡ map (λ thing. thing.value) self.old.gave.items ++ thing.now ∷ []) }
-        ensures none { OnErr result (self.new.gave.items ≡ self.old.gave.items) }
-        ensures back { self.new.back.items ≡ self.old.back.items }
-    {
-        let out = self.gave.len() - self.back.len();
-        self.back.reserve(out.checked_add(1).ok_or(NoMemory)?)?;
-        self.gave.reserve(1)?;
-        self.gave.push_reserved(Snapshot::of(thing));
-        Ok(())
-    }
-
     /// Takes things back.
     pub(crate) fn take_back(&mut self, mut things: Vec<T>)
         requires { length self.old.back.items + length things.items ≤ length self.old.gave.items }

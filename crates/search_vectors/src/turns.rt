@@ -8,7 +8,7 @@ use std::alloc::Global;
 use std::marker::Model;
 use std::sync::Arc;
 use std::sync::atomic::{AtomicU64, Ordering};
-use std::thread;
+use std::{slice, thread};
 
 /// How often a line looks whether its turn has come, before it goes on all the same.
 const MOST_LOOKS: u32 = 10_000_000;
@@ -115,7 +115,7 @@ impl Door for TurnDoor {
             self.ended = true;
             return Ok(None);
         };
-        if self.lent.give_one(&line).is_err() {
+        if self.lent.give(slice::from_ref(&line)).is_err() {
             self.faults = self.faults.saturating_add(1);
             return Err(Failed);
         }
