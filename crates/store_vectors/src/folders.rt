@@ -355,11 +355,11 @@ fn a_folder_is_open_once(rt: HostRuntime) -> Result<(), Fail> {
 }
 
 /// Writes a log of one record.
-fn write_log(disk: &mut DirDisk<&HostRuntime>, record: &Staged) -> Result<(), Fail>
-    requires { record.now.number < 2 ^ 63 }
+fn write_log(disk: &mut DirDisk<&HostRuntime>, staged: &Staged) -> Result<(), Fail>
+    requires { staged.now.number < 2 ^ 63 }
 {
     let mut log = GateLog::create(disk, LOG)?;
-    log.stage(disk, record)?;
+    log.stage(disk, staged)?;
     log.open_gate(disk)?;
     Ok(())
 }
@@ -368,9 +368,9 @@ fn write_log(disk: &mut DirDisk<&HostRuntime>, record: &Staged) -> Result<(), Fa
 fn written_log(rt: &HostRuntime, path: &str, payload: &[u8]) -> Result<String, Fail>
     requires { length payload.now < 2 ^ 32 }
 {
-    let record = Staged::new(rt.alloc(), 1, payload)?;
+    let staged = Staged::new(rt.alloc(), 1, payload)?;
     let mut disk = DirDisk::open(rt, rt.alloc(), path)?;
-    write_log(&mut disk, &record)?;
+    write_log(&mut disk, &staged)?;
     read_of(rt.alloc(), &mut disk, What::Log)
 }
 

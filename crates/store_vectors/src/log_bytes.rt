@@ -80,15 +80,15 @@ fn put_line(alloc: Global, disk: &mut CarefulDisk, text: &mut String) -> Result<
 fn put_written(
     alloc: Global,
     disk: &mut CarefulDisk,
-    record: &Staged,
+    staged: &Staged,
     text: &mut String,
 ) -> Result<(), Fail>
-    requires { record.now.number < 2 ^ 63 }
+    requires { staged.now.number < 2 ^ 63 }
 {
     remake(disk, LOG, b"an older file")?;
     let mut log = GateLog::create(disk, LOG)?;
     put_line(alloc, disk, text)?;
-    log.stage(disk, record)?;
+    log.stage(disk, staged)?;
     put_line(alloc, disk, text)?;
     log.open_gate(disk)?;
     put_line(alloc, disk, text)
@@ -96,7 +96,7 @@ fn put_written(
 
 /// The record of the worked log.
 fn worked_record(alloc: Global) -> Result<Staged, Fail>
-    ensures { IfOk result (λ record. record.number < 2 ^ 63) }
+    ensures { IfOk result (λ staged. staged.number < 2 ^ 63) }
 {
     let payload = bytes_of(alloc, PAYLOAD)?;
     if payload.len() != 35 {
@@ -106,12 +106,12 @@ fn worked_record(alloc: Global) -> Result<Staged, Fail>
 }
 
 /// The lines of the worked log.
-fn written(alloc: Global, record: &Staged) -> Result<String, Fail>
-    requires { record.now.number < 2 ^ 63 }
+fn written(alloc: Global, staged: &Staged) -> Result<String, Fail>
+    requires { staged.now.number < 2 ^ 63 }
 {
     let mut disk = CarefulDisk::new(MemoryDisk::new(alloc, Vec::new(alloc)));
     let mut text = String::new(alloc);
-    put_written(alloc, &mut disk, record, &mut text)?;
+    put_written(alloc, &mut disk, staged, &mut text)?;
     Ok(text)
 }
 
@@ -196,12 +196,12 @@ const STATES: [(u64, bool, bool); 3] = [
 ];
 
 /// Whether a long record begins so, and its log has these states and is read again.
-fn is_long(alloc: Global, disk: &mut CarefulDisk, record: &Staged) -> Result<bool, Fail>
-    requires { record.now.number < 2 ^ 63 }
+fn is_long(alloc: Global, disk: &mut CarefulDisk, staged: &Staged) -> Result<bool, Fail>
+    requires { staged.now.number < 2 ^ 63 }
 {
-    let begins_so = record.as_bytes().starts_with(LONG);
-    let has_so_many = record.number() == 7 && record.len() == 70_013;
-    let is_staged_so = states(disk, record)? == STATES;
+    let begins_so = staged.as_bytes().starts_with(LONG);
+    let has_so_many = staged.number() == 7 && staged.len() == 70_013;
+    let is_staged_so = states(disk, staged)? == STATES;
     let is_read_so = read_counts(alloc, disk)? == (70_013, 1);
     Ok(begins_so && has_so_many && is_staged_so && is_read_so)
 }
@@ -209,7 +209,7 @@ fn is_long(alloc: Global, disk: &mut CarefulDisk, record: &Staged) -> Result<boo
 #[test]
 fn a_record_says_what_is_staged(rt: HostRuntime) -> Result<(), Fail> {
     let mut disk = CarefulDisk::new(MemoryDisk::new(rt.alloc(), Vec::new(rt.alloc())));
-    let record = Staged::new(rt.alloc(), 7, &[0; 70_000])?;
-    assert!(rt; is_long(rt.alloc(), &mut disk, &record)?);
+    let staged = Staged::new(rt.alloc(), 7, &[0; 70_000])?;
+    assert!(rt; is_long(rt.alloc(), &mut disk, &staged)?);
     Ok(())
 }
