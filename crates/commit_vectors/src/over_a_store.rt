@@ -68,7 +68,7 @@ const INSERTED: &str = "
 
 /// What is told of a commit.
 #[derive(Clone, Copy)]
-enum Told {
+enum Answered {
     Rows,
     Counts,
 }
@@ -100,15 +100,20 @@ fn commit(alloc: Global, store: &mut PlainStore, line: &str) -> Result<CommitOut
 }
 
 /// What becomes of the transaction of a line.
-fn told(alloc: Global, store: &mut PlainStore, line: &str, telling: Told) -> Result<String, Fail>
+fn told(
+    alloc: Global,
+    store: &mut PlainStore,
+    line: &str,
+    telling: Answered,
+) -> Result<String, Fail>
     requires fields { store.old.schema.fields ≡ [] }
     requires attrs { store.old.schema.attrs ≡ [] }
     ensures { store.new.schema ≡ store.old.schema }
 {
     match commit(alloc, store, line)? {
         CommitOutcome::Committed { removed } => match telling {
-            Told::Rows => commit_told(alloc, removed, store.snapshot()),
-            Told::Counts => counts_told(alloc, removed, store.snapshot()),
+            Answered::Rows => commit_told(alloc, removed, store.snapshot()),
+            Answered::Counts => counts_told(alloc, removed, store.snapshot()),
         },
         CommitOutcome::Duplicate { id } => duplicate_told(alloc, id),
         CommitOutcome::Full(full) => full_told(alloc, full),
@@ -117,7 +122,12 @@ fn told(alloc: Global, store: &mut PlainStore, line: &str, telling: Told) -> Res
 }
 
 /// Fails where the transaction of a line tells something else.
-fn try_line(alloc: Global, store: &mut PlainStore, line: &str, telling: Told) -> Result<(), Fail>
+fn try_line(
+    alloc: Global,
+    store: &mut PlainStore,
+    line: &str,
+    telling: Answered,
+) -> Result<(), Fail>
     requires fields { store.old.schema.fields ≡ [] }
     requires attrs { store.old.schema.attrs ≡ [] }
     ensures { store.new.schema ≡ store.old.schema }
@@ -128,7 +138,12 @@ fn try_line(alloc: Global, store: &mut PlainStore, line: &str, telling: Told) ->
 }
 
 /// Fails at the first line of a table that tells something else.
-fn try_lines(alloc: Global, store: &mut PlainStore, table: &str, telling: Told) -> Result<(), Fail>
+fn try_lines(
+    alloc: Global,
+    store: &mut PlainStore,
+    table: &str,
+    telling: Answered,
+) -> Result<(), Fail>
     requires fields { store.old.schema.fields ≡ [] }
     requires attrs { store.old.schema.attrs ≡ [] }
 {
@@ -141,11 +156,11 @@ fn try_lines(alloc: Global, store: &mut PlainStore, table: &str, telling: Told) 
 #[test]
 fn commits_of_a_store(rt: HostRuntime) -> Result<(), Fail> {
     let mut store = PlainStore::new(rt.alloc(), &schema(rt.alloc()))?;
-    try_lines(rt.alloc(), &mut store, COMMITS, Told::Rows)
+    try_lines(rt.alloc(), &mut store, COMMITS, Answered::Rows)
 }
 
 #[test]
 fn commits_one_by_one(rt: HostRuntime) -> Result<(), Fail> {
     let mut store = PlainStore::new(rt.alloc(), &schema(rt.alloc()))?;
-    try_lines(rt.alloc(), &mut store, INSERTED, Told::Counts)
+    try_lines(rt.alloc(), &mut store, INSERTED, Answered::Counts)
 }
