@@ -153,11 +153,11 @@ fn put_told<C: Chunk>(chunk: &C, piece: Piece, into: &mut String) -> Result<(), 
 /// Appends what stands at each position, but for the first, at which nothing can.
 fn put_pieces<C: Chunk>(chunk: &C, pieces: &[Piece], into: &mut String) -> Result<(), Fail> {
     into.push('(')?;
-    let mut before = "";
-    for piece in pieces.iter().skip(1) {
-        into.push_str(before)?;
+    for (number, piece) in pieces.iter().skip(1).enumerate() {
+        if number > 0 {
+            into.push(' ')?;
+        }
         put_told(chunk, *piece, into)?;
-        before = " ";
     }
     into.push(')')?;
     Ok(())

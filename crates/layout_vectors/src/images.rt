@@ -70,28 +70,16 @@ fn field(alloc: Global, text: &str) -> Result<FieldTokens, NoMemory>
     ensures field { IfOk result IsField }
     ensures few { IfOk result (λ tokens. length tokens.spans < 1000) }
 {
+    if text.len() >= 1000 {
+        return Err(NoMemory);
+    }
     let charset = Charset::default_table(alloc)?;
     let rules = MarkRules {
         strip: false,
         sp: false,
         zones: Items::new(Vec::new(alloc)),
     };
-    tokens_of(alloc, &charset, &rules, text)
-}
-
-fn tokens_of(
-    alloc: Global,
-    charset: &Charset,
-    rules: &MarkRules,
-    text: &str,
-) -> Result<FieldTokens, NoMemory>
-    ensures field { IfOk result IsField }
-    ensures few { IfOk result (λ tokens. length tokens.spans < 1000) }
-{
-    if text.len() >= 1000 {
-        return Err(NoMemory);
-    }
-    match tokens(alloc, charset, rules, text) {
+    match tokens(alloc, &charset, &rules, text) {
         Ok(found) if found.spans.len() < 1000 => Ok(found),
         _ => Err(NoMemory),
     }
