@@ -33,53 +33,53 @@ a PARAGRAPH b ⇒ all ⇒ 1
 ";
 
 /// The words but one, with this between them.
-fn words(alloc: Global, between: &str, without: u32) -> Option<String> {
+fn words(alloc: Global, between: &str, without: u32) -> Result<String, Fail> {
     let mut text = String::new(alloc);
     for number in 1..WORDS + 1 {
         if number != without {
             if !text.is_empty() {
-                text.push_str(between).ok()?;
+                text.push_str(between)?;
             }
-            write!(text, "w{number}").ok()?;
+            write!(text, "w{number}")?;
         }
     }
-    Some(text)
+    Ok(text)
 }
 
 /// The documents.
-fn documents(alloc: Global) -> Option<String> {
+fn documents(alloc: Global) -> Result<String, Fail> {
     let all = words(alloc, " ", NO_WORD)?;
     let some = words(alloc, " ", MISSING)?;
-    format!(in alloc; "1 ⇒ {all}\n2 ⇒ {some}\n3 ⇒ none of them").ok()
+    Ok(format!(in alloc; "1 ⇒ {all}\n2 ⇒ {some}\n3 ⇒ none of them")?)
 }
 
 /// What is found of the words but one in a document: the occurrences of all, or the one of all, and the hits.
-fn found_of(alloc: Global, whole: bool, without: u32) -> Option<String> {
+fn found_of(alloc: Global, whole: bool, without: u32) -> Result<String, Fail> {
     let last = if without == NO_WORD { WORDS } else { WORDS - 1 };
     let (mut occs, mut hits) = (String::new(alloc), String::new(alloc));
     if whole {
-        write!(occs, " 0.1-{last}").ok()?;
+        write!(occs, " 0.1-{last}")?;
     }
     let mut number: u32 = 0;
     for position in 1..last + 1 {
         number = number.saturating_add(if position == without { 2 } else { 1 });
         let word = number.saturating_sub(1);
-        write!(hits, " {number}/{word}@0.{position}").ok()?;
+        write!(hits, " {number}/{word}@0.{position}")?;
         if !whole {
-            write!(occs, " 0.{position}-{position}").ok()?;
+            write!(occs, " 0.{position}-{position}")?;
         }
     }
-    format!(in alloc; "{occs},{hits}").ok()
+    Ok(format!(in alloc; "{occs},{hits}")?)
 }
 
 /// What the query finds in these documents.
-fn wanted(alloc: Global, whole: bool, documents: &str) -> Option<String> {
+fn wanted(alloc: Global, whole: bool, documents: &str) -> Result<String, Fail> {
     let first = found_of(alloc, whole, NO_WORD)?;
     if documents == "1" {
-        return format!(in alloc; "1:{first}").ok();
+        return Ok(format!(in alloc; "1:{first}")?);
     }
     let second = found_of(alloc, whole, MISSING)?;
-    format!(in alloc; "1:{first}; 2:{second}").ok()
+    Ok(format!(in alloc; "1:{first}; 2:{second}")?)
 }
 
 /// Fails with the two words if the query of their operator finds something else, and with what it finds.
@@ -90,16 +90,16 @@ fn try_join(alloc: Global, index: &IndexConf, chunk: &RamChunk, line: &str) -> R
     let (occs, documents) = rest.split_once(" ⇒ ").ok_or("a line with one arrow")?;
     let operator = pair.strip_prefix('a').ok_or("no a")?;
     let operator = operator.strip_suffix('b').ok_or("no b")?;
-    let text = words(alloc, operator, NO_WORD).ok_or("no words")?;
+    let text = words(alloc, operator, NO_WORD)?;
     let found = answer(alloc, text.as_str(), index, chunk, &Asked::Found)?;
-    let wanted = wanted(alloc, occs == "all", documents).ok_or("nothing is wanted")?;
+    let wanted = wanted(alloc, occs == "all", documents)?;
     compare(alloc, pair, found.as_str(), wanted.as_str())
 }
 
 #[test]
 fn queries_have_255_words(rt: HostRuntime) -> Result<(), Fail> {
     let index = index_of(rt.alloc(), "paragraphs")?;
-    let documents = documents(rt.alloc()).ok_or("no documents")?;
+    let documents = documents(rt.alloc())?;
     let chunk = chunk_of(rt.alloc(), &index, documents.as_str())?;
     for line in JOINS.lines() {
         try_join(rt.alloc(), &index, &chunk, line)?;

@@ -112,63 +112,51 @@ enum Trial {
     Collected,
 }
 
-fn number(text: Option<&str>) -> Option<i128> {
-    text?.parse::<i128>().ok()
+fn number(text: Option<&str>) -> Result<i128, Fail> {
+    Ok(text.ok_or("no number")?.parse().or(Err("no number"))?)
 }
 
-fn natural(text: Option<&str>) -> Option<u64> {
-    text?.parse::<u64>().ok()
-}
-
-fn short(text: Option<&str>) -> Option<u32> {
-    text?.parse::<u32>().ok()
-}
-
-fn whole(text: Option<&str>) -> Option<i64> {
-    text?.parse::<i64>().ok()
-}
-
-fn column(name: &str) -> Option<ColumnRef> {
+fn column(name: &str) -> Result<ColumnRef, Fail> {
     match name {
-        "id" => Some(ColumnRef::Id),
-        "weight" => Some(ColumnRef::Weight),
-        "attr0" => Some(ColumnRef::Attr(0)),
-        "attr1" => Some(ColumnRef::Attr(1)),
-        "attr2" => Some(ColumnRef::Attr(2)),
-        _ => None,
+        "id" => Ok(ColumnRef::Id),
+        "weight" => Ok(ColumnRef::Weight),
+        "attr0" => Ok(ColumnRef::Attr(0)),
+        "attr1" => Ok(ColumnRef::Attr(1)),
+        "attr2" => Ok(ColumnRef::Attr(2)),
+        _ => Err("no column".into()),
     }
 }
 
-fn comparison(sign: &str) -> Option<CompareOp> {
+fn comparison(sign: &str) -> Result<CompareOp, Fail> {
     match sign {
-        "=" => Some(CompareOp::Equal),
-        "<>" => Some(CompareOp::NotEqual),
-        "<" => Some(CompareOp::Less),
-        ">" => Some(CompareOp::Greater),
-        "<=" => Some(CompareOp::AtMost),
-        ">=" => Some(CompareOp::AtLeast),
-        _ => None,
+        "=" => Ok(CompareOp::Equal),
+        "<>" => Ok(CompareOp::NotEqual),
+        "<" => Ok(CompareOp::Less),
+        ">" => Ok(CompareOp::Greater),
+        "<=" => Ok(CompareOp::AtMost),
+        ">=" => Ok(CompareOp::AtLeast),
+        _ => Err("no comparison".into()),
     }
 }
 
 /// A condition, as the table writes it.
-fn condition(alloc: Global, text: &str) -> Option<Filter> {
+fn condition(alloc: Global, text: &str) -> Result<Filter, Fail> {
     let mut words = text.split(' ');
-    let column = column(words.next()?)?;
-    let sign = words.next()?;
+    let column = column(words.next().ok_or("no column")?)?;
+    let sign = words.next().ok_or("no comparison")?;
     let value = number(words.next())?;
     match sign {
-        "in" | "not-in" => Some(Filter::Among {
+        "in" | "not-in" => Ok(Filter::Among {
             column,
-            values: Items::new(Vec::from_slice(alloc, &[value, number(words.next())?]).ok()?),
+            values: Items::new(Vec::from_slice(alloc, &[value, number(words.next())?])?),
             negated: sign == "not-in",
         }),
-        "between" => Some(Filter::Between {
+        "between" => Ok(Filter::Between {
             column,
             low: value,
             high: number(words.next())?,
         }),
-        _ => Some(Filter::Compare {
+        _ => Ok(Filter::Compare {
             column,
             op: comparison(sign)?,
             value,
@@ -177,97 +165,68 @@ fn condition(alloc: Global, text: &str) -> Option<Filter> {
 }
 
 /// A row of these attributes.
-fn row(alloc: Global, id: u64, weight: u64, held: [i64; 2]) -> Option<Row> {
-    let [first, second] = held;
-    let values = [Value::Whole(first), Value::Whole(second)];
-    Some(Row {
+fn row(alloc: Global, id: u64, weight: u64, held: &[i64]) -> Result<Row, Fail> {
+    let mut values = Vec::new(alloc);
+    for number in held {
+        values.push(Value::Whole(*number))?;
+    }
+    Ok(Row {
         id,
         weight,
-        values: Items::new(Vec::from_array(alloc, values).ok()?),
+        values: Items::new(values),
     })
 }
 
-/// The row of a line of the table.
-fn row_of(alloc: Global, line: &str) -> Option<Row> {
+/// The letter of a row and the row, as the table writes it.
+fn lettered_row(alloc: Global, line: &str) -> Result<(&str, Row), Fail> {
     let mut words = line.split(' ');
-    let _letter = words.next()?;
-    let id = natural(words.next())?;
-    let weight = natural(words.next())?;
-    let held = [whole(words.next())?, whole(words.next())?];
-    row(alloc, id, weight, held)
+    let letter = words.next().ok_or("no letter")?;
+    let id = u64::try_from(number(words.next())?)?;
+    let weight = u64::try_from(number(words.next())?)?;
+    let first = i64::try_from(number(words.next())?)?;
+    let second = i64::try_from(number(words.next())?)?;
+    Ok((letter, row(alloc, id, weight, &[first, second])?))
 }
 
-/// The rows of the table.
-fn all_rows(alloc: Global) -> Option<Vec<Row>> {
-    let mut rows = Vec::new(alloc);
+/// The letters of the rows of which a condition holds, by itself or made ready.
+fn letters_where(alloc: Global, filter: &Filter, trial: &Trial) -> Result<String, Fail> {
+    let conditions = Conditions::over(alloc, std::slice::from_ref(filter))?;
+    let mut letters = String::new(alloc);
     for line in ROWS.lines() {
-        rows.push(row_of(alloc, line)?).ok()?;
+        let (letter, row) = lettered_row(alloc, line)?;
+        let holds = match trial {
+            Trial::Ready => conditions.hold_unweighed(&row) && conditions.hold_weighed(&row),
+            _ => filter.holds(&row),
+        };
+        if holds {
+            letters.push_str(letter)?;
+        }
     }
-    Some(rows)
+    Ok(letters)
 }
 
 /// The letter of the row of the table with this id.
-fn letter_of(id: u64) -> Option<&'static str> {
+fn letter_of(alloc: Global, id: u64) -> Result<&'static str, Fail> {
+    let id = format!(in alloc; "{id}")?;
     for line in ROWS.lines() {
-        let (letter, rest) = line.split_once(' ')?;
-        if natural(rest.split(' ').next())? == id {
-            return Some(letter);
+        let (letter, rest) = line.split_once(' ').ok_or("no letter")?;
+        if rest.split(' ').next() == Some(id.as_str()) {
+            return Ok(letter);
         }
     }
-    None
-}
-
-/// Appends the letters of rows.
-fn put_letters(rows: &[Row], into: &mut String) -> Option<()> {
-    for row in rows {
-        into.push_str(letter_of(row.id)?).ok()?;
-    }
-    Some(())
-}
-
-/// Whether a condition holds of a row, by itself or made ready.
-fn holds(filter: &Filter, conditions: &Conditions<'_>, row: &Row, trial: &Trial) -> bool {
-    match trial {
-        Trial::Ready => conditions.hold_unweighed(row) && conditions.hold_weighed(row),
-        _ => filter.holds(row),
-    }
-}
-
-/// Appends the letters of the rows of which a condition holds.
-fn put_letters_where(
-    alloc: Global,
-    filter: &Filter,
-    trial: &Trial,
-    into: &mut String,
-) -> Option<()> {
-    let conditions = Conditions::over(alloc, std::slice::from_ref(filter)).ok()?;
-    for row in all_rows(alloc)?.iter() {
-        if holds(filter, &conditions, row, trial) {
-            into.push_str(letter_of(row.id)?).ok()?;
-        }
-    }
-    Some(())
+    Err("a row that isn't in the table".into())
 }
 
 /// The order by these keys.
-fn order_by(alloc: Global, text: &str) -> Option<Order> {
+fn order_by(alloc: Global, text: &str) -> Result<Order, Fail> {
     let mut keys = Vec::new(alloc);
     for key in text.split(", ") {
-        let (name, way) = key.split_once(' ')?;
-        keys.push((column(name)?, way == "desc")).ok()?;
+        let (name, way) = key.split_once(' ').ok_or("a key without asc or desc")?;
+        keys.push((column(name)?, way == "desc"))?;
     }
-    Some(Order {
+    Ok(Order {
         keys: Items::new(keys),
     })
-}
-
-/// The page of rows that are found one after the other.
-fn collected(alloc: Global, rows: &[Row], order: &Order, page: Page) -> Option<Vec<Row>> {
-    let mut collector = Collector::new(alloc, order, page);
-    for row in rows {
-        collector.offer(row).ok()?;
-    }
-    collector.finish().ok()
 }
 
 /// The page of rows that are found at once, or one after the other.
@@ -277,75 +236,75 @@ fn shown(
     order: &Order,
     page: Page,
     trial: &Trial,
-) -> Option<Vec<Row>> {
+) -> Result<Vec<Row>, Fail> {
     match trial {
-        Trial::AtOnce => top(rows, order, &page).ok(),
-        _ => collected(alloc, rows.as_slice(), order, page),
-    }
-}
-
-fn page_of(text: &str) -> Option<Page> {
-    let mut numbers = text.split(' ');
-    Some(Page {
-        offset: short(numbers.next())?,
-        count: short(numbers.next())?,
-        max_matches: short(numbers.next())?,
-    })
-}
-
-/// Appends the letters of the rows that a page shows.
-fn put_letters_shown(alloc: Global, text: &str, trial: &Trial, into: &mut String) -> Option<()> {
-    let (keys, numbers) = text.split_once("; ")?;
-    let page = page_of(numbers)?;
-    let order = order_by(alloc, keys)?;
-    let found = shown(alloc, all_rows(alloc)?, &order, page, trial)?;
-    put_letters(found.as_slice(), into)
-}
-
-/// The letters that a text comes to.
-fn told(alloc: Global, text: &str, trial: &Trial) -> Option<String> {
-    let mut told = String::new(alloc);
-    match trial {
-        Trial::Alone | Trial::Ready => {
-            put_letters_where(alloc, &condition(alloc, text)?, trial, &mut told)?;
+        Trial::AtOnce => Ok(top(rows, order, &page)?),
+        _ => {
+            let mut collector = Collector::new(alloc, order, page);
+            for row in rows.iter() {
+                collector.offer(row)?;
+            }
+            Ok(collector.finish()?)
         }
-        Trial::AtOnce | Trial::Collected => put_letters_shown(alloc, text, trial, &mut told)?,
     }
-    Some(told)
+}
+
+/// The letters of the rows that a page shows.
+fn letters_shown(alloc: Global, text: &str, trial: &Trial) -> Result<String, Fail> {
+    let (keys, numbers) = text.split_once("; ").ok_or("a page without numbers")?;
+    let mut numbers = numbers.split(' ');
+    let page = Page {
+        offset: u32::try_from(number(numbers.next())?)?,
+        count: u32::try_from(number(numbers.next())?)?,
+        max_matches: u32::try_from(number(numbers.next())?)?,
+    };
+    let mut rows = Vec::new(alloc);
+    for line in ROWS.lines() {
+        rows.push(lettered_row(alloc, line)?.1)?;
+    }
+    let mut letters = String::new(alloc);
+    for row in shown(alloc, rows, &order_by(alloc, keys)?, page, trial)?.iter() {
+        letters.push_str(letter_of(alloc, row.id)?)?;
+    }
+    Ok(letters)
 }
 
 /// Fails with the first text of a table that has other rows, and with these.
 fn try_table(alloc: Global, table: &str, trial: &Trial) -> Result<(), Fail> {
     for line in table.lines() {
         let (text, wanted) = line.split_once(" ⇒ ").ok_or("a line without an arrow")?;
-        let found = told(alloc, text, trial).ok_or("a line that can't be told")?;
+        let found = match trial {
+            Trial::Alone | Trial::Ready => {
+                letters_where(alloc, &condition(alloc, text)?, trial)?
+            }
+            Trial::AtOnce | Trial::Collected => letters_shown(alloc, text, trial)?,
+        };
         compare(alloc, text, found.as_str(), wanted)?;
     }
     Ok(())
 }
 
-/// The rows of one weight with the ids 1 to 1,200 in no order.
-fn many_rows(alloc: Global) -> Option<Vec<Row>> {
+/// The ids of a page of 1,200 rows of one weight, ids 1 to 1,200 in no order, by weight.
+fn ids_shown(
+    alloc: Global,
+    offset: u32,
+    max_matches: u32,
+    trial: &Trial,
+) -> Result<Vec<u64>, Fail> {
     let mut rows = Vec::new(alloc);
     for number in 1..1201 {
-        rows.push(row(alloc, number * 7 % 1201, 1, [0, 0])?).ok()?;
+        rows.push(row(alloc, number * 7 % 1201, 1, &[0, 0])?)?;
     }
-    Some(rows)
-}
-
-/// The ids of a page of these rows, by weight.
-fn ids_shown(alloc: Global, offset: u32, max_matches: u32, trial: &Trial) -> Option<Vec<u64>> {
     let page = Page {
         offset,
         count: 20,
         max_matches,
     };
-    let order = order_by(alloc, "weight desc")?;
     let mut ids = Vec::new(alloc);
-    for row in shown(alloc, many_rows(alloc)?, &order, page, trial)?.iter() {
-        ids.push(row.id).ok()?;
+    for row in shown(alloc, rows, &order_by(alloc, "weight desc")?, page, trial)?.iter() {
+        ids.push(row.id)?;
     }
-    Some(ids)
+    Ok(ids)
 }
 
 #[test]
@@ -358,13 +317,15 @@ fn conditions_hold_and_pages_show_their_rows(rt: HostRuntime) -> Result<(), Fail
 
 #[test]
 fn many_rows_are_cut_after_max_matches(rt: HostRuntime) -> Result<(), Fail> {
+    let alloc = rt.alloc();
     for trial in [&Trial::AtOnce, &Trial::Collected] {
-        let last = ids_shown(rt.alloc(), 995, 1000, trial).ok_or("no page")?;
+        let last = ids_shown(alloc, 995, 1000, trial)?;
         assert_eq!(rt; last.as_slice(), [996, 997, 998, 999, 1000].as_slice());
-        let few = ids_shown(rt.alloc(), 7, 10, trial).ok_or("no page")?;
-        assert_eq!(rt; few.as_slice(), [8, 9, 10].as_slice());
-        let more = ids_shown(rt.alloc(), 1000, 2000, trial).ok_or("no page")?;
-        assert_eq!(rt; more.len(), 20);
+        assert_eq!(rt;
+            ids_shown(alloc, 7, 10, trial)?.as_slice(),
+            [8, 9, 10].as_slice()
+        );
+        assert_eq!(rt; ids_shown(alloc, 1000, 2000, trial)?.len(), 20);
     }
     Ok(())
 }

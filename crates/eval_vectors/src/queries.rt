@@ -42,18 +42,23 @@ pub(crate) enum Asked {
 }
 
 /// What a query comes to. Nothing that it has is let go here, so that its exits are cheap to prove.
-fn answer_of<C: HitLists>(alloc: Global, query: &Query, chunk: &C, asked: &Asked) -> Option<String>
+fn answer_of<C: HitLists>(
+    alloc: Global,
+    query: &Query,
+    chunk: &C,
+    asked: &Asked,
+) -> Result<String, Fail>
     requires { length (query_keys query.now) < 2 ^ 16 }
 {
     match asked {
         Asked::Found => told(alloc, query, chunk),
         Asked::Count => {
-            let count = matching(alloc, query, chunk).ok()?.len();
-            format!(in alloc; "{count}").ok()
+            let count = matching(alloc, query, chunk)?.len();
+            Ok(format!(in alloc; "{count}")?)
         }
         Asked::Opens => {
             let opens = matching(alloc, query, chunk).is_err();
-            String::from_str(alloc, if opens { "a list" } else { "no list" }).ok()
+            Ok(String::from_str(alloc, if opens { "a list" } else { "no list" })?)
         }
     }
 }
@@ -69,10 +74,7 @@ pub(crate) fn answer<C: HitLists>(
     requires { IsSoundIndex index.now }
 {
     let query = query_of(alloc, text, index)?;
-    match answer_of(alloc, &query, chunk, asked) {
-        Some(answer) => Ok(answer),
-        None => Err("no answer".into()),
-    }
+    answer_of(alloc, &query, chunk, asked)
 }
 
 /// Fails with the first of these lines whose query comes to something else, and with what it comes to.

@@ -10,15 +10,15 @@ use std::alloc::Global;
 use std::test::Fail;
 
 /// What a set is: its fields, its zones, `index_sp` and `html_strip`.
-fn about(set: &str) -> Option<&'static str> {
+fn about(set: &str) -> Result<&'static str, Fail> {
     for line in SETS.lines() {
         if let Some((name, about)) = line.split_once(" ⇒ ") {
             if name == set {
-                return Some(about);
+                return Ok(about);
             }
         }
     }
-    None
+    Err("no such set".into())
 }
 
 /// The lines of a table that are of a set.
@@ -34,35 +34,31 @@ pub(crate) fn lines_of(table: &'static str, set: &str) -> Result<&'static str, F
 }
 
 /// Appends the line of a configuration for zones, if there are any.
-fn put_zones(zones: &str, into: &mut String) -> Option<()> {
+fn put_zones(zones: &str, into: &mut String) -> Result<(), Fail> {
     if zones != "none" {
-        write!(into, "index_zones = {zones}\n").ok()?;
+        write!(into, "index_zones = {zones}\n")?;
     }
-    Some(())
+    Ok(())
 }
 
-/// Appends the configuration of an index that is described so.
-fn put_index(about: &str, into: &mut String) -> Option<()> {
-    let (fields, rest) = about.split_once("; ")?;
-    let (zones, rest) = rest.split_once("; ")?;
-    let (sp, strip) = rest.split_once("; ")?;
-    write!(
-        into,
-        "index i {{\ntype = rt\npath = a\nindex_sp = {sp}\nhtml_strip = {strip}\n"
-    )
-    .ok()?;
-    put_zones(zones, into)?;
-    for field in fields.split(", ") {
-        write!(into, "rt_field = {field}\n").ok()?;
-    }
-    into.push_str("}\n").ok()
-}
-
-/// The text of the configuration of a set's index.
-fn configuration(alloc: Global, set: &str) -> Option<String> {
+/// The text of the configuration of an index that is described so.
+fn configuration(alloc: Global, about: &str) -> Result<String, Fail> {
+    let mut parts = about.split("; ");
+    let fields = parts.next().ok_or("no fields")?;
+    let zones = parts.next().ok_or("no zones")?;
+    let sp = parts.next().ok_or("no index_sp")?;
+    let strip = parts.next().ok_or("no html_strip")?;
     let mut text = String::new(alloc);
-    put_index(about(set)?, &mut text)?;
-    Some(text)
+    write!(
+        text,
+        "index i {{\ntype = rt\npath = a\nindex_sp = {sp}\nhtml_strip = {strip}\n"
+    )?;
+    put_zones(zones, &mut text)?;
+    for field in fields.split(", ") {
+        write!(text, "rt_field = {field}\n")?;
+    }
+    text.push_str("}\n")?;
+    Ok(text)
 }
 
 /// The last index of a configuration.
@@ -81,7 +77,7 @@ fn last_of(conf: Conf) -> Result<IndexConf, Fail>
 pub(crate) fn index_of(alloc: Global, set: &str) -> Result<IndexConf, Fail>
     ensures { IfOk result IsSoundIndex }
 {
-    let text = configuration(alloc, set).ok_or("no such set")?;
+    let text = configuration(alloc, about(set)?)?;
     match read_conf(alloc, text.as_str().as_bytes()) {
         Ok(conf) => last_of(conf),
         Err(_) => Err("no configuration".into()),

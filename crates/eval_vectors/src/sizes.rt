@@ -40,11 +40,10 @@ absent ⇒ 0
 
 /// The text of a document, of 40 words: `all`; `seven` in each seventh one; `rare phrase` in two, and `phrase rare` in each
 /// hundredth one, or `red fox` or `fox` in each hundredth one, or `red` in odd ones; then `mark` among 35 words of the number's last digit.
-fn text_of(alloc: Global, number: u64) -> Option<String> {
+fn text_of(alloc: Global, number: u64) -> Result<String, Fail> {
     let mut text = String::new(alloc);
-    text.push_str("all ").ok()?;
-    text.push_str(if number % 7 == 0 { "seven " } else { "no " })
-        .ok()?;
+    text.push_str("all ")?;
+    text.push_str(if number % 7 == 0 { "seven " } else { "no " })?;
     text.push_str(match number {
         1_234 | 8_765 => "rare phrase",
         _ if number % 100 == 50 => "phrase rare",
@@ -52,17 +51,16 @@ fn text_of(alloc: Global, number: u64) -> Option<String> {
         _ if number % 100 == 2 => "no fox",
         _ if number % 2 == 1 => "red no",
         _ => "no no",
-    })
-    .ok()?;
+    })?;
     let digit = number % 10;
     for place in 0..36 {
         if place == number % 36 {
-            text.push_str(" mark").ok()?;
+            text.push_str(" mark")?;
         } else {
-            write!(text, " ten{digit}").ok()?;
+            write!(text, " ten{digit}")?;
         }
     }
-    Some(text)
+    Ok(text)
 }
 
 /// The chunk of the documents.
@@ -73,7 +71,7 @@ pub(crate) fn chunk_of_many(alloc: Global, index: &IndexConf) -> Result<RamChunk
 {
     let mut rows = Vec::new(alloc);
     'numbers: for number in 0..DOCUMENTS {
-        let text = text_of(alloc, number + 1).ok_or("no text")?;
+        let text = text_of(alloc, number + 1)?;
         push(alloc, index, &mut rows, number + 1, text.as_str())?;
     }
     built(alloc, index, rows)

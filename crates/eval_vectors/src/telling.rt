@@ -21,33 +21,33 @@ pub(crate) fn compare(alloc: Global, text: &str, found: &str, wanted: &str) -> R
 }
 
 /// Appends occurrences.
-fn put_occurrences(occs: &[Occ], into: &mut String) -> Option<()> {
+fn put_occurrences(occs: &[Occ], into: &mut String) -> Result<(), Fail> {
     for (number, occ) in occs.iter().enumerate() {
         if number > 0 {
-            into.push(' ').ok()?;
+            into.push(' ')?;
         }
         let (field, first, last) = (occ.field, occ.first, occ.last);
-        write!(into, "{field}.{first}-{last}").ok()?;
+        write!(into, "{field}.{first}-{last}")?;
     }
     if occs.is_empty() {
-        into.push('-').ok()?;
+        into.push('-')?;
     }
-    Some(())
+    Ok(())
 }
 
 /// Appends hits.
-fn put_hits(hits: &[Hit], into: &mut String) -> Option<()> {
+fn put_hits(hits: &[Hit], into: &mut String) -> Result<(), Fail> {
     for (number, hit) in hits.iter().enumerate() {
         if number > 0 {
-            into.push(' ').ok()?;
+            into.push(' ')?;
         }
         let (query, word, field, position) = (hit.query, hit.word, hit.field, hit.position);
-        write!(into, "{query}/{word}@{field}.{position}").ok()?;
+        write!(into, "{query}/{word}@{field}.{position}")?;
     }
     if hits.is_empty() {
-        into.push('-').ok()?;
+        into.push('-')?;
     }
-    Some(())
+    Ok(())
 }
 
 /// What the query finds in a row: its occurrences, and its hits by query position, field and position.
@@ -57,18 +57,18 @@ fn told_row<C: CountedLists>(
     chunk: &C,
     row: u32,
     steps: &mut Steps<C::Book>,
-) -> Option<String>
+) -> Result<String, Fail>
     requires row { row < length (C.content chunk.now) }
     requires keys { length (query_keys query.now) < 2 ^ 16 }
 {
     let mut text = String::new(alloc);
-    let occs = occurrences(alloc, query, chunk, row, steps).ok()?;
+    let occs = occurrences(alloc, query, chunk, row, steps)?;
     put_occurrences(occs.as_slice(), &mut text)?;
-    text.push_str(", ").ok()?;
-    let mut list = hits(alloc, query, chunk, row, steps).ok()?.list.into_vec();
+    text.push_str(", ")?;
+    let mut list = hits(alloc, query, chunk, row, steps)?.list.into_vec();
     list.sort_unstable_by_key(|hit| (hit.query, hit.field, hit.position));
     put_hits(list.as_slice(), &mut text)?;
-    Some(text)
+    Ok(text)
 }
 
 /// What the query finds in the rows, of which these match: each of them by its id, and each other one of which it finds something.
@@ -78,7 +78,7 @@ fn told_rows<C: CountedLists>(
     chunk: &C,
     matching: &[u32],
     steps: &mut Steps<C::Book>,
-) -> Option<String>
+) -> Result<String, Fail>
     requires { length (query_keys query.now) < 2 ^ 16 }
 {
     let mut text = String::new(alloc);
@@ -90,20 +90,19 @@ fn told_rows<C: CountedLists>(
         match rest.split_first() {
             Some((first, later)) if *first == row => {
                 rest = later;
-                write!(text, "; {id}: {found}").ok()?;
+                write!(text, "; {id}: {found}")?;
             }
             _ => {
                 if found != "-, -" {
-                    write!(text, "; {id} doesn't match: {found}").ok()?;
+                    write!(text, "; {id} doesn't match: {found}")?;
                 }
             }
         }
     }
     if !rest.is_empty() {
-        text.push_str("; and rows that aren't there, or out of order")
-            .ok()?;
+        text.push_str("; and rows that aren't there, or out of order")?;
     }
-    Some(text)
+    Ok(text)
 }
 
 /// Whether these are the hits of the row.
@@ -114,13 +113,13 @@ fn are_hits<C: CountedLists>(
     row: u32,
     found: &Hits,
     steps: &mut Steps<C::Book>,
-) -> Option<bool>
+) -> Result<bool, Fail>
     requires { length (query_keys query.now) < 2 ^ 16 }
 {
     if row >= chunk.rows() {
-        return Some(false);
+        return Ok(false);
     }
-    Some(*found == hits(alloc, query, chunk, row, steps).ok()?)
+    Ok(*found == hits(alloc, query, chunk, row, steps)?)
 }
 
 /// The next row that matches, if one is left, with its hits in the place of others.
@@ -128,28 +127,28 @@ fn next_match<C: CountedLists>(
     matches: &mut Matches<'_, C>,
     found: &mut Hits,
     steps: &mut Steps<C::Book>,
-) -> Option<Option<u32>> {
+) -> Result<Option<u32>, Fail> {
     'rows: while let Some(row) = matches.row() {
-        let told = matches.take(found, steps).ok()?;
+        let told = matches.take(found, steps)?;
         if told {
-            return Some(Some(row));
+            return Ok(Some(row));
         }
     }
-    Some(None)
+    Ok(None)
 }
 
 /// The next row that matches, if one is left. Its hits aren't looked for.
 fn next_unread<C: CountedLists>(
     matches: &mut Matches<'_, C>,
     steps: &mut Steps<C::Book>,
-) -> Option<Option<u32>> {
+) -> Result<Option<u32>, Fail> {
     'rows: while let Some(row) = matches.row() {
-        let told = matches.matches(steps).ok()?;
+        let told = matches.matches(steps)?;
         if told {
-            return Some(Some(row));
+            return Ok(Some(row));
         }
     }
-    Some(None)
+    Ok(None)
 }
 
 /// Whether the rows that match come one after another by `Matches`, each with its hits, and nothing after them.
@@ -160,24 +159,24 @@ fn come_with_hits<C: CountedLists>(
     dead: &[u32],
     rows: &[u32],
     steps: &mut Steps<C::Book>,
-) -> Option<bool>
+) -> Result<bool, Fail>
     requires dead { AllPairs (λ row later. row < later) dead.now }
     requires keys { length (query_keys query.now) < 2 ^ 16 }
 {
-    let mut matches = Matches::over(alloc, query, chunk, dead).ok()?;
+    let mut matches = Matches::over(alloc, query, chunk, dead)?;
     let mut found = Hits {
         keywords: 0,
         list: Items::new(Vec::new(alloc)),
     };
     for row in rows {
         if next_match(&mut matches, &mut found, steps)? != Some(*row) {
-            return Some(false);
+            return Ok(false);
         }
         if !are_hits(alloc, query, chunk, *row, &found, steps)? {
-            return Some(false);
+            return Ok(false);
         }
     }
-    Some(
+    Ok(
         next_match(&mut matches, &mut found, steps)?.is_none()
             && next_match(&mut matches, &mut found, steps)?.is_none(),
     )
@@ -191,17 +190,17 @@ fn come_unread<C: CountedLists>(
     dead: &[u32],
     rows: &[u32],
     steps: &mut Steps<C::Book>,
-) -> Option<bool>
+) -> Result<bool, Fail>
     requires dead { AllPairs (λ row later. row < later) dead.now }
     requires keys { length (query_keys query.now) < 2 ^ 16 }
 {
-    let mut matches = Matches::over(alloc, query, chunk, dead).ok()?;
+    let mut matches = Matches::over(alloc, query, chunk, dead)?;
     for row in rows {
         if next_unread(&mut matches, steps)? != Some(*row) {
-            return Some(false);
+            return Ok(false);
         }
     }
-    Some(next_unread(&mut matches, steps)?.is_none())
+    Ok(next_unread(&mut matches, steps)?.is_none())
 }
 
 /// Whether the rows that match come one after another, both ways.
@@ -212,11 +211,11 @@ fn come_in_order<C: CountedLists>(
     dead: &[u32],
     rows: &[u32],
     steps: &mut Steps<C::Book>,
-) -> Option<bool>
+) -> Result<bool, Fail>
     requires dead { AllPairs (λ row later. row < later) dead.now }
     requires keys { length (query_keys query.now) < 2 ^ 16 }
 {
-    Some(
+    Ok(
         come_with_hits(alloc, query, chunk, dead, rows, steps)?
             && come_unread(alloc, query, chunk, dead, rows, steps)?,
     )
@@ -229,14 +228,14 @@ fn kills_one<C: CountedLists>(
     chunk: &C,
     matching: &[u32],
     steps: &mut Steps<C::Book>,
-) -> Option<bool>
+) -> Result<bool, Fail>
     requires { length (query_keys query.now) < 2 ^ 16 }
 {
     match matching.split_first() {
-        None => Some(true),
+        None => Ok(true),
         Some((first, others)) => {
-            let left = candidates(alloc, query, chunk, &[*first], steps).ok()?;
-            Some(
+            let left = candidates(alloc, query, chunk, &[*first], steps)?;
+            Ok(
                 left.as_slice() == others
                     && come_in_order(alloc, query, chunk, &[*first], others, steps)?,
             )
@@ -249,7 +248,7 @@ fn told_by<L: Ledger, C: HitLists>(
     query: &Query,
     chunk: &C,
     blank: Blank,
-) -> Option<String>
+) -> Result<String, Fail>
     requires keys { length (query_keys query.now) < 2 ^ 16 }
     requires name { blank.name ≡ L.name }
     requires parts { blank.parts ≡ L.parts }
@@ -257,27 +256,26 @@ fn told_by<L: Ledger, C: HitLists>(
 {
     let chunk = &Counted::<C, L>::over(chunk);
     let mut steps = Steps::<L>::new(blank);
-    let matching = candidates(alloc, query, chunk, &[], &mut steps).ok()?;
+    let matching = candidates(alloc, query, chunk, &[], &mut steps)?;
     let mut text = told_rows(alloc, query, chunk, matching.as_slice(), &mut steps)?;
     if !come_in_order(alloc, query, chunk, &[], matching.as_slice(), &mut steps)? {
-        text.push_str("; others one after another").ok()?;
+        text.push_str("; others one after another")?;
     }
     if !kills_one(alloc, query, chunk, matching.as_slice(), &mut steps)? {
-        text.push_str("; others where the first of them is dead")
-            .ok()?;
+        text.push_str("; others where the first of them is dead")?;
     }
-    Some(text)
+    Ok(text)
 }
 
 /// What a query finds in a chunk.
-pub(crate) fn told<C: HitLists>(alloc: Global, query: &Query, chunk: &C) -> Option<String>
+pub(crate) fn told<C: HitLists>(alloc: Global, query: &Query, chunk: &C) -> Result<String, Fail>
     requires { length (query_keys query.now) < 2 ^ 16 }
 {
     let text = told_by::<Brand, C>(alloc, query, chunk, Blank::new(1))?;
     let found = text.as_str().strip_prefix("; ").unwrap_or("none");
     let mut told = String::new(alloc);
-    told.push_str(found).ok()?;
-    Some(told)
+    told.push_str(found)?;
+    Ok(told)
 }
 
 fn matching_by<L: Ledger, C: HitLists>(

@@ -46,7 +46,7 @@ fn stops<L: Ledger, C: HitLists>(
     query: &Query,
     chunk: &C,
     blank: Blank,
-) -> Option<u64>
+) -> Result<u64, Fail>
     requires keys { length (query_keys query.now) < 2 ^ 16 }
     requires name { blank.name ≡ L.name }
     requires parts { blank.parts ≡ L.parts }
@@ -54,53 +54,59 @@ fn stops<L: Ledger, C: HitLists>(
 {
     let chunk = &Counted::<C, L>::over(chunk);
     let mut steps = Steps::<L>::new(blank);
-    let mut matches = Matches::over(alloc, query, chunk, &[]).ok()?;
+    let mut matches = Matches::over(alloc, query, chunk, &[])?;
     let mut found = Hits {
         keywords: 0,
         list: Items::new(Vec::new(alloc)),
     };
     for count in 0..=chunk.rows() {
         match matches.row() {
-            Some(_) => matches.take(&mut found, &mut steps).ok()?,
-            None => return Some(u64::from(count)),
+            Some(_) => matches.take(&mut found, &mut steps)?,
+            None => return Ok(u64::from(count)),
         };
     }
-    None
+    Err(Fail::new("more stops than rows"))
 }
 
 /// Looks which rows match.
-fn look<L: Ledger, C: HitLists>(alloc: Global, query: &Query, chunk: &C, blank: Blank) -> Option<()>
+fn look<L: Ledger, C: HitLists>(
+    alloc: Global,
+    query: &Query,
+    chunk: &C,
+    blank: Blank,
+) -> Result<(), Fail>
     requires name { blank.name ≡ L.name }
     requires parts { blank.parts ≡ L.parts }
     requires some { 0 < blank.parts }
 {
     let mut steps = Steps::<L>::new(blank);
-    candidates(alloc, query, &Counted::<C, L>::over(chunk), &[], &mut steps).ok()?;
-    Some(())
+    candidates(alloc, query, &Counted::<C, L>::over(chunk), &[], &mut steps)?;
+    Ok(())
 }
 
-/// What a query comes to: the rows at which it stops and the lists that it opens, and its seeks where they pass these.
+/// What a query comes to: the rows at which it stops and the lists that it opens, and whether its seeks don't pass those of the line.
 fn visits<C: HitLists>(
     alloc: Global,
     query: &Query,
     chunk: &Watched<C>,
-    most: u64,
-) -> Option<String>
+    within: &str,
+) -> Result<String, Fail>
     requires { length (query_keys query.now) < 2 ^ 16 }
 {
+    let most = within.parse::<u64>().map_err(|_| "no number of seeks")?;
     chunk.begin();
     let rows = stops::<Brand, _>(alloc, query, chunk, Blank::new(1))?;
     let (lists, seeks) = chunk.counts();
     chunk.begin();
     look::<Brand, _>(alloc, query, chunk, Blank::new(1))?;
     let (looked, _) = chunk.counts();
-    if seeks <= most {
-        format!(in alloc; "{rows} rows, {lists} lists, {looked} lists of candidates").ok()
+    Ok(if seeks <= most {
+        format!(in alloc; "{rows} rows, {lists} lists, {looked} lists of candidates")?
     } else {
         format!(in alloc;
             "{rows} rows, {lists} lists, {looked} lists of candidates, {seeks} seeks"
-        ).ok()
-    }
+        )?
+    })
 }
 
 /// Tries one line.
@@ -116,12 +122,13 @@ fn try_line<C: HitLists>(
     let (wanted, within) = told
         .split_once(", seeks within ")
         .ok_or("a line without seeks")?;
-    let most = within.parse::<u64>().or(Err("no number of seeks"))?;
     let query = query_of(alloc, text, index)?;
-    match visits(alloc, &query, chunk, most) {
-        Some(found) => compare(alloc, text, found.as_str(), wanted),
-        None => Err("no visits".into()),
-    }
+    compare(
+        alloc,
+        text,
+        visits(alloc, &query, chunk, within)?.as_str(),
+        wanted,
+    )
 }
 
 #[test]

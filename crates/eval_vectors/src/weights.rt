@@ -42,8 +42,8 @@ const CASES: &str = "\
 ";
 
 /// A number.
-fn number(text: &str) -> Option<u16> {
-    text.parse::<u16>().ok()
+fn number(text: &str) -> Result<u16, Fail> {
+    Ok(text.parse().or(Err("no number"))?)
 }
 
 /// Whether no two hits are of one query position at one place.
@@ -101,66 +101,59 @@ fn are_within(hits: &[Hit], keywords: u16, fields: usize) -> bool
 }
 
 /// The weights that the rankers give, as a case has them.
-fn told(alloc: Global, hits: &Hits, weights: &Weights) -> Option<String> {
+fn told(alloc: Global, hits: &Hits, weights: &Weights) -> Result<String, Fail> {
     if !are_ranked(hits, weights) {
-        return None;
+        return Err("hits that can't be ranked".into());
     }
     let mut text = String::new(alloc);
     for ranker in RANKERS {
         let weight = weight(ranker, hits, weights);
-        write!(text, " {weight}").ok()?;
+        write!(text, " {weight}")?;
     }
-    Some(text)
-}
-
-/// A hit of a case.
-fn hit_of(text: &str) -> Option<Hit> {
-    let (query, rest) = text.split_once('/')?;
-    let (word, place) = rest.split_once('@')?;
-    let (field, position) = place.split_once('.')?;
-    Some(Hit {
-        query: number(query)?,
-        word: number(word)?,
-        field: number(field)?,
-        position: u32::from(number(position)?),
-    })
+    Ok(text)
 }
 
 /// The hits of a case.
-fn hits_in(alloc: Global, text: &str) -> Option<Items<Hit>> {
+fn hits_in(alloc: Global, text: &str) -> Result<Items<Hit>, Fail> {
     let mut list = Vec::new(alloc);
     for hit in text.split_whitespace() {
-        list.push(hit_of(hit)?).ok()?;
+        let (query, rest) = hit.split_once('/').ok_or("no word")?;
+        let (word, place) = rest.split_once('@').ok_or("no field")?;
+        let (field, position) = place.split_once('.').ok_or("no position")?;
+        list.push(Hit {
+            query: number(query)?,
+            word: number(word)?,
+            field: number(field)?,
+            position: u32::from(number(position)?),
+        })?;
     }
-    Some(Items::new(list))
+    Ok(Items::new(list))
 }
 
 /// The weights of the fields of a case.
-fn weights_in(alloc: Global, text: &str) -> Option<Weights> {
+fn weights_in(alloc: Global, text: &str) -> Result<Weights, Fail> {
     let mut list = Vec::new(alloc);
     for weight in text.split_whitespace() {
-        list.push(u32::from(number(weight)?)).ok()?;
+        list.push(u32::from(number(weight)?))?;
     }
-    Some(Weights {
+    Ok(Weights {
         list: Items::new(list),
     })
 }
 
-/// What the rankers give for a case.
-fn given(alloc: Global, hits: &str, keywords: &str, weights: &str) -> Option<String> {
-    let list = hits_in(alloc, hits)?;
-    let keywords = number(keywords)?;
-    let weights = weights_in(alloc, weights)?;
-    told(alloc, &Hits { keywords, list }, &weights)
-}
-
 /// Fails with a case that isn't as it should be, and with what the rankers give.
 fn try_case(alloc: Global, case: &str) -> Result<(), Fail> {
-    let (hits, rest) = case.split_once("; ").ok_or("no hits")?;
-    let (keywords, rest) = rest.split_once("; ").ok_or("no keywords")?;
-    let (weights, wanted) = rest.split_once(';').ok_or("no weights")?;
-    let given = given(alloc, hits, keywords, weights).ok_or("no case")?;
-    compare(alloc, case, given.as_str(), wanted)
+    let mut parts = case.split(';');
+    let list = hits_in(alloc, parts.next().ok_or("no hits")?)?;
+    let keywords = number(parts.next().ok_or("no keywords")?.trim())?;
+    let weights = weights_in(alloc, parts.next().ok_or("no weights")?)?;
+    let given = told(alloc, &Hits { keywords, list }, &weights)?;
+    compare(
+        alloc,
+        case,
+        given.as_str(),
+        parts.next().ok_or("no result")?,
+    )
 }
 
 #[test]
@@ -173,7 +166,7 @@ fn weights_are_those_worked_out_by_hand(rt: HostRuntime) -> Result<(), Fail> {
 
 /// Hits of a query of 255 keywords in 32 fields: in the first field one of each keyword, all at one offset, and in each other field
 /// one.
-fn greatest_hits(alloc: Global) -> Option<Hits> {
+fn greatest_hits(alloc: Global) -> Result<Hits, Fail> {
     let mut list = Vec::new(alloc);
     for query in 1..256 {
         list.push(Hit {
@@ -181,8 +174,7 @@ fn greatest_hits(alloc: Global) -> Option<Hits> {
             word: query - 1,
             field: 0,
             position: MAX_POSITION - 255 + u32::from(query),
-        })
-        .ok()?;
+        })?;
     }
     for field in 1..32 {
         list.push(Hit {
@@ -190,10 +182,9 @@ fn greatest_hits(alloc: Global) -> Option<Hits> {
             word: 0,
             field,
             position: MAX_POSITION,
-        })
-        .ok()?;
+        })?;
     }
-    Some(Hits {
+    Ok(Hits {
         keywords: 255,
         list: Items::new(list),
     })
@@ -205,8 +196,8 @@ fn greatest_weights_fit(rt: HostRuntime) -> Result<(), Fail> {
     let weights = Weights {
         list: Items::new(vec![in alloc; 65_535; 32]?),
     };
-    let hits = greatest_hits(alloc).ok_or("no hits")?;
-    let given = told(alloc, &hits, &weights).ok_or("no weights")?;
+    let hits = greatest_hits(alloc)?;
+    let given = told(alloc, &hits, &weights)?;
     // 286 and 255 + 31 times 65,535; 65,535 * (255 + 254 * 255 * 32 * 65,535 + 31).
     let wanted = " 1 18743010 18743010 8901649372127010 4294967295";
     compare(alloc, "greatest hits", given.as_str(), wanted)
