@@ -7,4 +7,4 @@ rows-init g c = by_none c.args.asked.now (g.C.Chunk.content c.args.chunk.now) c.
 
 pub rows-preserved : goal.rows-preserved
 rows-preserved g c =
-    by_one_more c.args.asked.now (g.C.Chunk.content c.args.chunk.now) c.args.from c.rows.row c.passes.result c.rows.invariant (omega (arith, c.rows-test.true, c.min-end.ensures, c.rows-rows.ensures)) c.passes.ensures c.if-passes.false
+    by_one_more c.args.asked.now (g.C.Chunk.content c.args.chunk.now) c.args.from c.rows.row c.passes.result c.rows.invariant (omega (arith, c.rows-test.true, c.min-end.ensures, c.rows-2.ensures)) c.passes.ensures c.if-passes.false
