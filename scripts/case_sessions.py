@@ -141,7 +141,7 @@ def over_pipes(program, folder, steps):
     try:
         ran = subprocess.run(program.session(), cwd=folder, input=sent, capture_output=True, timeout=program.patience())
     except subprocess.TimeoutExpired as why:
-        return failed(steps, str(why))
+        return failed(steps, f"no end after {why.timeout:.0f} seconds")
     replies, wrong = Bytes(ran.stdout), []
     for number, step in enumerate(steps):
         try:
