@@ -7,10 +7,9 @@ and compared with the words and places that the hits name.
 
 Each query is asked with each ranker, and once with weights of fields, over a set of documents that is there
 
-    in one piece         all documents put by one INSERT
-    in several           each put by an INSERT of its own
-    less one             as in one piece, and then the first document that the query finds is deleted
-    with it once more    and then that document is put again
+    in one piece         all documents put by one INSERT; then the first document that the query finds is deleted; and then
+                         that document is put again
+    in several           each put by an INSERT of its own; then the first document that the query finds is deleted
 
 A query is one case.
 """
@@ -126,28 +125,29 @@ class Set:
     def asked(self, queries, without=None):
         return [step for query in queries for step in query.steps(self.fields, without)]
 
-    def less(self, number, queries):
-        """Steps in which a document that these queries find first is there, then isn't, and then is again."""
-        place = self.documents[number][0]
-        return [
-            Step(place, "", "A", f"TRUNCATE RTINDEX {INDEX}", "OK 0"),
-            self.put(list(self.documents)),
-            Step(place, "", "A", f"DELETE FROM {INDEX} WHERE id = {number}", "OK 1"),
-            *self.asked(queries, number),
-            self.put([number]),
-            *self.asked(queries),
-        ]
+    def found_first(self):
+        """The documents that queries find first, with these queries."""
+        for number in self.documents:
+            queries = [query for query in self.queries if min(query.hits, default=None) == number]
+            if queries:
+                yield number, queries
+
+    def without(self, number, queries):
+        """Steps that ask where a document isn't there, and put it again."""
+        delete = Step(self.documents[number][0], "", "A", f"DELETE FROM {INDEX} WHERE id = {number}", "OK 1")
+        return [delete, *self.asked(queries, number), self.put([number])]
 
     def scripts(self):
         """The scripts of this set."""
         numbers = list(self.documents)
-        in_one = [self.put(numbers), *self.asked(self.queries)]
-        in_several = [*(self.put([number]) for number in numbers), *self.asked(self.queries)]
-        less_one = []
-        for number in numbers:
-            first = [query for query in self.queries if min(query.hits, default=None) == number]
-            less_one += self.less(number, first) if first else []
-        return [Script(self.configuration, steps) for steps in (in_one, in_several, less_one)]
+        whole = [self.put(numbers), *self.asked(self.queries)]
+        anew = Step(self.documents[numbers[0]][0], "", "A", f"TRUNCATE RTINDEX {INDEX}", "OK 0")
+        for number, queries in self.found_first():
+            whole += [anew, self.put(numbers), *self.without(number, queries), *self.asked(queries)]
+        several = [*(self.put([number]) for number in numbers), *self.asked(self.queries)]
+        for number, queries in self.found_first():
+            several += self.without(number, queries)
+        return [Script(self.configuration, steps) for steps in (whole, several)]
 
 
 class EvaluationPage:
