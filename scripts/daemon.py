@@ -39,6 +39,9 @@ class Ended(Exception):
 class Daemon:
     """A daemon that listens on a port of loopback; `indexes` has the lines of columns of each index by its name."""
 
+    # what its clients are, and where it runs
+    kind, cwd = Client, None
+
     def __init__(self, program, folder, indexes, workers, sphinx=False):
         self.port, self.process, self.errors = free_port(), None, folder / "stderr"
         conf = folder / "searchd.conf"
@@ -56,7 +59,7 @@ class Daemon:
         """Starts it, and waits for nothing."""
         with self.errors.open("wb") as errors:
             self.process = subprocess.Popen(
-                self.command, stdin=subprocess.DEVNULL, stdout=subprocess.DEVNULL, stderr=errors
+                self.command, cwd=self.cwd, stdin=subprocess.DEVNULL, stdout=subprocess.DEVNULL, stderr=errors
             )
 
     def client(self, patience=300):
@@ -64,7 +67,7 @@ class Daemon:
         end = time.monotonic() + patience
         while True:
             try:
-                return Client(self.port)
+                return self.kind(self.port)
             except Lost as lost:
                 self.look()
                 if time.monotonic() > end:

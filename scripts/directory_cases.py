@@ -6,8 +6,7 @@ At the top of the repository: python3 scripts/directory_cases.py [--check]
 import re
 import sys
 
-from select_cases import cells, parts
-from tables import constant, read, run
+from tables import cells, constant, parts, read, run
 
 DOCUMENT = "docs/cases/directories.md"
 FOLDER = "crates/directory_vectors/src"

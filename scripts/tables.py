@@ -1,10 +1,11 @@
-"""What the scripts share that make the tables of tests out of docs/cases.
+"""What the scripts share that read the tables of docs/cases.
 
-Each of them has a function `made`, which gives the path and the text of each file that it makes. At the top of the
-repository `python3 scripts/NAME.py` writes these files; with --check it names those that differ instead, as
-scripts/house.py does for all of them.
+Those that make the tables of tests out of them are named `*_cases.py`. Each has a function `made`, which gives the path and
+the text of each file that it makes. At the top of the repository `python3 scripts/NAME.py` writes these files; with --check
+it names those that differ instead, as scripts/house.py does for all of them.
 """
 
+import re
 import sys
 from itertools import zip_longest
 from pathlib import Path
@@ -14,6 +15,27 @@ ROOT = Path(__file__).resolve().parent.parent
 
 def read(path):
     return (ROOT / path).read_text(encoding="utf8")
+
+
+def parts(document):
+    """The parts of a document by their heads."""
+    return dict(part.split("\n", 1) for part in document.split("\n## ")[1:])
+
+
+def cells(line):
+    """The cells of a table's row, None for any other line."""
+    if not (line.startswith("| ") and line.endswith(" |")):
+        return None
+    return re.split(r" (?<!\\)\| ", line[2:-2])
+
+
+def text(cell):
+    """What a cell with a text says."""
+    if cell == "(empty)":
+        return ""
+    inside = re.fullmatch(r"`` (.*) ``", cell) or re.fullmatch(r"`([^`]*)`", cell)
+    assert inside, cell
+    return inside.group(1).replace("\\|", "|")
 
 
 def constant(about, name, lines):

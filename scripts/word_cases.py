@@ -6,8 +6,7 @@ At the top of the repository: python3 scripts/word_cases.py [--check]
 import re
 import sys
 
-from select_cases import cells, parts, text
-from tables import constant, read, run
+from tables import cells, constant, parts, read, run, text
 
 DOCUMENT = "docs/cases/words.md"
 FOLDER = "crates/command_vectors/src"

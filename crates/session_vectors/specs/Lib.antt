@@ -1,2 +1,0 @@
--- sessions over the same indexes
-pub mod Seats
