@@ -1,46 +1,23 @@
 //! A disk that tells nothing, over a disk in memory: whether a call's conditions hold is looked up before it is made.
-ghost use Rattle.std.specs.Prelude.{◌≡◌, ◌≤◌, ◌+◌, length, IfOk, OnOk};
-ghost use Rattle.srch_base.specs.Counts.{HasCause, Rose};
-ghost use Rattle.chunk_store.specs.Images.{Image, Told, contents, IsThere};
+ghost use Rattle.srch_base.specs.Counts.{last_count};
 
 use chunk_store::{Disk, MemoryDisk};
 use srch_base::Failed;
+use std::alloc::Global;
 
 /// A disk in memory whose calls fail where what they ask for isn't so. Each read, write and sync asks for the length first, and
-/// so is two calls of the disk below.
+/// so is two calls of the disk below. Its count of faults stands at its end, and so needs no counting.
 #[derive(Drop)]
 pub(crate) struct CarefulDisk {
     pub below: MemoryDisk,
-    faults: u64,
 }
 
-impl CarefulDisk {
-    pub(crate) fn new(below: MemoryDisk) -> CarefulDisk {
-        CarefulDisk { below, faults: 0 }
-    }
-}
-
-fn read(disk: &mut MemoryDisk, file: u32, at: u64, into: &mut [u8]) -> Result<(), Failed> {
-    let len = disk.len(file)?.unwrap_or(0);
-    if at > len || len - at < into.len() as u64 {
-        return Err(Failed);
-    }
-    disk.read(file, at, into)
-}
-
-fn write(disk: &mut MemoryDisk, file: u32, at: u64, bytes: &[u8]) -> Result<(), Failed> {
-    let len = disk.len(file)?.unwrap_or(0);
-    if at > len {
-        return Err(Failed);
-    }
-    disk.write(file, at, bytes)
-}
-
-fn sync(disk: &mut MemoryDisk, file: u32) -> Result<(), Failed> {
-    if disk.len(file)?.is_none() {
-        return Err(Failed);
-    }
-    disk.sync(file)
+/// A disk in memory of which these calls fail.
+pub(crate) fn failing_disk(alloc: Global, failing: &[u64]) -> Option<CarefulDisk> {
+    let failing = Vec::from_slice(alloc, failing).ok()?;
+    Some(CarefulDisk {
+        below: MemoryDisk::new(alloc, failing),
+    })
 }
 
 impl Disk for CarefulDisk {
@@ -54,7 +31,7 @@ impl Disk for CarefulDisk {
 
     ghost may_have_left = { λ _ _ _. ⊥ };
 
-    ghost faults = { λ disk. disk.faults };
+    ghost faults = { λ _. last_count };
 
     ghost passes = { λ _ _ told. Prim.cc };
 
@@ -67,40 +44,33 @@ impl Disk for CarefulDisk {
     ghost only_now = { λ _ _ left. left };
 
     fn len(&mut self, file: u32) -> Result<Option<u64>, Failed> {
-        let len = self.below.len(file);
-        counted(len, &mut self.faults)
+        self.below.len(file)
     }
 
     fn read(&mut self, file: u32, at: u64, into: &mut [u8]) -> Result<(), Failed> {
-        let read = read(&mut self.below, file, at, into);
-        counted(read, &mut self.faults)
+        let len = self.below.len(file)?.unwrap_or(0);
+        if at > len || len - at < into.len() as u64 {
+            return Err(Failed);
+        }
+        self.below.read(file, at, into)
     }
 
     fn write(&mut self, file: u32, at: u64, bytes: &[u8]) -> Result<(), Failed> {
-        let written = write(&mut self.below, file, at, bytes);
-        counted(written, &mut self.faults)
+        let len = self.below.len(file)?.unwrap_or(0);
+        if at > len {
+            return Err(Failed);
+        }
+        self.below.write(file, at, bytes)
     }
 
     fn sync(&mut self, file: u32) -> Result<(), Failed> {
-        let synced = sync(&mut self.below, file);
-        counted(synced, &mut self.faults)
+        if self.below.len(file)?.is_none() {
+            return Err(Failed);
+        }
+        self.below.sync(file)
     }
 
     fn remove(&mut self, file: u32) -> Result<(), Failed> {
-        let removed = self.below.remove(file);
-        counted(removed, &mut self.faults)
-    }
-}
-
-/// Counts a failed call as a fault.
-fn counted<T>(outcome: Result<T, Failed>, faults: &mut u64) -> Result<T, Failed>
-    ensures { HasCause faults.old faults.new result }
-{
-    match outcome {
-        Ok(value) => Ok(value),
-        Err(Failed) => {
-            *faults = faults.saturating_add(1);
-            Err(Failed)
-        }
+        self.below.remove(file)
     }
 }

@@ -1,113 +1,166 @@
-//! What each kind of crash leaves of a disk in memory, after calls that are written as a text.
-use crate::careful_disk::CarefulDisk;
-use crate::log_texts::call_of;
-use crate::telling::{bytes_of, put_digits, try_told};
-use chunk_store::{Disk, MemoryDisk, read_whole};
+//! Logs and roots that are stopped by crashes after each call of the disk, also while they go on after a crash, and of which calls
+//! fail.
+use crate::careful_disk::{CarefulDisk, failing_disk};
+use crate::logs::{append_two, go_on, look};
+use crate::roots::{put_states, replace, replace_three};
+use crate::telling::{What, put_crashes, read_after};
+use chunk_store::MemoryDisk;
 use std::alloc::Global;
-use std::test::Fail;
 
-/// Calls, and the files that the four crashes after them leave, worked out by hand: what wasn't synced is as never done, as
-/// written, all 1, all 255. A call is a write of bytes at a place of a file (`w 0 2 0a0b`), a sync (`s 0`), a removal (`d 0`) or
-/// a look (`l 0`). The crash comes at `!`, or else after the last call.
-const CRASHES: &str = "calls ⇒ never done | as written | all 1 | all 255
-l 0 ⇒ | | |
-w 0 0 0a0b ⇒ | 0=0a0b | 0=0101 | 0=ffff
-w 0 0 0a0b; s 0 ⇒ 0=0a0b | 0=0a0b | 0=0a0b | 0=0a0b
-w 0 0 0a0b; ! ; s 0 ⇒ | 0=0a0b | 0=0101 | 0=ffff
-! ; w 0 0 0a0b; s 0 ⇒ | | |
-w 0 0 - ⇒ | 0= | 0= | 0=
-w 0 0 -; s 0; w 0 0 0a ⇒ 0= | 0=0a | 0=01 | 0=ff
-w 0 0 0a0b0c0d; s 0; w 0 1 2122 ⇒ 0=0a0b0c0d | 0=0a21220d | 0=0a01010d | 0=0affff0d
-w 0 0 0a0b; s 0; w 0 1 212223 ⇒ 0=0a0b | 0=0a212223 | 0=0a010101 | 0=0affffff
-w 0 0 0a; s 0; w 0 1 0b; l 0; w 0 2 0c0d ⇒ 0=0a | 0=0a0b0c0d | 0=0a010101 | 0=0affffff
-w 0 0 0a0b0c; s 0; w 0 0 3132; w 0 1 41 ⇒ 0=0a0b0c | 0=31410c | 0=01010c | 0=ffff0c
-w 0 0 0a0b0c; s 0; w 0 2 31; w 0 0 41 ⇒ 0=0a0b0c | 0=410b31 | 0=010b01 | 0=ff0bff
-w 0 0 0a; s 0; w 0 0 0b; s 0; w 0 0 0c; ! ; s 0 ⇒ 0=0b | 0=0c | 0=01 | 0=ff
-w 0 0 0a; w 1 0 0b; s 1 ⇒ 1=0b | 0=0a 1=0b | 0=01 1=0b | 0=ff 1=0b
-w 0 0 0a; w 1 0 0b; s 0; s 1; w 0 1 0c; w 1 1 0d; s 0 ⇒ 0=0a0c 1=0b | 0=0a0c 1=0b0d | 0=0a0c 1=0b01 | 0=0a0c 1=0bff
-d 0 ⇒ | | |
-w 0 0 0a; s 0; d 0 ⇒ 0=0a | | |
-w 0 0 0a; d 0 ⇒ | | |
-w 0 0 0a0b; s 0; w 0 0 21; d 0 ⇒ 0=0a0b | | |
-w 0 0 0a0b; s 0; d 0; w 0 0 0c ⇒ 0=0a0b | 0=0c | 0=01 | 0=ff
-w 0 0 0a0b; s 0; d 0; w 0 0 0c; s 0 ⇒ 0=0c | 0=0c | 0=0c | 0=0c
-w 0 0 0a; s 0; w 1 0 0b; d 0; s 1 ⇒ 0=0a 1=0b | 1=0b | 1=0b | 1=0b
-w 0 0 0a; s 0; d 0; w 0 0 0b; d 0; w 0 0 0c; w 0 1 0d ⇒ 0=0a | 0=0c0d | 0=0101 | 0=ffff";
+/// What is read of a log or a root before it goes on, and after. A root goes on with a state that goes through 9.
+const GOING_ON: &str = "\
+to 0 ⇒ 7: to 13
+7:0a to 14 ⇒ 7:0a 8: to 27
+7:0a 8:0101 to 29 ⇒ 7:0a 8:0101 9: to 42
+no root ⇒ through 9 next 3 logs 0 2 text 0
+through 1 next 3 logs 0 2 text 0 ⇒ through 9 next 3 logs 0 2 text 0
+through 2 next 3 logs 0 2 text 0 ⇒ through 9 next 3 logs 0 2 text 0
+through 3 next 3 logs 0 2 text 0 ⇒ through 9 next 3 logs 0 2 text 0";
 
-/// Makes one call of a text.
-fn make_call(alloc: Global, disk: &mut CarefulDisk, call: &str) -> Result<(), Fail> {
-    let (kind, file, at, digits) = call_of(call)?;
-    match kind {
-        "w" => disk.write(file, at, &bytes_of(alloc, digits.trim_matches('-'))?)?,
-        "s" => disk.sync(file)?,
-        "d" => disk.remove(file)?,
-        _ => {
-            disk.len(file)?;
+/// The slot of that state.
+const NINTH: &str = "01 A 18000000 0000 0900000000000000 03000000 00000000 02000000 0000";
+
+/// A disk of which these calls fail, on which a log is made and two records are appended, or three states of a root follow one another.
+fn run(alloc: Global, what: &What, failing: &[u64], seen: &mut String) -> Option<CarefulDisk> {
+    let mut disk = failing_disk(alloc, failing)?;
+    match what {
+        What::Log => append_two(alloc, &mut disk, seen)?,
+        What::Root => replace_three(alloc, &mut disk)?,
+    }
+    Some(disk)
+}
+
+/// Puts what is read after each of the four crashes after so many calls.
+pub(crate) fn put_stops(alloc: Global, what: &What, calls: u64, text: &mut String) -> Option<()> {
+    let disk = run(alloc, what, &[], text)?;
+    put_crashes(alloc, &disk.below, calls, what, text)
+}
+
+/// Puts what is read of a log once this call failed, and after each crash then.
+pub(crate) fn put_log_faults(alloc: Global, call: u64, text: &mut String) -> Option<()> {
+    let disk = run(alloc, &What::Log, &[call], text)?;
+    put_crashes(alloc, &disk.below, call, &What::Log, text)
+}
+
+/// Puts what is seen of four states of a root where this call fails, and another one beside it or 0 for none.
+pub(crate) fn put_root_faults(
+    alloc: Global,
+    call: u64,
+    other: &str,
+    text: &mut String,
+) -> Option<()> {
+    let other = other.parse::<u64>().ok()?;
+    let mut disk = failing_disk(alloc, &[other, call])?;
+    put_states(alloc, &mut disk, text)
+}
+
+/// Puts what is read of a log whose call failed once and was made again, once all is done, and after each crash then.
+pub(crate) fn put_mended(alloc: Global, call: u64, text: &mut String) -> Option<()> {
+    let mut disk = run(alloc, &What::Log, &[call], text)?;
+    text.clear();
+    look(alloc, &mut disk, text)?;
+    put_crashes(alloc, &disk.below, u64::MAX, &What::Log, text)
+}
+
+/// What is read of a log or a root that went on.
+fn after_going_on(before: &str) -> Option<&'static str> {
+    for row in GOING_ON.lines() {
+        let (read, after) = row.split_once(" ⇒ ")?;
+        if read == before {
+            return Some(after);
         }
     }
-    Ok(())
+    None
 }
 
-/// A disk on which these calls were made, and how many it counts up to the crash.
-fn made(alloc: Global, calls: &str) -> Result<(MemoryDisk, u64), Fail> {
-    let mut disk = CarefulDisk::new(MemoryDisk::new(alloc, Vec::new(alloc)));
-    let mut crash = None;
-    for call in calls.split(';') {
-        match call.trim() {
-            "!" => crash = Some(disk.below.calls()),
-            call => make_call(alloc, &mut disk, call)?,
-        }
+/// The letter of a reading: `b` for what was before, `a` for what is after, and else `?`.
+fn letter(read: &str, (before, after): (&str, &str)) -> char {
+    if read == before {
+        return 'b';
     }
-    let end = disk.below.calls();
-    Ok((disk.below, crash.unwrap_or(end)))
-}
-
-/// The files 0 and 1 of a disk.
-fn shown(alloc: Global, disk: &mut MemoryDisk) -> Result<String, Fail> {
-    let mut text = String::new(alloc);
-    for file in 0..2 {
-        if let Some(bytes) = read_whole(alloc, disk, file)? {
-            write!(text, " {file}=")?;
-            put_digits(alloc, &bytes, &mut text)?;
-        }
+    if read == after {
+        return 'a';
     }
-    Ok(text)
+    '?'
 }
 
-/// Fails where a disk has other files.
-fn try_files(alloc: Global, disk: &mut MemoryDisk, case: &str, wanted: &str) -> Result<(), Fail> {
-    let shown = shown(alloc, disk)?;
-    try_told(case, shown.as_str().trim(), wanted.trim())
-}
-
-/// Fails where a crash leaves other files. What it leaves is left by a crash of that disk too.
-fn try_crash(
+/// Puts the letter of what a crash leaves.
+fn put_letter(
     alloc: Global,
     disk: &MemoryDisk,
-    (count, pick): (u64, u8),
-    case: &str,
-    wanted: &str,
-) -> Result<(), Fail> {
-    let mut left = disk.after_crash(count, pick)?;
-    let mut again = left.after_crash(left.calls(), 2)?;
-    try_files(alloc, &mut left, case, wanted)?;
-    try_files(alloc, &mut again, case, wanted)
+    crash: (u64, u8),
+    what: &What,
+    texts: (&str, &str),
+    text: &mut String,
+) -> Option<()> {
+    let read = read_after(alloc, disk, crash, what)?;
+    text.push(letter(read.as_str(), texts)).ok()
 }
 
-/// Fails at the first crash that leaves other files.
-fn try_crashes(alloc: Global, calls: &str, wanted: &str) -> Result<(), Fail> {
-    let (disk, count) = made(alloc, calls)?;
-    for (pick, wanted) in wanted.split('|').enumerate() {
-        try_crash(alloc, &disk, (count, u8::try_from(pick)?), calls, wanted)?;
+/// Drops the last word where it and the one before are `bbbb`.
+fn drop_repeated(text: &mut String) {
+    if text.as_str().ends_with(" bbbb bbbb") {
+        for _ in 0..5 {
+            let _letter = text.pop();
+        }
     }
-    Ok(())
 }
 
-#[test]
-fn a_crash_leaves_these_files(rt: HostRuntime) -> Result<(), Fail> {
-    for line in CRASHES.lines().skip(1) {
-        let (calls, wanted) = line.split_once(" ⇒ ").ok_or("a line without an arrow")?;
-        try_crashes(rt.alloc(), calls, wanted)?;
+/// Puts a word for each call, of the letters of what the four crashes after it leave; and `bbbb` once for all calls in a row.
+fn put_letters(
+    alloc: Global,
+    disk: &MemoryDisk,
+    what: &What,
+    texts: (&str, &str),
+    text: &mut String,
+) -> Option<()> {
+    for calls in 0..=disk.calls() {
+        text.push(' ').ok()?;
+        for pick in 0..4 {
+            put_letter(alloc, disk, (calls, pick), what, texts, text)?;
+        }
+        drop_repeated(text);
     }
-    Ok(())
+    Some(())
+}
+
+/// What a crash left, once it went on.
+fn gone_on(
+    alloc: Global,
+    disk: &MemoryDisk,
+    (calls, pick): (u64, u8),
+    what: &What,
+    seen: &mut String,
+) -> Option<CarefulDisk> {
+    let mut next = CarefulDisk {
+        below: disk.after_crash(calls, pick).ok()?,
+    };
+    match what {
+        What::Log => go_on(alloc, &mut next, seen)?,
+        What::Root => replace(alloc, &mut next, NINTH)?,
+    }
+    Some(next)
+}
+
+/// Puts the letters of what goes on behind a crash.
+fn put_letters_behind(
+    alloc: Global,
+    disk: &MemoryDisk,
+    crash: (u64, u8),
+    what: &What,
+    text: &mut String,
+) -> Option<()> {
+    let before = read_after(alloc, disk, crash, what)?;
+    let after = after_going_on(before.as_str())?;
+    let next = gone_on(alloc, disk, crash, what, text)?;
+    put_letters(alloc, &next.below, what, (before.as_str(), after), text)
+}
+
+/// Puts, for each of the four crashes after so many calls, the letters of what goes on behind it.
+pub(crate) fn put_again(alloc: Global, what: &What, calls: u64, text: &mut String) -> Option<()> {
+    let disk = run(alloc, what, &[], text)?;
+    for pick in 0..4 {
+        put_letters_behind(alloc, &disk.below, (calls, pick), what, text)?;
+    }
+    Some(())
 }

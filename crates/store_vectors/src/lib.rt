@@ -2,32 +2,30 @@
 #![tactic(auto)]
 
 #[cfg(test)]
-mod appending;
+mod bytes;
+#[cfg(test)]
+mod calls;
 #[cfg(test)]
 mod careful_disk;
 #[cfg(test)]
+mod crash_tables;
+#[cfg(test)]
 mod crashes;
+#[cfg(test)]
+mod folder_steps;
 #[cfg(test)]
 mod folders;
 #[cfg(test)]
-mod log_bytes;
+mod images;
 #[cfg(test)]
-mod log_crashes;
+mod log_tables;
 #[cfg(test)]
-mod log_faults;
+mod logs;
 #[cfg(test)]
-mod log_reading;
+mod root_tables;
 #[cfg(test)]
-mod log_texts;
+mod roots;
 #[cfg(test)]
-mod root_crashes;
-#[cfg(test)]
-mod root_faults;
-#[cfg(test)]
-mod root_reading;
-#[cfg(test)]
-mod root_replacing;
-#[cfg(test)]
-mod root_texts;
+mod rows;
 #[cfg(test)]
 mod telling;

@@ -1,6 +1,6 @@
 use Rattle.std.proofs.Common.{ℕ, Option, refl, sym, ◌∙◌, ap, subst}
 use Rattle.gate_log.specs.Logs.{MayFollow, last_number}
-use Rattle.store_vectors.proofs.log_crashes.read_log.Goals as goal
+use Rattle.store_vectors.proofs.logs.read_log.Goals as goal
 
 -- the disk tells what it has, so what a log is read as is known
 pub returns-clause-quiet : goal.returns-clause-quiet
