@@ -120,7 +120,8 @@ fn watched(
     ensures { IfOk result (λ snapshot. All (λ layer. AreRowsOf index.now.schema layer.rows) snapshot.layers) }
 {
     let chunk = chunk_of(alloc, index, documents)?;
-    snapshot_of(alloc, Watched::over(alloc, chunk)?)
+    let snapshot = snapshot_of(alloc, Watched::over(alloc, chunk)?)?;
+    Ok(snapshot)
 }
 
 /// Appends how much was opened and sought, as far as that is asked. Of the seeks it is the number of the line, where they don't

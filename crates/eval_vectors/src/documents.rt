@@ -92,7 +92,7 @@ fn built(alloc: Global, index: &IndexConf, rows: Vec<DocRow>) -> Result<RamChunk
     ensures rows { IfOk result (λ chunk. AreRowsOf index.now.schema (⟦<RamChunk as Chunk>⟧.content chunk)) }
     ensures content { IfOk result (λ chunk. IsContent (⟦<RamChunk as Chunk>⟧.content chunk)) }
 {
-    RamChunk::build(alloc, rows)
+    Ok(RamChunk::build(alloc, rows)?)
 }
 
 /// The chunk of documents, one a line.
