@@ -77,7 +77,8 @@ fn push(
     ensures { OnOk result (AreFewRows index.now.schema rows.new.items) }
 {
     let (id, texts) = line.split_once(" ⇒ ").ok_or(NoMemory)?;
-    let row = row(alloc, index, id.parse::<u64>().or(Err(NoMemory))?, texts)?;
+    let id = id.parse::<u64>().or(Err(NoMemory))?;
+    let row = row(alloc, index, id, texts)?;
     if rows.len() >= 10_000 || !goes_on(rows.as_slice(), row.doc.id) {
         return Err(NoMemory);
     }
