@@ -198,7 +198,7 @@ fn try_lines<C: HitLists>(
 {
     let mut found = String::new(alloc);
     for line in lines.trim_start().lines() {
-        let (text, wanted) = line.split_once(" ⇒").unwrap_or((line, "an arrow"));
+        let (text, wanted) = line.split_once(" ⇒").ok_or("a line without an arrow")?;
         found.clear();
         let told = put_line(alloc, text, index, snapshot, asked, wanted, &mut found);
         compare(text, told, found.as_str(), wanted)?;

@@ -141,7 +141,7 @@ fn many(alloc: Global) -> Option<String> {
 #[test]
 fn queries_find_what_they_ask_for(rt: HostRuntime) -> Result<(), Fail> {
     for section in QUERIES.split("\n# ").skip(1) {
-        let (set, lines) = section.split_once('\n').unwrap_or((section, ""));
+        let (set, lines) = section.split_once('\n').ok_or("a head without lines")?;
         let documents = lines_of(DOCUMENTS, set).unwrap_or("");
         try_set(rt.alloc(), set, documents, lines, &Asked::Found(Call::Rows))?;
     }

@@ -36,7 +36,7 @@ fn put_told(alloc: Global, text: &str, trial: &Trial, into: &mut String) -> Opti
 pub(crate) fn try_table(alloc: Global, table: &str, trial: &Trial) -> Result<(), Fail> {
     let mut found = String::new(alloc);
     for line in table.lines() {
-        let (text, wanted) = line.split_once(" ⇒").unwrap_or((line, "an arrow"));
+        let (text, wanted) = line.split_once(" ⇒").ok_or("a line without an arrow")?;
         found.clear();
         let told = put_told(alloc, text, trial, &mut found);
         compare(text, told, found.as_str(), wanted)?;
