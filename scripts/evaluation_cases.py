@@ -14,7 +14,7 @@ TOKENS = "crates/text_vectors/src/evaluated_fields.rt"
 
 HEAD = """//! The {what} of docs/cases/evaluation.md, as scripts/evaluation_cases.py writes them: edit them there. {how}
 """
-SECTIONS = "A\n//! line `# S` begins what is of the set S. Parts of a line are separated by ` ⇒ `; the empty text is an empty part."
+SECTIONS = "A\n//! line `# S` begins what is of the set S. Parts of a line are separated by ` ⇒ `; the empty text is an empty part. The set `long` isn't\n//! from there: the script says what it is."
 LINES = "A\n//! line begins with `html_strip` and `index_sp` of the index; words and spans stand each after ` ⇒ `."
 
 PLACES = r"-|\d+\.\d+-\d+(?: \d+\.\d+-\d+)*"
@@ -79,6 +79,80 @@ def sets_and_queries(document):
     return sets, queries
 
 
+def configuration(about):
+    """The lines of the configuration of an index with these fields, zones and rules."""
+    fields, zones, sp, strip = about.split("; ")
+    return [
+        "index i {",
+        "type = rt",
+        "path = a",
+        f"index_sp = {sp}",
+        f"html_strip = {strip}",
+        *([f"index_zones = {zones}"] if zones != "none" else []),
+        *[f"rt_field = {field}" for field in fields.split(", ")],
+        "}",
+    ]
+
+
+def told(found):
+    """What is found as the tests tell it: the ids of all documents that match, then what is found in each where something is.
+
+    The hits of a document are in the order of its places there, which is that of the program's lists.
+    """
+    ids, parts = [], []
+    for one in found.split("; ") if found != "none" else []:
+        number, places, hits = re.fullmatch(rf"(\d+): ({PLACES}), ({HITS})", one).groups()
+        ids.append(number)
+        places = [] if places == "-" else places.split(" ")
+        hits = [] if hits == "-" else sorted(hits.split(" "), key=by_place)
+        if places or hits:
+            parts.append(f"{number}:{''.join(f' {it}' for it in places)},{''.join(f' {it}' for it in hits)}")
+    return "; ".join([" ".join(ids)] + parts)
+
+
+def by_place(hit):
+    """Where a hit stands among those of its document: by its field, its position, its query position and its word."""
+    query, word, field, position = map(int, re.split(r"[/@.]", hit))
+    return field, position, query, word
+
+
+# The most words that a query has.
+WORDS_OF_LONG = 255
+# The one that the second document doesn't have.
+MISSING = 128
+# What joins the words of a query, whether each word has an occurrence of its own or one goes over all, and the documents that match.
+JOINS = [
+    (" ", True, "1"),
+    (" | ", True, "12"),
+    (" MAYBE ", True, "12"),
+    (" << ", False, "1"),
+    (" NEAR/3 ", False, "1"),
+    (" SENTENCE ", False, "1"),
+    (" PARAGRAPH ", False, "1"),
+]
+
+
+def long_words(missing=None):
+    return [number for number in range(1, WORDS_OF_LONG + 1) if number != missing]
+
+
+def found_of_long(document, each):
+    """What is found of the words in the first document, which has them all, or in the second one."""
+    words = long_words(None if document == "1" else MISSING)
+    places = [f"0.{place}-{place}" for place in range(1, len(words) + 1)] if each else [f"0.1-{len(words)}"]
+    hits = [f"{number}/{number - 1}@0.{place}" for place, number in enumerate(words, 1)]
+    return f"{document}: {' '.join(places)}, {' '.join(hits)}"
+
+
+def long_set():
+    """Queries of the most words, joined by one operator, over a document that has them all, one that lacks one, and one without any."""
+    texts = [" ".join(f"w{number}" for number in long_words(missing)) for missing in (None, MISSING)] + ["none of them"]
+    documents = [(str(number), [text]) for number, text in enumerate(texts, 1)]
+    asked = [(between.join(f"w{number}" for number in long_words()), "; ".join(found_of_long(it, each) for it in found))
+             for between, each, found in JOINS]
+    return ("text; none; 1; 1", documents, []), [("long", query, found) for query, found in asked]
+
+
 def headed(rows):
     """Lines, with one of its own where the set changes."""
     before = None
@@ -124,13 +198,15 @@ def file(what, how, constants):
 
 def made():
     sets, queries = sets_and_queries(read(DOCUMENT))
-    schemas = [f"{name} ⇒ {about}" for name, (about, _, _) in sets.items()]
+    sets["long"], more = long_set()
+    queries += more
+    schemas = [(name, line) for name, (about, _, _) in sets.items() for line in configuration(about)]
     documents = [(name, " ⇒ ".join([number] + texts)) for name, (_, docs, _) in sets.items() for number, texts in docs]
-    asked = [(name, f"{query} ⇒ {found}") for name, query, found in queries]
+    asked = [(name, f"{query} ⇒ {told(found)}".rstrip()) for name, query, found in queries]
     yield EVALUATION, file("documents and queries", SECTIONS, [
-        constant("Sets with their fields, their zones, `index_sp` and `html_strip`.", "SETS", schemas),
+        constant("Sets with the configurations of their indexes.", "SETS", headed(schemas)),
         constant("Documents: the id and the text of each field.", "DOCUMENTS", headed(documents)),
-        constant("Queries with what they find.", "QUERIES", headed(asked)),
+        constant("Queries with the ids of the documents that match, and what they find in each: occurrences, and hits.", "QUERIES", headed(asked)),
     ])
     yield TOKENS, file("fields of documents", LINES, [
         constant("Texts of fields with their words and spans.", "FIELDS", fields(sets)),

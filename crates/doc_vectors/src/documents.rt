@@ -1,6 +1,5 @@
 //! Ten documents, by the texts of their fields.
-ghost use Rattle.std.specs.Prelude.{◌≡◌, ◌<◌, IfOk, OnOk, All, length, nat_lt};
-ghost use Rattle.std.specs.List.{list_all};
+ghost use Rattle.std.specs.Prelude.{◌<◌, IfOk, OnOk, All, AllPairs, IsTrue, length};
 ghost use Rattle.doc_types.specs.Schemas.{AreZones};
 ghost use Rattle.doc_types.specs.Documents.{AreRowsOf, IsDocOf, IsField};
 ghost use Rattle.doc_types.specs.Chunks.{IsContent};
@@ -138,11 +137,15 @@ fn row(alloc: Global, charset: &Charset, written: &Written) -> Result<DocRow, No
     })
 }
 
-/// Whether all ids of the rows are below this one.
-fn are_below(rows: &[DocRow], id: u64) -> bool
-    ensures { result ≡ list_all (λ row. nat_lt row.doc.id id) rows.now }
+/// Whether the id is above all ids of the rows.
+fn goes_on(rows: &[DocRow], id: u64) -> bool
+    requires { AllPairs (λ row later. row.doc.id < later.doc.id) rows.now }
+    ensures { IsTrue result → All (λ row. row.doc.id < id) rows.now }
 {
-    rows.iter().all(|row| row.doc.id < id)
+    match rows.last() {
+        Some(row) => row.doc.id < id,
+        None => true,
+    }
 }
 
 /// Appends a row, unless its id doesn't ascend.
@@ -151,7 +154,7 @@ fn push(rows: &mut Vec<DocRow>, row: DocRow) -> Result<(), NoMemory>
     requires rows { AreRowsOf the_schema rows.old.items }
     ensures { OnOk result (AreRowsOf the_schema rows.new.items) }
 {
-    if !are_below(rows.as_slice(), row.doc.id) {
+    if !goes_on(rows.as_slice(), row.doc.id) {
         return Err(NoMemory);
     }
     rows.push(row)?;

@@ -4,16 +4,33 @@ ghost use Rattle.doc_types.specs.Documents.{IsDocOf, IsField};
 ghost use Rattle.doc_vectors.specs.steps.Columns.{wide_schema};
 
 use crate::documents::many_rows;
+use crate::telling::{put_head, try_words};
 use charset_map::Charset;
 use doc_tokens::tokens;
-use doc_types::{Chunk, Doc, DocRow, FieldTokens, HitLists, NO_ROW};
+use doc_types::{Chunk, Doc, DocRow, FieldTokens, NO_ROW};
 use image_chunk::RamChunk;
 use mark_scan::MarkRules;
-use srch_base::{Items, NoMemory, Steps};
+use srch_base::{Items, NoMemory};
 use std::alloc::Global;
-use std::marker::Brand;
-use std::sync::ledger::{Blank, Ledger};
 use std::test::Fail;
+
+/// What is answered of a row of 32 fields whose first one has the letter as often as a field has positions.
+const LAST_POSITION: &str = "\
+1 rows, 32 fields, 1 words, 0 at 0
+a 1: 0/1: 65535 places up to 0.65535
+";
+
+/// The same of one whose fields each have it once.
+const LAST_FIELD: &str = "\
+1 rows, 32 fields, 1 words, 18446744073709551615 at 0
+a 1: 0/4294967295: 32 places up to 31.1
+";
+
+/// The same of one whose first two fields have it three times.
+const TWO_FIELDS: &str = "\
+1 rows, 32 fields, 1 words, 7 at 0
+a 1: 0/3: 0.1 0.2 0.3 1.1 1.2 1.3
+";
 
 /// The tokens of the letter `a`, so many times.
 fn letters(alloc: Global, charset: &Charset, count: usize) -> Result<FieldTokens, NoMemory>
@@ -68,59 +85,20 @@ fn one_row(alloc: Global, id: u64, filled: usize, count: usize) -> Result<RamChu
     Ok(chunk)
 }
 
-/// How many places the letter has in the first row, the last of them, and the fields that have it.
-fn places<L: Ledger, C: HitLists>(
-    alloc: Global,
-    chunk: &C,
-    blank: Blank,
-) -> Option<(usize, (u16, u32), u32)>
-    requires name { blank.name ≡ L.name }
-    requires parts { blank.parts ≡ L.parts }
-    requires some { 0 < blank.parts }
-{
-    let mut steps = Steps::<L>::new(blank);
-    let cursor = chunk.start(b"a")?;
-    let mut into = Vec::new(alloc);
-    let _row = chunk.row(&cursor)?;
-    chunk.open(&cursor, &mut into, &mut steps).ok()?;
-    let last = *into.last()?;
-    let fields = chunk.fields_at(&cursor, &mut steps);
-    Some((into.len(), last, fields))
+/// Fails where the image of one such row answers otherwise.
+fn try_row(alloc: Global, id: u64, filled: usize, count: usize, wanted: &str) -> Result<(), Fail> {
+    let chunk = one_row(alloc, id, filled, count)?;
+    let mut told = String::new(alloc);
+    put_head(&chunk, &mut told).ok_or("a chunk that can't be told")?;
+    try_words(alloc, &chunk, &mut told, wanted)
 }
 
-/// The same, counted in a ledger of its own.
-fn first_places(alloc: Global, chunk: &RamChunk) -> Option<(usize, (u16, u32), u32)> {
-    places::<Brand, RamChunk>(alloc, chunk, Blank::new(1))
-}
-
+/// The last position, the last field, and a cursor that ends.
 #[test]
-fn an_image_has_the_last_position(rt: HostRuntime) -> Result<(), Fail> {
-    let chunk = one_row(rt.alloc(), 0, 1, 65_535)?;
-    let found = first_places(rt.alloc(), &chunk);
-    assert_eq!(rt; found, Some((65_535, (0, 65_535), 1)));
-    assert_eq!(rt; chunk.find(0), Some(0));
-    Ok(())
-}
-
-#[test]
-fn an_image_has_the_last_field(rt: HostRuntime) -> Result<(), Fail> {
-    let chunk = one_row(rt.alloc(), u64::MAX, 32, 1)?;
-    let found = first_places(rt.alloc(), &chunk);
-    assert_eq!(rt; found, Some((32, (31, 1), u32::MAX)));
-    assert_eq!(rt; chunk.find(u64::MAX), Some(0));
-    assert_eq!(rt; chunk.fields(), 32);
-    Ok(())
-}
-
-#[test]
-fn a_cursor_of_an_image_ends(rt: HostRuntime) -> Result<(), Fail> {
-    let chunk = one_row(rt.alloc(), 7, 2, 3)?;
-    let mut cursor = chunk.start(b"a").ok_or("no word")?;
-    assert_eq!(rt; chunk.count(b"a"), 1);
-    assert_eq!(rt; chunk.row(&cursor), Some(0));
-    assert_eq!(rt; chunk.seek(&mut cursor, 1), NO_ROW);
-    assert_eq!(rt; chunk.row(&cursor), None);
-    Ok(())
+fn images_have_rows_at_the_limits(rt: HostRuntime) -> Result<(), Fail> {
+    try_row(rt.alloc(), 0, 1, 65_535, LAST_POSITION)?;
+    try_row(rt.alloc(), u64::MAX, 32, 1, LAST_FIELD)?;
+    try_row(rt.alloc(), 7, 2, 3, TWO_FIELDS)
 }
 
 /// The first row from which a cursor doesn't come to the next one that has a word, where each row of so many has it.
@@ -138,13 +116,18 @@ fn first_missed(chunk: &RamChunk, word: &[u8], step: u32) -> Option<u32>
     None
 }
 
+/// Whether so many rows have a word, each one of so many, and a cursor comes to the next of them from each row.
+fn leaps(chunk: &RamChunk, word: &[u8], step: u32, count: u32) -> bool
+    requires { 0 < step }
+{
+    chunk.count(word) == count && first_missed(chunk, word, step).is_none()
+}
+
 #[test]
 fn a_cursor_of_an_image_leaps(rt: HostRuntime) -> Result<(), Fail> {
-    let rows = many_rows(rt.alloc(), 500)?;
-    let chunk = RamChunk::build(rt.alloc(), rows)?;
-    assert_eq!(rt; chunk.count(b"a"), 500);
-    assert_eq!(rt; chunk.count(b"b"), 167);
-    assert_eq!(rt; first_missed(&chunk, b"a", 1), None);
-    assert_eq!(rt; first_missed(&chunk, b"b", 3), None);
-    Ok(())
+    let chunk = RamChunk::build(rt.alloc(), many_rows(rt.alloc(), 500)?)?;
+    if leaps(&chunk, b"a", 1, 500) && leaps(&chunk, b"b", 3, 167) {
+        return Ok(());
+    }
+    Err("a row is missed".into())
 }

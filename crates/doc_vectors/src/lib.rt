@@ -11,8 +11,6 @@ mod documents;
 #[cfg(test)]
 mod edges;
 #[cfg(test)]
-mod row_answers;
-#[cfg(test)]
 mod snapshots;
 #[cfg(test)]
-mod word_answers;
+mod telling;

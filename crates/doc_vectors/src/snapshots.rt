@@ -56,8 +56,9 @@ fn the_snapshot(alloc: Global) -> Result<Snapshot<PlainChunk>, NoMemory> {
 #[test]
 fn a_snapshot_counts_its_rows(rt: HostRuntime) -> Result<(), Fail> {
     let snapshot = the_snapshot(rt.alloc())?;
-    assert_eq!(rt; snapshot.live_count(), 7);
-    assert_eq!(rt; snapshot.disk_chunks(), 1);
-    assert_eq!(rt; snapshot.layers.as_slice().len(), 2);
+    let layers = snapshot.layers.as_slice().len();
+    if snapshot.live_count() != 7 || snapshot.disk_chunks() != 1 || layers != 2 {
+        return Err("another count".into());
+    }
     Ok(())
 }

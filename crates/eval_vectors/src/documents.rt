@@ -8,26 +8,25 @@ use doc_tokens::tokens;
 use doc_types::{Chunk, Doc, DocRow, FieldTokens};
 use image_chunk::RamChunk;
 use index_conf::IndexConf;
-use srch_base::Items;
+use srch_base::{Items, NoMemory};
 use std::alloc::Global;
-use std::test::Fail;
 
 /// The tokens of a short text by the rules of an index.
-fn field(alloc: Global, index: &IndexConf, text: &str) -> Result<FieldTokens, Fail>
+fn field(alloc: Global, index: &IndexConf, text: &str) -> Result<FieldTokens, NoMemory>
     requires { IsSoundIndex index.now }
     ensures { IfOk result IsShortField }
 {
     if text.len() > 5000 {
-        return Err("a text above 5000 bytes".into());
+        return Err(NoMemory);
     }
     match tokens(alloc, &index.charset, &index.rules, text) {
         Ok(found) if found.words.len() <= 1000 && found.spans.len() <= 1000 => Ok(found),
-        _ => Err("no tokens".into()),
+        _ => Err(NoMemory),
     }
 }
 
 /// The fields of a document, which is told by their texts with ` ⇒ ` between them.
-fn fields(alloc: Global, index: &IndexConf, texts: &str) -> Result<Vec<FieldTokens>, Fail>
+fn fields(alloc: Global, index: &IndexConf, texts: &str) -> Result<Vec<FieldTokens>, NoMemory>
     requires { IsSoundIndex index.now }
     ensures { IfOk result (λ fields. All IsShortField fields.items) }
 {
@@ -39,13 +38,13 @@ fn fields(alloc: Global, index: &IndexConf, texts: &str) -> Result<Vec<FieldToke
 }
 
 /// The row of a document.
-fn row(alloc: Global, index: &IndexConf, id: u64, texts: &str) -> Result<DocRow, Fail>
+fn row(alloc: Global, index: &IndexConf, id: u64, texts: &str) -> Result<DocRow, NoMemory>
     requires { IsSoundIndex index.now }
     ensures { IfOk result (IsShortRow index.now.schema) }
 {
     let fields = fields(alloc, index, texts)?;
     if fields.len() != index.schema.fields.len() || index.schema.attrs.len() != 0 {
-        return Err("a document that isn't of the index".into());
+        return Err(NoMemory);
     }
     let doc = Doc {
         id,
@@ -66,28 +65,29 @@ fn goes_on(rows: &[DocRow], id: u64) -> bool
     }
 }
 
-/// Appends the row of a document.
-pub(crate) fn push(
+/// Appends the row of a document, which is told by its id and its fields' texts.
+fn push(
     alloc: Global,
     index: &IndexConf,
     rows: &mut Vec<DocRow>,
-    id: u64,
-    texts: &str,
-) -> Result<(), Fail>
+    line: &str,
+) -> Result<(), NoMemory>
     requires index { IsSoundIndex index.now }
     requires rows { AreFewRows index.now.schema rows.old.items }
     ensures { OnOk result (AreFewRows index.now.schema rows.new.items) }
 {
+    let (id, texts) = line.split_once(" ⇒ ").ok_or(NoMemory)?;
+    let id = id.parse::<u64>().or(Err(NoMemory))?;
     let row = row(alloc, index, id, texts)?;
     if rows.len() >= 10_000 || !goes_on(rows.as_slice(), row.doc.id) {
-        return Err("a row that may not follow".into());
+        return Err(NoMemory);
     }
     rows.push(row)?;
     Ok(())
 }
 
 /// The chunk of rows of an index.
-pub(crate) fn built(alloc: Global, index: &IndexConf, rows: Vec<DocRow>) -> Result<RamChunk, Fail>
+fn built(alloc: Global, index: &IndexConf, rows: Vec<DocRow>) -> Result<RamChunk, NoMemory>
     requires index { IsSoundIndex index.now }
     requires rows { AreFewRows index.now.schema rows.items }
     ensures rows { IfOk result (λ chunk. AreRowsOf index.now.schema (⟦<RamChunk as Chunk>⟧.content chunk)) }
@@ -96,14 +96,15 @@ pub(crate) fn built(alloc: Global, index: &IndexConf, rows: Vec<DocRow>) -> Resu
     Ok(RamChunk::build(alloc, rows)?)
 }
 
-/// The chunk of documents, which are told by their ids and their fields' texts.
-pub(crate) fn chunk_of(alloc: Global, index: &IndexConf, lines: &str) -> Result<RamChunk, Fail>
+/// The chunk of documents, one a line.
+pub(crate) fn chunk_of(alloc: Global, index: &IndexConf, lines: &str) -> Result<RamChunk, NoMemory>
     requires { IsSoundIndex index.now }
+    ensures rows { IfOk result (λ chunk. AreRowsOf index.now.schema (⟦<RamChunk as Chunk>⟧.content chunk)) }
+    ensures content { IfOk result (λ chunk. IsContent (⟦<RamChunk as Chunk>⟧.content chunk)) }
 {
     let mut rows = Vec::new(alloc);
     'lines: for line in lines.lines() {
-        let (id, texts) = line.split_once(" ⇒ ").ok_or("a document without texts")?;
-        push(alloc, index, &mut rows, id.parse::<u64>()?, texts)?;
+        push(alloc, index, &mut rows, line)?;
     }
     built(alloc, index, rows)
 }

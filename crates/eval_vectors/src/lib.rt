@@ -3,27 +3,23 @@
 #![tactic(auto)]
 
 #[cfg(test)]
+mod asking;
+#[cfg(test)]
 mod cases;
 #[cfg(test)]
+mod conditions;
+#[cfg(test)]
 mod documents;
-#[cfg(test)]
-mod long_queries;
-#[cfg(test)]
-mod opening;
 #[cfg(test)]
 mod pages;
 #[cfg(test)]
 mod queries;
 #[cfg(test)]
-mod selecting;
-#[cfg(test)]
 mod sets;
 #[cfg(test)]
-mod sizes;
+mod tables;
 #[cfg(test)]
 mod telling;
-#[cfg(test)]
-mod visiting;
 #[cfg(test)]
 mod watched;
 #[cfg(test)]

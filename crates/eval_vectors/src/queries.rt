@@ -1,112 +1,177 @@
-//! Runs over queries and what they find, as docs/cases/evaluation.md tells it.
-ghost use Rattle.std.specs.Prelude.{◌<◌, ◌^◌, IfOk, length};
-ghost use Rattle.query_tree.specs.TreeKeys.{query_keys};
-ghost use Rattle.op_eval.specs.Numbered.{IsNumbered};
-ghost use Rattle.eval_vectors.specs.steps.Reading.{IsSoundIndex};
-
+//! What queries find in the documents of docs/cases/evaluation.md, and in many documents, worked out by how these are made; at how
+//! many rows `Matches` stops there, how many lists of places are opened, and how often a row is sought.
+use crate::asking::{Asked, try_set};
 use crate::cases::{DOCUMENTS, QUERIES};
-use crate::documents::chunk_of;
-use crate::sets::{index_of, lines_of};
-use crate::telling::{compare, matching, told};
-use doc_types::HitLists;
-use index_conf::IndexConf;
-use op_eval::for_schema;
-use query_read::read_query;
-use query_tree::Query;
+use crate::sets::lines_of;
+use crate::telling::Call;
 use std::alloc::Global;
 use std::test::Fail;
 
-/// The query that a short text is, as the index means it.
-pub(crate) fn query_of(alloc: Global, text: &str, index: &IndexConf) -> Result<Query, Fail>
-    requires { IsSoundIndex index.now }
-    ensures numbered { IfOk result IsNumbered }
-    ensures few { IfOk result (λ query. length (query_keys query) < 2 ^ 16) }
-{
-    if text.len() > 10_000 {
-        return Err("a text above 10,000 bytes".into());
-    }
-    match read_query(alloc, text, &index.schema, &index.charset) {
-        Ok(query) => Ok(for_schema(alloc, query, &index.schema)?),
-        Err(_) => Err(Fail::new(format!(in alloc; "no query: {text}")?)),
+/// Queries over the set `letters`: how many rows match, and whether a list is opened to find these.
+const OPENING: &str = r#"
+a ⇒ 8 rows, no list
+absent ⇒ 0 rows, no list
+a b ⇒ 7 rows, no list
+a -b ⇒ 1 rows, no list
+a | b ⇒ 8 rows, no list
+a MAYBE b ⇒ 8 rows, no list
+((a | b) c MAYBE x) -absent ⇒ 3 rows, no list
+"a b c"/2 ⇒ 7 rows, no list
+"a absent" ⇒ 0 rows, no list
+a (b | "a b") ⇒ 7 rows, no list
+"a b" ⇒ 4 rows, a list
+"a b"~3 ⇒ 7 rows, a list
+a << b ⇒ 5 rows, a list
+a NEAR/2 b ⇒ 6 rows, a list
+^a ⇒ 5 rows, a list
+a$ ⇒ 3 rows, a list
+@text[1] a ⇒ 5 rows, a list
+a (x | "a b") ⇒ 6 rows, a list
+"#;
+
+/// Queries with how many of the many documents they find. `seven` stands in 7, 14, .., 9,996. `rare phrase` are two, and 50, 150, ..,
+/// 9,950 have its words the other way round. `mark` stands at 5 to 11 in remainders 0 to 6 by 36, of which 0 comes 277 times and each
+/// other one 278 times. `red` stands in the 5,000 odd ones but 8,765, and `fox` in 1, 101, .., 9,901, where `red fox` stands, and in
+/// 2, 102, .., 9,902 without it. The query of five words finds 2,000 by their last digits; 1,428 of `seven`, of which 21, 91, .. and 63,
+/// 133, .. are among these, 143 and 142; 102 of `rare`, of which 350, 1,050, .., 9,450 have `seven`, 14.
+const COUNTS: &str = r#"
+all ⇒ 10000 rows
+all seven ⇒ 1428 rows
+all -seven ⇒ 8572 rows
+rare phrase ⇒ 102 rows
+"rare phrase" ⇒ 2 rows
+phrase << rare ⇒ 100 rows
+"all mark"~10 ⇒ 1945 rows
+all NEAR/10 mark ⇒ 1945 rows
+ten1 | ten3 | seven | rare | absent ⇒ 3231 rows
+red ⇒ 4999 rows
+fox ⇒ 200 rows
+"red fox" ⇒ 100 rows
+red -fox ⇒ 4899 rows
+absent ⇒ 0 rows
+"#;
+
+/// Queries over the many documents: at how many rows `Matches` stops, where each is taken, the lists that are opened there, and a
+/// number that their seeks don't pass. Of an AND the rarest word goes first, and what joins places opens the lists of the rows that
+/// have all its words. A row of an OR or of a quorum opens those of its words that it has: 102 of `rare`, 1,428 of `seven`, of which
+/// 14 have both. A word that the query has twice is two keywords, each with a list. By going to each row that has one of its words,
+/// `"red fox"` would seek some 10,000 times.
+const VISITS: &str = r#"
+"red fox" ⇒ 100 rows, 200 lists, seeks within 1200
+fox red ⇒ 100 rows, 200 lists, seeks within 1200
+all rare ⇒ 102 rows, 204 lists, seeks within 600
+"rare phrase" ⇒ 102 rows, 204 lists, seeks within 600
+phrase << rare ⇒ 102 rows, 204 lists, seeks within 600
+all seven rare ⇒ 14 rows, 42 lists, seeks within 600
+rare -seven ⇒ 88 rows, 88 lists, seeks within 800
+all -absent ⇒ 10000 rows, 10000 lists, seeks within 60000
+rare MAYBE all ⇒ 102 rows, 204 lists, seeks within 600
+"seven rare absent"/2 ⇒ 14 rows, 28 lists, seeks within 10000
+"seven rare absent"/1 ⇒ 1516 rows, 1530 lists, seeks within 15000
+(all rare) | (all absent) ⇒ 102 rows, 306 lists, seeks within 1000
+all absent ⇒ 0 rows, 0 lists, seeks within 2
+"#;
+
+/// The same queries: how many documents match, and how many lists are opened to find these.
+const CANDIDATES: &str = r#"
+"red fox" ⇒ 100 rows, 200 lists
+fox red ⇒ 100 rows, 0 lists
+all rare ⇒ 102 rows, 0 lists
+"rare phrase" ⇒ 2 rows, 204 lists
+phrase << rare ⇒ 100 rows, 204 lists
+all seven rare ⇒ 14 rows, 0 lists
+rare -seven ⇒ 88 rows, 0 lists
+all -absent ⇒ 10000 rows, 0 lists
+rare MAYBE all ⇒ 102 rows, 0 lists
+"seven rare absent"/2 ⇒ 14 rows, 0 lists
+"seven rare absent"/1 ⇒ 1516 rows, 0 lists
+(all rare) | (all absent) ⇒ 102 rows, 0 lists
+all absent ⇒ 0 rows, 0 lists
+"#;
+
+/// Searches over the many documents, each of which is ranked and offered to a page of 20 rows, with the lists that each opens. Of a
+/// phrase both words' lists are opened in the 100 rows that have both; a row of `rare | seven` opens those of its words that it has,
+/// of which 102 and 1,428 rows have one each. Where one word decides, its fields weigh a row, and no list is opened.
+const SEARCHES: &str = r#"
+"red fox" ⇒ 20 rows, 200 lists
+fox red ⇒ 20 rows, 200 lists
+rare | seven ⇒ 20 rows, 1530 lists
+all ⇒ 20 rows, 0 lists
+absent ⇒ 0 rows, 0 lists
+"#;
+
+/// The words of one of the many documents behind its first two.
+fn pair_of(number: u64) -> &'static str {
+    match number {
+        1_234 | 8_765 => "rare phrase",
+        _ if number % 100 == 50 => "phrase rare",
+        _ if number % 100 == 1 => "red fox",
+        _ if number % 100 == 2 => "no fox",
+        _ if number % 2 == 1 => "red no",
+        _ => "no no",
     }
 }
 
-/// What is asked about the query of a text.
-pub(crate) enum Asked {
-    /// What it finds, row by row.
-    Found,
-    /// How many rows match.
-    Count,
-    /// Whether it opens a list of a chunk that has no memory for them.
-    Opens,
-}
-
-/// What a query comes to. Nothing that it has is let go here, so that its exits are cheap to prove.
-fn answer_of<C: HitLists>(
-    alloc: Global,
-    query: &Query,
-    chunk: &C,
-    asked: &Asked,
-) -> Result<String, Fail>
-    requires { length (query_keys query.now) < 2 ^ 16 }
-{
-    match asked {
-        Asked::Found => told(alloc, query, chunk),
-        Asked::Count => {
-            let count = matching(alloc, query, chunk)?.len();
-            Ok(format!(in alloc; "{count}")?)
+/// Appends one of the many documents, with a text of 40 words: `all`; `seven` in each seventh one; `rare phrase` in two, and `phrase
+/// rare` in each hundredth one, or `red fox` or `fox` in each hundredth one, or `red` in odd ones; then `mark` among 35 words of the
+/// number's last digit.
+fn put_document(number: u64, into: &mut String) -> Option<()> {
+    let seven = if number % 7 == 0 { "seven" } else { "no" };
+    let (pair, digit) = (pair_of(number), number % 10);
+    write!(into, "{number} ⇒ all {seven} {pair}").ok()?;
+    for place in 0..36 {
+        if place == number % 36 {
+            into.push_str(" mark").ok()?;
+        } else {
+            write!(into, " ten{digit}").ok()?;
         }
-        Asked::Opens => {
-            let opens = matching(alloc, query, chunk).is_err();
-            Ok(String::from_str(alloc, if opens { "a list" } else { "no list" })?)
-        }
     }
+    into.push('\n').ok()
 }
 
-/// What the query of a text comes to.
-pub(crate) fn answer<C: HitLists>(
-    alloc: Global,
-    text: &str,
-    index: &IndexConf,
-    chunk: &C,
-    asked: &Asked,
-) -> Result<String, Fail>
-    requires { IsSoundIndex index.now }
-{
-    let query = query_of(alloc, text, index)?;
-    answer_of(alloc, &query, chunk, asked)
-}
-
-/// Fails with the first of these lines whose query comes to something else, and with what it comes to.
-pub(crate) fn try_lines<C: HitLists>(
-    alloc: Global,
-    lines: &str,
-    index: &IndexConf,
-    chunk: &C,
-    asked: &Asked,
-) -> Result<(), Fail>
-    requires { IsSoundIndex index.now }
-{
-    for line in lines.lines() {
-        let (text, wanted) = line.split_once(" ⇒ ").ok_or("a line without an arrow")?;
-        let found = answer(alloc, text, index, chunk, asked)?;
-        compare(alloc, text, found.as_str(), wanted)?;
+/// The many documents.
+fn many(alloc: Global) -> Option<String> {
+    let mut text = String::new(alloc);
+    for number in 1..10_001 {
+        put_document(number, &mut text)?;
     }
-    Ok(())
-}
-
-/// Fails with the first query over a set that finds something else.
-fn try_set(alloc: Global, set: &str, lines: &str) -> Result<(), Fail> {
-    let index = index_of(alloc, set)?;
-    let chunk = chunk_of(alloc, &index, lines_of(DOCUMENTS, set)?)?;
-    try_lines(alloc, lines, &index, &chunk, &Asked::Found)
+    Some(text)
 }
 
 #[test]
 fn queries_find_what_they_ask_for(rt: HostRuntime) -> Result<(), Fail> {
     for section in QUERIES.split("\n# ").skip(1) {
         let (set, lines) = section.split_once('\n').ok_or("a head without lines")?;
-        try_set(rt.alloc(), set, lines)?;
+        let documents = lines_of(DOCUMENTS, set).unwrap_or("");
+        try_set(rt.alloc(), set, documents, lines, &Asked::Found(Call::Rows))?;
     }
-    Ok(())
+    let documents = lines_of(DOCUMENTS, "letters").unwrap_or("");
+    try_set(
+        rt.alloc(),
+        "letters",
+        documents,
+        OPENING,
+        &Asked::Opens(Call::Count),
+    )
+}
+
+/// Tries the tables over the many documents.
+fn try_many(alloc: Global, documents: &str) -> Result<(), Fail> {
+    let set = "letters";
+    try_set(alloc, set, documents, COUNTS, &Asked::Found(Call::Count))?;
+    try_set(alloc, set, documents, VISITS, &Asked::Seeks(Call::Stops))?;
+    try_set(
+        alloc,
+        set,
+        documents,
+        CANDIDATES,
+        &Asked::Lists(Call::Count),
+    )?;
+    try_set(alloc, set, documents, SEARCHES, &Asked::Search)
+}
+
+#[test]
+fn queries_find_their_rows_among_many(rt: HostRuntime) -> Result<(), Fail> {
+    let documents = many(rt.alloc()).ok_or("no documents")?;
+    try_many(rt.alloc(), documents.as_str())
 }

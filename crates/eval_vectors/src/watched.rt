@@ -1,4 +1,4 @@
-//! A chunk that counts the lists of places that are opened, and how often a row is sought, or whose lists can't be opened.
+//! A chunk that counts the lists of places that are opened, and how often a row is sought.
 ghost use Rattle.std.specs.Prelude.{◌≡◌, IfOk};
 
 use doc_types::{Chunk, Cursor, Gap, HitLists, Value, ZoneSpan};
@@ -8,50 +8,31 @@ use std::sync::Arc;
 use std::sync::atomic::{AtomicU64, Ordering};
 use std::sync::ledger::Ledger;
 
-/// A chunk with two counts, which has no memory for lists of places where it is shut.
+/// A chunk with two counts.
 #[derive(Drop)]
 pub(crate) struct Watched<C> {
     chunk: C,
     lists: Arc<AtomicU64, Global>,
     seeks: Arc<AtomicU64, Global>,
-    is_shut: bool,
 }
 
 impl<C: Drop> Watched<C> {
-    /// A chunk whose lists are opened and counted.
+    /// A chunk whose lists are counted.
     pub(crate) fn over(alloc: Global, chunk: C) -> Result<Watched<C>, NoMemory>
-        ensures { IfOk result (λ watched. watched.chunk ≡ chunk) }
-    {
-        Watched::made(alloc, chunk, false)
-    }
-
-    /// A chunk whose lists can't be opened.
-    pub(crate) fn shut(alloc: Global, chunk: C) -> Result<Watched<C>, NoMemory> {
-        Watched::made(alloc, chunk, true)
-    }
-
-    fn made(alloc: Global, chunk: C, is_shut: bool) -> Result<Watched<C>, NoMemory>
         ensures { IfOk result (λ watched. watched.chunk ≡ chunk) }
     {
         Ok(Watched {
             chunk,
             lists: Arc::new(alloc, AtomicU64::new(0))?,
             seeks: Arc::new(alloc, AtomicU64::new(0))?,
-            is_shut,
         })
     }
 
-    /// Counts from 0.
-    pub(crate) fn begin(&self) {
-        self.lists.store(0, Ordering::SeqCst);
-        self.seeks.store(0, Ordering::SeqCst);
-    }
-
-    /// How many lists were opened, and how often a row was sought.
+    /// How many lists were opened, and how often a row was sought, since this was asked before.
     pub(crate) fn counts(&self) -> (u64, u64) {
         (
-            self.lists.load(Ordering::SeqCst),
-            self.seeks.load(Ordering::SeqCst),
+            self.lists.swap(0, Ordering::SeqCst),
+            self.seeks.swap(0, Ordering::SeqCst),
         )
     }
 }
@@ -149,10 +130,6 @@ impl<C: HitLists> HitLists for Watched<C> {
         into: &mut Vec<(u16, u32)>,
         steps: &mut Steps<L>,
     ) -> Result<(), NoMemory> {
-        if self.is_shut {
-            steps.tick();
-            return Err(NoMemory);
-        }
         self.lists.store(
             self.lists.load(Ordering::SeqCst).saturating_add(1),
             Ordering::SeqCst,

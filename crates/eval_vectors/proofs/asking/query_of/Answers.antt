@@ -5,7 +5,7 @@ use Rattle.query_read.proofs.QueryKeys.{few_when_read, numbered_when_read}
 use Rattle.op_eval.specs.Numbered.{IsNumbered}
 use Rattle.op_eval.proofs.NumberedHits.{numbers_kept}
 use Rattle.query_tree.specs.declared.query.Query.{Query}
-use Rattle.eval_vectors.proofs.queries.query_of.Goals as goal
+use Rattle.eval_vectors.proofs.asking.query_of.Goals as goal
 
 pub returns-in-Ok-clause-numbered : goal.returns-in-Ok-clause-numbered
 returns-in-Ok-clause-numbered c =

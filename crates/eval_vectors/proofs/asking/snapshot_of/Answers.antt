@@ -1,7 +1,7 @@
 use Rattle.std.proofs.Common.{rules, ◌≡◌, ◌∷◌, [], subst, sym}
 use Rattle.doc_types.specs.Snapshots.{AreLayers}
 use Rattle.eval_vectors.proofs.Rows.{one_whole}
-use Rattle.eval_vectors.proofs.selecting.snapshot_of.Goals as goal
+use Rattle.eval_vectors.proofs.asking.snapshot_of.Goals as goal
 
 pub invariant_of-result : goal.invariant_of-result
 invariant_of-result g c =

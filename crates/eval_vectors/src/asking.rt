@@ -1,0 +1,220 @@
+//! Queries that are asked over documents, as the lines of tables tell them.
+ghost use Rattle.std.specs.Prelude.{◌≡◌, ◌<◌, ◌^◌, ◌∷◌, [], All, IfOk, length};
+ghost use Rattle.doc_search.specs.Searches.{IsAskedOf};
+ghost use Rattle.doc_types.specs.Chunks.{IsContent};
+ghost use Rattle.doc_types.specs.Documents.{AreRowsOf};
+ghost use Rattle.doc_types.specs.declared.schema.Schema.{Schema};
+ghost use Rattle.op_eval.specs.Numbered.{IsNumbered};
+ghost use Rattle.query_tree.specs.TreeKeys.{query_keys};
+ghost use Rattle.eval_vectors.specs.steps.Reading.{IsSoundIndex, whole};
+
+use crate::documents::chunk_of;
+use crate::sets::index_of;
+use crate::tables::compare;
+use crate::telling::{Call, put_answer};
+use crate::watched::Watched;
+use doc_search::{Question, search};
+use doc_types::{Chunk, HitLists, Layer, Snapshot};
+use image_chunk::RamChunk;
+use index_conf::IndexConf;
+use op_eval::for_schema;
+use query_read::read_query;
+use query_tree::Query;
+use rankers::{Ranker, Weights};
+use row_select::{Order, Page};
+use srch_base::{Items, NoMemory};
+use std::alloc::Global;
+use std::sync::Arc;
+use std::test::Fail;
+
+/// What is asked about the queries of a table.
+pub(crate) enum Asked {
+    /// What a call finds.
+    Found(Call),
+    /// That, and how many lists of places it opens.
+    Lists(Call),
+    /// That, and whether it opens one.
+    Opens(Call),
+    /// That, how many lists it opens, and whether it seeks no more often than the line says.
+    Seeks(Call),
+    /// How many lists a whole search opens.
+    Search,
+}
+
+/// The query that a short text is, as the index means it.
+fn query_of(alloc: Global, text: &str, index: &IndexConf) -> Result<Query, NoMemory>
+    requires { IsSoundIndex index.now }
+    ensures numbered { IfOk result IsNumbered }
+    ensures few { IfOk result (λ query. length (query_keys query) < 2 ^ 16) }
+{
+    if text.len() > 10_000 {
+        return Err(NoMemory);
+    }
+    match read_query(alloc, text, &index.schema, &index.charset) {
+        Ok(query) => Ok(for_schema(alloc, query, &index.schema)?),
+        Err(_) => Err(NoMemory),
+    }
+}
+
+/// The search of a query over an index: its first page, by weight.
+fn question_of(alloc: Global, query: Query, index: &IndexConf) -> Result<Question, NoMemory>
+    requires index { IsSoundIndex index.now }
+    requires query { IsNumbered query }
+    requires few { length (query_keys query) < 2 ^ 16 }
+    ensures asked { IfOk result (IsAskedOf index.now.schema) }
+    ensures few { IfOk result (λ question. length (query_keys question.query) < 2 ^ 16) }
+{
+    let fields = index.schema.fields.len();
+    Ok(Question {
+        query,
+        ranker: Ranker::Proximity,
+        weights: Weights {
+            list: Items::new(vec![in alloc; 1; fields]?),
+        },
+        filters: Items::new(Vec::new(alloc)),
+        order: Order {
+            keys: Items::new(Vec::new(alloc)),
+        },
+        page: Page {
+            offset: 0,
+            count: 20,
+            max_matches: 1000,
+        },
+        attrs: index.schema.attrs.len() as u16,
+    })
+}
+
+/// A chunk in memory, of which no row is dead.
+fn layer_of<C: Chunk>(alloc: Global, chunk: C) -> Result<Layer<C>, NoMemory>
+    requires { IsContent (C.content chunk) }
+    ensures { IfOk result (λ layer. layer ≡ whole (C.content chunk)) }
+{
+    Ok(Layer {
+        chunk: Arc::new(alloc, chunk)?,
+        disk: false,
+        dead: Arc::new(alloc, Items::new(Vec::new(alloc)))?,
+    })
+}
+
+/// A snapshot of one such layer.
+fn snapshot_of<C: Chunk>(alloc: Global, chunk: C) -> Result<Snapshot<C>, NoMemory>
+    requires { IsContent (C.content chunk) }
+    ensures { IfOk result (λ snapshot. snapshot.layers ≡ whole (C.content chunk) ∷ []) }
+{
+    let mut layers = Vec::new(alloc);
+    layers.push(layer_of(alloc, chunk)?)?;
+    Ok(Snapshot {
+        number: 1,
+        shape: 0,
+        layers: Items::new(layers),
+    })
+}
+
+/// A snapshot of documents, whose chunk counts what is opened.
+fn watched(
+    alloc: Global,
+    index: &IndexConf,
+    documents: &str,
+) -> Result<Snapshot<Watched<RamChunk>>, NoMemory>
+    requires { IsSoundIndex index.now }
+    ensures { IfOk result (λ snapshot. All (λ layer. AreRowsOf index.now.schema layer.rows) snapshot.layers) }
+{
+    let chunk = chunk_of(alloc, index, documents)?;
+    let snapshot = snapshot_of(alloc, Watched::over(alloc, chunk)?)?;
+    Ok(snapshot)
+}
+
+/// Appends how much was opened and sought, as far as that is asked. Of the seeks it is the number of the line, where they don't
+/// pass it.
+fn put_counts(counts: (u64, u64), asked: &Asked, wanted: &str, into: &mut String) -> Option<()> {
+    let (lists, seeks) = counts;
+    match asked {
+        Asked::Found(_) => Some(()),
+        Asked::Opens(_) if lists == 0 => into.push_str(", no list").ok(),
+        Asked::Opens(_) => into.push_str(", a list").ok(),
+        Asked::Lists(_) | Asked::Search => write!(into, ", {lists} lists").ok(),
+        Asked::Seeks(_) => {
+            let (_, most) = wanted.rsplit_once(' ')?;
+            let within = seeks.max(most.parse::<u64>().ok()?);
+            write!(into, ", {lists} lists, seeks within {within}").ok()
+        }
+    }
+}
+
+/// Appends what a query comes to.
+fn put_asked<C: HitLists>(
+    alloc: Global,
+    question: &Question,
+    snapshot: &Snapshot<Watched<C>>,
+    asked: &Asked,
+    wanted: &str,
+    into: &mut String,
+) -> Option<()>
+    requires few { length (query_keys question.now.query) < 2 ^ 16 }
+    requires asked { (schema : Schema) × IsAskedOf schema question.now × All (λ layer. AreRowsOf schema layer.rows) snapshot.now.layers }
+{
+    let chunk: &Watched<C> = &snapshot.layers.as_slice().first()?.chunk;
+    chunk.counts();
+    match asked {
+        Asked::Found(call) | Asked::Lists(call) | Asked::Opens(call) | Asked::Seeks(call) => {
+            put_answer(alloc, &question.query, chunk, call, into)?;
+        }
+        Asked::Search => {
+            let found = search(alloc, question, snapshot).ok()?.len();
+            write!(into, " {found} rows").ok()?;
+        }
+    }
+    put_counts(chunk.counts(), asked, wanted, into)
+}
+
+/// Appends what the query of a text comes to.
+fn put_line<C: HitLists>(
+    alloc: Global,
+    text: &str,
+    index: &IndexConf,
+    snapshot: &Snapshot<Watched<C>>,
+    asked: &Asked,
+    wanted: &str,
+    into: &mut String,
+) -> Option<()>
+    requires index { IsSoundIndex index.now }
+    requires rows { All (λ layer. AreRowsOf index.now.schema layer.rows) snapshot.now.layers }
+{
+    let query = query_of(alloc, text, index).ok()?;
+    let question = question_of(alloc, query, index).ok()?;
+    put_asked(alloc, &question, snapshot, asked, wanted, into)
+}
+
+/// Fails with the first of these lines whose query comes to something else, and with what it comes to.
+fn try_lines<C: HitLists>(
+    alloc: Global,
+    lines: &str,
+    index: &IndexConf,
+    snapshot: &Snapshot<Watched<C>>,
+    asked: &Asked,
+) -> Result<(), Fail>
+    requires index { IsSoundIndex index.now }
+    requires rows { All (λ layer. AreRowsOf index.now.schema layer.rows) snapshot.now.layers }
+{
+    let mut found = String::new(alloc);
+    for line in lines.trim_start().lines() {
+        let (text, wanted) = line.split_once(" ⇒").ok_or("a line without an arrow")?;
+        found.clear();
+        let told = put_line(alloc, text, index, snapshot, asked, wanted, &mut found);
+        compare(text, told, found.as_str(), wanted)?;
+    }
+    Ok(())
+}
+
+/// Tries the lines of a table over documents of the index of a set.
+pub(crate) fn try_set(
+    alloc: Global,
+    set: &str,
+    documents: &str,
+    lines: &str,
+    asked: &Asked,
+) -> Result<(), Fail> {
+    let index = index_of(alloc, set)?;
+    let snapshot = watched(alloc, &index, documents)?;
+    try_lines(alloc, lines, &index, &snapshot, asked)
+}
