@@ -1,5 +1,5 @@
 -- Rows that the tests read are what a chunk holds.
-use Rattle.std.proofs.Common.{◌≡◌, ◌≢◌, false, refl, subst, ℕ, ◌-◌, ◌<◌, ◌≤◌, ◌*◌, List, [], ◌∷◌, ◌++◌, Some, length, length-append, get_or, slice_get, nat_lt, sym, arith, All, AllPairs, ap, ◌⊎◌, inl, inr}
+use Rattle.std.proofs.Common.{◌≡◌, ◌≢◌, refl, subst, ℕ, ◌-◌, ◌<◌, ◌≤◌, ◌*◌, List, [], ◌∷◌, ◌++◌, Some, length, length-append, get_or, slice_get, nat_lt, sym, arith, All, AllPairs, ap, ◌⊎◌, inl, inr}
 use Rattle.std.specs.List.{sum_by}
 use Rattle.std.specs.Bool.{IsTrue}
 use Rattle.std.proofs.lemmas.Bool.{cases_lt}

@@ -1,4 +1,4 @@
-use Rattle.std.proofs.Common.{◌≡◌, ap, length, arith, subst, sym}
+use Rattle.std.proofs.Common.{ap, length, arith, subst, sym}
 use Rattle.charset_map.specs.Spans.{folded}
 use Rattle.query_marks.specs.Marks.{setting_of}
 use Rattle.query_read.proofs.QueryKeys.{few_when_read, numbered_when_read}
