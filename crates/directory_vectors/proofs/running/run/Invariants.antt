@@ -1,6 +1,6 @@
 use Rattle.store_keep.specs.Opens.{base_of}
-use Rattle.keep_vectors.specs.Ready.{plain}
-use Rattle.keep_vectors.proofs.running.run.Given as goal
+use Rattle.directory_vectors.specs.Ready.{plain}
+use Rattle.directory_vectors.proofs.running.run.Given as goal
 
 -- the store's own book and beginning
 abbrev pub ghosts-run_opened : goal.ghosts-run_opened

@@ -1,5 +1,5 @@
 -- A keeper of an index without columns, with which commits can be made.
-use Rattle.std.specs.Prelude.{◌≡◌, ℕ, ◌≤◌, List, [], ◌∷◌, false}
+use Rattle.std.specs.Prelude.{◌≡◌, ℕ, ◌≤◌, [], false}
 use Rattle.chunk_store.specs.declared.disk.Disk.{Ghosts as DiskWords}
 use Rattle.doc_types.specs.declared.schema.Schema.{Schema}
 use Rattle.step_history.specs.History.{Base}
@@ -8,7 +8,7 @@ use Rattle.store_keep.specs.Keepers.{IsSound}
 use Rattle.store_keep.specs.declared.keeper.Keeper.{Keeper}
 
 abbrev pub plain : Schema
-plain = record { name = 116 ∷ []; fields = []; attrs = []; zones = []; sp = false }
+plain = record { name = []; fields = []; attrs = []; zones = []; sp = false }
 
 pub record IsReady {D J : Type 0} (words : DiskWords D) (schema : ℕ → Schema) (base : ℕ → Base) (keeper : Keeper D J) (token : TokenValue) : Type 0 where
   pub sound : IsSound words schema base keeper
