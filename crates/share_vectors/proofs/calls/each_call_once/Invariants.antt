@@ -1,5 +1,5 @@
 use Rattle.std.proofs.Common.{[], false}
-use Rattle.history_vectors.proofs.calls.each_call_once.Given as goal
+use Rattle.share_vectors.proofs.calls.each_call_once.Given as goal
 
 -- the book that was just made, and an index without documents
 abbrev pub ghosts-calls : goal.ghosts-calls

@@ -3,12 +3,9 @@
 ghost use Rattle.std.specs.Prelude.{◌≡◌, []};
 
 use crate::writing::{is_after, open_line, write};
-use srch_base::NoMemory;
 use std::alloc::Global;
 use std::marker::Brand;
-use std::process::Abort;
 use std::sync::Wait;
-use std::test::Fail;
 use std::thread::{Threads, for_each_mut, join};
 use step_book::{Naming, NewBook};
 use step_line::Line;
@@ -66,14 +63,15 @@ impl<J: Naming> Reader<J> {
 }
 
 /// A reader for each worker of the line.
-fn readers<J: Naming>(alloc: Global, line: &Line<J>) -> Result<Vec<Reader<J>>, NoMemory>
+fn readers<J: Naming>(alloc: Global, line: &Line<J>) -> Option<Vec<Reader<J>>>
     requires { line.now.workers ≡ 3 }
 {
     let mut readers = Vec::new(alloc);
-    for token in [line.token(1)?, line.token(2)?, line.token(3)?] {
-        readers.push(Reader { token, wrong: 0 })?;
+    for worker in 1..4 {
+        let token = line.token(worker).ok()?;
+        readers.push(Reader { token, wrong: 0 }).ok()?;
     }
-    Ok(readers)
+    Some(readers)
 }
 
 /// Readers beside a writer, and then each of them with a note. Whether each found what it was to find.
@@ -81,10 +79,12 @@ fn beside<J: Naming + Send + Sync, R: Threads + Wait + Sync>(
     rt: &R,
     alloc: Global,
     line: &mut Line<J>,
-) -> Result<bool, NoMemory>
+) -> bool
     requires { line.old.workers ≡ 3 }
 {
-    let mut readers = readers(alloc, line)?;
+    let Some(mut readers) = readers(alloc, line) else {
+        return false;
+    };
     // The writing end stays in this thread.
     let ((), written) = join(
         rt,
@@ -96,37 +96,36 @@ fn beside<J: Naming + Send + Sync, R: Threads + Wait + Sync>(
                 &|_: usize, reader: &mut Reader<J>| reader.read_on(),
             )
         },
-        || write(rt, alloc, line, STEPS).is_ok(),
+        || write(rt, alloc, line, STEPS).is_some(),
     );
-    if !written {
-        return Err(NoMemory);
-    }
     let note = line.note();
-    let mut all = true;
+    let mut all = written;
     for reader in readers.as_mut_slice() {
         if !reader.finds(&note) {
             all = false;
         }
     }
-    Ok(all)
+    all
 }
 
-fn read_beside<J: Naming + Send + Sync, R: Threads + Wait + Abort + Sync>(
+/// Whether the readers of a new line find what they are to find.
+fn read_beside<J: Naming + Send + Sync, R: Threads + Wait + Sync>(
     rt: &R,
     alloc: Global,
     opened: NewBook,
-) -> Result<(), Fail>
+) -> bool
     requires book { opened.past.seen.book ≡ J.book 0 }
     requires base { (J.base 0).opening ≡ record { number = 0; shape = 0; layers = [] } }
 {
-    let mut line = open_line::<J>(alloc, opened)?;
+    let Some(mut line) = open_line::<J>(alloc, opened) else {
+        return false;
+    };
     let found = beside(rt, alloc, &mut line);
     line.close(rt);
-    assert!(rt; found?);
-    Ok(())
+    found
 }
 
 #[test]
-fn readers_beside_a_writer(rt: HostRuntime) -> Result<(), Fail> {
-    read_beside::<Brand, _>(&rt, rt.alloc(), NewBook::new())
+fn readers_beside_a_writer(rt: HostRuntime) {
+    assert!(rt; read_beside::<Brand, _>(&rt, rt.alloc(), NewBook::new()));
 }

@@ -1,7 +1,7 @@
 use Rattle.std.proofs.Common.{rules, refl}
 use Rattle.step_history.specs.History.{last_snapshot}
-use Rattle.history_vectors.proofs.Bare.{job_follows}
-use Rattle.history_vectors.proofs.writing.end_of_job.Goals as goal
+use Rattle.share_vectors.proofs.Bare.{job_follows}
+use Rattle.share_vectors.proofs.writing.end_of_job.Goals as goal
 
 pub new-requires-2-clause-follows : goal.new-requires-2-clause-follows
 new-requires-2-clause-follows g c =

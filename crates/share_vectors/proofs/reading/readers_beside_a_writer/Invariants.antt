@@ -1,5 +1,5 @@
 use Rattle.std.proofs.Common.{[], false}
-use Rattle.history_vectors.proofs.reading.readers_beside_a_writer.Given as goal
+use Rattle.share_vectors.proofs.reading.readers_beside_a_writer.Given as goal
 
 -- the book that was just made, and an index without documents
 abbrev pub ghosts-read_beside : goal.ghosts-read_beside
