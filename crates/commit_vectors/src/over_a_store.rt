@@ -1,10 +1,9 @@
 //! Commits of a store, which puts layers together: what each comes to, and each row of each layer after it.
-ghost use Rattle.std.specs.Prelude.{◌≡◌, []};
+ghost use Rattle.std.specs.Prelude.{◌≡◌};
+ghost use Rattle.commit_vectors.specs.Plain.{plain};
 
 use crate::scripts::{schema, txn};
-use crate::telling::{commit_told, duplicate_told, full_told, try_told};
-use commit_outcomes::CommitOutcome;
-use doc_types::{Chunk, Snapshot};
+use crate::telling::{compare, put_outcome};
 use plain_store::PlainStore;
 use std::alloc::Global;
 use std::test::Fail;
@@ -33,134 +32,77 @@ const COMMITS: &str = "
 * ⇒ 0 removed, 16
 ";
 
-/// Ids that are inserted one by one, of which a commit is told by its number, the shape, which stays in memory, and how many layers
-/// there are: four layers behind one of their size make one of them all.
+/// Ids that are inserted one by one, of which a commit is told by how many ids it removed, its number, the shape, which stays in
+/// memory, and how many layers there are: four layers behind one of their size make one of them all.
 const INSERTED: &str = "
-+5 ⇒ 1 0 1
++5 ⇒ 0 removed, 1 of shape 0 with 1
 +5 ⇒ 5 is there
-+9 ⇒ 2 0 2
-+8 ⇒ 3 0 3
-+7 ⇒ 4 0 4
-+6 ⇒ 5 0 1
-+4 ⇒ 6 0 2
-+3 ⇒ 7 0 3
-+2 ⇒ 8 0 4
-+1 ⇒ 9 0 5
-+20 ⇒ 10 0 2
-+19 ⇒ 11 0 3
-+18 ⇒ 12 0 4
-+17 ⇒ 13 0 5
-+16 ⇒ 14 0 6
-+15 ⇒ 15 0 3
-+14 ⇒ 16 0 4
-+21 ⇒ 17 0 5
-+22 ⇒ 18 0 6
-+23 ⇒ 19 0 7
-+24 ⇒ 20 0 4
-+25 ⇒ 21 0 5
-+26 ⇒ 22 0 6
-+27 ⇒ 23 0 7
-+28 ⇒ 24 0 8
-+29 ⇒ 25 0 1
++9 ⇒ 0 removed, 2 of shape 0 with 2
++8 ⇒ 0 removed, 3 of shape 0 with 3
++7 ⇒ 0 removed, 4 of shape 0 with 4
++6 ⇒ 0 removed, 5 of shape 0 with 1
++4 ⇒ 0 removed, 6 of shape 0 with 2
++3 ⇒ 0 removed, 7 of shape 0 with 3
++2 ⇒ 0 removed, 8 of shape 0 with 4
++1 ⇒ 0 removed, 9 of shape 0 with 5
++20 ⇒ 0 removed, 10 of shape 0 with 2
++19 ⇒ 0 removed, 11 of shape 0 with 3
++18 ⇒ 0 removed, 12 of shape 0 with 4
++17 ⇒ 0 removed, 13 of shape 0 with 5
++16 ⇒ 0 removed, 14 of shape 0 with 6
++15 ⇒ 0 removed, 15 of shape 0 with 3
++14 ⇒ 0 removed, 16 of shape 0 with 4
++21 ⇒ 0 removed, 17 of shape 0 with 5
++22 ⇒ 0 removed, 18 of shape 0 with 6
++23 ⇒ 0 removed, 19 of shape 0 with 7
++24 ⇒ 0 removed, 20 of shape 0 with 4
++25 ⇒ 0 removed, 21 of shape 0 with 5
++26 ⇒ 0 removed, 22 of shape 0 with 6
++27 ⇒ 0 removed, 23 of shape 0 with 7
++28 ⇒ 0 removed, 24 of shape 0 with 8
++29 ⇒ 0 removed, 25 of shape 0 with 1
 +9 ⇒ 9 is there
-+30 ⇒ 26 0 2
++30 ⇒ 0 removed, 26 of shape 0 with 2
 ";
 
-/// What is told of a commit.
-#[derive(Clone, Copy)]
-enum Answered {
-    Rows,
-    Counts,
-}
-
-/// The number, the shape and how many layers there are after a commit that removes nothing.
-fn counts_told<C: Chunk>(
-    alloc: Global,
-    removed: u32,
-    snapshot: &Snapshot<C>,
-) -> Result<String, Fail> {
-    if removed != 0 {
-        return Err(Fail::new("an id is removed"));
-    }
-    let (number, shape, layers) = (snapshot.number, snapshot.shape, snapshot.layers.len());
-    Ok(format!(in alloc; "{number} {shape} {layers}")?)
-}
-
-/// Commits the transaction of a line.
-fn commit(alloc: Global, store: &mut PlainStore, line: &str) -> Result<CommitOutcome, Fail>
-    requires fields { store.old.schema.fields ≡ [] }
-    requires attrs { store.old.schema.attrs ≡ [] }
-    ensures { store.new.schema ≡ store.old.schema }
-{
-    let txn = txn(alloc, line)?;
-    match store.commit(alloc, &txn) {
-        Ok(outcome) => Ok(outcome),
-        Err(_) => Err(Fail::new("no memory")),
-    }
-}
-
-/// What becomes of the transaction of a line.
-fn told(
+/// Commits the transaction of a line, and tells what becomes of it.
+fn tell_commit(
     alloc: Global,
     store: &mut PlainStore,
     line: &str,
-    telling: Answered,
-) -> Result<String, Fail>
-    requires fields { store.old.schema.fields ≡ [] }
-    requires attrs { store.old.schema.attrs ≡ [] }
-    ensures { store.new.schema ≡ store.old.schema }
+    rows: bool,
+    into: &mut String,
+) -> Option<()>
+    requires { store.old.schema ≡ plain }
+    ensures { store.new.schema ≡ plain }
 {
-    match commit(alloc, store, line)? {
-        CommitOutcome::Committed { removed } => match telling {
-            Answered::Rows => commit_told(alloc, removed, store.snapshot()),
-            Answered::Counts => counts_told(alloc, removed, store.snapshot()),
-        },
-        CommitOutcome::Duplicate { id } => duplicate_told(alloc, id),
-        CommitOutcome::Full(full) => full_told(alloc, full),
-        _ => Err(Fail::new("an outcome of a disk")),
-    }
+    let (text, _) = line.split_once(" ⇒ ")?;
+    write!(into, "\n{text} ⇒ ").ok()?;
+    let txn = txn(alloc, text)?;
+    let outcome = store.commit(alloc, &txn).ok()?;
+    put_outcome(outcome, store.snapshot(), rows, into)
 }
 
-/// Fails where the transaction of a line tells something else.
-fn try_line(
-    alloc: Global,
-    store: &mut PlainStore,
-    line: &str,
-    telling: Answered,
-) -> Result<(), Fail>
-    requires fields { store.old.schema.fields ≡ [] }
-    requires attrs { store.old.schema.attrs ≡ [] }
-    ensures { store.new.schema ≡ store.old.schema }
-{
-    let (text, wanted) = line.split_once(" ⇒ ").ok_or("a line without an arrow")?;
-    let found = told(alloc, store, text, telling)?;
-    try_told(text, found.as_str(), wanted)
-}
-
-/// Fails at the first line of a table that tells something else.
-fn try_lines(
-    alloc: Global,
-    store: &mut PlainStore,
-    table: &str,
-    telling: Answered,
-) -> Result<(), Fail>
-    requires fields { store.old.schema.fields ≡ [] }
-    requires attrs { store.old.schema.attrs ≡ [] }
-{
+/// Commits the transactions of a table in a new store, and tells what becomes of each.
+fn tell(alloc: Global, table: &str, rows: bool, into: &mut String) -> Option<()> {
+    let Ok(mut store) = PlainStore::new(alloc, &schema(alloc)) else {
+        return None;
+    };
     for line in table.lines().skip(1) {
-        try_line(alloc, store, line, telling)?;
+        tell_commit(alloc, &mut store, line, rows, into)?;
     }
-    Ok(())
+    Some(())
+}
+
+/// Fails where something else is told than the table tells.
+fn try_table(alloc: Global, table: &str, rows: bool) -> Result<(), Fail> {
+    let mut told = String::new(alloc);
+    let _ = tell(alloc, table, rows, &mut told);
+    compare(told.as_str(), table)
 }
 
 #[test]
 fn commits_of_a_store(rt: HostRuntime) -> Result<(), Fail> {
-    let mut store = PlainStore::new(rt.alloc(), &schema(rt.alloc()))?;
-    try_lines(rt.alloc(), &mut store, COMMITS, Answered::Rows)
-}
-
-#[test]
-fn commits_one_by_one(rt: HostRuntime) -> Result<(), Fail> {
-    let mut store = PlainStore::new(rt.alloc(), &schema(rt.alloc()))?;
-    try_lines(rt.alloc(), &mut store, INSERTED, Answered::Counts)
+    try_table(rt.alloc(), COMMITS, true)?;
+    try_table(rt.alloc(), INSERTED, false)
 }

@@ -1,9 +1,12 @@
 //! Commits over layers, of which none are put together: what each comes to, and each row of each layer after it.
-ghost use Rattle.std.specs.Prelude.{◌≡◌, [], ◌<◌, ◌^◌};
+ghost use Rattle.std.specs.Prelude.{◌≡◌, ◌<◌, ◌^◌};
+ghost use Rattle.doc_types.specs.Transactions.{IsTxnOf};
+ghost use Rattle.commit_vectors.specs.Plain.{plain};
 
-use crate::scripts::{schema, txn};
-use crate::telling::{commit_told, duplicate_told, full_told, try_told};
-use doc_types::{PlainChunk, Snapshot};
+use crate::scripts::txn;
+use crate::telling::{compare, put_outcome};
+use commit_outcomes::CommitOutcome;
+use doc_types::{PlainChunk, Snapshot, Txn};
 use layer_commit::{Refusal, commit};
 use srch_base::{Items, Or};
 use std::alloc::Global;
@@ -45,37 +48,55 @@ const COMMITS: &str = "
 +1 +2 +3 +4 +5 +6 * ⇒ 0 removed, 16
 ";
 
-/// What becomes of the transaction of a line.
-fn told(alloc: Global, snapshot: &mut Snapshot<PlainChunk>, line: &str) -> Result<String, Fail> {
-    let schema = schema(alloc);
-    let txn = txn(alloc, line)?;
-    match commit(alloc, snapshot, &txn, LIMIT) {
+/// Commits a transaction, and gives what a store would.
+fn commit_layers(
+    alloc: Global,
+    snapshot: &mut Snapshot<PlainChunk>,
+    txn: &Txn,
+) -> Option<CommitOutcome>
+    requires { IsTxnOf plain txn.now }
+{
+    match commit(alloc, snapshot, txn, LIMIT) {
         Ok((next, removed)) => {
             *snapshot = next;
-            commit_told(alloc, removed, snapshot)
+            Some(CommitOutcome::Committed { removed })
         }
-        Err(Or::Fault(Refusal::Duplicate { id })) => duplicate_told(alloc, id),
-        Err(Or::Fault(Refusal::Full(full))) => full_told(alloc, full),
-        Err(Or::NoMemory) => Err(Fail::from("no memory")),
+        Err(Or::Fault(Refusal::Duplicate { id })) => Some(CommitOutcome::Duplicate { id }),
+        Err(Or::Fault(Refusal::Full(full))) => Some(CommitOutcome::Full(full)),
+        Err(Or::NoMemory) => None,
     }
 }
 
-/// Fails where the transaction of a line tells something else.
-fn try_line(alloc: Global, snapshot: &mut Snapshot<PlainChunk>, line: &str) -> Result<(), Fail> {
-    let (text, wanted) = line.split_once(" ⇒ ").ok_or("a line without an arrow")?;
-    let found = told(alloc, snapshot, text)?;
-    try_told(text, found.as_str(), wanted)
+/// Commits the transaction of a line, and tells what becomes of it.
+fn tell_commit(
+    alloc: Global,
+    snapshot: &mut Snapshot<PlainChunk>,
+    line: &str,
+    into: &mut String,
+) -> Option<()> {
+    let (text, _) = line.split_once(" ⇒ ")?;
+    write!(into, "\n{text} ⇒ ").ok()?;
+    let txn = txn(alloc, text)?;
+    let outcome = commit_layers(alloc, snapshot, &txn)?;
+    put_outcome(outcome, snapshot, true, into)
+}
+
+/// Commits the transactions of the table over no layers, and tells what becomes of each.
+fn tell(alloc: Global, into: &mut String) -> Option<()> {
+    let mut snapshot = Snapshot {
+        number: 0,
+        shape: 0,
+        layers: Items::new(Vec::new(alloc)),
+    };
+    for line in COMMITS.lines().skip(1) {
+        tell_commit(alloc, &mut snapshot, line, into)?;
+    }
+    Some(())
 }
 
 #[test]
 fn commits_over_layers(rt: HostRuntime) -> Result<(), Fail> {
-    let mut snapshot = Snapshot {
-        number: 0,
-        shape: 0,
-        layers: Items::new(Vec::new(rt.alloc())),
-    };
-    for line in COMMITS.lines().skip(1) {
-        try_line(rt.alloc(), &mut snapshot, line)?;
-    }
-    Ok(())
+    let mut told = String::new(rt.alloc());
+    let _ = tell(rt.alloc(), &mut told);
+    compare(told.as_str(), COMMITS)
 }

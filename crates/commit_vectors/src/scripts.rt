@@ -1,20 +1,21 @@
 //! Transactions as they are written in tables: `+5` inserts a document with the id 5, `=5` replaces it, `-5` deletes it, and `*`
 //! clears all. The documents have no columns.
-ghost use Rattle.std.specs.Prelude.{◌≡◌, [], IfOk, IfSome};
+ghost use Rattle.std.specs.Prelude.{◌≡◌, [], IfSome};
 ghost use Rattle.doc_types.specs.Schemas.{IsSchema};
 ghost use Rattle.doc_types.specs.Transactions.{IsOpOf, IsTxnOf};
-ghost use Rattle.doc_types.specs.declared.schema.Schema.{Schema};
+ghost use Rattle.commit_vectors.specs.Plain.{plain};
 
 use doc_types::{Doc, Schema, Txn, TxnOp};
 use srch_base::{Items, Name};
 use std::alloc::Global;
-use std::test::Fail;
+
+/// The most operations of a transaction.
+const MOST: usize = 1_000;
 
 /// The columns of an index that has none.
 pub(crate) fn schema(alloc: Global) -> Schema
     ensures schema { IsSchema result }
-    ensures fields { result.fields ≡ [] }
-    ensures attrs { result.attrs ≡ [] }
+    ensures plain { result ≡ plain }
 {
     Schema {
         name: Name::new(Vec::new(alloc)),
@@ -38,34 +39,34 @@ fn doc(alloc: Global, id: u64) -> Doc
 }
 
 /// The operation that a word stands for.
-fn op(alloc: Global, word: &str) -> Result<TxnOp, Fail>
-    ensures { IfOk result (λ op. (schema : Schema) → schema.fields ≡ [] → schema.attrs ≡ [] → IsOpOf schema op) }
+fn op(alloc: Global, word: &str) -> Option<TxnOp>
+    ensures { IfSome result (λ op. IsOpOf plain op) }
 {
     if word == "*" {
-        return Ok(TxnOp::Clear);
+        return Some(TxnOp::Clear);
     }
-    let (sign, number) = word.split_at_checked(1).ok_or("no operation")?;
-    let id = number.parse::<u64>()?;
+    let (sign, number) = word.split_at_checked(1)?;
+    let id = number.parse::<u64>().ok()?;
     match sign {
-        "+" => Ok(TxnOp::Insert(doc(alloc, id))),
-        "=" => Ok(TxnOp::Put(doc(alloc, id))),
-        "-" => Ok(TxnOp::Kill(id)),
-        _ => Err(Fail::from("no operation")),
+        "+" => Some(TxnOp::Insert(doc(alloc, id))),
+        "=" => Some(TxnOp::Put(doc(alloc, id))),
+        "-" => Some(TxnOp::Kill(id)),
+        _ => None,
     }
 }
 
 /// The transaction that a line stands for.
-pub(crate) fn txn(alloc: Global, line: &str) -> Result<Txn, Fail>
-    ensures { IfOk result (λ txn. (schema : Schema) → schema.fields ≡ [] → schema.attrs ≡ [] → IsTxnOf schema txn) }
+pub(crate) fn txn(alloc: Global, line: &str) -> Option<Txn>
+    ensures { IfSome result (λ txn. IsTxnOf plain txn) }
 {
     let mut ops = Vec::new(alloc);
     for word in line.split_whitespace() {
-        ops.push(op(alloc, word)?)?;
+        ops.push(op(alloc, word)?).ok()?;
     }
-    if ops.len() > 1_000 {
-        return Err(Fail::from("too many operations"));
+    if ops.len() > MOST {
+        return None;
     }
-    Ok(Txn {
+    Some(Txn {
         ops: Items::new(ops),
     })
 }

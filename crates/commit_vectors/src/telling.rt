@@ -1,56 +1,69 @@
-//! What a table tells of layers and of refusals.
-use commit_outcomes::Full;
+//! What becomes of transactions, as the tables tell it.
+use commit_outcomes::CommitOutcome;
 use doc_types::{Chunk, Layer, Snapshot};
 use layer_commit::is_dead;
-use std::alloc::Global;
-use std::fmt::Write;
 use std::test::Fail;
 
-/// Appends the rows of a layer, each as its id and the number of its commit; dead ones in parentheses.
-fn tell_layer<C: Chunk>(layer: &Layer<C>, text: &mut String) -> Result<(), Fail> {
-    let dead = layer.dead.as_slice();
-    for number in 0..layer.chunk.rows() {
-        let id = layer.chunk.id(number);
-        let born = layer.chunk.born(number);
-        if is_dead(dead, number) {
-            write!(text, " ({id}@{born})")?;
-        } else {
-            write!(text, " {id}@{born}")?;
+/// Fails with the first line that isn't as a table wants it.
+pub(crate) fn compare(told: &str, wanted: &str) -> Result<(), Fail> {
+    let mut lines = told.lines();
+    for line in wanted.lines() {
+        let found = lines.next().unwrap_or("no line");
+        if found != line {
+            return Err(Fail::new(format_args!("{found}, wanted: {line}")));
         }
     }
     Ok(())
 }
 
-/// How many ids a commit removed, its number, and the layers after a `/` each.
-pub(crate) fn commit_told<C: Chunk>(
-    alloc: Global,
+/// Appends the rows of a layer, each as its id and the number of its commit; dead ones in parentheses.
+fn put_layer<C: Chunk>(layer: &Layer<C>, into: &mut String) -> Option<()> {
+    let dead = layer.dead.as_slice();
+    into.push_str(" /").ok()?;
+    for number in 0..layer.chunk.rows() {
+        let (id, born) = (layer.chunk.id(number), layer.chunk.born(number));
+        if is_dead(dead, number) {
+            write!(into, " ({id}@{born})").ok()?;
+        } else {
+            write!(into, " {id}@{born}").ok()?;
+        }
+    }
+    Some(())
+}
+
+/// Appends how many ids a commit removed and its number, and the rows of each layer, or the shape and how many layers there are.
+fn put_commit<C: Chunk>(
     removed: u32,
     snapshot: &Snapshot<C>,
-) -> Result<String, Fail> {
-    let number = snapshot.number;
-    let mut text = format!(in alloc; "{removed} removed, {number}")?;
-    for layer in snapshot.layers.as_slice() {
-        text.push_str(" /")?;
-        tell_layer(layer, &mut text)?;
+    rows: bool,
+    into: &mut String,
+) -> Option<()> {
+    let (number, shape, layers) = (snapshot.number, snapshot.shape, snapshot.layers.as_slice());
+    write!(into, "{removed} removed, {number}").ok()?;
+    if !rows {
+        let count = layers.len();
+        return write!(into, " of shape {shape} with {count}").ok();
     }
-    Ok(text)
-}
-
-/// Fails where something else is told of a transaction than what is wanted.
-pub(crate) fn try_told(text: &str, told: &str, wanted: &str) -> Result<(), Fail> {
-    if told == wanted {
-        return Ok(());
+    for layer in layers {
+        put_layer(layer, into)?;
     }
-    Err(Fail::new(format_args!("{text} ⇒ {told}")))
+    Some(())
 }
 
-/// A refusal at an id that is there.
-pub(crate) fn duplicate_told(alloc: Global, id: u64) -> Result<String, Fail> {
-    Ok(format!(in alloc; "{id} is there")?)
-}
-
-/// A refusal for too many documents.
-pub(crate) fn full_told(alloc: Global, full: Full) -> Result<String, Fail> {
-    let (at, need) = (full.at, full.need);
-    Ok(format!(in alloc; "full at {at} needs {need}")?)
+/// Appends what became of a transaction over layers.
+pub(crate) fn put_outcome<C: Chunk>(
+    outcome: CommitOutcome,
+    snapshot: &Snapshot<C>,
+    rows: bool,
+    into: &mut String,
+) -> Option<()> {
+    match outcome {
+        CommitOutcome::Committed { removed } => put_commit(removed, snapshot, rows, into),
+        CommitOutcome::Duplicate { id } => write!(into, "{id} is there").ok(),
+        CommitOutcome::Full(full) => {
+            let (at, need) = (full.at, full.need);
+            write!(into, "full at {at} needs {need}").ok()
+        }
+        _ => None,
+    }
 }

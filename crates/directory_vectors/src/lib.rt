@@ -1,10 +1,15 @@
-//! Tests by a table of directories over opening a store: the documents that each stands for, or what is wrong with it.
+//! Tests over opening a store and over keeping it: by a table of directories, the documents that each stands for, or what is wrong
+//! with it; and a script of commits that is stopped at each call of the disk and opened again, or in which each call fails once.
 #![tactic(auto)]
 
 #[cfg(test)]
 mod columns;
 #[cfg(test)]
+mod crashes;
+#[cfg(test)]
 mod documents;
+#[cfg(test)]
+mod failing;
 #[cfg(test)]
 mod logs;
 #[cfg(test)]
@@ -13,6 +18,10 @@ mod opening;
 mod payloads;
 #[cfg(test)]
 mod roots;
+#[cfg(test)]
+mod running;
+#[cfg(test)]
+mod scripts;
 #[cfg(test)]
 mod spelling;
 #[cfg(test)]

@@ -1,2 +1,3 @@
--- the tokens of an engine are those of its users
+-- the tokens of an engine are those of its users; steps of an index without documents
+pub mod Bare
 pub mod Users

@@ -1,11 +1,11 @@
 -- Who uses an engine of an index without columns.
-use Rattle.std.specs.Prelude.{◌≡◌, ℕ, ◌<◌, ◌≤◌, [], ◌∷◌, false}
+use Rattle.std.specs.Prelude.{◌≡◌, ℕ, ◌<◌, ◌≤◌, [], false}
 use Rattle.doc_types.specs.declared.schema.Schema.{Schema}
 use Rattle.snap_share.specs.Tokens.{TokenValue}
 use Rattle.snap_share.specs.Engines.{EngineValue}
 
 abbrev pub plain : Schema
-plain = record { name = 116 ∷ []; fields = []; attrs = []; zones = []; sp = false }
+plain = record { name = []; fields = []; attrs = []; zones = []; sp = false }
 
 -- The token is one of the engine's, and the index has no columns.
 pub record IsUser (schema : ℕ → Schema) (engine : EngineValue) (token : TokenValue) : Type 0 where

@@ -4,15 +4,12 @@ ghost use Rattle.std.specs.Prelude.{◌≡◌, All};
 ghost use Rattle.share_vectors.specs.Users.{IsUser, plain};
 ghost use Rattle.snap_share.specs.Opens.{IsOpened, base_of};
 
-use crate::commits::{insert, schema};
+use crate::commits::{have_all, insert, schema};
 use chunk_store::{Disk, MemoryDisk};
 use snap_share::{Engine, Naming, Opened, Token, snapshot};
-use srch_base::NoMemory;
 use std::alloc::Global;
 use std::marker::Brand;
-use std::process::Abort;
 use std::sync::Wait;
-use std::test::Fail;
 use std::thread::{Threads, for_each_mut};
 
 /// How many workers commit.
@@ -59,53 +56,49 @@ fn work_all<D: Disk + Send, J: Naming + Send + Sync, R: Threads + Wait + Sync>(
     );
 }
 
-/// Lets all workers commit at once, and ends the engine. Gives how long the history is that it tells of.
+/// Lets all workers commit at once, and ends the engine. Whether all commits are in the one history, and each worker knows them.
 fn work_and_close<D: Disk + Drop + Send, J: Naming + Send + Sync, R: Threads + Wait + Sync>(
     rt: &R,
     alloc: Global,
     engine: Engine<D, J>,
     tokens: &mut [Token<J>],
-) -> Option<u64>
+) -> bool
     requires { All (IsUser J.schema engine) tokens.old }
 {
     work_all(rt, alloc, &engine, tokens);
     let (_disk, told) = engine.close(rt, tokens, &[]);
-    match told {
-        Ok(note) => Some(note.len()),
-        Err(_) => None,
-    }
+    have_all(
+        told,
+        tokens,
+        u64::from(WORKERS * COMMITS),
+        u64::from(COMMITS),
+    )
 }
 
 #[tactic(auto, using(crate::proofs::Users::are_users))]
-fn run<D: Disk + Drop + Send, J: Naming + Send + Sync, R: Threads + Wait + Abort + Sync>(
+fn run<D: Disk + Drop + Send, J: Naming + Send + Sync, R: Threads + Wait + Sync>(
     rt: &R,
     alloc: Global,
     opened: Opened<D>,
-) -> Result<(), Fail>
+) -> bool
     requires book { opened.book.past.seen.book ≡ J.book 0 }
     requires base { J.base 0 ≡ base_of opened }
     requires columns { J.schema 0 ≡ plain }
     requires opened { IsOpened D.Disk plain opened }
 {
-    let (engine, mut tokens) = match Engine::<D, J>::named(rt, alloc, opened, 0, WORKERS) {
-        Ok(named) => named,
-        Err(_) => return Err(NoMemory)?,
-    };
-    let all = u64::from(WORKERS * COMMITS);
-    let told = work_and_close(rt, alloc, engine, tokens.as_mut_slice());
-    assert_eq!(rt; told, Some(all));
-    for token in tokens.iter() {
-        assert_eq!(rt; (token.len(), token.made()), (all, u64::from(COMMITS)));
+    match Engine::<D, J>::named(rt, alloc, opened, 0, WORKERS) {
+        Ok((engine, mut tokens)) => work_and_close(rt, alloc, engine, tokens.as_mut_slice()),
+        Err(_) => false,
     }
-    Ok(())
 }
 
 #[test]
-fn workers_commit_at_once(rt: HostRuntime) -> Result<(), Fail> {
+fn workers_commit_at_once(rt: HostRuntime) {
     let alloc = rt.alloc();
-    let schema = schema(alloc)?;
-    match Opened::open(alloc, MemoryDisk::new(alloc, Vec::new(alloc)), &schema) {
+    let schema = schema(alloc);
+    let right = match Opened::open(alloc, MemoryDisk::new(alloc, Vec::new(alloc)), &schema) {
         Ok(opened) => run::<MemoryDisk, Brand, _>(&rt, alloc, opened),
-        Err(_) => Err(NoMemory)?,
-    }
+        Err(_) => false,
+    };
+    assert!(rt; right);
 }

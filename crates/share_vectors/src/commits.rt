@@ -1,26 +1,26 @@
-//! Insertions into an index without columns.
+//! Insertions into an index without columns, and what all workers know of them in the end.
 ghost use Rattle.std.specs.Prelude.{◌≡◌, [], IfOk};
 ghost use Rattle.doc_types.specs.Transactions.{IsTxnOf};
 ghost use Rattle.share_vectors.specs.Users.{IsUser, plain};
 
 use chunk_store::Disk;
 use doc_types::{Doc, Schema, Txn, TxnOp};
-use snap_share::{CommitFault, Committed, Engine, Naming, Token};
+use snap_share::{CommitFault, Committed, Engine, Naming, Note, Token};
 use srch_base::{Items, Name, NoMemory};
 use std::alloc::Global;
 use std::sync::Wait;
 
 /// The columns: there are none.
-pub(crate) fn schema(alloc: Global) -> Result<Schema, NoMemory>
-    ensures { IfOk result (λ schema. schema ≡ plain) }
+pub(crate) fn schema(alloc: Global) -> Schema
+    ensures { result ≡ plain }
 {
-    Ok(Schema {
-        name: Name::from_slice(alloc, b"t")?,
+    Schema {
+        name: Name::new(Vec::new(alloc)),
         fields: Items::new(Vec::new(alloc)),
         attrs: Items::new(Vec::new(alloc)),
         zones: Items::new(Vec::new(alloc)),
         sp: false,
-    })
+    }
 }
 
 /// A transaction that inserts a document which has only an id.
@@ -55,4 +55,23 @@ pub(crate) fn insert<D: Disk, J: Naming, R: Wait>(
         Ok(txn) => engine.commit(rt, token.worker(), token, &txn),
         Err(NoMemory) => Err(CommitFault::NoMemory),
     }
+}
+
+/// Whether an engine that ended told of so many commits, each token has seen all of them, and each worker made so many of them.
+pub(crate) fn have_all<J: Naming, E: Drop>(
+    told: Result<Note<J>, E>,
+    tokens: &[Token<J>],
+    all: u64,
+    own: u64,
+) -> bool {
+    let mut right = match told {
+        Ok(note) => note.len() == all,
+        Err(_) => false,
+    };
+    for token in tokens {
+        if token.len() != all || token.made() != own {
+            right = false;
+        }
+    }
+    right
 }

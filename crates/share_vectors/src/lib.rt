@@ -1,10 +1,16 @@
-//! Tests of what no clause says of an engine: that commits succeed and are found by other workers, and that many workers commit at
-//! once.
+//! Tests of what no clause says of what threads share: that reads beside a writer give whole snapshots in their order, that each call
+//! of a line can succeed, that commits of an engine succeed and are found by other workers, and that many workers commit at once.
 #![tactic(auto)]
 
 #[cfg(test)]
 mod at_once;
 #[cfg(test)]
+mod calls;
+#[cfg(test)]
 mod commits;
 #[cfg(test)]
 mod in_turn;
+#[cfg(test)]
+mod reading;
+#[cfg(test)]
+mod writing;

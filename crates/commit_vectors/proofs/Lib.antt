@@ -1,0 +1,2 @@
+-- an index without columns keeps the limits
+mod PlainSchema

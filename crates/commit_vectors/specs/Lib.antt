@@ -1,0 +1,2 @@
+-- the columns of the tables' index
+pub mod Plain

@@ -1,0 +1,7 @@
+use Rattle.std.proofs.Common.{All}
+use Rattle.doc_types.specs.Transactions.{IsOpOf}
+use Rattle.directory_vectors.specs.Ready.{plain}
+use Rattle.directory_vectors.proofs.scripts.txn.Given as goal
+
+abbrev pub invariant-loop-step : goal.invariant-loop-step
+invariant-loop-step l = All (IsOpOf plain) l.ops.items

@@ -1,7 +1,0 @@
-use Rattle.std.proofs.Common.{All}
-use Rattle.doc_types.specs.Transactions.{IsOpOf}
-use Rattle.keep_vectors.specs.Ready.{plain}
-use Rattle.keep_vectors.proofs.scripts.txn.Given as goal
-
-abbrev pub invariant-loop-step : goal.invariant-loop-step
-invariant-loop-step l = All (IsOpOf plain) l.ops.items
