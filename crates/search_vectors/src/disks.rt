@@ -89,7 +89,12 @@ pub(crate) fn put_files<D: Disk>(alloc: Global, disk: &mut D, told: &mut String)
         if let Some(length) = disk.len(file).ok()? {
             let mut bytes = vec![in alloc; 0; usize::try_from(length).ok()?].ok()?;
             disk.read(file, 0, &mut bytes).ok()?;
-            write!(told, " {file}={}", hex::encode(alloc, &bytes).ok()?.as_str()).ok()?;
+            write!(
+                told,
+                " {file}={}",
+                hex::encode(alloc, &bytes).ok()?.as_str()
+            )
+            .ok()?;
         }
     }
     Some(())

@@ -89,8 +89,7 @@ const SERVED: &str = "search_vectors_served";
 
 const CONFIG: &str = "search_vectors_served.conf";
 
-const TEXT: &[u8] =
-    b"index rt {\ntype = rt\npath = search_vectors_served\nrt_field = title\n}\n";
+const TEXT: &[u8] = b"index rt {\ntype = rt\npath = search_vectors_served\nrt_field = title\n}\n";
 
 /// How a run ends that two workers serve at this address, each one client.
 fn served<R: Threads + Wait + Sync>(
@@ -101,8 +100,7 @@ fn served<R: Threads + Wait + Sync>(
 ) -> Option<Status> {
     let words = format!(in alloc;
         "serve --config {CONFIG} --listen {address} --workers 2 --sessions 1"
-    )
-    .ok()?;
+    ).ok()?;
     let words = words_of(alloc, words.as_str())?;
     let mut host = host(outside);
     Some(searchd(rt, alloc, words.as_slice(), &mut host))

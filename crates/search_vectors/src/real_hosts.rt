@@ -3,9 +3,8 @@
 use real_host::RealHost;
 use searchd_top::{Host, Stream};
 use srch_base::OpenFault;
-use std::fs;
-use std::io;
 use std::test::Fail;
+use std::{fs, io};
 
 /// A host over the system.
 pub(crate) fn host(rt: HostRuntime) -> RealHost {

@@ -38,8 +38,7 @@ fn try_cuts<R: Threads + Wait + Sync>(
 ) -> Option<()> {
     let table = format!(in alloc;
         "\na line that is cut | session --config searchd.conf | PLAIN | . |  | {cuts}{CUT} => hello 1; accepted; ok 1 2; ids 2: 1 ⇒ 0; asks searchd.conf, in ., 1, 1 and 1 back;"
-    )
-    .ok()?;
+    ).ok()?;
     run_table(rt, alloc, table.as_str(), said)
 }
 
