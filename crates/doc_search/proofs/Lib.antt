@@ -18,3 +18,5 @@ pub mod ListedIds
 pub mod Leading
 -- rows before the least id that a condition allows, and behind the greatest
 pub mod Bounded
+-- rows that are asked of the conditions one after the other
+pub mod Passing

@@ -5,6 +5,7 @@ mod laws;
 mod listed_rows;
 mod question;
 mod ready;
+mod scanning;
 mod searching;
 
 pub use laws::a_search_shows_one_list;

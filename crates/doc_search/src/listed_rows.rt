@@ -17,9 +17,9 @@ pub(crate) struct ListedRows<'a> {
     /// The first row that may pass by the least id that a condition allows.
     first: u32,
     /// The row behind the last one that may pass by the greatest.
-    end: u32,
+    pub(crate) end: u32,
     /// The ids that a condition lists, in order. None where none does: then each row between these two may pass.
-    ids: Option<&'a [i128]>,
+    pub(crate) ids: Option<&'a [i128]>,
     /// How many of them belong to rows that went by, or to no row.
     passed: usize,
 }

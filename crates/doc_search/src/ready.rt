@@ -12,6 +12,8 @@ use std::marker::Model;
 pub(crate) struct ReadyQuestion<'a> {
     pub(crate) question: &'a Question,
     pub(crate) conditions: Conditions<'a>,
+    /// Whether conditions are asked of a row before the query is: it has no word, so that each row matches. Speed alone rests on it.
+    pub(crate) conditions_first: bool,
     pub(crate) alloc: Global,
 }
 
@@ -38,6 +40,7 @@ impl<'a> ReadyQuestion<'a> {
         Ok(ReadyQuestion {
             question,
             conditions,
+            conditions_first: question.query.root.is_none() && !question.filters.is_empty(),
             alloc,
         })
     }

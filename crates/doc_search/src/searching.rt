@@ -24,6 +24,7 @@ ghost use Rattle.doc_search.specs.steps.Gathering.{Gathers, GivesOne, IsAskedOfD
 use crate::listed_rows::ListedRows;
 use crate::question::Question;
 use crate::ready::ReadyQuestion;
+use crate::scanning::{next_passing, passes};
 use doc_types::{Chunk, Counted, CountedLists, HitLists, Hits, Layer, Snapshot};
 use op_eval::Matches;
 use rankers::{Ranker, weight, weight_of_fields};
@@ -110,15 +111,16 @@ fn collect_layer<L: Ledger, C: HitLists, S: Sink>(
     let mut stream = Matches::over(asked.alloc, &asked.question.query, &counted, dead)?;
     let mut listed = ListedRows::over(&counted, &asked.conditions);
     let mut at = 0;
-    'rows: while let Some(number) = next_row(&mut stream, &mut listed, &counted, at) {
+    'rows: while let Some(number) = next_row(asked, &mut stream, &mut listed, &counted, at) {
         collect_row(asked, &counted, number, &mut stream, hits, sink, steps)?;
         at = number + 1;
     }
     Ok(())
 }
 
-/// Goes on from this row to the next one that may match and isn't dead, and passes over those that conditions on the id rule out.
+/// Goes on from this row to the next one that may match and isn't dead, and passes over those that conditions rule out.
 fn next_row<C: Chunk>(
+    asked: &ReadyQuestion<'_>,
     stream: &mut Matches<'_, C>,
     listed: &mut ListedRows<'_>,
     chunk: &C,
@@ -127,10 +129,11 @@ fn next_row<C: Chunk>(
     requires at { stream.old.at ≡ at }
     requires docs { stream.old.rows ≡ C.content chunk.now }
     requires within { at ≤ length (C.content chunk.now) }
+    requires asked { IsAskedOfDocs asked.now (C.content chunk.now) }
     requires rows { AllPairs (λ row later. row.doc.id < later.doc.id) (C.content chunk.now) }
-    ensures { (question : QuestionValue) → Leaves question (C.content chunk.now) at listed.old → GoesPast question (C.content chunk.now) at stream.old result stream.new listed.new }
+    ensures { Leaves asked.now (C.content chunk.now) at listed.old → GoesPast asked.now (C.content chunk.now) at stream.old result stream.new listed.new }
 {
-    let from = listed.next(chunk, at);
+    let from = next_passing(asked, listed, chunk, at);
     lead(stream, at, from);
     stream.row()
 }
@@ -162,8 +165,7 @@ fn collect_row<C: CountedLists, S: Sink>(
     ensures goes_on { OnOk result (stream.new ≡ record stream.old { at = number + 1 }) }
     ensures gathers { (first : S) (before : List DocRow) (doc : DocRow) → slice_get (C.content chunk.now) number ≡ Some doc → Gathers S.Took asked.now first before sink.old → OnOk result (Gathers S.Took asked.now first (before ++ filter (matches asked.now.query) (doc ∷ [])) sink.new) }
 {
-    let unweighed = ChunkRow::new(asked.alloc, chunk, number, asked.question.attrs, 0);
-    if !asked.conditions.hold_unweighed(&unweighed) {
+    if !passes(asked, chunk, number) {
         stream.skip();
         return Ok(());
     }

@@ -8,7 +8,7 @@ use Rattle.std.proofs.lemmas.List.Elements.{filter_passes}
 use Rattle.occ_lists.specs.declared.occ.Occ.{Occ}
 use Rattle.occ_lists.specs.Joined.{hull, is_near, near, same_field}
 use Rattle.occ_lists.specs.Places.{ArePlaces, at_place, is_before}
-use Rattle.occ_lists.specs.steps.Close.{is_close}
+use Rattle.occ_lists.specs.Close.{is_close}
 use Rattle.occ_lists.proofs.Members.{any_alike, any_filter, any_map, any_pairs, any_weaker}
 
 -- not before the first place that could be close to x

@@ -10,6 +10,8 @@ pub mod Joined
 pub mod Runs
 -- keywords near each other
 pub mod Windows
+-- places near each other
+pub mod Close
 -- keywords with their places, and what is appended for them
 pub mod Terms
 -- what serves proofs and private functions alone

@@ -12,5 +12,3 @@ pub mod Boundaries
 pub mod Wanted
 -- where windows may end
 pub mod Ends
--- places that stand near each other
-pub mod Close

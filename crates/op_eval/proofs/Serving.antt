@@ -24,7 +24,7 @@ use Rattle.op_eval.proofs.Standing.{places_absent}
 use Rattle.row_plans.specs.declared.plan.Plan.{Plan}
 use Rattle.row_plans.specs.declared.plan.Plan.TheVariants as plans
 use Rattle.row_plans.specs.Plans.{holds}
-use Rattle.row_plans.proofs.HowFar.{holds_word, holds_all, holds_any, holds_enough}
+use Rattle.row_plans.proofs.HowFar.{holds_word, holds_all, holds_enough}
 use Rattle.op_eval.specs.steps.Planned.{AreKnown, Serves, ServesFrom, ServesItems, ServesQuoted, has_key}
 use Rattle.op_eval.specs.steps.Evaluating.{items_keys}
 use Rattle.op_eval.proofs.Known.{known_left, known_right, known_item, known_own, absent_from, count_known}
@@ -77,12 +77,11 @@ module _ (node : Node) (plan : Plan) (first : ℕ) where
           subst (λ (n : Node). matches_of row number n spans ≡ false) is_other
           (serves row number has (apart_right number (node_keys one) (node_keys other) (subst (AreApart number) own_keys apart)) (known_right has row first next (node_keys one) (node_keys other) later (subst (AreKnown has row first) own_keys known)) e spans)
 
-    pub serves_or : (p q : Plan) (next : ℕ) → node ≡ nodes.Or a b → plan ≡ plans.Any (p ∷ q ∷ []) → next ≡ first + length (node_keys one) → ServesFrom p first one → ServesFrom q next other → ServesFrom plan first node
+    pub serves_or : (p q : Plan) (next : ℕ) → node ≡ nodes.Or a b → ((has : ℕ → Bool) → holds has plan ≡ (holds has p || holds has q)) → next ≡ first + length (node_keys one) → ServesFrom p first one → ServesFrom q next other → ServesFrom plan first node
     serves_or p q next is made later left right row number has apart known e spans =
-        let none = or_parts (holds has p) (holds has q || false) (sym (ap (holds has) made ∙ holds_any has (p ∷ q ∷ [])) ∙ e) in
-        let last = or_parts (holds has q) false none.1 in
+        let none = or_parts (holds has p) (holds has q) (sym (made has) ∙ e) in
         ap (λ (n : Node). matches_of row number n spans) is ∙ ap (λ (found : Found). found.matches) (finds_or row number a b spans)
-        ∙ or_from (matches_of row number a spans) (matches_of row number b spans) (one_fails (inl is) row number has apart known p left none.0 spans) (other_fails (inl is) row number has apart known next q later right last.0 spans)
+        ∙ or_from (matches_of row number a spans) (matches_of row number b spans) (one_fails (inl is) row number has apart known p left none.0 spans) (other_fails (inl is) row number has apart known next q later right none.1 spans)
 
     pub serves_maybe : node ≡ nodes.Maybe a b → ServesFrom plan first one → ServesFrom plan first node
     serves_maybe is left row number has apart known e spans =

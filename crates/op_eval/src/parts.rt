@@ -1,6 +1,7 @@
 //! The parts of an AND, in order: the rarest first, since the first that a row hasn't says how far the next row may be.
-ghost use Rattle.std.specs.Prelude.{◌≡◌, Bool, ◌&&◌, [], ◌∷◌, IfOk, OnOk};
-ghost use Rattle.std.specs.List.{list_all};
+ghost use Rattle.std.specs.Prelude.{◌≡◌, ℕ, Bool, ◌&&◌, ◌||◌, [], IfOk, OnOk};
+ghost use Rattle.std.specs.List.{list_all, list_any};
+ghost use Rattle.row_plans.specs.Plans.{holds};
 ghost use Rattle.row_plans.specs.declared.plan.Plan.{Plan as PlanValue};
 ghost use Rattle.row_plans.specs.declared.plan.Plan.TheVariants as plans;
 
@@ -64,16 +65,29 @@ fn least_of(rows: &[u32]) -> u32 {
     }
 }
 
-/// Either of two.
+/// Either of two. Where the one is a choice already, the other joins it: a choice of five words is one list, not four in one another.
 pub(crate) fn either(alloc: Global, one: Rated, other: Rated) -> Result<Rated, NoMemory>
-    ensures { IfOk result (λ rated. rated.plan ≡ plans.Any (one.plan ∷ other.plan ∷ [])) }
+    ensures { IfOk result (λ rated. (has : ℕ → Bool) → holds has rated.plan ≡ (holds has one.plan || holds has other.plan)) }
 {
     let rows = one.rows.saturating_add(other.rows);
-    let mut plans = Vec::new(alloc);
-    plans.push(one.plan)?;
-    plans.push(other.plan)?;
+    let mut choices = choices_of(alloc, one.plan)?;
+    choices.push(other.plan)?;
     Ok(Rated {
-        plan: Plan::Any(Items::from_vec(plans)),
+        plan: Plan::Any(choices),
         rows,
     })
+}
+
+/// The choices of a plan, of which any is enough: those of a choice, or else the plan alone.
+fn choices_of(alloc: Global, plan: Plan) -> Result<Items<Plan>, NoMemory>
+    ensures { IfOk result (λ choices. (has : ℕ → Bool) → list_any (holds has) choices ≡ holds has plan) }
+{
+    match plan {
+        Plan::Any(choices) => Ok(choices),
+        plan => {
+            let mut alone = Vec::new(alloc);
+            alone.push(plan)?;
+            Ok(Items::from_vec(alone))
+        }
+    }
 }

@@ -4,6 +4,7 @@ use Rattle.doc_types.specs.declared.documents.DocRow.{DocRow}
 use Rattle.doc_types.specs.Snapshots.{LayerValue}
 use Rattle.op_eval.specs.Streams.{Stream}
 use Rattle.doc_search.specs.declared.question.Question.{Question}
+use Rattle.doc_search.specs.steps.Gathering.{IsAskedOfDocs}
 use Rattle.doc_search.specs.steps.ListedRows.{Leaves}
 use Rattle.doc_search.proofs.Gathering.{on_way_first}
 use Rattle.doc_search.proofs.Leading.{led_last, led_on, led_to, led_within}
@@ -35,6 +36,12 @@ next_row-requires-clause-within g c =
     ap g.C.Chunk.content (c.over-counted.ensures ∙ c.deref-chunk.ensures) ∙ ap (λ (its : LayerValue). its.rows) c.layer.view_is in
     omega (arith, c.rows.invariant.within, ap (λ (rows : List DocRow). length rows) docs)
 
+pub next_row-requires-clause-asked : goal.next_row-requires-clause-asked
+next_row-requires-clause-asked g c =
+    let docs : g.C.Chunk.content c.over-counted.result.chunk.now ≡ c.args.layer.now.rows =
+    ap g.C.Chunk.content (c.over-counted.ensures ∙ c.deref-chunk.ensures) ∙ ap (λ (its : LayerValue). its.rows) c.layer.view_is in
+    subst (λ (rows : List DocRow). IsAskedOfDocs c.args.asked.now rows) (sym docs) c.requires
+
 pub next_row-requires-clause-rows : goal.next_row-requires-clause-rows
 next_row-requires-clause-rows g c =
     let docs : g.C.Chunk.content c.over-counted.result.chunk.now ≡ c.args.layer.now.rows =
@@ -46,14 +53,14 @@ collect_row-requires-clause-stands g c =
     let docs : g.C.Chunk.content c.over-counted.result.chunk.now ≡ c.args.layer.now.rows =
     ap g.C.Chunk.content (c.over-counted.ensures ∙ c.deref-chunk.ensures) ∙ ap (λ (its : LayerValue). its.rows) c.layer.view_is in
     led_to g.S.Sink.Took c.args.asked.now c.args.layer.now (g.C.Chunk.content c.over-counted.result.chunk.now) docs c.args.sink.now c.rows.sink c.rows.at c.in-Some.number c.rows.stream c.next_row.new.stream c.rows.listed c.next_row.new.listed
-    c.rows.invariant (c.in-Some.ensures c.args.asked.now)
+    c.rows.invariant c.in-Some.ensures
 
 pub overflow_add-at : goal.overflow_add-at
 overflow_add-at g c =
     let docs : g.C.Chunk.content c.over-counted.result.chunk.now ≡ c.args.layer.now.rows =
     ap g.C.Chunk.content (c.over-counted.ensures ∙ c.deref-chunk.ensures) ∙ ap (λ (its : LayerValue). its.rows) c.layer.view_is in
     let within = led_within g.S.Sink.Took c.args.asked.now c.args.layer.now (g.C.Chunk.content c.over-counted.result.chunk.now) docs c.args.sink.now c.rows.sink c.rows.at c.in-Some.number c.rows.stream c.next_row.new.stream c.rows.listed c.next_row.new.listed
-    c.rows.invariant (c.in-Some.ensures c.args.asked.now) in
+    c.rows.invariant c.in-Some.ensures in
     omega (arith, within.1, c.layer.invariant.content.small.few_rows, ap (λ (its : LayerValue). length its.rows) c.layer.view_is)
 
 pub rows-preserved : goal.rows-preserved
@@ -61,11 +68,11 @@ rows-preserved g c =
     let docs : g.C.Chunk.content c.over-counted.result.chunk.now ≡ c.args.layer.now.rows =
     ap g.C.Chunk.content (c.over-counted.ensures ∙ c.deref-chunk.ensures) ∙ ap (λ (its : LayerValue). its.rows) c.layer.view_is in
     led_on g.S.Sink.Took c.args.asked.now c.args.layer.now (g.C.Chunk.content c.over-counted.result.chunk.now) docs c.args.sink.now c.rows.sink c.rows.at c.in-Some.number c.rows.stream c.next_row.new.stream c.collect_row.new.stream c.rows.listed c.next_row.new.listed c.collect_row.new.sink
-    c.rows.invariant (c.in-Some.ensures c.args.asked.now) c.in_ok-collect_row.ensures.goes_on c.in_ok-collect_row.ensures.gathers
+    c.rows.invariant c.in-Some.ensures c.in_ok-collect_row.ensures.goes_on c.in_ok-collect_row.ensures.gathers
 
 pub returns : goal.returns
 returns g c =
     let docs : g.C.Chunk.content c.over-counted.result.chunk.now ≡ c.args.layer.now.rows =
     ap g.C.Chunk.content (c.over-counted.ensures ∙ c.deref-chunk.ensures) ∙ ap (λ (its : LayerValue). its.rows) c.layer.view_is in
     led_last g.S.Sink.Took c.args.asked.now c.args.layer.now (g.C.Chunk.content c.over-counted.result.chunk.now) docs c.args.sink.now c.rows.sink c.rows.at c.rows.stream c.next_row.new.stream c.rows.listed c.next_row.new.listed
-    c.rows.invariant (c.in_default.ensures c.args.asked.now)
+    c.rows.invariant c.in_default.ensures

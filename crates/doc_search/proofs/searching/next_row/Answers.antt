@@ -4,7 +4,7 @@ use Rattle.doc_search.proofs.Leading.{goes_past}
 use Rattle.doc_search.proofs.searching.next_row.Goals as goal
 
 pub returns : goal.returns
-returns g c = λ question leaves.
-    let next = c.next-from.ensures.next question leaves in
-    goes_past question (g.C.Chunk.content c.args.chunk.now) c.args.at c.next-from.result c.args.stream.now c.row.result c.row.new.self c.next-from.new.self next.0 next.1
+returns g c = λ leaves.
+    let next = c.next_passing-from.ensures.next leaves in
+    goes_past c.args.asked.now (g.C.Chunk.content c.args.chunk.now) c.args.at c.next_passing-from.result c.args.stream.now c.row.result c.row.new.self c.next_passing-from.new.listed next.0 next.1
     (subst (λ (it : Stream). GoesOn it c.row.result c.row.new.self) c.lead.ensures c.row.ensures.goes)

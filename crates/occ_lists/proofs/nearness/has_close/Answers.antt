@@ -1,7 +1,7 @@
 use Rattle.std.proofs.Common.{ℕ, not, ap, sym, ◌∙◌}
 use Rattle.std.specs.List.{filter, list_any}
 use Rattle.occ_lists.specs.Places.{is_before}
-use Rattle.occ_lists.specs.steps.Close.{is_close}
+use Rattle.occ_lists.specs.Close.{is_close}
 use Rattle.occ_lists.proofs.ClosePlaces.{close_first, close_within, empty_by}
 use Rattle.occ_lists.proofs.nearness.has_close.Goals as goal
 

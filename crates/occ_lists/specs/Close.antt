@@ -1,4 +1,5 @@
--- places that stand near each other
+-- Places near each other, whether or not one comes before the other: where no place of a keyword is near one of another, NEAR makes
+-- nothing of the two.
 use Rattle.std.specs.Prelude.{ℕ, ◌-◌, Bool, ◌&&◌, ◌==◌, nat_le}
 
 -- in one field, at most n positions apart
