@@ -1,5 +1,5 @@
 //! The things that a host gave and got back, for contracts alone: they are remembered without a byte.
-ghost use Rattle.std.specs.Prelude.{◌≡◌, ◌≤◌, ◌+◌, ◌++◌, [], ◌∷◌, length, map, vec_capacity, OnOk, OnErr};
+ghost use Rattle.std.specs.Prelude.{◌≡◌, ◌==◌, ◌≤◌, ◌+◌, ◌++◌, [], ◌∷◌, length, map, vec_capacity, OnOk, OnErr};
 
 use srch_base::NoMemory;
 use std::alloc::Global;
@@ -27,7 +27,9 @@ impl<T> Lent<T> {
     }
 
     /// Whether none was given yet.
-    pub fn is_empty(&self) -> bool {
+    pub fn is_empty(&self) -> bool
+        ensures { result ≡ (length self.now.gave.items == 0) }
+    {
         self.gave.is_empty()
     }
 

@@ -31,3 +31,5 @@ mod table_host;
 mod tests;
 #[cfg(test)]
 mod told;
+#[cfg(test)]
+mod turns;

@@ -1,5 +1,5 @@
-//! Two clients of the real listener over the loopback, whom two workers serve at once: what each is replied as they take turns. No packet
-//! is sent before those above it are answered, so neither client can wait for the other's end.
+//! Two clients of the real listener over the loopback, whom two workers serve at once: both are greeted before either sends a byte, and
+//! the one finds what the other inserts.
 use crate::bytes::bytes_of;
 use crate::real_hosts::{forget, host};
 use crate::runs::words_of;
@@ -13,13 +13,7 @@ use std::test::Fail;
 use std::thread::{self, Threads, join};
 use std::time::Duration;
 
-/// What two clients do in turn, a meeting on each line, with ` / ` between: which of them sends which packets, and what is replied, if
-/// anything is. Both are greeted before.
-const MEETINGS: &str = r#"
-B RESP; INSERT INTO rt VALUES (1,'hello') => accepted; ok 1 2 / B QUIT / A RESP; SELECT id FROM rt => accepted; ids 2: 1 / A QUIT
-A RESP => accepted / B RESP => accepted / B INSERT INTO rt VALUES (1,'hello') => ok 1 2 / A SELECT id FROM rt => ids 2: 1 / A INSERT INTO rt VALUES (1,'hello') => err 1064 42000 duplicate id 1 / A SELECT id FROM rt WHERE MATCH('hello') => ids 2: 1 / A QUIT / B QUIT
-B RESP => accepted / B SELECT id FROM rt => ids 2: / A RESP => accepted / A INSERT INTO rt VALUES (50,'hello') => ok 1 2 / B SELECT id FROM rt => ids 2: 50 / B BEGIN => ok 0 3 / B INSERT INTO rt VALUES (51,'hello') => ok 1 3 / B SELECT id FROM rt => ids 3: 50 / A SELECT id FROM rt => ids 2: 50 / B COMMIT => ok 0 2 / A SELECT id FROM rt => ids 2: 50 51 / A INSERT INTO rt VALUES (51,'hello') => err 1064 42000 duplicate id 51 / A QUIT / B QUIT
-"#;
+const QUIT: &[u8] = b"\x01\0\0\0\x01";
 
 /// How often a client tries to connect until the listener is there.
 const MOST_TRIES: u32 = 1_000_000;
@@ -46,30 +40,27 @@ fn greeted(client: &mut TcpStream) -> Option<u8> {
 }
 
 /// None where what a client sends is replied otherwise.
-fn is_replied(alloc: Global, client: &mut TcpStream, step: &str) -> Option<()> {
-    let (sent, wanted) = step.split_once(" => ").unwrap_or((step, ""));
+fn is_replied(alloc: Global, client: &mut TcpStream, sent: &str, wanted: &str) -> Option<()> {
     let sent = bytes_of(alloc, sent)?;
     client.write_all(sent.as_slice()).ok()?;
     let wanted = bytes_of(alloc, wanted)?;
     let mut reply = vec![in alloc; 0; wanted.len()].ok()?;
     client.read_exact(&mut reply).ok()?;
+    client.write_all(QUIT).ok()?;
     if reply == wanted { Some(()) } else { None }
 }
 
-/// None where two clients aren't greeted before either sends a byte, or replied otherwise as they take turns.
-fn are_replied(
-    alloc: Global,
-    first: &mut TcpStream,
-    second: &mut TcpStream,
-    steps: &str,
-) -> Option<()> {
+/// None where two clients aren't greeted before either sends a byte, or the first one doesn't find what the second one then inserts.
+fn are_replied(alloc: Global, first: &mut TcpStream, second: &mut TcpStream) -> Option<()> {
     let numbers = (greeted(first)?, greeted(second)?);
-    for step in steps.split(" / ") {
-        match step.strip_prefix("A ") {
-            Some(step) => is_replied(alloc, first, step)?,
-            None => is_replied(alloc, second, step.strip_prefix("B ")?)?,
-        }
-    }
+    let insert = "RESP; INSERT INTO rt VALUES (1,'hello')";
+    is_replied(alloc, second, insert, "accepted; ok 1 2")?;
+    is_replied(
+        alloc,
+        first,
+        "RESP; SELECT id FROM rt",
+        "accepted; ids 2: 1",
+    )?;
     if numbers == (1, 2) || numbers == (2, 1) {
         Some(())
     } else {
@@ -78,10 +69,10 @@ fn are_replied(
 }
 
 /// None where two clients at this address are not.
-fn are_served(rt: &HostRuntime, alloc: Global, address: &str, steps: &str) -> Option<()> {
+fn are_served(rt: &HostRuntime, alloc: Global, address: &str) -> Option<()> {
     let mut first = connected(rt, address).ok()?;
     let mut second = connected(rt, address).ok()?;
-    are_replied(alloc, &mut first, &mut second, steps)
+    are_replied(alloc, &mut first, &mut second)
 }
 
 /// The folder of the index that is served, the path of the configuration, and its text.
@@ -124,18 +115,14 @@ fn clear(rt: &HostRuntime) -> io::Result<()> {
 #[test]
 fn two_clients_of_the_listener_are_served_at_once(rt: HostRuntime) -> Result<(), Fail> {
     let alloc = rt.alloc();
-    for steps in MEETINGS.lines().skip(1) {
-        let address = prepared(&rt, alloc).ok_or("no address")?;
-        let address = address.as_str();
-        let (status, talked) = join(
-            &rt,
-            || served(&rt, rt, alloc, address),
-            || are_served(&rt, alloc, address, steps),
-        );
-        if talked.is_none() || !matches!(&status, Some(Status::Done)) {
-            return Err(Fail::new(format_args!("{steps}")));
-        }
-    }
+    let address = prepared(&rt, alloc).ok_or("no address")?;
+    let address = address.as_str();
+    let (status, talked) = join(
+        &rt,
+        || served(&rt, rt, alloc, address),
+        || are_served(&rt, alloc, address),
+    );
+    assert!(rt; talked.is_some() && matches!(&status, Some(Status::Done)));
     clear(&rt)?;
     Ok(())
 }
