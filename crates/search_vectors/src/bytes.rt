@@ -1,6 +1,5 @@
 //! The bytes that tables name: what clients send, replies of the protocol's documentation, and files as docs/FILES.md lays them out.
 use std::alloc::Global;
-use std::test::Fail;
 
 /// A name and its bytes on each line.
 ///
@@ -68,31 +67,25 @@ fn digits_of(name: &str) -> Option<&'static str> {
 }
 
 /// Appends bytes: those behind `0x`, those of a name, or else the packet of a query with this text. No words stand for none.
-fn put_bytes(alloc: Global, out: &mut Vec<u8>, words: &str) -> Result<(), Fail> {
+pub(crate) fn put_bytes(alloc: Global, out: &mut Vec<u8>, words: &str) -> Option<()> {
     if words.is_empty() {
-        return Ok(());
+        return Some(());
     }
     if let Some(digits) = words.strip_prefix("0x").or(digits_of(words)) {
-        out.extend_from_slice(&hex::decode(alloc, digits.as_bytes())?)?;
-        return Ok(());
+        let bytes = hex::decode(alloc, digits.as_bytes()).ok()?;
+        return out.extend_from_slice(bytes.as_slice()).ok();
     }
-    let length = u16::try_from(words.len().saturating_add(1))?.to_le_bytes();
-    out.extend_from_slice(&[length[0], length[1], 0, 0, 3])?;
-    out.extend_from_slice(words.as_bytes())?;
-    Ok(())
-}
-
-/// Appends bytes with `; ` between, one after another.
-pub(crate) fn put_all(alloc: Global, out: &mut Vec<u8>, words: &str) -> Result<(), Fail> {
-    for part in words.split("; ") {
-        put_bytes(alloc, out, part)?;
-    }
-    Ok(())
+    let length = u16::try_from(words.len().saturating_add(1)).ok()?;
+    let [low, high] = length.to_le_bytes();
+    out.extend_from_slice(&[low, high, 0, 0, 3]).ok()?;
+    out.extend_from_slice(words.as_bytes()).ok()
 }
 
 /// Bytes with `; ` between, one after another.
-pub(crate) fn bytes_of(alloc: Global, words: &str) -> Result<Vec<u8>, Fail> {
+pub(crate) fn bytes_of(alloc: Global, words: &str) -> Option<Vec<u8>> {
     let mut bytes = Vec::new(alloc);
-    put_all(alloc, &mut bytes, words)?;
-    Ok(bytes)
+    for part in words.split("; ") {
+        put_bytes(alloc, &mut bytes, part)?;
+    }
+    Some(bytes)
 }

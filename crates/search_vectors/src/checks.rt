@@ -43,9 +43,9 @@ the first isn't there | check --config searchd.conf |  | -one + two 0=ROOT_CUT |
 the first isn't there | session --config searchd.conf |  | -one + two 0=ROOT_CUT |  | - ⇒ 4; asks searchd.conf, in one, 0 and 0 back; ! searchd: host fault;
 the first isn't there | serve --config searchd.conf --listen a --workers 2 |  | -one + two 0=ROOT_CUT |  | - ⇒ 4; asks searchd.conf, in one, 0 and 0 back; ! searchd: host fault;
 the second | check --config searchd.conf |  | one + two 0=ROOT_CUT |  | - ⇒ 5; asks searchd.conf, in one, in two, 2 and 0 back; ! searchd: index two: file 0 at 0: root length;
-the first one then | check --config searchd.conf |  | one ~ |  | - ⇒ 0; asks searchd.conf, in one, 1 and 0 back; one: 0 documents, 0 disk chunks, 0 log records;
+the first one then | check --config searchd.conf |  | one ~1 |  | - ⇒ 0; asks searchd.conf, in one, 1 and 0 back; one: 0 documents, 0 disk chunks, 0 log records;
 the second | session --config searchd.conf |  | one + two 0=ROOT_CUT |  | - ⇒ 5; asks searchd.conf, in one, in two, 2 and 0 back; ! searchd: index two: file 0 at 0: root length;
-the first one then | check --config searchd.conf |  | one ~ |  | - ⇒ 0; asks searchd.conf, in one, 1 and 0 back; one: 0 documents, 0 disk chunks, 0 log records;
+the first one then | check --config searchd.conf |  | one ~1 |  | - ⇒ 0; asks searchd.conf, in one, 1 and 0 back; one: 0 documents, 0 disk chunks, 0 log records;
 the second | serve --config searchd.conf --listen a --workers 2 |  | one + two 0=ROOT_CUT |  | - ⇒ 5; asks searchd.conf, in one, in two, 2 and 0 back; ! searchd: index two: file 0 at 0: root length;
-the first one then | check --config searchd.conf |  | one ~ |  | - ⇒ 0; asks searchd.conf, in one, 1 and 0 back; one: 0 documents, 0 disk chunks, 0 log records;
+the first one then | check --config searchd.conf |  | one ~1 |  | - ⇒ 0; asks searchd.conf, in one, 1 and 0 back; one: 0 documents, 0 disk chunks, 0 log records;
 "#;

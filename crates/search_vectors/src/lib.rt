@@ -10,9 +10,11 @@ mod crashes;
 #[cfg(test)]
 mod disks;
 #[cfg(test)]
-mod lent;
-#[cfg(test)]
 mod lines;
+#[cfg(test)]
+mod meetings;
+#[cfg(test)]
+mod real_hosts;
 #[cfg(test)]
 mod runs;
 #[cfg(test)]
@@ -22,10 +24,12 @@ mod sessions;
 #[cfg(test)]
 mod statuses;
 #[cfg(test)]
+mod table_door;
+#[cfg(test)]
+mod table_host;
+#[cfg(test)]
 mod tests;
 #[cfg(test)]
 mod told;
-#[cfg(test)]
-mod turn_host;
 #[cfg(test)]
 mod turns;

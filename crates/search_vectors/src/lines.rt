@@ -1,153 +1,146 @@
-//! The lines that a table spells, and the doors that give them.
-use crate::bytes::{bytes_of, put_all};
-use crate::lent::Lent;
-use crate::turns::{TurnDoor, TurnLink};
+//! The lines that a table spells, the doors that give them, and what was replied over them.
+use crate::bytes::{bytes_of, put_bytes};
+use crate::table_door::TableDoor;
+use crate::turns::TurnLink;
+use real_host::Lent;
 use srch_base::MemoryLink;
 use std::alloc::Global;
 use std::sync::Arc;
-use std::sync::atomic::AtomicU64;
-use std::test::Fail;
-
-/// What is sent over a line, how it is cut, the calls that fail, and the turns of the reads.
-#[derive(Drop)]
-struct Sent {
-    input: Vec<u8>,
-    cuts: Vec<u32>,
-    failing: Vec<u32>,
-    turns: Vec<u64>,
-}
+use std::sync::atomic::AtomicU32;
 
 /// Adds the number that is spelled so.
-pub(crate) fn add_number(numbers: &mut Vec<u32>, number: &str) -> Result<(), Fail> {
-    numbers.push(number.parse::<u32>()?)?;
-    Ok(())
+pub(crate) fn add_number(numbers: &mut Vec<u32>, number: &str) -> Option<()> {
+    numbers.push(number.parse::<u32>().ok()?).ok()
 }
 
 /// Adds the bytes of a read that has a turn: the turn, a blank, and the bytes.
-fn add_turn(alloc: Global, sent: &mut Sent, packet: &str) -> Result<(), Fail> {
-    let (turn, packet) = packet.split_once(' ').ok_or("a turn without a packet")?;
-    let before = sent.input.len();
-    put_all(alloc, &mut sent.input, packet)?;
-    let length = sent.input.len().saturating_sub(before);
-    sent.turns.push(turn.parse::<u64>()?)?;
-    sent.cuts.push(u32::try_from(length)?)?;
-    Ok(())
+fn add_turn(
+    alloc: Global,
+    input: &mut Vec<u8>,
+    cuts: &mut Vec<u32>,
+    turns: &mut Vec<u32>,
+    packet: &str,
+) -> Option<()> {
+    let (turn, packet) = packet.split_once(' ')?;
+    add_number(turns, turn)?;
+    let before = input.len();
+    put_bytes(alloc, input, packet)?;
+    let length = input.len().saturating_sub(before);
+    cuts.push(u32::try_from(length).ok()?).ok()
 }
 
 /// Adds a packet: `!N` for a call that fails, `^N` for the length of a read, or bytes, which behind `@N` are those of a read that has
 /// the turn N.
-fn add_packet(alloc: Global, sent: &mut Sent, packet: &str) -> Result<(), Fail> {
+fn add_packet(
+    alloc: Global,
+    input: &mut Vec<u8>,
+    cuts: &mut Vec<u32>,
+    failing: &mut Vec<u32>,
+    turns: &mut Vec<u32>,
+    packet: &str,
+) -> Option<()> {
     if let Some(call) = packet.strip_prefix('!') {
-        return add_number(&mut sent.failing, call);
+        return add_number(failing, call);
     }
     if let Some(cut) = packet.strip_prefix('^') {
-        return add_number(&mut sent.cuts, cut);
+        return add_number(cuts, cut);
     }
     if let Some(packet) = packet.strip_prefix('@') {
-        return add_turn(alloc, sent, packet);
+        return add_turn(alloc, input, cuts, turns, packet);
     }
-    put_all(alloc, &mut sent.input, packet)
-}
-
-/// What these packets send.
-fn sent_of(alloc: Global, packets: &str) -> Result<Sent, Fail> {
-    let mut sent = Sent {
-        input: Vec::new(alloc),
-        cuts: Vec::new(alloc),
-        failing: Vec::new(alloc),
-        turns: Vec::new(alloc),
-    };
-    for packet in packets.split("; ") {
-        add_packet(alloc, &mut sent, packet)?;
-    }
-    sent.turns.reverse();
-    Ok(sent)
+    put_bytes(alloc, input, packet)
 }
 
 /// The line over which these packets are sent.
-fn line_of(alloc: Global, packets: &str, now: &Arc<AtomicU64, Global>) -> Result<TurnLink, Fail> {
-    let now = Arc::try_clone(now)?;
-    let Sent {
-        input,
-        cuts,
-        failing,
-        turns,
-    } = sent_of(alloc, packets)?;
-    Ok(TurnLink {
+fn line_of(alloc: Global, packets: &str, now: &Arc<AtomicU32, Global>) -> Option<TurnLink> {
+    let now = Arc::try_clone(now).ok()?;
+    let mut input = Vec::new(alloc);
+    let mut cuts = Vec::new(alloc);
+    let mut failing = Vec::new(alloc);
+    let mut turns = Vec::new(alloc);
+    for packet in packets.split("; ") {
+        add_packet(
+            alloc,
+            &mut input,
+            &mut cuts,
+            &mut failing,
+            &mut turns,
+            packet,
+        )?;
+    }
+    turns.reverse();
+    Some(TurnLink {
         line: MemoryLink::new(alloc, input, cuts, failing),
         turns,
         mine: None,
         now,
+        read_faults: 0,
     })
 }
 
 /// A door by its words.
-fn door_of(alloc: Global, words: &str, now: &Arc<AtomicU64, Global>) -> Result<TurnDoor, Fail> {
+fn door_of(alloc: Global, words: &str, now: &Arc<AtomicU32, Global>) -> Option<TableDoor> {
     let mut lines = Vec::new(alloc);
     for line in words.split(" + ") {
         if let Some((packets, _)) = line.split_once(" => ") {
-            lines.push(line_of(alloc, packets, now)?)?;
+            lines.push(line_of(alloc, packets, now)?).ok()?;
         }
     }
     lines.reverse();
-    Ok(TurnDoor {
+    Some(TableDoor {
         lines,
         lent: Lent::new(alloc),
+        back: Vec::new(alloc),
         fails: words == "fails",
         ended: false,
         faults: 0,
     })
 }
 
-/// Doors by the words of a table: `none`, or doors with ` / ` between them.
+/// Doors by the words of a table: `none`, or doors with ` / ` between them, whose lines take turns with one another.
 ///
 /// A door is `-` without a line, `fails` where it fails at its first call, or its lines with ` + ` between them. A line is its packets
-/// with `; ` between, as `put_all` and `add_packet` read them, ` => ` and what is replied, or `never` where it isn't given.
-pub(crate) fn doors_of(alloc: Global, words: &str) -> Result<Vec<TurnDoor>, Fail> {
-    let now = Arc::new(alloc, AtomicU64::new(0))?;
+/// with `; ` between, as `add_packet` reads them, ` => ` and what is replied, or `never` where it isn't given.
+pub(crate) fn doors_of(alloc: Global, words: &str) -> Option<Vec<TableDoor>> {
+    let now = Arc::new(alloc, AtomicU32::new(0)).ok()?;
     let mut doors = Vec::new(alloc);
     for door in words.split(" / ") {
         if door != "none" {
-            doors.push(door_of(alloc, door, &now)?)?;
+            doors.push(door_of(alloc, door, &now)?).ok()?;
         }
     }
-    Ok(doors)
+    Some(doors)
 }
 
-/// Appends what was written to a line, where it isn't this reply.
-fn put_written(
-    alloc: Global,
-    line: &MemoryLink,
-    reply: &str,
-    differs: &mut String,
-) -> Result<(), Fail> {
+/// None where something else than this reply was written to a line; then that is said.
+fn is_replied(alloc: Global, line: &MemoryLink, reply: &str, said: &mut String) -> Option<()> {
     let wanted = bytes_of(alloc, reply)?;
-    if line.written() != wanted.as_slice() {
-        differs.push_str(" ⇒ written: ")?;
-        differs.push_str(hex::encode(alloc, line.written())?.as_str())?;
+    if line.written() == wanted.as_slice() {
+        return Some(());
     }
-    Ok(())
+    let written = hex::encode(alloc, line.written()).ok()?;
+    write!(said, " and wrote {}", written.as_str()).ok()?;
+    None
 }
 
-/// Appends how the lines that came back to a door differ from its words, in what was written to them too.
-pub(crate) fn put_difference(
+/// None where the lines that came back to a door, or its end, aren't those of its words.
+pub(crate) fn is_served(
     alloc: Global,
     words: &str,
-    door: &TurnDoor,
-    differs: &mut String,
-) -> Result<(), Fail> {
-    let mut back = door.lent.back.iter();
+    door: &TableDoor,
+    said: &mut String,
+) -> Option<()> {
+    let mut back = door.back.iter();
     for line in words.split(" + ") {
         match line.split_once(" => ") {
             Some((_, "never")) | None => {}
-            Some((_, reply)) => {
-                let line = back.next().ok_or("a line didn't come back")?;
-                put_written(alloc, &line.line, reply, differs)?;
-            }
+            Some((_, reply)) => is_replied(alloc, &back.next()?.line, reply, said)?,
         }
     }
-    if back.next().is_some() || !words.contains(" => ") && door.ended != (words == "-") {
-        differs.push_str(" ⇒ another line, or another end")?;
+    let ends = words.contains(" => ") || door.ended == (words == "-");
+    if back.next().is_none() && ends {
+        Some(())
+    } else {
+        None
     }
-    Ok(())
 }

@@ -1,115 +1,101 @@
 //! Runs of the program on a host in memory, by the rows of a table: what is asked, with which file, stores and doors, and what a run
-//! comes to.
-ghost use Rattle.std.specs.Prelude.{◌≤◌, length, All, IfOk};
+//! comes to. What doesn't hold is answered by none, and said in the text that each function is lent.
+ghost use Rattle.std.specs.Prelude.{◌≤◌, length, All, IfSome};
 ghost use Rattle.chunk_store.specs.contracts.memory_disk.MemoryDiskDisk.TheImpl as memory_words;
 ghost use Rattle.store_keep.specs.Opens.{HidesNothing};
 
-use crate::disks::{name_of, stores_of};
-use crate::lent::Lent;
-use crate::lines::{add_number, doors_of, put_difference};
-use crate::told::told;
-use crate::turn_host::TurnHost;
+use crate::disks::{crashed, put_files, stores_of};
+use crate::lines::{add_number, doors_of, is_served};
+use crate::table_host::TableHost;
+use crate::told::put_told;
 use chunk_store::MemoryDisk;
+use real_host::Lent;
 use searchd_top::{MemoryHost, Status, searchd};
-use srch_base::{ListDoor, NoMemory, Text};
-use std::alloc::{AllocError, Global};
+use srch_base::{ListDoor, Text};
+use std::alloc::Global;
 use std::sync::Wait;
-use std::test::Fail;
 use std::thread::Threads;
 
 /// The index that most rows are about, as small as it can be.
-const PLAIN: &str = "index rt;{;type = rt;path = .;rt_field = title;}";
+const PLAIN: &str = "index rt;{;type = rt;path = .;rt_field = title;};";
 
-/// The lines of a text, each with `;` at its end, and `~` before it where a carriage return stands there; or bytes behind `0x`.
-fn lines_of(alloc: Global, words: &str) -> Result<Vec<u8>, Fail> {
-    if let Some(digits) = words.strip_prefix("0x") {
-        return Ok(hex::decode(alloc, digits.as_bytes())?);
-    }
-    let mut text = Vec::new(alloc);
-    for line in words.split(';') {
-        let (line, end) = match line.strip_suffix('~') {
-            Some(line) => (line, "\r\n"),
-            None => (line, "\n"),
-        };
-        text.extend_from_slice(line.as_bytes())?;
-        text.extend_from_slice(end.as_bytes())?;
-    }
-    Ok(text)
-}
-
-/// Appends a section of a configuration: an index that has its name as its path.
-fn put_index(text: &mut String, name: &str) -> Result<(), AllocError> {
-    write!(
-        text,
-        "index {name} {{\ntype = rt\npath = {name}\nrt_field = title\n}}\n"
-    )
-}
-
-/// A configuration of the indexes of a table.
-fn configuration(alloc: Global, indexes: &str) -> Result<Vec<u8>, AllocError> {
+/// A configuration of the indexes of a table, each of which has its name as its path.
+fn configuration(alloc: Global, indexes: &str) -> Option<Vec<u8>> {
     let mut text = String::new(alloc);
     for index in indexes.split(" + ") {
-        put_index(&mut text, name_of(index).trim_start_matches('-'))?;
+        let name = index.split(' ').next()?.trim_start_matches('-');
+        write!(
+            text,
+            "index {name} {{\ntype = rt\npath = {name}\nrt_field = title\n}}\n"
+        )
+        .ok()?;
     }
-    Ok(text.into_bytes())
+    Some(text.into_bytes())
 }
 
-/// The text of the file: of the indexes where no words say another one, and of the length behind ` to ` by a comment.
-fn text_of(alloc: Global, words: &str, indexes: &str) -> Result<Vec<u8>, Fail> {
-    if words.is_empty() {
-        return Ok(configuration(alloc, indexes)?);
-    }
+/// The lines of a text, each with `;` at its end, and `~` before it where a carriage return stands there.
+fn lines_of(alloc: Global, words: &str) -> Option<Vec<u8>> {
+    let text = words.replace(alloc, "~;", "\r\n").ok()?;
+    Some(text.as_str().replace(alloc, ";", "\n").ok()?.into_bytes())
+}
+
+/// The lines of a text, which a comment makes as long as it says behind ` to `.
+fn long_lines_of(alloc: Global, words: &str) -> Option<Vec<u8>> {
     let (words, length) = words.split_once(" to ").unwrap_or((words, "0"));
-    let length = length.parse::<usize>()?;
+    let length = length.parse::<usize>().ok()?;
     let mut text = lines_of(alloc, if words == "PLAIN" { PLAIN } else { words })?;
     if length > text.len() {
-        text.push(b'#')?;
-        text.resize(length, b' ')?;
+        text.push(b'#').ok()?;
+        text.resize(length, b' ').ok()?;
     }
-    Ok(text)
+    Some(text)
+}
+
+/// The text of the file: bytes behind `0x`, or lines; of the indexes where no words say another one.
+fn text_of(alloc: Global, words: &str, indexes: &str) -> Option<Vec<u8>> {
+    if words.is_empty() {
+        return configuration(alloc, indexes);
+    }
+    if let Some(digits) = words.strip_prefix("0x") {
+        return hex::decode(alloc, digits.as_bytes()).ok();
+    }
+    long_lines_of(alloc, words)
 }
 
 /// The one file of a host.
-fn files_of(alloc: Global, text: Vec<u8>) -> Result<Vec<(Text, Vec<u8>)>, NoMemory> {
-    let mut files = Vec::new(alloc);
-    files.push((Text::from_slice(alloc, b"searchd.conf")?, text))?;
-    Ok(files)
+fn files_of(alloc: Global, row: &Row<'_>) -> Option<Vec<(Text, Vec<u8>)>> {
+    let path = Text::from_slice(alloc, b"searchd.conf").ok()?;
+    let text = text_of(alloc, row.text, row.indexes)?;
+    Vec::from_array(alloc, [(path, text)]).ok()
 }
 
 /// So many doors without lines.
-fn doors_without_lines(alloc: Global, count: usize) -> Result<Vec<ListDoor>, NoMemory> {
+fn doors_without_lines(alloc: Global, count: usize) -> Option<Vec<ListDoor>> {
     let mut doors = Vec::new(alloc);
     for _ in 0..count {
-        doors.push(ListDoor::new(alloc, Vec::new(alloc))?)?;
+        doors
+            .push(ListDoor::new(alloc, Vec::new(alloc)).ok()?)
+            .ok()?;
     }
-    Ok(doors)
+    Some(doors)
 }
 
 /// The numbers of calls, with blanks between.
-fn numbers_of(alloc: Global, calls: &str) -> Result<Vec<u32>, Fail> {
+fn numbers_of(alloc: Global, calls: &str) -> Option<Vec<u32>> {
     let mut numbers = Vec::new(alloc);
-    for call in calls.split(' ') {
-        if !call.is_empty() {
-            add_number(&mut numbers, call)?;
-        }
+    for call in calls.split_whitespace() {
+        add_number(&mut numbers, call)?;
     }
-    Ok(numbers)
+    Some(numbers)
 }
 
-/// Runs what words with blanks between them ask.
-fn run<R: Threads + Wait + Sync>(
-    rt: &R,
-    alloc: Global,
-    text: &str,
-    host: &mut TurnHost,
-) -> Result<Status, Fail>
-    requires { length host.old.base.stores_back ≤ length host.old.base.stores_given }
-{
+/// The words of a command line, with blanks between.
+pub(crate) fn words_of(alloc: Global, text: &str) -> Option<Vec<String>> {
     let mut words = Vec::new(alloc);
     for word in text.split(' ') {
-        words.push(String::from_str(alloc, word)?)?;
+        words.push(String::from_str(alloc, word).ok()?).ok()?;
     }
-    Ok(searchd(rt, alloc, words.as_slice(), host))
+    Some(words)
 }
 
 /// The fields of a row behind what it is of, and what it says that the run comes to.
@@ -148,82 +134,112 @@ fn base_of(
     row: &Row<'_>,
     doors: usize,
     stores: Vec<(Text, MemoryDisk)>,
-) -> Result<MemoryHost, Fail>
+) -> Option<MemoryHost>
     requires { All (λ store. HidesNothing memory_words.ghosts store.1) stores.items }
-    ensures { IfOk result (λ host. length host.stores_back ≤ length host.stores_given) }
+    ensures { IfSome result (λ host. length host.stores_back ≤ length host.stores_given) }
 {
     let failing = numbers_of(alloc, row.calls)?;
     let doors = doors_without_lines(alloc, doors)?;
-    let files = files_of(alloc, text_of(alloc, row.text, row.indexes)?)?;
-    Ok(MemoryHost::new(alloc, files, stores, doors, failing)?)
+    let files = files_of(alloc, row)?;
+    MemoryHost::new(alloc, files, stores, doors, failing).ok()
 }
 
-/// The host of a row.
-fn host_of(
-    alloc: Global,
-    row: &Row<'_>,
-    before: Option<&TurnHost>,
-    pick: u8,
-) -> Result<TurnHost, Fail>
-    ensures { IfOk result (λ host. length host.base.stores_back ≤ length host.base.stores_given) }
+/// The host of a row, where the run before left this store.
+fn host_of(alloc: Global, row: &Row<'_>, before: Option<&MemoryDisk>) -> Option<TableHost>
+    ensures { IfSome result (λ host. length host.base.stores_back ≤ length host.base.stores_given) }
 {
     let doors = doors_of(alloc, row.doors)?;
-    let stores = stores_of(alloc, row.indexes, before, pick)?;
+    let stores = stores_of(alloc, row.indexes, before)?;
     let base = base_of(alloc, row, doors.len(), stores)?;
-    Ok(TurnHost {
+    Some(TableHost {
         alloc,
         base,
         doors,
         lent: Lent::new(alloc),
+        back: Vec::new(alloc),
     })
 }
 
-/// How what a run came to differs from its row, which is empty where it doesn't.
-fn difference(
+/// None where a run came to something else than its row says; then that is said.
+fn is_wanted(
     alloc: Global,
     row: &Row<'_>,
     status: &Status,
-    host: &TurnHost,
-) -> Result<String, Fail> {
-    let mut differs = told(alloc, status, host)?;
-    if differs.as_str() == row.wanted {
-        differs.clear();
+    host: &TableHost,
+    said: &mut String,
+) -> Option<()> {
+    said.push_str(" came to: ").ok()?;
+    put_told(said, status, host)?;
+    let before = said.as_str().strip_suffix(row.wanted)?;
+    if !before.ends_with(" came to: ") {
+        return None;
     }
-    for (door, back) in row.doors.split(" / ").zip(host.lent.back.as_slice()) {
-        put_difference(alloc, door, back, &mut differs)?;
+    for (door, back) in row.doors.split(" / ").zip(host.back.as_slice()) {
+        is_served(alloc, door, back, said)?;
     }
-    Ok(differs)
+    Some(())
 }
 
-/// Runs a row of a table. Gives the host as it is then, and how what it came to differs from the row, which is empty where it doesn't.
+/// Runs a row of a table, with the store that the run before left. Gives the host as it is then, or none where the run came to something
+/// else than the row says.
 ///
 /// What the row is of, ` | `, the words, ` | `, the text as `text_of` reads it, ` | `, the indexes as `stores_of` reads them, ` | `, the
-/// calls of the host that fail, ` | `, the doors as `doors_of` reads them, and ` ⇒ ` with what `told` tells.
+/// calls of the host that fail, ` | `, the doors as `doors_of` reads them, and ` ⇒ ` with what `put_told` tells.
 pub(crate) fn run_row<R: Threads + Wait + Sync>(
     rt: &R,
     alloc: Global,
     row: &str,
-    before: Option<&TurnHost>,
-    pick: u8,
-) -> Result<(TurnHost, String), Fail> {
-    let row = fields_of(row).ok_or("a row without six fields and an arrow")?;
-    let mut host = host_of(alloc, &row, before, pick)?;
-    let status = run(rt, alloc, row.words, &mut host)?;
-    let differs = difference(alloc, &row, &status, &host)?;
-    Ok((host, differs))
+    before: Option<&MemoryDisk>,
+    said: &mut String,
+) -> Option<TableHost> {
+    said.clear();
+    said.push_str(row).ok()?;
+    let row = fields_of(row)?;
+    let words = words_of(alloc, row.words)?;
+    let mut host = host_of(alloc, &row, before)?;
+    let status = searchd(rt, alloc, words.as_slice(), &mut host);
+    is_wanted(alloc, &row, &status, &host, said)?;
+    Some(host)
 }
 
-/// Runs a row of a table, and fails where it comes to something else. Gives the host as it is then.
-pub(crate) fn try_row<R: Threads + Wait + Sync>(
+/// The first store that came back to a host.
+pub(crate) fn store_back(host: &TableHost) -> Option<&MemoryDisk> {
+    host.base.stores_back().first()
+}
+
+/// None where a crash leaves other files than these of a host's first store, whatever its pick; no files stand for any.
+fn are_left(alloc: Global, files: &str, host: &TableHost, said: &mut String) -> Option<()> {
+    if files.is_empty() {
+        return Some(());
+    }
+    for pick in 0..4 {
+        let mut disk = crashed(store_back(host)?, pick)?;
+        put_files(alloc, &mut disk, said)?;
+        if !said.as_str().ends_with(files) {
+            return None;
+        }
+    }
+    Some(())
+}
+
+/// Goes through a table: a line with the files that each run leaves, or nothing, and the rows. None where one comes to something else;
+/// then that is said.
+pub(crate) fn run_table<R: Threads + Wait + Sync>(
     rt: &R,
     alloc: Global,
-    row: &str,
-    before: Option<&TurnHost>,
-    pick: u8,
-) -> Result<TurnHost, Fail> {
-    let (host, differs) = run_row(rt, alloc, row, before, pick)?;
-    if !differs.is_empty() {
-        return Err(Fail::new(format_args!("{row} came to: {differs}")));
+    table: &str,
+    said: &mut String,
+) -> Option<()> {
+    let (files, rows) = table.split_once('\n')?;
+    let mut last = None;
+    for row in rows.lines() {
+        let before = match &last {
+            Some(host) => store_back(host),
+            None => None,
+        };
+        let host = run_row(rt, alloc, row, before, said)?;
+        are_left(alloc, files, &host, said)?;
+        last = Some(host);
     }
-    Ok(host)
+    Some(())
 }

@@ -32,11 +32,11 @@ a call fails | session --config searchd.conf | PLAIN | . |  | none ⇒ 4; asks s
 
 /// Texts of a file that are no configuration, and lengths of one with blanks in a comment at its end.
 pub(crate) const TEXTS: &str = r#"
-a key that none knows | session --config searchd.conf | index rt;{;type = rt;path = data/rt;rt_field = title;rt_feld = content;rt_attr_uint = gid;rt_attr_bigint = price;} | . |  | none ⇒ 3 at 6: unknown key; asks searchd.conf, 0 and 0 back; ! searchd: config line 6: unknown key;
-no path | session --config searchd.conf | index rt;{;type = rt;rt_field = title;rt_field = content;rt_attr_uint = gid;rt_attr_bigint = price;} | . |  | none ⇒ 3 at 8: missing key; asks searchd.conf, 0 and 0 back; ! searchd: config line 8: missing key;
+a key that none knows | session --config searchd.conf | index rt;{;type = rt;path = data/rt;rt_field = title;rt_feld = content;rt_attr_uint = gid;rt_attr_bigint = price;}; | . |  | none ⇒ 3 at 6: unknown key; asks searchd.conf, 0 and 0 back; ! searchd: config line 6: unknown key;
+no path | session --config searchd.conf | index rt;{;type = rt;rt_field = title;rt_field = content;rt_attr_uint = gid;rt_attr_bigint = price;}; | . |  | none ⇒ 3 at 8: missing key; asks searchd.conf, 0 and 0 back; ! searchd: config line 8: missing key;
 no index | session --config searchd.conf | 0x | . |  | none ⇒ 3 at 1: missing key; asks searchd.conf, 0 and 0 back; ! searchd: config line 1: missing key;
 a path that is no text | session --config searchd.conf | 0x696e6465782072740a7b0a70617468203d20ff0a7d0a | . |  | none ⇒ 3 at 3: not UTF-8; asks searchd.conf, 0 and 0 back; ! searchd: config line 3: not UTF-8;
-a section that none knows | session --config searchd.conf | indx rt {;} | . |  | none ⇒ 3 at 1: unknown section; asks searchd.conf, 0 and 0 back; ! searchd: config line 1: unknown section;
+a section that none knows | session --config searchd.conf | indx rt {;}; | . |  | none ⇒ 3 at 1: unknown section; asks searchd.conf, 0 and 0 back; ! searchd: config line 1: unknown section;
 1,048,576 bytes | session --config searchd.conf | PLAIN to 1048576 | . |  | - ⇒ 0; asks searchd.conf, in ., 1, 1 and 1 back;
 1,048,577 bytes | session --config searchd.conf | PLAIN to 1048577 | . |  | - ⇒ 3 at 1: limit; asks searchd.conf, 0 and 0 back; ! searchd: config line 1: limit;
 2,000,000 bytes | session --config searchd.conf | PLAIN to 2000000 | . |  | - ⇒ 3 at 1: limit; asks searchd.conf, 0 and 0 back; ! searchd: config line 1: limit;
@@ -51,7 +51,7 @@ a session | session --config searchd.conf | PLAIN | . |  | - ⇒ 0; asks searchd
 one worker | serve --config searchd.conf --listen port --workers 1 | PLAIN | . |  | - ⇒ 0; asks searchd.conf, in ., 1 at port, 1 and 1 back;
 as many workers as the manual says | serve --listen port --config searchd.conf | PLAIN | . |  | - ⇒ 4; asks searchd.conf, in ., 4 at port, 1 and 0 back; ! searchd: host fault;
 a check of no configuration | check --config searchd.conf | 0x696e6478 | . |  | - ⇒ 3 at 1: unknown section; asks searchd.conf, 0 and 0 back; ! searchd: config line 1: unknown section;
-no store at the first path | check --config searchd.conf | index b {;type = rt;path = data/b;rt_field = title;};index a {;type = rt;path = a;rt_field = title;} | . |  | - ⇒ 4; asks searchd.conf, in data/b, 0 and 0 back; ! searchd: host fault;
+no store at the first path | check --config searchd.conf | index b {;type = rt;path = data/b;rt_field = title;};index a {;type = rt;path = a;rt_field = title;}; | . |  | - ⇒ 4; asks searchd.conf, in data/b, 0 and 0 back; ! searchd: host fault;
 "#;
 
 /// Selftests. The sums are those of a script that draws the documents and counts words and pairs in them; no line of it is this

@@ -1,30 +1,30 @@
 //! Lines that take turns: each packet of a line has its turn, and is given once those before it were answered, whichever line they came
-//! over. So the lines are served at once, or some packet comes too early.
+//! over. So the lines are served at once, or the read of some packet fails, since its turn doesn't come.
 ghost use Rattle.std.specs.Prelude.{◌≡◌};
 
-use crate::lent::Lent;
-use srch_base::{Door, Failed, Link, MemoryLink};
+use srch_base::{Failed, Link, MemoryLink};
 use std::alloc::Global;
 use std::marker::Model;
 use std::sync::Arc;
-use std::sync::atomic::{AtomicU64, Ordering};
-use std::{slice, thread};
+use std::sync::atomic::{AtomicU32, Ordering};
+use std::thread;
 
-/// How often a line looks whether its turn has come, before it goes on all the same.
-const MOST_LOOKS: u32 = 10_000_000;
+/// How often a line looks whether its turn has come, before its read fails.
+const MOST_LOOKS: u32 = 100_000_000;
 
 /// A line over memory whose reads have turns: each begins once the turn has come, and the turn ends as the next one is asked for.
 ///
-/// Contracts see it as the line over memory.
+/// Contracts see it as the line over memory, with its own count of reads that failed.
 #[derive(Drop)]
 pub(crate) struct TurnLink {
     pub(crate) line: MemoryLink,
     /// The turns of the reads, the last one first; reads behind them have none.
-    pub(crate) turns: Vec<u64>,
+    pub(crate) turns: Vec<u32>,
     /// The turn of the read that was asked for last.
-    pub(crate) mine: Option<u64>,
+    pub(crate) mine: Option<u32>,
     /// The turn that it is.
-    pub(crate) now: Arc<AtomicU64, Global>,
+    pub(crate) now: Arc<AtomicU32, Global>,
+    pub(crate) read_faults: u64,
 }
 
 impl Model for TurnLink {
@@ -32,12 +32,12 @@ impl Model for TurnLink {
 
     ghost Value = { Memory };
 
-    ghost view = { λ a. a.line };
+    ghost view = { λ a. record a.line { read_faults = a.read_faults } };
 }
 
 impl TurnLink {
-    /// Ends the turn of the last read, and waits for the turn of the next one.
-    fn take_turn(&mut self)
+    /// Ends the turn of the last read, and waits for the turn of the next one. Says whether it has come.
+    fn take_turn(&mut self) -> bool
         ensures { self.new ≡ self.old }
     {
         if let Some(turn) = self.mine {
@@ -45,14 +45,15 @@ impl TurnLink {
         }
         self.mine = self.turns.pop();
         let Some(turn) = self.mine else {
-            return;
+            return true;
         };
         for _ in 0..MOST_LOOKS {
             if self.now.load(Ordering::SeqCst) >= turn {
-                return;
+                return true;
             }
             thread::yield_now();
         }
+        false
     }
 }
 
@@ -69,60 +70,18 @@ impl Link for TurnLink {
 
     ghost write_faults = { λ m. m.write_faults };
 
+    /// Fails too where its turn doesn't come.
     fn read(&mut self, into: &mut [u8]) -> Result<usize, Failed> {
-        self.take_turn();
-        self.line.read(into)
+        if self.take_turn() {
+            if let Ok(count) = self.line.read(into) {
+                return Ok(count);
+            }
+        }
+        self.read_faults = self.read_faults.saturating_add(1);
+        Err(Failed)
     }
 
     fn write(&mut self, piece: &[u8]) -> Result<usize, Failed> {
         self.line.write(piece)
-    }
-}
-
-/// A door that gives some lines, the last one first, or fails at its first call.
-#[derive(Drop)]
-pub(crate) struct TurnDoor {
-    pub(crate) lines: Vec<TurnLink>,
-    pub(crate) lent: Lent<TurnLink>,
-    pub(crate) fails: bool,
-    pub(crate) ended: bool,
-    pub(crate) faults: u64,
-}
-
-impl Door for TurnDoor {
-    ghost use Rattle.std.specs.Prelude.{map};
-
-    type Line = TurnLink;
-
-    ghost given = { λ d. map (λ line. line.value) d.lent.gave.items };
-
-    ghost returned = { λ d. d.lent.back.items };
-
-    ghost ended = { λ d. d.ended };
-
-    ghost faults = { λ d. d.faults };
-
-    fn next(&mut self) -> Result<Option<TurnLink>, Failed> {
-        if self.ended {
-            return Ok(None);
-        }
-        if self.fails {
-            self.fails = false;
-            self.faults = self.faults.saturating_add(1);
-            return Err(Failed);
-        }
-        let Some(line) = self.lines.pop() else {
-            self.ended = true;
-            return Ok(None);
-        };
-        if self.lent.give(slice::from_ref(&line)).is_err() {
-            self.faults = self.faults.saturating_add(1);
-            return Err(Failed);
-        }
-        Ok(Some(line))
-    }
-
-    fn done(&mut self, line: TurnLink) {
-        self.lent.take_one_back(line);
     }
 }

@@ -3,12 +3,6 @@
 
 ghost use Rattle.std.specs.Prelude.{◌≡◌};
 
-mod folders;
-mod lent;
-mod real_host;
-#[cfg(test)]
-mod tests;
-
 use real_host::RealHost;
 use searchd_top::{Host, Status, Stream, searchd};
 use srch_base::{Failed, NoMemory};

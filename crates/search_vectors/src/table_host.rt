@@ -1,9 +1,9 @@
-//! A host over memory whose doors are those of the test: all else is the host over memory.
+//! The host of a row: a host over memory whose doors are those of the row.
 ghost use Rattle.std.specs.Prelude.{◌≡◌, ◌≤◌, ◌+◌, ◌++◌, length, map};
 
-use crate::lent::Lent;
-use crate::turns::TurnDoor;
+use crate::table_door::TableDoor;
 use chunk_store::MemoryDisk;
+use real_host::Lent;
 use searchd_top::{Host, MemoryHost, Stream};
 use srch_base::{Failed, OpenFault};
 use std::alloc::Global;
@@ -11,21 +11,24 @@ use std::mem;
 
 /// A host over memory that gives these doors once.
 #[derive(Drop)]
-pub(crate) struct TurnHost {
+pub(crate) struct TableHost {
     pub(crate) alloc: Global,
     /// The host that does all else. It has as many doors, which none sees.
     pub(crate) base: MemoryHost,
-    pub(crate) doors: Vec<TurnDoor>,
-    pub(crate) lent: Lent<TurnDoor>,
+    pub(crate) doors: Vec<TableDoor>,
+    /// What was given and came back, for contracts.
+    pub(crate) lent: Lent<TableDoor>,
+    /// The doors that came back.
+    pub(crate) back: Vec<TableDoor>,
 }
 
-impl Host for TurnHost {
+impl Host for TableHost {
     ghost use Rattle.std.specs.Prelude.{map};
     ghost use Rattle.searchd_top.specs.HostMemory.{text_of, printed_of, print_faults_of};
 
     type Store = MemoryDisk;
 
-    type Entry = TurnDoor;
+    type Entry = TableDoor;
 
     ghost text = { λ h. text_of h.base };
 
@@ -37,7 +40,7 @@ impl Host for TurnHost {
 
     ghost doors_given = { λ h. map (λ door. door.value) h.lent.gave.items };
 
-    ghost doors_back = { λ h. h.lent.back.items };
+    ghost doors_back = { λ h. map (λ door. door.value) h.lent.back.items };
 
     ghost faults = { λ h. h.base.faults };
 
@@ -61,7 +64,7 @@ impl Host for TurnHost {
         self.base.give_back(store);
     }
 
-    fn doors(&mut self, listen: Option<&str>, n: u32) -> Result<Vec<TurnDoor>, OpenFault> {
+    fn doors(&mut self, listen: Option<&str>, n: u32) -> Result<Vec<TableDoor>, OpenFault> {
         let _doors = self.base.doors(listen, n)?;
         if self.doors.len() != n as usize {
             return Err(OpenFault::NoMemory);
@@ -70,12 +73,13 @@ impl Host for TurnHost {
         Ok(mem::replace(&mut self.doors, Vec::new(self.alloc)))
     }
 
-    fn give_doors(&mut self, doors: Vec<TurnDoor>)
-        requires { length self.old.lent.back.items + length doors.items ≤ length (map (λ door. door.value) self.old.lent.gave.items) }
-        ensures took { self.new.lent.back.items ≡ self.old.lent.back.items ++ doors.items }
+    fn give_doors(&mut self, mut doors: Vec<TableDoor>)
+        requires { length (map (λ door. door.value) self.old.lent.back.items) + length doors.items ≤ length (map (λ door. door.value) self.old.lent.gave.items) }
+        ensures took { map (λ door. door.value) self.new.lent.back.items ≡ map (λ door. door.value) self.old.lent.back.items ++ doors.items }
         ensures gave { self.new.lent.gave.items ≡ self.old.lent.gave.items }
-        ensures rest { self.new ≡ record self.old { lent = self.new.lent } }
+        ensures rest { self.new ≡ record self.old { lent = self.new.lent; back = self.new.back } }
     {
-        self.lent.take_back(doors);
+        self.lent.take_back(doors.as_slice());
+        let _appended = self.back.append(&mut doors);
     }
 }

@@ -1,5 +1,5 @@
 use Rattle.std.proofs.Common.{◌≡◌, ◌≤◌, ◌+◌, ◌++◌, length, map, take, vec_capacity}
-use Rattle.search_vectors.proofs.lent.Lent.give.Given as goal
+use Rattle.real_host.proofs.lent.Lent.give.Given as goal
 
 abbrev pub invariant-things : goal.invariant-things
 invariant-things g l = record {

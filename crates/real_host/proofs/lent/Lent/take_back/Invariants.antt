@@ -1,5 +1,5 @@
 use Rattle.std.proofs.Common.{◌≡◌, ◌≤◌, ◌+◌, ◌++◌, length, map, take}
-use Rattle.searchd.proofs.lent.Lent.take_back.Given as goal
+use Rattle.real_host.proofs.lent.Lent.take_back.Given as goal
 
 abbrev pub invariant-things : goal.invariant-things
 invariant-things g l = record {

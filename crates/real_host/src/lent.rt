@@ -1,5 +1,5 @@
-//! The things that the host gave and got back, for contracts alone: they are remembered without a byte.
-ghost use Rattle.std.specs.Prelude.{◌≡◌, ◌≤◌, ◌+◌, ◌++◌, [], ◌∷◌, length, map, vec_capacity, OnOk, OnErr};
+//! The things that a host gave and got back, for contracts alone: they are remembered without a byte.
+ghost use Rattle.std.specs.Prelude.{◌≡◌, ◌==◌, ◌≤◌, ◌+◌, ◌++◌, [], ◌∷◌, length, map, vec_capacity, OnOk, OnErr};
 
 use srch_base::NoMemory;
 use std::alloc::Global;
@@ -8,15 +8,15 @@ use std::snapshot::Snapshot;
 /// The things that were given, and those that came back, as they were then.
 #[derive(Drop)]
 pub struct Lent<T> {
-    pub(crate) gave: Vec<Snapshot<T>>,
-    pub(crate) back: Vec<Snapshot<T>>,
+    pub gave: Vec<Snapshot<T>>,
+    pub back: Vec<Snapshot<T>>,
     ghost inside: { length back.items ≤ length gave.items },
     ghost room: { length gave.items ≤ vec_capacity back },
 }
 
 impl<T> Lent<T> {
     /// None was given yet.
-    pub(crate) fn new(alloc: Global) -> Lent<T>
+    pub fn new(alloc: Global) -> Lent<T>
         ensures gave { result.gave.items ≡ [] }
         ensures back { result.back.items ≡ [] }
     {
@@ -27,12 +27,14 @@ impl<T> Lent<T> {
     }
 
     /// Whether none was given yet.
-    pub(crate) fn is_empty(&self) -> bool {
+    pub fn is_empty(&self) -> bool
+        ensures { result ≡ (length self.now.gave.items == 0) }
+    {
         self.gave.is_empty()
     }
 
     /// Remembers things that are given, with room to remember that they come back.
-    pub(crate) fn give(&mut self, things: &[T]) -> Result<(), NoMemory>
+    pub fn give(&mut self, things: &[T]) -> Result<(), NoMemory>
         ensures gave { OnOk result (map (λ thing. thing.value) self.new.gave.items ≡ map (λ thing. thing.value) self.old.gave.items ++ things.now) }
         ensures none { OnErr result (self.new.gave.items ≡ self.old.gave.items) }
         ensures back { self.new.back.items ≡ self.old.back.items }
@@ -48,7 +50,7 @@ impl<T> Lent<T> {
     }
 
     /// Remembers one thing that is given, with room to remember that it comes back.
-    pub(crate) fn give_one(&mut self, thing: &T) -> Result<(), NoMemory>
+    pub fn give_one(&mut self, thing: &T) -> Result<(), NoMemory>
         ensures gave { OnOk result (map (λ thing. thing.value) self.new.gave.items ≡ map (λ thing. thing.value) self.old.gave.items ++ thing.now ∷ []) }
         ensures none { OnErr result (self.new.gave.items ≡ self.old.gave.items) }
         ensures back { self.new.back.items ≡ self.old.back.items }
@@ -61,7 +63,7 @@ impl<T> Lent<T> {
     }
 
     /// Remembers things that come back.
-    pub(crate) fn take_back(&mut self, things: &[T])
+    pub fn take_back(&mut self, things: &[T])
         requires { length self.old.back.items + length things.now ≤ length self.old.gave.items }
         ensures back { map (λ thing. thing.value) self.new.back.items ≡ map (λ thing. thing.value) self.old.back.items ++ things.now }
         ensures gave { self.new.gave.items ≡ self.old.gave.items }
@@ -70,8 +72,9 @@ impl<T> Lent<T> {
             self.back.push_reserved(Snapshot::of(thing));
         }
     }
+
     /// Remembers one thing that comes back.
-    pub(crate) fn take_one_back(&mut self, thing: &T)
+    pub fn take_one_back(&mut self, thing: &T)
         requires { length self.old.back.items + 1 ≤ length self.old.gave.items }
         ensures back { map (λ thing. thing.value) self.new.back.items ≡ map (λ thing. thing.value) self.old.back.items ++ thing.now ∷ [] }
         ensures gave { self.new.gave.items ≡ self.old.gave.items }

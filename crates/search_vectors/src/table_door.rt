@@ -1,0 +1,61 @@
+//! The door of a row: it gives lines over memory that may take turns, and may fail at its first call.
+ghost use Rattle.std.specs.Prelude.{◌≡◌};
+
+use crate::turns::TurnLink;
+use real_host::Lent;
+use srch_base::{Door, Failed};
+
+/// A door that gives some lines, the last one first, or fails at its first call.
+#[derive(Drop)]
+pub(crate) struct TableDoor {
+    /// The lines that weren't given yet.
+    pub(crate) lines: Vec<TurnLink>,
+    /// What was given and came back, for contracts.
+    pub(crate) lent: Lent<TurnLink>,
+    /// The lines that came back.
+    pub(crate) back: Vec<TurnLink>,
+    /// Whether the next call fails.
+    pub(crate) fails: bool,
+    /// Whether the last call said that there is no further line.
+    pub(crate) ended: bool,
+    pub(crate) faults: u64,
+}
+
+impl Door for TableDoor {
+    ghost use Rattle.std.specs.Prelude.{map};
+
+    type Line = TurnLink;
+
+    ghost given = { λ d. map (λ line. line.value) d.lent.gave.items };
+
+    ghost returned = { λ d. map (λ line. line.value) d.lent.back.items };
+
+    ghost ended = { λ d. d.ended };
+
+    ghost faults = { λ d. d.faults };
+
+    fn next(&mut self) -> Result<Option<TurnLink>, Failed> {
+        if self.ended {
+            return Ok(None);
+        }
+        if self.fails {
+            self.fails = false;
+            self.faults = self.faults.saturating_add(1);
+            return Err(Failed);
+        }
+        let Some(line) = self.lines.pop() else {
+            self.ended = true;
+            return Ok(None);
+        };
+        if self.lent.give_one(&line).is_err() {
+            self.faults = self.faults.saturating_add(1);
+            return Err(Failed);
+        }
+        Ok(Some(line))
+    }
+
+    fn done(&mut self, line: TurnLink) {
+        self.lent.take_one_back(&line);
+        let _kept = self.back.push(line);
+    }
+}
