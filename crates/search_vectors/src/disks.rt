@@ -77,7 +77,8 @@ pub(crate) fn stores_of(
     let mut stores = Vec::new(alloc);
     for index in indexes.split(" + ") {
         if !index.starts_with('-') {
-            stores.push(store_of(alloc, index, before)?).ok()?;
+            let store = store_of(alloc, index, before)?;
+            stores.push(store).ok()?;
         }
     }
     Some(stores)

@@ -1,4 +1,5 @@
 use Rattle.std.proofs.Common.{ℕ, List, [], ◌∷◌, All, subst, sym}
+use Rattle.std.proofs.ResultArms.{chosen}
 use Rattle.std.proofs.lemmas.List.Elements.{All-append, All-cons, All-nil}
 use Rattle.chunk_store.specs.contracts.memory_disk.MemoryDiskDisk.TheImpl as memory_words
 use Rattle.chunk_store.specs.declared.memory_disk.MemoryDisk.{MemoryDisk}
@@ -11,4 +12,5 @@ IsShown store = HidesNothing memory_words.ghosts store.1
 
 pub loop-index-preserved-in-Continue-branch-2 : goal.loop-index-preserved-in-Continue-branch-2
 loop-index-preserved-in-Continue-branch-2 c =
-    subst (All IsShown) (sym c.in_ok-push.ensures.items) (All-append IsShown c.loop-index.stores.items (c.in_ok-store.store ∷ []) c.loop-index.invariant (All-cons IsShown c.in_ok-store.store [] c.in_ok-store.ensures (All-nil IsShown)))
+    let pushed = chosen _ _ _ _ c.push.ensures.items (sym c.in_ok-ok.ensures.variant) in
+    subst (All IsShown) (sym pushed) (All-append IsShown c.loop-index.stores.items (c.in_ok-store.store ∷ []) c.loop-index.invariant (All-cons IsShown c.in_ok-store.store [] c.in_ok-store.ensures (All-nil IsShown)))
