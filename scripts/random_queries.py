@@ -6,8 +6,10 @@
 starts the program over an empty folder and inserts documents with ids in no order, some by one statement each and some
 by many; in between it replaces and deletes some, so that there are several layers with dead rows. Then it asks queries of words, AND,
 OR, NOT, MAYBE, phrases, proximities, quorums, `<<`, NEAR and fields, one in another, some with a condition on an
-attribute, and compares the ids of the first thousand documents, and of how many there are, with a scan in Python. Words are
-few and drawn as in a natural text, so that most queries find something. The status is 1 where one differs.
+attribute, and compares the ids of the first thousand documents, and of how many there are, with a scan in Python. Where there
+are no more than some thousands it also compares a short page, in some order and by weights, with the beginning of the page that
+has all: a row that can't enter a full page isn't weighed. Words are few and drawn as in a natural text, so that most queries
+find something. The status is 1 where one differs.
 """
 
 import argparse
@@ -23,6 +25,9 @@ FIELDS = ["title", "content"]
 COLUMNS = ["rt_field = title", "rt_field = content", "rt_attr_uint = gid"]
 VOCABULARY = 1000
 SHOWN = 1000
+# Pages of up to so many rows are compared with short ones.
+WHOLE = 3000
+ORDERS = ["", " ORDER BY gid ASC", " ORDER BY WEIGHT() ASC", " ORDER BY gid DESC, WEIGHT() DESC"]
 
 
 def word(draws, least=0.0):
@@ -228,10 +233,21 @@ def ask(client, scan, draws):
     found = [int(row[0]) for row in client.query(text).rows]
     told = int(dict(client.query("SHOW META").rows)["total_found"])
     if found == wanted[:SHOWN] and told == len(wanted):
-        return None
+        return ask_page(client, draws, tree, below, told) if 0 < told <= WHOLE else None
     return f"{text}: {len(found)} of {told} documents, wanted {len(wanted)}; first that differs: " + next(
         (f"{one} for {two}" for one, two in zip(found, wanted) if one != two), "none"
     )
+
+
+def ask_page(client, draws, tree, below, told):
+    """A short page by weights beside the page of all; what is wrong with it, or None."""
+    count, order = draws.choice([1, 5, 20]), draws.choice(ORDERS)
+    text = f"SELECT id, WEIGHT() FROM rt WHERE MATCH('{tree}') AND gid < {below}{order}"
+    option = "OPTION field_weights=(title=3), max_matches="
+    short, whole = (client.query(f"{text} LIMIT {rows} {option}{rows}").rows for rows in (count, told))
+    if short == whole[:count] and len(whole) == told:
+        return None
+    return f"{text} LIMIT {count}: {short}, wanted {whole[:count]} of {told}, of which there are {len(whole)}"
 
 
 def tried(given):

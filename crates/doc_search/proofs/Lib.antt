@@ -20,3 +20,7 @@ pub mod Leading
 pub mod Bounded
 -- rows that are asked of the conditions one after the other
 pub mod Passing
+-- weights that are bounded by how many words a document has
+pub mod ByWords
+-- questions that take all documents
+pub mod AllRows

@@ -1,6 +1,8 @@
 //! What a search finds among the documents of an index, and the page of it that is shown.
 #![tactic(auto)]
 
+mod all_rows;
+mod by_words;
 mod laws;
 mod listed_rows;
 mod question;

@@ -21,6 +21,8 @@ ghost use Rattle.doc_search.specs.declared.question.Question.{Question as Questi
 ghost use Rattle.doc_search.specs.steps.ListedRows.{GoesPast, Leaves};
 ghost use Rattle.doc_search.specs.steps.Gathering.{Gathers, GivesOne, IsAskedOfDocs, IsWeighed, StandsAt, unweighed};
 
+use crate::all_rows::{collect_all, takes_all};
+use crate::by_words::offer_by_words;
 use crate::listed_rows::ListedRows;
 use crate::question::Question;
 use crate::ready::ReadyQuestion;
@@ -105,6 +107,9 @@ fn collect_layer<L: Ledger, C: HitLists, S: Sink>(
     requires { IsAskedOfDocs asked.now layer.now.rows }
     ensures { (first : S) (before : List DocRow) → Gathers S.Took asked.now first before sink.old → OnOk result (Gathers S.Took asked.now first (before ++ filter (matches asked.now.query) (living layer.now)) sink.new) }
 {
+    if takes_all(asked.question) {
+        return collect_all(asked, layer, sink);
+    }
     let chunk: &C = &layer.chunk;
     let counted = Counted::<C, L>::over(chunk);
     let dead = layer.dead.as_slice();
@@ -166,6 +171,11 @@ fn collect_row<C: CountedLists, S: Sink>(
     ensures gathers { (first : S) (before : List DocRow) (doc : DocRow) → slice_get (C.content chunk.now) number ≡ Some doc → Gathers S.Took asked.now first before sink.old → OnOk result (Gathers S.Took asked.now first (before ++ filter (matches asked.now.query) (doc ∷ [])) sink.new) }
 {
     if !passes(asked, chunk, number) {
+        stream.skip();
+        return Ok(());
+    }
+    let offered = offer_by_words(asked, chunk, number, stream, sink)?;
+    if offered {
         stream.skip();
         return Ok(());
     }
@@ -273,7 +283,7 @@ fn weight_ranked<C: CountedLists>(
 }
 
 /// Offers a document that matches and passed the conditions that look at no weight, if it passes the others too.
-fn offer<C: Chunk, S: Sink>(
+pub(crate) fn offer<C: Chunk, S: Sink>(
     asked: &ReadyQuestion<'_>,
     chunk: &C,
     number: u32,

@@ -21,7 +21,7 @@ use op_eval::for_schema;
 use query_read::read_query;
 use query_tree::Query;
 use rankers::{Ranker, Weights};
-use row_select::{Order, Page};
+use row_select::{ColumnRef, Order, Page};
 use srch_base::{Items, NoMemory};
 use std::alloc::Global;
 use std::sync::Arc;
@@ -33,7 +33,7 @@ pub(crate) enum Asked {
     Found(Call),
     /// That, and how many lists of places it opens.
     Lists(Call),
-    /// That, and whether it opens one.
+    /// That, and whether it opens one: where it does, it wants memory while none can be opened.
     Opens(Call),
     /// That, how many lists it opens, and whether it seeks no more often than the line says.
     Seeks(Call),
@@ -73,7 +73,7 @@ fn question_of(alloc: Global, query: Query, index: &IndexConf) -> Result<Questio
         },
         filters: Items::new(Vec::new(alloc)),
         order: Order {
-            keys: Items::new(Vec::new(alloc)),
+            keys: Items::new(vec![in alloc; (ColumnRef::Weight, true)]?),
         },
         page: Page {
             offset: 0,
@@ -129,9 +129,7 @@ fn watched(
 fn put_counts(counts: (u64, u64), asked: &Asked, wanted: &str, into: &mut String) -> Option<()> {
     let (lists, seeks) = counts;
     match asked {
-        Asked::Found(_) => Some(()),
-        Asked::Opens(_) if lists == 0 => into.push_str(", no list").ok(),
-        Asked::Opens(_) => into.push_str(", a list").ok(),
+        Asked::Found(_) | Asked::Opens(_) => Some(()),
         Asked::Lists(_) | Asked::Search => write!(into, ", {lists} lists").ok(),
         Asked::Seeks(_) => {
             let (_, most) = wanted.rsplit_once(' ')?;
@@ -139,6 +137,26 @@ fn put_counts(counts: (u64, u64), asked: &Asked, wanted: &str, into: &mut String
             write!(into, ", {lists} lists, seeks within {within}").ok()
         }
     }
+}
+
+/// Appends what a query finds while no list can be opened; or, where it wants memory then, what it finds afterwards.
+fn put_shut<C: HitLists>(
+    alloc: Global,
+    query: &Query,
+    chunk: &Watched<C>,
+    call: &Call,
+    into: &mut String,
+) -> Option<()>
+    requires { length (query_keys query.now) < 2 ^ 16 }
+{
+    chunk.shut(true);
+    let told = put_answer(alloc, query, chunk, call, into);
+    chunk.shut(false);
+    if told.is_some() {
+        return into.push_str(", no list").ok();
+    }
+    put_answer(alloc, query, chunk, call, into)?;
+    into.push_str(", a list").ok()
 }
 
 /// Appends what a query comes to.
@@ -156,9 +174,10 @@ fn put_asked<C: HitLists>(
     let chunk: &Watched<C> = &snapshot.layers.as_slice().first()?.chunk;
     chunk.counts();
     match asked {
-        Asked::Found(call) | Asked::Lists(call) | Asked::Opens(call) | Asked::Seeks(call) => {
+        Asked::Found(call) | Asked::Lists(call) | Asked::Seeks(call) => {
             put_answer(alloc, &question.query, chunk, call, into)?;
         }
+        Asked::Opens(call) => put_shut(alloc, &question.query, chunk, call, into)?,
         Asked::Search => {
             let found = search(alloc, question, snapshot).ok()?.len();
             write!(into, " {found} rows").ok()?;

@@ -7,7 +7,8 @@ use crate::telling::Call;
 use std::alloc::Global;
 use std::test::Fail;
 
-/// Queries over the set `letters`: how many rows match, and whether a list is opened to find these.
+/// Queries over the set `letters`: how many rows match, and whether a list is opened to find these. Where none is, they are found while
+/// none can be opened; where one is, memory is wanted then.
 const OPENING: &str = r#"
 a ⇒ 8 rows, no list
 absent ⇒ 0 rows, no list
@@ -90,12 +91,14 @@ all absent ⇒ 0 rows, 0 lists
 "#;
 
 /// Searches over the many documents, each of which is ranked and offered to a page of 20 rows, with the lists that each opens. Of a
-/// phrase both words' lists are opened in the 100 rows that have both; a row of `rare | seven` opens those of its words that it has,
-/// of which 102 and 1,428 rows have one each. Where one word decides, its fields weigh a row, and no list is opened.
+/// phrase both words' lists are opened in the 100 rows that have both. A row that has one of `rare | seven` weighs 1 at most, and one
+/// that has both 2; all of them weigh 1. So behind the first 20, up to document 133, of which each has one, lists are opened of the 14
+/// that have both. Both words of `fox red` are there in each row, so that each might weigh 2. Where one word decides, its fields weigh
+/// a row, and no list is opened.
 const SEARCHES: &str = r#"
 "red fox" ⇒ 20 rows, 200 lists
 fox red ⇒ 20 rows, 200 lists
-rare | seven ⇒ 20 rows, 1530 lists
+rare | seven ⇒ 20 rows, 48 lists
 all ⇒ 20 rows, 0 lists
 absent ⇒ 0 rows, 0 lists
 "#;

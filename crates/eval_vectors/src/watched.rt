@@ -1,19 +1,20 @@
-//! A chunk that counts the lists of places that are opened, and how often a row is sought.
+//! A chunk that counts the lists of places that are opened, and how often a row is sought, and that can be shut.
 ghost use Rattle.std.specs.Prelude.{◌≡◌, IfOk};
 
 use doc_types::{Chunk, Cursor, Gap, HitLists, Value, ZoneSpan};
 use srch_base::{NoMemory, Steps};
 use std::alloc::Global;
 use std::sync::Arc;
-use std::sync::atomic::{AtomicU64, Ordering};
+use std::sync::atomic::{AtomicBool, AtomicU64, Ordering};
 use std::sync::ledger::Ledger;
 
-/// A chunk with two counts.
+/// A chunk with two counts, which has no memory for lists of places while it is shut.
 #[derive(Drop)]
 pub(crate) struct Watched<C> {
     chunk: C,
     lists: Arc<AtomicU64, Global>,
     seeks: Arc<AtomicU64, Global>,
+    shut: Arc<AtomicBool, Global>,
 }
 
 impl<C: Drop> Watched<C> {
@@ -25,7 +26,13 @@ impl<C: Drop> Watched<C> {
             chunk,
             lists: Arc::new(alloc, AtomicU64::new(0))?,
             seeks: Arc::new(alloc, AtomicU64::new(0))?,
+            shut: Arc::new(alloc, AtomicBool::new(false))?,
         })
+    }
+
+    /// From now on lists can't be opened, or they can.
+    pub(crate) fn shut(&self, is_shut: bool) {
+        self.shut.store(is_shut, Ordering::SeqCst);
     }
 
     /// How many lists were opened, and how often a row was sought, since this was asked before.
@@ -130,6 +137,10 @@ impl<C: HitLists> HitLists for Watched<C> {
         into: &mut Vec<(u16, u32)>,
         steps: &mut Steps<L>,
     ) -> Result<(), NoMemory> {
+        if self.shut.load(Ordering::SeqCst) {
+            steps.tick();
+            return Err(NoMemory);
+        }
         self.lists.store(
             self.lists.load(Ordering::SeqCst).saturating_add(1),
             Ordering::SeqCst,

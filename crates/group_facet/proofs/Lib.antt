@@ -16,3 +16,5 @@ pub mod Beside
 pub mod Finished
 -- entries that are found and written by their place
 pub mod KeyPlaces
+-- a row in the place of another one that has the same in a facet's column
+pub mod Passing

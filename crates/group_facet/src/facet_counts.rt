@@ -1,15 +1,17 @@
 //! The counts of a facet while rows come one after the other.
 ghost use Rattle.std.specs.Prelude.{◌≡◌, ◌++◌, [], ◌∷◌, List, IfOk, OnOk, IsPermutation, take, drop};
 ghost use Rattle.std.specs.List.Sorted.{IsSorted};
+ghost use Rattle.row_select.specs.Filters.{is_weight};
+ghost use Rattle.row_select.specs.Sinks.{IsLighter};
 ghost use Rattle.row_select.specs.declared.row.Row.{Row as RowValue};
 ghost use Rattle.group_facet.specs.Facets.{IsFacet, by_facet};
-ghost use Rattle.group_facet.specs.GatheringFacets.{GathersFacet};
+ghost use Rattle.group_facet.specs.GatheringFacets.{CountsNoWeights, GathersFacet};
 ghost use Rattle.group_facet.specs.declared.facets.Facet.{Facet as FacetValue};
 
 use crate::facets::Facet;
 use crate::places::place_of;
 use indexmap::IndexMap;
-use row_select::{FoundRow, Row};
+use row_select::{ColumnRef, FoundRow, Row};
 use srch_base::NoMemory;
 use std::alloc::Global;
 
@@ -54,6 +56,22 @@ impl<'a> FacetCounts<'a> {
             }
         }
         Ok(())
+    }
+
+    /// Whether what is counted is the weights of the rows.
+    pub fn counts_weights(&self) -> bool
+        ensures { result ≡ is_weight self.now.facet.now.column }
+    {
+        matches!(self.facet.column, ColumnRef::Weight)
+    }
+
+    /// Offers a row that has the id and the values of this one and weighs no more, where weights aren't counted. After an error the
+    /// counts are of no use.
+    pub fn pass<R: FoundRow>(&mut self, row: &R) -> Result<(), NoMemory>
+        requires { CountsNoWeights self.old }
+        ensures { (facet : FacetValue) (offered : List RowValue) (its : RowValue) → IsLighter its (R.as_row row.now) → GathersFacet facet offered self.old → OnOk result (GathersFacet facet (offered ++ its ∷ []) self.new) }
+    {
+        self.offer(row)
     }
 
     /// The facet of all rows that were offered.

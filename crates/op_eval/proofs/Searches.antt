@@ -143,7 +143,7 @@ few_of (Some node) keywords root is few = let same : node ≡ root = cc in subst
 pub few_keys : (query : Query) (root tree : Node) → query.root ≡ Some root → tree ≡ root → length (query_keys query) < 2 ^ 16 → length (node_keys tree) < 2 ^ 16
 few_keys query root tree is same few = subst (λ (n : Node). length (node_keys n) < 2 ^ 16) (sym same) (few_of query.root query.keywords root is few)
 
-keys_root : (tree : Option Node) (keywords : ℕ) (root : Node) → tree ≡ Some root → query_keys (record { root = tree; keywords = keywords }) ≡ node_keys root
+pub keys_root : (tree : Option Node) (keywords : ℕ) (root : Node) → tree ≡ Some root → query_keys (record { root = tree; keywords = keywords }) ≡ node_keys root
 keys_root None keywords root is = cc
 keys_root (Some node) keywords root is = let same : node ≡ root = cc in ap node_keys same
 

@@ -1,6 +1,6 @@
 //! A query on its way over the rows of a chunk. It goes from row to row by a plan, which says what the words of a row must be; the
 //! words that are there decide where they can, and only else are lists of places opened, each keyword's once.
-ghost use Rattle.std.specs.Prelude.{◌≡◌, ◌+◌, ◌<◌, ◌≤◌, ◌^◌, ℕ, List, [], true, false, Some, All, AllPairs, IfOk, IsTrue, OnOk, ◌↔◌, length, slice_get, unwrap_or};
+ghost use Rattle.std.specs.Prelude.{◌≡◌, ◌+◌, ◌<◌, ◌≤◌, ◌^◌, ℕ, List, [], true, false, Some, All, AllPairs, IfOk, IfSome, IsTrue, OnOk, ◌↔◌, length, slice_get, unwrap_or};
 ghost use Rattle.occ_lists.specs.Terms.{IsPlaced};
 ghost use Rattle.word_rows.specs.RowMarks.{Knows};
 ghost use Rattle.word_rows.specs.Slots.{AreAt, AreSlots, keys_of, number_among};
@@ -20,7 +20,7 @@ ghost use Rattle.op_eval.specs.steps.Verdicts.{AreApart};
 use crate::finding::{Finding, find};
 use crate::matching::{Work, matches};
 use crate::planning::{has_vetoes, plan_of};
-use crate::verdict::{Verdict, judge};
+use crate::verdict::{Verdict, judge, present_count};
 use crate::walking::{next_row_alive, row_counts};
 use doc_types::{Chunk, CountedLists, Gap};
 use occ_lists::{Buffers, Term};
@@ -111,6 +111,21 @@ impl<'q> Search<'q> {
         }
         seek(&mut self.slots, &mut self.known, chunk, row);
         may_match(self.root, &self.slots.terms)
+    }
+
+    /// How many keywords' words the row has, where its words tell that it matches. None where its places may decide. No list of them
+    /// is opened.
+    pub(crate) fn sure_words<C: Chunk>(&mut self, chunk: &C, row: u32) -> Option<usize>
+        requires { IsSearch (C.belongs chunk.now) (C.place chunk.now) (C.content chunk.now) row self.old.root.now self.old }
+        ensures root { self.new.root ≡ self.old.root }
+        ensures search { IsSearch (C.belongs chunk.now) (C.place chunk.now) (C.content chunk.now) row self.old.root.now self.new }
+        ensures sure { (its : DocRow) → slice_get (C.content chunk.now) row ≡ Some its → IfSome result (λ words. ((node_found self.old.root.now its).matches ≡ true) × (words ≡ present_in its (node_keys self.old.root.now))) }
+    {
+        seek(&mut self.slots, &mut self.known, chunk, row);
+        match judge(self.root, &self.slots.terms, false) {
+            Verdict::Yes => Some(present_count(&self.slots.terms)),
+            Verdict::No | Verdict::Open => None,
+        }
     }
 
     /// Whether the row matches. After want of memory the row can be asked again.

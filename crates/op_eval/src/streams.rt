@@ -1,6 +1,6 @@
 //! The rows that may match a query one after another, for a caller that looks at each of them once: one row is taken, with its hits
 //! where it matches, and another one is passed over, so that no list of its places is opened.
-ghost use Rattle.std.specs.Prelude.{◌≡◌, ◌+◌, ◌<◌, ◌≤◌, ◌^◌, Some, ◌↔◌, length, slice_get, AllPairs, IsTrue, IfOk, OnErr, OnOk};
+ghost use Rattle.std.specs.Prelude.{◌≡◌, ◌+◌, ◌<◌, ◌≤◌, ◌^◌, Some, true, ◌↔◌, length, slice_get, AllPairs, IsTrue, IfOk, IfSome, OnErr, OnOk};
 ghost use Rattle.doc_types.specs.declared.documents.DocRow.{DocRow};
 ghost use Rattle.occ_lists.specs.OccLists.{SameMembers};
 ghost use Rattle.query_tree.specs.TreeKeys.{query_keys};
@@ -15,7 +15,7 @@ ghost use Rattle.op_eval.specs.steps.Streaming.{StandsAt};
 use crate::calls::sort_hits;
 use crate::finding::Finding;
 use crate::search::Search;
-use crate::wanted::{find_row, first_open, row_fields, row_matches};
+use crate::wanted::{find_row, first_open, row_fields, row_matches, row_words};
 use doc_types::{Chunk, CountedLists, Hit, Hits};
 use query_tree::Query;
 use srch_base::{Items, NoMemory, Steps};
@@ -111,6 +111,16 @@ impl<'a, C: Chunk> Matches<'a, C> {
             None => false,
             Some(search) => search.by_fields,
         }
+    }
+
+    /// How many of the query's keywords have their word in the row at which it stands, where its words tell that it matches: there
+    /// no place has to be read. None where its places may decide, and of a query without a keyword. It stays where it stands.
+    pub fn sure_words(&mut self) -> Option<usize>
+        requires { self.old.at < length self.old.rows }
+        ensures stays { self.new ≡ self.old }
+        ensures sure { (doc : DocRow) → slice_get self.old.rows self.old.at ≡ Some doc → IfSome result (λ words. (matches self.old.query doc ≡ true) × (words ≡ present_in doc (query_keys self.old.query))) }
+    {
+        row_words(self.query, self.chunk, self.from, &mut self.search)
     }
 
     /// Goes on behind the row at which it stands, and doesn't look whether it matches.

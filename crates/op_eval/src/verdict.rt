@@ -169,7 +169,7 @@ fn of_all(terms: &[Term]) -> Verdict
 }
 
 /// How many of the words the row has.
-fn present_count(terms: &[Term]) -> usize
+pub(crate) fn present_count(terms: &[Term]) -> usize
     ensures { result ≡ count_by (λ term. term.present) terms.now }
 {
     terms.iter().filter(|term| term.present).count()

@@ -1,5 +1,5 @@
 //! The next row that isn't dead and may match a query, and what is found in one.
-ghost use Rattle.std.specs.Prelude.{◌≡◌, ◌+◌, ◌<◌, ◌≤◌, ◌^◌, Some, length, slice_get, unwrap_or, AllPairs, IfSome, IfOk, OnOk};
+ghost use Rattle.std.specs.Prelude.{◌≡◌, ◌+◌, ◌<◌, ◌≤◌, ◌^◌, Some, true, length, slice_get, unwrap_or, AllPairs, IfSome, IfOk, OnOk};
 ghost use Rattle.doc_types.specs.declared.documents.DocRow.{DocRow};
 ghost use Rattle.occ_lists.specs.OccLists.{SameMembers};
 ghost use Rattle.query_tree.specs.TreeKeys.{query_keys};
@@ -107,6 +107,24 @@ pub(crate) fn find_row<C: CountedLists>(
             Ok(true)
         }
         Some(search) => search.find(chunk, row, found, steps),
+    }
+}
+
+/// How many of the query's keywords have their word in the row, where its words tell that it matches. None where its places may
+/// decide, and of a query without a keyword.
+pub(crate) fn row_words<C: Chunk>(
+    query: &Query,
+    chunk: &C,
+    row: u32,
+    search: &mut Option<Search>,
+) -> Option<usize>
+    requires { StandsAt (C.belongs chunk.now) (C.place chunk.now) (C.content chunk.now) row query.now search.old }
+    ensures stands { StandsAt (C.belongs chunk.now) (C.place chunk.now) (C.content chunk.now) row query.now search.new }
+    ensures sure { (its : DocRow) → slice_get (C.content chunk.now) row ≡ Some its → IfSome result (λ words. ((query_finds query.now its).matches ≡ true) × (words ≡ present_in its (query_keys query.now))) }
+{
+    match search {
+        None => None,
+        Some(search) => search.sure_words(chunk, row),
     }
 }
 

@@ -18,5 +18,7 @@ pub mod WholeOffsets
 pub mod AnyOrder
 -- hits of one keyword
 pub mod LoneValues
+-- the most that hits of so many keywords weigh
+pub mod MostWeights
 -- hits whose fields ascend
 pub mod Runs

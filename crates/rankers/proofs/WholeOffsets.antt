@@ -1,16 +1,19 @@
 -- Offsets as whole numbers, and the query positions that have a hit at one.
-use Rattle.std.proofs.Common.{◌≡◌, ℕ, ℤ, pos, ◌+ℤ◌, ◌-ℤ◌, ◌+◌, ◌≤◌, Bool, true, nat_eq, ◌==◌, List, map, length, get_or, ◌∙◌, arith}
-use Rattle.std.specs.List.{filter, count_by, All, AllPairs}
+use Rattle.std.proofs.Common.{◌≡◌, ℕ, ℤ, pos, ◌+ℤ◌, ◌-ℤ◌, ◌+◌, ◌≤◌, Bool, true, nat_eq, ◌==◌, List, map, length, get_or, ap, subst, ◌∙◌, arith}
+use Rattle.std.specs.List.{filter, count_by, All, AllPairs, IsDistinct}
+use Rattle.std.specs.Set.{is_member}
 use Rattle.std.specs.Cmp.{nat_eq_equiv}
 use Rattle.std.proofs.lemmas.Bool.{eqb-true, eq-eqb}
 use Rattle.std.proofs.lemmas.Bool.Decides.{same_from_decides, Decides-int_eq}
 use Rattle.std.proofs.lemmas.Int.{ints}
 use Rattle.std.proofs.lemmas.List.{length-map}
-use Rattle.std.proofs.lemmas.List.Elements.{All-filter, filter_passes}
+use Rattle.std.proofs.lemmas.List.Elements.{All-filter, All-map, filter_passes}
+use Rattle.std.proofs.lemmas.List.Folds.{Any-from_list_any}
 use Rattle.std.proofs.lemmas.List.Kept.{AllPairs-filter}
 use Rattle.std.proofs.lemmas.List.Sums.{length-filter}
-use Rattle.std.proofs.lemmas.Map.Made.{distinct_count-le, distinct_count-from_IsDistinct}
+use Rattle.std.proofs.lemmas.Map.Made.{distinct_count-le, distinct_count-from_IsDistinct, length-le_from_is_member}
 use Rattle.doc_types.specs.declared.hits.Hit.{Hit}
+use Rattle.rankers.specs.Limits.{AreOfPositions}
 use Rattle.rankers.specs.Weight.{Differ, in_field, same_offset, lcs, stands_at, query_positions_at}
 use Rattle.rankers.proofs.AtOffset.{bounded, met}
 use Rattle.rankers.proofs.FewHits.{distinct_keys}
@@ -37,11 +40,12 @@ pub bound : (hits : List Hit) (offset : ℤ) → query_positions_at offset hits 
 bound hits offset =
     omega (arith, distinct_count-le nat_eq (map (λ (hit : Hit). hit.query) (filter (stands_at offset) hits)), hits_at offset hits, bounded ℤ stands_at alike hits offset)
 
-same_count : (field : ℕ) (hits : List Hit) → AllPairs Differ hits → (offset : ℤ) → query_positions_at offset (in_field field hits) ≡ count_by (stands_at offset) (in_field field hits)
-same_count field hits apart offset =
+-- hits of one field at one offset are of distinct query positions
+distinct_at : (field : ℕ) (hits : List Hit) → AllPairs Differ hits → (offset : ℤ) → IsDistinct nat_eq (map (λ (hit : Hit). hit.query) (filter (stands_at offset) (in_field field hits)))
+distinct_at field hits apart offset =
     let test : Hit → Bool = λ hit. hit.field == field in
     let own : List Hit = in_field field hits in
-    let distinct = distinct_keys
+    distinct_keys
     (λ hit. (test hit ≡ true) × (stands_at offset hit ≡ true))
     (λ hit. hit.query)
     (λ a b at_a at_b differ same.
@@ -53,10 +57,30 @@ same_count field hits apart offset =
     (record { query = 0; word = 0; field = 0; position = 0 })
     (filter (stands_at offset) own)
     (λ k d h. (All-filter (stands_at offset) (λ hit. test hit ≡ true) own (filter_passes test hits) k d h, filter_passes (stands_at offset) own k d h))
-    (AllPairs-filter Differ (stands_at offset) own (AllPairs-filter Differ test hits apart)) in
-    distinct_count-from_IsDistinct nat_eq_equiv (map (λ (hit : Hit). hit.query) (filter (stands_at offset) own)) distinct ∙ hits_at offset own
+    (AllPairs-filter Differ (stands_at offset) own (AllPairs-filter Differ test hits apart))
+
+same_count : (field : ℕ) (hits : List Hit) → AllPairs Differ hits → (offset : ℤ) → query_positions_at offset (in_field field hits) ≡ count_by (stands_at offset) (in_field field hits)
+same_count field hits apart offset =
+    distinct_count-from_IsDistinct nat_eq_equiv (map (λ (hit : Hit). hit.query) (filter (stands_at offset) (in_field field hits))) (distinct_at field hits apart offset)
+    ∙ hits_at offset (in_field field hits)
 
 pub met_by_positions : (field : ℕ) (hits : List Hit) → AllPairs Differ hits → (offset : ℤ) × (query_positions_at offset (in_field field hits) ≡ lcs (in_field field hits))
 met_by_positions field hits apart =
     let reached = met ℤ stands_at alike (in_field field hits) (pos 0) (placed (in_field field hits)) in
     (reached.0, same_count field hits apart reached.0 ∙ reached.1)
+
+-- no more query positions stand together in a field than there are
+pub few_together : (field : ℕ) (hits : List Hit) → AllPairs Differ hits → (positions : List ℕ) → AreOfPositions positions hits → lcs (in_field field hits) ≤ length positions
+few_together field hits apart positions of =
+    let own : List Hit = in_field field hits in
+    let reached = met ℤ stands_at alike own (pos 0) (placed own) in
+    let here : List Hit = filter (stands_at reached.0) own in
+    let queries : List ℕ = map (λ (hit : Hit). hit.query) here in
+    let each : All (λ hit. is_member nat_eq positions hit.query ≡ true) here =
+    All-filter (stands_at reached.0) (λ (hit : Hit). is_member nat_eq positions hit.query ≡ true) own (All-filter (λ (hit : Hit). hit.field == field) (λ (hit : Hit). is_member nat_eq positions hit.query ≡ true) hits of) in
+    let all : All (λ query. is_member nat_eq positions query ≡ true) queries = All-map (λ query. is_member nat_eq positions query ≡ true) (λ (hit : Hit). hit.query) here each in
+    let few = length-le_from_is_member nat_eq_equiv queries positions (distinct_at field hits apart reached.0)
+    (λ q listed.
+    let found = Any-from_list_any (nat_eq q) queries listed in
+    ap (is_member nat_eq positions) (eqb-true q found.1 found.4) ∙ subst (λ (n : ℕ). is_member nat_eq positions n ≡ true) found.3 (all found.0 found.1 found.2)) in
+    omega (arith, few, hits_at reached.0 own, reached.1)

@@ -2,5 +2,7 @@
 pub mod Weight
 -- the fields of hits, and hits of one keyword
 pub mod Fields
+-- hits that are of so many keywords at most
+pub mod Limits
 -- what serves proofs and private functions alone
 pub mod steps

@@ -78,7 +78,7 @@ fn sum_in_any_order(ranker: Ranker, hits: &[Hit], weights: &[u32], most: u64) ->
 }
 
 /// The sum of all weights.
-fn sum_of(weights: &[u32]) -> u64
+pub(crate) fn sum_of(weights: &[u32]) -> u64
     requires { length weights.now ≤ 32 }
     ensures { result ≡ sum weights.now }
 {

@@ -47,7 +47,7 @@ module _ (order : Order) where
   from_not_after other row is = not_before_from (by_keys order.keys other row) (by_keys order.keys row other) ((by_keys_total order.keys).antisymm row other) is
 
   -- these pass along the order
-  chain : (first row later : Row) → not_after first row ≡ true → not_after row later ≡ true → not_after first later ≡ true
+  pub chain : (first row later : Row) → not_after first row ≡ true → not_after row later ≡ true → not_after first later ≡ true
   chain first row later one other = to_not_after first later ((precedes_ranks order).chain later row first (from_not_after row later other) (from_not_after first row one))
 
   -- of rows in order, those that don't come after a row stand in front

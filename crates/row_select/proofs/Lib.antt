@@ -14,6 +14,8 @@ pub mod Moved
 pub mod Counting
 -- the rows that a collector keeps
 pub mod Collected
+-- rows that are as others but for their weight
+pub mod Lighter
 -- whether a number is in a list, by a search among the same numbers in order
 pub mod Listed
 -- conditions on the weight, and those on other columns

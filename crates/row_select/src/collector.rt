@@ -2,6 +2,7 @@
 ghost use Rattle.std.specs.Prelude.{◌≡◌, ◌≤◌, ◌<◌, ◌*◌, [], ◌∷◌, ◌++◌, List, true, false, length, IfOk, OnOk, OnErr};
 ghost use Rattle.row_select.specs.Collecting.{AreEnough, Keeps, count_not_after};
 ghost use Rattle.row_select.specs.Pages.{IsTop, page_end};
+ghost use Rattle.row_select.specs.Sinks.{NeedsNoLighter};
 ghost use Rattle.row_select.specs.declared.row.Row.{Row};
 ghost use Rattle.row_select.specs.steps.Collecting.{IsBordered};
 ghost use Rattle.row_select.specs.steps.Selecting.{AreFirst};
@@ -24,19 +25,21 @@ pub struct Collector<'a> {
     order: &'a Order,
     page: Page,
     rows: Vec<Row>,
+    /// Whether the order brings lighter rows forward.
+    lighter_first: bool,
 }
 
 impl<'a> Model for Collector<'a> {
-    ghost use Rattle.std.specs.Prelude.{◌≤◌, ◌*◌, length};
+    ghost use Rattle.std.specs.Prelude.{◌≡◌, ◌≤◌, ◌*◌, length};
     ghost use Rattle.row_select.specs.Collecting.{Collection};
     ghost use Rattle.row_select.specs.Pages.{page_end};
-    ghost use Rattle.row_select.specs.steps.Collecting.{IsBordered};
+    ghost use Rattle.row_select.specs.steps.Collecting.{IsBordered, brings_lighter};
 
     ghost Value = { Collection };
 
     ghost view = { λ a. record { order = a.order.now; page = a.page; kept = a.rows.items } };
 
-    ghost invariant = { λ a. IsBordered a.order.now (page_end a.page) a.rows.items × (length a.rows.items ≤ 2 * page_end a.page) };
+    ghost invariant = { λ a. IsBordered a.order.now (page_end a.page) a.rows.items × (length a.rows.items ≤ 2 * page_end a.page) × (a.lighter_first ≡ brings_lighter a.order.now.keys) };
 }
 
 impl<'a> Collector<'a> {
@@ -50,6 +53,7 @@ impl<'a> Collector<'a> {
             order,
             page,
             rows: Vec::new(alloc),
+            lighter_first: order.brings_lighter(),
         }
     }
 
@@ -66,11 +70,25 @@ impl<'a> Collector<'a> {
         add_row(&mut self.rows, self.order, end, row)
     }
 
+    /// Whether the page may need a row that has the id and the values of this one and weighs no more. Where it says no, it doesn't
+    /// need any such row, and what they weigh doesn't matter. It costs one comparison, and none until the page is full.
+    pub fn heeds<R: FoundRow>(&self, row: &R) -> bool
+        ensures { result ≡ false → NeedsNoLighter self.now (R.as_row row.now) }
+    {
+        let end = self.page.end();
+        end > 0 && (self.lighter_first || !is_behind(&self.rows, self.order, end, row))
+    }
+
     /// The page of all rows that were offered.
     pub fn finish(self) -> Result<Vec<Row>, NoMemory>
         ensures { (offered : List Row) → Keeps offered self.entry → IfOk result (λ shown. IsTop offered self.entry.order self.entry.page shown.items) }
     {
-        let Collector { order, page, rows } = self;
+        let Collector {
+            order,
+            page,
+            rows,
+            ..
+        } = self;
         top(rows, order, &page)
     }
 }

@@ -93,6 +93,13 @@ impl<'a> Conditions<'a> {
         None
     }
 
+    /// Whether one of them is on the weight.
+    pub fn look_at_weight(&self) -> bool
+        ensures { result ≡ list_any is_weighed self.now }
+    {
+        self.list.iter().any(|condition| condition.is_weighed())
+    }
+
     /// Whether those hold that are on its weight.
     pub fn hold_weighed<R: FoundRow>(&self, row: &R) -> bool
         ensures { result ≡ hold_weighed self.now (R.as_row row.now) }

@@ -1,6 +1,7 @@
 //! The order of rows: by keys, and by id where all keys tie.
 ghost use Rattle.std.specs.Prelude.{◌≡◌};
 ghost use Rattle.row_select.specs.Orders.{by_key, by_keys};
+ghost use Rattle.row_select.specs.steps.Collecting.{ascends_by_weight, brings_lighter};
 
 use crate::found::FoundRow;
 use crate::row::ColumnRef;
@@ -26,6 +27,24 @@ impl Order {
         }
         row.id().cmp(&other.id())
     }
+
+    /// Whether a lighter row may come earlier than one that has all else alike.
+    pub(crate) fn brings_lighter(&self) -> bool
+        ensures { result ≡ brings_lighter self.now.keys }
+    {
+        self.keys
+            .as_slice()
+            .iter()
+            .any(|key| ascends_by_weight(key))
+    }
+}
+
+/// Whether the weight ascends by a key.
+fn ascends_by_weight(key: &(ColumnRef, bool)) -> bool
+    ensures { result ≡ ascends_by_weight key.now }
+{
+    let (column, descending) = *key;
+    column.is_weight() && !descending
 }
 
 /// How two rows stand by one key.

@@ -5,15 +5,30 @@ use srch_base::NoMemory;
 
 /// What takes the rows that a search finds, one after the other.
 pub trait Sink {
-    ghost use Rattle.std.specs.Prelude.{List, [], ◌∷◌, ◌++◌, OnOk};
+    ghost use Rattle.std.specs.Prelude.{◌≡◌, false, List, [], ◌∷◌, ◌++◌, OnOk};
+    ghost use Rattle.row_select.specs.Sinks.{IsLighter};
     ghost use Rattle.row_select.specs.declared.row.Row.{Row};
 
     // These rows were offered to the sink since it was as the first one, and it is now as the last one.
     ghost Took: { Self → List Row → Self → Type 0 };
 
+    // It doesn't matter to the sink what a row weighs exactly, as long as it is no more than this one does.
+    ghost Passes: { Self → Row → Type 0 };
+
     /// Offers a row. After an error the sink is of no use.
     fn offer<R: FoundRow>(&mut self, row: &R) -> Result<(), NoMemory>
         ensures { (first : Self) (rows : List Row) → Took first rows self.old → OnOk result (Took first (rows ++ R.as_row row.now ∷ []) self.new) };
+
+    /// Whether it may matter what a row weighs exactly that has the id and the values of this one and weighs no more. A sink that
+    /// always says yes is right too: that costs time alone.
+    fn heeds<R: FoundRow>(&self, row: &R) -> bool
+        ensures { result ≡ false → Passes self.now (R.as_row row.now) };
+
+    /// Offers a row that has the id and the values of this one and weighs no more, where it doesn't matter how much. After an error
+    /// the sink is of no use.
+    fn pass<R: FoundRow>(&mut self, row: &R) -> Result<(), NoMemory>
+        requires { Passes self.old (R.as_row row.now) }
+        ensures { (first : Self) (rows : List Row) (its : Row) → IsLighter its (R.as_row row.now) → Took first rows self.old → OnOk result (Took first (rows ++ its ∷ []) self.new) };
 
     // Nothing was offered to it yet.
     ghost nothing: { (first : Self) → Took first [] first };
@@ -21,14 +36,25 @@ pub trait Sink {
 
 impl Sink for Collector<'_> {
     ghost use Rattle.std.specs.Prelude.{refl};
-    ghost use Rattle.row_select.specs.Sinks.{Collects};
+    ghost use Rattle.row_select.specs.Sinks.{Collects, NeedsNoLighter};
 
     ghost Took = { Collects };
+
+    ghost Passes = { NeedsNoLighter };
 
     ghost nothing = { λ first. record { order = refl; page = refl; keeps = λ so. so } };
 
     fn offer<R: FoundRow>(&mut self, row: &R) -> Result<(), NoMemory> {
         Collector::offer(self, row)
+    }
+
+    #[inline]
+    fn heeds<R: FoundRow>(&self, row: &R) -> bool {
+        Collector::heeds(self, row)
+    }
+
+    fn pass<R: FoundRow>(&mut self, _row: &R) -> Result<(), NoMemory> {
+        Ok(())
     }
 }
 
@@ -39,16 +65,27 @@ pub struct RowCount {
 }
 
 impl Sink for RowCount {
-    ghost use Rattle.std.specs.Prelude.{◌≡◌, ◌+◌, length};
+    ghost use Rattle.std.specs.Prelude.{◌≡◌, ⊤, ◌+◌, length};
     ghost use Rattle.std.proofs.Common.{rules};
 
     ghost Took = { λ first rows last. last.rows ≡ first.rows + length rows };
+
+    ghost Passes = { λ count row. ⊤ };
 
     ghost nothing = { λ first. Prim.search rules };
 
     fn offer<R: FoundRow>(&mut self, row: &R) -> Result<(), NoMemory> {
         self.rows = self.rows.checked_add(1).ok_or(NoMemory)?;
         Ok(())
+    }
+
+    #[inline]
+    fn heeds<R: FoundRow>(&self, _row: &R) -> bool {
+        false
+    }
+
+    fn pass<R: FoundRow>(&mut self, row: &R) -> Result<(), NoMemory> {
+        self.offer(row)
     }
 }
 
@@ -62,10 +99,22 @@ pub struct Both<A, B> {
 impl<A: Sink, B: Sink> Sink for Both<A, B> {
     ghost Took = { λ first rows last. A.Took first.first rows last.first × B.Took first.second rows last.second };
 
+    ghost Passes = { λ both row. A.Passes both.first row × B.Passes both.second row };
+
     ghost nothing = { λ first. (A.nothing first.first, B.nothing first.second) };
 
     fn offer<R: FoundRow>(&mut self, row: &R) -> Result<(), NoMemory> {
         self.first.offer(row)?;
         self.second.offer(row)
+    }
+
+    #[inline]
+    fn heeds<R: FoundRow>(&self, row: &R) -> bool {
+        self.first.heeds(row) || self.second.heeds(row)
+    }
+
+    fn pass<R: FoundRow>(&mut self, row: &R) -> Result<(), NoMemory> {
+        self.first.pass(row)?;
+        self.second.pass(row)
     }
 }

@@ -1,5 +1,5 @@
 -- Numbers in any order have one sum.
-use Rattle.std.proofs.Common.{◌≡◌, ◌∙◌, ℕ, zero, suc, ◌+◌, ℤ, pos, negsuc, ◌+ℤ◌, List, [], ◌∷◌, ap, sym, refl, arith}
+use Rattle.std.proofs.Common.{◌≡◌, ◌∙◌, ℕ, suc, ℤ, pos, negsuc, ◌+ℤ◌, List, [], ◌∷◌, ap, sym, refl, arith}
 use Rattle.std.specs.Prelude.{IsPermutation, fold, sum_by}
 use Rattle.std.proofs.Math.IntN.{+ℤ_assoc, +ℤ_comm, +ℤ_idr, pos-+ℤ-pos}
 use Rattle.std.proofs.lemmas.List.Sorted.{sum_by-IsPermutation}

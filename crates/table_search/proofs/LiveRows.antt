@@ -1,5 +1,5 @@
 -- The rows of a word that live.
-use Rattle.std.proofs.Common.{◌≡◌, ◌∙◌, ℕ, ◌+◌, Bool, true, false, cond, List, [], ◌∷◌, ◌++◌, Option, Some, map, drop, ap, refl, sym, arith, take, ◌<◌, length, get_or, suc}
+use Rattle.std.proofs.Common.{◌≡◌, ◌∙◌, ℕ, ◌+◌, Bool, true, false, cond, List, [], ◌∷◌, ◌++◌, Some, map, drop, ap, refl, sym, arith, take, ◌<◌, length, get_or, suc}
 use Rattle.std.specs.Prelude.{slice_get}
 use Rattle.std.specs.List.{count_by, filter, enumerate_from}
 use Rattle.std.proofs.lemmas.List.{append-nil, length-append, take_more}

@@ -1,7 +1,7 @@
 -- What a SELECT finds is the same whatever the order in which the documents are listed.
-use Rattle.std.proofs.Common.{◌≡◌, ◌≢◌, ◌∙◌, ℕ, ℤ, Bool, true, false, List, [], ◌∷◌, All, AllPairs, Option, None, Some, length, map, take, drop, get_or, ap, ap₂, sym, subst, refl, true≢false}
+use Rattle.std.proofs.Common.{◌≡◌, ◌≢◌, ◌∙◌, ℕ, ℤ, Bool, true, false, List, [], ◌∷◌, All, Some, length, map, take, drop, get_or, ap, ap₂, sym, subst, refl, true≢false}
 use Rattle.std.specs.List.{AllZip, Contains, count_by, filter}
-use Rattle.std.specs.List.Sorted.{IsPermutation, IsSorted}
+use Rattle.std.specs.List.Sorted.{IsPermutation}
 use Rattle.std.specs.Ordering.{eq_by_cmp, int_cmp, int_eq, is_eq, nat_cmp, ordering_then}
 use Rattle.std.specs.declared.cmp.Ordering.{Ordering}
 use Rattle.std.specs.declared.cmp.Ordering.TheVariants.{Less, Equal, Greater}
@@ -28,15 +28,14 @@ use Rattle.row_select.specs.declared.row.ColumnRef.{ColumnRef}
 use Rattle.row_select.specs.declared.row.Row.{Row}
 use Rattle.word_rows.proofs.Lists.{pairs_head, pairs_map, pairs_nil, pairs_tail}
 use Rattle.group_facet.specs.Distinct.{first_seen}
-use Rattle.group_facet.specs.Facets.{IsFacet, by_chosen, by_facet, value_counts}
+use Rattle.group_facet.specs.Facets.{IsFacet, by_facet, value_counts}
 use Rattle.group_facet.specs.Folds.{column_values}
 use Rattle.group_facet.specs.Groups.{AreGroups, IsGroup, group_key, part}
-use Rattle.group_facet.specs.ShownGroups.{AreTop, by_group_key, by_group_keys, having_holds, kept}
+use Rattle.group_facet.specs.ShownGroups.{by_group_key, by_group_keys, having_holds, kept}
 use Rattle.group_facet.specs.declared.facets.Facet.{Facet}
 use Rattle.group_facet.specs.declared.grouping.Group.{Group}
 use Rattle.group_facet.specs.declared.grouping.GroupRow.{GroupRow}
 use Rattle.group_facet.specs.declared.shown.GroupColumn.{GroupColumn}
-use Rattle.group_facet.specs.declared.shown.GroupPage.{GroupPage}
 use Rattle.group_facet.proofs.Orders.{by_facet_total, by_group_keys_total}
 use Rattle.query_tree.specs.TreeKeys.{query_keys}
 use Rattle.query_tree.specs.declared.query.Query.{Query}

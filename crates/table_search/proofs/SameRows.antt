@@ -1,7 +1,7 @@
 -- The same rows in two orders: their groups and their values are the same.
-use Rattle.std.proofs.Common.{◌≡◌, ◌≢◌, ◌∙◌, ℕ, zero, suc, ℤ, pos, ◌≤ℤ◌, Bool, true, false, not, List, [], ◌∷◌, All, AllPairs, Option, Some, length, map, take, get_or, ap, ap₂, sym, subst, refl, arith, true≢false}
+use Rattle.std.proofs.Common.{◌≡◌, ◌≢◌, ◌∙◌, zero, suc, ℤ, pos, ◌≤ℤ◌, Bool, true, false, not, List, [], ◌∷◌, All, AllPairs, map, get_or, ap, ap₂, sym, refl, arith, true≢false}
 use Rattle.std.specs.List.{AllZip, Contains, filter}
-use Rattle.std.specs.List.Sorted.{IsPermutation, IsSorted}
+use Rattle.std.specs.List.Sorted.{IsPermutation}
 use Rattle.std.specs.Ordering.{eq_by_cmp, int_cmp, int_eq, is_eq, is_lt, nat_cmp, ordering_then}
 use Rattle.std.specs.declared.cmp.Ordering.{Ordering}
 use Rattle.std.specs.declared.cmp.Ordering.TheVariants.{Less, Equal, Greater}
@@ -13,7 +13,7 @@ use Rattle.std.proofs.lemmas.List.Kept.{AllPairs-cons, AllPairs-filter}
 use Rattle.std.proofs.lemmas.List.Sorted.{Contains-permutation, IsPermutation-map, IsPermutation-sym, length_permutation}
 use Rattle.std.proofs.lemmas.Map.Lookups.{exact_signed, exact_unsigned}
 use Rattle.std.proofs.lemmas.Map.Views.{Contains-from_any, list_any-from_Contains, tells_apart}
-use Rattle.doc_search.proofs.Members.{beside_first, beside_second, in_filter, to_filter}
+use Rattle.doc_search.proofs.Members.{in_filter, to_filter}
 use Rattle.row_select.specs.Columns.{column_value}
 use Rattle.row_select.specs.Orders.{by_key, by_keys}
 use Rattle.row_select.specs.declared.row.ColumnRef.{ColumnRef}
@@ -21,8 +21,8 @@ use Rattle.row_select.specs.declared.row.Row.{Row}
 use Rattle.row_select.proofs.Ordered.{by_keys_total}
 use Rattle.word_rows.proofs.Lists.{pairs_head, pairs_nil, pairs_tail}
 use Rattle.group_facet.specs.Distinct.{first_seen}
-use Rattle.group_facet.specs.Folds.{IsFolded, IsGreatest, IsLeast, column_values, total}
-use Rattle.group_facet.specs.Groups.{AreGroups, IsFirst, IsGroup, group_key, part}
+use Rattle.group_facet.specs.Folds.{IsFolded, IsGreatest, IsLeast, column_values}
+use Rattle.group_facet.specs.Groups.{IsFirst, IsGroup}
 use Rattle.group_facet.specs.declared.fold.Fold.{Fold}
 use Rattle.group_facet.specs.declared.fold.Fold.TheVariants.{Count, Distinct, Least, Greatest, Sum}
 use Rattle.group_facet.specs.declared.grouping.Group.{Group}

@@ -1,7 +1,8 @@
 //! The facets of a SELECT, which see each row that is found.
-ghost use Rattle.std.specs.Prelude.{◌++◌, [], ◌∷◌, IfOk, List, OnOk};
+ghost use Rattle.std.specs.Prelude.{◌≡◌, ◌++◌, [], ◌∷◌, false, All, IfOk, List, OnOk};
 ghost use Rattle.std.specs.List.{AllZip};
 ghost use Rattle.group_facet.specs.Facets.{IsFacet};
+ghost use Rattle.group_facet.specs.GatheringFacets.{CountsNoWeights};
 ghost use Rattle.group_facet.specs.declared.facets.Facet.{Facet as FacetValue};
 ghost use Rattle.row_select.specs.declared.row.Row.{Row as RowValue};
 ghost use Rattle.table_search.specs.Gathering.{GatherFacets};
@@ -62,16 +63,35 @@ fn offer_to_all<R: FoundRow>(list: &mut [FacetCounts<'_>], row: &R) -> Result<()
     Ok(())
 }
 
+/// Whether one of the facets counts what rows weigh.
+fn count_weights(list: &[FacetCounts<'_>]) -> bool
+    ensures { result ≡ false → All CountsNoWeights list.now }
+{
+    list.iter().any(|counts| counts.counts_weights())
+}
+
 impl Sink for FacetSinks<'_> {
-    ghost use Rattle.std.specs.Prelude.{List, []};
+    ghost use Rattle.std.specs.Prelude.{All, List, []};
+    ghost use Rattle.group_facet.specs.GatheringFacets.{CountsNoWeights};
     ghost use Rattle.group_facet.specs.declared.facets.Facet.{Facet};
     ghost use Rattle.table_search.specs.Gathering.{GatherFacets};
 
     ghost Took = { λ first rows last. (facets : List Facet) → GatherFacets facets [] first.list.items → GatherFacets facets rows last.list.items };
 
+    ghost Passes = { λ sinks row. All CountsNoWeights sinks.list.items };
+
     ghost nothing = { λ first facets so. so };
 
     fn offer<R: FoundRow>(&mut self, row: &R) -> Result<(), NoMemory> {
         offer_to_all(&mut self.list, row)
+    }
+
+    fn heeds<R: FoundRow>(&self, _row: &R) -> bool {
+        count_weights(&self.list)
+    }
+
+    fn pass<R: FoundRow>(&mut self, row: &R) -> Result<(), NoMemory> {
+        self.offer(row)?;
+        Ok(())
     }
 }

@@ -1,6 +1,6 @@
 -- what a search has gathered so far
-use Rattle.std.specs.Prelude.{◌≡◌, ◌<◌, ℕ, List, ◌++◌, true, false, Option, Some, None, length, slice_get}
-use Rattle.std.specs.List.{AllZip, filter}
+use Rattle.std.specs.Prelude.{◌≡◌, ◌<◌, ◌≤◌, ℕ, List, [], ◌++◌, true, false, Option, Some, None, length, slice_get}
+use Rattle.std.specs.List.{AllZip, filter, list_any}
 use Rattle.doc_types.specs.declared.documents.DocRow.{DocRow}
 use Rattle.doc_types.specs.declared.hits.Hit.{Hit}
 use Rattle.doc_types.specs.declared.schema.Schema.{Schema}
@@ -10,6 +10,7 @@ use Rattle.op_eval.specs.Hits.{AreHits}
 use Rattle.op_eval.specs.Matching.{matches}
 use Rattle.op_eval.specs.Streams.{Stream, ahead}
 use Rattle.rankers.specs.Weight.{weight}
+use Rattle.row_select.specs.Filters.{is_weighed}
 use Rattle.row_select.specs.declared.row.Row.{Row}
 use Rattle.doc_search.specs.Searches.{IsAskedOf, IsRowOf, passes}
 use Rattle.doc_search.specs.declared.question.Question.{Question}
@@ -39,10 +40,21 @@ unweighed doc = record { id = doc.doc.id; weight = 0; values = doc.doc.values }
 abbrev pub GivesOne : Question → Type 0
 GivesOne question = (hits : List Hit) → weight question.ranker (record { keywords = question.query.keywords; list = hits }) question.weights.list ≡ 1
 
+-- the question has neither a word nor a condition
+pub record TakesAll (question : Question) : Type 0 where
+  pub root : question.query.root ≡ None
+  pub none : question.filters ≡ []
+
 -- the document's weight, if it matches
 abbrev pub IsWeighed : Question → DocRow → Option ℕ → Type 0
 IsWeighed question doc None = matches question.query doc ≡ false
 IsWeighed question doc (Some weighed) = (matches question.query doc ≡ true) × IsWeightOf question doc weighed
+
+-- The document matches and weighs so much at most, and no condition looks at that.
+pub record WeighsUpTo (question : Question) (doc : DocRow) (most : ℕ) : Type 0 where
+  pub fits : matches question.query doc ≡ true
+  pub any : list_any is_weighed question.filters ≡ false
+  pub least : (weighed : ℕ) → IsWeightOf question doc weighed → weighed ≤ most
 
 -- The stream of the question over these documents stands at the one of this number.
 pub record StandsAt (question : Question) (docs : List DocRow) (number : ℕ) (stream : Stream) : Type 0 where

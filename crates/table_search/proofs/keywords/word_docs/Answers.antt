@@ -1,4 +1,4 @@
-use Rattle.std.proofs.Common.{◌≡◌, ◌∙◌, ℕ, List, IfOk, ap, map, subst}
+use Rattle.std.proofs.Common.{◌≡◌, ◌∙◌, List, IfOk, ap, map, subst}
 use Rattle.doc_types.specs.Snapshots.{LayerValue, SnapshotValue, all_living}
 use Rattle.table_search.specs.Keywords.{counted}
 use Rattle.table_search.specs.declared.keywords.WordDocs.{WordDocs}

@@ -1,4 +1,4 @@
-use Rattle.std.proofs.Common.{ℕ, List, [], subst, sym}
+use Rattle.std.proofs.Common.{List, [], subst, sym}
 use Rattle.group_facet.specs.ShownGroups.{AreTop}
 use Rattle.group_facet.specs.declared.facets.Facet.{Facet}
 use Rattle.table_search.specs.Gathering.{GatherFacets}

@@ -1,4 +1,4 @@
-use Rattle.std.proofs.Common.{◌≡◌, ◌∙◌, ℕ, List, [], length, arith, subst, sym}
+use Rattle.std.proofs.Common.{◌≡◌, ◌∙◌, List, [], length, arith, subst, sym}
 use Rattle.group_facet.specs.declared.facets.Facet.{Facet}
 use Rattle.row_select.specs.Pages.{IsTop}
 use Rattle.row_select.specs.declared.row.Row.{Row}
