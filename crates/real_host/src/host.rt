@@ -9,7 +9,7 @@ use crate::folders::make_folder;
 use crate::lent::Lent;
 use chunk_store::DirDisk;
 use client_doors::{ClientDoor, listening_doors, standard_door};
-use searchd_top::{Host, Requests, Stream};
+use program_host::{Host, Requests, Stream};
 use srch_base::{Failed, OpenFault};
 use std::alloc::Global;
 use std::fs;
@@ -64,7 +64,7 @@ impl RealHost {
 
 impl Host for RealHost {
     ghost use Rattle.std.specs.Prelude.{None, map};
-    ghost use Rattle.searchd_top.specs.Printing.{of_stream};
+    ghost use Rattle.program_host.specs.Printing.{of_stream};
 
     type Store = DirDisk<HostRuntime>;
 

@@ -3,8 +3,9 @@
 
 ghost use Rattle.std.specs.Prelude.{◌≡◌};
 
+use program_host::{Host, Status, Stream};
 use real_host::RealHost;
-use searchd_top::{Host, Status, Stream, searchd};
+use searchd_top::searchd;
 use srch_base::{Failed, NoMemory};
 use std::env;
 use std::io::ErrorKind;

@@ -2,12 +2,12 @@
 use Rattle.std.proofs.Common.{◌≡◌, ℕ, List, [], ◌++◌, refl, sym, ap, subst, ◌∙◌, append-nil, append_assoc}
 use Rattle.std.specs.Prelude.{Option, Some, None}
 use Rattle.srch_base.specs.Told.{then_bytes}
+use Rattle.program_host.specs.Lending.{back_of, given_of}
+use Rattle.program_host.specs.Requests.{Requested}
+use Rattle.program_host.specs.declared.host.Host.{Ghosts as HostWords}
+use Rattle.program_host.specs.declared.host.Stream.TheVariants.{Out}
+use Rattle.program_host.specs.declared.requests.Request.{Request}
 use Rattle.searchd_top.specs.Deeds.{Count, Deeds, Does, IsIdle}
-use Rattle.searchd_top.specs.Lending.{back_of, given_of}
-use Rattle.searchd_top.specs.Requests.{Requested}
-use Rattle.searchd_top.specs.declared.host.Host.{Ghosts as HostWords}
-use Rattle.searchd_top.specs.declared.host.Stream.TheVariants.{Out}
-use Rattle.searchd_top.specs.declared.requests.Request.{Request}
 use Rattle.searchd_top.specs.steps.Sides.{Asks, KeepsLent}
 
 -- nothing was asked for

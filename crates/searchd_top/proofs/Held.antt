@@ -17,20 +17,21 @@ use Rattle.store_keep.specs.Opens.{HasStoreCause, IsFoundIn, IsOpened, SaysDamag
 use Rattle.store_keep.specs.declared.fault.StoreFault.{StoreFault}
 use Rattle.store_keep.specs.declared.fault.StoreFault.TheVariants as faults
 use Rattle.store_keep.specs.declared.opening.Opened.{Opened}
+use Rattle.program_host.specs.Lending.{CountsOpening, Lent, back_of, given_of}
+use Rattle.program_host.specs.Requests.{Requested}
+use Rattle.program_host.specs.Statuses.{status_of}
+use Rattle.program_host.specs.declared.host.Host.{Ghosts as HostWords}
+use Rattle.program_host.specs.declared.host.Stream.TheVariants.{Out}
+use Rattle.program_host.specs.declared.requests.Request.{Request}
+use Rattle.program_host.specs.declared.requests.Request.TheVariants.{OpenStore}
+use Rattle.program_host.specs.declared.status.Status.{Status}
+use Rattle.program_host.specs.declared.status.Status.TheVariants.{Done, Usage, Config, HostFault, Damaged, NoMemory, Strayed}
 use Rattle.searchd_top.specs.Openings.{AreOpenedFrom, IsOpenedFrom, Leaves}
 use Rattle.searchd_top.specs.Checks.{AreOpen, ChecksIndexes, HasFiles, Holdings, IsOpen, SaysUngiven, SaysUnopened, Stops, StopsAt, check_lines}
 use Rattle.searchd_top.specs.Deeds.{Deeds, Does}
-use Rattle.searchd_top.specs.Lending.{CountsOpening, Lent, back_of, given_of}
 use Rattle.searchd_top.specs.Output.{SaysLines}
-use Rattle.searchd_top.specs.Requests.{Requested, store_requests}
-use Rattle.searchd_top.specs.Statuses.{status_of}
-use Rattle.searchd_top.specs.declared.host.Host.{Ghosts as HostWords}
-use Rattle.searchd_top.specs.declared.host.Stream.TheVariants.{Out}
+use Rattle.searchd_top.specs.Requests.{store_requests}
 use Rattle.searchd_top.specs.declared.opening.Stop.{Stop}
-use Rattle.searchd_top.specs.declared.requests.Request.{Request}
-use Rattle.searchd_top.specs.declared.requests.Request.TheVariants.{OpenStore}
-use Rattle.searchd_top.specs.declared.status.Status.{Status}
-use Rattle.searchd_top.specs.declared.status.Status.TheVariants.{Done, Usage, Config, HostFault, Damaged, NoMemory, Strayed}
 use Rattle.searchd_top.specs.steps.Openings.{KeepsDoors, OpensAll, OpensStores, SaysFault, StopsOpening, disks_of, holdings_of}
 use Rattle.searchd_top.specs.steps.Sides.{DoesBy, HandsBack, KeepsPrints, PrintsOut}
 use Rattle.searchd_top.proofs.Doing.{requested_then, then_nothing}

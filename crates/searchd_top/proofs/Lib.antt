@@ -1,11 +1,8 @@
-pub mod Copies
 pub mod Doing
 pub mod Held
-pub mod Lined
 pub mod Lines
 pub mod PathTexts
 pub mod Putting
 pub mod Running
 pub mod ServedIndexes
-pub mod StorePlaces
 pub mod Words

@@ -7,20 +7,21 @@ use Rattle.chunk_store.specs.declared.disk.Disk.{Ghosts as DiskWords}
 use Rattle.srch_base.specs.Told.{then_bytes}
 use Rattle.command_line.specs.Modes.{Mode, selftest}
 use Rattle.index_conf.specs.declared.conf.Conf.{Conf}
+use Rattle.program_host.specs.Texts.{Texts}
+use Rattle.program_host.specs.Printing.{IsLinePrinted, IsReported, Reports}
+use Rattle.program_host.specs.declared.host.Host.{Ghosts as HostWords}
+use Rattle.program_host.specs.declared.host.Stream.{Stream}
+use Rattle.program_host.specs.declared.host.Stream.TheVariants.{Out, Err as Errors}
+use Rattle.program_host.specs.declared.requests.Request.TheVariants.{ReadText}
+use Rattle.program_host.specs.declared.status.Status.{Status}
+use Rattle.program_host.specs.declared.status.Status.TheVariants.{Done, Usage, Config, HostFault, Damaged, NoMemory, Strayed}
 use Rattle.searchd_top.specs.CommandLine.{file_of}
-use Rattle.searchd_top.specs.Configuring.{AreIndexes, Texts}
+use Rattle.searchd_top.specs.Configuring.{AreIndexes}
 use Rattle.searchd_top.specs.Deeds.{Count, Deeds, Does}
 use Rattle.searchd_top.specs.Output.{SaysLines}
-use Rattle.searchd_top.specs.Printing.{IsLinePrinted, IsReported, Reports}
 use Rattle.searchd_top.specs.Requests.{text_requests}
 use Rattle.searchd_top.specs.Runs.{Runs, SaysRefused, Works}
 use Rattle.searchd_top.specs.Selftests.{IsUnprinted, SaysSelftest, selftest_lines}
-use Rattle.searchd_top.specs.declared.host.Host.{Ghosts as HostWords}
-use Rattle.searchd_top.specs.declared.host.Stream.{Stream}
-use Rattle.searchd_top.specs.declared.host.Stream.TheVariants.{Out, Err as Errors}
-use Rattle.searchd_top.specs.declared.requests.Request.TheVariants.{ReadText}
-use Rattle.searchd_top.specs.declared.status.Status.{Status}
-use Rattle.searchd_top.specs.declared.status.Status.TheVariants.{Done, Usage, Config, HostFault, Damaged, NoMemory, Strayed}
 use Rattle.searchd_top.specs.steps.Sides.{Asks, Configures, DoesBy, KeepsLent, PrintsOut}
 use Rattle.searchd_top.proofs.Doing.{asking, asks_nothing, does_after, does_asking, does_then, idle_asking, requested_none, then_nothing}
 

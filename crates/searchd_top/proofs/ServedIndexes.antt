@@ -33,19 +33,20 @@ use Rattle.step_book.specs.Fronts.{FrontValue}
 use Rattle.step_history.specs.History.{Base}
 use Rattle.store_keep.specs.Opens.{IsOpened}
 use Rattle.store_keep.specs.declared.opening.Opened.{Opened}
+use Rattle.program_host.specs.Lending.{CountsOpening, Lent, back_of, given_of}
+use Rattle.program_host.specs.Requests.{Requested}
+use Rattle.program_host.specs.Statuses.{status_of}
+use Rattle.program_host.specs.declared.host.Host.{Ghosts as HostWords}
+use Rattle.program_host.specs.declared.host.Stream.TheVariants.{Out}
+use Rattle.program_host.specs.declared.requests.Request.{Request}
+use Rattle.program_host.specs.declared.status.Status.{Status}
+use Rattle.program_host.specs.declared.status.Status.TheVariants.{Done, NoMemory}
 use Rattle.searchd_top.specs.Deeds.{Count, Deeds, Does, HasRisen}
-use Rattle.searchd_top.specs.Lending.{CountsOpening, Lent, back_of, given_of}
 use Rattle.searchd_top.specs.Openings.{AreOpenedFrom}
 use Rattle.searchd_top.specs.Plans.{Plan}
-use Rattle.searchd_top.specs.Requests.{Requested, door_requests, store_requests}
+use Rattle.searchd_top.specs.Requests.{door_requests, store_requests}
 use Rattle.searchd_top.specs.Sessions.{AreIdle, HaveWorked, SaysIdle, ServesIndexes, status_after, status_of_ends, unless_decided}
-use Rattle.searchd_top.specs.Statuses.{status_of}
-use Rattle.searchd_top.specs.declared.host.Host.{Ghosts as HostWords}
-use Rattle.searchd_top.specs.declared.host.Stream.TheVariants.{Out}
 use Rattle.searchd_top.specs.declared.opening.Stop.{Stop}
-use Rattle.searchd_top.specs.declared.requests.Request.{Request}
-use Rattle.searchd_top.specs.declared.status.Status.{Status}
-use Rattle.searchd_top.specs.declared.status.Status.TheVariants.{Done, NoMemory}
 use Rattle.searchd_top.specs.steps.Openings.{KeepsDoors, OpensAll, StopsOpening, disks_of}
 use Rattle.searchd_top.specs.steps.Servings.{Answers, AreNames, HandsAllBack, IsShort, SaysOutcome, ServesOpened, after_end, after_ends}
 use Rattle.searchd_top.specs.steps.Sides.{DoesBy, HandsBack, KeepsPrints}

@@ -9,8 +9,8 @@ use Rattle.command_line.specs.Modes.{is_number, number_or, within}
 use Rattle.command_line.specs.Modes as modes
 use Rattle.command_line.specs.Reading.{said}
 use Rattle.command_line.specs.declared.mode.Mode.{Mode}
-use Rattle.searchd_top.specs.declared.status.Status.{Status}
-use Rattle.searchd_top.specs.declared.status.Status.TheVariants.{Usage}
+use Rattle.program_host.specs.declared.status.Status.{Status}
+use Rattle.program_host.specs.declared.status.Status.TheVariants.{Usage}
 
 -- it is the mode that was read
 pub mode_is : (words : List (List ℕ)) (read value : Option Mode) → option_map said read ≡ modes.mode words → read ≡ value → modes.mode words ≡ option_map said value

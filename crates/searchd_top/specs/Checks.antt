@@ -10,14 +10,14 @@ use Rattle.store_steps.specs.Damage.{IsDamaged}
 use Rattle.store_steps.specs.Directory.{Directory, Holds, rows_in}
 use Rattle.store_steps.specs.declared.damage.TheConstants.{MOST_OPENED_CHUNKS}
 use Rattle.store_keep.specs.Opens.{chunks_in, taken_in}
+use Rattle.program_host.specs.Lending.{Lent}
+use Rattle.program_host.specs.Statuses.{line}
+use Rattle.program_host.specs.declared.requests.Request.{Request}
+use Rattle.program_host.specs.declared.status.Status.{Status}
+use Rattle.program_host.specs.declared.status.Status.TheVariants.{Done, Usage, Config, HostFault, Damaged, NoMemory, Strayed}
 use Rattle.searchd_top.specs.Deeds.{Count, Deeds, HasRisen, IsStill}
-use Rattle.searchd_top.specs.Lending.{Lent}
 use Rattle.searchd_top.specs.Openings.{Leaves}
 use Rattle.searchd_top.specs.Output.{SaysLines}
-use Rattle.searchd_top.specs.Statuses.{line}
-use Rattle.searchd_top.specs.declared.requests.Request.{Request}
-use Rattle.searchd_top.specs.declared.status.Status.{Status}
-use Rattle.searchd_top.specs.declared.status.Status.TheVariants.{Done, Usage, Config, HostFault, Damaged, NoMemory, Strayed}
 
 -- What an index has: documents, chunks on the disk, and records of its logs that no chunk has.
 pub record Holdings : Type 0 where

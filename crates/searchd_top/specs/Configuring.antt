@@ -1,20 +1,11 @@
 -- The configuration of a run: what is read of its file, and what that says.
-use Rattle.std.specs.Prelude.{◌≡◌, ⊤, ℕ, ◌+◌, List, [], Option, Some, None, take}
+use Rattle.std.specs.Prelude.{◌≡◌, ℕ, List, [], Option, Some, None}
 use Rattle.conf_text.specs.Confs.{IsConfOf, IsFaultOf}
 use Rattle.index_conf.specs.declared.conf.Conf.{Conf}
 use Rattle.index_conf.specs.declared.conf.IndexConf.{IndexConf}
 use Rattle.conf_text.specs.declared.size.TheConstants.{MAX_CONF_BYTES}
 use Rattle.conf_text.specs.declared.fault.ConfFault.{ConfFault}
-
--- what is known of the texts of a host's files
-abbrev pub Texts : Type 0
-Texts = List ℕ → Option (List ℕ)
-
--- These bytes were read of a text, up to a limit: all of it, or the limit and one byte more. Where the text isn't known they
--- may be any.
-abbrev pub AreReadOf : Option (List ℕ) → ℕ → List ℕ → Type 0
-AreReadOf None limit bytes = ⊤
-AreReadOf (Some text) limit bytes = bytes ≡ take (limit + 1) text
+use Rattle.program_host.specs.Texts.{AreReadOf, Texts}
 
 -- What was read of the file is a configuration of these indexes.
 pub record IsConfigured (texts : Texts) (file : List ℕ) (indexes : List IndexConf) : Type 0 where

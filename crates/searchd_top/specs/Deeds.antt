@@ -2,11 +2,11 @@
 use Rattle.std.specs.Prelude.{◌≡◌, ℕ, List, []}
 use Rattle.srch_base.specs.Counts.{Rose}
 use Rattle.srch_base.specs.Told.{then_bytes}
-use Rattle.searchd_top.specs.Lending.{Lent, Lends}
-use Rattle.searchd_top.specs.Requests.{Requested}
-use Rattle.searchd_top.specs.declared.host.Host.{Ghosts as HostWords}
-use Rattle.searchd_top.specs.declared.host.Stream.TheVariants.{Out}
-use Rattle.searchd_top.specs.declared.requests.Request.{Request}
+use Rattle.program_host.specs.Lending.{Lent, Lends}
+use Rattle.program_host.specs.Requests.{Requested}
+use Rattle.program_host.specs.declared.host.Host.{Ghosts as HostWords}
+use Rattle.program_host.specs.declared.host.Stream.TheVariants.{Out}
+use Rattle.program_host.specs.declared.requests.Request.{Request}
 
 -- a count of faults, before and after
 pub record Count : Type 0 where

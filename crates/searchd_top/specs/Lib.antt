@@ -2,13 +2,7 @@
 pub mod CommandLine
 -- the configuration that they name
 pub mod Configuring
--- statuses, and what they print
-pub mod Statuses
--- what is printed on the two streams
-pub mod Printing
--- things that are given out and handed back
-pub mod Lending
--- what a host is asked for
+-- what a run asks its host for
 pub mod Requests
 -- what a run does through its host
 pub mod Deeds
@@ -24,6 +18,4 @@ pub mod Checks
 pub mod Selftests
 -- a run of any mode
 pub mod Runs
--- a host over memory
-pub mod HostMemory
 pub mod steps

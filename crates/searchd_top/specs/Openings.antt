@@ -6,7 +6,7 @@ use Rattle.chunk_store.specs.declared.disk.Disk.{Ghosts as DiskWords}
 use Rattle.index_conf.specs.declared.conf.IndexConf.{IndexConf}
 use Rattle.store_keep.specs.Opens.{HidesNothing, IsFoundIn, IsOpened, LeavesBegun}
 use Rattle.store_keep.specs.declared.opening.Opened.{Opened}
-use Rattle.searchd_top.specs.Lending.{Lent}
+use Rattle.program_host.specs.Lending.{Lent}
 
 -- What opening leaves of a store: a crash leaves what it might have left before, or the index without documents that was begun.
 abbrev pub Leaves : {S : Type 0} → DiskWords S → IndexConf → Lent S → Type 0

@@ -1,9 +1,9 @@
 -- What a status says of lines that go to the output.
 use Rattle.std.specs.Prelude.{◌≡◌, List, [], ℕ}
 use Rattle.std.specs.Io.{StartsWith}
+use Rattle.program_host.specs.declared.status.Status.{Status}
+use Rattle.program_host.specs.declared.status.Status.TheVariants.{Done, Usage, Config, HostFault, Damaged, NoMemory, Strayed}
 use Rattle.searchd_top.specs.Deeds.{Count, HasRisen, IsStill}
-use Rattle.searchd_top.specs.declared.status.Status.{Status}
-use Rattle.searchd_top.specs.declared.status.Status.TheVariants.{Done, Usage, Config, HostFault, Damaged, NoMemory, Strayed}
 
 -- They were printed; or a prefix of them, and the count of failed prints rose; or there was no memory for them, and none was.
 abbrev pub SaysLines : Status → List ℕ → List ℕ → Count → Type 0

@@ -1,16 +1,10 @@
--- Requests to a host: for the texts of files, for the stores of indexes, and for doors to clients.
-use Rattle.std.specs.Prelude.{◌≡◌, ⊤, ℕ, List, [], ◌∷◌, ◌++◌, Option, Some, None, map}
+-- The requests of a run to its host: for the text of its file, for the stores of indexes, and for doors to clients.
+use Rattle.std.specs.Prelude.{ℕ, List, [], ◌∷◌, ◌++◌, Option, Some, None, map}
 use Rattle.command_line.specs.Modes.{Mode, session, serve, check}
 use Rattle.index_conf.specs.declared.conf.IndexConf.{IndexConf}
+use Rattle.program_host.specs.declared.requests.Request.{Request}
+use Rattle.program_host.specs.declared.requests.Request.TheVariants.{ReadText, OpenStore, OpenDoors}
 use Rattle.searchd_top.specs.Plans.{Plan, listening, one_line}
-use Rattle.searchd_top.specs.declared.requests.Request.{Request}
-use Rattle.searchd_top.specs.declared.requests.Request.TheVariants.{ReadText, OpenStore, OpenDoors}
-
--- These were the requests between two states of a host, where it records them. A host may stop recording.
-abbrev pub Requested : Option (List Request) → Option (List Request) → List Request → Type 0
-Requested before None requests = ⊤
-Requested None (Some all) requests = ⊥
-Requested (Some earlier) (Some all) requests = all ≡ earlier ++ requests
 
 -- for the text of a run's file, if it has one
 abbrev pub text_requests : Option (List ℕ) → List Request

@@ -5,18 +5,19 @@ use Rattle.srch_base.specs.declared.door.Door.{Ghosts as DoorWords}
 use Rattle.chunk_store.specs.declared.disk.Disk.{Ghosts as DiskWords}
 use Rattle.index_conf.specs.declared.conf.IndexConf.{IndexConf}
 use Rattle.command_line.specs.Modes.{Mode, session, serve, check, selftest}
+use Rattle.program_host.specs.Texts.{Texts}
+use Rattle.program_host.specs.declared.host.Host.{Ghosts as HostWords}
+use Rattle.program_host.specs.declared.requests.Request.{Request}
+use Rattle.program_host.specs.declared.status.Status.{Status}
+use Rattle.program_host.specs.declared.status.Status.TheVariants.{Done, Usage, Config, HostFault, Damaged, NoMemory, Strayed}
 use Rattle.searchd_top.specs.Checks.{ChecksIndexes}
 use Rattle.searchd_top.specs.CommandLine.{file_of}
-use Rattle.searchd_top.specs.Configuring.{Texts, AreIndexes, IsMisconfigured}
+use Rattle.searchd_top.specs.Configuring.{AreIndexes, IsMisconfigured}
 use Rattle.searchd_top.specs.Deeds.{Count, Deeds, Does, HasRisen, IsIdle, IsStill}
 use Rattle.searchd_top.specs.Plans.{listening, one_line}
 use Rattle.searchd_top.specs.Requests.{later_requests, text_requests}
 use Rattle.searchd_top.specs.Selftests.{PrintsSelftest}
 use Rattle.searchd_top.specs.Sessions.{ServesIndexes}
-use Rattle.searchd_top.specs.declared.host.Host.{Ghosts as HostWords}
-use Rattle.searchd_top.specs.declared.requests.Request.{Request}
-use Rattle.searchd_top.specs.declared.status.Status.{Status}
-use Rattle.searchd_top.specs.declared.status.Status.TheVariants.{Done, Usage, Config, HostFault, Damaged, NoMemory, Strayed}
 
 -- What a mode does over the indexes of its file, a row for each mode.
 abbrev pub Works : {S D K : Type 0} → DiskWords S → DoorWords D K → LinkWords K → Option Mode → List IndexConf → Status → Deeds S D → Type 0

@@ -5,10 +5,10 @@ use Rattle.chunk_store.specs.contracts.memory_disk.MemoryDiskDisk.TheImpl as mem
 use Rattle.self_test.specs.Documents.{documents_from}
 use Rattle.self_test.specs.Ends.{EndsBy}
 use Rattle.self_test.specs.Summaries.{lines_of, summary_of}
+use Rattle.program_host.specs.declared.status.Status.{Status}
+use Rattle.program_host.specs.declared.status.Status.TheVariants.{Done, Usage, Config, HostFault, Damaged, NoMemory, Strayed}
 use Rattle.searchd_top.specs.Deeds.{Count, Deeds, IsStill}
 use Rattle.searchd_top.specs.Output.{SaysLines}
-use Rattle.searchd_top.specs.declared.status.Status.{Status}
-use Rattle.searchd_top.specs.declared.status.Status.TheVariants.{Done, Usage, Config, HostFault, Damaged, NoMemory, Strayed}
 
 -- the lines of a selftest: the summary of the documents that its number stands for
 unfoldable pub selftest_lines : ℕ → ℕ → List ℕ

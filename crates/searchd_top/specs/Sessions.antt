@@ -15,15 +15,15 @@ use Rattle.srch_base.specs.declared.faults.Or.TheVariants as causes
 use Rattle.srch_base.specs.declared.link.Link.{Ghosts as LinkWords}
 use Rattle.step_history.specs.History.{Base}
 use Rattle.store_keep.specs.declared.opening.Opened.{Opened}
+use Rattle.program_host.specs.Lending.{back_of, given_of}
+use Rattle.program_host.specs.declared.requests.Request.{Request}
+use Rattle.program_host.specs.declared.status.Status.{Status}
+use Rattle.program_host.specs.declared.status.Status.TheVariants.{Done, Usage, Config, HostFault, Damaged, NoMemory, Strayed}
 use Rattle.searchd_top.specs.Checks.{StopsAt}
 use Rattle.searchd_top.specs.Deeds.{Deeds, HasRisen, IsStill}
-use Rattle.searchd_top.specs.Lending.{back_of, given_of}
 use Rattle.searchd_top.specs.Openings.{AreOpenedFrom}
 use Rattle.searchd_top.specs.Plans.{Plan}
 use Rattle.searchd_top.specs.Requests.{store_requests}
-use Rattle.searchd_top.specs.declared.requests.Request.{Request}
-use Rattle.searchd_top.specs.declared.status.Status.{Status}
-use Rattle.searchd_top.specs.declared.status.Status.TheVariants.{Done, Usage, Config, HostFault, Damaged, NoMemory, Strayed}
 
 -- an end for want of memory decides where nothing else does
 abbrev pub unless_decided : Status → Status

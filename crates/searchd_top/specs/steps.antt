@@ -1,4 +1,3 @@
-pub mod Lines
 -- what calls leave of a host
 pub mod Sides
 -- stores that are opened one after the other

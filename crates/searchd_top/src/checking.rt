@@ -2,20 +2,20 @@
 ghost use Rattle.std.specs.Prelude.{◌≡◌, ◌+◌, ◌≤◌, ◌++◌, Some, IfOk, OnOk, decimal, length, map};
 ghost use Rattle.index_conf.specs.Soundness.{IsSound};
 ghost use Rattle.command_line.specs.Modes.{check};
+ghost use Rattle.program_host.specs.Statuses.{NamesIndex};
 ghost use Rattle.searchd_top.specs.Checks.{ChecksIndexes, check_line, check_lines};
 ghost use Rattle.searchd_top.specs.Requests.{store_requests};
 ghost use Rattle.searchd_top.specs.Runs.{Runs};
-ghost use Rattle.searchd_top.specs.Statuses.{NamesIndex};
 ghost use Rattle.searchd_top.specs.steps.Openings.{disks_of, holdings_of};
 ghost use Rattle.searchd_top.specs.steps.Sides.{AreTexts, DoesBy, HandsBack, PrintsOut};
 
 use crate::configuring::configure;
 use crate::opening::{give_up, hand_back, open_stores};
 use crate::printing::print_output;
-use crate::{Host, Status, Stream};
 use chunk_store::Disk;
 use index_conf::{Conf, IndexConf};
 use itoa::Buffer;
+use program_host::{Host, Status, Stream};
 use srch_base::NoMemory;
 use std::alloc::Global;
 use store_keep::Opened;

@@ -2,9 +2,9 @@
 ghost use Rattle.std.specs.Prelude.{[], ◌∷◌};
 ghost use Rattle.searchd_top.specs.steps.Sides.{Asks, Configures};
 
-use crate::{Host, Request, Status};
 use conf_text::{ConfFault, MAX_CONF_BYTES, read_conf};
 use index_conf::Conf;
+use program_host::{Host, Request, Status};
 use srch_base::Or;
 use std::alloc::Global;
 

@@ -3,18 +3,10 @@
 
 mod checking;
 mod configuring;
-mod host;
-mod memory_host;
 mod opening;
 mod printing;
 mod program;
-mod requests;
 mod self_testing;
 mod serving;
-mod status;
 
-pub use host::{Host, Stream};
-pub use memory_host::MemoryHost;
 pub use program::searchd;
-pub use requests::{Request, Requests};
-pub use status::Status;

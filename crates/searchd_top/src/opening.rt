@@ -2,12 +2,12 @@
 ghost use Rattle.std.specs.Prelude.{◌≡◌, ◌+◌, ◌≤◌, ◌++◌, [], ◌∷◌, All, IfErr, length, option_to_list};
 ghost use Rattle.std.specs.Str.{IsUtf8};
 ghost use Rattle.doc_types.specs.Schemas.{IsSchema};
+ghost use Rattle.program_host.specs.Statuses.{NamesIndex};
 ghost use Rattle.searchd_top.specs.steps.Openings.{KeepsDoors, OpensStores, SaysFault, disks_of};
 ghost use Rattle.searchd_top.specs.steps.Sides.{AreTexts, HandsBack, KeepsPrints};
-ghost use Rattle.searchd_top.specs.Statuses.{NamesIndex};
 
-use crate::{Host, Status, Stream};
 use index_conf::IndexConf;
+use program_host::{Host, Status, Stream};
 use srch_base::{Name, NoMemory};
 use std::alloc::Global;
 use store_keep::{Opened, StoreFault};

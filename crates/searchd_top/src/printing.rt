@@ -1,10 +1,10 @@
 //! Lines to the output.
 ghost use Rattle.std.specs.Prelude.{◌≡◌, ℕ, List};
 ghost use Rattle.srch_base.specs.Told.{then_bytes};
-ghost use Rattle.searchd_top.specs.Statuses.{NamesIndex};
+ghost use Rattle.program_host.specs.Statuses.{NamesIndex};
 ghost use Rattle.searchd_top.specs.steps.Sides.{KeepsLent, PrintsOut};
 
-use crate::{Host, Status, Stream};
+use program_host::{Host, Status, Stream};
 use srch_base::Failed;
 
 /// Prints lines to the output. Where that fails, the host has.

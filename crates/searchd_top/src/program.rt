@@ -2,16 +2,16 @@
 //! the indexes. The first refusal decides the status, and its line is printed to the errors.
 ghost use Rattle.std.specs.Prelude.{◌≡◌, ◌↔◌, ◌≤◌, None, length, map, string_bytes};
 ghost use Rattle.command_line.specs.Modes.{mode};
-ghost use Rattle.searchd_top.specs.Statuses.{NamesIndex, line_of};
-ghost use Rattle.searchd_top.specs.Printing.{IsReported, Reports};
+ghost use Rattle.program_host.specs.Statuses.{NamesIndex, line_of};
+ghost use Rattle.program_host.specs.Printing.{IsReported, Reports};
 ghost use Rattle.searchd_top.specs.Runs.{Runs};
 ghost use Rattle.searchd_top.specs.steps.Sides.{KeepsLent};
 
 use crate::checking::run_check;
 use crate::self_testing::run_selftest;
 use crate::serving::{run_serve, run_session};
-use crate::{Host, Status, Stream};
 use command_line::{Mode, read_mode};
+use program_host::{Host, Status, Stream};
 use srch_base::{Door, Failed, NoMemory};
 use std::alloc::Global;
 use std::sync::Wait;

@@ -2,13 +2,13 @@
 ghost use Rattle.std.specs.Prelude.{◌≡◌, Err, Some, IfErr, IfOk, string_bytes};
 ghost use Rattle.command_line.specs.Modes.{selftest};
 ghost use Rattle.self_test.specs.Ends.{Ends};
+ghost use Rattle.program_host.specs.Statuses.{NamesIndex};
 ghost use Rattle.searchd_top.specs.Runs.{Runs};
 ghost use Rattle.searchd_top.specs.Selftests.{IsUnprinted, selftest_lines};
-ghost use Rattle.searchd_top.specs.Statuses.{NamesIndex};
 
 use crate::printing::print_output;
-use crate::{Host, Status, Stream};
 use chunk_store::{Disk, MemoryDisk};
+use program_host::{Host, Status, Stream};
 use self_test::{SelftestFault, run_over_engine};
 use srch_base::{Name, NoMemory};
 use std::alloc::Global;

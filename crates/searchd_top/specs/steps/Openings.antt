@@ -9,14 +9,15 @@ use Rattle.step_history.specs.Places.{disk_chunks}
 use Rattle.store_keep.specs.declared.fault.StoreFault.{StoreFault}
 use Rattle.store_keep.specs.declared.fault.StoreFault.TheVariants as faults
 use Rattle.store_keep.specs.declared.opening.Opened.{Opened}
+use Rattle.program_host.specs.Lending.{Lent, back_of, given_of}
+use Rattle.program_host.specs.Requests.{Requested}
+use Rattle.program_host.specs.declared.host.Host.{Ghosts as HostWords}
+use Rattle.program_host.specs.declared.status.Status.{Status}
+use Rattle.program_host.specs.declared.status.Status.TheVariants.{HostFault, Damaged, NoMemory}
 use Rattle.searchd_top.specs.Checks.{Holdings, Stops}
-use Rattle.searchd_top.specs.Lending.{Lent, back_of, given_of}
 use Rattle.searchd_top.specs.Openings.{AreOpenedFrom}
-use Rattle.searchd_top.specs.Requests.{Requested, store_requests}
-use Rattle.searchd_top.specs.declared.host.Host.{Ghosts as HostWords}
+use Rattle.searchd_top.specs.Requests.{store_requests}
 use Rattle.searchd_top.specs.declared.opening.Stop.{Stop}
-use Rattle.searchd_top.specs.declared.status.Status.{Status}
-use Rattle.searchd_top.specs.declared.status.Status.TheVariants.{HostFault, Damaged, NoMemory}
 
 -- the disks of stores that were opened
 abbrev pub disks_of : {S : Type 0} → List (Opened S) → List S

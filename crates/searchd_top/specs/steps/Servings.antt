@@ -12,15 +12,16 @@ use Rattle.srch_base.specs.declared.faults.Or.{Or}
 use Rattle.srch_base.specs.declared.faults.Or.TheVariants as causes
 use Rattle.srch_base.specs.declared.link.Link.{Ghosts as LinkWords}
 use Rattle.store_keep.specs.declared.opening.Opened.{Opened}
+use Rattle.program_host.specs.Lending.{Lends, Lent, back_of}
+use Rattle.program_host.specs.Requests.{Requested}
+use Rattle.program_host.specs.declared.host.Host.{Ghosts as HostWords}
+use Rattle.program_host.specs.declared.requests.Request.{Request}
+use Rattle.program_host.specs.declared.status.Status.{Status}
+use Rattle.program_host.specs.declared.status.Status.TheVariants.{Done, HostFault, NoMemory, Strayed}
 use Rattle.searchd_top.specs.Deeds.{Deeds}
-use Rattle.searchd_top.specs.Lending.{Lends, Lent, back_of}
 use Rattle.searchd_top.specs.Plans.{Plan}
-use Rattle.searchd_top.specs.Requests.{Requested, door_requests, store_requests}
+use Rattle.searchd_top.specs.Requests.{door_requests, store_requests}
 use Rattle.searchd_top.specs.Sessions.{AreIdle, HaveWorked, unless_decided}
-use Rattle.searchd_top.specs.declared.host.Host.{Ghosts as HostWords}
-use Rattle.searchd_top.specs.declared.requests.Request.{Request}
-use Rattle.searchd_top.specs.declared.status.Status.{Status}
-use Rattle.searchd_top.specs.declared.status.Status.TheVariants.{Done, HostFault, NoMemory, Strayed}
 
 abbrev pub plan_of : Option (List ℕ) → ℕ → ℕ → Plan
 plan_of listen workers sessions = record { listen = listen; workers = workers; sessions = sessions }

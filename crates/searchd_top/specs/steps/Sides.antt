@@ -8,15 +8,15 @@ use Rattle.conf_text.specs.declared.size.TheConstants.{MAX_CONF_BYTES}
 use Rattle.index_conf.specs.Soundness.{IsSound}
 use Rattle.index_conf.specs.declared.conf.Conf.{Conf}
 use Rattle.index_conf.specs.declared.conf.IndexConf.{IndexConf}
-use Rattle.searchd_top.specs.Configuring.{AreReadOf}
+use Rattle.program_host.specs.Texts.{AreReadOf}
+use Rattle.program_host.specs.Requests.{Requested}
+use Rattle.program_host.specs.declared.host.Host.{Ghosts as HostWords}
+use Rattle.program_host.specs.declared.host.Stream.TheVariants.{Out}
+use Rattle.program_host.specs.declared.requests.Request.{Request}
+use Rattle.program_host.specs.declared.status.Status.{Status}
+use Rattle.program_host.specs.declared.status.Status.TheVariants.{Done, Usage, Config, HostFault, Damaged, NoMemory, Strayed}
 use Rattle.searchd_top.specs.Deeds.{Deeds, Does}
 use Rattle.searchd_top.specs.Output.{SaysLines}
-use Rattle.searchd_top.specs.Requests.{Requested}
-use Rattle.searchd_top.specs.declared.host.Host.{Ghosts as HostWords}
-use Rattle.searchd_top.specs.declared.host.Stream.TheVariants.{Out}
-use Rattle.searchd_top.specs.declared.requests.Request.{Request}
-use Rattle.searchd_top.specs.declared.status.Status.{Status}
-use Rattle.searchd_top.specs.declared.status.Status.TheVariants.{Done, Usage, Config, HostFault, Damaged, NoMemory, Strayed}
 
 -- No store and no door was given or handed back.
 pub record KeepsLent {H S D K : Type 0} (host : HostWords H S D K) (old new : H) : Type 0 where

@@ -1,8 +1,8 @@
 use Rattle.std.proofs.Common.{List, map, subst, sym}
 use Rattle.index_conf.specs.declared.conf.IndexConf.{IndexConf}
+use Rattle.program_host.specs.declared.status.Status.{Status}
 use Rattle.searchd_top.specs.Checks.{ChecksIndexes, check_lines}
 use Rattle.searchd_top.specs.Requests.{store_requests}
-use Rattle.searchd_top.specs.declared.status.Status.{Status}
 use Rattle.searchd_top.specs.steps.Openings.{holdings_of}
 use Rattle.searchd_top.specs.steps.Sides.{DoesBy, PrintsOut}
 use Rattle.searchd_top.proofs.Held.{checks_all, checks_stopped, opens_first, room_all, room_stopped, stops_from}

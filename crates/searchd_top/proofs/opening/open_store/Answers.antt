@@ -2,9 +2,9 @@ use Rattle.std.proofs.Common.{◌∷◌, ◌++◌, List, [], sym, ap, subst, ◌
 use Rattle.std.specs.Prelude.{Some}
 use Rattle.store_keep.proofs.Begun.{same_leaves}
 use Rattle.store_keep.specs.declared.opening.Opened.{Opened}
+use Rattle.program_host.specs.declared.status.Status.{Status}
+use Rattle.program_host.specs.declared.status.Status.TheVariants.{NoMemory}
 use Rattle.searchd_top.specs.Checks.{SaysUngiven}
-use Rattle.searchd_top.specs.declared.status.Status.{Status}
-use Rattle.searchd_top.specs.declared.status.Status.TheVariants.{NoMemory}
 use Rattle.searchd_top.specs.steps.Openings.{StopsOpening}
 use Rattle.searchd_top.proofs.Held.{opens_one, says_ungiven, says_unopened, stops_ungiven, stops_unopened}
 use Rattle.searchd_top.proofs.opening.open_store.Goals as goal

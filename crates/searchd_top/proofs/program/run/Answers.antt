@@ -2,8 +2,8 @@ use Rattle.std.proofs.Common.{◌≡◌, ℕ, List, map, string_bytes, sym, subs
 use Rattle.std.specs.Prelude.{Option, Some, None}
 use Rattle.command_line.specs.Modes.{Mode, check, mode, selftest, serve, session}
 use Rattle.command_line.specs.declared.mode.Mode.TheVariants.{Session, Serve, Check, Selftest}
+use Rattle.program_host.specs.declared.status.Status.TheVariants.{NoMemory}
 use Rattle.searchd_top.specs.Runs.{Runs}
-use Rattle.searchd_top.specs.declared.status.Status.TheVariants.{NoMemory}
 use Rattle.searchd_top.proofs.Running.{runs_none, runs_unread}
 use Rattle.searchd_top.proofs.Words.{mode_is, not_usage, serves_within}
 use Rattle.searchd_top.proofs.program.run.Goals as goal

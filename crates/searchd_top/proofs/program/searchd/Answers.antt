@@ -1,7 +1,7 @@
 use Rattle.std.proofs.Common.{map, string_bytes}
 use Rattle.command_line.specs.Modes.{mode}
-use Rattle.searchd_top.specs.Statuses.{line_of}
-use Rattle.searchd_top.specs.declared.host.Stream.TheVariants.{Err as Errors}
+use Rattle.program_host.specs.Statuses.{line_of}
+use Rattle.program_host.specs.declared.host.Stream.TheVariants.{Err as Errors}
 use Rattle.searchd_top.proofs.Running.{reported, runs_reported}
 use Rattle.searchd_top.proofs.program.searchd.Goals as goal
 

@@ -1,5 +1,5 @@
 use Rattle.std.proofs.Common.{rules, ◌≡◌, ◌∷◌, ◌++◌, [], ◌∙◌, ap, sym, map}
-use Rattle.searchd_top.specs.declared.status.Status.{Status}
+use Rattle.program_host.specs.declared.status.Status.{Status}
 use Rattle.searchd_top.specs.steps.Servings.{after_ends}
 use Rattle.searchd_top.proofs.ServedIndexes.{after_last_end}
 use Rattle.searchd_top.proofs.serving.+after_ends.Goals as goal

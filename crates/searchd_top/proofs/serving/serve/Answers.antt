@@ -1,10 +1,10 @@
 use Rattle.std.proofs.Common.{◌++◌, List, option_copied, subst, sym}
 use Rattle.index_conf.specs.declared.conf.IndexConf.{IndexConf}
 use Rattle.served_stores.specs.Stores.{AreStores}
+use Rattle.program_host.specs.declared.status.Status.{Status}
 use Rattle.searchd_top.specs.Plans.{Plan}
 use Rattle.searchd_top.specs.Requests.{door_requests, store_requests}
 use Rattle.searchd_top.specs.Sessions.{ServesIndexes}
-use Rattle.searchd_top.specs.declared.status.Status.{Status}
 use Rattle.searchd_top.specs.steps.Servings.{ServesOpened, plan_of}
 use Rattle.searchd_top.specs.steps.Sides.{DoesBy}
 use Rattle.searchd_top.proofs.Held.{opens_first, room_all, room_stopped, stops_from}

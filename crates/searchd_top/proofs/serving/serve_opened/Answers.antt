@@ -1,7 +1,7 @@
 use Rattle.std.proofs.Common.{List, ap, arith, length, length-append, option_copied, subst, sym}
 use Rattle.index_conf.specs.declared.conf.IndexConf.{IndexConf}
+use Rattle.program_host.specs.declared.status.Status.{Status}
 use Rattle.searchd_top.specs.Plans.{Plan}
-use Rattle.searchd_top.specs.declared.status.Status.{Status}
 use Rattle.searchd_top.specs.steps.Servings.{AreNames, ServesOpened, plan_of}
 use Rattle.searchd_top.proofs.ServedIndexes.{doors_long, ends_long, serves_all, serves_no_room, serves_refused, short_names}
 use Rattle.searchd_top.proofs.serving.serve_opened.Goals as goal

@@ -6,11 +6,11 @@ ghost use Rattle.srch_base.specs.Counts.{Rose};
 ghost use Rattle.store_keep.specs.Opens.{HidesNothing};
 ghost use Rattle.chunk_store.specs.contracts.memory_disk.MemoryDiskDisk.TheImpl as memory_words;
 ghost use Rattle.srch_base.specs.Memory.{one_more, lines_given};
-ghost use Rattle.searchd_top.specs.Configuring.{AreReadOf};
-ghost use Rattle.searchd_top.specs.Printing.{PrintsLine, CountsPrint, other};
-ghost use Rattle.searchd_top.specs.Lending.{IsWithin, CountsOpening, says_failed};
-ghost use Rattle.searchd_top.specs.Requests.{Requested};
-ghost use Rattle.searchd_top.specs.HostMemory.{host_over, text_of, printed_to, with_printed, with_print_fault, print_faults_of, printed_of, doors_of, fails_next, gives_none, opens_none, reads_none, store_at, store_place, stores_without, after_print, after_doors, after_read, after_store};
+ghost use Rattle.program_host.specs.Texts.{AreReadOf};
+ghost use Rattle.program_host.specs.Printing.{PrintsLine, CountsPrint, other};
+ghost use Rattle.program_host.specs.Lending.{IsWithin, CountsOpening, says_failed};
+ghost use Rattle.program_host.specs.Requests.{Requested};
+ghost use Rattle.program_host.specs.HostMemory.{host_over, text_of, printed_to, with_printed, with_print_fault, print_faults_of, printed_of, doors_of, fails_next, gives_none, opens_none, reads_none, store_at, store_place, stores_without, after_print, after_doors, after_read, after_store};
 
 use crate::{Host, Request, Requests, Stream};
 use chunk_store::MemoryDisk;
@@ -53,7 +53,7 @@ impl Model for MemoryHost {
     ghost use Rattle.chunk_store.specs.contracts.memory_disk.MemoryDiskDisk.TheImpl as memory_words;
     ghost use Rattle.std.specs.Coded.{codes};
     ghost use Rattle.chunk_store.specs.contracts.memory_disk.MemoryDisk as disk;
-    ghost use Rattle.searchd_top.specs.HostMemory.{HostMemory};
+    ghost use Rattle.program_host.specs.HostMemory.{HostMemory};
 
     ghost Value = { HostMemory };
 

@@ -3,12 +3,12 @@
 ghost use Rattle.std.specs.Prelude.{◌≡◌, ◌+◌, ◌≤◌, ◌++◌, [], ◌∷◌, ℕ, List, Option, length, option_copied, IfOk, MatchResult};
 ghost use Rattle.std.specs.List.{All};
 ghost use Rattle.store_keep.specs.Opens.{HidesNothing};
-ghost use Rattle.searchd_top.specs.declared.host.Stream.{Stream};
-ghost use Rattle.searchd_top.specs.declared.requests.Request.{Request};
-ghost use Rattle.searchd_top.specs.Configuring.{AreReadOf};
-ghost use Rattle.searchd_top.specs.Printing.{PrintsLine, CountsPrint};
-ghost use Rattle.searchd_top.specs.Lending.{IsWithin, CountsOpening};
-ghost use Rattle.searchd_top.specs.Requests.{Requested};
+ghost use Rattle.program_host.specs.declared.host.Stream.{Stream};
+ghost use Rattle.program_host.specs.declared.requests.Request.{Request};
+ghost use Rattle.program_host.specs.Texts.{AreReadOf};
+ghost use Rattle.program_host.specs.Printing.{PrintsLine, CountsPrint};
+ghost use Rattle.program_host.specs.Lending.{IsWithin, CountsOpening};
+ghost use Rattle.program_host.specs.Requests.{Requested};
 
 use crate::Request;
 use chunk_store::Disk;

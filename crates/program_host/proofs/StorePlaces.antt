@@ -8,7 +8,7 @@ use Rattle.std.proofs.lemmas.List.Folds.{find_at}
 use Rattle.std.proofs.lemmas.List.Quantifiers.{position-Some}
 use Rattle.std.proofs.lemmas.Option.{slice_get-get_or}
 use Rattle.chunk_store.specs.declared.memory_disk.MemoryDisk.{MemoryDisk}
-use Rattle.searchd_top.specs.HostMemory.{store_at, store_place, stores_without}
+use Rattle.program_host.specs.HostMemory.{store_at, store_place, stores_without}
 
 -- what stands at the first place at which a test passes is what is found
 found_at : {X : Type 0} (p : X → Bool) (xs : List X) (place : ℕ) (d : X) → position p xs ≡ Some place → find p xs ≡ Some (get_or xs place d)

@@ -2,8 +2,8 @@
 //! memory can be reported without memory.
 ghost use Rattle.std.specs.Prelude.{◌≡◌, ◌+◌, ◌≤◌, ◌++◌, codes, length};
 ghost use Rattle.doc_types.specs.declared.schema.TheConstants.{MAX_NAME_BYTES};
-ghost use Rattle.searchd_top.specs.Statuses.{NamesIndex, code_of, line_of, strayed_line};
-ghost use Rattle.searchd_top.specs.steps.Lines.{beginning_of};
+ghost use Rattle.program_host.specs.Statuses.{NamesIndex, code_of, line_of, strayed_line};
+ghost use Rattle.program_host.specs.steps.Lines.{beginning_of};
 
 use arrayvec::ArrayVec;
 use commit_outcomes::Strayed;
@@ -146,7 +146,7 @@ fn put_strayed(line: &mut ArrayVec<u8, MAX_LINE_BYTES>, index: &Name)
 }
 
 impl From<OpenFault> for Status {
-    ghost use Rattle.searchd_top.specs.Statuses.{status_of};
+    ghost use Rattle.program_host.specs.Statuses.{status_of};
 
     ghost from_gives = { λ fault status. status ≡ status_of fault };
 

@@ -5,8 +5,8 @@ use Rattle.doc_types.specs.declared.schema.TheConstants.{MAX_NAME_BYTES}
 use Rattle.srch_base.specs.declared.faults.OpenFault.{OpenFault}
 use Rattle.srch_base.specs.declared.faults.OpenFault.TheVariants as opening
 use Rattle.store_steps.specs.DamageTexts.{damage_text}
-use Rattle.searchd_top.specs.declared.status.Status.{Status}
-use Rattle.searchd_top.specs.declared.status.Status.TheVariants.{Done, Usage, Config, HostFault, Damaged, NoMemory, Strayed}
+use Rattle.program_host.specs.declared.status.Status.{Status}
+use Rattle.program_host.specs.declared.status.Status.TheVariants.{Done, Usage, Config, HostFault, Damaged, NoMemory, Strayed}
 
 -- a line of text, with the LF at its end
 abbrev pub line : List ℕ → List ℕ

@@ -2,9 +2,9 @@
 use Rattle.std.proofs.Common.{◌≡◌, ◌<◌, ◌∷◌, ◌++◌, [], ℕ, List, codes, decimal, refl, arith, length, length-append}
 use Rattle.conf_text.specs.FaultTexts.{kind_text}
 use Rattle.store_steps.specs.DamageTexts.{damage_text}
-use Rattle.searchd_top.specs.Statuses.{line, line_of}
-use Rattle.searchd_top.specs.declared.status.Status.{Status}
-use Rattle.searchd_top.specs.declared.status.Status.TheVariants.{Done, Usage, Config, HostFault, Damaged, NoMemory, Strayed}
+use Rattle.program_host.specs.Statuses.{line, line_of}
+use Rattle.program_host.specs.declared.status.Status.{Status}
+use Rattle.program_host.specs.declared.status.Status.TheVariants.{Done, Usage, Config, HostFault, Damaged, NoMemory, Strayed}
 
 ended : (text : List ℕ) → 0 < length (line text)
 ended text = omega (arith, length-append text (10 ∷ []))

@@ -1,7 +1,7 @@
 //! The requests to a host, in their order. A host keeps the list beside its work, so that a contract can say what a run
 //! asked for and what it didn't: which file, and whether a port was opened.
 ghost use Rattle.std.specs.Prelude.{◌≡◌, [], ◌∷◌, Some, None, option_copied, option_map, MatchResult};
-ghost use Rattle.searchd_top.specs.Requests.{Requested};
+ghost use Rattle.program_host.specs.Requests.{Requested};
 
 use srch_base::{NoMemory, Text};
 use std::alloc::Global;
@@ -27,7 +27,7 @@ pub struct Requests {
 
 impl Model for Requests {
     ghost use Rattle.std.specs.Prelude.{List, Option, option_map};
-    ghost use Rattle.searchd_top.specs.declared.requests.Request.{Request};
+    ghost use Rattle.program_host.specs.declared.requests.Request.{Request};
 
     ghost Value = { Option (List Request) };
 

@@ -3,8 +3,8 @@ use Rattle.std.specs.Prelude.{◌≡◌, ◌⊎◌, ℕ, ◌<◌, ◌≤◌, Lis
 use Rattle.std.specs.Io.{StartsWith}
 use Rattle.srch_base.specs.Counts.{Rose}
 use Rattle.srch_base.specs.Told.{then_bytes}
-use Rattle.searchd_top.specs.declared.host.Stream.{Stream}
-use Rattle.searchd_top.specs.declared.host.Stream.TheVariants.{Out, Err as Errors}
+use Rattle.program_host.specs.declared.host.Stream.{Stream}
+use Rattle.program_host.specs.declared.host.Stream.TheVariants.{Out, Err as Errors}
 
 -- the bytes of a print that a stream gets: all of its own, none of the other's
 abbrev pub bytes_on : Stream → List ℕ → Stream → List ℕ

@@ -1,11 +1,11 @@
 use Rattle.std.proofs.Common.{rules, ◌≡◌, ◌∙◌, ◌<◌, ℕ, List, All, ap, arith, get_or, length, sym, subst}
 use Rattle.std.specs.Prelude.{Some}
 use Rattle.chunk_store.specs.declared.memory_disk.MemoryDisk.{MemoryDisk}
-use Rattle.searchd_top.specs.HostMemory.{HostMemory}
+use Rattle.program_host.specs.HostMemory.{HostMemory}
 use Rattle.chunk_store.specs.contracts.memory_disk.MemoryDiskDisk.TheImpl as memory_words
 use Rattle.store_keep.specs.Opens.{HidesNothing}
-use Rattle.searchd_top.proofs.StorePlaces.{left_have, taken_at, taken_none}
-use Rattle.searchd_top.proofs.memory_host.MemoryHost.take_store.Goals as goal
+use Rattle.program_host.proofs.StorePlaces.{left_have, taken_at, taken_none}
+use Rattle.program_host.proofs.memory_host.MemoryHost.take_store.Goals as goal
 
 pub returns-in-Some-clause-taken : goal.returns-in-Some-clause-taken
 returns-in-Some-clause-taken c =

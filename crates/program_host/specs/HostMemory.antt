@@ -7,10 +7,10 @@ use Rattle.srch_base.specs.Memory.{Lines, one_more}
 use Rattle.chunk_store.specs.declared.memory_disk.MemoryDisk.{MemoryDisk}
 use Rattle.srch_base.specs.declared.faults.OpenFault.{OpenFault}
 use Rattle.srch_base.specs.declared.faults.OpenFault.TheVariants as opening
-use Rattle.searchd_top.specs.Printing.{of_stream}
-use Rattle.searchd_top.specs.declared.requests.Request.{Request}
-use Rattle.searchd_top.specs.declared.host.Stream.{Stream}
-use Rattle.searchd_top.specs.declared.host.Stream.TheVariants as streams
+use Rattle.program_host.specs.Printing.{of_stream}
+use Rattle.program_host.specs.declared.requests.Request.{Request}
+use Rattle.program_host.specs.declared.host.Stream.{Stream}
+use Rattle.program_host.specs.declared.host.Stream.TheVariants as streams
 
 -- A host over memory.
 pub record HostMemory : Type 0 where

@@ -1,8 +1,8 @@
 -- How the line of a status is put together.
 use Rattle.std.specs.Prelude.{ℕ, List, codes}
-use Rattle.searchd_top.specs.Statuses.{line_of}
-use Rattle.searchd_top.specs.declared.status.Status.{Status}
-use Rattle.searchd_top.specs.declared.status.Status.TheVariants.{Config, Damaged, Strayed}
+use Rattle.program_host.specs.Statuses.{line_of}
+use Rattle.program_host.specs.declared.status.Status.{Status}
+use Rattle.program_host.specs.declared.status.Status.TheVariants.{Config, Damaged, Strayed}
 
 -- the line, or what stands before the place of a configuration's fault or before the name of an index
 abbrev pub beginning_of : Status → List ℕ

@@ -3,7 +3,7 @@ use Rattle.std.proofs.Common.{◌≡◌, List, [], ◌∷◌, refl, arith}
 use Rattle.std.specs.List.{All, AllZip}
 use Rattle.std.proofs.lemmas.List.Elements.{All-cons}
 use Rattle.srch_base.specs.Memory.{Lines, lines_given}
-use Rattle.searchd_top.specs.Lending.{IsWithin}
+use Rattle.program_host.specs.Lending.{IsWithin}
 
 abbrev pub IsLent : Lines → Type 0
 IsLent = IsWithin (λ (door : Lines). door.returned) lines_given

@@ -2,9 +2,9 @@ use Rattle.std.proofs.Common.{◌≡◌, ◌+◌, ◌-◌, ℕ, List, take, drop
 use Rattle.std.proofs.Math.Seq.{take-add}
 use Rattle.std.specs.List.{All}
 use Rattle.srch_base.specs.Memory.{Lines}
-use Rattle.searchd_top.specs.HostMemory.{HostMemory}
-use Rattle.searchd_top.proofs.Copies.{copies_same, copies_lent, IsLent}
-use Rattle.searchd_top.proofs.memory_host.MemoryHostHost.doors.Goals as goal
+use Rattle.program_host.specs.HostMemory.{HostMemory}
+use Rattle.program_host.proofs.Copies.{copies_same, copies_lent, IsLent}
+use Rattle.program_host.proofs.memory_host.MemoryHostHost.doors.Goals as goal
 
 pub returns-clause-within : goal.returns-clause-within
 returns-clause-within c =

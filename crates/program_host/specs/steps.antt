@@ -1,0 +1,2 @@
+-- how the line of a status is put together
+pub mod Lines
