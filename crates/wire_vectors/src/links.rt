@@ -1,72 +1,60 @@
 //! Links and doors over memory: the pieces in which a link gives its input, the calls that fail, and the lines that come
 //! back to a door. All values are worked out by hand.
-use crate::telling::try_told;
 use srch_base::{Door, Failed, Link, ListDoor, MemoryLink};
 use std::alloc::Global;
-use std::test::Fail;
 
-/// The pieces of a link over `abcdef`, its calls that fail, the room of each read, how many reads there are, and what they
-/// give: the bytes or `failed`, with `|` after each read.
-const READS: [(&[u32], &[u32], usize, usize, &str); 6] = [
-    (&[], &[], 10, 3, "abcdef|||"),
-    (&[2, 0, 3], &[], 10, 4, "ab|cde|f||"),
-    (&[4], &[], 3, 4, "abc|d|ef||"),
-    (&[9], &[], 4, 3, "abcd|ef||"),
-    (&[0, 3], &[1, 3], 10, 5, "failed|abc|failed|def||"),
-    (&[], &[2], 0, 3, "|failed||"),
+/// The pieces of a link over `abcdef`, its calls that fail, the room of each read, and what the reads give, one after the other:
+/// the bytes or `failed`, with `|` between them.
+const READS: [(&[u32], &[u32], usize, &str); 6] = [
+    (&[], &[], 10, "abcdef||"),
+    (&[2, 0, 3], &[], 10, "ab|cde|f|"),
+    (&[4], &[], 3, "abc|d|ef|"),
+    (&[9], &[], 4, "abcd|ef|"),
+    (&[0, 3], &[1, 3], 10, "failed|abc|failed|def|"),
+    (&[], &[2], 0, "|failed|"),
 ];
 
-/// What one read gives.
-fn read<'a>(link: &mut MemoryLink, into: &'a mut [u8]) -> Result<&'a [u8], Fail> {
-    match link.read(into) {
-        Ok(count) => Ok(into.get(..count).ok_or("too many")?),
-        Err(Failed) => Ok(b"failed"),
-    }
-}
-
-/// What so many reads give.
-fn reads(
-    alloc: Global,
-    link: &mut MemoryLink,
-    into: &mut [u8],
-    count: usize,
-) -> Result<Vec<u8>, Fail> {
-    let mut given = Vec::new(alloc);
-    for _ in 0..count {
-        given.extend_from_slice(read(link, into)?)?;
-        given.push(b'|')?;
-    }
-    Ok(given)
-}
-
 /// The link of a row.
-fn link_of(alloc: Global, cuts: &[u32], failing: &[u32]) -> Result<MemoryLink, Fail> {
-    let input = Vec::from_slice(alloc, b"abcdef")?;
-    let cuts = Vec::from_slice(alloc, cuts)?;
-    let failing = Vec::from_slice(alloc, failing)?;
-    Ok(MemoryLink::new(alloc, input, cuts, failing))
+fn link_of(alloc: Global, cuts: &[u32], failing: &[u32]) -> Option<MemoryLink> {
+    let input = Vec::from_slice(alloc, b"abcdef").ok()?;
+    let cuts = Vec::from_slice(alloc, cuts).ok()?;
+    let failing = Vec::from_slice(alloc, failing).ok()?;
+    Some(MemoryLink::new(alloc, input, cuts, failing))
 }
 
-/// What so many reads of the link of a row give, into so much room.
-fn reads_of(
-    alloc: Global,
-    (cuts, failing): (&[u32], &[u32]),
-    room: usize,
-    count: usize,
-) -> Result<Vec<u8>, Fail> {
-    let mut link = link_of(alloc, cuts, failing)?;
+/// Whether one read into so much room gives that.
+fn gives(link: &mut MemoryLink, room: usize, wanted: &str) -> Option<bool> {
     let mut buffer = [0; 16];
-    let into = buffer.get_mut(..room).ok_or("no such room")?;
-    reads(alloc, &mut link, into, count)
+    let into = buffer.get_mut(..room)?;
+    match link.read(into) {
+        Ok(count) => Some(into.get(..count)? == wanted.as_bytes()),
+        Err(Failed) => Some(wanted == "failed"),
+    }
+}
+
+/// Whether the reads into so much room give that, one after the other.
+fn reads(link: &mut MemoryLink, room: usize, wanted: &str) -> Option<bool> {
+    for piece in wanted.split('|') {
+        if !gives(link, room, piece)? {
+            return Some(false);
+        }
+    }
+    Some(true)
+}
+
+/// Whether the link of each row gives what the row wants.
+fn all_read(alloc: Global) -> Option<bool> {
+    for (cuts, failing, room, wanted) in READS {
+        if !reads(&mut link_of(alloc, cuts, failing)?, room, wanted)? {
+            return Some(false);
+        }
+    }
+    Some(true)
 }
 
 #[test]
-fn a_memory_link_reads_in_its_pieces(rt: HostRuntime) -> Result<(), Fail> {
-    for (cuts, failing, room, count, wants) in READS {
-        let given = reads_of(rt.alloc(), (cuts, failing), room, count)?;
-        try_told("reads", str::from_utf8(&given)?, wants)?;
-    }
-    Ok(())
+fn a_memory_link_reads_in_its_pieces(rt: HostRuntime) {
+    assert!(rt; all_read(rt.alloc()) == Some(true));
 }
 
 /// Writes to a link whose second call fails, and what each gives.
@@ -78,42 +66,43 @@ const WRITES: [(&[u8], Result<usize, Failed>); 4] = [
 ];
 
 /// Whether a link gives that, and has what was written, as its copy has.
-fn takes(link: &mut MemoryLink) -> Result<bool, Fail> {
+fn takes(link: &mut MemoryLink) -> Option<bool> {
     for (bytes, wanted) in WRITES {
         if link.write(bytes) != wanted {
-            return Ok(false);
+            return Some(false);
         }
     }
     let written = b"abe".as_slice();
-    Ok(link.written() == written && link.clone()?.written() == written)
-}
-
-#[test]
-fn a_memory_link_takes_what_is_written(rt: HostRuntime) -> Result<(), Fail> {
-    assert!(rt; takes(&mut link_of(rt.alloc(), &[], &[2])?)?);
-    Ok(())
+    Some(link.written() == written && link.clone().ok()?.written() == written)
 }
 
 /// A door of one line, which it gave and has back with a word written.
-fn door_after_bye(alloc: Global) -> Result<ListDoor, Fail> {
+fn door_after_bye(alloc: Global) -> Option<ListDoor> {
     let mut lines = Vec::new(alloc);
-    lines.push(link_of(alloc, &[], &[])?)?;
-    let mut door = ListDoor::new(alloc, lines)?;
-    let mut line = door.next()?.ok_or("no line")?;
-    line.write(b"bye")?;
+    lines.push(link_of(alloc, &[], &[])?).ok()?;
+    let mut door = ListDoor::new(alloc, lines).ok()?;
+    let Ok(Some(mut line)) = door.next() else {
+        return None;
+    };
+    line.write(b"bye").ok()?;
     door.done(line);
-    Ok(door)
+    Some(door)
 }
 
 /// Whether a door gives no further line, and has one back with what was written.
-fn has_one_line(door: &mut ListDoor) -> Result<bool, Fail> {
-    let is_last = door.next()?.is_none();
-    let returned = door.returned().first().ok_or("nothing came back")?;
-    Ok(is_last && returned.written() == b"bye".as_slice())
+fn has_one_line(door: &mut ListDoor) -> Option<bool> {
+    let is_last = door.next().ok()?.is_none();
+    let returned = door.returned().first()?;
+    Some(is_last && returned.written() == b"bye".as_slice())
+}
+
+/// Whether that link takes what is written, and that door has its line back.
+fn all_written(alloc: Global) -> Option<bool> {
+    let takes = takes(&mut link_of(alloc, &[], &[2])?)?;
+    Some(takes && has_one_line(&mut door_after_bye(alloc)?)?)
 }
 
 #[test]
-fn a_list_door_gives_its_lines(rt: HostRuntime) -> Result<(), Fail> {
-    assert!(rt; has_one_line(&mut door_after_bye(rt.alloc())?)?);
-    Ok(())
+fn links_take_what_is_written_and_come_back(rt: HostRuntime) {
+    assert!(rt; all_written(rt.alloc()) == Some(true));
 }
