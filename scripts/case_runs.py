@@ -5,8 +5,9 @@
 
 Each script of packets runs over new indexes in an empty folder, which is removed afterwards (`case_sessions`); four run side
 by side. What is sent and what is wanted stands in docs/cases alone: in statements.md, selects.md, transactions.md and
-groups.md word for word (`case_pages`), and from evaluation.md it is worked out, which documents a query finds and what each
-ranker weighs them (`evaluation_runs`). `replies` tells the bytes of a reply as the pages write it.
+groups.md word for word (`case_pages`). From evaluation.md it is worked out which documents a query finds and what each ranker
+weighs them (`evaluation_runs`), and from extended_queries.md which documents a text finds by its tree (`query_runs`). `replies` tells
+the bytes of a reply as the pages write it.
 
 A case is a text or a SELECT by itself, a script, a line that is cut at some place, or a query. Each packet with another reply
 than is wanted is printed with its page and line. The last line is `case_runs: N cases, M wrong`, and the status is 0 where
@@ -20,9 +21,12 @@ from concurrent.futures import ThreadPoolExecutor
 from case_pages import USUAL_CONFIGURATION, Page
 from case_sessions import LONGEST, Program, cuts, run_line, run_script
 from evaluation_runs import EvaluationPage
+from query_runs import QueriesPage
 
 # How many cases each page has at least, so that it is noticed where some are no longer read.
-PAGES = {"statements": 310, "selects": 788, "transactions": 155, "groups": 61, "evaluation": 617}
+PAGES = {"statements": 315, "selects": 788, "transactions": 155, "groups": 68, "evaluation": 617, "extended_queries": 1044}
+# Pages of which is worked out what is sent and wanted.
+WORKED_OUT = {"evaluation": EvaluationPage, "extended_queries": QueriesPage}
 SIDE_BY_SIDE = 4
 # Of so many wrong packets of a page each is printed.
 PRINTED = 40
@@ -41,7 +45,7 @@ def jobs_of(page, program):
 
 def run_page(name, program, pool):
     """Runs the cases of a page, prints what is wrong, and gives how many ran, how many are wrong, and whether all is well."""
-    page = EvaluationPage() if name == "evaluation" else Page(name)
+    page = WORKED_OUT[name]() if name in WORKED_OUT else Page(name)
     jobs = list(jobs_of(page, program))
     wrong = [some for found in pool.map(lambda job: job[2](), jobs) for some in found]
     for some in wrong[:PRINTED]:

@@ -1,71 +1,109 @@
-"""Writes the texts of docs/cases/extended_queries.md as the constants that the tests of extended queries run over.
+"""Writes the texts of docs/cases/extended_queries.md that have trees as a constant that the test of the written form runs over.
 
-At the top of the repository: python3 scripts/query_cases.py [--check]
+What the texts find, and the faults of the others, `query_runs` asks the program. At the top of the repository:
+python3 scripts/query_cases.py [--check]
 """
 
 import re
 import sys
+from typing import NamedTuple
 
 from tables import constant, read, run
 
 DOCUMENT = "docs/cases/extended_queries.md"
 TABLE = "crates/query_vectors/src/cases.rt"
+# A text above so many bytes, or with a sign that has a name, is asked by its tree alone.
+LONGEST = 100
 
-HEAD = """//! The texts of docs/cases/extended_queries.md, as scripts/query_cases.py writes them: edit them there. A line `# S: T` says
-//! which index's schema the texts after it are read for, and by which character table. Each of them is followed by `⇒` and
-//! by what it is. `⟨x × n⟩` is x written n times.
+HEAD = """//! The trees of docs/cases/extended_queries.md, as scripts/query_cases.py writes them: edit them there. After `# ` stands by
+//! which character table texts are read, then the configuration of their index and an empty line. Each text is followed by `⇒`
+//! and by its tree. `⟨x × n⟩` is x written n times, `⟨tab⟩` a tab.
 """
+
+# The fields and the zones of the schemas.
+FIELDS = {
+    "rt": ["title", "content"],
+    "pages": ["title", "content"],
+    "one": ["title"],
+    "wide": [f"f{number}" for number in range(32)],
+    "long": ["n" * 64, "title"],
+}
+ZONES = {"pages": ["th", "td", "x-a:b_1"], "long": ["z" * 64]}
+
+
+class Row(NamedTuple):
+    """A text with what it is."""
+
+    place: str
+    schema: str
+    table: str  # a character table, or `default`
+    text: str
+    tree: str  # None where it has a fault
+    fault: str  # what a session says of it, or None
+    keywords: list  # each with its query position, where the page tells them
 
 
 def cell(written):
-    """The text of a cell."""
+    """The text of a cell, None where it is no text."""
     if written in ("(empty)", "none"):
         return ""
     inside = re.fullmatch(r"`` (.*) ``", written)
     return inside.group(1).replace("\\|", "|") if inside else None
 
 
-def told(written):
-    """What a text is, as the tests tell it: a tree, or what a session says of its fault."""
-    text = cell(written)
-    if text is not None:
-        return text
+def fault(written):
+    """What a session says of a fault."""
     kind, place, name = re.fullmatch(r"([A-Za-z0-9 ]+) at (\d+)(?: `(.*)`)?", written).groups()
     return f"query: {kind} '{name}' at {place}" if name else f"query: {kind} at {place}"
 
 
 def rows(document):
-    """Each text with the setting that it is read by, what it is, and whether that is a list of query positions."""
+    """The texts of the page."""
     setting = None
-    for line in document.split("\n"):
+    for number, line in enumerate(document.split("\n"), 1):
         head = re.match(r"Schema `(\w+)`[;,] (?:table `` (.*) ``|.*default)", line)
         if head:
-            setting = f"# {head.group(1)}: {head.group(2) or 'default'}"
-            numbers = "query position" in line
+            setting = head[1], head[2] or "default"
+            has_keywords = "query position" in line
         row = re.fullmatch(r"\| (\(empty\)|``.*?``(?=(?: \|)* \| )) \| (.*) \|", line)
         if row and setting:
             text, meant = row.groups()
-            yield setting, cell(text), meant if numbers and meant != "none" else told(meant), numbers
+            meant, keywords = meant.rsplit(" | ", 1) if has_keywords else (meant, None)
+            named = keywords and [] if keywords == "none" else keywords and keywords.split(" ")
+            tree = cell(meant)
+            told = fault(meant) if tree is None else None
+            yield Row(f"{DOCUMENT}:{number}", *setting, cell(text), tree, told, named)
 
 
-def section_lines(cases):
-    """The lines of a constant, with a line of its own where the setting changes."""
-    before = None
-    for setting, text, meant in cases:
-        if setting != before:
-            yield setting
-        before = setting
-        yield f"{text} ⇒ {meant}"
+def asked(row):
+    """The text by which the test asks for a tree."""
+    is_plain = len(row.text.encode()) <= LONGEST and not re.search("⟨(?:LF|CR)⟩|× 10000⟩", row.text)
+    return row.text if is_plain else row.tree
+
+
+def configuration(schema):
+    """The lines of the configuration of an index."""
+    lines = ["type = rt", "path = a", *(f"rt_field = {field}" for field in FIELDS[schema])]
+    lines += ["html_strip = 1", f"index_zones = {', '.join(ZONES[schema])}"] if schema in ZONES else []
+    return [f"index {schema} {{", *lines, "}"]
+
+
+def lines(found):
+    """The lines of the constant, each once below the setting that it is read by."""
+    before, known = None, set()
+    for row in found:
+        if (row.schema, row.table) != before:
+            yield from [f"# {row.table}", *configuration(row.schema), ""]
+        before = row.schema, row.table
+        line = f"{asked(row)} ⇒ {row.tree}"
+        if (before, line) not in known:
+            yield line
+        known.add((before, line))
 
 
 def made():
-    found = list(rows(read(DOCUMENT)))
-    trees = [(setting, text, meant) for setting, text, meant, numbers in found if not numbers]
-    numbers = [(setting, text, meant) for setting, text, meant, numbers in found if numbers]
-    yield TABLE, HEAD + "\n" + "\n".join([
-        constant("Texts with their trees or their faults.", "TREES", section_lines(trees)),
-        constant("Texts with their keywords, each followed by its query position.", "NUMBERS", section_lines(numbers)),
-    ])
+    found = [row for row in rows(read(DOCUMENT)) if row.tree is not None]
+    yield TABLE, HEAD + "\n" + constant("Texts with their trees.", "TREES", lines(found))
 
 
 if __name__ == "__main__":

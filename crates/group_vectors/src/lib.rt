@@ -1,4 +1,4 @@
-//! Tests by tables worked out by hand over groups, which of them are shown, and facets.
+//! Tests of groups and facets that no statement asks for.
 #![tactic(auto)]
 
 #[cfg(test)]
@@ -6,10 +6,6 @@ mod facets;
 #[cfg(test)]
 mod groups;
 #[cfg(test)]
-mod passes;
-#[cfg(test)]
 mod rows;
 #[cfg(test)]
 mod shown;
-#[cfg(test)]
-mod tables;

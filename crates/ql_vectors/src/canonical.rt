@@ -38,7 +38,7 @@ select @@a.b limit 007 ⇒ SELECT @@a.b LIMIT 7
 insert into rt values (1,'a',-2) ⇒ INSERT INTO `rt` VALUES ( 1 , 'a' , - 2 )
 replace into rt(Id,title) values(1,'\'\\\"') ⇒ REPLACE INTO `rt` ( `id` , `title` ) VALUES ( 1 , '\'\\"' )
 insert into rt (a) values ('Привет, мир'),("") ⇒ INSERT INTO `rt` ( `a` ) VALUES ( 'Привет, мир' ) , ( '' )
-insert into rt values ('a\nb\tc') ⇒ INSERT INTO `rt` VALUES ( 'a⟨LF⟩b⟨tab⟩c' )
+insert into rt values ('a\nb\tc') ⇒ INSERT INTO `rt` VALUES ( 'a⟨0a⟩b⟨09⟩c' )
 select * from rt ⇒ SELECT * FROM `rt`
 select a b, c as D from rt ⇒ SELECT `a` AS `b` , `c` AS `d` FROM `rt`
 select count(*), COUNT(distinct a), min(a), max(a), sum(a), weight(), groupby() from rt ⇒ SELECT COUNT ( * ) , COUNT ( DISTINCT `a` ) , MIN ( `a` ) , MAX ( `a` ) , SUM ( `a` ) , WEIGHT ( ) , GROUPBY ( ) FROM `rt`

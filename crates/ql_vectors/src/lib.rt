@@ -4,20 +4,12 @@
 #[cfg(test)]
 mod canonical;
 #[cfg(test)]
-mod faults;
-#[cfg(test)]
-mod lexed;
-#[cfg(test)]
-mod lexing_faults;
-#[cfg(test)]
 mod packets;
-#[cfg(test)]
-mod reading;
 #[cfg(test)]
 mod spelling;
 #[cfg(test)]
-mod tables;
+mod statements;
 #[cfg(test)]
 mod token_values;
 #[cfg(test)]
-mod values;
+mod tokens;

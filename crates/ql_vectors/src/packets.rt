@@ -16,7 +16,7 @@ select `select`, `From` from `where` ⇒ SELECT `select` , `from` FROM `where`
 select database from rt ⇒ SELECT `database` FROM `rt`
 select database, id from database ⇒ SELECT `database` , `id` FROM `database`
 select database d from rt ⇒ SELECT `database` AS `d` FROM `rt`
-select/**/a/* b */from⟨CR⟩⟨LF⟩rt /* c */ ⇒ SELECT `a` FROM `rt`
+select/**/a/* b */from⟨0d⟩⟨0a⟩rt /* c */ ⇒ SELECT `a` FROM `rt`
 select a from rt where match('Привет "мир"') ⇒ SELECT `a` FROM `rt` WHERE MATCH ( 'Привет "мир"' )
 select a from rt where match("it's") ⇒ SELECT `a` FROM `rt` WHERE MATCH ( 'it\'s' )
 select a from rt where a <> -1 and b != 2 ⇒ SELECT `a` FROM `rt` WHERE `a` != - 1 AND `b` != 2
@@ -47,7 +47,7 @@ select database(); ⇒ SELECT DATABASE ( )
 insert into rt values (1) ⇒ INSERT INTO `rt` VALUES ( 1 )
 insert into rt (id) values (1), (-2), ('') ⇒ INSERT INTO `rt` ( `id` ) VALUES ( 1 ) , ( - 2 ) , ( '' )
 replace into replace (set, show) values ('a\\b', 007) ⇒ REPLACE INTO `replace` ( `set` , `show` ) VALUES ( 'a\\b' , 7 )
-insert into rt values ('\n\t\0\x') ⇒ INSERT INTO `rt` VALUES ( '⟨LF⟩⟨tab⟩⟨x00⟩x' )
+insert into rt values ('\n\t\0\x') ⇒ INSERT INTO `rt` VALUES ( '⟨0a⟩⟨09⟩⟨00⟩x' )
 delete from rt where id = 0 ⇒ DELETE FROM `rt` WHERE ID = 0
 delete from delete where ID in (1, 2) ⇒ DELETE FROM `delete` WHERE ID IN ( 1 , 2 )
 begin ⇒ BEGIN

@@ -2,11 +2,9 @@
 //! are worked out by hand from the rules.
 ghost use Rattle.ql_lex.specs.Shapes.{IsQuotedText};
 
-use crate::tables::{Telling, try_table};
 use ql_lex::TokenKind::{Name, Quoted, SysVar};
 use ql_lex::{Sign, Token, number_of, put_text, sign_of, token_name};
 use std::alloc::Global;
-use std::test::Fail;
 
 /// Whether a text token has this value, which is appended.
 fn has_value(alloc: Global, token: &[u8], value: &str) -> bool
@@ -64,58 +62,34 @@ fn gives_names(rt: HostRuntime) {
 }
 
 /// Some bytes, and the sign that they spell, if any.
-const SIGNS: &str = r#"
-( ⇒ open
-) ⇒ close
-, ⇒ comma
-; ⇒ semicolon
-* ⇒ star
-- ⇒ minus
-= ⇒ equal
-!= ⇒ not equal
-<> ⇒ not equal
-< ⇒ less
-> ⇒ greater
-<= ⇒ less or equal
->= ⇒ greater or equal
-! ⇒ none
-=> ⇒ none
- ⇒ none
-"#;
-
-fn sign_word(sign: Sign) -> &'static str {
-    match sign {
-        Sign::OpenParen => "open",
-        Sign::CloseParen => "close",
-        Sign::Comma => "comma",
-        Sign::Semicolon => "semicolon",
-        Sign::Star => "star",
-        Sign::Minus => "minus",
-        Sign::Equal => "equal",
-        Sign::NotEqual => "not equal",
-        Sign::Less => "less",
-        Sign::Greater => "greater",
-        Sign::LessOrEqual => "less or equal",
-        Sign::GreaterOrEqual => "greater or equal",
-    }
-}
-
-/// Appends the sign that bytes spell, or `none`.
-pub(crate) fn put_sign(bytes: &[u8], into: &mut String) -> Option<()> {
-    into.push_str(match sign_of(bytes) {
-        Some(sign) => sign_word(sign),
-        None => "none",
-    })
-    .ok()
-}
+const SIGNS: [(&[u8], Option<Sign>); 16] = [
+    (b"(", Some(Sign::OpenParen)),
+    (b")", Some(Sign::CloseParen)),
+    (b",", Some(Sign::Comma)),
+    (b";", Some(Sign::Semicolon)),
+    (b"*", Some(Sign::Star)),
+    (b"-", Some(Sign::Minus)),
+    (b"=", Some(Sign::Equal)),
+    (b"!=", Some(Sign::NotEqual)),
+    (b"<>", Some(Sign::NotEqual)),
+    (b"<", Some(Sign::Less)),
+    (b">", Some(Sign::Greater)),
+    (b"<=", Some(Sign::LessOrEqual)),
+    (b">=", Some(Sign::GreaterOrEqual)),
+    (b"!", None),
+    (b"=>", None),
+    (b"", None),
+];
 
 #[test]
-fn gives_numbers_and_signs(rt: HostRuntime) -> Result<(), Fail> {
+fn gives_numbers_and_signs(rt: HostRuntime) {
     let found = [
         number_of(b"0"),
         number_of(b"007"),
         number_of(b"18446744073709551615"),
     ];
     assert!(rt; found == [0, 7, u64::MAX]);
-    try_table(rt.alloc(), SIGNS, &Telling::Sign)
+    for (bytes, sign) in SIGNS {
+        assert!(rt; sign_of(bytes) == sign);
+    }
 }

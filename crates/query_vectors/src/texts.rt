@@ -1,163 +1,118 @@
-//! Runs over texts and what they are, as docs/cases/extended_queries.md tells them.
-ghost use Rattle.index_conf.specs.Soundness.{IsSound};
+//! The trees of docs/cases/extended_queries.md in their written form, and the call below `read_query` that it doesn't make itself.
 ghost use Rattle.doc_types.specs.Schemas.{IsSchema};
+ghost use Rattle.index_conf.specs.Soundness.{IsSound};
 
-use crate::cases::{NUMBERS, TREES};
-use crate::numbering::numbered;
-use crate::settings::{charset_of, conf_of};
-use crate::spelling::written_out;
+use crate::cases::TREES;
 use charset_map::Charset;
+use conf_text::read_conf;
 use doc_types::Schema;
-use ext_query::{Query, QueryFault, QueryKind, put_query, read_query};
+use ext_query::{put_query, read_query};
 use index_conf::Conf;
-use srch_base::Or;
+use query_pieces::pieces;
 use std::alloc::Global;
 use std::test::Fail;
 
-/// How a query is told.
-#[derive(Clone, Copy)]
-pub(crate) enum Telling {
-    /// By its written form.
-    Tree,
-    /// By its keywords with their query positions.
-    Numbers,
-}
+/// More than the longest text of a table.
+const MOST: usize = 1_000;
+/// More than the longest text of a query.
+const MOST_ASKED: usize = 100_000;
 
-/// What a session says of a fault.
-fn fault_text(alloc: Global, fault: &QueryFault) -> Option<String> {
-    let (kind, place) = (fault.kind, fault.place);
-    match kind {
-        QueryKind::UnknownField | QueryKind::UnknownZone => {
-            let name = std::str::from_utf8(fault.name.as_bytes()).ok()?;
-            format!(in alloc; "query: {kind} '{name}' at {place}").ok()
+/// A text in which `⟨x × n⟩` is x written n times and `⟨tab⟩` a tab, written out.
+fn written_out(alloc: Global, short: &str) -> Option<String> {
+    let mut text = String::new(alloc);
+    for part in short.split('⟨') {
+        let Some((spelled, after)) = part.split_once('⟩') else {
+            text.push_str(part).ok()?;
+            continue;
+        };
+        let (copied, count) = spelled.split_once(" × ").unwrap_or(("\t", "1"));
+        for _ in 0..count.parse::<u32>().ok()? {
+            text.push_str(copied).ok()?;
         }
-        _ => format!(in alloc; "query: {kind} at {place}").ok(),
+        text.push_str(after).ok()?;
     }
+    Some(text)
 }
 
-fn query_text(alloc: Global, query: &Query, schema: &Schema, telling: Telling) -> Option<String>
-    requires { IsSchema schema.now }
-{
-    match telling {
-        Telling::Tree => {
-            let mut bytes = Vec::new(alloc);
-            put_query(query, schema, &mut bytes).ok()?;
-            String::from_utf8(bytes).ok()
-        }
-        Telling::Numbers => numbered(alloc, query),
+/// The table that a text is, or the default one where the text is `default`.
+fn charset_of(alloc: Global, text: &str) -> Option<Charset> {
+    if text == "default" {
+        return Charset::default_table(alloc).ok();
     }
-}
-
-/// What a text is by a schema.
-fn told_by(
-    alloc: Global,
-    text: &str,
-    schema: &Schema,
-    charset: &Charset,
-    telling: Telling,
-) -> Option<String>
-    requires { IsSchema schema.now }
-{
-    if text.len() > 100_000_000 {
+    if text.len() > MOST {
         return None;
     }
-    match read_query(alloc, text, schema, charset) {
-        Ok(query) => query_text(alloc, &query, schema, telling),
-        Err(Or::Fault(fault)) => fault_text(alloc, &fault),
-        Err(Or::NoMemory) => None,
-    }
+    Charset::read(alloc, text).ok()
 }
 
-/// What a text is by the schema of the first index.
-pub(crate) fn told(
-    alloc: Global,
-    text: &str,
-    conf: &Conf,
-    charset: &Charset,
-    telling: Telling,
-) -> Option<String>
+/// Whether a text is read as a query of this written form.
+fn is_written(alloc: Global, text: &str, form: &str, schema: &Schema, charset: &Charset) -> bool
+    requires { IsSchema schema.now }
+{
+    if text.len() > MOST_ASKED {
+        return false;
+    }
+    let Ok(query) = read_query(alloc, text, schema, charset) else {
+        return false;
+    };
+    let mut bytes = Vec::new(alloc);
+    put_query(&query, schema, &mut bytes).is_ok() && bytes.as_slice() == form.as_bytes()
+}
+
+/// Whether the text of a line is read as a query of the form behind it.
+fn is_right(alloc: Global, line: &str, schema: &Schema, charset: &Charset) -> Option<bool>
+    requires { IsSchema schema.now }
+{
+    let (text, form) = line.split_once(" ⇒ ")?;
+    let (text, form) = (written_out(alloc, text)?, written_out(alloc, form)?);
+    Some(is_written(alloc, text.as_str(), form.as_str(), schema, charset))
+}
+
+/// The first line that isn't right, or the empty text.
+fn first_of<'t>(alloc: Global, lines: &'t str, schema: &Schema, charset: &Charset) -> &'t str
+    requires { IsSchema schema.now }
+{
+    for line in lines.lines() {
+        if is_right(alloc, line, schema, charset) != Some(true) {
+            return line;
+        }
+    }
+    ""
+}
+
+/// The same by the schema of the first index.
+fn first_by<'t>(alloc: Global, lines: &'t str, conf: &Conf, charset: &Charset) -> &'t str
     requires { IsSound conf.now }
 {
     match conf.indexes.as_slice().split_first() {
-        Some((index, _)) => told_by(alloc, text, &index.schema, charset, telling),
-        None => None,
+        Some((index, _)) => first_of(alloc, lines, &index.schema, charset),
+        None => "no index",
     }
 }
 
-/// What a text is that is written so.
-fn told_of(
-    alloc: Global,
-    short: &str,
-    conf: &Conf,
-    charset: &Charset,
-    telling: Telling,
-) -> Option<String>
-    requires { IsSound conf.now }
-{
-    let text = written_out(alloc, short)?;
-    told(alloc, text.as_str(), conf, charset, telling)
+/// The same below the lines that say by what texts are read.
+fn first_wrong(alloc: Global, section: &str) -> Option<&str> {
+    let (head, lines) = section.split_once("\n\n")?;
+    let (table, text) = head.split_once('\n')?;
+    let charset = charset_of(alloc, table)?;
+    let conf = read_conf(alloc, text.as_bytes()).ok()?;
+    Some(first_by(alloc, lines, &conf, &charset))
 }
 
-/// Whether a text, written out, is this one.
-fn is_written(alloc: Global, short: &str, found: &str) -> bool {
-    match written_out(alloc, short) {
-        Some(text) => text.as_str() == found,
-        None => false,
-    }
-}
-
-/// Fails with a text and with what it is, where this isn't what is wanted.
-fn compare(alloc: Global, short: &str, found: &str, wanted: &str) -> Result<(), Fail> {
-    if is_written(alloc, wanted, found) {
-        return Ok(());
-    }
-    Err(Fail::new(format_args!("{short} ⇒ {found}")))
-}
-
-/// Fails with the first of these lines whose text is something else, and with what it is.
-fn try_lines(
-    alloc: Global,
-    lines: &str,
-    conf: &Conf,
-    charset: &Charset,
-    telling: Telling,
-) -> Result<(), Fail>
-    requires { IsSound conf.now }
-{
-    for line in lines.lines() {
-        let (short, wanted) = line.split_once(" ⇒ ").ok_or("a line without an arrow")?;
-        match told_of(alloc, short, conf, charset, telling) {
-            Some(found) => compare(alloc, short, found.as_str(), wanted)?,
-            None => return Err(Fail::new(format_args!("{short} can't be told"))),
+#[test]
+fn texts_have_their_written_forms(rt: HostRuntime) -> Result<(), Fail> {
+    for section in TREES.split("\n# ").skip(1) {
+        let wrong = first_wrong(rt.alloc(), section).ok_or("no section")?;
+        if !wrong.is_empty() {
+            return Err(Fail::new(format_args!("{wrong}")));
         }
     }
     Ok(())
 }
 
-/// The same of lines below one that says by what they are read.
-fn try_section(alloc: Global, section: &str, telling: Telling) -> Result<(), Fail> {
-    let (head, lines) = section.split_once('\n').ok_or("a head without lines")?;
-    let (index, table) = head.split_once(": ").ok_or("a head without a table")?;
-    let conf = conf_of(alloc, index)?;
-    let charset = charset_of(alloc, table)?;
-    try_lines(alloc, lines, &conf, &charset, telling)
-}
-
-/// The same of a whole list.
-pub(crate) fn try_list(alloc: Global, list: &str, telling: Telling) -> Result<(), Fail> {
-    let (_, sections) = list.split_once("\n# ").ok_or("a list without a head")?;
-    for section in sections.split("\n# ") {
-        try_section(alloc, section, telling)?;
-    }
+#[test]
+fn a_text_is_cut_into_pieces(rt: HostRuntime) -> Result<(), Fail> {
+    let charset = Charset::default_table(rt.alloc())?;
+    assert_eq!(rt; pieces(rt.alloc(), &charset, "a -b")?.len(), 4);
     Ok(())
-}
-
-#[test]
-fn texts_have_their_trees_and_faults(rt: HostRuntime) -> Result<(), Fail> {
-    try_list(rt.alloc(), TREES, Telling::Tree)
-}
-
-#[test]
-fn keywords_have_their_query_positions(rt: HostRuntime) -> Result<(), Fail> {
-    try_list(rt.alloc(), NUMBERS, Telling::Numbers)
 }
