@@ -15,6 +15,7 @@ The heads of a table's columns say what its rows are:
     packet, replies               a packet of the section's script, which begins with the documents of `Over the s.`; where a
                                   column `client` stands before it, A or B sends it
     packet, bytes                 the same, where the reply is told by its bytes
+    packet, last bytes            the same, by those at its end
     sent, end, written            a line, by the bytes that are sent and written behind two texts that all have at their front:
                                   the codes of the page that stand alone
     sent in two, end, written     the same, cut at each place
@@ -45,6 +46,7 @@ class Step(NamedTuple):
     packet: str
     wanted: str
     by_bytes: bool = False
+    by_end: bool = False  # by the bytes at the end of the reply
 
 
 class Script(NamedTuple):
@@ -190,8 +192,9 @@ def step(place, case, columns, row):
     if columns == ("packet", "replies"):
         wanted = USUAL_STATUS.sub("", wanted)
     else:
-        assert columns in (("packet", "bytes"), ("text", "reply")), f"{place}: no table of cases has the columns {columns}"
-    return Step(place, case, client, packet, wanted, columns[-1] == "bytes")
+        known = (("packet", "bytes"), ("packet", "last bytes"), ("text", "reply"))
+        assert columns in known, f"{place}: no table of cases has the columns {columns}"
+    return Step(place, case, client, packet, wanted, columns[-1].endswith("bytes"), columns[-1] == "last bytes")
 
 
 def copies_of(part, first, last):
@@ -206,6 +209,9 @@ def spelled(short):
     if copies:
         part, first, last = copies.groups()
         return copies_of(part, int(first or 1), int(last))
+    repeated = re.fullmatch(r"(\d+) times (.*)", short, re.DOTALL)
+    if repeated:
+        return repeated[2].encode() * int(repeated[1])
     return bytes.fromhex(short.removeprefix("byte "))
 
 

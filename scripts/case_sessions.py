@@ -109,13 +109,13 @@ class TakingClient(Client):
 
 
 class Served(Daemon):
-    """`serve` with two workers over the configuration of a folder."""
+    """`serve` over the configuration of a folder, by two workers where no options are given."""
 
     kind = TakingClient
 
-    def __init__(self, program, folder):
+    def __init__(self, program, folder, *options):
         self.port, self.process, self.cwd, self.errors = free_port(), None, folder, folder / "stderr"
-        listen = ["--listen", f"127.0.0.1:{self.port}", "--workers", "2"]
+        listen = ["--listen", f"127.0.0.1:{self.port}", *(options or ("--workers", "2"))]
         self.command = [program.path, "serve", "--config", "conf", *listen]
 
 
@@ -123,6 +123,8 @@ def compare(step, take):
     """Takes the reply to a step, and gives what is wrong with it, None where it is as wanted."""
     text, whole = told(take)
     wanted = written_out(step.wanted)
+    if step.by_end:
+        whole = whole[-len(wanted) :]
     if (whole if step.by_bytes else text.encode()) == wanted:
         return None
     shown = (whole.hex(" "), wanted.hex(" ")) if step.by_bytes else (text, step.wanted)
@@ -200,8 +202,8 @@ def cuts(line):
     return range(len(written_out(line.sent)) + 1) if line.is_cut else [0]
 
 
-def run_line(program, configuration, line, cut):
-    """What is wrong with a line whose first bytes come by themselves."""
+def conversed(program, configuration, talk):
+    """What `session` writes to a client that talks so, and how it ends."""
     with tempfile.TemporaryDirectory(prefix="case_runs.") as folder:
         (Path(folder) / "conf").write_text(configuration + "\n", encoding="utf8")
         pipes = dict.fromkeys(("stdin", "stdout", "stderr"), subprocess.PIPE)
@@ -209,13 +211,18 @@ def run_line(program, configuration, line, cut):
             alarm = threading.Timer(program.patience(), process.kill)
             alarm.start()
             try:
-                written = talked(process, line, cut)
-                found = f"{written.hex(' ')}, status {process.wait()} {process.stderr.read().decode()}"
+                written = talk(process)
+                return f"{written.hex(' ')}, status {process.wait()} {process.stderr.read().decode()}"
             except OSError as why:
-                found = str(why)
+                return str(why)
             finally:
                 alarm.cancel()
                 process.kill()
+
+
+def run_line(program, configuration, line, cut):
+    """What is wrong with a line whose first bytes come by themselves."""
+    found = conversed(program, configuration, lambda process: talked(process, line, cut))
     wanted = f"{written_out(line.written).hex(' ')}, status 0 "
     return [] if found == wanted else [Wrong(line.place, line.place, f"{line.sent}, first {cut} bytes", found, wanted)]
 

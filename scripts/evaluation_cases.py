@@ -1,4 +1,4 @@
-"""Writes the documents and queries of docs/cases/evaluation.md as the constants that tests of evaluation and of tokens run over.
+"""Writes the documents and queries of docs/cases/evaluation.md as the constants that the tests of evaluation run over.
 
 At the top of the repository: python3 scripts/evaluation_cases.py [--check]
 """
@@ -10,12 +10,10 @@ from tables import constant, read, run
 
 DOCUMENT = "docs/cases/evaluation.md"
 EVALUATION = "crates/eval_vectors/src/cases.rt"
-TOKENS = "crates/text_vectors/src/evaluated_fields.rt"
 
 HEAD = """//! The {what} of docs/cases/evaluation.md, as scripts/evaluation_cases.py writes them: edit them there. {how}
 """
 SECTIONS = "A\n//! line `# S` begins what is of the set S. Parts of a line are separated by ` ⇒ `; the empty text is an empty part. The set `long` isn't\n//! from there: the script says what it is."
-LINES = "A\n//! line begins with `html_strip` and `index_sp` of the index; words and spans stand each after ` ⇒ `."
 
 PLACES = r"-|\d+\.\d+-\d+(?: \d+\.\d+-\d+)*"
 HITS = r"-|\d+/\d+@\d+\.\d+(?: \d+/\d+@\d+\.\d+)*"
@@ -163,35 +161,6 @@ def headed(rows):
         yield line
 
 
-def written_words(words):
-    """Words and boundaries as the tests of tokens write them: `a 1, b 3s`, by the letter of the boundary before the word."""
-    written, boundary = [], ""
-    for sign in words.split(" ") if words != "-" else []:
-        word, position = sign.rsplit("@", 1)
-        if word in ("(sentence)", "(paragraph)"):
-            boundary = word[1]
-        else:
-            written.append(f"{word} {position}{boundary}")
-            boundary = ""
-    return ", ".join(written)
-
-
-def written_spans(spans):
-    return ", ".join(span.replace("@", " ") for span in spans.split(" ") if span != "-")
-
-
-def fields(sets):
-    """The fields with their flags of html_strip and index_sp, their words and their spans."""
-    for about, documents, rows in sets.values():
-        sp, strip = about.split("; ")[2:]
-        texts = dict(documents)
-        for place, words, spans in rows:
-            number, field = place.split(".")
-            text = texts[number][int(field)]
-            if text:
-                yield f"{strip} {sp} {text} ⇒ {written_words(words)} ⇒ {written_spans(spans)}"
-
-
 def file(what, how, constants):
     return HEAD.format(what=what, how=how) + "\n" + "\n".join(constants)
 
@@ -207,9 +176,6 @@ def made():
         constant("Sets with the configurations of their indexes.", "SETS", headed(schemas)),
         constant("Documents: the id and the text of each field.", "DOCUMENTS", headed(documents)),
         constant("Queries with the ids of the documents that match, and what they find in each: occurrences, and hits.", "QUERIES", headed(asked)),
-    ])
-    yield TOKENS, file("fields of documents", LINES, [
-        constant("Texts of fields with their words and spans.", "FIELDS", fields(sets)),
     ])
 
 

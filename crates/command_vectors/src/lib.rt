@@ -1,13 +1,7 @@
-//! Tests by tables of lists of words from outside: which mode they ask for, with which values.
+//! Tests by a table of lists of words from outside: with which addresses and numbers they ask for a mode.
 #![tactic(auto)]
 
 #[cfg(test)]
 mod lists;
 #[cfg(test)]
-mod spelling;
-#[cfg(test)]
-mod words_of_selftest;
-#[cfg(test)]
-mod words_of_serve;
-#[cfg(test)]
-mod words_of_sessions;
+mod words;

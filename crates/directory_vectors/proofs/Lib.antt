@@ -1,2 +1,1 @@
 pub mod LastIndex
-pub mod Latest

@@ -4,7 +4,6 @@ ghost use Rattle.std.specs.Prelude.{◌≡◌, [], All, IfSome};
 ghost use Rattle.chunk_store.specs.contracts.memory_disk.MemoryDiskDisk.TheImpl as memory_words;
 ghost use Rattle.store_keep.specs.Opens.{HidesNothing};
 
-use crate::bytes::bytes_of;
 use chunk_store::{Disk, MemoryDisk};
 use srch_base::Text;
 use std::alloc::Global;
@@ -25,18 +24,6 @@ pub(crate) fn crashed(disk: &MemoryDisk, pick: u8) -> Option<MemoryDisk>
     Some(shown(disk.after_crash(disk.calls(), pick).ok()?))
 }
 
-/// Writes the files of a store, each from its first byte on.
-fn write_files<D: Disk>(alloc: Global, disk: &mut D, store: &str) -> Option<()> {
-    for word in store.split(' ') {
-        if let Some((file, bytes)) = word.split_once('=') {
-            let file = file.parse::<u32>().ok()?;
-            let bytes = bytes_of(alloc, bytes)?;
-            disk.write(file, 0, bytes.as_slice()).ok()?;
-        }
-    }
-    Some(())
-}
-
 /// The disk of a store, by the words of a table.
 fn disk_of(alloc: Global, store: &str, before: Option<&MemoryDisk>) -> Option<MemoryDisk>
     ensures { IfSome result (HidesNothing memory_words.ghosts) }
@@ -44,13 +31,11 @@ fn disk_of(alloc: Global, store: &str, before: Option<&MemoryDisk>) -> Option<Me
     if let Some((_, pick)) = store.split_once('~') {
         return crashed(before?, pick.parse::<u8>().ok()?);
     }
+    let mut failing = Vec::new(alloc);
     if let Some((_, call)) = store.split_once('!') {
-        let failing = Vec::from_slice(alloc, &[call.parse::<u64>().ok()?]).ok()?;
-        return Some(shown(MemoryDisk::new(alloc, failing)));
+        failing.push(call.parse::<u64>().ok()?).ok()?;
     }
-    let mut disk = MemoryDisk::new(alloc, Vec::new(alloc));
-    write_files(alloc, &mut disk, store)?;
-    crashed(&disk, 1)
+    Some(shown(MemoryDisk::new(alloc, failing)))
 }
 
 /// The store of an index, with its path.
@@ -62,11 +47,10 @@ fn store_of(alloc: Global, index: &str, before: Option<&MemoryDisk>) -> Option<(
     Some((path, disk_of(alloc, index, before)?))
 }
 
-/// The stores of the indexes that have one, by the words of a table.
+/// The stores of indexes, by the words of a table.
 ///
-/// An index is its name, which is its path too, and the files of its store, each by its number, `=` and its bytes; `-` before the name
-/// says that there is no store. `!N` says that the N-th call on the store fails, which has no files then; `~N` says that it is what a
-/// crash by the pick N leaves of the store that came back of the run before.
+/// An index is its name, which is its path too. Its store has no files. `!N` says that the N-th call on it fails; `~N` says that it is
+/// what a crash by the pick N leaves of the store that came back of the run before.
 pub(crate) fn stores_of(
     alloc: Global,
     indexes: &str,
@@ -76,10 +60,8 @@ pub(crate) fn stores_of(
 {
     let mut stores = Vec::new(alloc);
     for index in indexes.split(" + ") {
-        if !index.starts_with('-') {
-            let store = store_of(alloc, index, before)?;
-            stores.push(store).ok()?;
-        }
+        let store = store_of(alloc, index, before)?;
+        stores.push(store).ok()?;
     }
     Some(stores)
 }

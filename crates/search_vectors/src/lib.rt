@@ -4,25 +4,19 @@
 #[cfg(test)]
 mod bytes;
 #[cfg(test)]
-mod checks;
-#[cfg(test)]
 mod crashes;
 #[cfg(test)]
 mod disks;
+#[cfg(test)]
+mod failing;
 #[cfg(test)]
 mod lines;
 #[cfg(test)]
 mod meetings;
 #[cfg(test)]
-mod real_hosts;
-#[cfg(test)]
 mod runs;
 #[cfg(test)]
 mod serving;
-#[cfg(test)]
-mod sessions;
-#[cfg(test)]
-mod statuses;
 #[cfg(test)]
 mod table_door;
 #[cfg(test)]

@@ -29,8 +29,7 @@ fn add_turn(
     cuts.push(u32::try_from(length).ok()?).ok()
 }
 
-/// Adds a packet: `!N` for a call that fails, `^N` for the length of a read, or bytes, which behind `@N` are those of a read that has
-/// the turn N.
+/// Adds a packet: `!N` for a call that fails, or bytes, which behind `@N` are those of a read that has the turn N.
 fn add_packet(
     alloc: Global,
     input: &mut Vec<u8>,
@@ -41,9 +40,6 @@ fn add_packet(
 ) -> Option<()> {
     if let Some(call) = packet.strip_prefix('!') {
         return add_number(failing, call);
-    }
-    if let Some(cut) = packet.strip_prefix('^') {
-        return add_number(cuts, cut);
     }
     if let Some(packet) = packet.strip_prefix('@') {
         return add_turn(alloc, input, cuts, turns, packet);

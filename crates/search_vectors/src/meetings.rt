@@ -1,9 +1,10 @@
 //! Two clients of the real listener over the loopback, whom two workers serve at once: both are greeted before either sends a byte, and
 //! the one finds what the other inserts.
 use crate::bytes::bytes_of;
-use crate::real_hosts::{forget, host};
 use crate::runs::words_of;
-use searchd_top::{Status, searchd};
+use program_host::Status;
+use real_host::RealHost;
+use searchd_top::searchd;
 use std::alloc::Global;
 use std::fs;
 use std::io::{self, Read, Write};
@@ -12,6 +13,20 @@ use std::sync::Wait;
 use std::test::Fail;
 use std::thread::{self, Threads, join};
 use std::time::Duration;
+
+/// A host over the system.
+fn host(rt: HostRuntime) -> RealHost {
+    let (input, output, errors) = (rt.stdin(), rt.stdout(), rt.stderr());
+    RealHost::new(rt, rt.alloc(), input, output, errors)
+}
+
+/// Removes a folder that is there.
+fn forget(rt: &HostRuntime, path: &str) -> io::Result<()> {
+    if fs::exists(rt, path)? {
+        fs::remove_dir_all(rt, path)?;
+    }
+    Ok(())
+}
 
 const QUIT: &[u8] = b"\x01\0\0\0\x01";
 

@@ -1,4 +1,4 @@
-//! Runs of the program on a host in memory, by the rows of a table: what is asked, with which file, stores and doors, and what a run
+//! Runs of the program on a host in memory, by the rows of a table: what is asked, with which stores and doors, and what a run
 //! comes to. What doesn't hold is answered by none, and said in the text that each function is lent.
 ghost use Rattle.std.specs.Prelude.{◌≤◌, length, All, IfSome};
 ghost use Rattle.chunk_store.specs.contracts.memory_disk.MemoryDiskDisk.TheImpl as memory_words;
@@ -9,21 +9,19 @@ use crate::lines::{add_number, doors_of, is_served};
 use crate::table_host::TableHost;
 use crate::told::put_told;
 use chunk_store::MemoryDisk;
+use program_host::{MemoryHost, Status};
 use real_host::Lent;
-use searchd_top::{MemoryHost, Status, searchd};
+use searchd_top::searchd;
 use srch_base::{ListDoor, Text};
 use std::alloc::Global;
 use std::sync::Wait;
 use std::thread::Threads;
 
-/// The index that most rows are about, as small as it can be.
-const PLAIN: &str = "index rt;{;type = rt;path = .;rt_field = title;};";
-
 /// A configuration of the indexes of a table, each of which has its name as its path.
 fn configuration(alloc: Global, indexes: &str) -> Option<Vec<u8>> {
     let mut text = String::new(alloc);
     for index in indexes.split(" + ") {
-        let name = index.split(' ').next()?.trim_start_matches('-');
+        let name = index.split(' ').next()?;
         write!(
             text,
             "index {name} {{\ntype = rt\npath = {name}\nrt_field = title\n}}\n"
@@ -33,39 +31,10 @@ fn configuration(alloc: Global, indexes: &str) -> Option<Vec<u8>> {
     Some(text.into_bytes())
 }
 
-/// The lines of a text, each with `;` at its end, and `~` before it where a carriage return stands there.
-fn lines_of(alloc: Global, words: &str) -> Option<Vec<u8>> {
-    let text = words.replace(alloc, "~;", "\r\n").ok()?;
-    Some(text.as_str().replace(alloc, ";", "\n").ok()?.into_bytes())
-}
-
-/// The lines of a text, which a comment makes as long as it says behind ` to `.
-fn long_lines_of(alloc: Global, words: &str) -> Option<Vec<u8>> {
-    let (words, length) = words.split_once(" to ").unwrap_or((words, "0"));
-    let length = length.parse::<usize>().ok()?;
-    let mut text = lines_of(alloc, if words == "PLAIN" { PLAIN } else { words })?;
-    if length > text.len() {
-        text.push(b'#').ok()?;
-        text.resize(length, b' ').ok()?;
-    }
-    Some(text)
-}
-
-/// The text of the file: bytes behind `0x`, or lines; of the indexes where no words say another one.
-fn text_of(alloc: Global, words: &str, indexes: &str) -> Option<Vec<u8>> {
-    if words.is_empty() {
-        return configuration(alloc, indexes);
-    }
-    if let Some(digits) = words.strip_prefix("0x") {
-        return hex::decode(alloc, digits.as_bytes()).ok();
-    }
-    long_lines_of(alloc, words)
-}
-
 /// The one file of a host.
 fn files_of(alloc: Global, row: &Row<'_>) -> Option<Vec<(Text, Vec<u8>)>> {
     let path = Text::from_slice(alloc, b"searchd.conf").ok()?;
-    let text = text_of(alloc, row.text, row.indexes)?;
+    let text = configuration(alloc, row.indexes)?;
     Vec::from_array(alloc, [(path, text)]).ok()
 }
 
@@ -102,7 +71,6 @@ pub(crate) fn words_of(alloc: Global, text: &str) -> Option<Vec<String>> {
 #[derive(Clone, Copy)]
 struct Row<'a> {
     words: &'a str,
-    text: &'a str,
     indexes: &'a str,
     calls: &'a str,
     doors: &'a str,
@@ -113,13 +81,11 @@ struct Row<'a> {
 fn fields_of(row: &str) -> Option<Row<'_>> {
     let (_, rest) = row.split_once(" | ")?;
     let (words, rest) = rest.split_once(" | ")?;
-    let (text, rest) = rest.split_once(" | ")?;
     let (indexes, rest) = rest.split_once(" | ")?;
     let (calls, rest) = rest.split_once(" | ")?;
     let (doors, wanted) = rest.split_once(" ⇒ ")?;
     Some(Row {
         words,
-        text,
         indexes,
         calls,
         doors,
@@ -183,8 +149,8 @@ fn is_wanted(
 /// Runs a row of a table, with the store that the run before left. Gives the host as it is then, or none where the run came to something
 /// else than the row says.
 ///
-/// What the row is of, ` | `, the words, ` | `, the text as `text_of` reads it, ` | `, the indexes as `stores_of` reads them, ` | `, the
-/// calls of the host that fail, ` | `, the doors as `doors_of` reads them, and ` ⇒ ` with what `put_told` tells.
+/// What the row is of, ` | `, the words, ` | `, the indexes as `stores_of` reads them, ` | `, the calls of the host that fail, ` | `, the doors
+/// as `doors_of` reads them, and ` ⇒ ` with what `put_told` tells.
 pub(crate) fn run_row<R: Threads + Wait + Sync>(
     rt: &R,
     alloc: Global,

@@ -3,8 +3,8 @@ ghost use Rattle.std.specs.Prelude.{◌≡◌, ◌≤◌, ◌+◌, ◌++◌, len
 
 use crate::table_door::TableDoor;
 use chunk_store::MemoryDisk;
+use program_host::{Host, MemoryHost, Stream};
 use real_host::Lent;
-use searchd_top::{Host, MemoryHost, Stream};
 use srch_base::{Failed, OpenFault};
 use std::alloc::Global;
 use std::mem;
@@ -24,7 +24,7 @@ pub(crate) struct TableHost {
 
 impl Host for TableHost {
     ghost use Rattle.std.specs.Prelude.{map};
-    ghost use Rattle.searchd_top.specs.HostMemory.{text_of, printed_of, print_faults_of};
+    ghost use Rattle.program_host.specs.HostMemory.{text_of, printed_of, print_faults_of};
 
     type Store = MemoryDisk;
 

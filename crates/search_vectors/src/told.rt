@@ -1,6 +1,6 @@
 //! What a run comes to, in the words of a table.
 use crate::table_host::TableHost;
-use searchd_top::{Request, Status, Stream};
+use program_host::{Request, Status, Stream};
 use srch_base::Text;
 
 /// Appends a text behind some words.
@@ -33,13 +33,10 @@ fn put_printed(told: &mut String, mark: &str, printed: &[u8]) -> Option<()> {
     Some(())
 }
 
-/// Appends the exit status, with the place and the kind of a configuration's fault; the requests; how many stores and doors came back;
+/// Appends the exit status; the requests; how many stores and doors came back;
 /// and what was printed to the output, and to the errors behind `!`.
 pub(crate) fn put_told(told: &mut String, status: &Status, host: &TableHost) -> Option<()> {
     write!(told, "{}", status.code()).ok()?;
-    if let Status::Config { line, kind } = status {
-        write!(told, " at {line}: {}", kind.text()).ok()?;
-    }
     told.push_str("; asks").ok()?;
     for request in host.base.requests()? {
         put_request(told, request)?;

@@ -1,9 +1,15 @@
 //! The marks of a text, by kind and place, worked out by hand from Sphinx's manual for `html_strip`, `index_sp` and
 //! `index_zones`.
-use mark_scan::{Mark, MarkKind};
+ghost use Rattle.std.specs.Prelude.{◌≡◌, [], ◌∷◌, codes, IfOk};
+ghost use Rattle.doc_types.specs.Schemas.{AreZones};
+
+use charset_map::Charset;
+use mark_scan::{Mark, MarkKind, MarkRules, marks};
+use srch_base::{Items, Name, NoMemory};
+use std::alloc::Global;
 use std::fmt::Write;
 
-/// Texts in an index with the zones `th`, `i`, `td` and `em`, each after its `html_strip` and `index_sp`, with their marks: their kinds, and the
+/// Texts in an index with the zones `th` and `i`, each after its `html_strip` and `index_sp`, with their marks: their kinds, and the
 /// places of their first bytes and after them. In turn: zones and tags; a tag of a zone that closes itself opens nothing, but ends
 /// a paragraph; the end of a comment is searched after its beginning; a `!` of what is no comment ends a sentence; what is no tag is
 /// plain text; an inline tag that is a zone separates, and so does an unknown tag; characters of the same run are looked at across
@@ -53,14 +59,37 @@ fn kind_word(kind: MarkKind) -> &'static str {
     }
 }
 
+/// The rules of an index with the zones `th` and `i`.
+pub(crate) fn rules(alloc: Global, strip: bool, sp: bool) -> Result<MarkRules, NoMemory>
+    ensures { IfOk result (λ rules. AreZones rules.zones) }
+{
+    let mut zones = Vec::new(alloc);
+    zones.push(Name::from_slice(alloc, b"th")?)?;
+    zones.push(Name::from_slice(alloc, b"i")?)?;
+    let zones = Items::new(zones);
+    Ok(MarkRules { strip, sp, zones })
+}
+
 /// Appends marks, as the table writes them.
-pub(crate) fn put_marks(marks: &[Mark], into: &mut String) -> Option<()> {
-    for (number, mark) in marks.iter().enumerate() {
-        if number > 0 {
-            into.push_str(", ").ok()?;
-        }
+fn put_marks(marks: &[Mark], into: &mut String) -> Option<()> {
+    let mut before = "";
+    for mark in marks {
         let (kind, from, to) = (kind_word(mark.kind), mark.from, mark.to);
-        write!(into, "{kind} {from}-{to}").ok()?;
+        write!(into, "{before}{kind} {from}-{to}").ok()?;
+        before = ", ";
     }
     Some(())
+}
+
+/// Appends the marks of a text, which stands after its `html_strip` and `index_sp`.
+pub(crate) fn put_marked(alloc: Global, line: &str, into: &mut String) -> Option<()> {
+    let (strip, rest) = line.split_once(' ')?;
+    let (sp, text) = rest.split_once(' ')?;
+    if text.len() > 1000 {
+        return None;
+    }
+    let table = Charset::default_table(alloc).ok()?;
+    let rules = rules(alloc, strip == "1", sp == "1").ok()?;
+    let found = marks(alloc, &table, &rules, text).ok()?;
+    put_marks(found.as_slice(), into)
 }

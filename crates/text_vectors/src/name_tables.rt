@@ -4,10 +4,8 @@
 ghost use Rattle.std.specs.Prelude.{◌≡◌};
 ghost use Rattle.name_table.specs.Order.{IsInOrder};
 
-use crate::tables::{Telling, try_table};
 use name_table::{NameTable, value_at, words_of};
 use std::fmt::Write;
-use std::test::Fail;
 
 macro_rules! keywords {
     ($form:ident $(, $argument:expr)*) => {
@@ -88,7 +86,7 @@ fn keyword_at(place: u16) -> Option<&'static str> {
 }
 
 /// Words in letters of either case, and their places.
-const PLACES: &str = r#"
+pub(crate) const PLACES: &str = r#"
 and ⇒ 0
 AND ⇒ 0
 BeTween ⇒ 5
@@ -104,7 +102,7 @@ Z ⇒ none
 "#;
 
 /// Places, and the values there.
-const VALUES: &str = r#"
+pub(crate) const VALUES: &str = r#"
 0 ⇒ AND
 19 ⇒ FACET
 59 ⇒ QUICK
@@ -124,12 +122,6 @@ pub(crate) fn put_place(word: &str, into: &mut String) -> Option<()> {
 pub(crate) fn put_value(place: &str, into: &mut String) -> Option<()> {
     let place = place.parse::<u16>().ok()?;
     into.push_str(keyword_at(place).unwrap_or("none")).ok()
-}
-
-#[test]
-fn words_have_places_and_values(rt: HostRuntime) -> Result<(), Fail> {
-    try_table(rt.alloc(), PLACES, &Telling::Place)?;
-    try_table(rt.alloc(), VALUES, &Telling::Value)
 }
 
 #[test]

@@ -10,7 +10,7 @@ use Rattle.search_vectors.proofs.disks.stores_of.Goals as goal
 abbrev IsShown : List ℕ × MemoryDisk → Type 0
 IsShown store = HidesNothing memory_words.ghosts store.1
 
-pub loop-index-preserved-in-Continue-branch-2 : goal.loop-index-preserved-in-Continue-branch-2
-loop-index-preserved-in-Continue-branch-2 c =
+pub loop-index-preserved : goal.loop-index-preserved
+loop-index-preserved c =
     let pushed = chosen _ _ _ _ c.push.ensures.items (sym c.in_ok-ok.ensures.variant) in
     subst (All IsShown) (sym pushed) (All-append IsShown c.loop-index.stores.items (c.in_ok-store.store ∷ []) c.loop-index.invariant (All-cons IsShown c.in_ok-store.store [] c.in_ok-store.ensures (All-nil IsShown)))
