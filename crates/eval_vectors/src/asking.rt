@@ -21,7 +21,7 @@ use op_eval::for_schema;
 use query_read::read_query;
 use query_tree::Query;
 use rankers::{Ranker, Weights};
-use row_select::{ColumnRef, Order, Page};
+use row_select::{ColumnRef, Order, Page, Row};
 use srch_base::{Items, NoMemory};
 use std::alloc::Global;
 use std::sync::Arc;
@@ -37,8 +37,12 @@ pub(crate) enum Asked {
     Opens(Call),
     /// That, how many lists it opens, and whether it seeks no more often than the line says.
     Seeks(Call),
+    /// That, and whether no more calls are made on the chunk than the line says.
+    Calls(Call),
     /// How many lists a whole search opens.
     Search,
+    /// Which documents a whole search shows, and whether no more calls are made on the chunk than the line says.
+    Shown,
 }
 
 /// The query that a short text is, as the index means it.
@@ -124,19 +128,41 @@ fn watched(
     Ok(snapshot)
 }
 
-/// Appends how much was opened and sought, as far as that is asked. Of the seeks it is the number of the line, where they don't
-/// pass it.
-fn put_counts(counts: (u64, u64), asked: &Asked, wanted: &str, into: &mut String) -> Option<()> {
-    let (lists, seeks) = counts;
+/// The number of a line, which stands at its end, or the count where that passes it.
+fn within(count: u64, wanted: &str) -> Option<u64> {
+    let (_, most) = wanted.rsplit_once(' ')?;
+    Some(count.max(most.parse::<u64>().ok()?))
+}
+
+/// Appends how much was called, opened and sought, as far as that is asked.
+fn put_counts(
+    counts: (u64, u64, u64),
+    asked: &Asked,
+    wanted: &str,
+    into: &mut String,
+) -> Option<()> {
+    let (calls, lists, seeks) = counts;
     match asked {
         Asked::Found(_) | Asked::Opens(_) => Some(()),
         Asked::Lists(_) | Asked::Search => write!(into, ", {lists} lists").ok(),
+        Asked::Calls(_) | Asked::Shown => {
+            let calls = within(calls, wanted)?;
+            write!(into, ", calls within {calls}").ok()
+        }
         Asked::Seeks(_) => {
-            let (_, most) = wanted.rsplit_once(' ')?;
-            let within = seeks.max(most.parse::<u64>().ok()?);
-            write!(into, ", {lists} lists, seeks within {within}").ok()
+            let seeks = within(seeks, wanted)?;
+            write!(into, ", {lists} lists, seeks within {seeks}").ok()
         }
     }
+}
+
+/// Appends the ids of rows.
+fn put_shown(rows: &[Row], into: &mut String) -> Option<()> {
+    for row in rows {
+        let id = row.id;
+        write!(into, " {id}").ok()?;
+    }
+    Some(())
 }
 
 /// Appends what a query finds while no list can be opened; or, where it wants memory then, what it finds afterwards.
@@ -174,13 +200,17 @@ fn put_asked<C: HitLists>(
     let chunk: &Watched<C> = &snapshot.layers.as_slice().first()?.chunk;
     chunk.counts();
     match asked {
-        Asked::Found(call) | Asked::Lists(call) | Asked::Seeks(call) => {
+        Asked::Found(call) | Asked::Lists(call) | Asked::Seeks(call) | Asked::Calls(call) => {
             put_answer(alloc, &question.query, chunk, call, into)?;
         }
         Asked::Opens(call) => put_shut(alloc, &question.query, chunk, call, into)?,
         Asked::Search => {
             let found = search(alloc, question, snapshot).ok()?.len();
             write!(into, " {found} rows").ok()?;
+        }
+        Asked::Shown => {
+            let shown = search(alloc, question, snapshot).ok()?;
+            put_shown(shown.as_slice(), into)?;
         }
     }
     put_counts(chunk.counts(), asked, wanted, into)

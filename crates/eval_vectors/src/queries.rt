@@ -103,6 +103,12 @@ all ⇒ 20 rows, 0 lists
 absent ⇒ 0 rows, 0 lists
 "#;
 
+/// A query over 10,000 documents, of which two have its words: which these are, and a number of calls on the chunk that are enough to
+/// find them. One call for each document, or for each in a hundred, would be more.
+const FEW: &str = r#"
+"red fox" ⇒ 17 9000, calls within 200
+"#;
+
 /// The words of one of the many documents behind its first two.
 fn pair_of(number: u64) -> &'static str {
     match number {
@@ -141,6 +147,20 @@ fn many(alloc: Global) -> Option<String> {
     Some(text)
 }
 
+/// As many documents with one word each, but for two.
+fn grey(alloc: Global) -> Option<String> {
+    let mut text = String::new(alloc);
+    for number in 1..10_001 {
+        let words = if number == 17 || number == 9000 {
+            "red fox"
+        } else {
+            "grey"
+        };
+        write!(&mut text, "{number} ⇒ {words}\n").ok()?;
+    }
+    Some(text)
+}
+
 #[test]
 fn queries_find_what_they_ask_for(rt: HostRuntime) -> Result<(), Fail> {
     for section in QUERIES.split("\n# ").skip(1) {
@@ -173,8 +193,16 @@ fn try_many(alloc: Global, documents: &str) -> Result<(), Fail> {
     try_set(alloc, set, documents, SEARCHES, &Asked::Search)
 }
 
+/// Tries the table over the documents with one word each.
+fn try_few(alloc: Global, documents: &str) -> Result<(), Fail> {
+    try_set(alloc, "letters", documents, FEW, &Asked::Calls(Call::Ids))?;
+    try_set(alloc, "letters", documents, FEW, &Asked::Shown)
+}
+
 #[test]
 fn queries_find_their_rows_among_many(rt: HostRuntime) -> Result<(), Fail> {
     let documents = many(rt.alloc()).ok_or("no documents")?;
-    try_many(rt.alloc(), documents.as_str())
+    try_many(rt.alloc(), documents.as_str())?;
+    let documents = grey(rt.alloc()).ok_or("no documents")?;
+    try_few(rt.alloc(), documents.as_str())
 }

@@ -15,6 +15,8 @@ use std::sync::ledger::{Blank, Ledger};
 pub(crate) enum Call {
     /// Which rows match, and what is found in each row.
     Rows,
+    /// Which rows match.
+    Ids,
     /// How many rows match.
     Count,
     /// At how many rows `Matches` stops, where each of them is taken.
@@ -114,6 +116,10 @@ fn put_told<L: Ledger, C: HitLists>(
     match call {
         Call::Rows => put_rows(alloc, query, chunk, &mut steps, into),
         Call::Stops => put_stops(alloc, query, chunk, &mut steps, into),
+        Call::Ids => {
+            let matching = candidates(alloc, query, chunk, &[], &mut steps).ok()?;
+            put_ids(chunk, matching.as_slice(), into)
+        }
         Call::Count => {
             let count = candidates(alloc, query, chunk, &[], &mut steps).ok()?.len();
             write!(into, " {count} rows").ok()
