@@ -130,7 +130,7 @@ fn watched(
 
 /// The number of a line, which stands at its end, or the count where that passes it.
 fn within(count: u64, wanted: &str) -> Option<u64> {
-    let (_, most) = wanted.rsplit_once(' ')?;
+    let (_, most) = wanted.rsplit_once(" ")?;
     Some(count.max(most.parse::<u64>().ok()?))
 }
 

@@ -161,18 +161,35 @@ fn grey(alloc: Global) -> Option<String> {
     Some(text)
 }
 
+/// The documents of a set.
+fn documents_of(set: &str) -> &'static str {
+    lines_of(DOCUMENTS, set).unwrap_or("")
+}
+
+/// Tries queries over the documents of their sets.
+fn try_sets(alloc: Global, queries: &str) -> Result<(), Fail> {
+    for section in queries.split("\n# ") {
+        if let Some((set, lines)) = section.split_once("\n") {
+            try_set(
+                alloc,
+                set,
+                documents_of(set),
+                lines,
+                &Asked::Found(Call::Rows),
+            )?;
+        }
+    }
+    Ok(())
+}
+
 #[test]
 fn queries_find_what_they_ask_for(rt: HostRuntime) -> Result<(), Fail> {
-    for section in QUERIES.split("\n# ").skip(1) {
-        let (set, lines) = section.split_once('\n').ok_or("a head without lines")?;
-        let documents = lines_of(DOCUMENTS, set).unwrap_or("");
-        try_set(rt.alloc(), set, documents, lines, &Asked::Found(Call::Rows))?;
-    }
-    let documents = lines_of(DOCUMENTS, "letters").unwrap_or("");
+    try_sets(rt.alloc(), QUERIES)?;
+    let set = "letters";
     try_set(
         rt.alloc(),
-        "letters",
-        documents,
+        set,
+        documents_of(set),
         OPENING,
         &Asked::Opens(Call::Count),
     )

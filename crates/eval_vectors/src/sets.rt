@@ -12,7 +12,7 @@ use std::alloc::Global;
 /// The lines of a table that are of a set.
 pub(crate) fn lines_of(table: &'static str, set: &str) -> Option<&'static str> {
     for section in table.split("\n# ") {
-        if let Some((name, lines)) = section.split_once('\n') {
+        if let Some((name, lines)) = section.split_once("\n") {
             if name == set {
                 return Some(lines);
             }

@@ -153,16 +153,22 @@ fn put_weights(hits: &Hits, weights: &Weights, into: &mut String) -> Option<()> 
     Some(())
 }
 
+/// Two numbers with a sign between them.
+fn two(text: &str, between: &str) -> Option<(u16, u16)> {
+    let (first, second) = text.split_once(between)?;
+    Some((first.parse::<u16>().ok()?, second.parse::<u16>().ok()?))
+}
+
 /// A hit, as a case tells it.
 fn hit(text: &str) -> Option<Hit> {
-    let (query, rest) = text.split_once('/')?;
-    let (word, place) = rest.split_once('@')?;
-    let (field, position) = place.split_once('.')?;
+    let (words, place) = text.split_once("@")?;
+    let (query, word) = two(words, "/")?;
+    let (field, position) = two(place, ".")?;
     Some(Hit {
-        query: query.parse::<u16>().ok()?,
-        word: word.parse::<u16>().ok()?,
-        field: field.parse::<u16>().ok()?,
-        position: position.parse::<u32>().ok()?,
+        query,
+        word,
+        field,
+        position: u32::from(position),
     })
 }
 
