@@ -1,30 +1,85 @@
-//! Facets that no statement asks for: of weights, and of a column that isn't there.
-use crate::rows::first_rows;
+//! Facets of rows that are taken all at once: values with their counts, in each order, and paged.
+use crate::rows::{column, rows_of};
 use group_facet::{Facet, facet};
-use row_select::ColumnRef;
 use std::alloc::Global;
+use std::fmt::Write;
+use std::test::Fail;
 
-/// The values of a column of all rows with their counts, ordered by count.
-fn counted(alloc: Global, column: ColumnRef, descending: bool) -> Option<Vec<(i128, u64)>> {
-    let asked = Facet {
-        column,
-        by_count: true,
-        descending,
-        offset: 0,
-        count: 20,
-    };
-    facet(alloc, first_rows(alloc, 8)?.as_slice(), &asked).ok()
+/// The rows, the column, the order, the page, and the values that are shown, each with the number of rows that have it.
+const FACETS: &str = "\
+weighed: gid; count desc; 0 20 ⇒ [10 3][20 2][40 2][30 1]
+weighed: gid; count asc; 0 20 ⇒ [30 1][20 2][40 2][10 3]
+weighed: gid; value asc; 0 20 ⇒ [10 3][20 2][30 1][40 2]
+weighed: gid; value desc; 0 20 ⇒ [40 2][30 1][20 2][10 3]
+weighed: price; count desc; 0 20 ⇒ [-9223372036854775808 3][5 2][9223372036854775807 2][-1 1]
+weighed: price; count asc; 0 20 ⇒ [-1 1][5 2][9223372036854775807 2][-9223372036854775808 3]
+weighed: price; value asc; 0 20 ⇒ [-9223372036854775808 3][-1 1][5 2][9223372036854775807 2]
+weighed: price; value desc; 0 20 ⇒ [9223372036854775807 2][5 2][-1 1][-9223372036854775808 3]
+weighed: weight; count desc; 0 20 ⇒ [5 2][10 2][20 2][30 2]
+weighed: weight; count asc; 0 20 ⇒ [5 2][10 2][20 2][30 2]
+weighed: id; value desc; 0 2 ⇒ [18446744073709551615 1][18446744073709551614 1]
+weighed: id; count desc; 0 3 ⇒ [1 1][2 1][3 1]
+weighed: beyond; count desc; 0 20 ⇒ [0 8]
+weighed: gid; count desc; 1 2 ⇒ [20 2][40 2]
+weighed: gid; count desc; 3 5 ⇒ [30 1]
+weighed: gid; count desc; 4 5 ⇒ 
+weighed: gid; count desc; 0 0 ⇒ 
+weighed: gid; count desc; 0 4294967295 ⇒ [10 3][20 2][40 2][30 1]
+weighed: gid; count desc; 4294967295 4294967295 ⇒ 
+greetings: gid; count desc; 0 20 ⇒ [10 2][20 1]
+greetings: price; count desc; 0 20 ⇒ [5 2][-1 1]
+none: gid; count desc; 0 20 ⇒ 
+none: gid; value asc; 0 20 ⇒ 
+";
+
+fn facet_of(text: &str) -> Option<Facet> {
+    let (name, rest) = text.split_once("; ")?;
+    let (order, page) = rest.split_once("; ")?;
+    let (by, way) = order.split_once(' ')?;
+    let (offset, count) = page.split_once(' ')?;
+    Some(Facet {
+        column: column(name)?,
+        by_count: by == "count",
+        descending: way == "desc",
+        offset: offset.parse::<u32>().ok()?,
+        count: count.parse::<u32>().ok()?,
+    })
+}
+
+/// Appends values with their counts, as the tables write them.
+fn put_values(values: &[(i128, u64)], into: &mut String) -> Option<()> {
+    for (value, count) in values {
+        write!(into, "[{value} {count}]").ok()?;
+    }
+    Some(())
+}
+
+/// Appends the facet of the rows of a name that a text behind it asks for.
+fn put_found(alloc: Global, asked: &str, into: &mut String) -> Option<()> {
+    let (rows, text) = asked.split_once(": ")?;
+    let rows = rows_of(alloc, rows)?;
+    put_values(
+        facet(alloc, rows.as_slice(), &facet_of(text)?)
+            .ok()?
+            .as_slice(),
+        into,
+    )
+}
+
+/// Whether what a line asks for finds what stands behind it.
+fn is_right(alloc: Global, line: &str) -> Option<bool> {
+    let (asked, wanted) = line.split_once(" ⇒ ")?;
+    let mut found = String::new(alloc);
+    put_found(alloc, asked, &mut found)?;
+    Some(found.as_str() == wanted)
 }
 
 #[test]
-fn facets_that_no_statement_asks_for(rt: HostRuntime) {
-    for descending in [true, false] {
-        let weights = counted(rt.alloc(), ColumnRef::Weight, descending);
-        assert!(rt;
-            weights.is_some_and(|it| it.as_slice()
-                == [(5, 2), (10, 2), (20, 2), (30, 2)].as_slice())
-        );
+fn facets_are_those_of_their_rows(rt: HostRuntime) -> Result<(), Fail> {
+    for line in FACETS.lines() {
+        if is_right(rt.alloc(), line) != Some(true) {
+            return Err(Fail::new(format_args!("{line}")));
+        }
     }
-    let beyond = counted(rt.alloc(), ColumnRef::Attr(2), true);
-    assert!(rt; beyond.is_some_and(|it| it.as_slice() == [(0, 8)].as_slice()));
+    Ok(())
 }

@@ -1,152 +1,132 @@
-//! Groups that no statement asks for: by weight, by a column that isn't there, of all rows by an order within, without keys of an
-//! order, with aggregates of weights; and that groups come in the order in which they are first seen.
-use crate::rows::first_rows;
-use group_facet::Fold::{Count, Distinct, Greatest, Least, Sum};
+//! The groups of rows that are taken all at once, in the order in which they are first seen.
+use crate::rows::{column, rows_of};
 use group_facet::{Fold, Group, GroupRow, group};
-use row_select::ColumnRef::{Attr, Id, Weight};
 use row_select::{ColumnRef, Order};
 use srch_base::Items;
 use std::alloc::Global;
+use std::fmt::Write;
 use std::test::Fail;
 
-const GID: ColumnRef = Attr(0);
+/// The rows, the column that is grouped by or `none`, the keys of WITHIN GROUP ORDER BY, the aggregates, and the groups:
+/// the key, the id of the row, and the values of the aggregates.
+const GROUPS: &str = "\
+weighed: gid; weight desc; count ⇒ [10 18446744073709551614 3][20 1 2][30 18446744073709551615 1][40 5 2]
+weighed: gid; weight asc; count ⇒ [10 3 3][20 1 2][30 18446744073709551615 1][40 5 2]
+weighed: gid; id desc; count ⇒ [10 18446744073709551614 3][20 2 2][30 18446744073709551615 1][40 6 2]
+weighed: gid; id asc; count ⇒ [10 3 3][20 1 2][30 18446744073709551615 1][40 5 2]
+weighed: gid; price asc; count ⇒ [10 3 3][20 2 2][30 18446744073709551615 1][40 5 2]
+weighed: gid; price desc; count ⇒ [10 4 3][20 1 2][30 18446744073709551615 1][40 5 2]
+weighed: gid; gid desc; count ⇒ [10 3 3][20 1 2][30 18446744073709551615 1][40 5 2]
+weighed: gid; weight desc, price asc; count ⇒ [10 18446744073709551614 3][20 2 2][30 18446744073709551615 1][40 5 2]
+weighed: gid; weight desc, id desc; count ⇒ [10 18446744073709551614 3][20 2 2][30 18446744073709551615 1][40 6 2]
+weighed: gid; ; count ⇒ [10 3 3][20 1 2][30 18446744073709551615 1][40 5 2]
+weighed: gid; ;  ⇒ [10 3][20 1][30 18446744073709551615][40 5]
+weighed: gid; id asc; sum price, least price, greatest price ⇒ [10 3 -9223372036854775804 -9223372036854775808 5][20 1 9223372036854775812 5 9223372036854775807][30 18446744073709551615 9223372036854775807 9223372036854775807 9223372036854775807][40 5 -18446744073709551616 -9223372036854775808 -9223372036854775808]
+weighed: gid; id asc; distinct price, count, distinct weight, distinct gid ⇒ [10 3 3 3 2 1][20 1 2 2 1 1][30 18446744073709551615 1 1 1 1][40 5 1 2 1 1]
+weighed: gid; id asc; count, count, greatest id, least weight ⇒ [10 3 3 3 18446744073709551614 10][20 1 2 2 2 30][30 18446744073709551615 1 1 18446744073709551615 20][40 5 2 2 6 5]
+weighed: weight; id asc; count, distinct gid, sum id ⇒ [10 3 2 1 7][30 1 2 1 3][20 18446744073709551614 2 2 36893488147419103229][5 5 2 1 11]
+weighed: price; weight desc; count, sum price ⇒ [5 2 2 10][-1 18446744073709551614 1 -1][9223372036854775807 1 2 18446744073709551614][-9223372036854775808 3 3 -27670116110564327424]
+weighed: id; id asc; count ⇒ [4 4 1][2 2 1][18446744073709551614 18446744073709551614 1][1 1 1][18446744073709551615 18446744073709551615 1][3 3 1][6 6 1][5 5 1]
+weighed: beyond; id desc; count, sum beyond ⇒ [0 18446744073709551615 8 0]
+weighed: none; weight desc; count, distinct price, distinct gid, least id, greatest id ⇒ [0 1 8 4 4 1 18446744073709551615]
+weighed: none; id desc; sum id, sum weight, sum price ⇒ [0 18446744073709551615 36893488147419103250 130 -9223372036854775801]
+weighed: none; gid desc, weight asc;  ⇒ [0 5]
+greetings: gid; weight desc; count, sum price ⇒ [10 1 2 4][20 2 1 5]
+greetings: none; weight desc; count ⇒ [0 1 3]
+none: gid; weight desc; count, sum price, least id, distinct gid ⇒ 
+none: none; weight desc; count, sum price, greatest id, distinct gid ⇒ 
+none: none; weight desc;  ⇒ 
+";
 
-const PRICE: ColumnRef = Attr(1);
-
-const BEYOND: ColumnRef = Attr(2);
-
-/// Groups of the first rows, so many.
-struct Case {
-    rows: usize,
-    by: Option<ColumnRef>,
-    /// The keys of WITHIN GROUP ORDER BY, each with whether it descends.
-    within: &'static [(ColumnRef, bool)],
-    folds: &'static [Fold],
-    /// The key, the id of the row and the aggregates of each group.
-    groups: &'static [(i128, u64, &'static [i128])],
+/// A key of WITHIN GROUP ORDER BY.
+fn key(text: &str) -> Option<(ColumnRef, bool)> {
+    let (name, way) = text.split_once(' ')?;
+    let column = column(name)?;
+    Some((column, way == "desc"))
 }
 
-const CASES: [Case; 9] = [
-    Case {
-        rows: 8,
-        by: Some(GID),
-        within: &[],
-        folds: &[Count],
-        groups: &[
-            (10, 3, &[3]),
-            (20, 1, &[2]),
-            (30, 18446744073709551615, &[1]),
-            (40, 5, &[2]),
-        ],
-    },
-    Case {
-        rows: 8,
-        by: Some(GID),
-        within: &[],
-        folds: &[],
-        groups: &[
-            (10, 3, &[]),
-            (20, 1, &[]),
-            (30, 18446744073709551615, &[]),
-            (40, 5, &[]),
-        ],
-    },
-    Case {
-        rows: 8,
-        by: Some(GID),
-        within: &[(Id, false)],
-        folds: &[Distinct(PRICE), Count, Distinct(Weight), Distinct(GID)],
-        groups: &[
-            (10, 3, &[3, 3, 2, 1]),
-            (20, 1, &[2, 2, 1, 1]),
-            (30, 18446744073709551615, &[1, 1, 1, 1]),
-            (40, 5, &[1, 2, 1, 1]),
-        ],
-    },
-    Case {
-        rows: 8,
-        by: Some(GID),
-        within: &[(Id, false)],
-        folds: &[Count, Count, Greatest(Id), Least(Weight)],
-        groups: &[
-            (10, 3, &[3, 3, 18446744073709551614, 10]),
-            (20, 1, &[2, 2, 2, 30]),
-            (30, 18446744073709551615, &[1, 1, 18446744073709551615, 20]),
-            (40, 5, &[2, 2, 6, 5]),
-        ],
-    },
-    Case {
-        rows: 8,
-        by: Some(Weight),
-        within: &[(Id, false)],
-        folds: &[Count, Distinct(GID), Sum(Id)],
-        groups: &[
-            (10, 3, &[2, 1, 7]),
-            (30, 1, &[2, 1, 3]),
-            (20, 18446744073709551614, &[2, 2, 36893488147419103229]),
-            (5, 5, &[2, 1, 11]),
-        ],
-    },
-    Case {
-        rows: 8,
-        by: Some(BEYOND),
-        within: &[(Id, true)],
-        folds: &[Count, Sum(BEYOND)],
-        groups: &[(0, 18446744073709551615, &[8, 0])],
-    },
-    Case {
-        rows: 8,
-        by: None,
-        within: &[(Id, true)],
-        folds: &[Sum(Id), Sum(Weight), Sum(PRICE)],
-        groups: &[(
-            0,
-            18446744073709551615,
-            &[36893488147419103250, 130, -9223372036854775801],
-        )],
-    },
-    Case {
-        rows: 8,
-        by: None,
-        within: &[(GID, true), (Weight, false)],
-        folds: &[],
-        groups: &[(0, 5, &[])],
-    },
-    Case {
-        rows: 0,
-        by: None,
-        within: &[(Weight, true)],
-        folds: &[],
-        groups: &[],
-    },
-];
+/// These keys, which may be none.
+fn keys(alloc: Global, text: &str) -> Option<Vec<(ColumnRef, bool)>> {
+    let mut keys = Vec::new(alloc);
+    for word in text.split_terminator(", ") {
+        keys.push(key(word)?).ok()?;
+    }
+    Some(keys)
+}
 
-/// The groups that a case asks for.
-fn found(alloc: Global, case: &Case) -> Option<Vec<GroupRow>> {
-    let asked = Group {
-        by: case.by,
-        within: Order {
-            keys: Items::new(Vec::from_slice(alloc, case.within).ok()?),
-        },
-        folds: Items::new(Vec::from_slice(alloc, case.folds).ok()?),
+fn fold(text: &str) -> Option<Fold> {
+    let Some((name, of)) = text.split_once(' ') else {
+        return Some(Fold::Count);
     };
-    group(first_rows(alloc, case.rows)?, &asked).ok()
+    let column = column(of)?;
+    match name {
+        "distinct" => Some(Fold::Distinct(column)),
+        "least" => Some(Fold::Least(column)),
+        "greatest" => Some(Fold::Greatest(column)),
+        _ => Some(Fold::Sum(column)),
+    }
 }
 
-/// Whether groups have these keys, rows and aggregates.
-fn are(found: &[GroupRow], wanted: &[(i128, u64, &[i128])]) -> bool {
-    found.len() == wanted.len()
-        && found.iter().zip(wanted).all(|(group, (key, id, folded))| {
-            group.key == *key && group.best.id == *id && group.folded.as_slice() == *folded
-        })
+/// These aggregates, which may be none.
+fn folds(alloc: Global, text: &str) -> Option<Vec<Fold>> {
+    let mut folds = Vec::new(alloc);
+    for name in text.split_terminator(", ") {
+        folds.push(fold(name)?).ok()?;
+    }
+    Some(folds)
+}
+
+/// What groups a text asks for.
+fn group_of(alloc: Global, text: &str) -> Option<Group> {
+    let (by, rest) = text.split_once("; ")?;
+    let (within, aggregates) = rest.split_once("; ")?;
+    let keys = keys(alloc, within)?;
+    Some(Group {
+        by: column(by),
+        within: Order {
+            keys: Items::new(keys),
+        },
+        folds: Items::new(folds(alloc, aggregates)?),
+    })
+}
+
+/// The groups of the rows of a name that a text asks for.
+pub(crate) fn groups_of(alloc: Global, rows: &str, text: &str) -> Option<Vec<GroupRow>> {
+    group(rows_of(alloc, rows)?, &group_of(alloc, text)?).ok()
+}
+
+/// Appends groups, as the tables write them.
+fn put_groups(groups: &[GroupRow], into: &mut String) -> Option<()> {
+    for group in groups {
+        let (key, id) = (group.key, group.best.id);
+        write!(into, "[{key} {id}").ok()?;
+        for value in group.folded.as_slice() {
+            write!(into, " {value}").ok()?;
+        }
+        into.push(']').ok()?;
+    }
+    Some(())
+}
+
+/// Appends the groups of the rows of a name that a text behind it asks for.
+fn put_found(alloc: Global, asked: &str, into: &mut String) -> Option<()> {
+    let (rows, text) = asked.split_once(": ")?;
+    put_groups(groups_of(alloc, rows, text)?.as_slice(), into)
+}
+
+/// Whether what a line asks for finds what stands behind it.
+fn is_right(alloc: Global, line: &str) -> Option<bool> {
+    let (asked, wanted) = line.split_once(" ⇒ ")?;
+    let mut found = String::new(alloc);
+    put_found(alloc, asked, &mut found)?;
+    Some(found.as_str() == wanted)
 }
 
 #[test]
-fn groups_that_no_statement_asks_for(rt: HostRuntime) -> Result<(), Fail> {
-    for (number, case) in CASES.iter().enumerate() {
-        let found = found(rt.alloc(), case).ok_or("no groups")?;
-        if !are(found.as_slice(), case.groups) {
-            return Err(Fail::new(format_args!("case {number}")));
+fn groups_are_those_of_their_rows(rt: HostRuntime) -> Result<(), Fail> {
+    for line in GROUPS.lines() {
+        if is_right(rt.alloc(), line) != Some(true) {
+            return Err(Fail::new(format_args!("{line}")));
         }
     }
     Ok(())

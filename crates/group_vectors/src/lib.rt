@@ -1,4 +1,4 @@
-//! Tests of groups and facets that no statement asks for.
+//! Tests of groups and facets of rows that are taken all at once, and of what no statement asks for.
 #![tactic(auto)]
 
 #[cfg(test)]

@@ -1,11 +1,11 @@
-//! The rows of the tables.
+//! The rows of the tables, and how the tables name them and their columns.
 use doc_types::Value;
-use row_select::Row;
+use row_select::{ColumnRef, Row};
 use srch_base::Items;
 use std::alloc::Global;
 
 /// Rows in the order in which they are found: id, weight and two attributes, gid and price.
-const ROWS: [(u64, u64, i64, i64); 8] = [
+const WEIGHED: [(u64, u64, i64, i64); 8] = [
     (4, 10, 10, 5),
     (2, 30, 20, 5),
     (18446744073709551614, 20, 10, -1),
@@ -16,8 +16,11 @@ const ROWS: [(u64, u64, i64, i64); 8] = [
     (5, 5, 40, -9223372036854775808),
 ];
 
-fn row(alloc: Global, id: u64, weight: u64, values: [i64; 2]) -> Option<Row> {
-    let values = values.map(Value::Whole);
+/// Three documents as a query finds them.
+const GREETINGS: [(u64, u64, i64, i64); 3] = [(1, 2, 10, 5), (2, 2, 20, 5), (3, 1, 10, -1)];
+
+fn row(alloc: Global, id: u64, weight: u64, gid: i64, price: i64) -> Option<Row> {
+    let values = [Value::Whole(gid), Value::Whole(price)];
     Some(Row {
         id,
         weight,
@@ -25,11 +28,27 @@ fn row(alloc: Global, id: u64, weight: u64, values: [i64; 2]) -> Option<Row> {
     })
 }
 
-/// The first rows, so many.
-pub(crate) fn first_rows(alloc: Global, count: usize) -> Option<Vec<Row>> {
+/// The rows of this name; there are none of any other one.
+pub(crate) fn rows_of(alloc: Global, name: &str) -> Option<Vec<Row>> {
+    let table = match name {
+        "weighed" => WEIGHED.as_slice(),
+        "greetings" => GREETINGS.as_slice(),
+        _ => [].as_slice(),
+    };
     let mut rows = Vec::new(alloc);
-    for (id, weight, gid, price) in ROWS.iter().take(count) {
-        rows.push(row(alloc, *id, *weight, [*gid, *price])?).ok()?;
+    for (id, weight, gid, price) in table {
+        rows.push(row(alloc, *id, *weight, *gid, *price)?).ok()?;
     }
     Some(rows)
+}
+
+pub(crate) fn column(name: &str) -> Option<ColumnRef> {
+    match name {
+        "id" => Some(ColumnRef::Id),
+        "weight" => Some(ColumnRef::Weight),
+        "gid" => Some(ColumnRef::Attr(0)),
+        "price" => Some(ColumnRef::Attr(1)),
+        "beyond" => Some(ColumnRef::Attr(2)),
+        _ => None,
+    }
 }

@@ -1,10 +1,8 @@
 //! What is shown of groups by what no statement asks for: no keys of an order, an aggregate that isn't there, the greatest pages.
-use crate::rows::first_rows;
-use group_facet::Fold::{Count, Sum};
+use crate::groups::groups_of;
 use group_facet::GroupColumn::{Folded, Key};
-use group_facet::{Group, GroupColumn, GroupPage, GroupRow, Having, group, top_groups};
-use row_select::ColumnRef::{Attr, Weight};
-use row_select::{CompareOp, Order, Page};
+use group_facet::{GroupColumn, GroupPage, Having, ShownGroups, top_groups};
+use row_select::{CompareOp, Page};
 use srch_base::Items;
 use std::alloc::Global;
 use std::test::Fail;
@@ -80,32 +78,27 @@ const CASES: [Case; 6] = [
     },
 ];
 
-/// The groups of all rows.
-fn groups(alloc: Global) -> Option<Vec<GroupRow>> {
-    let asked = Group {
-        by: Some(Attr(0)),
-        within: Order {
-            keys: Items::new(Vec::from_array(alloc, [(Weight, true)]).ok()?),
-        },
-        folds: Items::new(Vec::from_array(alloc, [Count, Sum(Attr(1))]).ok()?),
-    };
-    group(first_rows(alloc, 8)?, &asked).ok()
-}
-
-/// Whether four groups are found, and those shown that a case wants.
-fn is_shown(alloc: Global, case: &Case) -> Option<bool> {
+/// The groups that are shown of those of all rows.
+fn shown(alloc: Global, case: &Case) -> Option<ShownGroups> {
     let asked = GroupPage {
         having: case.having,
         keys: Items::new(Vec::from_slice(alloc, case.keys).ok()?),
         page: case.page,
     };
-    let shown = top_groups(groups(alloc)?, &asked).ok()?;
-    let are = shown
-        .rows
-        .iter()
-        .map(|group| group.key)
-        .eq(case.shown.iter().copied());
-    Some(shown.found == 4 && are)
+    let groups = groups_of(alloc, "weighed", "gid; weight desc; count, sum price")?;
+    top_groups(groups, &asked).ok()
+}
+
+/// Whether four groups are found, and those shown that a case wants.
+fn is_shown(alloc: Global, case: &Case) -> Option<bool> {
+    let shown = shown(alloc, case)?;
+    let mut wanted = case.shown.iter();
+    for group in shown.rows.iter() {
+        if wanted.next() != Some(&group.key) {
+            return Some(false);
+        }
+    }
+    Some(shown.found == 4 && wanted.next().is_none())
 }
 
 #[test]
