@@ -22,6 +22,8 @@ select a from rt where match("it's") ⇒ SELECT `a` FROM `rt` WHERE MATCH ( 'it\
 select a from rt where a <> -1 and b != 2 ⇒ SELECT `a` FROM `rt` WHERE `a` != - 1 AND `b` != 2
 select a from rt where a<1 and b>2 and c<=3 and d>=4 and e=5 ⇒ SELECT `a` FROM `rt` WHERE `a` < 1 AND `b` > 2 AND `c` <= 3 AND `d` >= 4 AND `e` = 5
 select a from rt where a = 18446744073709551615 and b = -18446744073709551615 ⇒ SELECT `a` FROM `rt` WHERE `a` = 18446744073709551615 AND `b` = - 18446744073709551615
+select a from rt where price > -5 ⇒ SELECT `a` FROM `rt` WHERE `price` > - 5
+select a from rt where a between -18446744073709551615 and -18446744073709551615 ⇒ SELECT `a` FROM `rt` WHERE `a` BETWEEN - 18446744073709551615 AND - 18446744073709551615
 select a from rt where a in (1) ⇒ SELECT `a` FROM `rt` WHERE `a` IN ( 1 )
 select a from rt where a not in (1,-2, 3) ⇒ SELECT `a` FROM `rt` WHERE `a` NOT IN ( 1 , - 2 , 3 )
 select a from rt where a between -2 and -1 ⇒ SELECT `a` FROM `rt` WHERE `a` BETWEEN - 2 AND - 1

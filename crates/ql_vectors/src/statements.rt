@@ -4,7 +4,7 @@ use crate::canonical::CANONICAL;
 use crate::packets::PACKETS;
 use crate::spelling::{MOST, written_out};
 use ql_lex::lex;
-use ql_parse::{Ids, ParseKind, Scope, Statement, parse, put_statement};
+use ql_parse::{Comparison, Cond, Ids, ParseKind, Scope, Statement, parse, put_statement};
 use srch_base::Or;
 use std::alloc::Global;
 use std::test::Fail;
@@ -72,15 +72,50 @@ fn listed(alloc: Global, text: &[u8]) -> Option<usize> {
     }
 }
 
+/// How the only condition of a SELECT compares, and with which number.
+fn compared(alloc: Global, text: &[u8]) -> Option<(Comparison, i128)> {
+    match read(alloc, text)?.as_slice() {
+        [Statement::Select(select)] => match select.conds.as_slice() {
+            [Cond::Compare { op, value, .. }] => Some((*op, *value)),
+            _ => None,
+        },
+        _ => None,
+    }
+}
+
 #[test]
 fn statements_have_their_parts(rt: HostRuntime) {
     let alloc = rt.alloc();
-    assert!(rt; scope_of(alloc, b"set a = 1") == Some(Scope::Absent));
-    assert!(rt; scope_of(alloc, b"set global a = 1") == Some(Scope::Global));
-    assert!(rt; scope_of(alloc, b"set session a = 1") == Some(Scope::Session));
-    assert!(rt; listed(alloc, b"delete from rt where id = 5") == Some(0));
-    assert!(rt; listed(alloc, b"delete from rt where id in (5)") == Some(1));
-    assert!(rt; listed(alloc, b"delete from rt where id in (5, 6)") == Some(2));
+    let scopes = [
+        scope_of(alloc, b"set a = 1"),
+        scope_of(alloc, b"set global a = 1"),
+        scope_of(alloc, b"set session a = 1"),
+    ];
+    assert!(rt;
+        scopes
+            == [
+                Some(Scope::Absent),
+                Some(Scope::Global),
+                Some(Scope::Session)
+            ]
+    );
+    let lists = [
+        listed(alloc, b"delete from rt where id = 5"),
+        listed(alloc, b"delete from rt where id in (5)"),
+        listed(alloc, b"delete from rt where id in (5, 6)"),
+    ];
+    assert!(rt; lists == [Some(0), Some(1), Some(2)]);
+    let conditions = [
+        compared(alloc, b"select a from rt where b > -5"),
+        compared(alloc, b"select a from rt where b = -18446744073709551615"),
+    ];
+    assert!(rt;
+        conditions
+            == [
+                Some((Comparison::Greater, -5)),
+                Some((Comparison::Equal, -18_446_744_073_709_551_615)),
+            ]
+    );
 }
 
 /// The place at which there are too many statements, behind 31 of them.
