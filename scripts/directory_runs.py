@@ -6,9 +6,10 @@
 Each directory is written to an empty folder, which is removed afterwards; four run side by side. `check` says which damage it
 has, that its numbers have no room, or how many documents and records it stands for. Where it stands for documents, a session
 over it shows them: their ids and values, and of each word in each field how often it stands up to each position, in which zones,
-and with which others it shares a sentence, a paragraph or a span (`shown_documents`). Then the session puts one document: the
-record that is written has the next number, and a second check counts one more. What no session shows of a document, which
-commit put it and words that can't be asked for, is left to the tests of `directory_vectors`.
+and with which others it shares a sentence, a paragraph or a span; in a long field, of which not each position is tried, also
+which others stand behind it (`shown_documents`). Then the session puts one document: the record that is written has the next
+number, and a second check counts one more. What no session shows of a document, which commit put it and words that can't be
+asked for, is left to the tests of `directory_vectors`.
 
 A directory is one case. The last line is `directory_runs: N cases, M wrong`, and the status is 0 where none is wrong and no
 fewer are found than are known.

@@ -93,6 +93,13 @@ def in_zone(field, word, zone):
     return sum(any(first <= at <= last for _, first, last in spans) for at in field.words.get(word, []))
 
 
+def phrase_hits(field, one, two):
+    """How many hits a phrase of two words has: each has its places that lie inside some run of both."""
+    seconds = set(field.words.get(two, []))
+    inside = {place for at in field.words.get(one, []) if at + 1 in seconds for place in (at, at + 1)}
+    return sum(at in inside for word in (one, two) for at in field.words.get(word, []))
+
+
 def escaped(word):
     """A word as it is asked for."""
     return re.sub(r"([ -/:-@\[-`{-~])", r"\\\1", word)
@@ -139,7 +146,10 @@ class Documents:
             fields = [one.fields[place] for one in self.all]
             for word in words:
                 yield from self.of_word(f"@{name}", fields, word)
+            is_long = any(field.last > SHORT for field in fields)
             for one, two in product(words, words):
+                if is_long:
+                    yield self.of_neighbours(f"@{name}", fields, one, two)
                 if sum(len(field.words.get(one, [])) * len(field.words.get(two, [])) for field in fields) <= MOST_PAIRS:
                     yield from self.of_pair(f"@{name}", fields, one, two)
 
@@ -155,6 +165,11 @@ class Documents:
         yield self.asked(f"{limit} {escaped(word)}$", [field.last in some for field, some in zip(fields, places)])
         for zone, name in enumerate(ZONES):
             yield self.asked(f"{limit} ZONE:{name} {escaped(word)}", [in_zone(field, word, zone) for field in fields])
+
+    def of_neighbours(self, limit, fields, one, two):
+        """How often two words stand one behind the other in a field of the documents."""
+        counts = [phrase_hits(field, one, two) for field in fields]
+        return self.asked(f'{limit} "{escaped(one)} {escaped(two)}"', counts)
 
     def of_pair(self, limit, fields, one, two):
         """What two words share in a field of the documents."""
