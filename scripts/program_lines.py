@@ -16,7 +16,7 @@ KNOWN = {
     "Runs: sessions": 11,
     "Cuts": 1,
     "Serving: connections one after the other": 5,
-    "Serving: two connections at once": 3,
+    "Serving: two connections at once": 4,
     "Serving: how many at once": 3,
     "Folders": 5,
 }

@@ -12,8 +12,6 @@ mod failing;
 #[cfg(test)]
 mod lines;
 #[cfg(test)]
-mod meetings;
-#[cfg(test)]
 mod runs;
 #[cfg(test)]
 mod serving;

@@ -59,7 +59,7 @@ fn numbers_of(alloc: Global, calls: &str) -> Option<Vec<u32>> {
 }
 
 /// The words of a command line, with blanks between.
-pub(crate) fn words_of(alloc: Global, text: &str) -> Option<Vec<String>> {
+fn words_of(alloc: Global, text: &str) -> Option<Vec<String>> {
     let mut words = Vec::new(alloc);
     for word in text.split(' ') {
         words.push(String::from_str(alloc, word).ok()?).ok()?;
