@@ -9,11 +9,11 @@ use std::thread::Threads;
 /// that each of them leaves.
 const CRASHES: &str =
     r#" 0=010100000000000000240000000c006669656c64207469746c650a00000000000000000300000000000000020000000000 2=012300000001000000000000000100000001070000000000000002000000000568656c6c6f0005776f726c640000000000
-a commit | session --config searchd.conf | one |  | RESP; INSERT INTO one VALUES (7,'hello world'); QUIT => hello 1; accepted; ok 1 2 ⇒ 0; asks searchd.conf, in one, 1, 1 and 1 back;
-the index then | check --config searchd.conf | one ~# |  | - ⇒ 0; asks searchd.conf, in one, 1 and 0 back; one: 1 documents, 0 disk chunks, 1 log records;
-once more | check --config searchd.conf | one ~# |  | - ⇒ 0; asks searchd.conf, in one, 1 and 0 back; one: 1 documents, 0 disk chunks, 1 log records;
-a second session | session --config searchd.conf | one ~# |  | RESP; SELECT id FROM one; INSERT INTO one VALUES (7,'x'); QUIT => hello 1; accepted; ids 2: 7; err 1064 42000 duplicate id 7 ⇒ 0; asks searchd.conf, in one, 1, 1 and 1 back;
-the index after that | check --config searchd.conf | one ~# |  | - ⇒ 0; asks searchd.conf, in one, 1 and 0 back; one: 1 documents, 0 disk chunks, 1 log records;
+a commit | session --config one | one |  | RESP; INSERT INTO one VALUES (7,'hello world'); QUIT => hello 1; accepted; ok 1 2 ⇒ 0; asks one, in one, 1, 1 and 1 back;
+the index then | check --config one | one ~# |  | - ⇒ 0; asks one, in one, 1 and 0 back; one: 1 documents, 0 disk chunks, 1 log records;
+once more | check --config one | one ~# |  | - ⇒ 0; asks one, in one, 1 and 0 back; one: 1 documents, 0 disk chunks, 1 log records;
+a second session | session --config one | one ~# |  | RESP; SELECT id FROM one; INSERT INTO one VALUES (7,'x'); QUIT => hello 1; accepted; ids 2: 7; err 1064 42000 duplicate id 7 ⇒ 0; asks one, in one, 1, 1 and 1 back;
+the index after that | check --config one | one ~# |  | - ⇒ 0; asks one, in one, 1 and 0 back; one: 1 documents, 0 disk chunks, 1 log records;
 "#;
 
 /// Goes through these runs by each pick.
@@ -34,9 +34,9 @@ const DONE: &str =
     "RESP; INSERT INTO rt VALUES (1,'hello'); INSERT INTO rt VALUES (2,'hello'); SELECT id FROM rt; QUIT => hello 1; accepted; ok 1 2; ok 1 2; ids 2: 1 2";
 
 /// What a run comes to whose store isn't open, and one that serves its line.
-const UNOPENED: &str = "4; asks searchd.conf, in rt, 1 and 0 back; ! searchd: host fault;";
+const UNOPENED: &str = "4; asks rt, in rt, 1 and 0 back; ! searchd: host fault;";
 
-const SERVED: &str = "0; asks searchd.conf, in rt, 1, 1 and 1 back;";
+const SERVED: &str = "0; asks rt, in rt, 1, 1 and 1 back;";
 
 /// What comes of later calls that fail, in this order: what is sent and replied, and how many documents and records a check finds after a
 /// crash, by each pick.
@@ -65,9 +65,7 @@ const OUTCOMES: [(&str, [u8; 4]); 5] = [
 
 /// The row of a session of these packets over one line, whose store fails at this call.
 fn session(alloc: Global, call: u64, line: &str, told: &str) -> Option<String> {
-    format!(in alloc;
-        "call {call} | session --config searchd.conf | rt !{call} |  | {line} ⇒ {told}"
-    ).ok()
+    format!(in alloc; "call {call} | session --config rt | rt !{call} |  | {line} ⇒ {told}").ok()
 }
 
 /// None where a call that fails has another outcome than this one, also after a crash.
@@ -81,7 +79,7 @@ fn is_outcome<R: Threads + Wait + Sync>(
     let row = session(alloc, call, outcome.0, SERVED)?;
     for (pick, count) in outcome.1.iter().enumerate() {
         let table = format!(in alloc;
-            "\n{row}\nthen | check --config searchd.conf | rt ~{pick} |  | - ⇒ 0; asks searchd.conf, in rt, 1 and 0 back; rt: {count} documents, 0 disk chunks, {count} log records;"
+            "\n{row}\nthen | check --config rt | rt ~{pick} |  | - ⇒ 0; asks rt, in rt, 1 and 0 back; rt: {count} documents, 0 disk chunks, {count} log records;"
         ).ok()?;
         run_table(rt, alloc, table.as_str(), said)?;
     }

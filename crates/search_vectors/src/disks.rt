@@ -49,8 +49,8 @@ fn store_of(alloc: Global, index: &str, before: Option<&MemoryDisk>) -> Option<(
 
 /// The stores of indexes, by the words of a table.
 ///
-/// An index is its name, which is its path too. Its store has no files. `!N` says that the N-th call on it fails; `~N` says that it is
-/// what a crash by the pick N leaves of the store that came back of the run before.
+/// An index is its name, which is its store's path. The store has no files. `!N` says that the N-th call on it fails; `~N` says that it is
+/// what a crash by the pick N leaves of the first store that came back of the run before.
 pub(crate) fn stores_of(
     alloc: Global,
     indexes: &str,

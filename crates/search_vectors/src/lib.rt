@@ -8,6 +8,8 @@ mod crashes;
 #[cfg(test)]
 mod disks;
 #[cfg(test)]
+mod ends;
+#[cfg(test)]
 mod failing;
 #[cfg(test)]
 mod lines;

@@ -17,25 +17,32 @@ use std::alloc::Global;
 use std::sync::Wait;
 use std::thread::Threads;
 
-/// A configuration of the indexes of a table, each of which has its name as its path.
-fn configuration(alloc: Global, indexes: &str) -> Option<Vec<u8>> {
-    let mut text = String::new(alloc);
-    for index in indexes.split(" + ") {
-        let name = index.split(' ').next()?;
-        write!(
-            text,
-            "index {name} {{\ntype = rt\npath = {name}\nrt_field = title\n}}\n"
-        )
-        .ok()?;
-    }
-    Some(text.into_bytes())
+/// The files of each host: a path, and the text, each of whose lines ends in `;`. The first three are configurations of indexes that
+/// have their names as their paths, and then two of one index with another column; the others are none.
+const FILES: &str = "one: index one {;type = rt;path = one;rt_field = title;};
+rt: index rt {;type = rt;path = rt;rt_field = title;};
+both: index one {;type = rt;path = one;rt_field = title;};index two {;type = rt;path = two;rt_field = title;};
+first: index one {;type = rt;path = one;rt_field = body;};index two {;type = rt;path = two;rt_field = title;};
+second: index one {;type = rt;path = one;rt_field = title;};index two {;type = rt;path = two;rt_field = body;};
+section: indx one {;};
+key: index one {;type = rt;path = one;rt_feld = title;};
+path: index one {;type = rt;rt_field = title;};
+nothing: ";
+
+/// The file of a line.
+fn file_of(alloc: Global, line: &str) -> Option<(Text, Vec<u8>)> {
+    let (path, text) = line.split_once(": ")?;
+    let path = Text::from_slice(alloc, path.as_bytes()).ok()?;
+    Some((path, text.replace(alloc, ";", "\n").ok()?.into_bytes()))
 }
 
-/// The one file of a host.
-fn files_of(alloc: Global, row: &Row<'_>) -> Option<Vec<(Text, Vec<u8>)>> {
-    let path = Text::from_slice(alloc, b"searchd.conf").ok()?;
-    let text = configuration(alloc, row.indexes)?;
-    Vec::from_array(alloc, [(path, text)]).ok()
+/// The files of a host.
+fn files(alloc: Global) -> Option<Vec<(Text, Vec<u8>)>> {
+    let mut files = Vec::new(alloc);
+    for line in FILES.lines() {
+        files.push(file_of(alloc, line)?).ok()?;
+    }
+    Some(files)
 }
 
 /// So many doors without lines.
@@ -71,7 +78,7 @@ fn words_of(alloc: Global, text: &str) -> Option<Vec<String>> {
 #[derive(Clone, Copy)]
 struct Row<'a> {
     words: &'a str,
-    indexes: &'a str,
+    stores: &'a str,
     calls: &'a str,
     doors: &'a str,
     wanted: &'a str,
@@ -81,19 +88,19 @@ struct Row<'a> {
 fn fields_of(row: &str) -> Option<Row<'_>> {
     let (_, rest) = row.split_once(" | ")?;
     let (words, rest) = rest.split_once(" | ")?;
-    let (indexes, rest) = rest.split_once(" | ")?;
+    let (stores, rest) = rest.split_once(" | ")?;
     let (calls, rest) = rest.split_once(" | ")?;
     let (doors, wanted) = rest.split_once(" ⇒ ")?;
     Some(Row {
         words,
-        indexes,
+        stores,
         calls,
         doors,
         wanted,
     })
 }
 
-/// A host over memory with the file and the stores of a row, whose calls of the row's numbers fail. It has so many doors, which none
+/// A host over memory with the stores of a row, whose calls of the row's numbers fail. It has so many doors, which none
 /// sees.
 fn base_of(
     alloc: Global,
@@ -106,8 +113,7 @@ fn base_of(
 {
     let failing = numbers_of(alloc, row.calls)?;
     let doors = doors_without_lines(alloc, doors)?;
-    let files = files_of(alloc, row)?;
-    MemoryHost::new(alloc, files, stores, doors, failing).ok()
+    MemoryHost::new(alloc, files(alloc)?, stores, doors, failing).ok()
 }
 
 /// The host of a row, where the run before left this store.
@@ -115,7 +121,7 @@ fn host_of(alloc: Global, row: &Row<'_>, before: Option<&MemoryDisk>) -> Option<
     ensures { IfSome result (λ host. length host.base.stores_back ≤ length host.base.stores_given) }
 {
     let doors = doors_of(alloc, row.doors)?;
-    let stores = stores_of(alloc, row.indexes, before)?;
+    let stores = stores_of(alloc, row.stores, before)?;
     let base = base_of(alloc, row, doors.len(), stores)?;
     Some(TableHost {
         alloc,
@@ -149,7 +155,7 @@ fn is_wanted(
 /// Runs a row of a table, with the store that the run before left. Gives the host as it is then, or none where the run came to something
 /// else than the row says.
 ///
-/// What the row is of, ` | `, the words, ` | `, the indexes as `stores_of` reads them, ` | `, the calls of the host that fail, ` | `, the doors
+/// What the row is of, ` | `, the words, ` | `, the stores as `stores_of` reads them, ` | `, the calls of the host that fail, ` | `, the doors
 /// as `doors_of` reads them, and ` ⇒ ` with what `put_told` tells.
 pub(crate) fn run_row<R: Threads + Wait + Sync>(
     rt: &R,

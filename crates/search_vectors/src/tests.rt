@@ -1,5 +1,6 @@
 //! The tests over the tables of this crate: a test fails with the row that comes to something else.
 use crate::crashes::{try_calls, try_picks};
+use crate::ends::{DAMAGED, SELFTESTS, STORES, TEXTS, WORDS};
 use crate::failing::{CHECKS, DOORS, LINES};
 use crate::runs::run_table;
 use crate::serving::SERVED;
@@ -10,7 +11,9 @@ use std::sync::Wait;
 use std::test::Fail;
 use std::thread::Threads;
 
-const TABLES: [&str; 4] = [CHECKS, DOORS, LINES, SERVED];
+const TABLES: [&str; 9] = [
+    WORDS, TEXTS, STORES, DAMAGED, SELFTESTS, CHECKS, DOORS, LINES, SERVED,
+];
 
 /// Goes through all tables.
 fn try_tables<R: Threads + Wait + Sync>(rt: &R, alloc: Global, said: &mut String) -> Option<()> {
