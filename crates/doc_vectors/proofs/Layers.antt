@@ -1,5 +1,5 @@
 -- In layers of which one alone has rows no id lives twice.
-use Rattle.std.proofs.Common.{◌≡◌, ◌≢◌, ℕ, ◌+◌, ◌<◌, suc, List, [], ◌∷◌, ◌++◌, true, false, not, map, length, sym, ap, subst, ◌∙◌, append-nil, arith, All, AllPairs}
+use Rattle.std.proofs.Common.{◌≡◌, ◌≢◌, ℕ, ◌+◌, ◌<◌, suc, List, [], ◌∷◌, ◌++◌, Bool, not, map, length, refl, sym, ap, subst, ◌∙◌, append-nil, arith, All, AllPairs}
 use Rattle.std.specs.List.{filter, enumerate_from}
 use Rattle.std.proofs.lemmas.List.Elements.{All-nil, All-cons}
 use Rattle.std.proofs.lemmas.List.Kept.{AllPairs-cons, AllPairs-filter}
@@ -8,7 +8,6 @@ use Rattle.doc_types.specs.Chunks.{IsContent}
 use Rattle.doc_types.specs.Snapshots.{LayerValue, IsLayer, AreLayers, all_living, living, is_dead}
 use Rattle.doc_types.proofs.Living.{all_rows}
 use Rattle.doc_types.proofs.Numbers.{All-tail}
-use Rattle.doc_vectors.proofs.Rows.{content, no_rows}
 
 below_all : (id n : ℕ) (rows : List DocRow) → All (λ row. id < row.doc.id) rows → All (λ (e : ℕ × DocRow). id < e.1.doc.id) (enumerate_from n rows)
 below_all id n [] all = All-nil (λ (e : ℕ × DocRow). id < e.1.doc.id)
@@ -61,26 +60,32 @@ two_layers layer none is is_none empty =
 none_rises : AllPairs (λ (a : ℕ) (b : ℕ). a < b) []
 none_rises i j d l h = absurd (omega (arith, h))
 
--- ten rows, of which three are dead
-pub full_is : (rows : List DocRow) (dead : List ℕ) → IsContent rows → length rows ≡ 10 → dead ≡ 0 ∷ 4 ∷ 9 ∷ [] → IsLayer (record { rows = rows; disk = true; dead = dead })
-full_is rows dead content ten three = record {
-  content = content;
-  ascend = subst (AllPairs (λ (a : ℕ) (b : ℕ). a < b)) (sym three)
-      (AllPairs-cons (λ (a : ℕ) (b : ℕ). a < b) 0 (4 ∷ 9 ∷ [])
+-- no row is dead
+pub none_dead : (n : ℕ) → AllPairs (λ (a : ℕ) (b : ℕ). a < b) [] × All (λ (row : ℕ). row < n) []
+none_dead n = (none_rises, All-nil (λ (row : ℕ). row < n))
+
+-- three of ten are
+pub three_dead : AllPairs (λ (a : ℕ) (b : ℕ). a < b) (0 ∷ 4 ∷ 9 ∷ []) × All (λ (row : ℕ). row < 10) (0 ∷ 4 ∷ 9 ∷ [])
+three_dead = (
+  AllPairs-cons (λ (a : ℕ) (b : ℕ). a < b) 0 (4 ∷ 9 ∷ [])
       (All-cons (λ (b : ℕ). 0 < b) 4 (9 ∷ []) (omega arith) (All-cons (λ (b : ℕ). 0 < b) 9 [] (omega arith) (All-nil (λ (b : ℕ). 0 < b))))
       (AllPairs-cons (λ (a : ℕ) (b : ℕ). a < b) 4 (9 ∷ [])
       (All-cons (λ (b : ℕ). 4 < b) 9 [] (omega arith) (All-nil (λ (b : ℕ). 4 < b)))
-      (AllPairs-cons (λ (a : ℕ) (b : ℕ). a < b) 9 [] (All-nil (λ (b : ℕ). 9 < b)) none_rises)));
-  rows = subst (All (λ (row : ℕ). row < length rows)) (sym three)
-      (All-cons (λ (row : ℕ). row < length rows) 0 (4 ∷ 9 ∷ []) (omega (arith, ten))
-      (All-cons (λ (row : ℕ). row < length rows) 4 (9 ∷ []) (omega (arith, ten))
-      (All-cons (λ (row : ℕ). row < length rows) 9 [] (omega (arith, ten)) (All-nil (λ (row : ℕ). row < length rows)))));
+      (AllPairs-cons (λ (a : ℕ) (b : ℕ). a < b) 9 [] (All-nil (λ (b : ℕ). 9 < b)) none_rises)),
+  All-cons (λ (row : ℕ). row < 10) 0 (4 ∷ 9 ∷ []) (omega arith)
+      (All-cons (λ (row : ℕ). row < 10) 4 (9 ∷ []) (omega arith)
+      (All-cons (λ (row : ℕ). row < 10) 9 [] (omega arith) (All-nil (λ (row : ℕ). row < 10)))),
+)
+
+-- a layer of so many rows
+pub layer_is : (rows : List DocRow) (disk : Bool) (dead listed : List ℕ) (n : ℕ) → IsContent rows → length rows ≡ n → dead ≡ listed → AllPairs (λ (a : ℕ) (b : ℕ). a < b) listed → All (λ (row : ℕ). row < n) listed → IsLayer (record { rows = rows; disk = disk; dead = dead })
+layer_is rows disk dead listed n content long e ascend below = record {
+  content = content;
+  ascend = subst (AllPairs (λ (a : ℕ) (b : ℕ). a < b)) (sym e) ascend;
+  rows = subst (All (λ (row : ℕ). row < length rows)) (sym e) (subst (λ m. All (λ (row : ℕ). row < m) listed) (sym long) below);
 }
 
--- a layer without rows
-pub empty_is : (rows : List DocRow) (dead : List ℕ) → rows ≡ [] → dead ≡ [] → IsLayer (record { rows = rows; disk = false; dead = dead })
-empty_is rows dead no_row no_dead = record {
-  content = subst IsContent (sym no_row) (content [] no_rows (omega arith));
-  ascend = subst (AllPairs (λ (a : ℕ) (b : ℕ). a < b)) (sym no_dead) none_rises;
-  rows = subst (All (λ (row : ℕ). row < length rows)) (sym no_dead) (All-nil (λ (row : ℕ). row < length rows));
-}
+-- one without rows has none
+pub without_rows : (rows : List DocRow) → length rows ≡ 0 → rows ≡ []
+without_rows [] e = refl
+without_rows (row ∷ rows) e = absurd (omega (arith, e))

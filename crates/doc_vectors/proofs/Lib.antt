@@ -1,4 +1,3 @@
 pub mod TheSchema
 pub mod Rows
 pub mod Layers
-pub mod WideRows

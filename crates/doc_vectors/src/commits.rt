@@ -1,70 +1,92 @@
 //! Lengths of transactions by the layout of a log's payload, and copies that equal what they copy.
-use crate::documents::{hello_world, rows};
-use crate::telling::compare;
-use doc_types::{DocRow, Txn, TxnOp, txn_bytes};
+
+use crate::documents::rows_of;
+use doc_types::{Doc, DocRow, Txn, TxnOp, txn_bytes};
 use srch_base::Items;
 use std::alloc::Global;
-use std::test::Fail;
 
-/// How many bytes transactions take in a log, worked out by hand: one of no operation; those that put a document, 45 and, for each
-/// word, 2 and its bytes, and 12 for each span; one that clears the index, inserts all documents and kills one; and one that puts
-/// `hello world` as the one field of a document without values, 35, as a log's record of it has.
-const LENGTHS: &str = " 4 64 65 82 95 95 86 71 113 45 87 777 35";
+/// Transactions over the ten documents, and how many bytes they take in a log, worked out by hand: `+0` inserts the document of row 0,
+/// `=0` puts it, `-5` deletes the id 5, and `*` clears all. One of no operation takes 4; one that puts a document 45 and, for each
+/// word, 2 and its bytes, and 12 for each span.
+pub(crate) const OF_DOCUMENTS: &str = "\
+=0 ⇒ 64
+ ⇒ 4
+=1 ⇒ 65
+=2 ⇒ 82
+=3 ⇒ 95
+=4 ⇒ 95
+=5 ⇒ 86
+=6 ⇒ 71
+=7 ⇒ 113
+=8 ⇒ 45
+=9 ⇒ 87
+* +0 +1 +2 +3 +4 +5 +6 +7 +8 +9 -5 ⇒ 777
+";
 
-/// Appends the length of a transaction, and `!` where its copy isn't the same.
-fn put_length(txn: &Txn, into: &mut String) -> Option<()> {
-    let copy = txn.clone().ok()?;
-    if copy != *txn {
-        into.push('!').ok()?;
-    }
-    let length = txn_bytes(txn);
-    write!(into, " {length}").ok()
-}
+/// One that puts `hello world` as the one field of a document without values, as a log's record of it has.
+pub(crate) const OF_HELLO_WORLD: &str = "=0 ⇒ 35\n";
 
-/// Appends the length of a transaction of these operations.
-fn put_txn(ops: Vec<TxnOp>, into: &mut String) -> Option<()> {
-    let txn = Txn {
-        ops: Items::new(ops),
-    };
-    put_length(&txn, into)
-}
+/// One of all four kinds of operations.
+pub(crate) const OF_EACH_KIND: &str = "* +0 =1 -7 ⇒ 150\n";
 
-/// Appends the length of a transaction that puts a row's document, and `!` where the row's copy isn't the same.
-fn put_row(alloc: Global, row: &DocRow, into: &mut String) -> Option<()> {
+/// The document of a row with this number, where its copy is the same.
+fn doc_at(rows: &[DocRow], number: &str) -> Option<Doc> {
+    let row = rows.get(number.parse::<usize>().ok()?)?;
     let copy = row.clone().ok()?;
     if copy != *row {
-        into.push('!').ok()?;
+        return None;
     }
-    let put = TxnOp::Put(row.doc.clone().ok()?);
-    put_txn(Vec::from_array(alloc, [put]).ok()?, into)
+    Some(copy.doc)
 }
 
-/// The operations of a transaction of many.
-fn many(alloc: Global, rows: &[DocRow]) -> Option<Vec<TxnOp>> {
+/// The operation that a word stands for.
+fn op_of(rows: &[DocRow], word: &str) -> Option<TxnOp> {
+    if word == "*" {
+        return Some(TxnOp::Clear);
+    }
+    let (sign, number) = word.split_at_checked(1)?;
+    match sign {
+        "+" => Some(TxnOp::Insert(doc_at(rows, number)?)),
+        "=" => Some(TxnOp::Put(doc_at(rows, number)?)),
+        "-" => Some(TxnOp::Kill(number.parse::<u64>().ok()?)),
+        _ => None,
+    }
+}
+
+/// The transaction of these words.
+fn txn_of(alloc: Global, rows: &[DocRow], words: &str) -> Option<Txn> {
     let mut ops = Vec::new(alloc);
-    ops.push(TxnOp::Clear).ok()?;
-    for row in rows {
-        ops.push(TxnOp::Insert(row.doc.clone().ok()?)).ok()?;
+    for word in words.split_whitespace() {
+        ops.push(op_of(rows, word)?).ok()?;
     }
-    ops.push(TxnOp::Kill(5)).ok()?;
-    Some(ops)
+    Some(Txn {
+        ops: Items::new(ops),
+    })
 }
 
-/// Appends the lengths of all transactions.
-fn put_lengths(alloc: Global, rows: &[DocRow], hello: &DocRow, into: &mut String) -> Option<()> {
-    put_txn(Vec::new(alloc), into)?;
-    for row in rows {
-        put_row(alloc, row, into)?;
-    }
-    put_txn(many(alloc, rows)?, into)?;
-    put_row(alloc, hello, into)
+/// None where a transaction of a line takes another number of bytes, or its copy isn't the same.
+fn takes(alloc: Global, rows: &[DocRow], line: &str) -> Option<()> {
+    let (words, bytes) = line.split_once(" ⇒ ")?;
+    let bytes = bytes.parse::<u64>().ok()?;
+    let txn = txn_of(alloc, rows, words)?;
+    let copy = txn.clone().ok()?;
+    (copy == txn && txn_bytes(&txn) == bytes).then_some(())
 }
 
-#[test]
-fn transactions_have_their_lengths(rt: HostRuntime) -> Result<(), Fail> {
-    let rows = rows(rt.alloc())?;
-    let hello = hello_world(rt.alloc())?;
-    let mut told = String::new(rt.alloc());
-    put_lengths(rt.alloc(), rows.as_slice(), &hello, &mut told).ok_or("no lengths")?;
-    compare(told.as_str(), LENGTHS)
+/// None where one of a table over its documents does; then its line is said.
+pub(crate) fn transactions_take(
+    alloc: Global,
+    documents: &str,
+    fields: usize,
+    attrs: u16,
+    table: &str,
+    said: &mut String,
+) -> Option<()> {
+    let rows = rows_of(alloc, documents, fields, attrs)?;
+    for line in table.lines() {
+        said.clear();
+        said.push_str(line).ok()?;
+        takes(alloc, rows.as_slice(), line)?;
+    }
+    Some(())
 }

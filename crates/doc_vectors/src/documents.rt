@@ -1,138 +1,100 @@
-//! Ten documents, by the texts of their fields.
-ghost use Rattle.std.specs.Prelude.{◌<◌, IfOk, OnOk, All, AllPairs, IsTrue, length};
-ghost use Rattle.doc_types.specs.Schemas.{AreZones};
-ghost use Rattle.doc_types.specs.Documents.{AreRowsOf, IsDocOf, IsField};
+//! Rows of documents, from the texts of their fields.
+ghost use Rattle.std.specs.Prelude.{◌<◌, IfSome, OnSome, All, AllPairs, IsTrue};
 ghost use Rattle.doc_types.specs.Chunks.{IsContent};
-ghost use Rattle.doc_vectors.specs.steps.Columns.{HasColumns, the_schema};
+ghost use Rattle.doc_types.specs.declared.schema.Schema.{Schema};
+ghost use Rattle.doc_types.specs.Schemas.{AreZones};
+ghost use Rattle.doc_vectors.specs.steps.Columns.{AreFields, AreListed, HasShape, IsShort};
 
 use charset_map::Charset;
 use doc_tokens::tokens;
 use doc_types::{Doc, DocRow, FieldTokens, Value};
 use mark_scan::MarkRules;
-use srch_base::{Items, Name, NoMemory};
+use srch_base::{Items, Name};
 use std::alloc::Global;
 
-/// A document as it is written: its id, the number of its commit, whether sentences and paragraphs are looked for, the texts of
-/// its fields `title`, `content` and `note`, and its values of `gid` and `price`. Markup is looked at, and `th` and `i` are zones.
-type Written = (
-    u64,
-    u64,
-    bool,
-    &'static str,
-    &'static str,
-    &'static str,
-    i64,
-    i64,
-);
+/// The most bytes of a field's text, and the most rows of a table.
+const MOST_BYTES: usize = 200_000;
 
-/// Documents by ascending id: words in several fields and several times in one, boundaries of both kinds, zones that overlap,
-/// fields without a word, a document without one, and the greatest id and numbers.
-pub(crate) const DOCUMENTS: [Written; 10] = [
-    (1, 3, true, "hello world", "one", "", 10, 5),
-    (2, 3, true, "hello", "world wide", "", 20, 5),
-    (3, 4, true, "world hello", "nothing", "Привет!", 10, -1),
-    (
-        5,
-        4,
-        true,
-        "John D. Doe met S.T.A.L.K.E.R. He left!",
-        "",
-        "",
-        0,
-        0,
-    ),
-    (
-        6,
-        5,
-        false,
-        "John D. Doe met S.T.A.L.K.E.R. He left!",
-        "",
-        "",
-        0,
-        0,
-    ),
-    (7, 5, false, "<th>hello</th> x <th>world</th>", "", "", 1, 1),
-    (8, 5, false, "<th>hello world", "", "", 1, 2),
-    (
-        9,
-        9,
-        true,
-        "te<P>st</P>",
-        "te<B>st</B> <th>hello</th>",
-        "Why? Because.<p>So it is. it was",
-        7,
-        -7,
-    ),
-    (
-        1000,
-        9_223_372_036_854_775_807,
-        true,
-        "",
-        " <p>.<!-- a -->",
-        "",
-        4_294_967_295,
-        -9_223_372_036_854_775_808,
-    ),
-    (
-        18_446_744_073_709_551_615,
-        9_223_372_036_854_775_807,
-        true,
-        "a",
-        "a! a",
-        "<th>b<i>a</th>a</i>",
-        0,
-        9_223_372_036_854_775_807,
-    ),
-];
+const MOST_ROWS: usize = 1_000;
 
-/// The rules of an index with the zones `th` and `i`.
-fn rules(alloc: Global, sp: bool) -> Result<MarkRules, NoMemory>
-    ensures { IfOk result (λ rules. AreZones rules.zones) }
+/// The rules of a document: of `plain` texts, of those with markup, `html`, and of those in which also sentences and paragraphs are
+/// looked for, `sp`. The zones are `th` and `i`.
+fn rules(alloc: Global, how: &str) -> Option<MarkRules>
+    ensures { IfSome result (λ rules. AreZones rules.zones) }
 {
     let mut zones = Vec::new(alloc);
-    zones.push(Name::from_slice(alloc, b"th")?)?;
-    zones.push(Name::from_slice(alloc, b"i")?)?;
+    zones.push(Name::from_slice(alloc, b"th").ok()?).ok()?;
+    zones.push(Name::from_slice(alloc, b"i").ok()?).ok()?;
     let zones = Items::new(zones);
-    Ok(MarkRules {
-        strip: true,
-        sp,
+    Some(MarkRules {
+        strip: how != "plain",
+        sp: how == "sp",
         zones,
     })
 }
 
-/// The tokens of a short text.
-fn field(alloc: Global, charset: &Charset, sp: bool, text: &str) -> Result<FieldTokens, NoMemory>
-    ensures field { IfOk result IsField }
-    ensures few { IfOk result (λ tokens. length tokens.spans < 1000) }
+/// The tokens of a text, or of `n×x`, which is x written n times.
+fn field(alloc: Global, charset: &Charset, rules: &MarkRules, text: &str) -> Option<FieldTokens>
+    requires { AreZones rules.now.zones }
+    ensures { IfSome result IsShort }
 {
-    if text.len() >= 1000 {
-        return Err(NoMemory);
+    let (count, piece) = text.split_once('×').unwrap_or(("1", text));
+    let mut whole = String::new(alloc);
+    for _ in 0..count.parse::<u32>().ok()? {
+        whole.push_str(piece).ok()?;
     }
-    let rules = rules(alloc, sp)?;
-    match tokens(alloc, charset, &rules, text) {
-        Ok(found) if found.spans.len() < 1000 => Ok(found),
-        _ => Err(NoMemory),
+    if whole.len() > MOST_BYTES {
+        return None;
+    }
+    match tokens(alloc, charset, rules, whole.as_str()) {
+        Ok(found) if found.spans.len() <= 1000 => Some(found),
+        _ => None,
     }
 }
 
-/// The row of a written document.
-fn row(alloc: Global, charset: &Charset, written: &Written) -> Result<DocRow, NoMemory>
-    ensures { IfOk result (λ row. IsDocOf the_schema row.doc) }
+/// So many fields of a document, of texts with `|` between them; those that it doesn't have are empty.
+fn fields(
+    alloc: Global,
+    charset: &Charset,
+    rules: &MarkRules,
+    texts: &str,
+    count: usize,
+) -> Option<Items<FieldTokens>>
+    requires { AreZones rules.now.zones }
+    ensures { IfSome result (AreFields count) }
 {
-    let (id, born, sp, title, content, note, gid, price) = *written;
+    let mut texts = texts.split('|');
     let mut fields = Vec::new(alloc);
-    fields.push(field(alloc, charset, sp, title)?)?;
-    fields.push(field(alloc, charset, sp, content)?)?;
-    fields.push(field(alloc, charset, sp, note)?)?;
+    for number in 0..count {
+        let text = texts.next().unwrap_or("");
+        fields.push(field(alloc, charset, rules, text)?).ok()?;
+    }
+    Some(Items::new(fields))
+}
+
+/// The values of a document.
+fn values(alloc: Global, words: &str) -> Option<Items<Value>> {
     let mut values = Vec::new(alloc);
-    values.push(Value::Whole(gid))?;
-    values.push(Value::Whole(price))?;
-    Ok(DocRow {
-        doc: Doc {
-            id,
-            fields: Items::new(fields),
-            values: Items::new(values),
-        },
+    for word in words.split_whitespace() {
+        values.push(Value::Whole(word.parse::<i64>().ok()?)).ok()?;
+    }
+    Some(Items::new(values))
+}
+
+/// The row of a line of a table: the id, the number of the commit, the rules and the values; then the fields.
+fn row(alloc: Global, charset: &Charset, line: &str, count: usize) -> Option<DocRow>
+    ensures { IfSome result (λ row. AreFields count row.doc.fields) }
+{
+    let (head, texts) = line.split_once('|')?;
+    let (id, rest) = head.split_once(' ')?;
+    let (born, rest) = rest.split_once(' ')?;
+    let (how, words) = rest.split_once(' ').unwrap_or((rest, ""));
+    let (id, born) = (id.parse::<u64>().ok()?, born.parse::<u64>().ok()?);
+    let rules = rules(alloc, how)?;
+    let fields = fields(alloc, charset, &rules, texts, count)?;
+    let values = values(alloc, words)?;
+    Some(DocRow {
+        doc: Doc { id, fields, values },
         born,
     })
 }
@@ -148,69 +110,48 @@ fn goes_on(rows: &[DocRow], id: u64) -> bool
     }
 }
 
-/// Appends a row, unless its id doesn't ascend.
-fn push(rows: &mut Vec<DocRow>, row: DocRow) -> Result<(), NoMemory>
-    requires row { IsDocOf the_schema row.doc }
-    requires rows { AreRowsOf the_schema rows.old.items }
-    ensures { OnOk result (AreRowsOf the_schema rows.new.items) }
+/// Appends a row, unless its id doesn't ascend or it has another number of values.
+fn push(rows: &mut Vec<DocRow>, row: DocRow, count: usize, attrs: u16) -> Option<()>
+    requires row { AreFields count row.doc.fields }
+    requires rows { AreListed count attrs rows.old.items }
+    ensures { OnSome result (AreListed count attrs rows.new.items) }
 {
-    if !goes_on(rows.as_slice(), row.doc.id) {
-        return Err(NoMemory);
+    if row.doc.values.len() != usize::from(attrs) || !goes_on(rows.as_slice(), row.doc.id) {
+        return None;
     }
-    rows.push(row)?;
-    Ok(())
+    rows.push(row).ok()?;
+    Some(())
 }
 
-/// The same rows, unless they are many.
-fn checked(rows: Vec<DocRow>) -> Result<Vec<DocRow>, NoMemory>
-    requires { AreRowsOf the_schema rows.items }
-    ensures content { IfOk result (λ rows. IsContent rows.items) }
-    ensures columns { IfOk result (λ rows. All HasColumns rows.items) }
+/// Whether there is a schema of so many fields and values among those of the tables.
+fn has_schema(count: usize, attrs: u16) -> bool
+    ensures { IsTrue result → (schema : Schema) × HasShape schema count attrs }
 {
-    if rows.as_slice().len() > 1000 {
-        return Err(NoMemory);
+    match count {
+        1 => attrs == 0,
+        3 => attrs == 2,
+        32 => attrs == 0,
+        _ => false,
     }
-    Ok(rows)
 }
 
-/// The rows of the documents.
-pub(crate) fn rows(alloc: Global) -> Result<Vec<DocRow>, NoMemory>
-    ensures content { IfOk result (λ rows. IsContent rows.items) }
-    ensures columns { IfOk result (λ rows. All HasColumns rows.items) }
+/// The rows of a table of documents of so many fields and values, unless they are many.
+pub(crate) fn rows_of(
+    alloc: Global,
+    documents: &str,
+    count: usize,
+    attrs: u16,
+) -> Option<Vec<DocRow>>
+    ensures listed { IfSome result (λ rows. AreListed count attrs rows.items) }
+    ensures content { IfSome result (λ rows. IsContent rows.items) }
 {
-    let charset = Charset::default_table(alloc)?;
+    let charset = Charset::default_table(alloc).ok()?;
     let mut rows = Vec::new(alloc);
-    for written in &DOCUMENTS {
-        push(&mut rows, row(alloc, &charset, written)?)?;
+    for line in documents.lines() {
+        push(&mut rows, row(alloc, &charset, line, count)?, count, attrs)?;
     }
-    checked(rows)
-}
-
-/// So many rows, unless they are too many: `a` stands in the title of each, and `b` in that of each third one from the first on.
-pub(crate) fn many_rows(alloc: Global, count: u64) -> Result<Vec<DocRow>, NoMemory>
-    ensures { IfOk result (λ rows. IsContent rows.items) }
-{
-    let charset = Charset::default_table(alloc)?;
-    let mut rows = Vec::new(alloc);
-    for id in 0..count {
-        let title = if id % 3 == 0 { "a b" } else { "a" };
-        let written = (id, 1, false, title, "", "", 0, 0);
-        push(&mut rows, row(alloc, &charset, &written)?)?;
+    if rows.as_slice().len() > MOST_ROWS || !has_schema(count, attrs) {
+        return None;
     }
-    checked(rows)
-}
-
-/// A row with one field, `hello world`, and no value.
-pub(crate) fn hello_world(alloc: Global) -> Result<DocRow, NoMemory> {
-    let charset = Charset::default_table(alloc)?;
-    let mut fields = Vec::new(alloc);
-    fields.push(field(alloc, &charset, false, "hello world")?)?;
-    Ok(DocRow {
-        doc: Doc {
-            id: 7,
-            fields: Items::new(fields),
-            values: Items::new(Vec::new(alloc)),
-        },
-        born: 1,
-    })
+    Some(rows)
 }

@@ -1,5 +1,5 @@
 //! Tests by tables of values from outside over documents: what a chunk over them answers, row by row and word by word, how many
-//! rows of a snapshot live, and how long a transaction's payload is.
+//! rows of a snapshot live, how long a transaction's payload is, and the bytes of images.
 #![tactic(auto)]
 
 #[cfg(test)]
@@ -9,8 +9,10 @@ mod commits;
 #[cfg(test)]
 mod documents;
 #[cfg(test)]
-mod edges;
+mod images;
 #[cfg(test)]
 mod snapshots;
+#[cfg(test)]
+mod tables;
 #[cfg(test)]
 mod telling;

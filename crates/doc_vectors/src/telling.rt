@@ -1,14 +1,13 @@
 //! What any chunk answers, as lines of text: of itself, of each row and of each word.
 ghost use Rattle.std.specs.Prelude.{◌≡◌, ◌<◌, All, IsSome, length};
 ghost use Rattle.doc_types.specs.Chunks.{next_row};
-ghost use Rattle.doc_vectors.specs.steps.Columns.{HasColumns};
+ghost use Rattle.doc_vectors.specs.steps.Columns.{HasValues};
 
 use doc_types::{Chunk, Cursor, Gap, HitLists, NO_ROW, Value, ZoneSpan};
 use srch_base::Steps;
 use std::alloc::Global;
 use std::marker::Brand;
 use std::sync::ledger::{Blank, Ledger};
-use std::test::Fail;
 
 /// Ids of which some are there.
 const IDS: [u64; 9] = [
@@ -26,22 +25,20 @@ const IDS: [u64; 9] = [
 /// Words of which one may be there: no word, one beside a word that is there, in other letters, and one after all others.
 const WORDS: [&str; 8] = ["", "aa", "hell", "hello", "hello ", "World", "п", "я"];
 
-/// Fails with the first line that isn't as it is wanted.
-pub(crate) fn compare(told: &str, wanted: &str) -> Result<(), Fail> {
+/// None where a text has other lines than are wanted; then the first of them that is wrong is said.
+fn compare(told: &str, wanted: &str, said: &mut String) -> Option<()> {
     let mut lines = wanted.lines();
     for line in told.lines() {
         if lines.next() != Some(line) {
-            return Err(Fail::new(format_args!("{line}")));
+            said.push_str(line).ok()?;
+            return None;
         }
     }
-    if lines.next().is_some() {
-        return Err(Fail::new("a line is missing"));
-    }
-    Ok(())
+    lines.next().is_none().then_some(())
 }
 
 /// Appends how many rows, fields and words a chunk has, and which of the ids and the words above.
-pub(crate) fn put_head<C: Chunk>(chunk: &C, into: &mut String) -> Option<()> {
+fn put_head<C: Chunk>(chunk: &C, into: &mut String) -> Option<()> {
     let (rows, fields, words) = (chunk.rows(), chunk.fields(), chunk.words());
     write!(into, "{rows} rows, {fields} fields, {words} words").ok()?;
     for id in IDS {
@@ -58,14 +55,6 @@ pub(crate) fn put_head<C: Chunk>(chunk: &C, into: &mut String) -> Option<()> {
     into.push('\n').ok()
 }
 
-fn letter(gap: Gap) -> &'static str {
-    match gap {
-        Gap::None => "",
-        Gap::Sentence => "s",
-        Gap::Paragraph => "p",
-    }
-}
-
 /// Appends the last positions, the boundaries and the spans of a row's fields.
 fn put_parts(
     lasts: &[u32],
@@ -79,8 +68,12 @@ fn put_parts(
     }
     into.push_str(", gaps").ok()?;
     for (field, (position, gap)) in gaps {
-        let gap = letter(*gap);
-        write!(into, " {field}.{position}{gap}").ok()?;
+        let letter = match gap {
+            Gap::None => "",
+            Gap::Sentence => "s",
+            Gap::Paragraph => "p",
+        };
+        write!(into, " {field}.{position}{letter}").ok()?;
     }
     into.push_str(", spans").ok()?;
     for (field, span) in spans {
@@ -90,16 +83,24 @@ fn put_parts(
     into.push('\n').ok()
 }
 
-/// Appends what the chunk answers of a row.
-fn put_row<C: Chunk>(alloc: Global, chunk: &C, row: u32, into: &mut String) -> Option<()>
+/// Appends what the chunk answers of a row of so many values.
+fn put_row<C: Chunk>(
+    alloc: Global,
+    chunk: &C,
+    row: u32,
+    attrs: u16,
+    into: &mut String,
+) -> Option<()>
     requires row { row < length (C.content chunk.now) }
-    requires columns { All HasColumns (C.content chunk.now) }
+    requires values { All (HasValues attrs) (C.content chunk.now) }
 {
     let (id, born) = (chunk.id(row), chunk.born(row));
     let number = chunk.find(id)?;
-    let Value::Whole(first) = chunk.value(row, 0);
-    let Value::Whole(second) = chunk.value(row, 1);
-    write!(into, "{number}: {id} by {born}: {first} {second}").ok()?;
+    write!(into, "{number}: {id} by {born}:").ok()?;
+    for attr in 0..attrs {
+        let Value::Whole(value) = chunk.value(row, attr);
+        write!(into, " {value}").ok()?;
+    }
     let mut lasts = Vec::new(alloc);
     chunk.lasts(row, &mut lasts).ok()?;
     let mut gaps = Vec::new(alloc);
@@ -107,16 +108,6 @@ fn put_row<C: Chunk>(alloc: Global, chunk: &C, row: u32, into: &mut String) -> O
     let mut spans = Vec::new(alloc);
     chunk.spans(row, &mut spans).ok()?;
     put_parts(lasts.as_slice(), gaps.as_slice(), spans.as_slice(), into)
-}
-
-/// Appends what the chunk answers of each row.
-pub(crate) fn put_rows<C: Chunk>(alloc: Global, chunk: &C, into: &mut String) -> Option<()>
-    requires { All HasColumns (C.content chunk.now) }
-{
-    for row in 0..chunk.rows() {
-        put_row(alloc, chunk, row, into)?;
-    }
-    Some(())
 }
 
 /// Appends places of a word, or how many there are, and the last of them, where they are many.
@@ -179,30 +170,23 @@ fn put_word<L: Ledger, C: HitLists>(
 
 /// The first row from which on another one is found by passing over those below it than by going over them one by one.
 fn other_seek<C: Chunk>(chunk: &C, word: &[u8]) -> Option<u32> {
-    for from in 0..12 {
+    let mut going = chunk.start(word)?;
+    'rows: for from in 0..12 {
         let mut passing = chunk.start(word)?;
-        let mut going = chunk.start(word)?;
         let found = chunk.seek(&mut passing, from);
-        if found != row_from(chunk, &mut going, from) || passing.next_row() != going.next_row() {
+        // The row before is the only one below this one that can be left.
+        if chunk.row(&going).unwrap_or(NO_ROW) < from {
+            chunk.advance(&mut going);
+        }
+        let next = chunk.row(&going).unwrap_or(NO_ROW);
+        if found != next || passing.next_row() != going.next_row() {
             return Some(from);
         }
     }
     None
 }
 
-/// The first row of the cursor's that isn't below this one, by going over those that are.
-fn row_from<C: Chunk>(chunk: &C, cursor: &mut Cursor, from: u32) -> u32
-    requires { C.belongs chunk.now cursor.old }
-{
-    'below: for _ in 0..from {
-        match chunk.row(cursor) {
-            Some(row) if row < from => chunk.advance(cursor),
-            _ => break 'below,
-        }
-    }
-    chunk.row(cursor).unwrap_or(NO_ROW)
-}
-
+/// Appends what the chunk answers of each word.
 fn put_words<L: Ledger, C: HitLists>(
     alloc: Global,
     chunk: &C,
@@ -220,13 +204,21 @@ fn put_words<L: Ledger, C: HitLists>(
     Some(())
 }
 
-/// Appends what a chunk answers of its words to what was told of it, and fails where this isn't what is wanted.
-pub(crate) fn try_words<C: HitLists>(
+/// None where a chunk whose rows have so many values answers otherwise; then the first line that is wrong is said.
+pub(crate) fn answers<C: HitLists>(
     alloc: Global,
     chunk: &C,
-    into: &mut String,
+    attrs: u16,
     wanted: &str,
-) -> Result<(), Fail> {
-    put_words::<Brand, C>(alloc, chunk, Blank::new(1), into).ok_or("words that can't be told")?;
-    compare(into.as_str(), wanted)
+    said: &mut String,
+) -> Option<()>
+    requires { All (HasValues attrs) (C.content chunk.now) }
+{
+    let mut told = String::new(alloc);
+    put_head(chunk, &mut told)?;
+    for row in 0..chunk.rows() {
+        put_row(alloc, chunk, row, attrs, &mut told)?;
+    }
+    put_words::<Brand, C>(alloc, chunk, Blank::new(1), &mut told)?;
+    compare(told.as_str(), wanted, said)
 }
