@@ -1,23 +1,13 @@
-//! Tests by tables of bytes from outside over what is kept: posting lists, transactions, schemas, and the images of chunks.
+//! Tests by tables of bytes from outside over what is kept: posting lists, transactions and schemas.
 #![tactic(auto)]
 
 #[cfg(test)]
 mod codes;
 #[cfg(test)]
-mod damage;
+mod payloads;
 #[cfg(test)]
-mod examples;
-#[cfg(test)]
-mod hit_lists;
-#[cfg(test)]
-mod images;
-#[cfg(test)]
-mod long_fields;
-#[cfg(test)]
-mod numbers;
-#[cfg(test)]
-mod prefixes;
-#[cfg(test)]
-mod spellings;
+mod tables;
 #[cfg(test)]
 mod telling;
+#[cfg(test)]
+mod transactions;
