@@ -10,11 +10,11 @@ use Rattle.conf_text.specs.declared.draft.Draft.{Draft}
 use Rattle.conf_text.specs.declared.reading.LinePlace.{LinePlace as CodePlace}
 use Rattle.conf_text.specs.declared.reading.LinePlace.TheVariants as places
 use Rattle.conf_text.specs.declared.reading.Section.TheVariants as sections
-use Rattle.conf_text.specs.steps.Taking.{Leads, PlaceHas, place_of}
+use Rattle.conf_text.specs.steps.Taking.{IsGoodHead, IsHeadFault, Leads, PlaceHas, place_of}
 use Rattle.conf_text.specs.steps.Drafts.{AreIndexes, IsDraft, IsEndFault, IsEntryFault, IsGoodEnd, IsGoodEntry}
-use Rattle.conf_text.specs.Faults.{IsFaultAt, IsGoodAt, StandsAt, StandsAtEnd, StandsAtEntry, is_syntax}
+use Rattle.conf_text.specs.Faults.{IsFaultAt, IsGoodAt, StandsAt, StandsAtEnd, StandsAtEntry, StandsAtHead, is_syntax}
 use Rattle.conf_text.specs.Sections.{Entry, IndexText, LinePlace, Spot, after_head, headed, index, inside, other, outside, spot_at}
-use Rattle.conf_text.specs.Shapes.{Shape, closing, entry, opening}
+use Rattle.conf_text.specs.Shapes.{Shape, closing, entry, index_head, opening, other_head}
 
 -- no fault stands at a line that isn't misplaced, where none of the others does
 pub good_from : (spot : Spot) (line : Shape) (last : Bool) → is_syntax spot.place line last ≡ false → ((kind : ConfKind) → StandsAt kind spot.indexes spot.entries spot.place line → ⊥) → IsGoodAt spot line last
@@ -36,6 +36,30 @@ good_other_entry texts entries key value last fine = good_from (spot_at texts en
 
 pub good_other_closing : (texts : List IndexText) (entries : List Entry) (last : Bool) → is_syntax (inside other) closing last ≡ false → IsGoodAt (spot_at texts entries (inside other)) closing last
 good_other_closing texts entries last fine = good_from (spot_at texts entries (inside other)) closing last fine (λ kind h. h)
+
+-- the head of another section has no fault
+pub good_other_head : (texts : List IndexText) (entries : List Entry) (opens last : Bool) → is_syntax outside (other_head opens) last ≡ false → IsGoodAt (spot_at texts entries outside) (other_head opens) last
+good_other_head texts entries opens last fine = good_from (spot_at texts entries outside) (other_head opens) last fine (λ kind h. h)
+
+no_head_fault : (texts : List IndexText) (name : List ℕ) → IsGoodHead texts name → (kind : ConfKind) → StandsAtHead kind texts name → ⊥
+no_head_fault texts name good kinds.Repeated stands = true≢false (sym stands ∙ good.new)
+no_head_fault texts name good kinds.Limit stands = true≢false (sym stands ∙ good.within)
+no_head_fault texts name good _ stands = stands
+
+pub good_head : (texts : List IndexText) (entries : List Entry) (name : List ℕ) (opens last : Bool) → is_syntax outside (index_head name opens) last ≡ false → IsGoodHead texts name → IsGoodAt (spot_at texts entries outside) (index_head name opens) last
+good_head texts entries name opens last fine good = good_from (spot_at texts entries outside) (index_head name opens) last fine (no_head_fault texts name good)
+
+-- the fault of the head of an index
+pub faulty_head : (texts : List IndexText) (entries : List Entry) (name : List ℕ) (opens last : Bool) (kind : ConfKind) → is_syntax outside (index_head name opens) last ≡ false → IsHeadFault kind texts name → IsFaultAt kind (spot_at texts entries outside) (index_head name opens) last
+faulty_head texts entries name opens last kinds.Repeated fine fault = record {
+  stands = fault;
+  first = ((λ h. h), ((λ h. h), ((λ h. h), ((λ yes. true≢false (sym yes ∙ fine)), ((λ h. h), tt)))));
+}
+faulty_head texts entries name opens last kinds.Limit fine fault = record {
+  stands = fault.1;
+  first = ((λ h. h), ((λ yes. true≢false (sym yes ∙ fault.0)), ((λ h. h), ((λ h. h), ((λ h. h), ((λ yes. true≢false (sym yes ∙ fine)), ((λ h. h), tt)))))));
+}
+faulty_head texts entries name opens last _ fine fault = absurd fault
 
 no_entry_fault : (texts : List IndexText) (entries : List Entry) (key : Key) (value : List ℕ) → IsGoodEntry texts entries key value → (kind : ConfKind) → StandsAtEntry kind texts entries key value → ⊥
 no_entry_fault texts entries key value good kinds.BadValue stands = stands good.value_is

@@ -6,9 +6,8 @@
 ghost use Rattle.std.specs.Prelude.{◌≡◌, Option, slice_get};
 ghost use Rattle.std.specs.Str.{str_to_ascii_lowercase};
 ghost use Rattle.name_table.specs.Order.{IsInOrder};
-ghost use Rattle.conf_text.specs.Keys.{attr_kind, key_named, key_number, key_values, key_words, same_key};
+ghost use Rattle.conf_text.specs.Keys.{key_named, key_number, key_values, key_words, same_key};
 
-use doc_types::AttrKind;
 use name_table::{NameTable, value_at, words_of};
 
 /// A key of an index.
@@ -98,18 +97,5 @@ impl Key {
         ensures { result ≡ same_key self other }
     {
         self.number() == other.number()
-    }
-
-    /// The kind of the attribute that the key declares.
-    pub fn attr_kind(self) -> Option<AttrKind>
-        ensures { result ≡ attr_kind self }
-    {
-        match self {
-            Key::RtAttrUint => Some(AttrKind::Uint),
-            Key::RtAttrBool => Some(AttrKind::Bool),
-            Key::RtAttrBigint => Some(AttrKind::Bigint),
-            Key::RtAttrTimestamp => Some(AttrKind::Timestamp),
-            _ => None,
-        }
     }
 }

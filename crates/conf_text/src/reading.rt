@@ -10,8 +10,8 @@
 //! A first pass looks for a line that isn't UTF-8; a second one takes line by line: its shape by itself, then the shape
 //! at its place, then what it does to the index that is being read. The first fault ends the reading; of two at one
 //! line the first in the order of `ConfKind` is given.
-ghost use Rattle.std.specs.Prelude.{◌≡◌, ◌||◌, nat_le, ◌<◌, ◌≤◌, ◌^◌, List, ℕ, IfOk, length, if◌then◌else◌};
-ghost use Rattle.conf_text.specs.declared.reading.LinePlace.TheVariants.{Headed, Inside};
+ghost use Rattle.std.specs.Prelude.{◌≡◌, ◌||◌, nat_le, ◌<◌, ◌≤◌, ◌^◌, [], List, ℕ, IfOk, length, if◌then◌else◌};
+ghost use Rattle.conf_text.specs.declared.reading.LinePlace.TheVariants.{Headed, Inside, Outside};
 ghost use Rattle.conf_text.specs.Confs.{ReadsConf};
 ghost use Rattle.index_conf.specs.Soundness.{IsSound};
 ghost use Rattle.conf_text.specs.steps.Drafts.{AreIndexes, IsDraft};
@@ -22,7 +22,7 @@ ghost use Rattle.srch_base.specs.declared.faults.Or.TheVariants.{Fault};
 ghost use Rattle.conf_text.specs.Sections.{Entry, IndexText, after_opening, place_after, spot_at};
 ghost use Rattle.conf_text.specs.Shapes.{small};
 ghost use Rattle.conf_text.specs.steps.SeenShapes.{seen, value_length};
-ghost use Rattle.conf_text.specs.steps.Taking.{Begins, Closes, Enters, EntersIndex, Leads, PlaceHas, TakesLine, place_of};
+ghost use Rattle.conf_text.specs.steps.Taking.{Begins, Closes, Enters, EntersIndex, Leads, PlaceHas, TakesLine, place_of, reached};
 
 use crate::draft::{Draft, name_is_taken};
 use crate::fault::{ConfFault, ConfKind};
@@ -35,6 +35,7 @@ use crate::zones::long;
 use index_conf::{Conf, IndexConf, MAX_INDEXES};
 use srch_base::{Items, NoMemory, Or};
 use std::alloc::Global;
+use std::mem;
 
 /// A section: an index with what it has so far, or another one.
 #[derive(Drop)]
@@ -106,17 +107,37 @@ fn read_indexes(alloc: Global, text: &[u8]) -> Result<Items<IndexConf>, Or<ConfF
     requires { length text.now ≤ MAX_CONF_BYTES }
     ensures { ReadsIndexes (lines_of text.now) result }
 {
-    let mut lines = Lines::of(text);
-    let mut buffer = Vec::new(alloc);
     let mut indexes = Vec::new(alloc);
     let mut place = LinePlace::Outside;
+    let mut buffer = Vec::new(alloc);
+    match take_lines(alloc, text, &mut buffer, &mut indexes, &mut place) {
+        Ok(()) => Ok(Items::new(indexes)),
+        Err(fault) => Err(fault),
+    }
+}
+
+/// Takes the lines of a text, each by way of the buffer. All that is owned is lent by the caller, who lets go of it once, however
+/// the lines end.
+fn take_lines(
+    alloc: Global,
+    text: &[u8],
+    buffer: &mut Vec<u8>,
+    indexes: &mut Vec<IndexConf>,
+    place: &mut LinePlace,
+) -> Result<(), Or<ConfFault>>
+    requires short { length text.now ≤ MAX_CONF_BYTES }
+    requires none { indexes.old.items ≡ [] }
+    requires outside { place.old ≡ Outside }
+    ensures { ReadsIndexes (lines_of text.now) (reached indexes.new.items result) }
+{
+    let mut lines = Lines::of(text);
     'lines: loop {
-        match lines.next_line(&mut buffer)? {
-            None => return Ok(Items::new(indexes)),
+        match lines.next_line(buffer)? {
+            None => return Ok(()),
             Some(head) => {
                 let line = shape_of(content(buffer.as_slice()));
-                match take_line(alloc, &mut indexes, place, line, lines.is_empty()) {
-                    Ok(next) => place = next,
+                match take_line(alloc, indexes, place, line, lines.is_empty()) {
+                    Ok(()) => {}
                     Err(Or::NoMemory) => return Err(Or::NoMemory),
                     Err(Or::Fault(kind)) => return Err(fault_at(head.number, kind)),
                 }
@@ -125,31 +146,46 @@ fn read_indexes(alloc: Global, text: &[u8]) -> Result<Items<IndexConf>, Or<ConfF
     }
 }
 
-/// Takes a line, which may be the last one, and gives the place after it.
+/// Takes a line, which may be the last one, and goes on to the place after it.
 fn take_line(
     alloc: Global,
     indexes: &mut Vec<IndexConf>,
-    place: LinePlace,
+    place: &mut LinePlace,
     line: Shape<'_>,
     last: bool,
-) -> Result<LinePlace, Or<ConfKind>>
+) -> Result<(), Or<ConfKind>>
     requires { value_length (seen line) < 2 ^ 32 }
-    ensures { (texts : List IndexText) (entries : List Entry) → AreIndexes texts indexes.old.items → PlaceHas entries place
-        → TakesLine (spot_at texts entries (place_of place)) (seen line.entry) last indexes.new.items result }
+    ensures { (texts : List IndexText) (entries : List Entry) → AreIndexes texts indexes.old.items → PlaceHas entries place.old
+        → TakesLine (spot_at texts entries (place_of place.old)) (seen line.entry) last indexes.new.items (reached place.new result) }
 {
-    if misplaced(&place, &line, last) {
+    if misplaced(place, &line, last) {
         return Err(Or::Fault(ConfKind::Syntax));
     }
     match line {
-        Shape::Blank => Ok(place),
-        Shape::IndexHead(name, opens) => start_index(alloc, indexes.as_slice(), name, opens),
-        Shape::OtherHead(opens) => Ok(after_head(Section::Other, opens)),
+        Shape::Blank => Ok(()),
+        Shape::IndexHead(name, opens) => {
+            start_index(alloc, indexes.as_slice(), place, name, opens)
+        }
+        Shape::OtherHead(opens) => {
+            go_to(place, after_head(Section::Other, opens));
+            Ok(())
+        }
         Shape::UnknownHead => Err(Or::Fault(ConfKind::UnknownSection)),
-        Shape::Opening => Ok(after_opening(place)),
+        Shape::Opening => {
+            open(place);
+            Ok(())
+        }
         Shape::Closing => close_section(alloc, indexes, place),
         Shape::Entry(key, value) => take_entry(alloc, indexes.as_slice(), place, key, value),
         Shape::Misformed => Err(Or::Fault(ConfKind::Syntax)),
     }
+}
+
+/// Goes to a place, and lets go of the one before.
+fn go_to(place: &mut LinePlace, next: LinePlace)
+    ensures { place.new ≡ next }
+{
+    *place = next;
 }
 
 /// Whether the grammar can't have a line at the place, or it is the last one and leaves a section open.
@@ -206,6 +242,14 @@ fn after_opening(place: LinePlace) -> LinePlace
     }
 }
 
+/// Takes `{`.
+fn open(place: &mut LinePlace)
+    ensures { (entries : List Entry) → PlaceHas entries place.old → Leads (after_opening (place_of place.old)) entries place.new }
+{
+    let headed = mem::replace(place, LinePlace::Outside);
+    go_to(place, after_opening(headed));
+}
+
 /// Whether the head of an index passes a limit.
 fn head_exceeds(indexes: &[IndexConf], name: &[u8]) -> bool
     ensures { result ≡ is_long name.now || nat_le MAX_INDEXES (length indexes.now) }
@@ -217,10 +261,11 @@ fn head_exceeds(indexes: &[IndexConf], name: &[u8]) -> bool
 fn start_index(
     alloc: Global,
     indexes: &[IndexConf],
+    place: &mut LinePlace,
     name: &[u8],
     opens: bool,
-) -> Result<LinePlace, Or<ConfKind>>
-    ensures { (texts : List IndexText) → AreIndexes texts indexes.now → Begins texts (small name.now) opens result }
+) -> Result<(), Or<ConfKind>>
+    ensures { (texts : List IndexText) → AreIndexes texts indexes.now → Begins texts (small name.now) opens (reached place.new result) }
 {
     let name = small_name(alloc, name)?;
     if name_is_taken(indexes, name.as_bytes()) {
@@ -229,51 +274,50 @@ fn start_index(
     if head_exceeds(indexes, name.as_bytes()) {
         return Err(Or::Fault(ConfKind::Limit));
     }
-    Ok(after_head(Section::Index(Draft::of(alloc, name)), opens))
+    go_to(
+        place,
+        after_head(Section::Index(Draft::of(alloc, name)), opens),
+    );
+    Ok(())
 }
 
 /// Takes an entry of a section.
 fn take_entry(
     alloc: Global,
     indexes: &[IndexConf],
-    place: LinePlace,
+    place: &mut LinePlace,
     key: Option<Key>,
     value: &[u8],
-) -> Result<LinePlace, Or<ConfKind>>
+) -> Result<(), Or<ConfKind>>
     requires { length value.now < 2 ^ 32 }
-    ensures { (texts : List IndexText) (entries : List Entry) → AreIndexes texts indexes.now → PlaceHas entries place
-        → Enters texts entries (place_of place) key value.now result }
+    ensures { (texts : List IndexText) (entries : List Entry) → AreIndexes texts indexes.now → PlaceHas entries place.old
+        → Enters texts entries (place_of place.old) key value.now (reached place.new result) }
 {
     match place {
         LinePlace::Inside(Section::Index(draft)) => {
-            let draft = take_index_entry(alloc, indexes, draft, key, value)?;
-            Ok(LinePlace::Inside(Section::Index(draft)))
+            take_index_entry(alloc, indexes, draft, key, value)
         }
-        LinePlace::Inside(Section::Other) => Ok(LinePlace::Inside(Section::Other)),
-        LinePlace::Headed(section) => Ok(LinePlace::Headed(section)),
-        LinePlace::Outside => Ok(LinePlace::Outside),
+        LinePlace::Inside(Section::Other) => Ok(()),
+        LinePlace::Headed(_) => Ok(()),
+        LinePlace::Outside => Ok(()),
     }
 }
 
-/// An index with one more entry.
+/// Takes an entry of an index.
 fn take_index_entry(
     alloc: Global,
     indexes: &[IndexConf],
-    draft: Draft,
+    draft: &mut Draft,
     key: Option<Key>,
     value: &[u8],
-) -> Result<Draft, Or<ConfKind>>
+) -> Result<(), Or<ConfKind>>
     requires { length value.now < 2 ^ 32 }
-    ensures { (texts : List IndexText) (entries : List Entry) → AreIndexes texts indexes.now → IsDraft draft.name entries draft
-        → EntersIndex texts entries draft.name key value.now result }
+    ensures { (texts : List IndexText) (entries : List Entry) → AreIndexes texts indexes.now → IsDraft draft.old.name entries draft.old
+        → EntersIndex texts entries draft.old.name key value.now (reached draft.new result) }
 {
     match key {
         None => Err(Or::Fault(ConfKind::UnknownKey)),
-        Some(key) => {
-            let mut draft = draft;
-            draft.take(alloc, indexes, key, value)?;
-            Ok(draft)
-        }
+        Some(key) => draft.take(alloc, indexes, key, value),
     }
 }
 
@@ -281,16 +325,17 @@ fn take_index_entry(
 fn close_section(
     alloc: Global,
     indexes: &mut Vec<IndexConf>,
-    place: LinePlace,
-) -> Result<LinePlace, Or<ConfKind>>
-    ensures { (texts : List IndexText) (entries : List Entry) → AreIndexes texts indexes.old.items → PlaceHas entries place
-        → Closes texts entries (place_of place) indexes.new.items result }
+    place: &mut LinePlace,
+) -> Result<(), Or<ConfKind>>
+    ensures { (texts : List IndexText) (entries : List Entry) → AreIndexes texts indexes.old.items → PlaceHas entries place.old
+        → Closes texts entries (place_of place.old) indexes.new.items (reached place.new result) }
 {
-    match place {
+    let ended = mem::replace(place, LinePlace::Outside);
+    match ended {
         LinePlace::Inside(Section::Index(draft)) => {
             indexes.push(draft.end(alloc)?)?;
-            Ok(LinePlace::Outside)
+            Ok(())
         }
-        _ => Ok(LinePlace::Outside),
+        _ => Ok(()),
     }
 }

@@ -38,6 +38,11 @@ PlaceHas entries places.Outside = Unit {0}
 PlaceHas entries (places.Headed section) = SectionHas entries section
 PlaceHas entries (places.Inside section) = SectionHas entries section
 
+-- what was reached, where no fault came
+abbrev pub reached : {A E : Type 0} → A → Result (Unit {0}) E → Result A E
+reached new (Ok done) = Ok new
+reached new (Err fault) = Err fault
+
 -- an index may begin, or the fault of its head is of this kind
 pub record IsGoodHead (texts : List IndexText) (name : List ℕ) : Type 0 where
   pub new : list_any (has_name name) texts ≡ false

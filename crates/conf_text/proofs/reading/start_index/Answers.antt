@@ -37,5 +37,5 @@ returns c = λ texts are. (
     new = taken_is texts c.args.indexes.now (small c.args.name.now) c.as_bytes.result.now c.name_is_taken.result false are (c.as_bytes.ensures ∙ c.in_ok-name.ensures) c.name_is_taken.ensures c.if-name_is_taken.false;
     within = exceeds_is texts c.args.indexes.now (small c.args.name.now) c.as_bytes-2.result.now c.head_exceeds.result false are (c.as_bytes-2.ensures ∙ c.in_ok-name.ensures) c.head_exceeds.ensures c.if-head_exceeds.false;
   },
-  begins_index (small c.args.name.now) c.of.result c.args.opens c.after_head.result (subst (λ (n : List ℕ). IsDraft n [] c.of.result) c.in_ok-name.ensures c.of.ensures) c.after_head.ensures,
+  begins_index (small c.args.name.now) c.of.result c.args.opens c.go_to.new.place (subst (λ (n : List ℕ). IsDraft n [] c.of.result) c.in_ok-name.ensures c.of.ensures) (c.go_to.ensures ∙ c.after_head.ensures),
 )

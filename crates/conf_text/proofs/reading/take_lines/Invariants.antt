@@ -1,6 +1,6 @@
 use Rattle.std.proofs.Common.{length}
 use Rattle.conf_text.proofs.LineRuns.{LinesRead}
-use Rattle.conf_text.proofs.reading.read_indexes.Given as goal
+use Rattle.conf_text.proofs.reading.take_lines.Given as goal
 
 abbrev pub invariant-lines : goal.invariant-lines
 invariant-lines l = LinesRead l.text l.lines l.indexes.items l.place
