@@ -172,7 +172,7 @@ fn take_line(
         }
         Shape::UnknownHead => Err(Or::Fault(ConfKind::UnknownSection)),
         Shape::Opening => {
-            open(place);
+            enter(place);
             Ok(())
         }
         Shape::Closing => close_section(alloc, indexes, place),
@@ -243,7 +243,7 @@ fn after_opening(place: LinePlace) -> LinePlace
 }
 
 /// Takes `{`.
-fn open(place: &mut LinePlace)
+fn enter(place: &mut LinePlace)
     ensures { (entries : List Entry) → PlaceHas entries place.old → Leads (after_opening (place_of place.old)) entries place.new }
 {
     let headed = mem::replace(place, LinePlace::Outside);

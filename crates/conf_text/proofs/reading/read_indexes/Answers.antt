@@ -1,4 +1,4 @@
-use Rattle.std.proofs.Common.{refl, subst, sym}
+use Rattle.std.proofs.Common.{subst, sym}
 use Rattle.conf_text.specs.Confs.{shapes_back}
 use Rattle.conf_text.specs.Lines.{lines_of}
 use Rattle.conf_text.specs.Sections.{indexes_in}

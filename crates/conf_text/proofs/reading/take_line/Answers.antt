@@ -37,8 +37,8 @@ returns-in-Opening c = λ texts entries are has.
     let place : LinePlace = place_of c.args.place.now in
     let same : seen c.args.line ≡ opening = ap seen c.in-Opening.is in
     let fine : is_syntax place opening c.args.last ≡ false = fine_at place (seen c.args.line) opening c.args.last c.misplaced.result same c.misplaced.ensures c.if-misplaced.false in
-    subst (λ (l : Shape). TakesLine (spot_at texts entries place) l c.args.last c.args.indexes.now.items (Ok c.«open».new.place)) (sym same)
-    (opened texts entries place c.args.last c.args.indexes.now.items c.«open».new.place fine are (c.«open».ensures entries has))
+    subst (λ (l : Shape). TakesLine (spot_at texts entries place) l c.args.last c.args.indexes.now.items (Ok c.enter.new.place)) (sym same)
+    (opened texts entries place c.args.last c.args.indexes.now.items c.enter.new.place fine are (c.enter.ensures entries has))
 
 pub returns-in-Closing : goal.returns-in-Closing
 returns-in-Closing c = λ texts entries are has.
