@@ -1,10 +1,12 @@
 //! The command of each mode, and what it finds at words. Nothing else sees `clap`; no text of it is ever printed.
+//!
+//! An option is made where its command takes it, so that want of memory finds no other one that is still waiting.
 ghost use Rattle.std.specs.Prelude.{◌≡◌, [], true, false, IfOk, MatchOption, map, option_map, string_bytes};
 ghost use Rattle.clap.specs.Words.{app_of, first_of, found_of, matches_of, rows_of, rule_of};
 ghost use Rattle.clap.specs.Faults.{fault_of, is_simple_and_free};
 ghost use Rattle.command_line.specs.steps.Commands.{config_rules, selftest_command, serve_command};
 ghost use Rattle.command_line.specs.steps.Found.{FindsNumber};
-ghost use Rattle.command_line.specs.steps.Options.{command, number, option, text};
+ghost use Rattle.command_line.specs.steps.Options.{command, defaulted, needed, number, option, text};
 
 use clap::builder::ValueParser;
 use clap::error::ErrorKind;
@@ -16,23 +18,18 @@ use std::alloc::Global;
 pub(crate) fn config_command<'a>(alloc: Global, name: &'a str) -> Result<Command<'a>, NoMemory>
     ensures { IfOk result (λ made. app_of made ≡ command name.entry.now config_rules) }
 {
-    let config = text(alloc, "config");
-    Ok(command(alloc, name).arg(config)?)
+    Ok(command(alloc, name).arg(text(alloc, "config"))?)
 }
 
 /// The command of `serve`.
 pub(crate) fn serve_command<'a>(alloc: Global) -> Result<Command<'a>, NoMemory>
     ensures { IfOk result (λ made. app_of made ≡ serve_command) }
 {
-    let config = text(alloc, "config");
-    let listen = text(alloc, "listen");
-    let workers = number(alloc, "workers", 1, 64).default_value("4");
-    let sessions = number(alloc, "sessions", 1, 1_000_000).default_value("1000000");
     let serve = command(alloc, "serve")
-        .arg(config)?
-        .arg(listen)?
-        .arg(workers)?
-        .arg(sessions)?;
+        .arg(text(alloc, "config"))?
+        .arg(text(alloc, "listen"))?
+        .arg(defaulted(alloc, "workers", "4", 1, 64))?
+        .arg(defaulted(alloc, "sessions", "1000000", 1, 1_000_000))?;
     Ok(serve)
 }
 
@@ -40,9 +37,9 @@ pub(crate) fn serve_command<'a>(alloc: Global) -> Result<Command<'a>, NoMemory>
 pub(crate) fn selftest_command<'a>(alloc: Global) -> Result<Command<'a>, NoMemory>
     ensures { IfOk result (λ made. app_of made ≡ selftest_command) }
 {
-    let seed = number(alloc, "number", 0, 2_147_483_647).required(true);
-    let docs = number(alloc, "docs", 1, 100_000).required(true);
-    let selftest = command(alloc, "selftest").arg(seed)?.arg(docs)?;
+    let selftest = command(alloc, "selftest")
+        .arg(needed(alloc, "number", 0, 2_147_483_647))?
+        .arg(needed(alloc, "docs", 1, 100_000))?;
     Ok(selftest)
 }
 
@@ -69,6 +66,22 @@ fn number<'a>(alloc: Global, id: &'a str, low: u64, high: u64) -> Arg<'a>
     ensures local { result.global ≡ false }
 {
     option(alloc, id).value_parser(ValueParser::unsigned(low, high))
+}
+
+/// A number that has to be given.
+fn needed<'a>(alloc: Global, id: &'a str, low: u64, high: u64) -> Arg<'a>
+    ensures rule { rule_of result ≡ needed id.entry.now low high }
+    ensures local { result.global ≡ false }
+{
+    number(alloc, id, low, high).required(true)
+}
+
+/// A number that is this one without the option.
+fn defaulted<'a>(alloc: Global, id: &'a str, default: &'a str, low: u64, high: u64) -> Arg<'a>
+    ensures rule { rule_of result ≡ defaulted id.entry.now default.entry.now low high }
+    ensures local { result.global ≡ false }
+{
+    number(alloc, id, low, high).default_value(default)
 }
 
 /// An option `--id` with one value.
