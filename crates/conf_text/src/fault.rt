@@ -28,7 +28,7 @@ pub enum ConfKind {
 }
 
 /// The first fault of a configuration.
-#[derive(Clone, Copy)]
+#[derive(Clone, Copy, Debug, PartialEq, Eq)]
 pub struct ConfFault {
     /// The line, from 1. Lines that are joined have the number of the first of them.
     pub line: u32,
