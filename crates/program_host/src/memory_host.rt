@@ -170,6 +170,18 @@ impl MemoryHost {
         self.requests.add_doors(listen, n);
     }
 
+    /// Copies of the next doors, of which there are so many.
+    fn next_doors(&self, n: u32) -> Result<Vec<ListDoor>, NoMemory>
+        requires { self.now.at + n ≤ length self.now.doors }
+        ensures copies { IfOk result (λ doors. doors.items ≡ take n (drop self.now.at self.now.doors)) }
+        ensures within { IfOk result (λ doors. All (IsWithin (λ door. door.returned) lines_given) doors.items) }
+    {
+        let end = self.at + n as usize;
+        let mut given = Vec::new(self.alloc);
+        VecCloneMethods::extend_from_slice(&mut given, &self.doors[self.at..end])?;
+        Ok(given)
+    }
+
     /// Counts one more call, and says whether it is one of those that fail.
     fn next_fails(&mut self) -> bool
         ensures answer { result ≡ fails_next self.old }
@@ -356,10 +368,8 @@ impl Host for MemoryHost {
         if self.next_fails() || self.doors.len() - self.at < n as usize {
             return Err(OpenFault::from(self.fail()));
         }
-        let end = self.at + n as usize;
-        let mut given = Vec::new(self.alloc);
-        VecCloneMethods::extend_from_slice(&mut given, &self.doors[self.at..end])?;
-        self.at = end;
+        let given = self.next_doors(n)?;
+        self.at += n as usize;
         Ok(given)
     }
 
