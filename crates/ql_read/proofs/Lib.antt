@@ -4,6 +4,8 @@ pub mod Wholes
 pub mod StatementValues
 pub mod SelectValues
 pub mod SelectSteps
+pub mod StatementChoices
+pub mod ExprChoices
 pub mod PacketSteps
 pub mod Faults
 pub mod ParseAnswers

@@ -25,7 +25,7 @@ use Rattle.token_grammar.specs.Language.{Re, one, seq, alt, In, after, next, ver
 use Rattle.ql_grammar.specs.steps.Grammar.{more_statements, statement}
 use Rattle.ql_grammar.specs.Parts.{IsSign}
 use Rattle.ql_grammar.specs.Packets.{IsPacket}
-use Rattle.ql_read.specs.steps.PacketReading.{LeavesPackets, IsTooLong, ReadsPacket, StatementsRead}
+use Rattle.ql_read.specs.steps.PacketReading.{LeavesPackets, IsTooLong, ReadsPacket, StatementsRead, listed_in}
 use Rattle.token_grammar.specs.Firsts.{apart}
 use Rattle.token_grammar.specs.steps.Deciding.{begins}
 use Rattle.ql_read.specs.steps.Progress.{is_start, IsStart}
@@ -306,7 +306,7 @@ end_fails {list} {before} {now} {there} place read same semi n at other equal =
     }
 
 -- the exit of a `?`
-pub packet_fails_with : {before : List Lexeme} (now : List Lexeme) {e : Or ℕ} (result : Result (Option (List Statement)) (Or ℕ)) → IsErrAnd result (λ y. y ≡ e) → ((place : ℕ) → e ≡ Fault place → LeavesPackets before place) → ReadsPacket before result now
-packet_fails_with {before} now {e} result err h =
+pub packet_fails_with : {before : List Lexeme} (list : List Statement) (now : List Lexeme) {e : Or ℕ} (result : Result Bool (Or ℕ)) → IsErrAnd result (λ y. y ≡ e) → ((place : ℕ) → e ≡ Fault place → LeavesPackets before place) → ReadsPacket before (listed_in list result) now
+packet_fails_with {before} list now {e} result err h =
     let (y, is, same) = err_from_is_err_and result err in
-    subst (λ (x : Result (Option (List Statement)) (Or ℕ)). ReadsPacket before x now) (sym (is ∙ ap Err same)) h
+    subst (λ (x : Result Bool (Or ℕ)). ReadsPacket before (listed_in list x) now) (sym (is ∙ ap Err same)) h

@@ -1,5 +1,5 @@
 -- What the reader of a packet makes of the tokens.
-use Rattle.std.specs.Prelude.{◌≡◌, ◌≤◌, ◌+◌, ℕ, suc, List, ◌++◌, true, length, Option, Some, None, Result, Ok, Err}
+use Rattle.std.specs.Prelude.{◌≡◌, ◌≤◌, ◌+◌, ℕ, suc, List, ◌++◌, Bool, true, false, length, Option, Some, None, Result, Ok, Err}
 use Rattle.srch_base.specs.declared.faults.Or.{Or}
 use Rattle.srch_base.specs.declared.faults.Or.TheVariants.{NoMemory, Fault}
 use Rattle.ql_lex.specs.declared.token.Sign.TheVariants as signs
@@ -41,6 +41,12 @@ abbrev pub ReadsPacket : List Lexeme → Result (Option (List Statement)) (Or �
 ReadsPacket tokens (Ok (Some list)) now = IsPacket list tokens × (length list ≤ MAX_STATEMENTS)
 ReadsPacket tokens (Ok None) now = IsTooLong tokens now
 ReadsPacket tokens (Err error) now = (place : ℕ) → error ≡ Fault place → LeavesPackets tokens place
+
+-- the answer of a reader whose list has these statements, by whether they are all
+abbrev pub listed_in : List Statement → Result Bool (Or ℕ) → Result (Option (List Statement)) (Or ℕ)
+listed_in list (Ok true) = Ok (Some list)
+listed_in list (Ok false) = Ok None
+listed_in list (Err error) = Err error
 
 -- These statements have been read.
 pub record StatementsRead (before : List Lexeme) (list : List Statement) (now : List Lexeme) : Type 0 where
