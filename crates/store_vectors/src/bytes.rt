@@ -33,11 +33,20 @@ pub(crate) fn bytes_of(alloc: Global, words: &str) -> Option<Vec<u8>> {
     hex::decode(alloc, digits.as_str()).ok()
 }
 
+/// The place that a word stands for: a number, or the end or the last byte of a file of the greatest length.
+fn place_of(word: &str, greatest: u64) -> Option<u64> {
+    match word {
+        "end" => Some(greatest),
+        "last" => Some(greatest.saturating_sub(1)),
+        _ => word.parse::<u64>().ok(),
+    }
+}
+
 /// The parts of a call: its kind, a file, a place, which is 0 where none is named, and the rest.
-pub(crate) fn call_of(call: &str) -> Option<(&str, u32, u64, &str)> {
+pub(crate) fn call_of(call: &str, greatest: u64) -> Option<(&str, u32, u64, &str)> {
     let mut words = call.split(' ');
     let kind = words.next()?;
     let file = words.next()?.parse::<u32>().ok()?;
-    let at = words.next().unwrap_or("0").parse::<u64>().ok()?;
+    let at = place_of(words.next().unwrap_or("0"), greatest)?;
     Some((kind, file, at, words.next().unwrap_or("")))
 }

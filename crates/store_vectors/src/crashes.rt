@@ -1,166 +1,131 @@
-//! Logs and roots that are stopped by crashes after each call of the disk, also while they go on after a crash, and of which calls
-//! fail.
-use crate::careful_disk::{CarefulDisk, failing_disk};
-use crate::logs::{append_two, go_on, look};
-use crate::roots::{put_states, replace, replace_three};
-use crate::telling::{What, put_crashes, read_after};
+//! Logs and roots that go on after a crash, and are stopped by another one after each call of the disk.
+use crate::careful_disk::CarefulDisk;
+use crate::logs::go_on;
+use crate::roots::replace;
+use crate::telling::put_crash;
 use chunk_store::MemoryDisk;
 use std::alloc::Global;
 
-/// What is read of a log or a root before it goes on, and after. A root goes on with a state that goes through 9.
-const GOING_ON: &str = "\
-to 0 ⇒ 7: to 13
-7:0a to 14 ⇒ 7:0a 8: to 27
-7:0a 8:0101 to 29 ⇒ 7:0a 8:0101 9: to 42
-no root ⇒ through 9 next 3 logs 0 2 text 0
-through 1 next 3 logs 0 2 text 0 ⇒ through 9 next 3 logs 0 2 text 0
-through 2 next 3 logs 0 2 text 0 ⇒ through 9 next 3 logs 0 2 text 0
-through 3 next 3 logs 0 2 text 0 ⇒ through 9 next 3 logs 0 2 text 0";
-
-/// The slot of that state.
+/// The slot of the state with which a root goes on.
 const NINTH: &str = "01 A 18000000 0000 0900000000000000 03000000 00000000 02000000 0000";
 
-/// A disk of which these calls fail, on which a log is made and two records are appended, or three states of a root follow one another.
-fn run(alloc: Global, what: &What, failing: &[u64], seen: &mut String) -> Option<CarefulDisk> {
-    let mut disk = failing_disk(alloc, failing)?;
+/// Has the log or the root on a disk go on.
+fn continue_on(alloc: Global, disk: &mut CarefulDisk, what: &str, text: &mut String) -> Option<()> {
     match what {
-        What::Log => append_two(alloc, &mut disk, seen)?,
-        What::Root => replace_three(alloc, &mut disk)?,
+        "log" => go_on(alloc, disk, text),
+        _ => replace(alloc, disk, NINTH),
     }
-    Some(disk)
 }
 
-/// Puts what is read after each of the four crashes after so many calls.
-pub(crate) fn put_stops(alloc: Global, what: &What, calls: u64, text: &mut String) -> Option<()> {
-    let disk = run(alloc, what, &[], text)?;
-    put_crashes(alloc, &disk.below, calls, what, text)
-}
-
-/// Puts what is read of a log once this call failed, and after each crash then.
-pub(crate) fn put_log_faults(alloc: Global, call: u64, text: &mut String) -> Option<()> {
-    let disk = run(alloc, &What::Log, &[call], text)?;
-    put_crashes(alloc, &disk.below, call, &What::Log, text)
-}
-
-/// Puts what is seen of four states of a root where this call fails, and another one beside it or 0 for none.
-pub(crate) fn put_root_faults(
-    alloc: Global,
-    call: u64,
-    other: &str,
-    text: &mut String,
-) -> Option<()> {
-    let other = other.parse::<u64>().ok()?;
-    let mut disk = failing_disk(alloc, &[other, call])?;
-    put_states(alloc, &mut disk, text)
-}
-
-/// Puts what is read of a log whose call failed once and was made again, once all is done, and after each crash then.
-pub(crate) fn put_mended(alloc: Global, call: u64, text: &mut String) -> Option<()> {
-    let mut disk = run(alloc, &What::Log, &[call], text)?;
-    text.clear();
-    look(alloc, &mut disk, text)?;
-    put_crashes(alloc, &disk.below, u64::MAX, &What::Log, text)
-}
-
-/// What is read of a log or a root that went on.
-fn after_going_on(before: &str) -> Option<&'static str> {
-    for row in GOING_ON.lines() {
-        let (read, after) = row.split_once(" ⇒ ")?;
-        if read == before {
-            return Some(after);
-        }
-    }
-    None
-}
-
-/// The letter of a reading: `b` for what was before, `a` for what is after, and else `?`.
-fn letter(read: &str, (before, after): (&str, &str)) -> char {
-    if read == before {
-        return 'b';
-    }
-    if read == after {
-        return 'a';
-    }
-    '?'
-}
-
-/// Puts the letter of what a crash leaves.
-fn put_letter(
+/// Puts `old` where a crash leaves what was before, `new` where it leaves what is after, and else what is read.
+fn put_age(
     alloc: Global,
     disk: &MemoryDisk,
     crash: (u64, u8),
-    what: &What,
-    texts: (&str, &str),
+    what: &str,
+    (before, after): (&str, &str),
     text: &mut String,
 ) -> Option<()> {
-    let read = read_after(alloc, disk, crash, what)?;
-    text.push(letter(read.as_str(), texts)).ok()
+    let mut read = String::new(alloc);
+    put_crash(alloc, disk, crash, what, &mut read)?;
+    let read = read.as_str();
+    let word = if read == before { "old" } else { read };
+    text.push_str(if read == after { "new" } else { word }).ok()
 }
 
-/// Drops the last word where it and the one before are `bbbb`.
-fn drop_repeated(text: &mut String) {
-    if text.as_str().ends_with(" bbbb bbbb") {
-        for _ in 0..5 {
-            let _letter = text.pop();
-        }
-    }
-}
-
-/// Puts a word for each call, of the letters of what the four crashes after it leave; and `bbbb` once for all calls in a row.
-fn put_letters(
+/// Puts what each of the four crashes after so many calls leaves, as `old` or `new`.
+fn put_ages(
     alloc: Global,
     disk: &MemoryDisk,
-    what: &What,
+    calls: u64,
+    what: &str,
     texts: (&str, &str),
     text: &mut String,
 ) -> Option<()> {
-    for calls in 0..=disk.calls() {
+    for pick in 0..4 {
         text.push(' ').ok()?;
-        for pick in 0..4 {
-            put_letter(alloc, disk, (calls, pick), what, texts, text)?;
-        }
-        drop_repeated(text);
+        put_age(alloc, disk, (calls, pick), what, texts, text)?;
     }
     Some(())
 }
 
-/// What a crash left, once it went on.
-fn gone_on(
+/// Puts what crashes leave after one more call, behind a bar. Where all of them leave what was before, that is told once for all
+/// calls in a row.
+fn put_call(
     alloc: Global,
     disk: &MemoryDisk,
-    (calls, pick): (u64, u8),
-    what: &What,
-    seen: &mut String,
-) -> Option<CarefulDisk> {
-    let mut next = CarefulDisk {
-        below: disk.after_crash(calls, pick).ok()?,
-    };
-    match what {
-        What::Log => go_on(alloc, &mut next, seen)?,
-        What::Root => replace(alloc, &mut next, NINTH)?,
+    calls: u64,
+    what: &str,
+    texts: (&str, &str),
+    text: &mut String,
+) -> Option<()> {
+    let mut ages = String::new(alloc);
+    put_ages(alloc, disk, calls, what, texts, &mut ages)?;
+    if ages.as_str() == " old old old old" && text.as_str().ends_with(ages.as_str()) {
+        return Some(());
     }
-    Some(next)
+    text.push_str(" /").ok()?;
+    text.push_str(ages.as_str()).ok()
 }
 
-/// Puts the letters of what goes on behind a crash.
-fn put_letters_behind(
+/// Puts what was before and what is after, and what crashes leave after each call.
+fn put_calls(
+    alloc: Global,
+    disk: &MemoryDisk,
+    what: &str,
+    (before, after): (&str, &str),
+    text: &mut String,
+) -> Option<()> {
+    text.push_str(" | ").ok()?;
+    text.push_str(before).ok()?;
+    text.push_str(" then ").ok()?;
+    text.push_str(after).ok()?;
+    for calls in 0..=disk.calls() {
+        put_call(alloc, disk, calls, what, (before, after), text)?;
+    }
+    Some(())
+}
+
+/// Puts what crashes leave on a disk that went on with what this crash left.
+fn put_changes(
+    alloc: Global,
+    (left, crash): (&MemoryDisk, (u64, u8)),
+    disk: &MemoryDisk,
+    what: &str,
+    text: &mut String,
+) -> Option<()> {
+    let mut before = String::new(alloc);
+    let mut after = String::new(alloc);
+    put_crash(alloc, left, crash, what, &mut before)?;
+    put_crash(alloc, disk, (u64::MAX, 1), what, &mut after)?;
+    put_calls(alloc, disk, what, (before.as_str(), after.as_str()), text)
+}
+
+/// Goes on with what a crash leaves, and puts what crashes leave then.
+fn put_behind(
     alloc: Global,
     disk: &MemoryDisk,
     crash: (u64, u8),
-    what: &What,
+    what: &str,
     text: &mut String,
 ) -> Option<()> {
-    let before = read_after(alloc, disk, crash, what)?;
-    let after = after_going_on(before.as_str())?;
-    let next = gone_on(alloc, disk, crash, what, text)?;
-    put_letters(alloc, &next.below, what, (before.as_str(), after), text)
+    let mut next = CarefulDisk {
+        below: disk.after_crash(crash.0, crash.1).ok()?,
+    };
+    continue_on(alloc, &mut next, what, text)?;
+    put_changes(alloc, (disk, crash), &next.below, what, text)
 }
 
-/// Puts, for each of the four crashes after so many calls, the letters of what goes on behind it.
-pub(crate) fn put_again(alloc: Global, what: &What, calls: u64, text: &mut String) -> Option<()> {
-    let disk = run(alloc, what, &[], text)?;
+/// Puts, for each of the four crashes after so many calls, what crashes leave after each call while it goes on.
+pub(crate) fn put_again(
+    alloc: Global,
+    disk: &MemoryDisk,
+    calls: u64,
+    what: &str,
+    text: &mut String,
+) -> Option<()> {
     for pick in 0..4 {
-        put_letters_behind(alloc, &disk.below, (calls, pick), what, text)?;
+        put_behind(alloc, disk, (calls, pick), what, text)?;
     }
     Some(())
 }

@@ -3,22 +3,27 @@ ghost use Rattle.std.specs.Prelude.{◌<◌, ◌^◌};
 
 use crate::bytes::{bytes_of, call_of};
 use crate::folder_steps::{LOG_PAYLOAD, STEPS};
-use crate::telling::{LOG, put_digits, put_log};
+use crate::logs::staged_of;
+use crate::rows::{put_difference, verdict};
+use crate::telling::{LOG, put_digits, put_log, put_value};
 use chunk_store::{DirDisk, Disk};
 use gate_log::{GateLog, Staged};
-use srch_base::{Failed, OpenFault};
+use srch_base::Failed;
 use std::alloc::Global;
 use std::fs::{self, File, Permissions};
 use std::os::unix::fs::{PermissionsExt, symlink};
 use std::test::Fail;
 use std::{env, process};
 
-/// Steps with a file of the greatest length that the system allows. It writes nothing of the first write, and one byte of the second.
-fn steps_at_the_end(alloc: Global, len: u64) -> Option<String> {
-    let last = len.saturating_sub(1);
-    format!(in alloc;
-        "removed . ⇒ done\nfolder . ⇒ done\nlongest 0 ⇒ {len}\nopen ⇒ done\nw 0 {len} 7a ⇒ failed\nw 0 {last} 7a7b ⇒ failed\nl 0 ⇒ {len}\nw 1 0 7a ⇒ done"
-    ).ok()
+/// What steps in a folder work on.
+#[derive(Drop)]
+struct Scene<'a> {
+    /// The folder as a disk, while it is open.
+    disk: Option<DirDisk<&'a HostRuntime>>,
+    /// The greatest length that the system lets a file have, once it was looked for.
+    greatest: u64,
+    /// Permissions don't bind who runs the test.
+    is_free: bool,
 }
 
 /// The path of the test's folder.
@@ -28,12 +33,11 @@ fn folder(rt: &HostRuntime) -> Option<String> {
     format!(in rt.alloc(); "{}/store_vectors_{id}", place.as_str()).ok()
 }
 
-/// The path of a file in a folder; `.` is the folder itself.
-fn path_in(alloc: Global, path: &str, name: &str) -> Option<String> {
-    if name == "." {
-        return String::from_str(alloc, path).ok();
-    }
-    format!(in alloc; "{path}/{name}").ok()
+/// The path of a name in a folder; `/` is the folder itself.
+fn path_in(alloc: Global, folder: &str, name: &str) -> Option<String> {
+    let mut path = String::from_str(alloc, folder).ok()?;
+    path.push_str(name).ok()?;
+    Some(path)
 }
 
 /// The permissions that a word stands for.
@@ -65,9 +69,16 @@ fn put_bytes(rt: &HostRuntime, path: &str, text: &mut String) -> Option<()> {
     put_digits(bytes.as_slice(), text)
 }
 
+/// Makes a folder anew, and says whether it could be made.
+fn is_made_anew(rt: &HostRuntime, path: &str) -> bool {
+    let _was_there = fs::remove_dir_all(rt, path).is_ok();
+    fs::create_dir(rt, path).is_ok()
+}
+
 /// Does something with a path, and says whether it could be done.
 fn is_done(rt: &HostRuntime, kind: &str, path: &str, rest: &str) -> bool {
     match kind {
+        "new" => is_made_anew(rt, path),
         "removed" => fs::remove_dir_all(rt, path).is_ok(),
         "folder" => fs::create_dir(rt, path).is_ok(),
         "link" => symlink(rt, rest, path).is_ok(),
@@ -82,9 +93,11 @@ fn put_done(is_done: bool, text: &mut String) -> Option<()> {
     text.push_str(if is_done { "done" } else { "failed" }).ok()
 }
 
-fn put_len(len: Result<Option<u64>, Failed>, text: &mut String) -> Option<()> {
+/// Puts the length of a file, or that it is the greatest one.
+fn put_len(len: Result<Option<u64>, Failed>, greatest: u64, text: &mut String) -> Option<()> {
     match len {
-        Ok(Some(len)) => write!(text, "{len}").ok(),
+        Ok(Some(len)) if len == greatest => text.push_str("longest").ok(),
+        Ok(Some(len)) => put_value(&len, text),
         Ok(None) => text.push_str("none").ok(),
         Err(Failed) => text.push_str("failed").ok(),
     }
@@ -121,13 +134,14 @@ fn put_call(
     alloc: Global,
     disk: &mut DirDisk<&HostRuntime>,
     (kind, file, at, rest): (&str, u32, u64, &str),
+    greatest: u64,
     text: &mut String,
 ) -> Option<()> {
     match kind {
-        "l" => put_len(disk.len(file), text),
-        "s" => put_done(disk.sync(file).is_ok(), text),
-        "d" => put_done(disk.remove(file).is_ok(), text),
-        "w" => put_done(is_written(alloc, disk, (file, at), rest)?, text),
+        "length" => put_len(disk.len(file), greatest, text),
+        "sync" => put_done(disk.sync(file).is_ok(), text),
+        "remove" => put_done(disk.remove(file).is_ok(), text),
+        "write" => put_done(is_written(alloc, disk, (file, at), rest)?, text),
         _ => put_read(disk, (file, at), rest.parse::<usize>().ok()?, text),
     }
 }
@@ -143,11 +157,7 @@ fn write_log(disk: &mut DirDisk<&HostRuntime>, staged: &Staged) -> Option<()>
 
 /// Writes a log of one record, and puts what is read of it.
 fn put_log_of(alloc: Global, disk: &mut DirDisk<&HostRuntime>, text: &mut String) -> Option<()> {
-    let payload = bytes_of(alloc, LOG_PAYLOAD)?;
-    if payload.len() != 35 {
-        return None;
-    }
-    let staged = Staged::new(alloc, 1, &payload).ok()?;
+    let staged = staged_of(alloc, 1, LOG_PAYLOAD)?;
     write_log(disk, &staged)?;
     put_log(alloc, disk, text)
 }
@@ -162,64 +172,60 @@ fn put_opened<'a>(
     match DirDisk::open(rt, rt.alloc(), path) {
         Ok(opened) => {
             *disk = Some(opened);
-            text.push_str("done").ok()
+            put_done(true, text)
         }
-        Err(OpenFault::Failed) => text.push_str("failed").ok(),
-        Err(_) => None,
+        Err(fault) => put_value(&fault, text),
     }
 }
 
 /// Puts what a step that isn't a call answers.
 fn put_step<'a>(
     rt: &'a HostRuntime,
-    disk: &mut Option<DirDisk<&'a HostRuntime>>,
+    scene: &mut Scene<'a>,
     (kind, path, rest): (&str, &str, &str),
     text: &mut String,
 ) -> Option<()> {
     match kind {
-        "open" => put_opened(rt, disk, path, text),
-        "close" => {
-            *disk = None;
-            text.push_str("done").ok()
-        }
-        "log" => put_log_of(rt.alloc(), disk.as_mut()?, text),
-        "bytes" => put_bytes(rt, path, text),
-        "longest" => write!(text, "{}", longest(rt, path)?).ok(),
-        _ => put_done(is_done(rt, kind, path, rest), text),
+        "open" => return put_opened(rt, &mut scene.disk, path, text),
+        "log" => return put_log_of(rt.alloc(), scene.disk.as_mut()?, text),
+        "bytes" => return put_bytes(rt, path, text),
+        "close" => scene.disk = None,
+        "longest" => scene.greatest = longest(rt, path)?,
+        "bound" => scene.is_free = fs::create_dir(rt, path).is_ok(),
+        _ => return put_done(is_done(rt, kind, path, rest), text),
     }
+    put_done(true, text)
+}
+
+/// Puts what a step with a path answers.
+fn put_path_step<'a>(
+    rt: &'a HostRuntime,
+    scene: &mut Scene<'a>,
+    folder: &str,
+    step: &str,
+    text: &mut String,
+) -> Option<()> {
+    let (kind, rest) = step.split_once(' ').unwrap_or((step, ""));
+    let (name, rest) = rest.split_once(' ').unwrap_or((rest, ""));
+    let path = path_in(rt.alloc(), folder, name)?;
+    put_step(rt, scene, (kind, path.as_str(), rest), text)
 }
 
 /// Puts what a step in a folder answers.
 fn put_answer<'a>(
     rt: &'a HostRuntime,
-    disk: &mut Option<DirDisk<&'a HostRuntime>>,
+    scene: &mut Scene<'a>,
     folder: &str,
     step: &str,
     text: &mut String,
 ) -> Option<()> {
-    let (kind, rest) = step.split_once(' ').unwrap_or((step, "."));
-    if kind.len() == 1 {
-        return put_call(rt.alloc(), disk.as_mut()?, call_of(step)?, text);
+    match call_of(step, scene.greatest) {
+        Some(call) => {
+            let greatest = scene.greatest;
+            put_call(rt.alloc(), scene.disk.as_mut()?, call, greatest, text)
+        }
+        None => put_path_step(rt, scene, folder, step, text),
     }
-    let (name, rest) = rest.split_once(' ').unwrap_or((rest, ""));
-    let path = path_in(rt.alloc(), folder, name)?;
-    put_step(rt, disk, (kind, path.as_str(), rest), text)
-}
-
-/// Puts a step that answers something else.
-fn put_if_wrong<'a>(
-    rt: &'a HostRuntime,
-    disk: &mut Option<DirDisk<&'a HostRuntime>>,
-    folder: &str,
-    (step, wanted): (&str, &str),
-    wrong: &mut String,
-) -> Option<()> {
-    let mut answer = String::new(rt.alloc());
-    put_answer(rt, disk, folder, step, &mut answer)?;
-    if answer.as_str() == wanted {
-        return Some(());
-    }
-    write!(wrong, "{step} ⇒ {answer}; ").ok()
 }
 
 /// What a step is to answer: behind ` / ` where permissions don't bind who runs the test.
@@ -231,62 +237,45 @@ fn wanted_of(wanted: &str, is_free: bool) -> &str {
     }
 }
 
-/// Puts the steps that answer something else.
-fn put_wrong(
-    rt: &HostRuntime,
+/// Puts a step that answers something else.
+fn put_if_wrong<'a>(
+    rt: &'a HostRuntime,
+    scene: &mut Scene<'a>,
     folder: &str,
-    steps: &str,
-    is_free: bool,
+    line: &str,
     wrong: &mut String,
 ) -> Option<()> {
-    let mut disk = None;
+    let (step, wanted) = line.split_once(" ⇒ ").unwrap_or((line, "an arrow"));
+    let mut answer = String::new(rt.alloc());
+    let is_told = put_answer(rt, scene, folder, step, &mut answer).is_some();
+    if is_told && answer.as_str() == wanted_of(wanted, scene.is_free) {
+        return Some(());
+    }
+    put_difference(step, answer.as_str(), wrong)
+}
+
+/// Puts the steps in a folder that answer something else.
+fn put_wrong(rt: &HostRuntime, folder: &str, steps: &str, wrong: &mut String) -> Option<()> {
+    let mut scene = Scene {
+        disk: None,
+        greatest: 0,
+        is_free: false,
+    };
     for line in steps.lines() {
-        let (step, wanted) = line.split_once(" ⇒ ")?;
-        let wanted = wanted_of(wanted, is_free);
-        put_if_wrong(rt, &mut disk, folder, (step, wanted), wrong)?;
+        put_if_wrong(rt, &mut scene, folder, line, wrong)?;
     }
     Some(())
 }
 
-/// Makes the folder, and tells whether permissions don't bind who runs the test.
-fn is_free(rt: &HostRuntime, folder: &str) -> Option<bool> {
-    let made = path_in(rt.alloc(), folder, "made")?;
-    let _was_there = is_done(rt, "removed", folder, "");
-    let _is_made = is_done(rt, "folder", folder, "");
-    let _is_closed = is_done(rt, "mode", folder, "reading");
-    let is_free = is_done(rt, "folder", made.as_str(), "");
-    let _is_open = is_done(rt, "mode", folder, "all");
-    Some(is_free)
-}
-
-/// The greatest length of a file in the folder.
-fn longest_in(rt: &HostRuntime, folder: &str) -> Option<u64> {
-    let path = path_in(rt.alloc(), folder, "0")?;
-    longest(rt, path.as_str())
-}
-
-/// Puts the steps that answer something else in this folder.
-fn put_all_wrong(rt: &HostRuntime, folder: &str, wrong: &mut String) -> Option<()> {
-    let is_free = is_free(rt, folder)?;
-    put_wrong(rt, folder, STEPS, is_free, wrong)?;
-    let end = steps_at_the_end(rt.alloc(), longest_in(rt, folder)?)?;
-    put_wrong(rt, folder, end.as_str(), is_free, wrong)
-}
-
-/// The steps that answer something else.
-fn wrong_steps(rt: &HostRuntime) -> Option<String> {
+/// Puts the steps in the test's folder that answer something else.
+fn put_all_wrong(rt: &HostRuntime, wrong: &mut String) -> Option<()> {
     let folder = folder(rt)?;
-    let mut wrong = String::new(rt.alloc());
-    put_all_wrong(rt, folder.as_str(), &mut wrong)?;
-    let _is_removed = is_done(rt, "removed", folder.as_str(), "");
-    Some(wrong)
+    put_wrong(rt, folder.as_str(), STEPS, wrong)
 }
 
 #[test]
 fn a_folder_answers_so(rt: HostRuntime) -> Result<(), Fail> {
-    match wrong_steps(&rt) {
-        Some(wrong) if wrong.is_empty() => Ok(()),
-        Some(wrong) => Err(Fail::new(wrong)),
-        None => Err(Fail::new("a step that isn't one")),
-    }
+    let mut wrong = String::new(rt.alloc());
+    let tried = put_all_wrong(&rt, &mut wrong);
+    verdict(tried, wrong)
 }

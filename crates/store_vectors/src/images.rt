@@ -1,13 +1,13 @@
 //! Files that are written as bytes, and what is read of them.
 use crate::bytes::bytes_of;
-use crate::careful_disk::{CarefulDisk, failing_disk};
-use crate::telling::{LOG, What, put_digits, put_what};
+use crate::careful_disk::CarefulDisk;
+use crate::telling::{LOG, put_digits, put_end, put_entry, put_value};
 use chunk_store::Disk;
 use gate_log::{Before, GateLog, LogRead, read_front, read_records};
 use std::alloc::Global;
 
 /// Writes the first of these bytes to a file, at most so many. `-` is a file that isn't there.
-fn write_file(
+pub(crate) fn write_file(
     alloc: Global,
     disk: &mut CarefulDisk,
     file: u32,
@@ -26,37 +26,16 @@ fn write_file(
 pub(crate) fn write_files(
     alloc: Global,
     disk: &mut CarefulDisk,
-    what: &What,
+    what: &str,
     most: u64,
     row: &str,
 ) -> Option<()> {
-    let mut file = match what {
-        What::Log => LOG,
-        What::Root => 0,
-    };
+    let mut file = if what == "log" { LOG } else { 0 };
     for words in row.split(" | ") {
         write_file(alloc, disk, file, most, words)?;
         file = file.saturating_add(1);
     }
     Some(())
-}
-
-/// Puts what is read of files, of which at most so many bytes are written; twice where a call fails.
-pub(crate) fn put_image(
-    alloc: Global,
-    what: &What,
-    (failing, most): (u64, u64),
-    row: &str,
-    text: &mut String,
-) -> Option<()> {
-    let mut disk = failing_disk(alloc, &[failing])?;
-    write_files(alloc, &mut disk, what, most, row)?;
-    put_what(alloc, &mut disk, what, text)?;
-    if failing == 0 {
-        return Some(());
-    }
-    text.push_str(", ").ok()?;
-    put_what(alloc, &mut disk, what, text)
 }
 
 /// What comes before the first record.
@@ -71,18 +50,17 @@ fn before_of(words: &str) -> Option<Before> {
 /// Puts each record as place:number:payload, and where the log ends or what is wrong there.
 fn put_read(read: &LogRead, text: &mut String) -> Option<()> {
     for record in read.records.as_slice() {
-        write!(text, "{}:{}:", record.place, record.number).ok()?;
-        put_digits(record.payload, text)?;
-        text.push(' ').ok()?;
+        put_value(&record.place, text)?;
+        text.push(':').ok()?;
+        put_entry(record.number, record.payload, text)?;
     }
     match read.fault {
-        Some(kind) => write!(text, "{kind} at {}", read.end).ok(),
-        None => write!(
-            text,
-            "to {}",
-            GateLog::behind(LOG, read.end, read.last).end()
-        )
-        .ok(),
+        Some(kind) => {
+            put_value(&kind, text)?;
+            text.push_str(" at ").ok()?;
+            put_value(&read.end, text)
+        }
+        None => put_end(GateLog::behind(LOG, read.end, read.last).end(), text),
     }
 }
 
@@ -95,12 +73,16 @@ pub(crate) fn put_records_read(alloc: Global, row: &str, text: &mut String) -> O
 }
 
 /// Puts the first bytes of a file, at most so many. File 2 has six bytes.
-pub(crate) fn put_front(alloc: Global, row: &str, text: &mut String) -> Option<()> {
+pub(crate) fn put_front(
+    alloc: Global,
+    disk: &mut CarefulDisk,
+    row: &str,
+    text: &mut String,
+) -> Option<()> {
     let (file, most) = row.split_once(' ')?;
     let (file, most) = (file.parse::<u32>().ok()?, most.parse::<u64>().ok()?);
-    let mut disk = failing_disk(alloc, &[])?;
     disk.write(LOG, 0, &[1, 2, 3, 4, 5, 6]).ok()?;
-    match read_front(alloc, &mut disk, file, most).ok()? {
+    match read_front(alloc, disk, file, most).ok()? {
         Some(bytes) => put_digits(&bytes, text),
         None => text.push('-').ok(),
     }

@@ -3,8 +3,7 @@
 //! A log is made by the calls 1 to 5 of the disk and record 7 is written by 6 to 9, its gate by 10 to 13, record 8 by 14 to 17, and
 //! its gate by 18 to 21. Each write and each sync is behind a look at the length. What wasn't synced is left as never done, as
 //! written, all 1, or all 255.
-use crate::rows::{Asked, try_tables};
-use crate::telling::What;
+use crate::rows::try_tables;
 use std::test::Fail;
 
 /// Bytes of logs, and the records that are read of them, as number:payload, and where they end, or what is wrong where.
@@ -51,8 +50,8 @@ const FRONTS: &str = "\
 
 /// The call that fails, a log without records, and what two readings of it give. It is written by the calls 1 and 2.
 const READINGS: &str = "\
-3..5 00 ⇒ a device failed, to 0
-6..8 00 ⇒ to 0, a device failed";
+3..5 00 ⇒ a device failed then to 0
+6..8 00 ⇒ to 0 then a device failed";
 
 /// Bytes of logs, what comes before the first record, and what is read: each record as place:number:payload, and where the log ends
 /// or what is wrong there.
@@ -124,27 +123,35 @@ const FAULTS: &str = "\
 const MENDED: &str = "\
 1..21 ⇒ 7:0a 8:0101 to 29 | 7:0a 8:0101 to 29 | 7:0a 8:0101 to 29 | 7:0a 8:0101 to 29 | 7:0a 8:0101 to 29";
 
-/// How many calls were made before a crash; and for each of the four, what crashes leave after each call while the log goes on: `b`
-/// is what was before and `a` what is after, a word for each call, and `bbbb` once. It is synced by the calls 1 and 2 and read by 3
-/// and 4, a record is written by 5 to 8, and its gate by 9 to 12: up to 9 each crash leaves what was before.
+/// How many calls were made before a crash; and for each of the four, what is read before the log goes on and after, and what the
+/// four crashes leave then after each call, the one or the other. That all leave the old log is told once for calls in a row. It is
+/// synced by the calls 1 and 2 and read by 3 and 4, a record is written by 5 to 8, and its gate by 9 to 12: up to 9 each crash leaves
+/// what was before.
 const AGAIN: &str = "\
-5..21 ⇒ bbbb baab baab aaaa bbbb baab baab aaaa bbbb baab baab aaaa bbbb baab baab aaaa";
+5..10 ⇒ | to 0 then 7: to 13 / old old old old / old new new old / old new new old / new new new new | to 0 then 7: to 13 / old old old old / old new new old / old new new old / new new new new | to 0 then 7: to 13 / old old old old / old new new old / old new new old / new new new new | to 0 then 7: to 13 / old old old old / old new new old / old new new old / new new new new
+11..12 ⇒ | to 0 then 7: to 13 / old old old old / old new new old / old new new old / new new new new | 7:0a to 14 then 7:0a 8: to 27 / old old old old / old new new old / old new new old / new new new new | 7:0a to 14 then 7:0a 8: to 27 / old old old old / old new new old / old new new old / new new new new | to 0 then 7: to 13 / old old old old / old new new old / old new new old / new new new new
+13..18 ⇒ | 7:0a to 14 then 7:0a 8: to 27 / old old old old / old new new old / old new new old / new new new new | 7:0a to 14 then 7:0a 8: to 27 / old old old old / old new new old / old new new old / new new new new | 7:0a to 14 then 7:0a 8: to 27 / old old old old / old new new old / old new new old / new new new new | 7:0a to 14 then 7:0a 8: to 27 / old old old old / old new new old / old new new old / new new new new
+19..20 ⇒ | 7:0a to 14 then 7:0a 8: to 27 / old old old old / old new new old / old new new old / new new new new | 7:0a 8:0101 to 29 then 7:0a 8:0101 9: to 42 / old old old old / old new new old / old new new old / new new new new | 7:0a 8:0101 to 29 then 7:0a 8:0101 9: to 42 / old old old old / old new new old / old new new old / new new new new | 7:0a to 14 then 7:0a 8: to 27 / old old old old / old new new old / old new new old / new new new new
+21..21 ⇒ | 7:0a 8:0101 to 29 then 7:0a 8:0101 9: to 42 / old old old old / old new new old / old new new old / new new new new | 7:0a 8:0101 to 29 then 7:0a 8:0101 9: to 42 / old old old old / old new new old / old new new old / new new new new | 7:0a 8:0101 to 29 then 7:0a 8:0101 9: to 42 / old old old old / old new new old / old new new old / new new new new | 7:0a 8:0101 to 29 then 7:0a 8:0101 9: to 42 / old old old old / old new new old / old new new old / new new new new";
 
-/// Each table, with what is asked about its rows.
-const READ: [(Asked, &str); 5] = [
-    (Asked::Read(What::Log), LOGS),
-    (Asked::Read(What::Log), FRONTS),
-    (Asked::ReadTwice(What::Log), READINGS),
-    (Asked::Records, RECORDS),
-    (Asked::Front, FILE_FRONTS),
+/// Each table, behind the steps that its rows make.
+const READ: [(&str, &str); 5] = [
+    ("files log; read log", LOGS),
+    ("files log; read log", FRONTS),
+    (
+        "failing; all; files log; read log; then; read log",
+        READINGS,
+    ),
+    ("records", RECORDS),
+    ("front", FILE_FRONTS),
 ];
 
-const APPENDED: [(Asked, &str); 5] = [
-    (Asked::Written, WRITTEN),
-    (Asked::Stops(What::Log), STOPS),
-    (Asked::LogFaults, FAULTS),
-    (Asked::Mended, MENDED),
-    (Asked::Again(What::Log), AGAIN),
+const APPENDED: [(&str, &str); 5] = [
+    ("record", WRITTEN),
+    ("append; crash log", STOPS),
+    ("failing; append; crash log", FAULTS),
+    ("failing; append; forget; all; read log; crash log", MENDED),
+    ("append; again log", AGAIN),
 ];
 
 #[test]

@@ -5,18 +5,12 @@ ghost use Rattle.std.specs.Option.{IfSome, OnSome};
 ghost use Rattle.gate_log.specs.Logs.{MayFollow, last_number, staging, opened};
 
 use crate::bytes::bytes_of;
-use crate::careful_disk::{CarefulDisk, failing_disk};
-use crate::telling::{LOG, put_digits, put_file, put_log};
+use crate::careful_disk::CarefulDisk;
+use crate::telling::{LOG, put_digits, put_file, put_log, put_value};
 use chunk_store::{Disk, MemoryDisk, remake};
 use gate_log::{GateLog, LogFault, LogRecord, Staged};
 use srch_base::Failed;
 use std::alloc::Global;
-
-/// Puts what is read of a log.
-pub(crate) fn look(alloc: Global, disk: &mut CarefulDisk, seen: &mut String) -> Option<()> {
-    put_log(alloc, disk, seen)?;
-    seen.push(' ').ok()
-}
 
 /// Makes the file of a log.
 fn create(alloc: Global, disk: &mut CarefulDisk, seen: &mut String) -> Option<GateLog>
@@ -26,7 +20,7 @@ fn create(alloc: Global, disk: &mut CarefulDisk, seen: &mut String) -> Option<Ga
     match GateLog::create(disk, LOG) {
         Ok(log) => Some(log),
         Err(Failed) => {
-            look(alloc, disk, seen)?;
+            put_log(alloc, disk, seen)?;
             GateLog::create(disk, LOG).ok()
         }
     }
@@ -47,7 +41,7 @@ fn stage(
     match log.stage(disk, staged) {
         Ok(()) => Some(()),
         Err(Failed) => {
-            look(alloc, disk, seen)?;
+            put_log(alloc, disk, seen)?;
             log.stage(disk, staged).ok()
         }
     }
@@ -65,7 +59,7 @@ fn open_gate(
     match log.open_gate(disk) {
         Ok(()) => Some(()),
         Err(Failed) => {
-            look(alloc, disk, seen)?;
+            put_log(alloc, disk, seen)?;
             log.open_gate(disk).ok()
         }
     }
@@ -136,12 +130,17 @@ pub(crate) fn go_on(alloc: Global, disk: &mut CarefulDisk, seen: &mut String) ->
 
 /// Puts where a log's last record ends, whether a record is staged, whether its gate may be open, and its file.
 fn put_step(alloc: Global, disk: &mut CarefulDisk, log: &GateLog, text: &mut String) -> Option<()> {
-    write!(text, " | {} ", log.end()).ok()?;
-    write!(text, "{} {} ", log.is_staged(), log.pending()).ok()?;
+    text.push_str(" | ").ok()?;
+    put_value(&log.end(), text)?;
+    text.push(' ').ok()?;
+    put_value(&log.is_staged(), text)?;
+    text.push(' ').ok()?;
+    put_value(&log.pending(), text)?;
+    text.push(' ').ok()?;
     put_file(alloc, disk, LOG, text)
 }
 
-/// Puts a log once it is made in place of an older file, once a record is staged, and once its gate is open; and what is read then.
+/// Puts a log once it is made in place of an older file, once a record is staged, and once its gate is open.
 fn put_steps(
     alloc: Global,
     disk: &mut CarefulDisk,
@@ -159,26 +158,41 @@ fn put_steps(
     put_step(alloc, disk, &log, text)
 }
 
-/// Puts what a staged record says, and its log at each step.
-fn put_staged(alloc: Global, staged: &Staged, text: &mut String) -> Option<()>
-    requires { staged.now.number < 2 ^ 63 }
-{
-    write!(text, "{} {} ", staged.number(), staged.len()).ok()?;
-    put_digits(staged.as_bytes(), text)?;
-    let mut disk = failing_disk(alloc, &[])?;
-    put_steps(alloc, &mut disk, staged, text)?;
-    text.push_str(" | ").ok()?;
-    put_log(alloc, &mut disk, text)
+/// Puts the number of a staged record, how many bytes it takes, and these.
+fn put_staged(staged: &Staged, text: &mut String) -> Option<()> {
+    put_value(&staged.number(), text)?;
+    text.push(' ').ok()?;
+    put_value(&staged.len(), text)?;
+    text.push(' ').ok()?;
+    put_digits(staged.as_bytes(), text)
 }
 
-/// Puts what a record of this number and payload says, and its log at each step.
-pub(crate) fn put_record(alloc: Global, row: &str, text: &mut String) -> Option<()> {
-    let (number, payload) = row.split_once(' ')?;
-    let number = number.parse::<u64>().ok()?;
+/// The record of this number whose payload these words spell.
+pub(crate) fn staged_of(alloc: Global, number: u64, payload: &str) -> Option<Staged>
+    ensures { IfSome result (λ staged. staged.number ≡ number) }
+{
     let payload = bytes_of(alloc, payload)?;
-    if number >= 1 << 63 || payload.len() >= 1 << 32 {
+    if payload.len() >= 1 << 32 {
         return None;
     }
-    let staged = Staged::new(alloc, number, &payload).ok()?;
-    put_staged(alloc, &staged, text)
+    Staged::new(alloc, number, &payload).ok()
+}
+
+/// Puts what a record of this number and payload says, its log at each step, and what is read then.
+pub(crate) fn put_record(
+    alloc: Global,
+    disk: &mut CarefulDisk,
+    row: &str,
+    text: &mut String,
+) -> Option<()> {
+    let (number, payload) = row.split_once(' ')?;
+    let number = number.parse::<u64>().ok()?;
+    if number >= 1 << 63 {
+        return None;
+    }
+    let staged = staged_of(alloc, number, payload)?;
+    put_staged(&staged, text)?;
+    put_steps(alloc, disk, &staged, text)?;
+    text.push_str(" | ").ok()?;
+    put_log(alloc, disk, text)
 }

@@ -1,84 +1,135 @@
-//! Tables of rows: what is asked about each row, what it comes to as a text, and how a test fails.
-use crate::calls::put_left;
-use crate::crashes::{put_again, put_log_faults, put_mended, put_root_faults, put_stops};
-use crate::images::{put_front, put_image, put_records_read};
-use crate::logs::put_record;
-use crate::roots::put_written;
-use crate::telling::What;
+//! Tables of rows: the steps that each row makes on a disk in memory, what they come to as a text, and how a test fails.
+use crate::calls::make_calls;
+use crate::careful_disk::{CarefulDisk, failing_disk};
+use crate::crashes::put_again;
+use crate::images::{put_front, put_records_read, write_files};
+use crate::logs::{append_two, put_record};
+use crate::roots::{THREE_STATES, put_states, replace_each};
+use crate::telling::{put_crashes, put_value, put_what};
 use std::alloc::Global;
 use std::test::Fail;
 
-/// What is asked about the rows of a table. Some rows begin with a range of numbers, as `3..5`, and are tried for each of them.
-pub(crate) enum Asked {
-    /// What files the four crashes after some calls leave; and what a crash of that leaves then.
-    Left,
-    LeftTwice,
-    /// What is read of a log's or a root's files; of their first bytes, so many, where there is a number.
-    Read(What),
-    /// What two readings of such files give while the call with this number fails.
-    ReadTwice(What),
-    /// Records with what comes before them; the first bytes of a file.
-    Records,
-    Front,
-    /// The bytes of a log and its state at each step of a record.
-    Written,
-    /// The slots once these states followed one another.
-    Slots,
-    /// What is read after each of the four crashes after so many calls.
-    Stops(What),
-    /// What is seen where the call with this number fails; and what stands at the end.
-    LogFaults,
-    RootFaults,
-    Mended,
-    /// What is read after crashes after each call while something goes on that a crash after so many calls left.
-    Again(What),
-}
-
-/// Puts what a row comes to.
-fn put_told(
+/// Makes a step that changes the disk, by the words of the row:
+///
+/// - `calls`: makes the calls that the row has. One that is `now` says when the crash comes.
+/// - `files log`, `files root`: writes the files that the row has, of each at most so many bytes as the number says.
+/// - `append`: makes a log and appends two records; what is read of it once a call failed is told.
+/// - `replace`, `three`: has the states of the row's slots follow one another, or three that are always the same.
+/// - `states`: has four states follow one another, and tells what is seen of each.
+/// - `record`: writes a log of the row's record, and tells each step of it.
+/// - `records`, `front`: tells the records of the row's bytes, or the first bytes of a file.
+fn make_step(
     alloc: Global,
-    asked: &Asked,
-    number: u64,
+    disk: &mut CarefulDisk,
+    number: &mut u64,
+    (kind, what): (&str, &str),
     words: &str,
     text: &mut String,
 ) -> Option<()> {
-    match asked {
-        Asked::Left => put_left(alloc, words, false, text),
-        Asked::LeftTwice => put_left(alloc, words, true, text),
-        Asked::Read(what) => put_image(alloc, what, (0, number), words, text),
-        Asked::ReadTwice(what) => put_image(alloc, what, (number, u64::MAX), words, text),
-        Asked::Records => put_records_read(alloc, words, text),
-        Asked::Front => put_front(alloc, words, text),
-        Asked::Written => put_record(alloc, words, text),
-        Asked::Slots => put_written(alloc, words, text),
-        Asked::Stops(what) => put_stops(alloc, what, number, text),
-        Asked::LogFaults => put_log_faults(alloc, number, text),
-        Asked::RootFaults => put_root_faults(alloc, number, words, text),
-        Asked::Mended => put_mended(alloc, number, text),
-        Asked::Again(what) => put_again(alloc, what, number, text),
+    match kind {
+        "calls" => make_calls(alloc, disk, words, number),
+        "files" => write_files(alloc, disk, what, *number, words),
+        "append" => append_two(alloc, disk, text),
+        "replace" => replace_each(alloc, disk, words),
+        "three" => replace_each(alloc, disk, THREE_STATES),
+        "states" => put_states(alloc, disk, text),
+        "record" => put_record(alloc, disk, words, text),
+        "records" => put_records_read(alloc, words, text),
+        "front" => put_front(alloc, disk, words, text),
+        _ => None,
     }
 }
 
-/// What a row comes to.
-fn told(alloc: Global, asked: &Asked, number: u64, words: &str) -> Option<String> {
-    let mut text = String::new(alloc);
-    put_told(alloc, asked, number, words, &mut text)?;
-    Some(text)
-}
-
-/// Fails where a row comes to something else.
-fn try_told(
+/// Makes a step of a row, which has a number and words:
+///
+/// - `failing`: the call with this number fails, and the one that the row's words name, if they do.
+/// - `all`: the number is the greatest from here on: no crash comes before the last call, and files are written in full.
+/// - `forget`, `then`: drops what was told so far, or puts a word between what is told.
+/// - `read log`, `read root`, `read files`: tells what is read of the disk now.
+/// - `crash log` and so on: tells what is read after each of the four crashes after so many calls as the number says.
+/// - `again log`, `again root`: tells what crashes leave while something goes on that such a crash left.
+/// - Others change the disk.
+fn put_step(
     alloc: Global,
-    asked: &Asked,
-    number: u64,
+    disk: &mut CarefulDisk,
+    number: &mut u64,
+    (kind, what): (&str, &str),
     words: &str,
-    wanted: &str,
-) -> Result<(), Fail> {
-    match told(alloc, asked, number, words) {
-        Some(told) if told.as_str().trim() == wanted => Ok(()),
-        Some(told) => Err(Fail::new(format_args!("{number} {words} ⇒ {told}"))),
-        None => Err(Fail::new(format_args!("{number} {words} stopped"))),
+    text: &mut String,
+) -> Option<()> {
+    match kind {
+        "failing" => Some(()),
+        "all" => {
+            *number = u64::MAX;
+            Some(())
+        }
+        "forget" => {
+            text.clear();
+            Some(())
+        }
+        "then" => text.push_str(" then ").ok(),
+        "read" => put_what(alloc, disk, what, text),
+        "crash" => put_crashes(alloc, &disk.below, *number, what, text),
+        "again" => put_again(alloc, &disk.below, *number, what, text),
+        _ => make_step(alloc, disk, number, (kind, what), words, text),
     }
+}
+
+/// Makes the steps of a row on a disk.
+fn put_steps(
+    alloc: Global,
+    disk: &mut CarefulDisk,
+    steps: &str,
+    (number, words): (u64, &str),
+    text: &mut String,
+) -> Option<()> {
+    let mut number = number;
+    for step in steps.split("; ") {
+        let step = step.split_once(' ').unwrap_or((step, ""));
+        put_step(alloc, disk, &mut number, step, words, text)?;
+    }
+    Some(())
+}
+
+/// The calls that fail. Calls are counted from 1, so 0 stands for none.
+fn failing_calls(steps: &str, number: u64, words: &str) -> [u64; 2] {
+    if steps.starts_with("failing") {
+        return [number, words.parse::<u64>().unwrap_or(0)];
+    }
+    [0, 0]
+}
+
+/// Puts what a row comes to.
+fn put_told(alloc: Global, steps: &str, number: u64, words: &str, text: &mut String) -> Option<()> {
+    let failing = failing_calls(steps, number, words);
+    let mut disk = failing_disk(alloc, &failing)?;
+    put_steps(alloc, &mut disk, steps, (number, words), text)
+}
+
+/// Puts a row and what it comes to in place of what is wanted.
+pub(crate) fn put_difference(row: &str, told: &str, wrong: &mut String) -> Option<()> {
+    wrong.push_str(row).ok()?;
+    wrong.push_str(" ⇒ ").ok()?;
+    wrong.push_str(told).ok()?;
+    wrong.push('\n').ok()
+}
+
+/// Puts a row that comes to something else for this number.
+fn put_if_wrong(
+    alloc: Global,
+    steps: &str,
+    (number, words): (u64, &str),
+    wanted: &str,
+    wrong: &mut String,
+) -> Option<()> {
+    let mut told = String::new(alloc);
+    let is_told = put_told(alloc, steps, number, words, &mut told).is_some();
+    if is_told && told.as_str().trim() == wanted {
+        return Some(());
+    }
+    put_value(&number, wrong)?;
+    wrong.push(' ').ok()?;
+    put_difference(words, told.as_str(), wrong)
 }
 
 /// The range that a row begins with, and what stands behind it. One that begins with none is tried for one number alone, which no
@@ -93,28 +144,39 @@ fn numbers_of(row: &str) -> Option<(u64, u64, &str)> {
     }
 }
 
-/// Fails where a row comes to something else for one of its numbers.
-fn try_row(alloc: Global, asked: &Asked, row: &str) -> Result<(), Fail> {
-    let (row, wanted) = row.split_once(" ⇒").ok_or("a row without an arrow")?;
-    let (from, to, words) = numbers_of(row).ok_or("another range")?;
+/// Puts a row that comes to something else for one of its numbers.
+fn put_wrong_row(alloc: Global, steps: &str, row: &str, wrong: &mut String) -> Option<()> {
+    let (row, wanted) = row.split_once(" ⇒").unwrap_or((row, "an arrow"));
+    let Some((from, to, words)) = numbers_of(row) else {
+        return put_difference(row, "another range", wrong);
+    };
     for number in from..=to {
-        try_told(alloc, asked, number, words, wanted.trim())?;
+        put_if_wrong(alloc, steps, (number, words), wanted.trim(), wrong)?;
     }
-    Ok(())
+    Some(())
 }
 
-/// Fails at the first row of a table that comes to something else.
-fn try_table(alloc: Global, asked: &Asked, table: &str) -> Result<(), Fail> {
-    for row in table.lines() {
-        try_row(alloc, asked, row)?;
+/// Puts the rows of some tables that come to something else. Each table stands behind the steps that its rows make.
+fn put_wrong_rows(alloc: Global, tables: &[(&str, &str)], wrong: &mut String) -> Option<()> {
+    for (steps, table) in tables {
+        for row in table.lines() {
+            put_wrong_row(alloc, steps, row, wrong)?;
+        }
     }
-    Ok(())
+    Some(())
 }
 
-/// Fails at the first row of some tables that comes to something else.
-pub(crate) fn try_tables(alloc: Global, tables: &[(Asked, &str)]) -> Result<(), Fail> {
-    for (asked, table) in tables {
-        try_table(alloc, asked, table)?;
+/// Fails where something is wrong, or was not tried.
+pub(crate) fn verdict(tried: Option<()>, wrong: String) -> Result<(), Fail> {
+    if tried.is_some() && wrong.is_empty() {
+        return Ok(());
     }
-    Ok(())
+    Err(Fail::new(wrong))
+}
+
+/// Fails with the rows of some tables that come to something else.
+pub(crate) fn try_tables(alloc: Global, tables: &[(&str, &str)]) -> Result<(), Fail> {
+    let mut wrong = String::new(alloc);
+    let tried = put_wrong_rows(alloc, tables, &mut wrong);
+    verdict(tried, wrong)
 }

@@ -1,34 +1,55 @@
 //! What is read of a disk, as a text.
+use crate::careful_disk::CarefulDisk;
 use chunk_store::{Disk, MemoryDisk, read_whole};
 use gate_log::{GateLog, LogRecord};
 use root_slots::{ChunkEntry, Root, RootState};
 use std::alloc::Global;
+use std::fmt::Display;
 
 /// The file of each log.
 pub(crate) const LOG: u32 = 2;
 
-/// What is read of a disk.
-pub(crate) enum What {
-    Log,
-    Root,
+/// Puts a value as it is shown. All that is shown goes through here, since a formatted text is dear to prove.
+pub(crate) fn put_value<T: Display>(value: &T, text: &mut String) -> Option<()> {
+    write!(text, "{value}").ok()
 }
 
-/// Puts the digits of some bytes; of more than a hundred, those of the first 13, and how many more there are.
-pub(crate) fn put_digits(bytes: &[u8], text: &mut String) -> Option<()> {
-    let shown = if bytes.len() > 100 { 13 } else { bytes.len() };
-    for byte in bytes.iter().take(shown) {
-        write!(text, "{byte:02x}").ok()?;
-    }
-    if bytes.len() > shown {
-        write!(text, "+{}", bytes.len() - shown).ok()?;
+/// Puts each of these words with its number.
+fn put_numbers(words: &str, numbers: &[u64], text: &mut String) -> Option<()> {
+    let mut words = words.split(' ');
+    for number in numbers {
+        text.push_str(words.next()?).ok()?;
+        text.push(' ').ok()?;
+        put_value(number, text)?;
+        text.push(' ').ok()?;
     }
     Some(())
 }
 
+/// Puts the digits of some bytes.
+fn put_all_digits(bytes: &[u8], text: &mut String) -> Option<()> {
+    for byte in bytes {
+        write!(text, "{byte:02x}").ok()?;
+    }
+    Some(())
+}
+
+/// Puts the digits of some bytes; of more than a hundred, those of the first 13, and how many more there are.
+pub(crate) fn put_digits(bytes: &[u8], text: &mut String) -> Option<()> {
+    match bytes.split_at_checked(13) {
+        Some((front, rest)) if bytes.len() > 100 => {
+            put_all_digits(front, text)?;
+            text.push('+').ok()?;
+            put_value(&rest.len(), text)
+        }
+        _ => put_all_digits(bytes, text),
+    }
+}
+
 /// Puts the digits of a file, or `-` where it isn't there.
-pub(crate) fn put_file<D: Disk>(
+pub(crate) fn put_file(
     alloc: Global,
-    disk: &mut D,
+    disk: &mut CarefulDisk,
     file: u32,
     text: &mut String,
 ) -> Option<()> {
@@ -38,97 +59,134 @@ pub(crate) fn put_file<D: Disk>(
     }
 }
 
-/// Puts the files 0 and 1 of a disk, behind a bar.
-pub(crate) fn put_two<D: Disk>(alloc: Global, disk: &mut D, text: &mut String) -> Option<()> {
-    text.push_str("| ").ok()?;
+/// Puts the files 0 and 1 of a disk.
+fn put_two(alloc: Global, disk: &mut CarefulDisk, text: &mut String) -> Option<()> {
     put_file(alloc, disk, 0, text)?;
     text.push(',').ok()?;
-    put_file(alloc, disk, 1, text)?;
+    put_file(alloc, disk, 1, text)
+}
+
+/// Puts the files 0 and 1 of what a crash now leaves of a disk.
+fn put_left(alloc: Global, disk: &mut CarefulDisk, text: &mut String) -> Option<()> {
+    let mut left = CarefulDisk {
+        below: disk.below.after_crash(disk.below.calls(), 2).ok()?,
+    };
+    put_two(alloc, &mut left, text)
+}
+
+/// Puts a record as number:payload.
+pub(crate) fn put_entry(number: u64, payload: &[u8], text: &mut String) -> Option<()> {
+    put_value(&number, text)?;
+    text.push(':').ok()?;
+    put_digits(payload, text)?;
     text.push(' ').ok()
 }
 
-/// Puts the records of a log, as number:payload, and where it ends.
-fn put_records(records: &[LogRecord], end: u64, text: &mut String) -> Option<()> {
+/// Puts where a log ends.
+pub(crate) fn put_end(end: u64, text: &mut String) -> Option<()> {
+    text.push_str("to ").ok()?;
+    put_value(&end, text)
+}
+
+/// Puts the records of a log.
+fn put_records(records: &[LogRecord], text: &mut String) -> Option<()> {
     for record in records {
-        write!(text, "{}:", record.number).ok()?;
-        put_digits(record.payload.as_slice(), text)?;
-        text.push(' ').ok()?;
+        put_entry(record.number, record.payload.as_slice(), text)?;
     }
-    write!(text, "to {end}").ok()
+    Some(())
 }
 
 /// Puts the records of a log and where it ends, or why it isn't read.
 pub(crate) fn put_log<D: Disk>(alloc: Global, disk: &mut D, text: &mut String) -> Option<()> {
     match GateLog::read(alloc, disk, LOG) {
-        Ok((log, records)) => put_records(&records, log.end(), text),
-        Err(fault) => write!(text, "{fault}").ok(),
+        Ok((log, records)) => {
+            put_records(&records, text)?;
+            put_end(log.end(), text)
+        }
+        Err(fault) => put_value(&fault, text),
     }
 }
 
-/// Puts a chunk as file:length,dead rows.
+/// Puts a chunk, and each of its rows that don't count.
 fn put_chunk(chunk: &ChunkEntry, text: &mut String) -> Option<()> {
-    write!(text, " {}:{}", chunk.file, chunk.length).ok()?;
+    let (file, length) = (u64::from(chunk.file), u64::from(chunk.length));
+    put_numbers("chunk length", &[file, length], text)?;
     for row in chunk.dead.as_slice() {
-        write!(text, ",{row}").ok()?;
+        put_numbers("dead", &[u64::from(*row)], text)?;
     }
     Some(())
 }
 
-/// Puts the numbers of a state, how long its schema's text is, its chunks, and whether the root is full.
-fn put_state(state: &RootState, is_full: bool, text: &mut String) -> Option<()> {
-    write!(text, "through {} next {} ", state.through, state.next_file).ok()?;
-    write!(text, "logs {} {} ", state.older, state.newer).ok()?;
-    write!(text, "text {}", state.schema_text.as_bytes().len()).ok()?;
+/// Puts the numbers of a state, how long its schema's text is, and its chunks.
+fn put_fields(state: &RootState, text: &mut String) -> Option<()> {
+    let logs = (u64::from(state.older), u64::from(state.newer));
+    let schema = state.schema_text.as_bytes().len() as u64;
+    let numbers = [
+        state.through,
+        u64::from(state.next_file),
+        logs.0,
+        logs.1,
+        schema,
+    ];
+    put_numbers("through next older newer text", &numbers, text)?;
     for chunk in state.chunks.as_slice() {
         put_chunk(chunk, text)?;
     }
-    text.push_str(if is_full { " full" } else { "" }).ok()
+    Some(())
+}
+
+/// Whether a state differs from others in the commit alone that it goes through.
+fn is_plain(state: &RootState) -> bool {
+    let is_empty = state.schema_text.as_bytes().is_empty() && state.chunks.as_slice().is_empty();
+    is_empty && matches!((state.next_file, state.older, state.newer), (3, 0, 2))
+}
+
+/// Puts a state, and whether the root is full. A plain state is told by the commit that it goes through.
+fn put_state(state: &RootState, is_full: bool, text: &mut String) -> Option<()> {
+    if is_plain(state) {
+        put_value(&state.through, text)?;
+    } else {
+        put_fields(state, text)?;
+    }
+    text.push_str(if is_full { "full" } else { "" }).ok()
 }
 
 /// Puts what a root is read as: its state, or that there is none, or why it isn't read.
-fn put_root<D: Disk>(alloc: Global, disk: &mut D, text: &mut String) -> Option<()> {
+fn put_root(alloc: Global, disk: &mut CarefulDisk, text: &mut String) -> Option<()> {
     match Root::read(alloc, disk) {
         Ok((root, Some(state))) => put_state(&state, root.full(), text),
-        Ok((_, None)) => text.push_str("no root").ok(),
-        Err(fault) => write!(text, "{fault}").ok(),
+        Ok((_, None)) => text.push_str("none").ok(),
+        Err(fault) => put_value(&fault, text),
     }
 }
 
-/// Puts what is read of a disk.
-pub(crate) fn put_what<D: Disk>(
+/// Puts what is read of a disk: of its log, of its root, of its files 0 and 1, or of these after one more crash.
+pub(crate) fn put_what(
     alloc: Global,
-    disk: &mut D,
-    what: &What,
+    disk: &mut CarefulDisk,
+    what: &str,
     text: &mut String,
 ) -> Option<()> {
     match what {
-        What::Log => put_log(alloc, disk, text),
-        What::Root => put_root(alloc, disk, text),
+        "log" => put_log(alloc, disk, text),
+        "root" => put_root(alloc, disk, text),
+        "files" => put_two(alloc, disk, text),
+        _ => put_left(alloc, disk, text),
     }
 }
 
-/// What is read of what this crash after so many calls leaves.
-pub(crate) fn read_after(
+/// Puts what is read of what this crash after so many calls leaves.
+pub(crate) fn put_crash(
     alloc: Global,
     disk: &MemoryDisk,
     (calls, pick): (u64, u8),
-    what: &What,
-) -> Option<String> {
-    let mut left = disk.after_crash(calls, pick).ok()?;
-    let mut text = String::new(alloc);
-    put_what(alloc, &mut left, what, &mut text)?;
-    Some(text)
-}
-
-/// A root that differs from others by the commit that it goes through alone is told by that, and no root by 0.
-fn short(read: &str) -> &str {
-    if read == "no root" {
-        return "0";
-    }
-    match read.strip_prefix("through ") {
-        Some(rest) => rest.strip_suffix(" next 3 logs 0 2 text 0").unwrap_or(read),
-        None => read,
-    }
+    what: &str,
+    text: &mut String,
+) -> Option<()> {
+    let mut left = CarefulDisk {
+        below: disk.after_crash(calls, pick).ok()?,
+    };
+    put_what(alloc, &mut left, what, text)
 }
 
 /// Puts what is read after each of the four crashes after so many calls: what wasn't synced is as never done, as written, all 1,
@@ -137,12 +195,12 @@ pub(crate) fn put_crashes(
     alloc: Global,
     disk: &MemoryDisk,
     calls: u64,
-    what: &What,
+    what: &str,
     text: &mut String,
 ) -> Option<()> {
     for pick in 0..4 {
-        let read = read_after(alloc, disk, (calls, pick), what)?;
-        write!(text, "| {} ", short(read.as_str())).ok()?;
+        text.push_str(" | ").ok()?;
+        put_crash(alloc, disk, (calls, pick), what, text)?;
     }
     Some(())
 }
