@@ -18,7 +18,7 @@ fn digits_of(word: &str) -> &str {
 /// Puts the digits of a word; `00×9` is nine times `00`.
 fn put_word(word: &str, digits: &mut String) -> Option<()> {
     let (part, count) = word.split_once('×').unwrap_or((word, "1"));
-    for _ in 0..count.parse::<u32>().ok()? {
+    for _ in 0..number_of(count)? {
         digits.push_str(digits_of(part)).ok()?;
     }
     Some(())
@@ -33,12 +33,22 @@ pub(crate) fn bytes_of(alloc: Global, words: &str) -> Option<Vec<u8>> {
     hex::decode(alloc, digits.as_str()).ok()
 }
 
+/// The number that a word is. It is read here alone, since that is dear to prove.
+pub(crate) fn number_of(word: &str) -> Option<u64> {
+    word.parse::<u64>().ok()
+}
+
+/// The number of a file.
+pub(crate) fn file_of(word: &str) -> Option<u32> {
+    word.parse::<u32>().ok()
+}
+
 /// The place that a word stands for: a number, or the end or the last byte of a file of the greatest length.
 fn place_of(word: &str, greatest: u64) -> Option<u64> {
     match word {
         "end" => Some(greatest),
         "last" => Some(greatest.saturating_sub(1)),
-        _ => word.parse::<u64>().ok(),
+        _ => number_of(word),
     }
 }
 
@@ -46,7 +56,7 @@ fn place_of(word: &str, greatest: u64) -> Option<u64> {
 pub(crate) fn call_of(call: &str, greatest: u64) -> Option<(&str, u32, u64, &str)> {
     let mut words = call.split(' ');
     let kind = words.next()?;
-    let file = words.next()?.parse::<u32>().ok()?;
+    let file = file_of(words.next()?)?;
     let at = place_of(words.next().unwrap_or("0"), greatest)?;
     Some((kind, file, at, words.next().unwrap_or("")))
 }

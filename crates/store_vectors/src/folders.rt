@@ -1,7 +1,7 @@
 //! The disk over a real folder: what it keeps, and what it fails at.
 ghost use Rattle.std.specs.Prelude.{◌<◌, ◌^◌};
 
-use crate::bytes::{bytes_of, call_of};
+use crate::bytes::{bytes_of, call_of, number_of};
 use crate::folder_steps::{LOG_PAYLOAD, STEPS};
 use crate::logs::staged_of;
 use crate::rows::{put_difference, verdict};
@@ -107,11 +107,11 @@ fn put_len(len: Result<Option<u64>, Failed>, greatest: u64, text: &mut String) -
 fn put_read(
     disk: &mut DirDisk<&HostRuntime>,
     (file, at): (u32, u64),
-    count: usize,
+    count: &str,
     text: &mut String,
 ) -> Option<()> {
     let mut room = [0; 8];
-    let into = room.get_mut(..count)?;
+    let into = room.get_mut(..number_of(count)? as usize)?;
     match disk.read(file, at, into) {
         Ok(()) => put_digits(into, text),
         Err(Failed) => text.push_str("failed").ok(),
@@ -142,7 +142,7 @@ fn put_call(
         "sync" => put_done(disk.sync(file).is_ok(), text),
         "remove" => put_done(disk.remove(file).is_ok(), text),
         "write" => put_done(is_written(alloc, disk, (file, at), rest)?, text),
-        _ => put_read(disk, (file, at), rest.parse::<usize>().ok()?, text),
+        _ => put_read(disk, (file, at), rest, text),
     }
 }
 

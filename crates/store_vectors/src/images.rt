@@ -1,5 +1,5 @@
 //! Files that are written as bytes, and what is read of them.
-use crate::bytes::bytes_of;
+use crate::bytes::{bytes_of, file_of, number_of};
 use crate::careful_disk::CarefulDisk;
 use crate::telling::{LOG, put_digits, put_end, put_entry, put_value};
 use chunk_store::Disk;
@@ -41,8 +41,8 @@ pub(crate) fn write_files(
 /// What comes before the first record.
 fn before_of(words: &str) -> Option<Before> {
     match words.split_once(' ') {
-        Some(("record", number)) => Some(Before::Record(number.parse::<u64>().ok()?)),
-        Some((_, number)) => Some(Before::Chunks(number.parse::<u64>().ok()?)),
+        Some(("record", number)) => Some(Before::Record(number_of(number)?)),
+        Some((_, number)) => Some(Before::Chunks(number_of(number)?)),
         None => Some(Before::Anything),
     }
 }
@@ -80,7 +80,7 @@ pub(crate) fn put_front(
     text: &mut String,
 ) -> Option<()> {
     let (file, most) = row.split_once(' ')?;
-    let (file, most) = (file.parse::<u32>().ok()?, most.parse::<u64>().ok()?);
+    let (file, most) = (file_of(file)?, number_of(most)?);
     disk.write(LOG, 0, &[1, 2, 3, 4, 5, 6]).ok()?;
     match read_front(alloc, disk, file, most).ok()? {
         Some(bytes) => put_digits(&bytes, text),

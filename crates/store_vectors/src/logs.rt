@@ -4,7 +4,7 @@ ghost use Rattle.std.specs.Prelude.{◌≡◌, ◌<◌, ◌^◌, Some, None, len
 ghost use Rattle.std.specs.Option.{IfSome, OnSome};
 ghost use Rattle.gate_log.specs.Logs.{MayFollow, last_number, staging, opened};
 
-use crate::bytes::bytes_of;
+use crate::bytes::{bytes_of, number_of};
 use crate::careful_disk::CarefulDisk;
 use crate::telling::{LOG, put_digits, put_file, put_log, put_value};
 use chunk_store::{Disk, MemoryDisk, remake};
@@ -186,7 +186,7 @@ pub(crate) fn put_record(
     text: &mut String,
 ) -> Option<()> {
     let (number, payload) = row.split_once(' ')?;
-    let number = number.parse::<u64>().ok()?;
+    let number = number_of(number)?;
     if number >= 1 << 63 {
         return None;
     }

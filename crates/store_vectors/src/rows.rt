@@ -1,4 +1,5 @@
 //! Tables of rows: the steps that each row makes on a disk in memory, what they come to as a text, and how a test fails.
+use crate::bytes::number_of;
 use crate::calls::make_calls;
 use crate::careful_disk::{CarefulDisk, failing_disk};
 use crate::crashes::put_again;
@@ -94,7 +95,7 @@ fn put_steps(
 /// The calls that fail. Calls are counted from 1, so 0 stands for none.
 fn failing_calls(steps: &str, number: u64, words: &str) -> [u64; 2] {
     if steps.starts_with("failing") {
-        return [number, words.parse::<u64>().unwrap_or(0)];
+        return [number, number_of(words).unwrap_or(0)];
     }
     [0, 0]
 }
@@ -138,7 +139,7 @@ fn numbers_of(row: &str) -> Option<(u64, u64, &str)> {
     match row.split_once("..") {
         Some((from, rest)) => {
             let (to, words) = rest.split_once(' ').unwrap_or((rest, ""));
-            Some((from.parse::<u64>().ok()?, to.parse::<u64>().ok()?, words))
+            Some((number_of(from)?, number_of(to)?, words))
         }
         None => Some((u64::MAX, u64::MAX, row)),
     }
