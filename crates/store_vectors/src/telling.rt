@@ -88,21 +88,18 @@ pub(crate) fn put_end(end: u64, text: &mut String) -> Option<()> {
     put_value(&end, text)
 }
 
-/// Puts the records of a log.
-fn put_records(records: &[LogRecord], text: &mut String) -> Option<()> {
+/// Puts the records of a log, and where it ends.
+fn put_records(records: &[LogRecord], end: u64, text: &mut String) -> Option<()> {
     for record in records {
         put_entry(record.number, record.payload.as_slice(), text)?;
     }
-    Some(())
+    put_end(end, text)
 }
 
 /// Puts the records of a log and where it ends, or why it isn't read.
 pub(crate) fn put_log<D: Disk>(alloc: Global, disk: &mut D, text: &mut String) -> Option<()> {
     match GateLog::read(alloc, disk, LOG) {
-        Ok((log, records)) => {
-            put_records(&records, text)?;
-            put_end(log.end(), text)
-        }
+        Ok((log, records)) => put_records(&records, log.end(), text),
         Err(fault) => put_value(&fault, text),
     }
 }
