@@ -53,40 +53,42 @@ fn schema_named(alloc: Global, name: &str) -> Option<Schema>
     }
 }
 
+/// Whether a transaction is written as these bytes, behind another one.
+fn is_written(alloc: Global, schema: &Schema, txn: &Txn, bytes: &[u8]) -> bool
+    requires schema { IsSchema schema.now }
+    requires txn { IsTxnOf schema.now txn.now }
+{
+    let mut out = Vec::new(alloc);
+    out.push(0xff).is_ok() && put_txn(txn, &mut out).is_ok() && out.get(1..) == Some(bytes)
+}
+
 /// Tells a transaction, and whether it is written as these bytes.
 fn put_whole(
+    alloc: Global,
     schema: &Schema,
     txn: &Txn,
     bytes: &[u8],
-    out: &mut Vec<u8>,
-    into: &mut String,
+    told: &mut String,
 ) -> Option<()>
     requires schema { IsSchema schema.now }
     requires txn { IsTxnOf schema.now txn.now }
 {
-    put_told(txn, into)?;
-    put_txn(txn, out).ok()?;
-    put_written(Some(bytes), out, into)
+    put_told(txn, told)?;
+    put_written(is_written(alloc, schema, txn, bytes), told)
 }
 
 /// Tells the transaction of a payload, or the place at which the payload is refused.
-fn put_payload(
-    alloc: Global,
-    schema: &Schema,
-    bytes: &[u8],
-    out: &mut Vec<u8>,
-    into: &mut String,
-) -> Option<()>
+fn put_payload(alloc: Global, schema: &Schema, bytes: &[u8], told: &mut String) -> Option<()>
     requires { IsSchema schema.now }
 {
     if bytes.len() > 1_000_000 {
         return None;
     }
     match read_txn(alloc, schema, bytes) {
-        Ok(txn) => put_whole(schema, &txn, bytes, out, into),
+        Ok(txn) => put_whole(alloc, schema, &txn, bytes, told),
         Err(Or::Fault(bad)) => {
             let place = bad.place;
-            write!(into, "{place}").ok()
+            write!(told, "{place}").ok()
         }
         Err(Or::NoMemory) => None,
     }
@@ -117,66 +119,62 @@ fn inserted(alloc: Global, schema: &Schema, txn: Txn) -> Option<Txn>
 }
 
 /// Tells the insertion of a payload's document, and whether it is written as the payload.
-fn put_insertion(
-    alloc: Global,
-    schema: &Schema,
-    bytes: &[u8],
-    out: &mut Vec<u8>,
-    into: &mut String,
-) -> Option<()>
+fn put_insertion(alloc: Global, schema: &Schema, bytes: &[u8], told: &mut String) -> Option<()>
     requires { IsSchema schema.now }
 {
     if bytes.len() > 1_000 {
         return None;
     }
-    match read_txn(alloc, schema, bytes) {
-        Ok(txn) => {
-            let txn = inserted(alloc, schema, txn)?;
-            put_whole(schema, &txn, bytes, out, into)
-        }
-        Err(_) => None,
-    }
+    let txn = inserted(alloc, schema, read_txn(alloc, schema, bytes).ok()?)?;
+    put_whole(alloc, schema, &txn, bytes, told)
 }
 
 /// Tells this of each front part of a payload.
-fn put_fronts(
-    alloc: Global,
-    schema: &Schema,
-    bytes: &[u8],
-    out: &mut Vec<u8>,
-    into: &mut String,
-) -> Option<()>
+fn put_fronts(alloc: Global, schema: &Schema, bytes: &[u8], told: &mut String) -> Option<()>
     requires { IsSchema schema.now }
 {
     for size in 0..bytes.len() {
-        put_payload(alloc, schema, bytes.get(..size)?, out, into)?;
-        into.push(' ').ok()?;
+        put_payload(alloc, schema, bytes.get(..size)?, told)?;
+        told.push(' ').ok()?;
     }
-    into.push_str("end").ok()
+    told.push_str("end").ok()
 }
 
-/// Tells whether the columns are written as these bytes.
-fn put_columns(schema: &Schema, bytes: &[u8], out: &mut Vec<u8>, into: &mut String) -> Option<()> {
-    put_schema(schema, out).ok()?;
-    put_written(Some(bytes), out, into)
+/// Whether the columns are written as these bytes, behind another one.
+fn are_columns(alloc: Global, schema: &Schema, bytes: &[u8]) -> bool {
+    let mut out = Vec::new(alloc);
+    out.push(0xff).is_ok() && put_schema(schema, &mut out).is_ok() && out.get(1..) == Some(bytes)
+}
+
+/// Tells what a row asks of bytes of an index with these columns.
+fn put_of_columns(
+    alloc: Global,
+    kind: &str,
+    schema: &Schema,
+    bytes: &[u8],
+    told: &mut String,
+) -> Option<()>
+    requires { IsSchema schema.now }
+{
+    match kind {
+        "payload" => put_payload(alloc, schema, bytes, told),
+        "insertion" => put_insertion(alloc, schema, bytes, told),
+        "fronts" => put_fronts(alloc, schema, bytes, told),
+        "columns" => put_written(are_columns(alloc, schema, bytes), told),
+        _ => None,
+    }
 }
 
 /// Tells what a row asks of bytes of an index, of which it says the name.
 pub(crate) fn put_of_index(
     alloc: Global,
-    (kind, name): (&str, &str),
+    kind: &str,
+    name: &str,
     bytes: &[u8],
-    out: &mut Vec<u8>,
-    into: &mut String,
+    told: &mut String,
 ) -> Option<()> {
     let schema = schema_named(alloc, name)?;
-    match kind {
-        "payload" => put_payload(alloc, &schema, bytes, out, into),
-        "insertion" => put_insertion(alloc, &schema, bytes, out, into),
-        "fronts" => put_fronts(alloc, &schema, bytes, out, into),
-        "columns" => put_columns(&schema, bytes, out, into),
-        _ => None,
-    }
+    put_of_columns(alloc, kind, &schema, bytes, told)
 }
 
 /// The long payload with these bytes in the place of its own from this place on.
@@ -198,9 +196,8 @@ pub(crate) fn put_damaged(
     alloc: Global,
     from: usize,
     part: &[u8],
-    out: &mut Vec<u8>,
-    into: &mut String,
+    told: &mut String,
 ) -> Option<()> {
     let bytes = damaged(alloc, from, part)?;
-    put_of_index(alloc, ("payload", "long"), &bytes, out, into)
+    put_of_index(alloc, "payload", "long", bytes.as_slice(), told)
 }

@@ -36,9 +36,10 @@ fn put_field(field: &FieldTokens, into: &mut String) -> Option<()> {
     into.push('}').ok()
 }
 
-fn put_doc(doc: &Doc, into: &mut String) -> Option<()> {
+/// Tells what is done with a document, and the document.
+fn put_doc(what: &str, doc: &Doc, into: &mut String) -> Option<()> {
     let id = doc.id;
-    write!(into, "{id} [").ok()?;
+    write!(into, "{what} {id} [").ok()?;
     for value in doc.values.as_slice() {
         let Value::Whole(number) = value;
         write!(into, "{number} ").ok()?;
@@ -52,14 +53,8 @@ fn put_doc(doc: &Doc, into: &mut String) -> Option<()> {
 
 fn put_op(op: &TxnOp, into: &mut String) -> Option<()> {
     match op {
-        TxnOp::Insert(doc) => {
-            into.push_str("insert ").ok()?;
-            put_doc(doc, into)
-        }
-        TxnOp::Put(doc) => {
-            into.push_str("put ").ok()?;
-            put_doc(doc, into)
-        }
+        TxnOp::Insert(doc) => put_doc("insert", doc, into),
+        TxnOp::Put(doc) => put_doc("put", doc, into),
         TxnOp::Kill(id) => write!(into, "kill {id}").ok(),
         TxnOp::Clear => into.push_str("clear").ok(),
     }
