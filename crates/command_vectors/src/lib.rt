@@ -1,7 +1,20 @@
-//! Tests by a table of lists of words from outside: with which addresses and numbers they ask for a mode.
+//! Tests by tables of values from outside over what the program is told: words of a command line, and SphinxQL's tokens and
+//! statements.
 #![tactic(auto)]
 
 #[cfg(test)]
+mod canonical;
+#[cfg(test)]
 mod lists;
+#[cfg(test)]
+mod packets;
+#[cfg(test)]
+mod signs;
+#[cfg(test)]
+mod statements;
+#[cfg(test)]
+mod telling;
+#[cfg(test)]
+mod tokens;
 #[cfg(test)]
 mod words;

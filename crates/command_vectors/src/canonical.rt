@@ -61,4 +61,15 @@ select id from rt option field_weights=(title=5,body=2) ⇒ SELECT `id` FROM `rt
 select id from rt facet a ⇒ SELECT `id` FROM `rt` FACET `a`
 select id from rt facet a order by count(*) desc limit 1,2 facet b order by b limit 3 facet c ⇒ SELECT `id` FROM `rt` FACET `a` ORDER BY COUNT ( * ) DESC LIMIT 1 , 2 FACET `b` ORDER BY `b` LIMIT 3 FACET `c`
 select id from rt where a=1 group by b having c=2 order by d limit 3 option e=4 facet f ⇒ SELECT `id` FROM `rt` WHERE `a` = 1 GROUP BY `b` HAVING `c` = 2 ORDER BY `d` LIMIT 3 OPTION `e` = 4 FACET `f`
+set names '' ⇒ SET NAMES ''
+set names 'a b' ⇒ SET NAMES 'a b'
+set names "it's" ⇒ SET NAMES 'it\'s'
+set names '\n\r\t\0' ⇒ SET NAMES '⟨0a⟩⟨0d⟩⟨09⟩⟨00⟩'
+set names '\'\"\\' ⇒ SET NAMES '\'"\\'
+set names '\N\x\%' ⇒ SET NAMES 'Nx%'
+set names '\\n' ⇒ SET NAMES '\\n'
+set names '\п\⟨0d⟩' ⇒ SET NAMES 'п⟨0d⟩'
+set x = 0 ⇒ SET `x` = 0
+set x = 007 ⇒ SET `x` = 7
+set x = 18446744073709551615 ⇒ SET `x` = 18446744073709551615
 "#;
