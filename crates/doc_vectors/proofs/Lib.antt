@@ -1,3 +1,4 @@
 pub mod TheSchema
 pub mod Rows
 pub mod Layers
+mod PlainSchema

@@ -4,6 +4,7 @@ ghost use Rattle.std.specs.Prelude.{◌<◌};
 use crate::commits::{OF_DOCUMENTS, OF_EACH_KIND, OF_HELLO_WORLD, transactions_take};
 use crate::documents::rows_of;
 use crate::images::{OF_NONE, OF_ONE, OF_TWO, is_image};
+use crate::outcomes::wrong_commit;
 use crate::snapshots::a_snapshot_counts;
 use crate::tables::{
     ANSWERS, AT_LAST_FIELD, AT_LAST_POSITION, DOCUMENTS, HELLO_WORLD, IN_TWO_FIELDS, LAST_FIELD,
@@ -60,15 +61,6 @@ fn all_answer(alloc: Global, said: &mut String) -> Option<()> {
     image_answers(alloc, TWO_FIELDS, 32, 0, IN_TWO_FIELDS, said)
 }
 
-#[test]
-fn chunks_answer_by_their_documents(rt: HostRuntime) -> Result<(), Fail> {
-    let mut said = String::new(rt.alloc());
-    if all_answer(rt.alloc(), &mut said).is_some() {
-        return Ok(());
-    }
-    Err(Fail::new(format_args!("{said}")))
-}
-
 /// None where another number of rows has a word than so many, or a cursor doesn't come to the next row of each so many from each row.
 fn leaps(chunk: &RamChunk, word: &[u8], step: u32, count: u32) -> Option<()>
     requires { 0 < step }
@@ -87,21 +79,27 @@ fn leaps(chunk: &RamChunk, word: &[u8], step: u32, count: u32) -> Option<()>
     Some(())
 }
 
-/// None where a cursor over the image of many documents misses a row: `a` stands in each, and `b` in each third one from the first on.
-fn many_leap(alloc: Global) -> Option<()> {
+/// Many documents: `a` stands in each, and `b` in each third one from the first on.
+fn many(alloc: Global) -> Option<String> {
     let mut documents = String::new(alloc);
     for id in 0..500u32 {
         let text = if id % 3 == 0 { "a b" } else { "a" };
         write!(documents, "{id} 1 html 0 0|{text}||\n").ok()?;
     }
-    let rows = rows_of(alloc, documents.as_str(), 3, 2)?;
-    let image = RamChunk::build(alloc, rows).ok()?;
-    leaps(&image, b"a", 1, 500)?;
-    leaps(&image, b"b", 3, 167)
+    Some(documents)
 }
 
-/// None where something else is counted or written; then what it is is said.
-fn all_else(alloc: Global, said: &mut String) -> Option<()> {
+/// None where a cursor over their image misses a row.
+fn many_leap(alloc: Global) -> Option<()> {
+    let documents = many(alloc)?;
+    let rows = rows_of(alloc, documents.as_str(), 3, 2)?;
+    let image = RamChunk::build(alloc, rows).ok()?;
+    (leaps(&image, b"a", 1, 500).is_some() && leaps(&image, b"b", 3, 167).is_some()).then_some(())
+}
+
+/// None where something is answered, counted, written or committed otherwise; then what it is is said.
+fn all_are_right(alloc: Global, said: &mut String) -> Option<()> {
+    all_answer(alloc, said)?;
     said.push_str("a cursor that leaps").ok()?;
     many_leap(alloc)?;
     said.push_str(", the counts of a snapshot").ok()?;
@@ -110,16 +108,25 @@ fn all_else(alloc: Global, said: &mut String) -> Option<()> {
     is_image(alloc, "", OF_NONE)?;
     is_image(alloc, HELLO_WORLD, OF_ONE)?;
     is_image(alloc, LONG_WORDS, OF_TWO)?;
+    said.push_str(", the bytes of a transaction: ").ok()?;
     transactions_take(alloc, DOCUMENTS, 3, 2, OF_DOCUMENTS, said)?;
     transactions_take(alloc, HELLO_WORLD, 1, 0, OF_HELLO_WORLD, said)?;
-    transactions_take(alloc, SHE_LEFT, 3, 2, OF_EACH_KIND, said)
+    transactions_take(alloc, SHE_LEFT, 3, 2, OF_EACH_KIND, said)?;
+    match wrong_commit(alloc, said) {
+        Some(line) => {
+            said.push_str(" ⇐ ").ok()?;
+            said.push_str(line).ok()?;
+            None
+        }
+        None => Some(()),
+    }
 }
 
 #[test]
-fn documents_are_counted_and_written(rt: HostRuntime) -> Result<(), Fail> {
+fn documents_are_answered_written_and_committed(rt: HostRuntime) -> Result<(), Fail> {
     let mut said = String::new(rt.alloc());
-    if all_else(rt.alloc(), &mut said).is_some() {
-        return Ok(());
+    match all_are_right(rt.alloc(), &mut said) {
+        Some(()) => Ok(()),
+        None => Err(Fail::new(format_args!("{said}"))),
     }
-    Err(Fail::new(format_args!("{said}")))
 }

@@ -1,6 +1,6 @@
 //! Lengths of transactions by the layout of a log's payload, and copies that equal what they copy.
 
-use crate::documents::rows_of;
+use crate::documents::{cut, rows_of};
 use doc_types::{Doc, DocRow, Txn, TxnOp, txn_bytes};
 use srch_base::Items;
 use std::alloc::Global;
@@ -29,26 +29,27 @@ pub(crate) const OF_HELLO_WORLD: &str = "=0 ⇒ 35\n";
 /// One of all four kinds of operations.
 pub(crate) const OF_EACH_KIND: &str = "* +0 =1 -7 ⇒ 150\n";
 
+/// The copy of a row, where it is the same.
+fn copy_of(row: &DocRow) -> Option<DocRow> {
+    match row.clone() {
+        Ok(copy) if copy == *row => Some(copy),
+        _ => None,
+    }
+}
+
 /// The document of a row with this number, where its copy is the same.
 fn doc_at(rows: &[DocRow], number: &str) -> Option<Doc> {
     let row = rows.get(number.parse::<usize>().ok()?)?;
-    let copy = row.clone().ok()?;
-    if copy != *row {
-        return None;
-    }
-    Some(copy.doc)
+    Some(copy_of(row)?.doc)
 }
 
 /// The operation that a word stands for.
 fn op_of(rows: &[DocRow], word: &str) -> Option<TxnOp> {
-    if word == "*" {
-        return Some(TxnOp::Clear);
-    }
-    let (sign, number) = word.split_at_checked(1)?;
-    match sign {
-        "+" => Some(TxnOp::Insert(doc_at(rows, number)?)),
-        "=" => Some(TxnOp::Put(doc_at(rows, number)?)),
-        "-" => Some(TxnOp::Kill(number.parse::<u64>().ok()?)),
+    match word.split_at_checked(1) {
+        Some(("*", _)) => Some(TxnOp::Clear),
+        Some(("+", number)) => Some(TxnOp::Insert(doc_at(rows, number)?)),
+        Some(("=", number)) => Some(TxnOp::Put(doc_at(rows, number)?)),
+        Some(("-", number)) => Some(TxnOp::Kill(number.parse::<u64>().ok()?)),
         _ => None,
     }
 }
@@ -64,16 +65,34 @@ fn txn_of(alloc: Global, rows: &[DocRow], words: &str) -> Option<Txn> {
     })
 }
 
-/// None where a transaction of a line takes another number of bytes, or its copy isn't the same.
-fn takes(alloc: Global, rows: &[DocRow], line: &str) -> Option<()> {
-    let (words, bytes) = line.split_once(" ⇒ ")?;
-    let bytes = bytes.parse::<u64>().ok()?;
-    let txn = txn_of(alloc, rows, words)?;
-    let copy = txn.clone().ok()?;
-    (copy == txn && txn_bytes(&txn) == bytes).then_some(())
+/// Whether a transaction takes so many bytes, and its copy is the same.
+fn is_copied(txn: &Txn, bytes: u64) -> bool {
+    match txn.clone() {
+        Ok(copy) => copy == *txn && txn_bytes(txn) == bytes,
+        Err(_) => false,
+    }
 }
 
-/// None where one of a table over its documents does; then its line is said.
+/// Whether the transaction of a line does.
+fn takes(alloc: Global, rows: &[DocRow], line: &str) -> Option<bool> {
+    let (words, bytes) = cut(line, " ⇒ ");
+    let bytes = bytes.parse::<u64>().ok()?;
+    let txn = txn_of(alloc, rows, words)?;
+    Some(is_copied(&txn, bytes))
+}
+
+/// None where one of a table doesn't; then its line is said.
+fn all_take(alloc: Global, rows: &[DocRow], table: &str, said: &mut String) -> Option<()> {
+    for line in table.lines() {
+        if takes(alloc, rows, line) != Some(true) {
+            said.push_str(line).ok()?;
+            return None;
+        }
+    }
+    Some(())
+}
+
+/// None where one of a table over its documents takes another number of bytes, or its copy isn't the same; then its line is said.
 pub(crate) fn transactions_take(
     alloc: Global,
     documents: &str,
@@ -83,10 +102,5 @@ pub(crate) fn transactions_take(
     said: &mut String,
 ) -> Option<()> {
     let rows = rows_of(alloc, documents, fields, attrs)?;
-    for line in table.lines() {
-        said.clear();
-        said.push_str(line).ok()?;
-        takes(alloc, rows.as_slice(), line)?;
-    }
-    Some(())
+    all_take(alloc, rows.as_slice(), table, said)
 }

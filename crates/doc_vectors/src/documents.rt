@@ -33,22 +33,31 @@ fn rules(alloc: Global, how: &str) -> Option<MarkRules>
     })
 }
 
+/// The tokens of a text, unless it is long or they have many spans.
+fn short(alloc: Global, charset: &Charset, rules: &MarkRules, text: &str) -> Option<FieldTokens>
+    requires { AreZones rules.now.zones }
+    ensures { IfSome result IsShort }
+{
+    if text.len() > MOST_BYTES {
+        return None;
+    }
+    match tokens(alloc, charset, rules, text) {
+        Ok(found) if found.spans.len() <= 1000 => Some(found),
+        _ => None,
+    }
+}
+
 /// The tokens of a text, or of `n×x`, which is x written n times.
 fn field(alloc: Global, charset: &Charset, rules: &MarkRules, text: &str) -> Option<FieldTokens>
     requires { AreZones rules.now.zones }
     ensures { IfSome result IsShort }
 {
-    let (count, piece) = text.split_once('×').unwrap_or(("1", text));
-    let mut whole = String::new(alloc);
-    for _ in 0..count.parse::<u32>().ok()? {
-        whole.push_str(piece).ok()?;
-    }
-    if whole.len() > MOST_BYTES {
-        return None;
-    }
-    match tokens(alloc, charset, rules, whole.as_str()) {
-        Ok(found) if found.spans.len() <= 1000 => Some(found),
-        _ => None,
+    match text.split_once('×') {
+        Some((count, piece)) => {
+            let text = piece.repeat(alloc, count.parse::<usize>().ok()?).ok()?;
+            short(alloc, charset, rules, text.as_str())
+        }
+        None => short(alloc, charset, rules, text),
     }
 }
 
@@ -81,18 +90,22 @@ fn values(alloc: Global, words: &str) -> Option<Items<Value>> {
     Some(Items::new(values))
 }
 
+/// What stands before and behind the first place of a mark; all stands before one that isn't there.
+pub(crate) fn cut<'t>(text: &'t str, mark: &str) -> (&'t str, &'t str) {
+    text.split_once(mark).unwrap_or((text, ""))
+}
+
 /// The row of a line of a table: the id, the number of the commit, the rules and the values; then the fields.
 fn row(alloc: Global, charset: &Charset, line: &str, count: usize) -> Option<DocRow>
     ensures { IfSome result (λ row. AreFields count row.doc.fields) }
 {
-    let (head, texts) = line.split_once('|')?;
-    let (id, rest) = head.split_once(' ')?;
-    let (born, rest) = rest.split_once(' ')?;
-    let (how, words) = rest.split_once(' ').unwrap_or((rest, ""));
+    let (head, texts) = cut(line, "|");
+    let (id, rest) = cut(head, " ");
+    let (born, rest) = cut(rest, " ");
+    let (how, words) = cut(rest, " ");
     let (id, born) = (id.parse::<u64>().ok()?, born.parse::<u64>().ok()?);
-    let rules = rules(alloc, how)?;
-    let fields = fields(alloc, charset, &rules, texts, count)?;
     let values = values(alloc, words)?;
+    let fields = fields(alloc, charset, &rules(alloc, how)?, texts, count)?;
     Some(DocRow {
         doc: Doc { id, fields, values },
         born,

@@ -37,50 +37,85 @@ fn compare(told: &str, wanted: &str, said: &mut String) -> Option<()> {
     lines.next().is_none().then_some(())
 }
 
+/// Appends a form with the next of some numbers in the place of each `#`.
+fn put_form(form: &str, numbers: &[u64], into: &mut String) -> Option<()> {
+    let mut numbers = numbers.iter();
+    for part in form.split_inclusive('#') {
+        match part.strip_suffix('#') {
+            Some(before) => {
+                let number = numbers.next()?;
+                write!(into, "{before}{number}").ok()?;
+            }
+            None => into.push_str(part).ok()?,
+        }
+    }
+    Some(())
+}
+
+/// Appends how many rows have a word, where one has it.
+fn put_count<C: Chunk>(chunk: &C, word: &str, into: &mut String) -> Option<()> {
+    let count = chunk.count(word.as_bytes());
+    if count == 0 && chunk.start(word.as_bytes()).is_none() {
+        return Some(());
+    }
+    write!(into, ", {word} {count}").ok()
+}
+
 /// Appends how many rows, fields and words a chunk has, and which of the ids and the words above.
 fn put_head<C: Chunk>(chunk: &C, into: &mut String) -> Option<()> {
-    let (rows, fields, words) = (chunk.rows(), chunk.fields(), chunk.words());
-    write!(into, "{rows} rows, {fields} fields, {words} words").ok()?;
+    let counts = [
+        u64::from(chunk.rows()),
+        u64::from(chunk.fields()),
+        u64::from(chunk.words()),
+    ];
+    put_form("# rows, # fields, # words", &counts, into)?;
     for id in IDS {
         if let Some(row) = chunk.find(id) {
-            write!(into, ", {id} at {row}").ok()?;
+            put_form(", # at #", &[id, u64::from(row)], into)?;
         }
     }
     for word in WORDS {
-        let count = chunk.count(word.as_bytes());
-        if chunk.start(word.as_bytes()).is_some() || count > 0 {
-            write!(into, ", {word} {count}").ok()?;
-        }
+        put_count(chunk, word, into)?;
     }
     into.push('\n').ok()
 }
 
-/// Appends the last positions, the boundaries and the spans of a row's fields.
-fn put_parts(
-    lasts: &[u32],
-    gaps: &[(u16, (u32, Gap))],
-    spans: &[(u16, ZoneSpan)],
-    into: &mut String,
-) -> Option<()> {
+/// Appends the last positions of a row's fields.
+fn put_lasts(lasts: &[u32], into: &mut String) -> Option<()> {
     into.push_str(", last").ok()?;
     for last in lasts {
-        write!(into, " {last}").ok()?;
+        put_form(" #", &[u64::from(*last)], into)?;
     }
+    Some(())
+}
+
+/// Appends the boundaries of a row's fields.
+fn put_gaps(gaps: &[(u16, (u32, Gap))], into: &mut String) -> Option<()> {
     into.push_str(", gaps").ok()?;
     for (field, (position, gap)) in gaps {
-        let letter = match gap {
-            Gap::None => "",
-            Gap::Sentence => "s",
-            Gap::Paragraph => "p",
+        let form = match gap {
+            Gap::None => " #.#",
+            Gap::Sentence => " #.#s",
+            Gap::Paragraph => " #.#p",
         };
-        write!(into, " {field}.{position}{letter}").ok()?;
+        put_form(form, &[u64::from(*field), u64::from(*position)], into)?;
     }
+    Some(())
+}
+
+/// Appends the spans of a row's fields.
+fn put_spans(spans: &[(u16, ZoneSpan)], into: &mut String) -> Option<()> {
     into.push_str(", spans").ok()?;
     for (field, span) in spans {
-        let (zone, first, last) = (span.zone, span.first, span.last);
-        write!(into, " {field}.{first}-{last}:{zone}").ok()?;
+        let numbers = [
+            u64::from(*field),
+            u64::from(span.first),
+            u64::from(span.last),
+            u64::from(span.zone),
+        ];
+        put_form(" #.#-#:#", &numbers, into)?;
     }
-    into.push('\n').ok()
+    Some(())
 }
 
 /// Appends what the chunk answers of a row of so many values.
@@ -95,30 +130,41 @@ fn put_row<C: Chunk>(
     requires values { All (HasValues attrs) (C.content chunk.now) }
 {
     let (id, born) = (chunk.id(row), chunk.born(row));
-    let number = chunk.find(id)?;
-    write!(into, "{number}: {id} by {born}:").ok()?;
+    let number = u64::from(chunk.find(id)?);
+    put_form("#: # by #:", &[number, id, born], into)?;
     for attr in 0..attrs {
         let Value::Whole(value) = chunk.value(row, attr);
         write!(into, " {value}").ok()?;
     }
+    put_parts(alloc, chunk, row, into)
+}
+
+/// Appends the last positions, the boundaries and the spans of a row's fields.
+fn put_parts<C: Chunk>(alloc: Global, chunk: &C, row: u32, into: &mut String) -> Option<()>
+    requires { row < length (C.content chunk.now) }
+{
     let mut lasts = Vec::new(alloc);
-    chunk.lasts(row, &mut lasts).ok()?;
     let mut gaps = Vec::new(alloc);
-    chunk.gaps(row, &mut gaps).ok()?;
     let mut spans = Vec::new(alloc);
-    chunk.spans(row, &mut spans).ok()?;
-    put_parts(lasts.as_slice(), gaps.as_slice(), spans.as_slice(), into)
+    let told = chunk.lasts(row, &mut lasts).is_ok()
+        && chunk.gaps(row, &mut gaps).is_ok()
+        && chunk.spans(row, &mut spans).is_ok()
+        && put_lasts(lasts.as_slice(), into).is_some()
+        && put_gaps(gaps.as_slice(), into).is_some()
+        && put_spans(spans.as_slice(), into).is_some()
+        && into.push('\n').is_ok();
+    told.then_some(())
 }
 
 /// Appends places of a word, or how many there are, and the last of them, where they are many.
 fn put_places(places: &[(u16, u32)], into: &mut String) -> Option<()> {
     if places.len() > 20 {
-        let count = places.len();
         let (field, position) = *places.last()?;
-        return write!(into, " {count} places up to {field}.{position}").ok();
+        let numbers = [places.len() as u64, u64::from(field), u64::from(position)];
+        return put_form(" # places up to #.#", &numbers, into);
     }
     for (field, position) in places {
-        write!(into, " {field}.{position}").ok()?;
+        put_form(" #.#", &[u64::from(*field), u64::from(*position)], into)?;
     }
     Some(())
 }
@@ -135,11 +181,12 @@ fn put_hits<L: Ledger, C: HitLists>(
     requires belongs { C.belongs chunk.now cursor.now }
     requires left { IsSome (next_row (C.place chunk.now cursor.now)) }
 {
-    let mut places = Vec::new(alloc);
     let fields = chunk.fields_at(cursor, steps);
-    chunk.open(cursor, &mut places, steps).ok()?;
-    write!(into, " {row}/{fields}:").ok()?;
-    put_places(places.as_slice(), into)
+    put_form(" #/#:", &[u64::from(row), u64::from(fields)], into)?;
+    let mut places = Vec::new(alloc);
+    let told = chunk.open(cursor, &mut places, steps).is_ok()
+        && put_places(places.as_slice(), into).is_some();
+    told.then_some(())
 }
 
 /// Appends what the chunk answers of a word: how many rows have it, these rows, and a row from which on another one is found by
@@ -204,6 +251,17 @@ fn put_words<L: Ledger, C: HitLists>(
     Some(())
 }
 
+/// Appends what a chunk answers whose rows have so many values: of itself, of each row and of each word.
+fn put_answers<C: HitLists>(alloc: Global, chunk: &C, attrs: u16, into: &mut String) -> Option<()>
+    requires { All (HasValues attrs) (C.content chunk.now) }
+{
+    put_head(chunk, into)?;
+    for row in 0..chunk.rows() {
+        put_row(alloc, chunk, row, attrs, into)?;
+    }
+    put_words::<Brand, C>(alloc, chunk, Blank::new(1), into)
+}
+
 /// None where a chunk whose rows have so many values answers otherwise; then the first line that is wrong is said.
 pub(crate) fn answers<C: HitLists>(
     alloc: Global,
@@ -215,10 +273,6 @@ pub(crate) fn answers<C: HitLists>(
     requires { All (HasValues attrs) (C.content chunk.now) }
 {
     let mut told = String::new(alloc);
-    put_head(chunk, &mut told)?;
-    for row in 0..chunk.rows() {
-        put_row(alloc, chunk, row, attrs, &mut told)?;
-    }
-    put_words::<Brand, C>(alloc, chunk, Blank::new(1), &mut told)?;
+    put_answers(alloc, chunk, attrs, &mut told)?;
     compare(told.as_str(), wanted, said)
 }

@@ -3,7 +3,7 @@ use Rattle.std.proofs.Common.{[], refl, arith}
 use Rattle.std.specs.Bool.{IsTrue}
 use Rattle.std.proofs.lemmas.List.Elements.{All-nil}
 use Rattle.doc_types.specs.Schemas.{IsName, IsSchema, is_column_name}
-use Rattle.commit_vectors.specs.Plain.{plain}
+use Rattle.doc_vectors.specs.steps.Plain.{plain}
 
 pub is_schema : IsSchema plain
 is_schema = record {

@@ -1,7 +1,7 @@
 use Rattle.std.proofs.Common.{All}
 use Rattle.doc_types.specs.Transactions.{IsOpOf}
-use Rattle.commit_vectors.specs.Plain.{plain}
-use Rattle.commit_vectors.proofs.scripts.txn.Given as goal
+use Rattle.doc_vectors.specs.steps.Plain.{plain}
+use Rattle.doc_vectors.proofs.scripts.txn.Given as goal
 
 abbrev pub invariant-loop-word : goal.invariant-loop-word
 invariant-loop-word l = All (IsOpOf plain) l.ops.items

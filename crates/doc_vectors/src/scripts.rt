@@ -3,7 +3,7 @@
 ghost use Rattle.std.specs.Prelude.{◌≡◌, [], IfSome};
 ghost use Rattle.doc_types.specs.Schemas.{IsSchema};
 ghost use Rattle.doc_types.specs.Transactions.{IsOpOf, IsTxnOf};
-ghost use Rattle.commit_vectors.specs.Plain.{plain};
+ghost use Rattle.doc_vectors.specs.steps.Plain.{plain};
 
 use doc_types::{Doc, Schema, Txn, TxnOp};
 use srch_base::{Items, Name};
@@ -42,15 +42,11 @@ fn doc(alloc: Global, id: u64) -> Doc
 fn op(alloc: Global, word: &str) -> Option<TxnOp>
     ensures { IfSome result (λ op. IsOpOf plain op) }
 {
-    if word == "*" {
-        return Some(TxnOp::Clear);
-    }
-    let (sign, number) = word.split_at_checked(1)?;
-    let id = number.parse::<u64>().ok()?;
-    match sign {
-        "+" => Some(TxnOp::Insert(doc(alloc, id))),
-        "=" => Some(TxnOp::Put(doc(alloc, id))),
-        "-" => Some(TxnOp::Kill(id)),
+    match word.split_at_checked(1) {
+        Some(("*", _)) => Some(TxnOp::Clear),
+        Some(("+", id)) => Some(TxnOp::Insert(doc(alloc, id.parse::<u64>().ok()?))),
+        Some(("=", id)) => Some(TxnOp::Put(doc(alloc, id.parse::<u64>().ok()?))),
+        Some(("-", id)) => Some(TxnOp::Kill(id.parse::<u64>().ok()?)),
         _ => None,
     }
 }

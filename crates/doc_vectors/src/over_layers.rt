@@ -1,16 +1,15 @@
 //! Commits over layers, of which none are put together: what each comes to, and each row of each layer after it.
 ghost use Rattle.std.specs.Prelude.{◌≡◌, ◌<◌, ◌^◌};
 ghost use Rattle.doc_types.specs.Transactions.{IsTxnOf};
-ghost use Rattle.commit_vectors.specs.Plain.{plain};
+ghost use Rattle.doc_vectors.specs.steps.Plain.{plain};
 
+use crate::outcomes::put_outcome;
 use crate::scripts::txn;
-use crate::telling::is_outcome;
 use commit_outcomes::CommitOutcome;
 use doc_types::{PlainChunk, Snapshot, Txn};
 use layer_commit::{Refusal, commit};
 use srch_base::{Items, Or};
 use std::alloc::Global;
-use std::test::Fail;
 
 /// The most documents that may be there.
 const LIMIT: u64 = 6;
@@ -67,25 +66,45 @@ fn commit_layers(
     }
 }
 
-/// Whether of the transaction of a line becomes what stands behind it.
-fn follows(alloc: Global, snapshot: &mut Snapshot<PlainChunk>, line: &str) -> Option<bool> {
-    let (text, wanted) = line.split_once(" ⇒ ")?;
+/// Appends what becomes of a transaction.
+fn put_commit(
+    alloc: Global,
+    snapshot: &mut Snapshot<PlainChunk>,
+    text: &str,
+    told: &mut String,
+) -> Option<()> {
     let txn = txn(alloc, text)?;
     let outcome = commit_layers(alloc, snapshot, &txn)?;
-    is_outcome(outcome, snapshot, wanted)
+    put_outcome(outcome, snapshot, told)
 }
 
-#[test]
-fn commits_over_layers(rt: HostRuntime) -> Result<(), Fail> {
+/// Whether of the transaction of a line becomes what stands behind it.
+fn follows(
+    alloc: Global,
+    snapshot: &mut Snapshot<PlainChunk>,
+    line: &str,
+    told: &mut String,
+) -> bool {
+    told.clear();
+    match line.split_once(" ⇒ ") {
+        Some((text, wanted)) => {
+            put_commit(alloc, snapshot, text, told).is_some() && told.as_str() == wanted
+        }
+        None => false,
+    }
+}
+
+/// The first line of which something else becomes.
+pub(crate) fn wrong_over_layers(alloc: Global, told: &mut String) -> Option<&'static str> {
     let mut snapshot = Snapshot {
         number: 0,
         shape: 0,
-        layers: Items::new(Vec::new(rt.alloc())),
+        layers: Items::new(Vec::new(alloc)),
     };
     for line in COMMITS.lines().skip(1) {
-        if follows(rt.alloc(), &mut snapshot, line) != Some(true) {
-            return Err(Fail::new(format_args!("{line}")));
+        if !follows(alloc, &mut snapshot, line, told) {
+            return Some(line);
         }
     }
-    Ok(())
+    None
 }

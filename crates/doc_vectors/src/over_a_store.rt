@@ -1,16 +1,15 @@
 //! Commits of a store, which puts layers together: what each comes to, and each row of each layer after it.
 ghost use Rattle.std.specs.Prelude.{◌≡◌};
-ghost use Rattle.commit_vectors.specs.Plain.{plain};
+ghost use Rattle.doc_vectors.specs.steps.Plain.{plain};
 
+use crate::outcomes::{put_count, put_outcome};
 use crate::scripts::{schema, txn};
-use crate::telling::is_outcome;
 use plain_store::PlainStore;
 use std::alloc::Global;
-use std::test::Fail;
 
 /// A transaction and what becomes of it, as over layers. A layer more than half of whose rows are dead becomes one with those
 /// behind it, and so does one with four times its living rows behind it.
-const COMMITS: &str = "
+pub(crate) const STORED: &str = "
 +1 +2 +3 +4 +5 ⇒ 0 removed, 1 / 1@1 2@1 3@1 4@1 5@1
 -1 -2 ⇒ 2 removed, 2 / (1@1) (2@1) 3@1 4@1 5@1
 +3 ⇒ 3 is there
@@ -34,7 +33,7 @@ const COMMITS: &str = "
 
 /// Ids that are inserted one by one, of which a commit is told by how many ids it removed, its number, the shape, which stays in
 /// memory, and how many layers there are: four layers behind one of their size make one of them all.
-const INSERTED: &str = "
+pub(crate) const INSERTED: &str = "
 +5 ⇒ 0 removed, 1 of shape 0 with 1
 +5 ⇒ 5 is there
 +9 ⇒ 0 removed, 2 of shape 0 with 2
@@ -65,37 +64,67 @@ const INSERTED: &str = "
 +30 ⇒ 0 removed, 26 of shape 0 with 2
 ";
 
-/// Whether of the transaction of a line becomes what stands behind it.
-fn follows(alloc: Global, store: &mut PlainStore, line: &str) -> Option<bool>
+/// What is told of layers.
+pub(crate) enum Layers {
+    /// Each row of each.
+    Told,
+    /// How many there are.
+    Counted,
+}
+
+/// Appends what becomes of a transaction, with its layers or how many there are.
+fn put_commit(
+    alloc: Global,
+    store: &mut PlainStore,
+    text: &str,
+    layers: &Layers,
+    told: &mut String,
+) -> Option<()>
     requires { store.old.schema ≡ plain }
     ensures { store.new.schema ≡ plain }
 {
-    let (text, wanted) = line.split_once(" ⇒ ")?;
     let txn = txn(alloc, text)?;
     let outcome = store.commit(alloc, &txn).ok()?;
-    is_outcome(outcome, store.snapshot(), wanted)
+    match layers {
+        Layers::Told => put_outcome(outcome, store.snapshot(), told),
+        Layers::Counted => put_count(outcome, store.snapshot(), told),
+    }
 }
 
-/// The first line of a table that a new store doesn't follow, or the empty text.
-fn first_wrong<'t>(alloc: Global, table: &'t str) -> &'t str {
+/// Whether of the transaction of a line becomes what stands behind it.
+fn follows(
+    alloc: Global,
+    store: &mut PlainStore,
+    line: &str,
+    layers: &Layers,
+    told: &mut String,
+) -> bool
+    requires { store.old.schema ≡ plain }
+    ensures { store.new.schema ≡ plain }
+{
+    told.clear();
+    match line.split_once(" ⇒ ") {
+        Some((text, wanted)) => {
+            put_commit(alloc, store, text, layers, told).is_some() && told.as_str() == wanted
+        }
+        None => false,
+    }
+}
+
+/// The first line of a table that a new store doesn't follow.
+pub(crate) fn wrong_of_a_store(
+    alloc: Global,
+    table: &'static str,
+    layers: &Layers,
+    told: &mut String,
+) -> Option<&'static str> {
     let Ok(mut store) = PlainStore::new(alloc, &schema(alloc)) else {
-        return "no store";
+        return Some("no store");
     };
     for line in table.lines().skip(1) {
-        if follows(alloc, &mut store, line) != Some(true) {
-            return line;
+        if !follows(alloc, &mut store, line, layers, told) {
+            return Some(line);
         }
     }
-    ""
-}
-
-#[test]
-fn commits_of_a_store(rt: HostRuntime) -> Result<(), Fail> {
-    for table in [COMMITS, INSERTED] {
-        let wrong = first_wrong(rt.alloc(), table);
-        if !wrong.is_empty() {
-            return Err(Fail::new(format_args!("{wrong}")));
-        }
-    }
-    Ok(())
+    None
 }

@@ -1,2 +1,0 @@
--- an index without columns keeps the limits
-mod PlainSchema

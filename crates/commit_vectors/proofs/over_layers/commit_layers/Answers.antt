@@ -1,6 +1,0 @@
-use Rattle.commit_vectors.specs.Plain.{plain}
-use Rattle.commit_vectors.proofs.PlainSchema.{is_schema}
-use Rattle.commit_vectors.proofs.over_layers.commit_layers.Goals as goal
-
-pub commit-requires-clause-of : goal.commit-requires-clause-of
-commit-requires-clause-of c = (plain, is_schema, c.requires)

@@ -1,2 +1,0 @@
--- the columns of the tables' index
-pub mod Plain
