@@ -5,8 +5,9 @@
 
 runs `rt ci` with these words, lets its output through, and looks every fifth of a second at the processes that it
 started: which crate each one checks, and for what. The figures are seconds of processor time. What an earlier run
-on this machine has passed is not proved again and costs nothing here, so a whole table wants `--anew`. The status is
-that of `rt ci`.
+on this machine has passed is not proved again and costs nothing here, so a whole table wants `--anew`. `RT_JOBS=4`
+before it has four crates proved at once, each by one job, as the gate does on four processors. The status is that of
+`rt ci`.
 """
 
 import os
