@@ -11,13 +11,13 @@ from typing import NamedTuple
 from tables import constant, read, run
 
 DOCUMENT = "docs/cases/extended_queries.md"
-TABLE = "crates/query_vectors/src/cases.rt"
+TABLE = "crates/text_vectors/src/query_trees.rt"
 # A text above so many bytes, or with a sign that has a name, is asked by its tree alone.
 LONGEST = 100
 
-HEAD = """//! The trees of docs/cases/extended_queries.md, as scripts/query_cases.py writes them: edit them there. After `# ` stands by
-//! which character table texts are read, then the configuration of their index and an empty line. Each text is followed by `⇒`
-//! and by its tree. `⟨x × n⟩` is x written n times, `⟨tab⟩` a tab.
+HEAD = """//! The trees of docs/cases/extended_queries.md, as scripts/query_cases.py writes them: edit them there. After `# ` stands the
+//! configuration of the index by which texts are read, and then an empty line. Each text is followed by `⇒` and by its tree.
+//! `⟨x × n⟩` is x written n times, `⟨tab⟩` a tab.
 """
 
 # The fields and the zones of the schemas.
@@ -81,11 +81,12 @@ def asked(row):
     return row.text if is_plain else row.tree
 
 
-def configuration(schema):
+def configuration(schema, table):
     """The lines of the configuration of an index."""
     lines = ["type = rt", "path = a", *(f"rt_field = {field}" for field in FIELDS[schema])]
+    lines += [f"charset_table = {table}"] if table != "default" else []
     lines += ["html_strip = 1", f"index_zones = {', '.join(ZONES[schema])}"] if schema in ZONES else []
-    return [f"index {schema} {{", *lines, "}"]
+    return [f"# index {schema} {{", *lines, "}", ""]
 
 
 def lines(found):
@@ -93,7 +94,7 @@ def lines(found):
     before, known = None, set()
     for row in found:
         if (row.schema, row.table) != before:
-            yield from [f"# {row.table}", *configuration(row.schema), ""]
+            yield from configuration(row.schema, row.table)
         before = row.schema, row.table
         line = f"{asked(row)} ⇒ {row.tree}"
         if (before, line) not in known:

@@ -5,11 +5,11 @@ use srch_base::Or;
 use std::alloc::Global;
 use std::fmt::Write;
 
-/// Texts that are no table, in which `⟨tab⟩` and `⟨CR⟩` are these characters and `¶` ends a line, and the place and the kind of the first fault.
-pub(crate) const FAULTS: &str = r#"
+/// Texts that are no table, and the place and the kind of the first fault.
+pub(crate) const FAULTS: &str = "\
 A..Z->a..y ⇒ 0 lengths
  ⇒ 0 empty
- ⟨tab⟩⟨CR⟩¶ ⇒ 0 empty
+ ⟨tab⟩⟨CR⟩⟨LF⟩ ⇒ 0 empty
 , ⇒ 0 entry
 a, ⇒ 2 entry
 a, ,b ⇒ 3 entry
@@ -39,7 +39,7 @@ U+D7FE..U+E001->a..c ⇒ 0 lengths
 a, a->b ⇒ 3 twice
 a->b, c..e,⟨tab⟩a..c ⇒ 12 twice
 b..d->x..z, a..c ⇒ 12 twice
-"#;
+";
 
 fn kind_word(kind: CharsetKind) -> &'static str {
     match kind {
@@ -51,20 +51,12 @@ fn kind_word(kind: CharsetKind) -> &'static str {
     }
 }
 
-/// A text in which blanks that a line can't have are spelled.
-fn spelled(alloc: Global, text: &str) -> Option<String> {
-    let text = text.replace(alloc, "⟨tab⟩", "\t").ok()?;
-    let text = text.as_str().replace(alloc, "⟨CR⟩", "\r").ok()?;
-    text.as_str().replace(alloc, "¶", "\n").ok()
-}
-
 /// Appends the place and the kind of a table's fault.
 pub(crate) fn put_fault(alloc: Global, text: &str, into: &mut String) -> Option<()> {
-    let text = spelled(alloc, text)?;
     if text.len() > 1000 {
         return None;
     }
-    match Charset::read(alloc, text.as_str()) {
+    match Charset::read(alloc, text) {
         Err(Or::Fault(fault)) => {
             let (place, kind) = (fault.place, kind_word(fault.kind));
             write!(into, "{place} {kind}").ok()

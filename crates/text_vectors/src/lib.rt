@@ -1,5 +1,5 @@
-//! Tests by tables of values from outside over what no run of the program shows of character tables, tables of words, marks and
-//! tokens, whose crates are proved once without them.
+//! Tests by tables of values from outside over what no run of the program shows of character tables, tables of words, marks,
+//! tokens and the trees of queries, whose crates are proved once without them.
 #![tactic(auto)]
 
 #[cfg(test)]
@@ -10,5 +10,11 @@ mod marks;
 mod name_tables;
 #[cfg(test)]
 mod positions;
+#[cfg(test)]
+mod queries;
+#[cfg(test)]
+mod query_trees;
+#[cfg(test)]
+mod spelling;
 #[cfg(test)]
 mod tables;

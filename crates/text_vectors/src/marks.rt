@@ -3,18 +3,20 @@
 ghost use Rattle.std.specs.Prelude.{◌≡◌, [], ◌∷◌, codes, IfOk};
 ghost use Rattle.doc_types.specs.Schemas.{AreZones};
 
+use crate::positions::put_position;
+use crate::queries::put_pieces;
+use crate::tables::Telling;
 use charset_map::Charset;
 use mark_scan::{Mark, MarkKind, MarkRules, marks};
 use srch_base::{Items, Name, NoMemory};
 use std::alloc::Global;
-use std::fmt::Write;
 
 /// Texts in an index with the zones `th` and `i`, each after its `html_strip` and `index_sp`, with their marks: their kinds, and the
 /// places of their first bytes and after them. In turn: zones and tags; a tag of a zone that closes itself opens nothing, but ends
 /// a paragraph; the end of a comment is searched after its beginning; a `!` of what is no comment ends a sentence; what is no tag is
 /// plain text; an inline tag that is a zone separates, and so does an unknown tag; characters of the same run are looked at across
 /// removed tags, and no others. The last six are texts whose markup isn't looked at.
-pub(crate) const MARKS: &str = r#"
+pub(crate) const MARKS: &str = "\
 1 1  ⇒ 
 1 1 a ⇒ text 0-1
 1 0 <th>hello</th> x <th>world</th> ⇒ open th 0-4, text 4-9, close th 9-14, text 14-17, open th 17-21, text 21-26, close th 26-31
@@ -41,7 +43,7 @@ pub(crate) const MARKS: &str = r#"
 0 1 a. 1 ⇒ text 0-4, sentence 1-2
 0 1 a?b! ⇒ text 0-4, sentence 1-2, sentence 3-4
 0 1 <b>. ⇒ text 0-4, sentence 3-4
-"#;
+";
 
 /// The word for a kind of marks.
 fn kind_word(kind: MarkKind) -> &'static str {
@@ -60,7 +62,7 @@ fn kind_word(kind: MarkKind) -> &'static str {
 }
 
 /// The rules of an index with the zones `th` and `i`.
-pub(crate) fn rules(alloc: Global, strip: bool, sp: bool) -> Result<MarkRules, NoMemory>
+fn rules(alloc: Global, strip: bool, sp: bool) -> Result<MarkRules, NoMemory>
     ensures { IfOk result (λ rules. AreZones rules.zones) }
 {
     let mut zones = Vec::new(alloc);
@@ -71,7 +73,7 @@ pub(crate) fn rules(alloc: Global, strip: bool, sp: bool) -> Result<MarkRules, N
 }
 
 /// Appends marks, as the table writes them.
-fn put_marks(marks: &[Mark], into: &mut String) -> Option<()> {
+fn put_list(marks: &[Mark], into: &mut String) -> Option<()> {
     let mut before = "";
     for mark in marks {
         let (kind, from, to) = (kind_word(mark.kind), mark.from, mark.to);
@@ -81,15 +83,54 @@ fn put_marks(marks: &[Mark], into: &mut String) -> Option<()> {
     Some(())
 }
 
-/// Appends the marks of a text, which stands after its `html_strip` and `index_sp`.
-pub(crate) fn put_marked(alloc: Global, line: &str, into: &mut String) -> Option<()> {
-    let (strip, rest) = line.split_once(' ')?;
-    let (sp, text) = rest.split_once(' ')?;
+/// Appends the marks of a text.
+fn put_marks(
+    alloc: Global,
+    table: &Charset,
+    rules: &MarkRules,
+    text: &str,
+    into: &mut String,
+) -> Option<()>
+    requires { AreZones rules.now.zones }
+{
     if text.len() > 1000 {
         return None;
     }
-    let table = Charset::default_table(alloc).ok()?;
-    let rules = rules(alloc, strip == "1", sp == "1").ok()?;
-    let found = marks(alloc, &table, &rules, text).ok()?;
-    put_marks(found.as_slice(), into)
+    match marks(alloc, table, rules, text) {
+        Ok(found) => put_list(found.as_slice(), into),
+        Err(_) => None,
+    }
+}
+
+/// Appends what is told of a text by the default table and by rules.
+fn put_told(
+    alloc: Global,
+    text: &str,
+    telling: &Telling,
+    rules: &MarkRules,
+    into: &mut String,
+) -> Option<()>
+    requires { AreZones rules.now.zones }
+{
+    let table = &Charset::default_table(alloc).ok()?;
+    match telling {
+        Telling::Marks => put_marks(alloc, table, rules, text, into),
+        Telling::Position => put_position(alloc, table, rules, text, into),
+        _ => put_pieces(alloc, table, text, into),
+    }
+}
+
+/// Appends what is told of a text, which stands after its `html_strip` and `index_sp`.
+pub(crate) fn put_marked(
+    alloc: Global,
+    line: &str,
+    telling: &Telling,
+    into: &mut String,
+) -> Option<()> {
+    let (strip, rest) = line.split_once(" ")?;
+    let (sp, text) = rest.split_once(" ")?;
+    match rules(alloc, strip == "1", sp == "1") {
+        Ok(rules) => put_told(alloc, text, telling, &rules, into),
+        Err(_) => None,
+    }
 }

@@ -86,7 +86,7 @@ fn keyword_at(place: u16) -> Option<&'static str> {
 }
 
 /// Words in letters of either case, and their places.
-pub(crate) const PLACES: &str = r#"
+pub(crate) const PLACES: &str = "\
 and ⇒ 0
 AND ⇒ 0
 BeTween ⇒ 5
@@ -99,15 +99,15 @@ andy ⇒ none
 AND  ⇒ none
 Z ⇒ none
 Änd ⇒ none
-"#;
+";
 
 /// Places, and the values there.
-pub(crate) const VALUES: &str = r#"
+pub(crate) const VALUES: &str = "\
 0 ⇒ AND
 19 ⇒ FACET
 59 ⇒ QUICK
 60 ⇒ none
-"#;
+";
 
 /// Appends the place of a word, or `none`.
 pub(crate) fn put_place(word: &str, into: &mut String) -> Option<()> {

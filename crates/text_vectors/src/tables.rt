@@ -1,13 +1,15 @@
-//! How the tables are tried: a line is a text, ` ⇒ ` and what is told of it.
+//! How the tables are tried: a line is a text, ` ⇒ ` and what is told of it, all of it spelled.
 use crate::character_tables::{FAULTS, put_fault};
 use crate::marks::{MARKS, put_marked};
 use crate::name_tables::{PLACES, VALUES, put_place, put_value};
-use crate::positions::{POSITIONS, put_position};
+use crate::positions::POSITIONS;
+use crate::queries::PIECES;
+use crate::spelling::spell;
 use std::alloc::Global;
 use std::test::Fail;
 
 /// What is told of a table's texts.
-enum Telling {
+pub(crate) enum Telling {
     /// The place and the kind of a character table's fault.
     Fault,
     /// The place of a word.
@@ -18,13 +20,16 @@ enum Telling {
     Marks,
     /// The position that is too great.
     Position,
+    /// How many pieces there are.
+    Pieces,
 }
 
-const SHORT: [(&str, Telling); 4] = [
+const SHORT: [(&str, Telling); 5] = [
     (FAULTS, Telling::Fault),
     (PLACES, Telling::Place),
     (VALUES, Telling::Value),
     (MARKS, Telling::Marks),
+    (PIECES, Telling::Pieces),
 ];
 
 /// Texts that take long.
@@ -36,43 +41,57 @@ fn tell(alloc: Global, text: &str, telling: &Telling, into: &mut String) -> Opti
         Telling::Fault => put_fault(alloc, text, into),
         Telling::Place => put_place(text, into),
         Telling::Value => put_value(text, into),
-        Telling::Marks => put_marked(alloc, text, into),
-        Telling::Position => put_position(alloc, text, into),
+        _ => put_marked(alloc, text, telling, into),
     }
 }
 
-/// None where something else is told of a text than its line says; then that is said.
-fn is_told(alloc: Global, line: &str, telling: &Telling, said: &mut String) -> Option<()> {
-    let (text, wanted) = line.split_once(" ⇒ ")?;
-    said.clear();
-    tell(alloc, text, telling, said)?;
-    if said.as_str() == wanted {
-        return Some(());
-    }
-    None
+/// Whether what a line says is told of its text. The line is spelled into one text, and what is told into another.
+fn is_told(
+    alloc: Global,
+    line: &str,
+    telling: &Telling,
+    spelled: &mut String,
+    told: &mut String,
+) -> Option<bool> {
+    spelled.clear();
+    told.clear();
+    spell(line, spelled)?;
+    let (text, wanted) = spelled.as_str().split_once(" ⇒ ")?;
+    tell(alloc, text, telling, told)?;
+    Some(told.as_str() == wanted)
 }
 
-/// None where one of the tables has such a line; then it is said behind what is told of it.
-fn are_told(alloc: Global, tables: &[(&str, Telling)], said: &mut String) -> Option<()> {
+/// The first line of tables of which something else is told, or the empty text.
+fn first_wrong<'t>(
+    alloc: Global,
+    tables: &[(&'t str, Telling)],
+    spelled: &mut String,
+    told: &mut String,
+) -> &'t str {
     for (table, telling) in tables {
-        for line in table.lines().skip(1) {
-            if is_told(alloc, line, telling, said).is_none() {
-                said.push_str(" ⇐ ").ok()?;
-                said.push_str(line).ok()?;
-                return None;
+        for line in table.lines() {
+            if is_told(alloc, line, telling, spelled, told) != Some(true) {
+                return line;
             }
         }
     }
-    Some(())
+    ""
 }
 
-/// Fails with the first text of which something else is told.
-fn try_tables(alloc: Global, tables: &[(&str, Telling)]) -> Result<(), Fail> {
-    let mut said = String::new(alloc);
-    match are_told(alloc, tables, &mut said) {
-        Some(()) => Ok(()),
-        None => Err(Fail::new(format_args!("{said}"))),
+/// Fails with a line that is wrong, where one is, and with what is told of it.
+pub(crate) fn none_wrong(line: &str, told: &str) -> Result<(), Fail> {
+    if line.is_empty() {
+        return Ok(());
     }
+    Err(Fail::new(format_args!("{told} ⇐ {line}")))
+}
+
+/// Fails with the first line of tables of which something else is told.
+fn try_tables(alloc: Global, tables: &[(&str, Telling)]) -> Result<(), Fail> {
+    let mut spelled = String::new(alloc);
+    let mut told = String::new(alloc);
+    let wrong = first_wrong(alloc, tables, &mut spelled, &mut told);
+    none_wrong(wrong, told.as_str())
 }
 
 #[test]

@@ -1,11 +1,10 @@
-//! The trees of docs/cases/extended_queries.md, as scripts/query_cases.py writes them: edit them there. After `# ` stands by
-//! which character table texts are read, then the configuration of their index and an empty line. Each text is followed by `⇒`
-//! and by its tree. `⟨x × n⟩` is x written n times, `⟨tab⟩` a tab.
+//! The trees of docs/cases/extended_queries.md, as scripts/query_cases.py writes them: edit them there. After `# ` stands the
+//! configuration of the index by which texts are read, and then an empty line. Each text is followed by `⇒` and by its tree.
+//! `⟨x × n⟩` is x written n times, `⟨tab⟩` a tab.
 
 /// Texts with their trees.
 pub(crate) const TREES: &str = r#"
-# default
-index rt {
+# index rt {
 type = rt
 path = a
 rt_field = title
@@ -381,8 +380,7 @@ a -(@title b) c ⇒ ( a -(@(title) b) c )
 @Ж a ⇒ ( ж a )
 @@relaxed @⟨n × 64⟩ a ⇒ (@!* a)
 ZONE:⟨z × 65⟩ a ⇒ a
-# default
-index long {
+# index long {
 type = rt
 path = a
 rt_field = nnnnnnnnnnnnnnnnnnnnnnnnnnnnnnnnnnnnnnnnnnnnnnnnnnnnnnnnnnnnnnnn
@@ -395,8 +393,7 @@ index_zones = zzzzzzzzzzzzzzzzzzzzzzzzzzzzzzzzzzzzzzzzzzzzzzzzzzzzzzzzzzzzzzzz
 @!⟨n × 64⟩ a ⇒ (@(title) a)
 ZONE:⟨z × 64⟩ a ⇒ (@* ZONE:(⟨z × 64⟩) a)
 ZONESPAN:⟨z × 64⟩ a ⇒ (ZONESPAN:(⟨z × 64⟩) a)
-# default
-index one {
+# index one {
 type = rt
 path = a
 rt_field = title
@@ -406,8 +403,7 @@ rt_field = title
 @title[3] a ⇒ (@*[3] a)
 @!title a ⇒ (@!* a)
 @!title[3] a ⇒ (@!*[3] a)
-# default
-index wide {
+# index wide {
 type = rt
 path = a
 rt_field = f0
@@ -452,8 +448,7 @@ rt_field = f31
 @*[7] a ⇒ (@*[7] a)
 a ⇒ a
 (@!* a) ⇒ (@!* a)
-# default
-index rt {
+# index rt {
 type = rt
 path = a
 rt_field = title
@@ -472,8 +467,7 @@ rt_field = content
 @@relaxed "a b" ⇒ "a b"
 @@relaxed @nofield[5] x ⇒ (@!*[5] x)
 @@relaxed @nofield a SENTENCE b @title c ⇒ ( (@!* ( a SENTENCE b )) (@(title) c) )
-# default
-index pages {
+# index pages {
 type = rt
 path = a
 rt_field = title
@@ -571,8 +565,7 @@ c -(ZONESPAN:th b) ⇒ ( c -(ZONESPAN:(th) b) )
 ZONESPAN:th ((a b) c) ⇒ (ZONESPAN:(th) ( ( a b ) c ))
 ZONESPAN:th (a (b << c)) d ⇒ (ZONESPAN:(th) ( ( a ( b << c ) ) d ))
 x @title a ZONESPAN:th b ⇒ ( x (@(title) a) (ZONESPAN:(th) (@(title) b)) )
-# default
-index rt {
+# index rt {
 type = rt
 path = a
 rt_field = title
@@ -587,12 +580,12 @@ ZONESPAN:th a b ⇒ ( a b )
 @title ZONE:th a ⇒ (@(title) a)
 @title[5] ZONESPAN:(a,b) a ⇒ (@(title)[5] a)
 ZONESPAN:th a NEAR/3 b ⇒ ( a NEAR/3 b )
-# a..z, U+2D
-index rt {
+# index rt {
 type = rt
 path = a
 rt_field = title
 rt_field = content
+charset_table = a..z, U+2D
 }
 
 foo-bar ⇒ foo\-bar
@@ -613,12 +606,12 @@ foo -- bar ⇒ ( foo -\- bar )
 (a)-b ⇒ ( a \-b )
 a \-b ⇒ ( a \-b )
 @title-b ⇒ (@(title) \-b)
-# a..z, !
-index rt {
+# index rt {
 type = rt
 path = a
 rt_field = title
 rt_field = content
+charset_table = a..z, !
 }
 
 a!b ⇒ a\!b
@@ -628,12 +621,12 @@ a ! b ⇒ ( a \! b )
 @!title a ⇒ (@(content) a)
 @! a ⇒ ( \! a )
 a -!b ⇒ ( a -\!b )
-# a..z, @
-index rt {
+# index rt {
 type = rt
 path = a
 rt_field = title
 rt_field = content
+charset_table = a..z, @
 }
 
 a@ b ⇒ ( a\@ b )
@@ -647,12 +640,12 @@ user\@host ⇒ user\@host
 "a@title" ⇒ a\@title
 @(a b) ⇒ ( \@ ( a b ) )
 -@ b ⇒ ( -\@ b )
-# a..z, <
-index rt {
+# index rt {
 type = rt
 path = a
 rt_field = title
 rt_field = content
+charset_table = a..z, <
 }
 
 a<b ⇒ a\<b
@@ -663,12 +656,12 @@ a \<\< b ⇒ ( a \<\< b )
 a < ⇒ ( a \< )
 "a << b" ⇒ "a \<\< b"
 a \<<b ⇒ ( a \<\<b )
-# a..z, "
-index rt {
+# index rt {
 type = rt
 path = a
 rt_field = title
 rt_field = content
+charset_table = a..z, "
 }
 
 "a b" ⇒ "a b"
@@ -676,12 +669,12 @@ rt_field = content
 "a\"b ⇒ ( a b )
 a\"b c ⇒ ( a\"b c )
 "" ⇒ 
-# a..z, (, ), |, ^, $
-index rt {
+# index rt {
 type = rt
 path = a
 rt_field = title
 rt_field = content
+charset_table = a..z, (, ), |, ^, $
 }
 
 (a) ⇒ a
@@ -699,12 +692,12 @@ a\$b ⇒ a\$b
 ^ ⇒ 
 $ ⇒ 
 "a\$ \^b" ⇒ "a\$ \^b"
-# 0..9, a..z, ~, U+2F
-index rt {
+# index rt {
 type = rt
 path = a
 rt_field = title
 rt_field = content
+charset_table = 0..9, a..z, ~, U+2F
 }
 
 a~3 ⇒ a\~3
@@ -719,12 +712,12 @@ a NEAR/3, b ⇒ ( a \/3 b )
 "a b"~3~4 ⇒ ( "a b"~3 \~4 )
 "a b"/0.5/ ⇒ ( "a b"/0.5 \/ )
 ""~3 ⇒ 
-# 0..9, a..z, &, =, :, *, [, ]
-index pages {
+# index pages {
 type = rt
 path = a
 rt_field = title
 rt_field = content
+charset_table = 0..9, a..z, &, =, :, *, [, ]
 html_strip = 1
 index_zones = th, td, x-a:b_1
 }
@@ -741,12 +734,12 @@ ZONE:th a ⇒ (@* ZONE:(th) a)
 aZONE:th b ⇒ ( a \:th b )
 @* * ⇒ \*
 @title[5 ⇒ (@(title) \[5)
-# a..z, U+20
-index rt {
+# index rt {
 type = rt
 path = a
 rt_field = title
 rt_field = content
+charset_table = a..z, U+20
 }
 
 a b ⇒ a\ b
@@ -754,12 +747,12 @@ a⟨tab⟩b ⇒ ( a b )
 a  MAYBE⟨tab⟩b ⇒ ( a\ \  MAYBE b )
 a -b ⇒ ( a\  -b )
   ⇒ \ 
-# a..z, U+5C
-index rt {
+# index rt {
 type = rt
 path = a
 rt_field = title
 rt_field = content
+charset_table = a..z, U+5C
 }
 
 a\b ⇒ ab
@@ -771,22 +764,22 @@ a\ ⇒ a
 \ ⇒ 
 "a\" ⇒ a
 "\\ b" ⇒ "\\ b"
-# a..z, Z->"
-index rt {
+# index rt {
 type = rt
 path = a
 rt_field = title
 rt_field = content
+charset_table = a..z, Z->"
 }
 
 aZ ⇒ a\"
 "aZ b" ⇒ "a\" b"
-# A..Z, a..z
-index rt {
+# index rt {
 type = rt
 path = a
 rt_field = title
 rt_field = content
+charset_table = A..Z, a..z
 }
 
 a \MAYBE ⇒ ( a \MAYBE )
@@ -802,12 +795,12 @@ a|SENTENCE ⇒ ( a | \SENTENCE )
 b -MAYBE$ ⇒ ( b -\MAYBE$ )
 ZONE: a ⇒ ( ZONE a )
 "NEAR"~3 ⇒ "NEAR"~3
-# a..z
-index pages {
+# index pages {
 type = rt
 path = a
 rt_field = title
 rt_field = content
+charset_table = a..z
 html_strip = 1
 index_zones = th, td, x-a:b_1
 }
@@ -820,8 +813,7 @@ aMAYBE b ⇒ ( a b )
 ^ZONE:th ⇒ th
 a NEAR/3 b ⇒ ( a NEAR/3 b )
 a NEAR/3, b ⇒ ( a b )
-# default
-index rt {
+# index rt {
 type = rt
 path = a
 rt_field = title
@@ -852,8 +844,7 @@ a⟨ PARAGRAPH "a b" × 127⟩ ⇒ ( a⟨ PARAGRAPH "a b" × 127⟩ )
 (@(content) a) ⇒ (@(content) a)
 a⟨ -a × 254⟩ ⇒ ( a⟨ -a × 254⟩ )
 a⟨ -b × 253⟩ c ⇒ ( a⟨ -b × 253⟩ c )
-# default
-index pages {
+# index pages {
 type = rt
 path = a
 rt_field = title

@@ -1,7 +1,7 @@
 use Rattle.std.proofs.Common.{All, List, sym, subst, ◌∙◌, arith}
 use Rattle.doc_types.specs.Schemas.{IsSchema}
 use Rattle.index_conf.specs.declared.conf.IndexConf.{IndexConf}
-use Rattle.query_vectors.proofs.texts.first_by.Goals as goal
+use Rattle.text_vectors.proofs.queries.first_by.Goals as goal
 
 pub first_of-requires : goal.first_of-requires
 first_of-requires c =
