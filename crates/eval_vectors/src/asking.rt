@@ -4,19 +4,20 @@ ghost use Rattle.doc_search.specs.Searches.{IsAskedOf};
 ghost use Rattle.doc_types.specs.Chunks.{IsContent};
 ghost use Rattle.doc_types.specs.Documents.{AreRowsOf};
 ghost use Rattle.doc_types.specs.declared.schema.Schema.{Schema};
+ghost use Rattle.index_conf.specs.Soundness.{IsSound};
 ghost use Rattle.op_eval.specs.Numbered.{IsNumbered};
 ghost use Rattle.query_tree.specs.TreeKeys.{query_keys};
 ghost use Rattle.eval_vectors.specs.steps.Reading.{IsSoundIndex, whole};
 
 use crate::documents::chunk_of;
 use crate::sets::index_of;
-use crate::tables::compare;
 use crate::telling::{Call, put_answer};
 use crate::watched::Watched;
+use conf_text::read_conf;
 use doc_search::{Question, search};
 use doc_types::{Chunk, HitLists, Layer, Snapshot};
 use image_chunk::RamChunk;
-use index_conf::IndexConf;
+use index_conf::{Conf, IndexConf};
 use op_eval::for_schema;
 use query_read::read_query;
 use query_tree::Query;
@@ -25,7 +26,6 @@ use row_select::{ColumnRef, Order, Page, Row};
 use srch_base::{Items, NoMemory};
 use std::alloc::Global;
 use std::sync::Arc;
-use std::test::Fail;
 
 /// What is asked about the queries of a table.
 pub(crate) enum Asked {
@@ -60,24 +60,25 @@ fn query_of(alloc: Global, text: &str, index: &IndexConf) -> Result<Query, NoMem
     }
 }
 
-/// The search of a query over an index: its first page, by weight.
-fn question_of(alloc: Global, query: Query, index: &IndexConf) -> Result<Question, NoMemory>
-    requires index { IsSoundIndex index.now }
-    requires query { IsNumbered query }
-    requires few { length (query_keys query) < 2 ^ 16 }
+/// The search of the query of a text over an index: its first page, by weight.
+fn question_of(alloc: Global, text: &str, index: &IndexConf) -> Result<Question, NoMemory>
+    requires { IsSoundIndex index.now }
     ensures asked { IfOk result (IsAskedOf index.now.schema) }
     ensures few { IfOk result (λ question. length (query_keys question.query) < 2 ^ 16) }
 {
     let fields = index.schema.fields.len();
+    let weights = vec![in alloc; 1; fields]?;
+    let keys = vec![in alloc; (ColumnRef::Weight, true)]?;
+    let query = query_of(alloc, text, index)?;
     Ok(Question {
         query,
         ranker: Ranker::Proximity,
         weights: Weights {
-            list: Items::new(vec![in alloc; 1; fields]?),
+            list: Items::new(weights),
         },
         filters: Items::new(Vec::new(alloc)),
         order: Order {
-            keys: Items::new(vec![in alloc; (ColumnRef::Weight, true)]?),
+            keys: Items::new(keys),
         },
         page: Page {
             offset: 0,
@@ -157,12 +158,21 @@ fn put_counts(
 }
 
 /// Appends the ids of rows.
-fn put_shown(rows: &[Row], into: &mut String) -> Option<()> {
+fn put_ids(rows: &[Row], into: &mut String) -> Option<()> {
     for row in rows {
         let id = row.id;
         write!(into, " {id}").ok()?;
     }
     Some(())
+}
+
+/// Appends which documents a search shows, or how many.
+fn put_shown(rows: &[Row], asked: &Asked, into: &mut String) -> Option<()> {
+    if let Asked::Shown = asked {
+        return put_ids(rows, into);
+    }
+    let count = rows.len();
+    write!(into, " {count} rows").ok()
 }
 
 /// Appends what a query finds while no list can be opened; or, where it wants memory then, what it finds afterwards.
@@ -185,6 +195,30 @@ fn put_shut<C: HitLists>(
     into.push_str(", a list").ok()
 }
 
+/// Appends what a query finds.
+fn put_found<C: HitLists>(
+    alloc: Global,
+    question: &Question,
+    snapshot: &Snapshot<Watched<C>>,
+    chunk: &Watched<C>,
+    asked: &Asked,
+    into: &mut String,
+) -> Option<()>
+    requires few { length (query_keys question.now.query) < 2 ^ 16 }
+    requires asked { (schema : Schema) × IsAskedOf schema question.now × All (λ layer. AreRowsOf schema layer.rows) snapshot.now.layers }
+{
+    match asked {
+        Asked::Found(call) | Asked::Lists(call) | Asked::Seeks(call) | Asked::Calls(call) => {
+            put_answer(alloc, &question.query, chunk, call, into)
+        }
+        Asked::Opens(call) => put_shut(alloc, &question.query, chunk, call, into),
+        Asked::Search | Asked::Shown => match search(alloc, question, snapshot) {
+            Ok(rows) => put_shown(rows.as_slice(), asked, into),
+            Err(_) => None,
+        },
+    }
+}
+
 /// Appends what a query comes to.
 fn put_asked<C: HitLists>(
     alloc: Global,
@@ -199,20 +233,7 @@ fn put_asked<C: HitLists>(
 {
     let chunk: &Watched<C> = &snapshot.layers.as_slice().first()?.chunk;
     chunk.counts();
-    match asked {
-        Asked::Found(call) | Asked::Lists(call) | Asked::Seeks(call) | Asked::Calls(call) => {
-            put_answer(alloc, &question.query, chunk, call, into)?;
-        }
-        Asked::Opens(call) => put_shut(alloc, &question.query, chunk, call, into)?,
-        Asked::Search => {
-            let found = search(alloc, question, snapshot).ok()?.len();
-            write!(into, " {found} rows").ok()?;
-        }
-        Asked::Shown => {
-            let shown = search(alloc, question, snapshot).ok()?;
-            put_shown(shown.as_slice(), into)?;
-        }
-    }
+    put_found(alloc, question, snapshot, chunk, asked, into)?;
     put_counts(chunk.counts(), asked, wanted, into)
 }
 
@@ -229,41 +250,93 @@ fn put_line<C: HitLists>(
     requires index { IsSoundIndex index.now }
     requires rows { All (λ layer. AreRowsOf index.now.schema layer.rows) snapshot.now.layers }
 {
-    let query = query_of(alloc, text, index).ok()?;
-    let question = question_of(alloc, query, index).ok()?;
-    put_asked(alloc, &question, snapshot, asked, wanted, into)
+    match question_of(alloc, text, index) {
+        Ok(question) => put_asked(alloc, &question, snapshot, asked, wanted, into),
+        Err(_) => None,
+    }
 }
 
-/// Fails with the first of these lines whose query comes to something else, and with what it comes to.
-fn try_lines<C: HitLists>(
+/// Whether the query of a line comes to what stands behind it. `found` is what it comes to.
+fn is_right<C: HitLists>(
     alloc: Global,
-    lines: &str,
+    line: &str,
     index: &IndexConf,
     snapshot: &Snapshot<Watched<C>>,
     asked: &Asked,
-) -> Result<(), Fail>
+    found: &mut String,
+) -> Option<bool>
     requires index { IsSoundIndex index.now }
     requires rows { All (λ layer. AreRowsOf index.now.schema layer.rows) snapshot.now.layers }
 {
-    let mut found = String::new(alloc);
-    for line in lines.trim_start().lines() {
-        let (text, wanted) = line.split_once(" ⇒").ok_or("a line without an arrow")?;
-        found.clear();
-        let told = put_line(alloc, text, index, snapshot, asked, wanted, &mut found);
-        compare(text, told, found.as_str(), wanted)?;
-    }
-    Ok(())
+    found.clear();
+    let (text, wanted) = line.split_once(" ⇒")?;
+    put_line(alloc, text, index, snapshot, asked, wanted, found)?;
+    Some(found.trim() == wanted.trim())
 }
 
-/// Tries the lines of a table over documents of the index of a set.
-pub(crate) fn try_set(
+/// The first line of tables that isn't right, or the empty text.
+fn first_in<'t, C: HitLists>(
+    alloc: Global,
+    index: &IndexConf,
+    snapshot: &Snapshot<Watched<C>>,
+    tables: &[(&'t str, &Asked)],
+    found: &mut String,
+) -> &'t str
+    requires index { IsSoundIndex index.now }
+    requires rows { All (λ layer. AreRowsOf index.now.schema layer.rows) snapshot.now.layers }
+{
+    for (table, asked) in tables {
+        for line in table.trim_start().lines() {
+            if is_right(alloc, line, index, snapshot, asked, found) != Some(true) {
+                return line;
+            }
+        }
+    }
+    ""
+}
+
+/// The same over documents of an index.
+fn first_over<'t>(
+    alloc: Global,
+    index: &IndexConf,
+    documents: &str,
+    tables: &[(&'t str, &Asked)],
+    found: &mut String,
+) -> &'t str
+    requires { IsSoundIndex index.now }
+{
+    match watched(alloc, index, documents) {
+        Ok(snapshot) => first_in(alloc, index, &snapshot, tables, found),
+        Err(_) => "no documents",
+    }
+}
+
+/// The same over documents of the index of a configuration.
+fn first_by<'t>(
+    alloc: Global,
+    conf: &Conf,
+    documents: &str,
+    tables: &[(&'t str, &Asked)],
+    found: &mut String,
+) -> &'t str
+    requires { IsSound conf.now }
+{
+    match conf.indexes.as_slice().split_first() {
+        Some((index, _)) => first_over(alloc, index, documents, tables, found),
+        None => "no index",
+    }
+}
+
+/// The first line of tables over documents of the index of a set that isn't right, or the empty text.
+pub(crate) fn first_wrong<'t>(
     alloc: Global,
     set: &str,
     documents: &str,
-    lines: &str,
-    asked: &Asked,
-) -> Result<(), Fail> {
-    let index = index_of(alloc, set)?;
-    let snapshot = watched(alloc, &index, documents)?;
-    try_lines(alloc, lines, &index, &snapshot, asked)
+    tables: &[(&'t str, &Asked)],
+    found: &mut String,
+) -> &'t str {
+    match read_conf(alloc, index_of(set).as_bytes()) {
+        Ok(conf) => first_by(alloc, &conf, documents, tables, found),
+        Err(_) => "no configuration",
+    }
 }

@@ -1,6 +1,6 @@
 //! Of which rows conditions hold, worked out by hand.
-use crate::pages::{column, put_name, rows_of};
-use crate::tables::{Trial, try_table};
+use crate::rows::{column, put_name, rows_of};
+use crate::tables::{Trial, try_tables};
 use row_select::{CompareOp, Conditions, Filter, Row};
 use srch_base::Items;
 use std::alloc::Global;
@@ -29,34 +29,34 @@ weight <> 3 ⇒ CDF
 weight > 18446744073709551614 ⇒ D
 weight < 0 ⇒
 weight <= 0 ⇒ F
-attr0 = -9223372036854775808 ⇒ B
-attr0 = 9223372036854775808 ⇒
-attr0 <> 0 ⇒ BCDF
-attr0 < -9223372036854775808 ⇒
-attr0 < 0 ⇒ BF
-attr0 < 170141183460469231731687303715884105727 ⇒ ABCDEF
-attr0 < -170141183460469231731687303715884105728 ⇒
-attr0 > -1 ⇒ ACDE
-attr0 > 9223372036854775807 ⇒
-attr0 <= -9223372036854775808 ⇒ B
-attr0 <= 0 ⇒ ABEF
-attr0 >= 0 ⇒ ACDE
-attr0 >= 9223372036854775807 ⇒ D
-attr1 = 4294967295 ⇒ A
-attr1 = -1 ⇒ CE
-attr2 = 0 ⇒ ABCDEF
+gid = -9223372036854775808 ⇒ B
+gid = 9223372036854775808 ⇒
+gid <> 0 ⇒ BCDF
+gid < -9223372036854775808 ⇒
+gid < 0 ⇒ BF
+gid < 170141183460469231731687303715884105727 ⇒ ABCDEF
+gid < -170141183460469231731687303715884105728 ⇒
+gid > -1 ⇒ ACDE
+gid > 9223372036854775807 ⇒
+gid <= -9223372036854775808 ⇒ B
+gid <= 0 ⇒ ABEF
+gid >= 0 ⇒ ACDE
+gid >= 9223372036854775807 ⇒ D
+price = 4294967295 ⇒ A
+price = -1 ⇒ CE
+beyond = 0 ⇒ ABCDEF
 id in -1 18446744073709551615 ⇒ A
 id not-in 1 1 ⇒ ACDEF
 weight in 3 0 ⇒ ABEF
-attr0 in 0 1 ⇒ ACE
-attr0 not-in 0 1 ⇒ BDF
-attr0 not-in -170141183460469231731687303715884105728 170141183460469231731687303715884105727 ⇒ ABCDEF
+gid in 0 1 ⇒ ACE
+gid not-in 0 1 ⇒ BDF
+gid not-in -170141183460469231731687303715884105728 170141183460469231731687303715884105727 ⇒ ABCDEF
 id between 2 2 ⇒ D
 id between 9223372036854775808 18446744073709551615 ⇒ AC
-attr0 between -9223372036854775808 -1 ⇒ BF
-attr0 between 0 1 ⇒ ACE
-attr0 between 1 0 ⇒
-attr0 between -170141183460469231731687303715884105728 170141183460469231731687303715884105727 ⇒ ABCDEF
+gid between -9223372036854775808 -1 ⇒ BF
+gid between 0 1 ⇒ ACE
+gid between 1 0 ⇒
+gid between -170141183460469231731687303715884105728 170141183460469231731687303715884105727 ⇒ ABCDEF
 weight between 4 18446744073709551614 ⇒ C
 ";
 
@@ -74,7 +74,7 @@ fn comparison(sign: &str) -> Option<CompareOp> {
 
 /// A condition, as the table writes it: with one number or with two.
 fn condition(alloc: Global, text: &str) -> Option<Filter> {
-    let mut words = text.split(' ');
+    let mut words = text.split(" ");
     let column = column(words.next()?)?;
     let sign = words.next()?;
     let value = words.next()?.parse::<i128>().ok()?;
@@ -82,7 +82,7 @@ fn condition(alloc: Global, text: &str) -> Option<Filter> {
     match sign {
         "in" | "not-in" => Some(Filter::Among {
             column,
-            values: Items::new(Vec::from_array(alloc, [value, high]).ok()?),
+            values: Items::new(Vec::from_slice(alloc, &[value, high]).ok()?),
             negated: sign == "not-in",
         }),
         "between" => Some(Filter::Between {
@@ -120,12 +120,14 @@ fn put_where(
 /// Appends the letters of the rows of which a condition holds, by itself and made ready.
 pub(crate) fn put_condition(alloc: Global, text: &str, into: &mut String) -> Option<()> {
     let filter = condition(alloc, text)?;
-    let rows = rows_of(alloc, false)?;
-    let ready = Conditions::over(alloc, std::slice::from_ref(&filter)).ok()?;
-    put_where(&filter, &ready, rows.as_slice(), into)
+    let rows = rows_of(alloc, "letters")?;
+    match Conditions::over(alloc, std::slice::from_ref(&filter)) {
+        Ok(ready) => put_where(&filter, &ready, rows.as_slice(), into),
+        Err(_) => None,
+    }
 }
 
 #[test]
 fn conditions_hold_of_their_rows(rt: HostRuntime) -> Result<(), Fail> {
-    try_table(rt.alloc(), CONDITIONS, &Trial::Condition)
+    try_tables(rt.alloc(), &[(CONDITIONS, Trial::Condition)])
 }

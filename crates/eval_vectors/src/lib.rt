@@ -1,5 +1,5 @@
-//! Tests over documents and queries, what these find and what it weighs, which were worked out by hand; the crates that evaluate
-//! queries and weigh hits are proved once without them.
+//! Tests over documents and queries, what these find and what it weighs, and over conditions, pages, groups and facets of rows, which
+//! were worked out by hand; the crates that evaluate queries, weigh hits and choose rows are proved once without them.
 #![tactic(auto)]
 
 #[cfg(test)]
@@ -11,11 +11,19 @@ mod conditions;
 #[cfg(test)]
 mod documents;
 #[cfg(test)]
+mod facets;
+#[cfg(test)]
+mod groups;
+#[cfg(test)]
 mod pages;
 #[cfg(test)]
 mod queries;
 #[cfg(test)]
+mod rows;
+#[cfg(test)]
 mod sets;
+#[cfg(test)]
+mod shown;
 #[cfg(test)]
 mod tables;
 #[cfg(test)]

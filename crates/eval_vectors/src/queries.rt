@@ -1,8 +1,9 @@
 //! What queries find in the documents of docs/cases/evaluation.md, and in many documents, worked out by how these are made; at how
 //! many rows `Matches` stops there, how many lists of places are opened, and how often a row is sought.
-use crate::asking::{Asked, try_set};
-use crate::cases::{DOCUMENTS, QUERIES};
-use crate::sets::lines_of;
+use crate::asking::{Asked, first_wrong};
+use crate::cases::QUERIES;
+use crate::sets::documents_of;
+use crate::tables::none_wrong;
 use crate::telling::Call;
 use std::alloc::Global;
 use std::test::Fail;
@@ -161,65 +162,59 @@ fn grey(alloc: Global) -> Option<String> {
     Some(text)
 }
 
-/// The documents of a set.
-fn documents_of(set: &str) -> &'static str {
-    lines_of(DOCUMENTS, set).unwrap_or("")
-}
+/// The tables over the many documents.
+const OF_MANY: [(&str, &Asked); 4] = [
+    (COUNTS, &Asked::Found(Call::Count)),
+    (VISITS, &Asked::Seeks(Call::Stops)),
+    (CANDIDATES, &Asked::Lists(Call::Count)),
+    (SEARCHES, &Asked::Search),
+];
 
-/// Tries queries over the documents of their sets.
-fn try_sets(alloc: Global, queries: &str) -> Result<(), Fail> {
-    for section in queries.split("\n# ") {
+/// The tables over the documents with one word each.
+const OF_GREY: [(&str, &Asked); 2] = [(FEW, &Asked::Calls(Call::Ids)), (FEW, &Asked::Shown)];
+
+/// The first query over the documents of its set that finds something else, or the empty text.
+fn first_of_sets(alloc: Global, found: &mut String) -> &'static str {
+    for section in QUERIES.split("\n# ") {
         if let Some((set, lines)) = section.split_once("\n") {
-            try_set(
-                alloc,
-                set,
-                documents_of(set),
-                lines,
-                &Asked::Found(Call::Rows),
-            )?;
+            let tables = [(lines, &Asked::Found(Call::Rows))];
+            let wrong = first_wrong(alloc, set, documents_of(set), &tables, found);
+            if !wrong.is_empty() {
+                return wrong;
+            }
         }
     }
-    Ok(())
+    ""
+}
+
+/// Fails with the first line of tables over documents that isn't right. All of them are of the set `letters`.
+fn try_letters(alloc: Global, documents: &str, tables: &[(&str, &Asked)]) -> Result<(), Fail> {
+    let mut found = String::new(alloc);
+    let wrong = first_wrong(alloc, "letters", documents, tables, &mut found);
+    none_wrong(wrong, found.as_str())
 }
 
 #[test]
 fn queries_find_what_they_ask_for(rt: HostRuntime) -> Result<(), Fail> {
-    try_sets(rt.alloc(), QUERIES)?;
-    let set = "letters";
-    try_set(
-        rt.alloc(),
-        set,
-        documents_of(set),
-        OPENING,
-        &Asked::Opens(Call::Count),
-    )
+    let mut found = String::new(rt.alloc());
+    let wrong = first_of_sets(rt.alloc(), &mut found);
+    none_wrong(wrong, found.as_str())
 }
 
-/// Tries the tables over the many documents.
-fn try_many(alloc: Global, documents: &str) -> Result<(), Fail> {
-    let set = "letters";
-    try_set(alloc, set, documents, COUNTS, &Asked::Found(Call::Count))?;
-    try_set(alloc, set, documents, VISITS, &Asked::Seeks(Call::Stops))?;
-    try_set(
-        alloc,
-        set,
-        documents,
-        CANDIDATES,
-        &Asked::Lists(Call::Count),
-    )?;
-    try_set(alloc, set, documents, SEARCHES, &Asked::Search)
-}
-
-/// Tries the table over the documents with one word each.
-fn try_few(alloc: Global, documents: &str) -> Result<(), Fail> {
-    try_set(alloc, "letters", documents, FEW, &Asked::Calls(Call::Ids))?;
-    try_set(alloc, "letters", documents, FEW, &Asked::Shown)
+#[test]
+fn queries_open_lists_to_find_rows(rt: HostRuntime) -> Result<(), Fail> {
+    let tables = [(OPENING, &Asked::Opens(Call::Count))];
+    try_letters(rt.alloc(), documents_of("letters"), &tables)
 }
 
 #[test]
 fn queries_find_their_rows_among_many(rt: HostRuntime) -> Result<(), Fail> {
     let documents = many(rt.alloc()).ok_or("no documents")?;
-    try_many(rt.alloc(), documents.as_str())?;
+    try_letters(rt.alloc(), documents.as_str(), &OF_MANY)
+}
+
+#[test]
+fn queries_find_a_few_rows(rt: HostRuntime) -> Result<(), Fail> {
     let documents = grey(rt.alloc()).ok_or("no documents")?;
-    try_few(rt.alloc(), documents.as_str())
+    try_letters(rt.alloc(), documents.as_str(), &OF_GREY)
 }

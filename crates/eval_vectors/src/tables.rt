@@ -1,17 +1,12 @@
 //! Tables whose lines are tried one by one: a text, and what is wanted of it after ` ⇒ `.
 use crate::conditions::put_condition;
+use crate::facets::put_facet;
+use crate::groups::put_group;
 use crate::pages::put_page;
+use crate::shown::put_shown;
 use crate::weights::put_case;
 use std::alloc::Global;
 use std::test::Fail;
-
-/// Fails with a text and with what was found for it, where this couldn't be told or isn't what is wanted.
-pub(crate) fn compare(text: &str, told: Option<()>, found: &str, wanted: &str) -> Result<(), Fail> {
-    if told.is_some() && found.trim() == wanted.trim() {
-        return Ok(());
-    }
-    Err(Fail::new(format_args!("{text} ⇒ {found}")))
-}
 
 /// What the texts of a table are.
 pub(crate) enum Trial {
@@ -19,8 +14,14 @@ pub(crate) enum Trial {
     Weights,
     /// A condition, which comes to the rows of which it holds.
     Condition,
-    /// A page of the six rows, or of many.
-    Page { many: bool },
+    /// A page of the rows of this name.
+    Page(&'static str),
+    /// The groups of rows.
+    Groups,
+    /// Which groups are shown.
+    Shown,
+    /// The facet of rows.
+    Facet,
 }
 
 /// Appends what a text comes to.
@@ -28,18 +29,44 @@ fn put_told(alloc: Global, text: &str, trial: &Trial, into: &mut String) -> Opti
     match trial {
         Trial::Weights => put_case(alloc, text, into),
         Trial::Condition => put_condition(alloc, text, into),
-        Trial::Page { many } => put_page(alloc, text, *many, into),
+        Trial::Page(rows) => put_page(alloc, text, rows, into),
+        Trial::Groups => put_group(alloc, text, into),
+        Trial::Shown => put_shown(alloc, text, into),
+        Trial::Facet => put_facet(alloc, text, into),
     }
 }
 
-/// Fails with the first text that comes to something else, and with what it comes to.
-pub(crate) fn try_table(alloc: Global, table: &str, trial: &Trial) -> Result<(), Fail> {
-    let mut found = String::new(alloc);
-    for line in table.lines() {
-        let (text, wanted) = line.split_once(" ⇒").ok_or("a line without an arrow")?;
-        found.clear();
-        let told = put_told(alloc, text, trial, &mut found);
-        compare(text, told, found.as_str(), wanted)?;
+/// Whether a line's text comes to what stands behind it. `found` is what it comes to.
+fn is_right(alloc: Global, line: &str, trial: &Trial, found: &mut String) -> Option<bool> {
+    found.clear();
+    let (text, wanted) = line.split_once(" ⇒")?;
+    put_told(alloc, text, trial, found)?;
+    Some(found.trim() == wanted.trim())
+}
+
+/// The first line of tables that isn't right, or the empty text.
+fn first_wrong<'t>(alloc: Global, tables: &[(&'t str, Trial)], found: &mut String) -> &'t str {
+    for (table, trial) in tables {
+        for line in table.lines() {
+            if is_right(alloc, line, trial, found) != Some(true) {
+                return line;
+            }
+        }
     }
-    Ok(())
+    ""
+}
+
+/// Fails with a line that isn't right, where there is one, and with what was found.
+pub(crate) fn none_wrong(line: &str, found: &str) -> Result<(), Fail> {
+    if line.is_empty() {
+        return Ok(());
+    }
+    Err(Fail::new(format_args!("{found} ⇐ {line}")))
+}
+
+/// Fails with the first line that isn't right.
+pub(crate) fn try_tables(alloc: Global, tables: &[(&str, Trial)]) -> Result<(), Fail> {
+    let mut found = String::new(alloc);
+    let wrong = first_wrong(alloc, tables, &mut found);
+    none_wrong(wrong, found.as_str())
 }

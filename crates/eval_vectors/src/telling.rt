@@ -53,6 +53,54 @@ fn put_found(id: u64, occs: &[Occ], hits: &[Hit], into: &mut String) -> Option<(
     Some(())
 }
 
+/// Appends the rows that match.
+fn put_matching<C: CountedLists>(
+    alloc: Global,
+    query: &Query,
+    chunk: &C,
+    steps: &mut Steps<C::Book>,
+    into: &mut String,
+) -> Option<()> {
+    match candidates(alloc, query, chunk, &[], steps) {
+        Ok(matching) => put_ids(chunk, matching.as_slice(), into),
+        Err(_) => None,
+    }
+}
+
+/// Appends how many rows match.
+fn put_count<C: CountedLists>(
+    alloc: Global,
+    query: &Query,
+    chunk: &C,
+    steps: &mut Steps<C::Book>,
+    into: &mut String,
+) -> Option<()> {
+    let count = candidates(alloc, query, chunk, &[], steps).ok()?.len();
+    write!(into, " {count} rows").ok()
+}
+
+/// Appends what the query finds in a row.
+fn put_row<C: CountedLists>(
+    alloc: Global,
+    query: &Query,
+    chunk: &C,
+    row: u32,
+    steps: &mut Steps<C::Book>,
+    into: &mut String,
+) -> Option<()>
+    requires row { row < length (C.content chunk.now) }
+    requires keys { length (query_keys query.now) < 2 ^ 16 }
+{
+    let occs = occurrences(alloc, query, chunk, row, steps).ok()?;
+    match hits(alloc, query, chunk, row, steps) {
+        Ok(found) => {
+            let list = found.list.as_slice();
+            put_found(chunk.id(row), occs.as_slice(), list, into)
+        }
+        Err(_) => None,
+    }
+}
+
 /// Appends the rows that match, and what the query finds in each row.
 fn put_rows<C: CountedLists>(
     alloc: Global,
@@ -63,15 +111,28 @@ fn put_rows<C: CountedLists>(
 ) -> Option<()>
     requires { length (query_keys query.now) < 2 ^ 16 }
 {
-    let matching = candidates(alloc, query, chunk, &[], steps).ok()?;
-    put_ids(chunk, matching.as_slice(), into)?;
+    put_matching(alloc, query, chunk, steps, into)?;
     for row in 0..chunk.rows() {
-        let occs = occurrences(alloc, query, chunk, row, steps).ok()?;
-        let found = hits(alloc, query, chunk, row, steps).ok()?;
-        let list = found.list.as_slice();
-        put_found(chunk.id(row), occs.as_slice(), list, into)?;
+        put_row(alloc, query, chunk, row, steps, into)?;
     }
     Some(())
+}
+
+/// Appends at how many rows the query stops, of which there are no more than so many, where each of them is taken.
+fn put_taken<C: CountedLists>(
+    matches: &mut Matches<'_, C>,
+    found: &mut Hits,
+    rows: u32,
+    steps: &mut Steps<C::Book>,
+    into: &mut String,
+) -> Option<()> {
+    for count in 0..=rows {
+        match matches.row() {
+            Some(_) => matches.take(found, steps).ok()?,
+            None => return write!(into, " {count} rows").ok(),
+        };
+    }
+    None
 }
 
 /// Appends at how many rows the query stops.
@@ -84,18 +145,14 @@ fn put_stops<C: CountedLists>(
 ) -> Option<()>
     requires { length (query_keys query.now) < 2 ^ 16 }
 {
-    let mut matches = Matches::over(alloc, query, chunk, &[]).ok()?;
     let mut found = Hits {
         keywords: 0,
         list: Items::new(Vec::new(alloc)),
     };
-    for count in 0..=chunk.rows() {
-        match matches.row() {
-            Some(_) => matches.take(&mut found, steps).ok()?,
-            None => return write!(into, " {count} rows").ok(),
-        };
+    match Matches::over(alloc, query, chunk, &[]) {
+        Ok(mut matches) => put_taken(&mut matches, &mut found, chunk.rows(), steps, into),
+        Err(_) => None,
     }
-    None
 }
 
 fn put_told<L: Ledger, C: HitLists>(
@@ -116,14 +173,8 @@ fn put_told<L: Ledger, C: HitLists>(
     match call {
         Call::Rows => put_rows(alloc, query, chunk, &mut steps, into),
         Call::Stops => put_stops(alloc, query, chunk, &mut steps, into),
-        Call::Ids => {
-            let matching = candidates(alloc, query, chunk, &[], &mut steps).ok()?;
-            put_ids(chunk, matching.as_slice(), into)
-        }
-        Call::Count => {
-            let count = candidates(alloc, query, chunk, &[], &mut steps).ok()?.len();
-            write!(into, " {count} rows").ok()
-        }
+        Call::Ids => put_matching(alloc, query, chunk, &mut steps, into),
+        Call::Count => put_count(alloc, query, chunk, &mut steps, into),
     }
 }
 

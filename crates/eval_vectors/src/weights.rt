@@ -2,7 +2,7 @@
 ghost use Rattle.std.specs.Prelude.{IsTrue, IsFalse, All, AllPairs};
 ghost use Rattle.rankers.specs.Weight.{AreRanked, Differ, IsRanked};
 
-use crate::tables::{Trial, try_table};
+use crate::tables::{Trial, try_tables};
 use doc_types::{Hit, Hits, MAX_POSITION};
 use rankers::{Ranker, Weights, weight};
 use srch_base::Items;
@@ -204,6 +204,8 @@ pub(crate) fn put_case(alloc: Global, text: &str, into: &mut String) -> Option<(
 
 #[test]
 fn weights_are_those_worked_out_by_hand(rt: HostRuntime) -> Result<(), Fail> {
-    try_table(rt.alloc(), CASES, &Trial::Weights)?;
-    try_table(rt.alloc(), GREATEST, &Trial::Weights)
+    try_tables(
+        rt.alloc(),
+        &[(CASES, Trial::Weights), (GREATEST, Trial::Weights)],
+    )
 }

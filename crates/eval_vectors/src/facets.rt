@@ -2,11 +2,9 @@
 use crate::rows::{column, rows_of};
 use group_facet::{Facet, facet};
 use std::alloc::Global;
-use std::fmt::Write;
-use std::test::Fail;
 
 /// The rows, the column, the order, the page, and the values that are shown, each with the number of rows that have it.
-const FACETS: &str = "\
+pub(crate) const FACETS: &str = "\
 weighed: gid; count desc; 0 20 ⇒ [10 3][20 2][40 2][30 1]
 weighed: gid; count asc; 0 20 ⇒ [30 1][20 2][40 2][10 3]
 weighed: gid; value asc; 0 20 ⇒ [10 3][20 2][30 1][40 2]
@@ -35,8 +33,8 @@ none: gid; value asc; 0 20 ⇒
 fn facet_of(text: &str) -> Option<Facet> {
     let (name, rest) = text.split_once("; ")?;
     let (order, page) = rest.split_once("; ")?;
-    let (by, way) = order.split_once(' ')?;
-    let (offset, count) = page.split_once(' ')?;
+    let (by, way) = order.split_once(" ")?;
+    let (offset, count) = page.split_once(" ")?;
     Some(Facet {
         column: column(name)?,
         by_count: by == "count",
@@ -55,31 +53,12 @@ fn put_values(values: &[(i128, u64)], into: &mut String) -> Option<()> {
 }
 
 /// Appends the facet of the rows of a name that a text behind it asks for.
-fn put_found(alloc: Global, asked: &str, into: &mut String) -> Option<()> {
-    let (rows, text) = asked.split_once(": ")?;
+pub(crate) fn put_facet(alloc: Global, text: &str, into: &mut String) -> Option<()> {
+    let (rows, asked) = text.split_once(": ")?;
+    let asked = facet_of(asked)?;
     let rows = rows_of(alloc, rows)?;
-    put_values(
-        facet(alloc, rows.as_slice(), &facet_of(text)?)
-            .ok()?
-            .as_slice(),
-        into,
-    )
-}
-
-/// Whether what a line asks for finds what stands behind it.
-fn is_right(alloc: Global, line: &str) -> Option<bool> {
-    let (asked, wanted) = line.split_once(" ⇒ ")?;
-    let mut found = String::new(alloc);
-    put_found(alloc, asked, &mut found)?;
-    Some(found.as_str() == wanted)
-}
-
-#[test]
-fn facets_are_those_of_their_rows(rt: HostRuntime) -> Result<(), Fail> {
-    for line in FACETS.lines() {
-        if is_right(rt.alloc(), line) != Some(true) {
-            return Err(Fail::new(format_args!("{line}")));
-        }
+    match facet(alloc, rows.as_slice(), &asked) {
+        Ok(values) => put_values(values.as_slice(), into),
+        Err(_) => None,
     }
-    Ok(())
 }

@@ -1,7 +1,9 @@
 //! The groups of rows that are taken all at once, in the order in which they are first seen.
-use crate::rows::{column, rows_of};
+use crate::facets::FACETS;
+use crate::rows::{column, order_by, rows_of};
+use crate::shown::SHOWN;
+use crate::tables::{Trial, try_tables};
 use group_facet::{Fold, Group, GroupRow, group};
-use row_select::{ColumnRef, Order};
 use srch_base::Items;
 use std::alloc::Global;
 use std::fmt::Write;
@@ -38,24 +40,8 @@ none: none; weight desc; count, sum price, greatest id, distinct gid ⇒
 none: none; weight desc;  ⇒ 
 ";
 
-/// A key of WITHIN GROUP ORDER BY.
-fn key(text: &str) -> Option<(ColumnRef, bool)> {
-    let (name, way) = text.split_once(' ')?;
-    let column = column(name)?;
-    Some((column, way == "desc"))
-}
-
-/// These keys, which may be none.
-fn keys(alloc: Global, text: &str) -> Option<Vec<(ColumnRef, bool)>> {
-    let mut keys = Vec::new(alloc);
-    for word in text.split_terminator(", ") {
-        keys.push(key(word)?).ok()?;
-    }
-    Some(keys)
-}
-
 fn fold(text: &str) -> Option<Fold> {
-    let Some((name, of)) = text.split_once(' ') else {
+    let Some((name, of)) = text.split_once(" ") else {
         return Some(Fold::Count);
     };
     let column = column(of)?;
@@ -68,66 +54,64 @@ fn fold(text: &str) -> Option<Fold> {
 }
 
 /// These aggregates, which may be none.
-fn folds(alloc: Global, text: &str) -> Option<Vec<Fold>> {
+fn folds(alloc: Global, text: &str) -> Option<Items<Fold>> {
     let mut folds = Vec::new(alloc);
     for name in text.split_terminator(", ") {
         folds.push(fold(name)?).ok()?;
     }
-    Some(folds)
+    Some(Items::new(folds))
 }
 
 /// What groups a text asks for.
 fn group_of(alloc: Global, text: &str) -> Option<Group> {
     let (by, rest) = text.split_once("; ")?;
     let (within, aggregates) = rest.split_once("; ")?;
-    let keys = keys(alloc, within)?;
-    Some(Group {
-        by: column(by),
-        within: Order {
-            keys: Items::new(keys),
-        },
-        folds: Items::new(folds(alloc, aggregates)?),
-    })
+    let within = order_by(alloc, within)?;
+    let folds = folds(alloc, aggregates)?;
+    let by = column(by);
+    Some(Group { by, within, folds })
 }
 
 /// The groups of the rows of a name that a text asks for.
 pub(crate) fn groups_of(alloc: Global, rows: &str, text: &str) -> Option<Vec<GroupRow>> {
-    group(rows_of(alloc, rows)?, &group_of(alloc, text)?).ok()
+    let rows = rows_of(alloc, rows)?;
+    let asked = group_of(alloc, text)?;
+    group(rows, &asked).ok()
 }
 
-/// Appends groups, as the tables write them.
-fn put_groups(groups: &[GroupRow], into: &mut String) -> Option<()> {
+/// Appends a group: its key, the id of its row, and the values of its aggregates.
+fn put_one(group: &GroupRow, into: &mut String) -> Option<()> {
+    let (key, id) = (group.key, group.best.id);
+    write!(into, "[{key} {id}").ok()?;
+    for value in group.folded.as_slice() {
+        write!(into, " {value}").ok()?;
+    }
+    into.push(']').ok()
+}
+
+/// Appends groups, as the table writes them.
+fn put_all(groups: &[GroupRow], into: &mut String) -> Option<()> {
     for group in groups {
-        let (key, id) = (group.key, group.best.id);
-        write!(into, "[{key} {id}").ok()?;
-        for value in group.folded.as_slice() {
-            write!(into, " {value}").ok()?;
-        }
-        into.push(']').ok()?;
+        put_one(group, into)?;
     }
     Some(())
 }
 
 /// Appends the groups of the rows of a name that a text behind it asks for.
-fn put_found(alloc: Global, asked: &str, into: &mut String) -> Option<()> {
-    let (rows, text) = asked.split_once(": ")?;
-    put_groups(groups_of(alloc, rows, text)?.as_slice(), into)
-}
-
-/// Whether what a line asks for finds what stands behind it.
-fn is_right(alloc: Global, line: &str) -> Option<bool> {
-    let (asked, wanted) = line.split_once(" ⇒ ")?;
-    let mut found = String::new(alloc);
-    put_found(alloc, asked, &mut found)?;
-    Some(found.as_str() == wanted)
+pub(crate) fn put_group(alloc: Global, text: &str, into: &mut String) -> Option<()> {
+    let (rows, asked) = text.split_once(": ")?;
+    let groups = groups_of(alloc, rows, asked)?;
+    put_all(groups.as_slice(), into)
 }
 
 #[test]
 fn groups_are_those_of_their_rows(rt: HostRuntime) -> Result<(), Fail> {
-    for line in GROUPS.lines() {
-        if is_right(rt.alloc(), line) != Some(true) {
-            return Err(Fail::new(format_args!("{line}")));
-        }
-    }
-    Ok(())
+    try_tables(
+        rt.alloc(),
+        &[
+            (GROUPS, Trial::Groups),
+            (SHOWN, Trial::Shown),
+            (FACETS, Trial::Facet),
+        ],
+    )
 }
