@@ -1,17 +1,22 @@
 //! How the lines of tables spell what a line can't have, or has very often.
 
-/// Appends what stands between `⟨` and `⟩`: a character by its name, or `x × n` for x written n times.
-fn spell_named(named: &str, into: &mut String) -> Option<()> {
-    let (copied, count) = match named {
-        "tab" => ("\t", "1"),
-        "CR" => ("\r", "1"),
-        "LF" => ("\n", "1"),
-        _ => named.split_once(" × ")?,
-    };
+/// Appends x so many times, of `x × n`.
+fn repeat(spelled: &str, into: &mut String) -> Option<()> {
+    let (copied, count) = spelled.split_once(" × ")?;
     for _ in 0..count.parse::<u32>().ok()? {
         into.push_str(copied).ok()?;
     }
     Some(())
+}
+
+/// Appends what stands between `⟨` and `⟩`: a character by its name, or `x × n`.
+fn spell_named(named: &str, into: &mut String) -> Option<()> {
+    match named {
+        "tab" => into.push_str("\t").ok(),
+        "CR" => into.push_str("\r").ok(),
+        "LF" => into.push_str("\n").ok(),
+        _ => repeat(named, into),
+    }
 }
 
 /// Appends a line, written out.
