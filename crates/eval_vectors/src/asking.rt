@@ -274,25 +274,25 @@ fn is_right<C: HitLists>(
     Some(found.trim() == wanted.trim())
 }
 
-/// The first line of tables that isn't right, or the empty text.
+/// The first line of tables that isn't right.
 fn first_in<'t, C: HitLists>(
     alloc: Global,
     index: &IndexConf,
     snapshot: &Snapshot<Watched<C>>,
     tables: &[(&'t str, &Asked)],
     found: &mut String,
-) -> &'t str
+) -> Option<&'t str>
     requires index { IsSoundIndex index.now }
     requires rows { All (λ layer. AreRowsOf index.now.schema layer.rows) snapshot.now.layers }
 {
     for (table, asked) in tables {
         for line in table.trim_start().lines() {
             if is_right(alloc, line, index, snapshot, asked, found) != Some(true) {
-                return line;
+                return Some(line);
             }
         }
     }
-    ""
+    None
 }
 
 /// The same over documents of an index.
@@ -302,12 +302,12 @@ fn first_over<'t>(
     documents: &str,
     tables: &[(&'t str, &Asked)],
     found: &mut String,
-) -> &'t str
+) -> Option<&'t str>
     requires { IsSoundIndex index.now }
 {
     match watched(alloc, index, documents) {
         Ok(snapshot) => first_in(alloc, index, &snapshot, tables, found),
-        Err(_) => "no documents",
+        Err(_) => Some("no documents"),
     }
 }
 
@@ -318,25 +318,25 @@ fn first_by<'t>(
     documents: &str,
     tables: &[(&'t str, &Asked)],
     found: &mut String,
-) -> &'t str
+) -> Option<&'t str>
     requires { IsSound conf.now }
 {
     match conf.indexes.as_slice().split_first() {
         Some((index, _)) => first_over(alloc, index, documents, tables, found),
-        None => "no index",
+        None => Some("no index"),
     }
 }
 
-/// The first line of tables over documents of the index of a set that isn't right, or the empty text.
+/// The first line of tables over documents of the index of a set that isn't right.
 pub(crate) fn first_wrong<'t>(
     alloc: Global,
     set: &str,
     documents: &str,
     tables: &[(&'t str, &Asked)],
     found: &mut String,
-) -> &'t str {
+) -> Option<&'t str> {
     match read_conf(alloc, index_of(set).as_bytes()) {
         Ok(conf) => first_by(alloc, &conf, documents, tables, found),
-        Err(_) => "no configuration",
+        Err(_) => Some("no configuration"),
     }
 }

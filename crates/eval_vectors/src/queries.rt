@@ -173,18 +173,18 @@ const OF_MANY: [(&str, &Asked); 4] = [
 /// The tables over the documents with one word each.
 const OF_GREY: [(&str, &Asked); 2] = [(FEW, &Asked::Calls(Call::Ids)), (FEW, &Asked::Shown)];
 
-/// The first query over the documents of its set that finds something else, or the empty text.
-fn first_of_sets(alloc: Global, found: &mut String) -> &'static str {
+/// The first query over the documents of its set that finds something else.
+fn first_of_sets(alloc: Global, found: &mut String) -> Option<&'static str> {
     for section in QUERIES.split("\n# ") {
         if let Some((set, lines)) = section.split_once("\n") {
             let tables = [(lines, &Asked::Found(Call::Rows))];
             let wrong = first_wrong(alloc, set, documents_of(set), &tables, found);
-            if !wrong.is_empty() {
+            if wrong.is_some() {
                 return wrong;
             }
         }
     }
-    ""
+    None
 }
 
 /// Fails with the first line of tables over documents that isn't right. All of them are of the set `letters`.

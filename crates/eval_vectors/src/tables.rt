@@ -44,23 +44,27 @@ fn is_right(alloc: Global, line: &str, trial: &Trial, found: &mut String) -> Opt
     Some(found.trim() == wanted.trim())
 }
 
-/// The first line of tables that isn't right, or the empty text.
-fn first_wrong<'t>(alloc: Global, tables: &[(&'t str, Trial)], found: &mut String) -> &'t str {
+/// The first line of tables that isn't right.
+fn first_wrong<'t>(
+    alloc: Global,
+    tables: &[(&'t str, Trial)],
+    found: &mut String,
+) -> Option<&'t str> {
     for (table, trial) in tables {
         for line in table.lines() {
             if is_right(alloc, line, trial, found) != Some(true) {
-                return line;
+                return Some(line);
             }
         }
     }
-    ""
+    None
 }
 
 /// Fails with a line that isn't right, where there is one, and with what was found.
-pub(crate) fn none_wrong(line: &str, found: &str) -> Result<(), Fail> {
-    if line.is_empty() {
+pub(crate) fn none_wrong(line: Option<&str>, found: &str) -> Result<(), Fail> {
+    let Some(line) = line else {
         return Ok(());
-    }
+    };
     Err(Fail::new(format_args!("{found} ⇐ {line}")))
 }
 

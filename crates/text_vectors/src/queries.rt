@@ -48,7 +48,7 @@ fn put_tree(alloc: Global, text: &str, index: &IndexConf, into: &mut Vec<u8>) ->
     }
 }
 
-/// Whether the query of a line has the written form behind it. The line is spelled into one text, and the query written into another.
+/// Whether the query of a line has the written form behind it. `spelled` is the line written out, and `written` the query.
 fn is_right(
     alloc: Global,
     line: &str,
@@ -66,44 +66,44 @@ fn is_right(
     Some(written.as_slice() == form.as_bytes())
 }
 
-/// The first line that isn't right, or the empty text.
+/// The first line that isn't right.
 fn first_of<'t>(
     alloc: Global,
     lines: &'t str,
     index: &IndexConf,
     spelled: &mut String,
     written: &mut Vec<u8>,
-) -> &'t str
+) -> Option<&'t str>
     requires { IsSchema index.now.schema }
 {
     for line in lines.lines() {
         if is_right(alloc, line, index, spelled, written) != Some(true) {
-            return line;
+            return Some(line);
         }
     }
-    ""
+    None
 }
 
 /// The same by the first index of a configuration.
-fn first_by<'t>(alloc: Global, lines: &'t str, conf: &Conf) -> &'t str
+fn first_by<'t>(alloc: Global, lines: &'t str, conf: &Conf) -> Option<&'t str>
     requires { IsSound conf.now }
 {
     let mut spelled = String::new(alloc);
     let mut written = Vec::new(alloc);
     match conf.indexes.as_slice().split_first() {
         Some((index, _)) => first_of(alloc, lines, index, &mut spelled, &mut written),
-        None => "no index",
+        None => Some("no index"),
     }
 }
 
 /// The same of a section of the table.
-fn first_wrong(alloc: Global, section: &str) -> &str {
+fn first_wrong(alloc: Global, section: &str) -> Option<&str> {
     let Some((text, lines)) = section.split_once("\n\n") else {
-        return section;
+        return Some(section);
     };
     match read_conf(alloc, text.as_bytes()) {
         Ok(conf) => first_by(alloc, lines, &conf),
-        Err(_) => text,
+        Err(_) => Some(text),
     }
 }
 

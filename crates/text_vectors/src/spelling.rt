@@ -1,8 +1,8 @@
 //! How the lines of tables spell what a line can't have, or has very often.
 
 /// Appends x so many times, of `x × n`.
-fn repeat(spelled: &str, into: &mut String) -> Option<()> {
-    let (copied, count) = spelled.split_once(" × ")?;
+fn repeat(named: &str, into: &mut String) -> Option<()> {
+    let (copied, count) = named.split_once(" × ")?;
     for _ in 0..count.parse::<u32>().ok()? {
         into.push_str(copied).ok()?;
     }
@@ -19,9 +19,9 @@ fn spell_named(named: &str, into: &mut String) -> Option<()> {
     }
 }
 
-/// Appends a line, written out.
-pub(crate) fn spell(line: &str, into: &mut String) -> Option<()> {
-    for part in line.split("⟨") {
+/// Appends what is spelled, written out.
+pub(crate) fn spell(spelled: &str, into: &mut String) -> Option<()> {
+    for part in spelled.split("⟨") {
         match part.split_once("⟩") {
             None => into.push_str(part).ok()?,
             Some((named, plain)) => {

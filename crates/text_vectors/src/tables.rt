@@ -1,4 +1,4 @@
-//! How the tables are tried: a line is a text, ` ⇒ ` and what is told of it, all of it spelled.
+//! How the tables are tried: a line is a text that is spelled, ` ⇒ ` and what is told of it.
 use crate::character_tables::{FAULTS, put_fault};
 use crate::marks::{MARKS, put_marked};
 use crate::name_tables::{PLACES, VALUES, put_place, put_value};
@@ -45,7 +45,7 @@ fn tell(alloc: Global, text: &str, telling: &Telling, into: &mut String) -> Opti
     }
 }
 
-/// Whether what a line says is told of its text. The line is spelled into one text, and what is told into another.
+/// Whether what a line says is told of its text. `spelled` is the text written out, and `told` what is told of it.
 fn is_told(
     alloc: Global,
     line: &str,
@@ -55,34 +55,34 @@ fn is_told(
 ) -> Option<bool> {
     spelled.clear();
     told.clear();
-    spell(line, spelled)?;
-    let (text, wanted) = spelled.as_str().split_once(" ⇒ ")?;
-    tell(alloc, text, telling, told)?;
+    let (text, wanted) = line.split_once(" ⇒ ")?;
+    spell(text, spelled)?;
+    tell(alloc, spelled.as_str(), telling, told)?;
     Some(told.as_str() == wanted)
 }
 
-/// The first line of tables of which something else is told, or the empty text.
+/// The first line of tables of which something else is told.
 fn first_wrong<'t>(
     alloc: Global,
     tables: &[(&'t str, Telling)],
     spelled: &mut String,
     told: &mut String,
-) -> &'t str {
+) -> Option<&'t str> {
     for (table, telling) in tables {
         for line in table.lines() {
             if is_told(alloc, line, telling, spelled, told) != Some(true) {
-                return line;
+                return Some(line);
             }
         }
     }
-    ""
+    None
 }
 
 /// Fails with a line that is wrong, where one is, and with what is told of it.
-pub(crate) fn none_wrong(line: &str, told: &str) -> Result<(), Fail> {
-    if line.is_empty() {
+pub(crate) fn none_wrong(line: Option<&str>, told: &str) -> Result<(), Fail> {
+    let Some(line) = line else {
         return Ok(());
-    }
+    };
     Err(Fail::new(format_args!("{told} ⇐ {line}")))
 }
 
