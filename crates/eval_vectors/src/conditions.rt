@@ -74,11 +74,11 @@ fn comparison(sign: &str) -> Option<CompareOp> {
 
 /// A condition, as the table writes it: with one number or with two.
 fn condition(alloc: Global, text: &str) -> Option<Filter> {
-    let mut words = text.split(" ");
-    let column = column(words.next()?)?;
-    let sign = words.next()?;
-    let value = words.next()?.parse::<i128>().ok()?;
-    let high = words.next().unwrap_or("0").parse::<i128>().ok()?;
+    let (name, rest) = text.split_once(" ")?;
+    let (sign, numbers) = rest.split_once(" ")?;
+    let (value, high) = numbers.split_once(" ").unwrap_or((numbers, "0"));
+    let (value, high) = (value.parse::<i128>().ok()?, high.parse::<i128>().ok()?);
+    let column = column(name)?;
     match sign {
         "in" | "not-in" => Some(Filter::Among {
             column,

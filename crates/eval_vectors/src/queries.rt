@@ -122,12 +122,16 @@ fn pair_of(number: u64) -> &'static str {
     }
 }
 
+/// The word of one of the many documents before these.
+fn seven_of(number: u64) -> &'static str {
+    if number % 7 == 0 { "seven" } else { "no" }
+}
+
 /// Appends one of the many documents, with a text of 40 words: `all`; `seven` in each seventh one; `rare phrase` in two, and `phrase
 /// rare` in each hundredth one, or `red fox` or `fox` in each hundredth one, or `red` in odd ones; then `mark` among 35 words of the
 /// number's last digit.
 fn put_document(number: u64, into: &mut String) -> Option<()> {
-    let seven = if number % 7 == 0 { "seven" } else { "no" };
-    let (pair, digit) = (pair_of(number), number % 10);
+    let (seven, pair, digit) = (seven_of(number), pair_of(number), number % 10);
     write!(into, "{number} ⇒ all {seven} {pair}").ok()?;
     for place in 0..36 {
         if place == number % 36 {
@@ -148,15 +152,19 @@ fn many(alloc: Global) -> Option<String> {
     Some(text)
 }
 
-/// As many documents with one word each, but for two.
+/// The words of one of as many documents with one word each, but for two.
+fn words_of(number: u64) -> &'static str {
+    match number {
+        17 | 9_000 => "red fox",
+        _ => "grey",
+    }
+}
+
+/// These documents.
 fn grey(alloc: Global) -> Option<String> {
     let mut text = String::new(alloc);
     for number in 1..10_001 {
-        let words = if number == 17 || number == 9000 {
-            "red fox"
-        } else {
-            "grey"
-        };
+        let words = words_of(number);
         write!(&mut text, "{number} ⇒ {words}\n").ok()?;
     }
     Some(text)
