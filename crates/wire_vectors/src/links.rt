@@ -33,23 +33,21 @@ fn gives(link: &mut MemoryLink, room: usize, wanted: &str) -> Option<bool> {
 }
 
 /// Whether the reads into so much room give that, one after the other.
-fn reads(link: &mut MemoryLink, room: usize, wanted: &str) -> Option<bool> {
-    for piece in wanted.split('|') {
-        if !gives(link, room, piece)? {
-            return Some(false);
-        }
+fn reads(mut link: MemoryLink, room: usize, wanted: &str) -> bool {
+    let mut are_given = true;
+    for piece in wanted.split("|") {
+        are_given = are_given && gives(&mut link, room, piece) == Some(true);
     }
-    Some(true)
+    are_given
 }
 
 /// Whether the link of each row gives what the row wants.
 fn all_read(alloc: Global) -> Option<bool> {
-    for (cuts, failing, room, wanted) in READS {
-        if !reads(&mut link_of(alloc, cuts, failing)?, room, wanted)? {
-            return Some(false);
-        }
+    let mut are_given = true;
+    for (cuts, failing, room, wanted) in &READS {
+        are_given = reads(link_of(alloc, cuts, failing)?, *room, wanted) && are_given;
     }
-    Some(true)
+    Some(are_given)
 }
 
 #[test]
@@ -57,23 +55,24 @@ fn a_memory_link_reads_in_its_pieces(rt: HostRuntime) {
     assert!(rt; all_read(rt.alloc()) == Some(true));
 }
 
-/// Writes to a link whose second call fails, and what each gives.
-const WRITES: [(&[u8], Result<usize, Failed>); 4] = [
-    (b"ab", Ok(2)),
-    (b"cd", Err(Failed)),
-    (b"", Ok(0)),
-    (b"e", Ok(1)),
-];
+/// Whether a link whose second call fails takes what is written by the others.
+fn takes(link: &mut MemoryLink) -> bool {
+    link.write(b"ab") == Ok(2)
+        && link.write(b"cd") == Err(Failed)
+        && link.write(b"") == Ok(0)
+        && link.write(b"e") == Ok(1)
+}
 
-/// Whether a link gives that, and has what was written, as its copy has.
-fn takes(link: &mut MemoryLink) -> Option<bool> {
-    for (bytes, wanted) in WRITES {
-        if link.write(bytes) != wanted {
-            return Some(false);
-        }
-    }
-    let written = b"abe".as_slice();
-    Some(link.written() == written && link.clone().ok()?.written() == written)
+/// Whether that was written to a link, and to its copy.
+fn has_written(link: &MemoryLink) -> Option<bool> {
+    let copy = link.clone().ok()?;
+    Some(copy.written() == b"abe".as_slice() && link.written() == b"abe".as_slice())
+}
+
+/// Whether such a link has what was written.
+fn all_taken(alloc: Global) -> Option<bool> {
+    let mut link = link_of(alloc, &[], &[2])?;
+    Some(takes(&mut link) && has_written(&link) == Some(true))
 }
 
 /// A door of one line, which it gave and has back with a word written.
@@ -96,13 +95,17 @@ fn has_one_line(door: &mut ListDoor) -> Option<bool> {
     Some(is_last && returned.written() == b"bye".as_slice())
 }
 
-/// Whether that link takes what is written, and that door has its line back.
-fn all_written(alloc: Global) -> Option<bool> {
-    let takes = takes(&mut link_of(alloc, &[], &[2])?)?;
-    Some(takes && has_one_line(&mut door_after_bye(alloc)?)?)
+/// Whether that door has its line back.
+fn comes_back(alloc: Global) -> Option<bool> {
+    has_one_line(&mut door_after_bye(alloc)?)
 }
 
 #[test]
-fn links_take_what_is_written_and_come_back(rt: HostRuntime) {
-    assert!(rt; all_written(rt.alloc()) == Some(true));
+fn links_take_what_is_written(rt: HostRuntime) {
+    assert!(rt; all_taken(rt.alloc()) == Some(true));
+}
+
+#[test]
+fn links_come_back(rt: HostRuntime) {
+    assert!(rt; comes_back(rt.alloc()) == Some(true));
 }

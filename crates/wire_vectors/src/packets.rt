@@ -28,21 +28,21 @@ fn feed(framer: &mut Framer, piece: &[u8]) -> Option<()> {
 }
 
 /// Whether a framer answers a front so, and a refusal again after more bytes.
-fn answers(framer: &mut Framer, front: &[u8], want: Next<'_>) -> Option<bool> {
+fn answers(framer: &mut Framer, front: &[u8], want: &Next<'_>) -> Option<bool> {
     feed(framer, front)?;
-    let is_answered = framer.next(0) == want;
+    let is_answered = framer.next(0) == *want;
     feed(framer, b"more bytes")?;
-    Some(is_answered && (want == Next::NeedMore || framer.next(1) == want))
+    Some(is_answered && (*want == Next::NeedMore || framer.next(1) == *want))
 }
 
-/// Whether a new framer does.
+/// Whether new framers do.
 fn are_answered(alloc: Global) -> Option<bool> {
-    for (front, want) in FRONTS {
-        if !answers(&mut Framer::new(alloc).ok()?, front, want)? {
-            return Some(false);
-        }
+    let mut are_answered = true;
+    for (front, want) in &FRONTS {
+        let is_answered = answers(&mut Framer::new(alloc).ok()?, front, want) == Some(true);
+        are_answered = are_answered && is_answered;
     }
-    Some(true)
+    Some(are_answered)
 }
 
 #[test]

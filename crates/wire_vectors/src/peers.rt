@@ -40,25 +40,25 @@ impl Write for Peer {
 }
 
 /// What two reads give, the first two bytes and then the fault, and how many calls they took.
-fn reads() -> (Option<usize>, bool, u32) {
+fn reads() -> (Option<usize>, Option<usize>, u32) {
     let mut peer = Peer { calls: 0 };
     let mut into = [0u8; 4];
     let first = retrying::read(&mut peer, &mut into).ok();
-    let is_fault = retrying::read(&mut peer, &mut into).is_err();
+    let second = retrying::read(&mut peer, &mut into).ok();
     let Peer { calls } = peer;
-    (first, is_fault, calls)
+    (first, second, calls)
 }
 
 /// The same of two writes.
-fn writes() -> (Option<usize>, bool, u32) {
+fn writes() -> (Option<usize>, Option<usize>, u32) {
     let mut peer = Peer { calls: 0 };
     let first = retrying::write(&mut peer, b"abcd").ok();
-    let is_fault = retrying::write(&mut peer, b"cd").is_err();
+    let second = retrying::write(&mut peer, b"cd").ok();
     let Peer { calls } = peer;
-    (first, is_fault, calls)
+    (first, second, calls)
 }
 
 #[test]
 fn two_bytes_are_taken_before_a_fault(rt: HostRuntime) {
-    assert!(rt; [reads(), writes()] == [(Some(2), true, 4); 2]);
+    assert!(rt; [reads(), writes()] == [(Some(2), None, 4); 2]);
 }

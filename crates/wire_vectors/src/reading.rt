@@ -7,7 +7,7 @@ use mysql_wire::{
     ColumnKind, Response41, WireFault, read_column, read_eof, read_err, read_greeting, read_lenenc,
     read_ok, read_response41, read_row,
 };
-use srch_base::Or;
+use srch_base::{Or, Text};
 use std::alloc::Global;
 use std::test::Fail;
 
@@ -71,60 +71,66 @@ response 08022000000000000000000000000000000000000000000000000000000000007500fe0
 response 00820000000000000000000000000000000000000000000000000000000000007500ff616161616161616161616161616161616161616161616161616161616161616161616161616161616161616161616161616161616161616161616161616161616161616161616161616161616161616161616161616161616161616161616161616161616161616161616161616161616161616161616161616161616161616161616161616161616161616161616161616161616161616161616161616161616161616161616161616161616161616161616161616161616161616161616161616161616161616161616161616161616161616161616161616161616161616161616161616161616161616161616161616161616161616161616161616161 ⇒ 33280 u none
 "#;
 
+/// The lines of the payloads.
+fn lines() -> &'static str {
+    PAYLOADS
+}
+
+/// The place of the fault that was met.
+fn place<T: Drop>(read: Result<T, Or<WireFault>>) -> Option<u64> {
+    match read {
+        Err(Or::Fault(fault)) => Some(u64::from(fault.place)),
+        _ => None,
+    }
+}
+
+/// The place of the first field of a payload that isn't whole or breaks the layout of its kind.
+fn place_of(alloc: Global, kind: &str, payload: &[u8]) -> Option<u64>
+    requires { length payload.now < 2 ^ 32 }
+{
+    match kind {
+        "greeting" => place(read_greeting(payload)),
+        "number" => place(read_lenenc(payload)),
+        "ok" => place(read_ok(payload)),
+        "eof" => place(read_eof(payload)),
+        "err" => place(read_err(alloc, payload)),
+        "column" => place(read_column(alloc, payload)),
+        _ => place(read_row(alloc, payload)),
+    }
+}
+
 /// The numbers of a payload of a greeting, a number, OK or EOF.
-fn numbers_in(kind: &str, payload: &[u8]) -> Result<(u64, u16), Or<WireFault>>
+fn numbers_in(kind: &str, payload: &[u8]) -> Option<(u64, u16)>
     requires { length payload.now < 2 ^ 32 }
 {
     match kind {
-        "greeting" => Ok((u64::from(read_greeting(payload)?.connection), 0)),
-        "number" => Ok((read_lenenc(payload)?, 0)),
+        "greeting" => Some((u64::from(read_greeting(payload).ok()?.connection), 0)),
+        "number" => Some((read_lenenc(payload).ok()?, 0)),
         "ok" => {
-            let ok = read_ok(payload)?;
-            Ok((ok.affected, ok.status))
+            let ok = read_ok(payload).ok()?;
+            Some((ok.affected, ok.status))
         }
-        _ => Ok((0, read_eof(payload)?.status)),
+        _ => Some((0, read_eof(payload).ok()?.status)),
     }
 }
 
-/// The numbers of a payload of any kind, 0 and 0 of a refusal, a column or a row.
-fn outcome(alloc: Global, kind: &str, payload: &[u8]) -> Result<(u64, u16), Or<WireFault>>
+/// Whether a payload has these numbers.
+fn has_numbers(kind: &str, payload: &[u8], wanted: &str) -> Option<bool>
     requires { length payload.now < 2 ^ 32 }
 {
-    match kind {
-        "err" => drop(read_err(alloc, payload)?),
-        "column" => drop(read_column(alloc, payload)?),
-        "row" => drop(read_row(alloc, payload)?),
-        _ => return numbers_in(kind, payload),
-    }
-    Ok((0, 0))
+    let (first, second) = numbers_in(kind, payload)?;
+    let (wanted_first, wanted_second) = wanted.split_once(" ")?;
+    let is_first = first == wanted_first.parse::<u64>().ok()?;
+    Some(u64::from(second) == wanted_second.parse::<u64>().ok()? && is_first)
 }
 
-/// What a line wants.
-fn wanted_of(text: &str) -> Option<Result<(u64, u16), Or<WireFault>>> {
-    let (first, second) = text.rsplit_once(' ')?;
-    if first == "fault at" {
-        let place = second.parse::<u32>().ok()?;
-        return Some(Err(Or::Fault(WireFault { place })));
-    }
-    Some(Ok((first.parse::<u64>().ok()?, second.parse::<u16>().ok()?)))
-}
-
-/// Whether a payload is a response that says that.
-fn is_response(payload: &[u8], wanted: &str) -> Option<bool>
-    requires { length payload.now < 2 ^ 32 }
-{
-    let (flags, names) = wanted.split_once(' ')?;
-    let (user, database) = names.split_once(' ')?;
-    let response = Response41 {
-        flags: flags.parse::<u32>().ok()?,
-        user: user.as_bytes(),
-        database: if database == "none" {
-            None
-        } else {
-            Some(database.as_bytes())
-        },
-    };
-    Some(read_response41(payload).ok()? == response)
+/// Whether a response has these flags, this user and this database.
+fn says(response: &Response41<'_>, wanted: &str) -> Option<bool> {
+    let (flags, names) = wanted.split_once(" ")?;
+    let (user, database) = names.split_once(" ")?;
+    let named = response.database.unwrap_or(b"none");
+    let are_names = response.user == user.as_bytes() && named == database.as_bytes();
+    Some(u64::from(response.flags) == flags.parse::<u64>().ok()? && are_names)
 }
 
 /// Whether a payload of a kind is read so.
@@ -132,24 +138,27 @@ fn is_read(alloc: Global, kind: &str, payload: &[u8], wanted: &str) -> Option<bo
     if payload.len() > 1000 {
         return None;
     }
-    if kind == "response" {
-        return is_response(payload, wanted);
+    if let Some(place) = wanted.strip_prefix("fault at ") {
+        return Some(place_of(alloc, kind, payload)? == place.parse::<u64>().ok()?);
     }
-    Some(outcome(alloc, kind, payload) == wanted_of(wanted)?)
+    if kind == "response" {
+        return says(&read_response41(payload).ok()?, wanted);
+    }
+    has_numbers(kind, payload, wanted)
 }
 
 /// Whether the payload of a line is read as the line wants it.
 fn line_is_read(alloc: Global, line: &str) -> Option<bool> {
     let (case, wanted) = line.split_once(" ⇒ ")?;
-    let (kind, digits) = case.split_once(' ')?;
+    let (kind, digits) = case.split_once(" ")?;
     let payload = hex::decode(alloc, digits.as_bytes()).ok()?;
     is_read(alloc, kind, payload.as_slice(), wanted)
 }
 
 /// The first line whose payload is read as something else.
 fn first_wrong(alloc: Global) -> Option<&'static str> {
-    for line in PAYLOADS.lines().skip(1) {
-        if line_is_read(alloc, line) != Some(true) {
+    for line in lines().lines() {
+        if !line.is_empty() && line_is_read(alloc, line) != Some(true) {
             return Some(line);
         }
     }
@@ -178,25 +187,33 @@ fn is_column(alloc: Global) -> Option<bool> {
     Some(column.name.as_bytes() == b"id".as_slice() && column.kind == ColumnKind::Unsigned)
 }
 
-/// Whether a row of four values is read, of which the second is NULL and the last one has a length of three bytes.
-fn is_row(alloc: Global) -> Option<bool> {
-    let row = read_row(alloc, b"\x011\xfb\0\xfc\x01\x002").ok()?;
-    match row.as_slice() {
-        [Some(first), None, Some(empty), Some(last)] => Some(
-            first.as_bytes() == "1".as_bytes()
-                && empty.as_bytes().is_empty()
-                && last.as_bytes() == "2".as_bytes(),
-        ),
-        _ => None,
+/// A value of a row, or `NULL`.
+fn told(value: &Option<Text>) -> &[u8] {
+    match value {
+        Some(text) => text.as_bytes(),
+        None => b"NULL",
     }
 }
 
-/// Whether all three are read.
-fn are_read(alloc: Global) -> Option<bool> {
-    Some(is_refusal(alloc)? && is_column(alloc)? && is_row(alloc)?)
+/// Whether a row has these values, with `,` between.
+fn has_values(row: &[Option<Text>], wanted: &str) -> Option<bool> {
+    let mut values = row.iter();
+    for wanted in wanted.split(",") {
+        if told(values.next()?) != wanted.as_bytes() {
+            return Some(false);
+        }
+    }
+    Some(values.next().is_none())
+}
+
+/// Whether a row of four values is read, of which the second is NULL and the last one has a length of three bytes.
+fn is_row(alloc: Global) -> Option<bool> {
+    let row = read_row(alloc, b"\x011\xfb\0\xfc\x01\x002").ok()?;
+    has_values(row.as_slice(), "1,NULL,,2")
 }
 
 #[test]
 fn a_refusal_a_column_and_a_row_are_read(rt: HostRuntime) {
-    assert!(rt; are_read(rt.alloc()) == Some(true));
+    let alloc = rt.alloc();
+    assert!(rt; [is_refusal(alloc), is_column(alloc), is_row(alloc)] == [Some(true); 3]);
 }

@@ -21,8 +21,8 @@ fn is_row(alloc: Global) -> Option<bool> {
     let text = Text::from_slice(alloc, b"searchd").ok()?;
     let cells = [Cell::Text(text), Cell::Whole(-1), Cell::Whole(i128::MIN)];
     let mut payload = Vec::new(alloc);
-    put_row(&cells, &mut payload).ok()?;
-    Some(payload.as_slice() == THREE_CELLS)
+    let is_put = put_row(&cells, &mut payload).is_ok();
+    Some(is_put && payload.as_slice() == THREE_CELLS)
 }
 
 #[test]

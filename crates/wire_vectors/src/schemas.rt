@@ -6,17 +6,14 @@ use std::alloc::Global;
 
 /// The name of a field.
 fn field_names(alloc: Global) -> Option<Items<Name>> {
-    let mut fields = Vec::new(alloc);
-    fields.push(Name::from_slice(alloc, b"title").ok()?).ok()?;
-    Some(Items::new(fields))
+    let title = Name::from_slice(alloc, b"title").ok()?;
+    Some(Items::new(Vec::from_array(alloc, [title]).ok()?))
 }
 
 /// An attribute.
 fn attrs(alloc: Global) -> Option<Items<(Name, AttrKind)>> {
-    let mut attrs = Vec::new(alloc);
-    let name = Name::from_slice(alloc, b"gid").ok()?;
-    attrs.push((name, AttrKind::Uint)).ok()?;
-    Some(Items::new(attrs))
+    let gid = Name::from_slice(alloc, b"gid").ok()?;
+    Some(Items::new(Vec::from_array(alloc, [(gid, AttrKind::Uint)]).ok()?))
 }
 
 /// A schema of a field and an attribute.
@@ -34,7 +31,7 @@ fn schema(alloc: Global) -> Option<Schema> {
 fn has_its_columns(schema: &Schema) -> Option<bool> {
     let (name, kind) = schema.attrs.as_slice().first()?;
     let is_attr = name.as_bytes() == b"gid".as_slice() && *kind == AttrKind::Uint;
-    Some(is_attr && schema.clone().ok()? == *schema)
+    Some(schema.clone().ok()? == *schema && is_attr)
 }
 
 /// Whether that schema is.

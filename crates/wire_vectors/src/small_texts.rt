@@ -10,12 +10,12 @@ use std::fmt::Display;
 const NUMBERS: &[u8] = &[1, 2, 3, 4, 5, 6, 7, 8, 9, 10, 11, 12, 13, 14];
 
 /// Whether the three numbers are written as these bytes.
-fn are_written(alloc: Global) -> Option<bool> {
+fn are_written(alloc: Global) -> bool {
     let mut out = Vec::new(alloc);
-    put_u16(0x0201, &mut out).ok()?;
-    put_u32(0x0605_0403, &mut out).ok()?;
-    put_u64(0x0e0d_0c0b_0a09_0807, &mut out).ok()?;
-    Some(out.as_slice() == NUMBERS)
+    let are_put = put_u16(0x0201, &mut out).is_ok()
+        && put_u32(0x0605_0403, &mut out).is_ok()
+        && put_u64(0x0e0d_0c0b_0a09_0807, &mut out).is_ok();
+    are_put && out.as_slice() == NUMBERS
 }
 
 /// Whether the three numbers are read where they lie, and none behind the end.
@@ -30,32 +30,46 @@ fn are_read() -> bool {
 
 #[test]
 fn numbers_lie_low_byte_first(rt: HostRuntime) {
-    assert!(rt; are_written(rt.alloc()) == Some(true) && are_read());
+    assert!(rt; are_written(rt.alloc()) && are_read());
 }
 
-/// Texts, each after one that comes before it: a statement; as many bytes as lie in a text itself, and one more; words; and names.
-const TEXTS: [(&[u8], &[u8]); 7] = [
-    (b"", b"select 1"),
-    (b"", b"abcdefghijklmnopqrstuvwxyz0123"),
-    (b"", b"abcdefghijklmnopqrstuvwxyz01234"),
-    (b"", b"fox"),
-    (b"fox", b"foxes"),
-    (b"", b"Title"),
-    (b"Title", b"title"),
+/// Texts, each behind one that comes before it: a statement; as many bytes as lie in a text itself, and one more; words; and names.
+const TEXTS: [&str; 7] = [
+    "<select 1",
+    "<abcdefghijklmnopqrstuvwxyz0123",
+    "<abcdefghijklmnopqrstuvwxyz01234",
+    "<fox",
+    "fox<foxes",
+    "<Title",
+    "Title<title",
 ];
 
+/// Whether a text comes after these bytes.
+fn comes_after<Mark>(alloc: Global, held: &Held<Mark>, before: &str) -> Option<bool> {
+    let before = Held::<Mark>::new(Vec::from_slice(alloc, before.as_bytes()).ok()?);
+    Some(before < *held)
+}
+
+/// Whether a text has these bytes, as its copy has.
+fn is_copied<Mark>(held: &Held<Mark>, bytes: &[u8]) -> Option<bool> {
+    let copy = held.clone().ok()?;
+    Some(copy == *held && held.as_bytes() == bytes)
+}
+
 /// Whether a text of these bytes has them, is its own copy, comes after the other, and gives its bytes back.
-fn is_kept<Mark>(alloc: Global, before: &[u8], bytes: &[u8]) -> Option<bool> {
-    let held = Held::<Mark>::from_slice(alloc, bytes).ok()?;
-    let before = Held::<Mark>::new(Vec::from_slice(alloc, before).ok()?);
-    let is_kept = held.clone().ok()? == held && held.as_bytes() == bytes && before < held;
-    Some(is_kept && held.into_vec().ok()?.as_slice() == bytes)
+fn is_kept<Mark>(alloc: Global, before: &str, bytes: &str) -> Option<bool> {
+    let held = Held::<Mark>::from_slice(alloc, bytes.as_bytes()).ok()?;
+    let comes_after = comes_after(alloc, &held, before) == Some(true);
+    let is_copied = is_copied(&held, bytes.as_bytes()) == Some(true);
+    let given_back = held.into_vec().ok()?;
+    Some(comes_after && is_copied && given_back.as_slice() == bytes.as_bytes())
 }
 
 /// Whether all are kept.
 fn are_kept<Mark>(alloc: Global) -> Option<bool> {
-    for (before, bytes) in TEXTS {
-        if !is_kept::<Mark>(alloc, before, bytes)? {
+    for text in &TEXTS {
+        let (before, bytes) = text.split_once("<")?;
+        if is_kept::<Mark>(alloc, before, bytes) != Some(true) {
             return Some(false);
         }
     }
@@ -63,23 +77,31 @@ fn are_kept<Mark>(alloc: Global) -> Option<bool> {
 }
 
 /// Whether all are kept as words, as names and as texts.
-fn are_held(alloc: Global) -> Option<bool> {
-    let are_names = are_kept::<WordMark>(alloc)? && are_kept::<NameMark>(alloc)?;
-    Some(are_names && are_kept::<TextMark>(alloc)?)
+fn are_held(alloc: Global) -> bool {
+    let are_words = are_kept::<WordMark>(alloc) == Some(true);
+    let are_names = are_kept::<NameMark>(alloc) == Some(true);
+    let are_texts = are_kept::<TextMark>(alloc) == Some(true);
+    are_words && are_names && are_texts
 }
 
 #[test]
 fn small_texts_copy_and_compare(rt: HostRuntime) {
-    assert!(rt; are_held(rt.alloc()) == Some(true));
+    assert!(rt; are_held(rt.alloc()));
 }
 
-/// Whether a list of three numbers is its own copy, has them, and gives them back.
+/// Whether a list has three numbers, as its copy has.
+fn has_three(items: &Items<u32>, wanted: &[u32]) -> Option<bool> {
+    let copy = items.clone().ok()?;
+    let is_kept = copy == *items && items.as_slice() == wanted;
+    Some(is_kept && !items.is_empty() && items.len() == 3)
+}
+
+/// Whether a list of three numbers has them, and gives them back.
 fn is_list(alloc: Global) -> Option<bool> {
     let wanted = [3, 1, 2].as_slice();
     let items = Items::new(Vec::from_slice(alloc, wanted).ok()?);
-    let is_kept = items.clone().ok()? == items && items.as_slice() == wanted;
-    let has_three = !items.is_empty() && items.len() == 3;
-    Some(is_kept && has_three && items.into_vec().as_slice() == wanted)
+    let has_three = has_three(&items, wanted) == Some(true);
+    Some(items.into_vec().as_slice() == wanted && has_three)
 }
 
 #[test]
@@ -92,23 +114,21 @@ const DEVICE: &str = "a device failed";
 const MEMORY: &str = "out of memory";
 
 /// Whether a fault prints that.
-fn prints<F: Display>(alloc: Global, fault: &F, wanted: &str) -> Option<bool> {
-    Some(format!(in alloc; "{fault}").ok()?.as_str() == wanted)
+fn prints<F: Display>(alloc: Global, fault: &F, wanted: &str) -> bool {
+    match format!(in alloc; "{fault}") {
+        Ok(text) => text.as_str() == wanted,
+        Err(_) => false,
+    }
 }
 
-/// Whether faults of one kind print their texts.
-fn faults_print(alloc: Global) -> Option<bool> {
-    Some(prints(alloc, &Failed, DEVICE)? && prints(alloc, &NoMemory, MEMORY)?)
-}
-
-/// Whether faults of two kinds print their texts.
-fn faults_of_two_print(alloc: Global) -> Option<bool> {
-    Some(
-        prints(alloc, &OpenFault::from(Failed), DEVICE)?
-            && prints(alloc, &OpenFault::from(AllocError), MEMORY)?
-            && prints(alloc, &Or::<Failed>::from(refused()), MEMORY)?
-            && prints(alloc, &Or::Fault(Failed), DEVICE)?,
-    )
+/// Whether faults print their texts.
+fn faults_print(alloc: Global) -> bool {
+    prints(alloc, &Failed, DEVICE)
+        && prints(alloc, &NoMemory, MEMORY)
+        && prints(alloc, &OpenFault::from(Failed), DEVICE)
+        && prints(alloc, &OpenFault::from(AllocError), MEMORY)
+        && prints(alloc, &Or::<Failed>::from(refused()), MEMORY)
+        && prints(alloc, &Or::Fault(Failed), DEVICE)
 }
 
 /// A refused growth.
@@ -123,12 +143,7 @@ fn faults_convert() -> bool {
         && NoMemory::from(refused()) == NoMemory::from(AllocError)
 }
 
-/// Whether faults print their texts, and convert.
-fn are_faults(alloc: Global) -> Option<bool> {
-    Some(faults_print(alloc)? && faults_of_two_print(alloc)? && faults_convert())
-}
-
 #[test]
 fn faults_print_and_convert(rt: HostRuntime) {
-    assert!(rt; are_faults(rt.alloc()) == Some(true));
+    assert!(rt; faults_print(rt.alloc()) && faults_convert());
 }
