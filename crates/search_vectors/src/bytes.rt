@@ -38,9 +38,14 @@ packet above 8388608 bytes = 23000001ff81042330385330317061636b65742061626f76652
 packet out of order = 1c000002ff84042330385330317061636b6574206f7574206f66206f72646572
 "#;
 
+/// The lines of the names.
+fn named() -> &'static str {
+    NAMED
+}
+
 /// The digits of a name.
 fn digits_of(name: &str) -> Option<&'static str> {
-    for line in NAMED.lines() {
+    for line in named().lines() {
         if let Some((known, digits)) = line.split_once(" = ") {
             if known == name {
                 return Some(digits);
@@ -50,14 +55,19 @@ fn digits_of(name: &str) -> Option<&'static str> {
     None
 }
 
+/// Appends the bytes that digits spell.
+fn put_spelled(alloc: Global, out: &mut Vec<u8>, digits: &str) -> Option<()> {
+    let bytes = hex::decode(alloc, digits.as_bytes()).ok()?;
+    out.extend_from_slice(bytes.as_slice()).ok()
+}
+
 /// Appends bytes: those behind `0x`, those of a name, or else the packet of a query with this text. No words stand for none.
 pub(crate) fn put_bytes(alloc: Global, out: &mut Vec<u8>, words: &str) -> Option<()> {
     if words.is_empty() {
         return Some(());
     }
     if let Some(digits) = words.strip_prefix("0x").or(digits_of(words)) {
-        let bytes = hex::decode(alloc, digits.as_bytes()).ok()?;
-        return out.extend_from_slice(bytes.as_slice()).ok();
+        return put_spelled(alloc, out, digits);
     }
     let length = u16::try_from(words.len().saturating_add(1)).ok()?;
     let [low, high] = length.to_le_bytes();
@@ -65,11 +75,15 @@ pub(crate) fn put_bytes(alloc: Global, out: &mut Vec<u8>, words: &str) -> Option
     out.extend_from_slice(words.as_bytes()).ok()
 }
 
-/// Bytes with `; ` between, one after another.
-pub(crate) fn bytes_of(alloc: Global, words: &str) -> Option<Vec<u8>> {
-    let mut bytes = Vec::new(alloc);
+/// Appends bytes with `; ` between, one after another.
+pub(crate) fn put_all(alloc: Global, out: &mut Vec<u8>, words: &str) -> Option<()> {
     for part in words.split("; ") {
-        put_bytes(alloc, &mut bytes, part)?;
+        put_bytes(alloc, out, part)?;
     }
-    Some(bytes)
+    Some(())
+}
+
+/// Appends the digits of bytes to a text.
+pub(crate) fn put_digits(alloc: Global, told: &mut String, bytes: &[u8]) -> Option<()> {
+    told.push_str(hex::encode(alloc, bytes).ok()?.as_str()).ok()
 }

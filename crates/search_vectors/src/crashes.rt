@@ -1,6 +1,6 @@
 //! What a session leaves on a disk, byte by byte, and what is read of it after each crash; and sessions each of whose calls on the store
 //! fails once: as the store is opened the run ends, and later a reply says what became of the commit, which is then what a crash leaves.
-use crate::runs::{run_row, run_table, store_back};
+use crate::runs::{Runs, run_row, run_table};
 use std::alloc::Global;
 use std::sync::Wait;
 use std::thread::Threads;
@@ -16,15 +16,24 @@ a second session | session --config one | one ~# |  | RESP; SELECT id FROM one; 
 the index after that | check --config one | one ~# |  | - ⇒ 0; asks one, in one, 1 and 0 back; one: 1 documents, 0 disk chunks, 1 log records;
 "#;
 
+/// What a crash may make of what wasn't synced.
+const PICKS: &str = "0 1 2 3";
+
+/// These runs by a pick.
+fn crashes_by(alloc: Global, pick: &str) -> Option<String> {
+    CRASHES.replace(alloc, "#", pick).ok()
+}
+
+/// Goes through these runs by a pick.
+fn try_pick<R: Threads + Wait + Sync>(rt: &R, runs: &mut Runs, pick: &str) -> Option<()> {
+    let table = crashes_by(runs.alloc, pick)?;
+    run_table(rt, runs, table.as_str())
+}
+
 /// Goes through these runs by each pick.
-pub(crate) fn try_picks<R: Threads + Wait + Sync>(
-    rt: &R,
-    alloc: Global,
-    said: &mut String,
-) -> Option<()> {
-    for pick in ["0", "1", "2", "3"] {
-        let table = CRASHES.replace(alloc, "#", pick).ok()?;
-        run_table(rt, alloc, table.as_str(), said)?;
+pub(crate) fn try_picks<R: Threads + Wait + Sync>(rt: &R, runs: &mut Runs) -> Option<()> {
+    for pick in PICKS.split(" ") {
+        try_pick(rt, runs, pick)?;
     }
     Some(())
 }
@@ -40,96 +49,126 @@ const SERVED: &str = "0; asks rt, in rt, 1, 1 and 1 back;";
 
 /// What comes of later calls that fail, in this order: what is sent and replied, and how many documents and records a check finds after a
 /// crash, by each pick.
-const OUTCOMES: [(&str, [u8; 4]); 5] = [
+const OUTCOMES: [(&str, &str); 5] = [
     (
         "RESP; INSERT INTO rt VALUES (1,'hello'); INSERT INTO rt VALUES (2,'hello'); SELECT id FROM rt; QUIT => hello 1; accepted; err 1105 HY000 disk fault: nothing was changed; ok 1 2; ids 2: 2",
-        [1, 1, 1, 1],
+        "1 1 1 1",
     ),
     (
         "RESP; INSERT INTO rt VALUES (1,'hello'); INSERT INTO rt VALUES (2,'hello'); SELECT id FROM rt; QUIT => hello 1; accepted; err 1105 HY000 disk fault: commit in doubt; ok 1 2; ids 2: 1 2",
-        [2, 2, 2, 2],
+        "2 2 2 2",
     ),
     (
         "RESP; INSERT INTO rt VALUES (1,'hello'); INSERT INTO rt VALUES (2,'hello'); SELECT id FROM rt; QUIT => hello 1; accepted; ok 1 2; err 1105 HY000 disk fault: nothing was changed; ids 2: 1",
-        [1, 1, 1, 1],
+        "1 1 1 1",
     ),
     (
         "RESP; INSERT INTO rt VALUES (1,'hello'); INSERT INTO rt VALUES (2,'hello'); SELECT id FROM rt; QUIT => hello 1; accepted; ok 1 2; err 1105 HY000 disk fault: commit in doubt; ids 2: 1",
-        [1, 1, 1, 1],
+        "1 1 1 1",
     ),
     (
         "RESP; INSERT INTO rt VALUES (1,'hello'); INSERT INTO rt VALUES (2,'hello'); SELECT id FROM rt; QUIT => hello 1; accepted; ok 1 2; err 1105 HY000 disk fault: commit in doubt; ids 2: 1",
-        [1, 2, 2, 1],
+        "1 2 2 1",
     ),
 ];
+
+fn outcomes() -> &'static [(&'static str, &'static str)] {
+    &OUTCOMES
+}
 
 /// The row of a session of these packets over one line, whose store fails at this call.
 fn session(alloc: Global, call: u64, line: &str, told: &str) -> Option<String> {
     format!(in alloc; "call {call} | session --config rt | rt !{call} |  | {line} ⇒ {told}").ok()
 }
 
-/// None where a call that fails has another outcome than this one, also after a crash.
-fn is_outcome<R: Threads + Wait + Sync>(
+/// What a check finds after that, where a crash by a pick leaves so many documents.
+fn found_after(alloc: Global, row: &str, pick: &str, count: &str) -> Option<String> {
+    format!(in alloc;
+        "\n{row}\nthen | check --config rt | rt ~{pick} |  | - ⇒ 0; asks rt, in rt, 1 and 0 back; rt: {count} documents, 0 disk chunks, {count} log records;"
+    ).ok()
+}
+
+/// None where a run comes to something else than its row, or a crash by a pick doesn't leave so many documents.
+fn leaves<R: Threads + Wait + Sync>(
     rt: &R,
-    alloc: Global,
-    call: u64,
-    outcome: &(&str, [u8; 4]),
-    said: &mut String,
+    runs: &mut Runs,
+    row: &str,
+    pick: &str,
+    count: &str,
 ) -> Option<()> {
-    let row = session(alloc, call, outcome.0, SERVED)?;
-    for (pick, count) in outcome.1.iter().enumerate() {
-        let table = format!(in alloc;
-            "\n{row}\nthen | check --config rt | rt ~{pick} |  | - ⇒ 0; asks rt, in rt, 1 and 0 back; rt: {count} documents, 0 disk chunks, {count} log records;"
-        ).ok()?;
-        run_table(rt, alloc, table.as_str(), said)?;
+    let table = found_after(runs.alloc, row, pick, count)?;
+    run_table(rt, runs, table.as_str())
+}
+
+/// None where a run comes to something else than its row, or a crash leaves other numbers of documents by its picks.
+fn leaves_by_picks<R: Threads + Wait + Sync>(
+    rt: &R,
+    runs: &mut Runs,
+    row: &str,
+    counts: &str,
+) -> Option<()> {
+    let mut counts = counts.split(" ");
+    for pick in PICKS.split(" ") {
+        leaves(rt, runs, row, pick, counts.next()?)?;
     }
     Some(())
 }
 
-/// The outcome of a call that fails, which is this one or the next.
-fn outcome_from<R: Threads + Wait + Sync>(
+/// None where a call that fails has another outcome than the one with this number, also after a crash.
+fn is_outcome<R: Threads + Wait + Sync>(
     rt: &R,
-    alloc: Global,
+    runs: &mut Runs,
     call: u64,
-    from: usize,
-    said: &mut String,
-) -> Option<usize> {
-    for (at, outcome) in OUTCOMES.iter().enumerate().skip(from).take(2) {
-        if is_outcome(rt, alloc, call, outcome, said).is_some() {
-            return Some(at);
-        }
-    }
-    None
+    at: usize,
+) -> Option<()> {
+    let (line, counts) = outcomes().get(at)?;
+    let row = session(runs.alloc, call, line, SERVED)?;
+    leaves_by_picks(rt, runs, row.as_str(), counts)
 }
 
-/// How many calls on its store a run makes that comes to this, where its store fails at a call.
-fn calls_of<R: Threads + Wait + Sync>(
+/// The number of the outcome of a call that fails, which is this one or the next.
+fn outcome_from<R: Threads + Wait + Sync>(
     rt: &R,
-    alloc: Global,
+    runs: &mut Runs,
+    call: u64,
+    from: usize,
+) -> Option<usize> {
+    if is_outcome(rt, runs, call, from).is_some() {
+        return Some(from);
+    }
+    let next = from.saturating_add(1);
+    is_outcome(rt, runs, call, next)?;
+    Some(next)
+}
+
+/// None where a run whose store fails at a call comes to something else than this.
+fn comes_to<R: Threads + Wait + Sync>(
+    rt: &R,
+    runs: &mut Runs,
     call: u64,
     line: &str,
     told: &str,
-    said: &mut String,
-) -> Option<u64> {
-    let row = session(alloc, call, line, told)?;
-    let host = run_row(rt, alloc, row.as_str(), None, said)?;
-    Some(store_back(&host)?.calls())
+) -> Option<()> {
+    let row = session(runs.alloc, call, line, told)?;
+    run_row(rt, runs, row.as_str())
+}
+
+/// How many calls on its store a session over this line makes.
+fn calls_of<R: Threads + Wait + Sync>(rt: &R, runs: &mut Runs, line: &str) -> Option<u64> {
+    comes_to(rt, runs, 0, line, SERVED)?;
+    Some(runs.store_back()?.calls())
 }
 
 /// Lets each call of a session on its store fail once: those of a session over an empty line as the store is opened, and the others.
-pub(crate) fn try_calls<R: Threads + Wait + Sync>(
-    rt: &R,
-    alloc: Global,
-    said: &mut String,
-) -> Option<()> {
-    let opening = calls_of(rt, alloc, 0, " => hello 1", SERVED, said)?;
-    let all = calls_of(rt, alloc, 0, DONE, SERVED, said)?;
-    for call in 1..=opening {
-        calls_of(rt, alloc, call, DONE, UNOPENED, said)?;
+pub(crate) fn try_calls<R: Threads + Wait + Sync>(rt: &R, runs: &mut Runs) -> Option<()> {
+    let opening = calls_of(rt, runs, " => hello 1")?;
+    let all = calls_of(rt, runs, DONE)?;
+    for call in 1..opening.saturating_add(1) {
+        comes_to(rt, runs, call, DONE, UNOPENED)?;
     }
     let mut at: usize = 0;
-    for call in opening.saturating_add(1)..=all {
-        at = outcome_from(rt, alloc, call, at, said)?;
+    for call in opening.saturating_add(1)..all.saturating_add(1) {
+        at = outcome_from(rt, runs, call, at)?;
     }
     if at == 4 { Some(()) } else { None }
 }

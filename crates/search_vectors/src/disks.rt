@@ -4,6 +4,8 @@ ghost use Rattle.std.specs.Prelude.{◌≡◌, [], All, IfSome};
 ghost use Rattle.chunk_store.specs.contracts.memory_disk.MemoryDiskDisk.TheImpl as memory_words;
 ghost use Rattle.store_keep.specs.Opens.{HidesNothing};
 
+use crate::bytes::put_digits;
+use crate::told::put_number;
 use chunk_store::{Disk, MemoryDisk};
 use srch_base::Text;
 use std::alloc::Global;
@@ -18,31 +20,35 @@ fn shown(disk: MemoryDisk) -> MemoryDisk
 }
 
 /// What a crash after all calls on a disk leaves.
-pub(crate) fn crashed(disk: &MemoryDisk, pick: u8) -> Option<MemoryDisk>
+fn crashed(disk: &MemoryDisk, pick: u8) -> Option<MemoryDisk>
     ensures { IfSome result (HidesNothing memory_words.ghosts) }
 {
     Some(shown(disk.after_crash(disk.calls(), pick).ok()?))
+}
+
+/// The calls that fail, by the words of a store.
+fn failing_of(alloc: Global, store: &str) -> Option<Vec<u64>> {
+    match store.split_once("!") {
+        Some((_, call)) => vec![in alloc; call.parse::<u64>().ok()?].ok(),
+        None => Some(Vec::new(alloc)),
+    }
 }
 
 /// The disk of a store, by the words of a table.
 fn disk_of(alloc: Global, store: &str, before: Option<&MemoryDisk>) -> Option<MemoryDisk>
     ensures { IfSome result (HidesNothing memory_words.ghosts) }
 {
-    if let Some((_, pick)) = store.split_once('~') {
+    if let Some((_, pick)) = store.split_once("~") {
         return crashed(before?, pick.parse::<u8>().ok()?);
     }
-    let mut failing = Vec::new(alloc);
-    if let Some((_, call)) = store.split_once('!') {
-        failing.push(call.parse::<u64>().ok()?).ok()?;
-    }
-    Some(shown(MemoryDisk::new(alloc, failing)))
+    Some(shown(MemoryDisk::new(alloc, failing_of(alloc, store)?)))
 }
 
 /// The store of an index, with its path.
 fn store_of(alloc: Global, index: &str, before: Option<&MemoryDisk>) -> Option<(Text, MemoryDisk)>
     ensures { IfSome result (λ store. HidesNothing memory_words.ghosts store.1) }
 {
-    let name = index.split(' ').next()?;
+    let name = index.split(" ").next()?;
     let path = Text::from_slice(alloc, name.as_bytes()).ok()?;
     Some((path, disk_of(alloc, index, before)?))
 }
@@ -66,19 +72,41 @@ pub(crate) fn stores_of(
     Some(stores)
 }
 
+/// Appends the number of a file and its bytes.
+fn put_named(alloc: Global, file: u32, bytes: &[u8], told: &mut String) -> Option<()> {
+    told.push_str(" ").ok()?;
+    put_number(told, u64::from(file))?;
+    told.push_str("=").ok()?;
+    put_digits(alloc, told, bytes)
+}
+
+/// Appends a file that is there.
+fn put_file<D: Disk>(alloc: Global, disk: &mut D, file: u32, told: &mut String) -> Option<()> {
+    let Some(length) = disk.len(file).ok()? else {
+        return Some(());
+    };
+    let mut bytes = vec![in alloc; 0; usize::try_from(length).ok()?].ok()?;
+    if disk.read(file, 0, &mut bytes).is_ok() {
+        put_named(alloc, file, bytes.as_slice(), told)
+    } else {
+        None
+    }
+}
+
 /// Appends the files of a disk below number 4, as the words of a table spell them.
-pub(crate) fn put_files<D: Disk>(alloc: Global, disk: &mut D, told: &mut String) -> Option<()> {
+fn put_files<D: Disk>(alloc: Global, disk: &mut D, told: &mut String) -> Option<()> {
     for file in 0..4 {
-        if let Some(length) = disk.len(file).ok()? {
-            let mut bytes = vec![in alloc; 0; usize::try_from(length).ok()?].ok()?;
-            disk.read(file, 0, &mut bytes).ok()?;
-            write!(
-                told,
-                " {file}={}",
-                hex::encode(alloc, &bytes).ok()?.as_str()
-            )
-            .ok()?;
-        }
+        put_file(alloc, disk, file, told)?;
     }
     Some(())
+}
+
+/// Appends the files that a crash after all calls on a disk leaves.
+pub(crate) fn put_left(
+    alloc: Global,
+    disk: &MemoryDisk,
+    pick: u8,
+    told: &mut String,
+) -> Option<()> {
+    put_files(alloc, &mut crashed(disk, pick)?, told)
 }

@@ -1,5 +1,5 @@
 //! The lines that a table spells, the doors that give them, and what was replied over them.
-use crate::bytes::{bytes_of, put_bytes};
+use crate::bytes::{put_all, put_bytes, put_digits};
 use crate::table_door::TableDoor;
 use crate::turns::TurnLink;
 use real_host::Lent;
@@ -8,63 +8,71 @@ use std::alloc::Global;
 use std::sync::Arc;
 use std::sync::atomic::AtomicU32;
 
+/// What is sent over a line: the bytes, the lengths and the turns of the reads that have some, and the numbers of the calls that fail.
+#[derive(Drop)]
+struct Sent {
+    input: Vec<u8>,
+    cuts: Vec<u32>,
+    turns: Vec<u32>,
+    failing: Vec<u32>,
+}
+
 /// Adds the number that is spelled so.
 pub(crate) fn add_number(numbers: &mut Vec<u32>, number: &str) -> Option<()> {
     numbers.push(number.parse::<u32>().ok()?).ok()
 }
 
 /// Adds the bytes of a read that has a turn: the turn, a blank, and the bytes.
-fn add_turn(
-    alloc: Global,
-    input: &mut Vec<u8>,
-    cuts: &mut Vec<u32>,
-    turns: &mut Vec<u32>,
-    packet: &str,
-) -> Option<()> {
-    let (turn, packet) = packet.split_once(' ')?;
-    add_number(turns, turn)?;
-    let before = input.len();
-    put_bytes(alloc, input, packet)?;
-    let length = input.len().saturating_sub(before);
-    cuts.push(u32::try_from(length).ok()?).ok()
+fn add_turn(alloc: Global, sent: &mut Sent, packet: &str) -> Option<()> {
+    let (turn, packet) = packet.split_once(" ")?;
+    add_number(&mut sent.turns, turn)?;
+    let before = sent.input.len();
+    put_bytes(alloc, &mut sent.input, packet)?;
+    let length = sent.input.len().saturating_sub(before);
+    sent.cuts.push(u32::try_from(length).ok()?).ok()
 }
 
 /// Adds a packet: `!N` for a call that fails, or bytes, which behind `@N` are those of a read that has the turn N.
-fn add_packet(
-    alloc: Global,
-    input: &mut Vec<u8>,
-    cuts: &mut Vec<u32>,
-    failing: &mut Vec<u32>,
-    turns: &mut Vec<u32>,
-    packet: &str,
-) -> Option<()> {
-    if let Some(call) = packet.strip_prefix('!') {
-        return add_number(failing, call);
+fn add_packet(alloc: Global, sent: &mut Sent, packet: &str) -> Option<()> {
+    if let Some(call) = packet.strip_prefix("!") {
+        return add_number(&mut sent.failing, call);
     }
-    if let Some(packet) = packet.strip_prefix('@') {
-        return add_turn(alloc, input, cuts, turns, packet);
+    if let Some(packet) = packet.strip_prefix("@") {
+        return add_turn(alloc, sent, packet);
     }
-    put_bytes(alloc, input, packet)
+    put_bytes(alloc, &mut sent.input, packet)
+}
+
+/// Adds packets with `; ` between.
+fn add_packets(alloc: Global, sent: &mut Sent, packets: &str) -> Option<()> {
+    for packet in packets.split("; ") {
+        add_packet(alloc, sent, packet)?;
+    }
+    Some(())
+}
+
+/// What is sent by these packets.
+fn sent_of(alloc: Global, packets: &str) -> Option<Sent> {
+    let mut sent = Sent {
+        input: Vec::new(alloc),
+        cuts: Vec::new(alloc),
+        turns: Vec::new(alloc),
+        failing: Vec::new(alloc),
+    };
+    add_packets(alloc, &mut sent, packets)?;
+    sent.turns.reverse();
+    Some(sent)
 }
 
 /// The line over which these packets are sent.
 fn line_of(alloc: Global, packets: &str, now: &Arc<AtomicU32, Global>) -> Option<TurnLink> {
     let now = Arc::try_clone(now).ok()?;
-    let mut input = Vec::new(alloc);
-    let mut cuts = Vec::new(alloc);
-    let mut failing = Vec::new(alloc);
-    let mut turns = Vec::new(alloc);
-    for packet in packets.split("; ") {
-        add_packet(
-            alloc,
-            &mut input,
-            &mut cuts,
-            &mut failing,
-            &mut turns,
-            packet,
-        )?;
-    }
-    turns.reverse();
+    let Sent {
+        input,
+        cuts,
+        turns,
+        failing,
+    } = sent_of(alloc, packets)?;
     Some(TurnLink {
         line: MemoryLink::new(alloc, input, cuts, failing),
         turns,
@@ -74,14 +82,25 @@ fn line_of(alloc: Global, packets: &str, now: &Arc<AtomicU32, Global>) -> Option
     })
 }
 
-/// A door by its words.
-fn door_of(alloc: Global, words: &str, now: &Arc<AtomicU32, Global>) -> Option<TableDoor> {
-    let mut lines = Vec::new(alloc);
+/// Adds the lines of a door.
+fn add_lines(
+    alloc: Global,
+    lines: &mut Vec<TurnLink>,
+    words: &str,
+    now: &Arc<AtomicU32, Global>,
+) -> Option<()> {
     for line in words.split(" + ") {
         if let Some((packets, _)) = line.split_once(" => ") {
             lines.push(line_of(alloc, packets, now)?).ok()?;
         }
     }
+    Some(())
+}
+
+/// A door by its words.
+fn door_of(alloc: Global, words: &str, now: &Arc<AtomicU32, Global>) -> Option<TableDoor> {
+    let mut lines = Vec::new(alloc);
+    add_lines(alloc, &mut lines, words, now)?;
     lines.reverse();
     Some(TableDoor {
         lines,
@@ -93,6 +112,21 @@ fn door_of(alloc: Global, words: &str, now: &Arc<AtomicU32, Global>) -> Option<T
     })
 }
 
+/// Adds doors with ` / ` between them, but `none`.
+fn add_doors(
+    alloc: Global,
+    doors: &mut Vec<TableDoor>,
+    words: &str,
+    now: &Arc<AtomicU32, Global>,
+) -> Option<()> {
+    for door in words.split(" / ") {
+        if door != "none" {
+            doors.push(door_of(alloc, door, now)?).ok()?;
+        }
+    }
+    Some(())
+}
+
 /// Doors by the words of a table: `none`, or doors with ` / ` between them, whose lines take turns with one another.
 ///
 /// A door is `-` without a line, `fails` where it fails at its first call, or its lines with ` + ` between them. A line is its packets
@@ -100,23 +134,34 @@ fn door_of(alloc: Global, words: &str, now: &Arc<AtomicU32, Global>) -> Option<T
 pub(crate) fn doors_of(alloc: Global, words: &str) -> Option<Vec<TableDoor>> {
     let now = Arc::new(alloc, AtomicU32::new(0)).ok()?;
     let mut doors = Vec::new(alloc);
-    for door in words.split(" / ") {
-        if door != "none" {
-            doors.push(door_of(alloc, door, &now)?).ok()?;
-        }
-    }
+    add_doors(alloc, &mut doors, words, &now)?;
     Some(doors)
 }
 
-/// None where something else than this reply was written to a line; then that is said.
-fn is_replied(alloc: Global, line: &MemoryLink, reply: &str, said: &mut String) -> Option<()> {
-    let wanted = bytes_of(alloc, reply)?;
-    if line.written() == wanted.as_slice() {
+/// None where something else than this was written to a line; then what was written is said.
+fn is_written(alloc: Global, written: &[u8], wanted: &[u8], said: &mut String) -> Option<()> {
+    if written == wanted {
         return Some(());
     }
-    let written = hex::encode(alloc, line.written()).ok()?;
-    write!(said, " and wrote {}", written.as_str()).ok()?;
+    said.push_str(" and wrote ").ok()?;
+    put_digits(alloc, said, written)?;
     None
+}
+
+/// None where something else than this reply was written to a line.
+fn is_replied(alloc: Global, written: &[u8], reply: &str, said: &mut String) -> Option<()> {
+    let mut wanted = Vec::new(alloc);
+    if put_all(alloc, &mut wanted, reply).is_some() {
+        is_written(alloc, written, wanted.as_slice(), said)
+    } else {
+        None
+    }
+}
+
+/// The reply over a line that is given.
+fn reply_of(line: &str) -> Option<&str> {
+    let (_, reply) = line.split_once(" => ")?;
+    if reply == "never" { None } else { Some(reply) }
 }
 
 /// None where the lines that came back to a door, or its end, aren't those of its words.
@@ -128,9 +173,8 @@ pub(crate) fn is_served(
 ) -> Option<()> {
     let mut back = door.back.iter();
     for line in words.split(" + ") {
-        match line.split_once(" => ") {
-            Some((_, "never")) | None => {}
-            Some((_, reply)) => is_replied(alloc, &back.next()?.line, reply, said)?,
+        if let Some(reply) = reply_of(line) {
+            is_replied(alloc, back.next()?.line.written(), reply, said)?;
         }
     }
     let ends = words.contains(" => ") || door.ended == (words == "-");

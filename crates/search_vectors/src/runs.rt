@@ -4,12 +4,13 @@ ghost use Rattle.std.specs.Prelude.{◌≤◌, length, All, IfSome};
 ghost use Rattle.chunk_store.specs.contracts.memory_disk.MemoryDiskDisk.TheImpl as memory_words;
 ghost use Rattle.store_keep.specs.Opens.{HidesNothing};
 
-use crate::disks::{crashed, put_files, stores_of};
+use crate::disks::{put_left, stores_of};
 use crate::lines::{add_number, doors_of, is_served};
+use crate::table_door::TableDoor;
 use crate::table_host::TableHost;
 use crate::told::put_told;
 use chunk_store::MemoryDisk;
-use program_host::{MemoryHost, Status};
+use program_host::MemoryHost;
 use real_host::Lent;
 use searchd_top::searchd;
 use srch_base::{ListDoor, Text};
@@ -36,10 +37,15 @@ fn file_of(alloc: Global, line: &str) -> Option<(Text, Vec<u8>)> {
     Some((path, text.replace(alloc, ";", "\n").ok()?.into_bytes()))
 }
 
+/// The lines of the files.
+fn lines_of_files() -> &'static str {
+    FILES
+}
+
 /// The files of a host.
 fn files(alloc: Global) -> Option<Vec<(Text, Vec<u8>)>> {
     let mut files = Vec::new(alloc);
-    for line in FILES.lines() {
+    for line in lines_of_files().lines() {
         files.push(file_of(alloc, line)?).ok()?;
     }
     Some(files)
@@ -59,8 +65,10 @@ fn doors_without_lines(alloc: Global, count: usize) -> Option<Vec<ListDoor>> {
 /// The numbers of calls, with blanks between.
 fn numbers_of(alloc: Global, calls: &str) -> Option<Vec<u32>> {
     let mut numbers = Vec::new(alloc);
-    for call in calls.split_whitespace() {
-        add_number(&mut numbers, call)?;
+    for call in calls.split(" ") {
+        if !call.is_empty() {
+            add_number(&mut numbers, call)?;
+        }
     }
     Some(numbers)
 }
@@ -68,7 +76,7 @@ fn numbers_of(alloc: Global, calls: &str) -> Option<Vec<u32>> {
 /// The words of a command line, with blanks between.
 fn words_of(alloc: Global, text: &str) -> Option<Vec<String>> {
     let mut words = Vec::new(alloc);
-    for word in text.split(' ') {
+    for word in text.split(" ") {
         words.push(String::from_str(alloc, word).ok()?).ok()?;
     }
     Some(words)
@@ -132,62 +140,95 @@ fn host_of(alloc: Global, row: &Row<'_>, before: Option<&MemoryDisk>) -> Option<
     })
 }
 
-/// None where a run came to something else than its row says; then that is said.
-fn is_wanted(
-    alloc: Global,
-    row: &Row<'_>,
-    status: &Status,
-    host: &TableHost,
-    said: &mut String,
-) -> Option<()> {
-    said.push_str(" came to: ").ok()?;
-    put_told(said, status, host)?;
-    let before = said.as_str().strip_suffix(row.wanted)?;
-    if !before.ends_with(" came to: ") {
-        return None;
+/// What the runs of a test share: the host of the last one, and what is said of it.
+#[derive(Drop)]
+pub(crate) struct Runs {
+    pub(crate) alloc: Global,
+    host: Option<TableHost>,
+    pub(crate) said: String,
+}
+
+impl Runs {
+    /// None was made yet.
+    pub(crate) fn new(alloc: Global) -> Runs {
+        Runs {
+            alloc,
+            host: None,
+            said: String::new(alloc),
+        }
     }
-    for (door, back) in row.doors.split(" / ").zip(host.back.as_slice()) {
-        is_served(alloc, door, back, said)?;
+
+    /// The first store that came back in the last run.
+    pub(crate) fn store_back(&self) -> Option<&MemoryDisk> {
+        self.host.as_ref()?.base.stores_back().first()
+    }
+}
+
+/// Runs the words of a command line over a host. Gives the exit status.
+fn run_words<R: Threads + Wait + Sync>(
+    rt: &R,
+    alloc: Global,
+    words: &str,
+    host: &mut TableHost,
+) -> Option<u8>
+    requires { length host.old.base.stores_back ≤ length host.old.base.stores_given }
+{
+    let words = words_of(alloc, words)?;
+    Some(searchd(rt, alloc, words.as_slice(), host).code())
+}
+
+/// None where the doors that came back aren't served as the words say.
+fn are_served(alloc: Global, words: &str, back: &[TableDoor], said: &mut String) -> Option<()> {
+    let mut back = back.iter();
+    for words in words.split(" / ") {
+        if let Some(door) = back.next() {
+            is_served(alloc, words, door, said)?;
+        }
     }
     Some(())
 }
 
-/// Runs a row of a table, with the store that the run before left. Gives the host as it is then, or none where the run came to something
-/// else than the row says.
+/// None where a run came to something else than its row says; then that is said.
+fn is_wanted(
+    alloc: Global,
+    row: &Row<'_>,
+    code: Option<u8>,
+    host: &TableHost,
+    said: &mut String,
+) -> Option<()> {
+    said.push_str(" came to: ").ok()?;
+    put_told(said, code?, host)?;
+    let before = said.as_str().strip_suffix(row.wanted)?;
+    if !before.ends_with(" came to: ") {
+        return None;
+    }
+    are_served(alloc, row.doors, host.back.as_slice(), said)
+}
+
+/// Runs a row of a table, with the store that the run before left. None where the run came to something else than the row says.
 ///
 /// What the row is of, ` | `, the words, ` | `, the stores as `stores_of` reads them, ` | `, the calls of the host that fail, ` | `, the doors
 /// as `doors_of` reads them, and ` ⇒ ` with what `put_told` tells.
-pub(crate) fn run_row<R: Threads + Wait + Sync>(
-    rt: &R,
-    alloc: Global,
-    row: &str,
-    before: Option<&MemoryDisk>,
-    said: &mut String,
-) -> Option<TableHost> {
-    said.clear();
-    said.push_str(row).ok()?;
+pub(crate) fn run_row<R: Threads + Wait + Sync>(rt: &R, runs: &mut Runs, row: &str) -> Option<()> {
+    runs.said.clear();
+    runs.said.push_str(row).ok()?;
     let row = fields_of(row)?;
-    let words = words_of(alloc, row.words)?;
-    let mut host = host_of(alloc, &row, before)?;
-    let status = searchd(rt, alloc, words.as_slice(), &mut host);
-    is_wanted(alloc, &row, &status, &host, said)?;
-    Some(host)
+    let mut host = host_of(runs.alloc, &row, runs.store_back())?;
+    let code = run_words(rt, runs.alloc, row.words, &mut host);
+    let holds = is_wanted(runs.alloc, &row, code, &host, &mut runs.said);
+    runs.host = Some(host);
+    holds
 }
 
-/// The first store that came back to a host.
-pub(crate) fn store_back(host: &TableHost) -> Option<&MemoryDisk> {
-    host.base.stores_back().first()
-}
-
-/// None where a crash leaves other files than these of a host's first store, whatever its pick; no files stand for any.
-fn are_left(alloc: Global, files: &str, host: &TableHost, said: &mut String) -> Option<()> {
+/// None where a crash leaves other files than these of the first store that came back, whatever its pick; no files stand for any.
+fn are_left(runs: &mut Runs, files: &str) -> Option<()> {
     if files.is_empty() {
         return Some(());
     }
+    let store = runs.host.as_ref()?.base.stores_back().first()?;
     for pick in 0..4 {
-        let mut disk = crashed(store_back(host)?, pick)?;
-        put_files(alloc, &mut disk, said)?;
-        if !said.as_str().ends_with(files) {
+        put_left(runs.alloc, store, pick, &mut runs.said)?;
+        if !runs.said.as_str().ends_with(files) {
             return None;
         }
     }
@@ -198,20 +239,13 @@ fn are_left(alloc: Global, files: &str, host: &TableHost, said: &mut String) -> 
 /// then that is said.
 pub(crate) fn run_table<R: Threads + Wait + Sync>(
     rt: &R,
-    alloc: Global,
+    runs: &mut Runs,
     table: &str,
-    said: &mut String,
 ) -> Option<()> {
-    let (files, rows) = table.split_once('\n')?;
-    let mut last = None;
+    let (files, rows) = table.split_once("\n")?;
     for row in rows.lines() {
-        let before = match &last {
-            Some(host) => store_back(host),
-            None => None,
-        };
-        let host = run_row(rt, alloc, row, before, said)?;
-        are_left(alloc, files, &host, said)?;
-        last = Some(host);
+        run_row(rt, runs, row)?;
+        are_left(runs, files)?;
     }
     Some(())
 }

@@ -6,7 +6,6 @@ use real_host::Lent;
 use srch_base::{Door, Failed};
 
 /// A door that gives some lines, the last one first, or fails at its first call.
-#[derive(Drop)]
 pub(crate) struct TableDoor {
     /// The lines that weren't given yet.
     pub(crate) lines: Vec<TurnLink>,
@@ -19,6 +18,20 @@ pub(crate) struct TableDoor {
     /// Whether the last call said that there is no further line.
     pub(crate) ended: bool,
     pub(crate) faults: u64,
+}
+
+// Not derived: so letting go of a door is a call, and no caller's proof takes apart what it holds.
+impl Drop for TableDoor {
+    fn drop(self) {
+        let TableDoor {
+            lines: _lines,
+            lent: _lent,
+            back: _back,
+            fails: _,
+            ended: _,
+            faults: _,
+        } = self;
+    }
 }
 
 impl Door for TableDoor {

@@ -2,11 +2,10 @@
 use crate::crashes::{try_calls, try_picks};
 use crate::ends::{DAMAGED, SELFTESTS, STORES, TEXTS, WORDS};
 use crate::failing::{CHECKS, DOORS, LINES};
-use crate::runs::run_table;
+use crate::runs::{Runs, run_table};
 use crate::serving::SERVED;
 use conf_text::ConfKind;
 use program_host::Status;
-use std::alloc::Global;
 use std::sync::Wait;
 use std::test::Fail;
 use std::thread::Threads;
@@ -15,38 +14,42 @@ const TABLES: [&str; 9] = [
     WORDS, TEXTS, STORES, DAMAGED, SELFTESTS, CHECKS, DOORS, LINES, SERVED,
 ];
 
+fn tables() -> &'static [&'static str] {
+    &TABLES
+}
+
 /// Goes through all tables.
-fn try_tables<R: Threads + Wait + Sync>(rt: &R, alloc: Global, said: &mut String) -> Option<()> {
-    for table in TABLES {
-        run_table(rt, alloc, table, said)?;
+fn try_tables<R: Threads + Wait + Sync>(rt: &R, runs: &mut Runs) -> Option<()> {
+    for table in tables() {
+        run_table(rt, runs, table)?;
     }
     Some(())
 }
 
 /// Fails with what was said where something didn't hold.
-fn held(holds: Option<()>, said: &String) -> Result<(), Fail> {
+fn held(holds: Option<()>, runs: &Runs) -> Result<(), Fail> {
     match holds {
         Some(()) => Ok(()),
-        None => Err(Fail::new(format_args!("{said}"))),
+        None => Err(Fail::new(format_args!("{}", runs.said))),
     }
 }
 
 #[test]
 fn each_row_comes_to_what_it_says(rt: HostRuntime) -> Result<(), Fail> {
-    let mut said = String::new(rt.alloc());
-    held(try_tables(&rt, rt.alloc(), &mut said), &said)
+    let mut runs = Runs::new(rt.alloc());
+    held(try_tables(&rt, &mut runs), &runs)
 }
 
 #[test]
 fn what_was_told_stays_after_a_crash(rt: HostRuntime) -> Result<(), Fail> {
-    let mut said = String::new(rt.alloc());
-    held(try_picks(&rt, rt.alloc(), &mut said), &said)
+    let mut runs = Runs::new(rt.alloc());
+    held(try_picks(&rt, &mut runs), &runs)
 }
 
 #[test]
 fn each_call_on_a_store_fails_once(rt: HostRuntime) -> Result<(), Fail> {
-    let mut said = String::new(rt.alloc());
-    held(try_calls(&rt, rt.alloc(), &mut said), &said)
+    let mut runs = Runs::new(rt.alloc());
+    held(try_calls(&rt, &mut runs), &runs)
 }
 
 /// A status with the longest line.

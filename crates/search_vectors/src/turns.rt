@@ -15,7 +15,6 @@ const MOST_LOOKS: u32 = 100_000_000;
 /// A line over memory whose reads have turns: each begins once the turn has come, and the turn ends as the next one is asked for.
 ///
 /// Contracts see it as the line over memory, with its own count of reads that failed.
-#[derive(Drop)]
 pub(crate) struct TurnLink {
     pub(crate) line: MemoryLink,
     /// The turns of the reads, the last one first; reads behind them have none.
@@ -25,6 +24,19 @@ pub(crate) struct TurnLink {
     /// The turn that it is.
     pub(crate) now: Arc<AtomicU32, Global>,
     pub(crate) read_faults: u64,
+}
+
+// Not derived: so letting go of a line is a call, and no caller's proof takes apart what it holds.
+impl Drop for TurnLink {
+    fn drop(self) {
+        let TurnLink {
+            line: _line,
+            turns: _turns,
+            mine: _,
+            now: _now,
+            read_faults: _,
+        } = self;
+    }
 }
 
 impl Model for TurnLink {
