@@ -27,15 +27,20 @@ class Directory(NamedTuple):
     files: dict
     stands: str
 
-    def whole_files(self):
-        """The bytes of the files of each directory that the row stands for."""
+    def spelled_files(self):
+        """The files of each directory that the row stands for, spelled as they are, each with all of its bytes."""
         parted = {number: text.partition("-") for number, text in self.files.items()}
         most = max((int(lacking or 0) for _, _, lacking in parted.values()), default=0)
         for lacked in range(most + 1):
             yield {
-                number: bytes.fromhex(written_out(digits))[: -lacked if lacking and lacked else None]
+                number: digits[: -2 * lacked if lacking and lacked else None]
                 for number, (digits, _, lacking) in parted.items()
             }
+
+    def whole_files(self):
+        """The bytes of the files of each of them."""
+        for files in self.spelled_files():
+            yield {number: bytes.fromhex(written_out(digits)) for number, digits in files.items()}
 
 
 def written_out(text):

@@ -13,9 +13,8 @@ from tables import constant, run
 FILE = "crates/directory_vectors/src/directories.rt"
 
 HEAD = f"""//! Directories of {DOCUMENT}, as scripts/directory_cases.py writes them: edit them there. A line is what the
-//! directories are, ` | `, their files and ` ⇒ ` with what no session shows of their documents. A file is its number, `=` and
-//! its bytes; with `-N` behind them the line is as many directories and one more, in which it lacks 0 to N bytes at its end.
-//! `⟨x×n⟩` is x written n times.
+//! directory is, ` | `, its files and ` ⇒ ` with how many documents and records are found in it, and what no session shows of the
+//! documents. A file is its number, `=` and its bytes. `⟨x×n⟩` is x written n times.
 """
 
 # The constants: the index, and what they are about.
@@ -24,6 +23,7 @@ TABLES = {
     "SIX_COLUMNS": ("two", "Directories of an index with two fields and four attributes."),
 }
 HIDDEN = re.compile(r"(\d+ born \d+) ((?:\([^()]*\))+)[^\[]*(.*)")
+STANDS = re.compile(r"number .*, above (\d+): (?!none)(.*)")
 
 
 def words_of(fields):
@@ -42,31 +42,37 @@ def by_bytes(word):
 
 def hidden(documents):
     """What no session shows of documents: their commits, how many sentences and paragraphs end in them, their spans; and words."""
-    told, words = [], set()
+    told, words = "", set()
     for document in documents.split("; "):
         born, fields, spans = HIDDEN.fullmatch(document).groups()
         found = words_of(fields)
         words.update(set(found) - {".", "¶"})
-        ends = "".join(f" {found.count(end)}{end}" for end in ".¶" if end in found)
-        told.append(born + ends + (f" {spans}" if spans else ""))
-    return "; ".join(told) + ":" + "".join(f" {shortened(word)}" for word in sorted(words, key=by_bytes))
+        told += f"; {born}"
+        if {".", "¶"} & set(found):
+            told += f" {found.count('.')}. {found.count('¶')}¶"
+        told += "".join(f" {span}" for span in re.findall(r"\[.*?\]", spans))
+    return told + "".join(f" /{shortened(word)}" for word in sorted(words, key=by_bytes))
 
 
-def line_of(directory):
-    """The line of a directory that has documents, None for others."""
-    found = re.fullmatch(r"number .*?: (?!none)(.*)", directory.stands)
+def lines_of(directory):
+    """The lines of the directories of a row that has documents."""
+    found = STANDS.fullmatch(directory.stands)
     if not found:
-        return None
-    written = " ".join(f"{file}={bytes}" for file, bytes in directory.files.items())
-    assert " | " not in directory.about and " ⇒ " not in directory.about + written, directory.about
-    return f"{directory.about} | {written} ⇒ {hidden(found.group(1))}"
+        return
+    above, documents = found.groups()
+    told = f"{documents.count('; ') + 1} {above}{hidden(documents)}"
+    for files in directory.spelled_files():
+        written = " ".join(f"{file}={digits}" for file, digits in files.items())
+        assert " | " not in directory.about and " ⇒ " not in directory.about + written, directory.about
+        yield f"{directory.about} | {written} ⇒ {told}"
 
 
 def made():
     of = list(directories())
     file = HEAD
     for name, (index, about) in TABLES.items():
-        file += "\n" + constant(about, name, filter(None, [line_of(directory) for directory in of if directory.index == index]))
+        lines = (line for directory in of if directory.index == index for line in lines_of(directory))
+        file += "\n" + constant(about, name, lines, escapes=True)
     assert file.count("\n") < 400
     yield FILE, file
 

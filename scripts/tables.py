@@ -38,11 +38,12 @@ def text(cell):
     return inside.group(1).replace("\\|", "|")
 
 
-def constant(about, name, lines):
-    """A constant with a text of these lines."""
+def constant(about, name, lines, escapes=False):
+    """A constant with a text of these lines. Where it has escapes, `\\u{..}` is a character."""
     lines = "\n".join(lines)
-    assert '"#' not in lines and "\t" not in lines
-    return f'/// {about}\npub(crate) const {name}: &str = r#"\n{lines}\n"#;\n'
+    before, after = ('"', '"') if escapes else ('r#"', '"#')
+    assert after not in lines and "\t" not in lines
+    return f"/// {about}\npub(crate) const {name}: &str = {before}\n{lines}\n{after};\n"
 
 
 def difference(path, text):

@@ -1,101 +1,118 @@
-//! A script of commits, stopped after each call of the disk with each outcome of a crash, and opened again: it has the documents
+//! The script of commits, stopped after each call of the disk with each outcome of a crash, and opened again: it has the documents
 //! after all commits that were acknowledged before, and maybe those of the one on its way. It is stopped again while it is opened.
+ghost use Rattle.doc_types.specs.Schemas.{IsSchema};
+ghost use Rattle.std.specs.Prelude.{◌≡◌};
+ghost use Rattle.directory_vectors.specs.Ready.{plain};
+
+use crate::opening::{gives, is_wanted, reopened};
 use crate::running::run;
-use crate::scripts::{AFTER, SCRIPT};
+use crate::scripts::{BEGUN, COMMITS, SCRIPT, first_txns, schema};
 use chunk_store::MemoryDisk;
-use srch_base::NoMemory;
+use doc_types::Schema;
 use std::alloc::Global;
 use std::sync::Wait;
-use std::test::Fail;
 
 /// How many outcomes of a crash are tried.
 pub(crate) const OUTCOMES: u8 = 4;
 
-/// The disk after a crash behind its first calls, once it was opened again, if this is what opening tells.
-pub(crate) fn reopened<R: Wait>(
+/// None where a disk that was opened gives something else after a crash at a moment of opening.
+fn gives_again<R: Wait>(
     rt: &R,
     alloc: Global,
     disk: &MemoryDisk,
-    at: (u64, u8),
+    schema: &Schema,
     wanted: &str,
-) -> Option<MemoryDisk> {
-    let mut found = String::new(alloc);
-    match disk.after_crash(at.0, at.1) {
-        Ok(left) => {
-            let left = run(rt, alloc, left, 0, &mut found);
-            (found.as_str() == wanted).then_some(left)
-        }
-        Err(NoMemory) => None,
-    }
-}
-
-/// Gives nothing where a disk that was opened gives something else after a crash at a moment of opening.
-fn gives_again<R: Wait>(rt: &R, alloc: Global, disk: &MemoryDisk, wanted: &str) -> Option<()> {
+    said: &mut String,
+) -> Option<()>
+    requires { IsSchema schema.now }
+{
+    is_wanted(wanted, said)?;
     for calls in 0..=disk.calls() {
         for pick in 0..OUTCOMES {
-            let _ = reopened(rt, alloc, disk, (calls, pick), wanted)?;
+            gives(rt, alloc, disk, (calls, pick), schema, wanted, said)?;
         }
     }
     Some(())
 }
 
-/// Gives nothing where a crash behind the first calls of a disk leaves something else than this, or a crash while it is opened.
+/// None where a crash leaves something else than this, or a crash while that is opened.
 fn leaves<R: Wait>(
     rt: &R,
     alloc: Global,
     whole: &MemoryDisk,
     at: (u64, u8),
+    schema: &Schema,
     wanted: &str,
-) -> Option<()> {
-    let disk = reopened(rt, alloc, whole, at, wanted)?;
-    gives_again(rt, alloc, &disk, wanted)
+    said: &mut String,
+) -> Option<()>
+    requires { IsSchema schema.now }
+{
+    let disk = reopened(rt, alloc, whole, at, schema, said)?;
+    gives_again(rt, alloc, &disk, schema, wanted, said)
 }
 
-/// Fails where a crash behind the first calls of a disk leaves neither what was there before a commit nor what is after it.
-fn try_crash<R: Wait>(
+/// None where a crash behind these calls leaves neither what was there before a commit nor what is after it.
+fn leaves_either<R: Wait>(
     rt: &R,
     alloc: Global,
     whole: &MemoryDisk,
     calls: u64,
-    before: &str,
-    after: &str,
-) -> Result<(), Fail> {
+    schema: &Schema,
+    wanted: (&str, &str),
+    said: &mut String,
+) -> Option<()>
+    requires { IsSchema schema.now }
+{
+    let (before, after) = wanted;
     for pick in 0..OUTCOMES {
-        if leaves(rt, alloc, whole, (calls, pick), before).is_none()
-            && leaves(rt, alloc, whole, (calls, pick), after).is_none()
-        {
-            return Err(Fail::new(format_args!(
-                "call {calls}, pick {pick}: neither {before} nor {after}"
-            )));
+        if leaves(rt, alloc, whole, (calls, pick), schema, before, said).is_none() {
+            leaves(rt, alloc, whole, (calls, pick), schema, after, said)?;
         }
     }
-    Ok(())
+    Some(())
 }
 
-/// The disk after the first commits of the script.
-fn disk_after<R: Wait>(rt: &R, alloc: Global, commits: usize) -> MemoryDisk {
-    let mut told = String::new(alloc);
+/// The disk after the first commits of the script, of which is said what it tells.
+fn disk_after<R: Wait>(
+    rt: &R,
+    alloc: Global,
+    commits: usize,
+    schema: &Schema,
+    said: &mut String,
+) -> Option<MemoryDisk>
+    requires { schema.now ≡ plain }
+{
+    let txns = first_txns(alloc, commits)?;
     let fresh = MemoryDisk::new(alloc, Vec::new(alloc));
-    run(rt, alloc, fresh, commits, &mut told)
+    Some(run(rt, alloc, fresh, schema, txns.as_slice(), said))
 }
 
-/// Fails where a crash behind any of the calls of the whole script leaves something else than it may.
-fn try_crashes<R: Wait>(rt: &R, alloc: Global, whole: &MemoryDisk) -> Result<(), Fail> {
-    let mut from = 0;
-    let mut before = "0 0";
-    for (commits, after) in AFTER.iter().enumerate() {
-        let to = disk_after(rt, alloc, commits).calls();
+/// None where a crash behind any of the calls of the whole script leaves something else than it may.
+fn leaves_all<R: Wait>(
+    rt: &R,
+    alloc: Global,
+    whole: &MemoryDisk,
+    schema: &Schema,
+    said: &mut String,
+) -> Option<()>
+    requires { schema.now ≡ plain }
+{
+    let (mut from, mut before) = (0, BEGUN);
+    for (commits, line) in SCRIPT.lines().enumerate() {
+        let (_, after) = line.split_once(" ⇒ ")?;
+        let to = disk_after(rt, alloc, commits, schema, said)?.calls();
         for calls in from..to {
-            try_crash(rt, alloc, whole, calls, before, after)?;
+            leaves_either(rt, alloc, whole, calls, schema, (before, after), said)?;
         }
         from = to;
         before = after;
     }
-    try_crash(rt, alloc, whole, whole.calls(), before, before)
+    leaves_either(rt, alloc, whole, from, schema, (before, before), said)
 }
 
-#[test]
-fn a_crash_leaves_what_was_acknowledged(rt: HostRuntime) -> Result<(), Fail> {
-    let whole = disk_after(&rt, rt.alloc(), SCRIPT.len());
-    try_crashes(&rt, rt.alloc(), &whole)
+/// None where a crash leaves something else than what was acknowledged; then that is said.
+pub(crate) fn are_left<R: Wait>(rt: &R, alloc: Global, said: &mut String) -> Option<()> {
+    let schema = schema(alloc);
+    let whole = disk_after(rt, alloc, COMMITS, &schema, said)?;
+    leaves_all(rt, alloc, &whole, &schema, said)
 }

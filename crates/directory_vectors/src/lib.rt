@@ -19,4 +19,4 @@ mod scripts;
 #[cfg(test)]
 mod spelling;
 #[cfg(test)]
-mod telling;
+mod tests;

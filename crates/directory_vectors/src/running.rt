@@ -1,33 +1,26 @@
-//! A store is opened, commits of the script are made, and the disk comes back. What is found and what becomes of each commit is
-//! told in one text.
-ghost use Rattle.std.specs.Prelude.{◌≡◌, []};
-ghost use Rattle.directory_vectors.specs.Ready.{IsReady, plain};
+//! A store is opened, transactions are committed, and the disk comes back. What is found and what becomes of each commit is told in
+//! one text.
+ghost use Rattle.std.specs.Prelude.{◌≡◌, [], All};
+ghost use Rattle.directory_vectors.specs.Ready.{IsReady};
+ghost use Rattle.doc_types.specs.Schemas.{IsSchema};
 ghost use Rattle.doc_types.specs.Transactions.{IsTxnOf};
 ghost use Rattle.store_keep.specs.Opens.{HidesNothing, IsOpened, base_of};
 
-use crate::scripts::{SCRIPT, schema, txn};
+use crate::documents::put_snapshot;
+use any_chunk::AnyChunk;
 use chunk_store::{Disk, MemoryDisk};
-use doc_types::Txn;
+use doc_types::{Schema, Snapshot, Txn};
 use std::alloc::Global;
 use std::marker::Brand;
 use std::sync::Wait;
 use step_book::Naming;
-use step_tokens::Token;
-use store_keep::{CommitFault, Doubt, Keeper, Opened};
+use step_tokens::{Token, snapshot};
+use store_keep::{CommitFault, Committed, Doubt, Keeper, Opened};
 
-/// Makes one commit. `+` is that it was made, `-` that an id which it inserts is there, `!` that the disk failed before it could
-/// take effect, and `?` that it is in doubt, so that it takes effect later.
-fn answer_of<D: Disk, J: Naming, R: Wait>(
-    rt: &R,
-    keeper: &mut Keeper<D, J>,
-    token: &mut Token<J>,
-    txn: &Txn,
-) -> &'static str
-    requires ready { IsReady D.Disk J.schema J.base keeper.old token.old }
-    requires of { IsTxnOf plain txn.now }
-    ensures { IsReady D.Disk J.schema J.base keeper.new token.new }
-{
-    match keeper.commit(rt, 1, token, txn) {
+/// What became of a commit. `+` is that it was made, `-` that an id which it inserts is there, `!` that the disk failed before it
+/// could take effect, and `?` that it is in doubt, so that it takes effect later.
+fn word_of<J: Naming>(answer: &Result<Committed<J>, CommitFault<J>>) -> &'static str {
+    match answer {
         Ok(_) => " +",
         Err(CommitFault::Duplicate { .. }) => " -",
         Err(CommitFault::Refused) => " !",
@@ -36,39 +29,48 @@ fn answer_of<D: Disk, J: Naming, R: Wait>(
     }
 }
 
-/// Makes the commit of these steps, and tells what becomes of it.
+/// Makes one commit, and answers what became of it.
 fn commit<D: Disk, J: Naming, R: Wait>(
     rt: &R,
-    alloc: Global,
     keeper: &mut Keeper<D, J>,
     token: &mut Token<J>,
-    steps: &[i64],
-    into: &mut String,
-) -> Option<()>
-    requires { IsReady D.Disk J.schema J.base keeper.old token.old }
+    txn: &Txn,
+) -> &'static str
+    requires ready { IsReady D.Disk J.schema J.base keeper.old token.old }
+    requires of { IsTxnOf (J.schema 0) txn.now }
     ensures { IsReady D.Disk J.schema J.base keeper.new token.new }
 {
-    let txn = txn(alloc, steps)?;
-    let answer = answer_of(rt, keeper, token, &txn);
-    into.push_str(answer).ok()
+    let answer = keeper.commit(rt, 1, token, txn);
+    word_of(&answer)
 }
 
-/// Tells how many documents and records were found, makes the first commits of the script, and settles what waits then; where the
-/// disk fails, once more.
-fn commit_all<D: Disk, J: Naming, R: Wait>(
+/// Tells the documents that the token finds.
+fn put_found<J: Naming>(alloc: Global, token: &mut Token<J>, into: &mut String) -> Option<()>
+    ensures { (token.new.index ≡ token.old.index) × (token.new.worker ≡ token.old.worker) }
+{
+    let found = snapshot(token).ok()?;
+    let found: &Snapshot<AnyChunk> = &found;
+    put_snapshot(alloc, found, into)
+}
+
+/// Tells how many documents and records were found, and the documents; commits the transactions, and settles what waits then; where
+/// the disk fails, once more.
+fn run_ready<D: Disk, J: Naming, R: Wait>(
     rt: &R,
     alloc: Global,
     keeper: &mut Keeper<D, J>,
     token: &mut Token<J>,
-    commits: usize,
+    txns: &[Txn],
     into: &mut String,
 ) -> Option<()>
-    requires { IsReady D.Disk J.schema J.base keeper.old token.old }
+    requires ready { IsReady D.Disk J.schema J.base keeper.old token.old }
+    requires of { All (IsTxnOf (J.schema 0)) txns.now }
 {
     let (documents, records) = (keeper.opened().0, keeper.records());
     write!(into, "{documents} {records}").ok()?;
-    for steps in SCRIPT.iter().take(commits) {
-        commit(rt, alloc, keeper, token, *steps, into)?;
+    put_found(alloc, token, into)?;
+    for txn in txns {
+        into.push_str(commit(rt, keeper, token, txn)).ok()?;
     }
     if keeper.settle(rt).is_err() {
         into.push_str(" !").ok()?;
@@ -77,23 +79,24 @@ fn commit_all<D: Disk, J: Naming, R: Wait>(
     Some(())
 }
 
-/// Makes commits over a store that was opened. Where there is no memory, less is told.
+/// Commits transactions over a store that was opened. Where there is no memory, less is told.
 fn run_opened<D: Disk + Drop, J: Naming, R: Wait>(
     rt: &R,
     alloc: Global,
     opened: Opened<D>,
-    commits: usize,
+    txns: &[Txn],
     into: &mut String,
 ) -> D
     requires book { opened.book.past.seen.book ≡ J.book 0 }
     requires base { J.base 0 ≡ base_of opened }
-    requires named { J.schema 0 ≡ plain }
-    requires opened { IsOpened D.Disk plain opened }
+    requires schema { IsSchema (J.schema 0) }
+    requires opened { IsOpened D.Disk (J.schema 0) opened }
+    requires of { All (IsTxnOf (J.schema 0)) txns.now }
 {
     match Keeper::<D, J>::named(rt, alloc, opened, 0, 1) {
         Ok((mut keeper, mut tokens)) => {
             if let Some(token) = tokens.first_mut() {
-                let _ = commit_all(rt, alloc, &mut keeper, token, commits, into);
+                let _ = run_ready(rt, alloc, &mut keeper, token, txns, into);
             }
             keeper.close(rt)
         }
@@ -101,19 +104,21 @@ fn run_opened<D: Disk + Drop, J: Naming, R: Wait>(
     }
 }
 
-/// Opens the store on a disk, and makes the first commits of the script.
+/// Opens the store on a disk, and commits transactions.
 pub(crate) fn run<R: Wait>(
     rt: &R,
     alloc: Global,
     disk: MemoryDisk,
-    commits: usize,
+    schema: &Schema,
+    txns: &[Txn],
     into: &mut String,
 ) -> MemoryDisk
-    requires { disk.calls.items ≡ [] }
+    requires fresh { disk.calls.items ≡ [] }
+    requires schema { IsSchema schema.now }
+    requires of { All (IsTxnOf schema.now) txns.now }
 {
-    let schema = schema(alloc);
-    match Opened::open(alloc, disk, &schema) {
-        Ok(opened) => run_opened::<MemoryDisk, Brand, R>(rt, alloc, opened, commits, into),
+    match Opened::open(alloc, disk, schema) {
+        Ok(opened) => run_opened::<MemoryDisk, Brand, R>(rt, alloc, opened, txns, into),
         Err((disk, _)) => {
             let _ = into.push_str("not opened");
             disk

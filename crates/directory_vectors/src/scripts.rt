@@ -1,5 +1,5 @@
 //! A script of commits over an index without columns.
-ghost use Rattle.std.specs.Prelude.{◌≡◌, [], IfSome};
+ghost use Rattle.std.specs.Prelude.{◌≡◌, [], IfSome, All};
 ghost use Rattle.directory_vectors.specs.Ready.{plain};
 ghost use Rattle.doc_types.specs.Transactions.{IsOpOf, IsTxnOf};
 
@@ -7,23 +7,25 @@ use doc_types::{Doc, Schema, Txn, TxnOp};
 use srch_base::{Items, Name};
 use std::alloc::Global;
 
-/// The commits: an id is put, `-` removes one, 0 removes all, and what is above 100 inserts an id.
-pub(crate) const SCRIPT: [&[i64]; 8] = [
-    &[7],
-    &[8, 9],
-    &[-7],
-    &[8],
-    &[0, 5],
-    &[105],
-    &[6, 7, -5],
-    &[105, 106],
-];
+/// The commits, and what is there when the store is opened after each: how many documents and commits, and the documents, each with
+/// the number of the commit that put it. Worked out by hand: `=7` puts an id, `+7` inserts it, `-7` removes it, and `*` removes all.
+/// Two insert an id that is there, so that they are refused.
+pub(crate) const SCRIPT: &str = "no commit ⇒ 0 0
+=7 ⇒ 1 1; 7 born 1
+=8 =9 ⇒ 3 2; 7 born 1; 8 born 2; 9 born 2
+-7 ⇒ 2 3; 8 born 2; 9 born 2
+=8 ⇒ 2 4; 8 born 4; 9 born 2
+* =5 ⇒ 1 5; 5 born 5
++5 ⇒ 1 5; 5 born 5
+=6 =7 -5 ⇒ 2 6; 6 born 6; 7 born 6
++5 +6 ⇒ 2 6; 6 born 6; 7 born 6
+";
 
-/// How many documents and how many commits there are after so many commits of the script, worked out by hand: the sixth and the
-/// eighth insert an id that is there, so that they are refused.
-pub(crate) const AFTER: [&str; 9] = [
-    "0 0", "1 1", "3 2", "2 3", "2 4", "1 5", "1 5", "2 6", "2 6",
-];
+/// What is there before the first of them.
+pub(crate) const BEGUN: &str = "0 0";
+
+/// How many commits the script has.
+pub(crate) const COMMITS: usize = 8;
 
 /// The most operations of a commit.
 const MOST: usize = 1_000;
@@ -52,24 +54,30 @@ fn doc(alloc: Global, id: u64) -> Doc
     }
 }
 
-fn op(alloc: Global, step: i64) -> TxnOp
-    ensures { IsOpOf plain result }
+/// The operation that a word stands for.
+fn op(alloc: Global, word: &str) -> Option<TxnOp>
+    ensures { IfSome result (λ op. IsOpOf plain op) }
 {
-    match step {
-        0 => TxnOp::Clear,
-        id if id < 0 => TxnOp::Kill(id.unsigned_abs()),
-        id if id > 100 => TxnOp::Insert(doc(alloc, id.unsigned_abs() - 100)),
-        id => TxnOp::Put(doc(alloc, id.unsigned_abs())),
+    if word == "*" {
+        return Some(TxnOp::Clear);
+    }
+    let (sign, number) = word.split_at_checked(1)?;
+    let id = number.parse::<u64>().ok()?;
+    match sign {
+        "+" => Some(TxnOp::Insert(doc(alloc, id))),
+        "=" => Some(TxnOp::Put(doc(alloc, id))),
+        "-" => Some(TxnOp::Kill(id)),
+        _ => None,
     }
 }
 
 /// The transaction of a commit.
-pub(crate) fn txn(alloc: Global, steps: &[i64]) -> Option<Txn>
+fn txn(alloc: Global, words: &str) -> Option<Txn>
     ensures { IfSome result (λ txn. IsTxnOf plain txn) }
 {
     let mut ops = Vec::new(alloc);
-    for step in steps {
-        ops.push(op(alloc, *step)).ok()?;
+    for word in words.split(' ') {
+        ops.push(op(alloc, word)?).ok()?;
     }
     if ops.len() > MOST {
         return None;
@@ -77,4 +85,16 @@ pub(crate) fn txn(alloc: Global, steps: &[i64]) -> Option<Txn>
     Some(Txn {
         ops: Items::new(ops),
     })
+}
+
+/// The first transactions of the script.
+pub(crate) fn first_txns(alloc: Global, commits: usize) -> Option<Vec<Txn>>
+    ensures { IfSome result (λ txns. All (IsTxnOf plain) txns.items) }
+{
+    let mut txns = Vec::new(alloc);
+    for line in SCRIPT.lines().skip(1).take(commits) {
+        let (words, _) = line.split_once(" ⇒ ")?;
+        txns.push(txn(alloc, words)?).ok()?;
+    }
+    Some(txns)
 }

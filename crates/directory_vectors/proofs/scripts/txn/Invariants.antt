@@ -3,5 +3,5 @@ use Rattle.doc_types.specs.Transactions.{IsOpOf}
 use Rattle.directory_vectors.specs.Ready.{plain}
 use Rattle.directory_vectors.proofs.scripts.txn.Given as goal
 
-abbrev pub invariant-loop-step : goal.invariant-loop-step
-invariant-loop-step l = All (IsOpOf plain) l.ops.items
+abbrev pub invariant-loop-word : goal.invariant-loop-word
+invariant-loop-word l = All (IsOpOf plain) l.ops.items
