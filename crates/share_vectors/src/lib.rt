@@ -3,14 +3,12 @@
 #![tactic(auto)]
 
 #[cfg(test)]
-mod at_once;
-#[cfg(test)]
 mod calls;
 #[cfg(test)]
 mod commits;
 #[cfg(test)]
-mod in_turn;
-#[cfg(test)]
 mod reading;
+#[cfg(test)]
+mod sharing;
 #[cfg(test)]
 mod writing;

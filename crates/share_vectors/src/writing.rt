@@ -113,14 +113,15 @@ pub(crate) fn put<J: Naming, R: Wait>(
     Some(())
 }
 
-/// Publishes so many steps.
+/// Publishes the steps from this one on, until there are so many.
 pub(crate) fn write<J: Naming, R: Wait>(
     rt: &R,
     alloc: Global,
     line: &mut Line<J>,
+    from: u64,
     steps: u64,
 ) -> Option<()> {
-    for step in 0..steps {
+    for step in from..steps {
         put(rt, alloc, line, step)?;
     }
     line.settle(rt).ok()
