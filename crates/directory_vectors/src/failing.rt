@@ -1,5 +1,5 @@
-//! Each call of the disk fails once, and the script goes on: one call at most says so, and all commits that were made are there, with
-//! one in doubt in its place.
+//! Each call of the disk fails once, and the script goes on: one call at most says so, and all commits that were made are there,
+//! with one in doubt in its place.
 ghost use Rattle.std.specs.Prelude.{◌≡◌, All};
 ghost use Rattle.directory_vectors.specs.Ready.{plain};
 ghost use Rattle.doc_types.specs.Schemas.{IsSchema};
@@ -17,8 +17,8 @@ use std::sync::Wait;
 /// How many calls are let fail, one by one; the script has fewer.
 const CALLS: u64 = 60;
 
-/// What the script may tell where a call fails, and what is there then, worked out by hand: a commit that the disk refuses isn't made,
-/// and one in doubt is; so is all where the disk fails once nothing is left to do.
+/// What the script may tell where a call fails, and what is there then, worked out by hand: a commit that the disk refuses isn't
+/// made, and one in doubt is; so is all where the disk fails once nothing is left to do.
 const TOLD: &str = "
 not opened ⇒ 0 0
 0 0 + + + + + - + - ⇒ 2 6; 6 born 6; 7 born 6

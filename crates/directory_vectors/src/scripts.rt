@@ -7,9 +7,9 @@ use doc_types::{Doc, Schema, Txn, TxnOp};
 use srch_base::{Items, Name};
 use std::alloc::Global;
 
-/// The commits, and what is there when the store is opened after each: how many documents and commits, and the documents, each with
-/// the number of the commit that put it. Worked out by hand: `=7` puts an id, `+7` inserts it, `-7` removes it, and `*` removes all.
-/// Two insert an id that is there, so that they are refused.
+/// The commits, and what is there when the store is opened after each, worked out by hand: how many documents and commits, and the
+/// documents, each with the number of the commit that put it. `=7` puts an id, `+7` inserts it, `-7` removes it, and `*` removes
+/// all. Two insert an id that is there, so that they are refused.
 pub(crate) const SCRIPT: &str = "no commit ⇒ 0 0
 =7 ⇒ 1 1; 7 born 1
 =8 =9 ⇒ 3 2; 7 born 1; 8 born 2; 9 born 2
@@ -94,7 +94,8 @@ pub(crate) fn first_txns(alloc: Global, commits: usize) -> Option<Vec<Txn>>
     let mut txns = Vec::new(alloc);
     for line in SCRIPT.lines().skip(1).take(commits) {
         let (words, _) = line.split_once(" ⇒ ")?;
-        txns.push(txn(alloc, words)?).ok()?;
+        let made = txn(alloc, words)?;
+        txns.push(made).ok()?;
     }
     Some(txns)
 }
