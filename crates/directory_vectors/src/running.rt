@@ -84,9 +84,11 @@ fn run_opened<D: Disk + Drop, J: Naming, R: Wait>(
     rt: &R,
     alloc: Global,
     opened: Opened<D>,
+    schema: &Schema,
     txns: &[Txn],
     into: &mut String,
 ) -> D
+    requires named { J.schema 0 ≡ schema.now }
     requires book { opened.book.past.seen.book ≡ J.book 0 }
     requires base { J.base 0 ≡ base_of opened }
     requires schema { IsSchema (J.schema 0) }
@@ -118,7 +120,7 @@ pub(crate) fn run<R: Wait>(
     requires of { All (IsTxnOf schema.now) txns.now }
 {
     match Opened::open(alloc, disk, schema) {
-        Ok(opened) => run_opened::<MemoryDisk, Brand, R>(rt, alloc, opened, txns, into),
+        Ok(opened) => run_opened::<MemoryDisk, Brand, R>(rt, alloc, opened, schema, txns, into),
         Err((disk, _)) => {
             let _ = into.push_str("not opened");
             disk
