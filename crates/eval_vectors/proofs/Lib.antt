@@ -1,2 +1,2 @@
+pub mod HeldRows
 pub mod Indexes
-pub mod Rows

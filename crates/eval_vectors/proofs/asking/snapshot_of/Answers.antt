@@ -1,6 +1,6 @@
 use Rattle.std.proofs.Common.{rules, ◌≡◌, ◌∷◌, [], subst, sym}
 use Rattle.doc_types.specs.Snapshots.{AreLayers}
-use Rattle.eval_vectors.proofs.Rows.{one_whole}
+use Rattle.eval_vectors.proofs.HeldRows.{one_whole}
 use Rattle.eval_vectors.proofs.asking.snapshot_of.Goals as goal
 
 pub invariant_of-result : goal.invariant_of-result

@@ -1,4 +1,4 @@
-use Rattle.eval_vectors.proofs.Rows.{content}
+use Rattle.eval_vectors.proofs.HeldRows.{content}
 use Rattle.eval_vectors.proofs.documents.built.Goals as goal
 
 pub build-requires : goal.build-requires

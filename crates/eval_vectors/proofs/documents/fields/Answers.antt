@@ -1,6 +1,6 @@
 use Rattle.std.proofs.Common.{All, sym, subst}
 use Rattle.eval_vectors.specs.steps.Reading.{IsShortField}
-use Rattle.eval_vectors.proofs.Rows.{more_short}
+use Rattle.eval_vectors.proofs.HeldRows.{more_short}
 use Rattle.eval_vectors.proofs.documents.fields.Goals as goal
 
 pub texts-preserved : goal.texts-preserved

@@ -1,4 +1,4 @@
-use Rattle.eval_vectors.proofs.Rows.{all_below}
+use Rattle.eval_vectors.proofs.HeldRows.{all_below}
 use Rattle.eval_vectors.proofs.documents.goes_on.Goals as goal
 
 pub returns-in-Some : goal.returns-in-Some

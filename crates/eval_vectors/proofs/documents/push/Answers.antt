@@ -1,7 +1,7 @@
 use Rattle.std.proofs.Common.{◌<◌, List, All, length, arith, sym, subst}
 use Rattle.doc_types.specs.declared.documents.DocRow.{DocRow}
 use Rattle.eval_vectors.specs.steps.Reading.{AreFewRows}
-use Rattle.eval_vectors.proofs.Rows.{pushed}
+use Rattle.eval_vectors.proofs.HeldRows.{pushed}
 use Rattle.eval_vectors.proofs.documents.push.Goals as goal
 
 pub returns : goal.returns

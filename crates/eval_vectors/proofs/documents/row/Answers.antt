@@ -1,6 +1,6 @@
 use Rattle.std.proofs.Common.{◌≡◌, ◌∙◌, All, length, ap, sym, subst, arith}
 use Rattle.eval_vectors.specs.steps.Reading.{IsShortField}
-use Rattle.eval_vectors.proofs.Rows.{short_row}
+use Rattle.eval_vectors.proofs.HeldRows.{short_row}
 use Rattle.eval_vectors.proofs.documents.row.Goals as goal
 
 pub returns : goal.returns
