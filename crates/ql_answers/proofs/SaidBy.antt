@@ -1,17 +1,25 @@
 -- A reply that a plan has is one that it is answered by.
-use Rattle.std.proofs.Common.{◌≡◌, ℕ, Option, None, sym, subst, refl}
+use Rattle.std.proofs.Common.{◌≡◌, ℕ, Option, None, Some, false, sym, subst, refl, rules}
+use Rattle.std.specs.Prelude.{Result, Ok, Err, IfOk, OnErr, OnOk}
+use Rattle.doc_types.specs.Snapshots.{SnapshotValue, all_living}
 use Rattle.commit_outcomes.specs.declared.outcome.CommitOutcome.{CommitOutcome}
 use Rattle.commit_outcomes.specs.declared.outcome.CommitOutcome.TheVariants as outcomes
 use Rattle.commit_outcomes.specs.declared.outcome.Doubt.TheVariants as doubts
-use Rattle.reply_rows.specs.Written.{Written}
+use Rattle.reply_rows.specs.ResultSets.{sets_payloads}
+use Rattle.reply_rows.specs.Written.{Written, then_reply}
+use Rattle.table_search.specs.Tables.{AreTables}
+use Rattle.table_search.specs.declared.found.Found.{Found}
+use Rattle.ql_select.specs.declared.selection.Selection.{Selection}
 use Rattle.ql_answers.specs.declared.meta.Meta.{Meta}
 use Rattle.ql_answers.specs.declared.plan.Counted.{Counted}
 use Rattle.ql_answers.specs.declared.plan.Plan.{Plan}
 use Rattle.ql_answers.specs.declared.plan.Plan.TheVariants.{Agree, Commit, Keep, Put, Search, Show, Status}
 use Rattle.ql_refusals.specs.Refusals.{no_memory}
-use Rattle.ql_answers.specs.Replies.{Reply, Fails, replied}
-use Rattle.ql_answers.specs.Sessions.{Committing, Decides, Happened, NoMemory, reply_to_commit, told_by}
-use Rattle.ql_answers.specs.steps.Answering.{Says}
+use Rattle.ql_answers.specs.Metas.{meta_of}
+use Rattle.ql_answers.specs.Reading.{found_sets}
+use Rattle.ql_answers.specs.Replies.{Reply, Fails, Finds, replied}
+use Rattle.ql_answers.specs.Sessions.{Committing, Decides, Happened, NoMemory, Read, reply_to_commit, told_by}
+use Rattle.ql_answers.specs.steps.Answering.{Says, SaysPlan}
 
 pub says_told : (plan given : Plan) (happened : Happened) (reply : Reply) (status : ℕ) (told : Option Meta) (before after : Written)
     → plan ≡ given → Decides given happened reply → after ≡ replied before status reply → told ≡ told_by reply → Says plan happened status told before after
@@ -40,6 +48,15 @@ says_commit plan given counted rows (outcomes.InDoubt doubts.Memory) status befo
     says_from plan given (Committing (outcomes.InDoubt doubts.Memory)) (reply_to_commit counted rows (outcomes.InDoubt doubts.Memory)) status before after is decides said
 says_commit plan given counted rows (outcomes.Strayed numbers) status before after is decides said =
     says_from plan given (Committing (outcomes.Strayed numbers)) (reply_to_commit counted rows (outcomes.Strayed numbers)) status before after is decides said
+
+-- a SELECT is answered by what was found, or memory was refused
+pub says_found : {E : Type 0} (index : ℕ) (selection : Selection) (front : SnapshotValue) (found : Found) (status : ℕ) (before after : Written) (result : Result (Option Meta) E)
+    → AreTables selection.asked (all_living front.layers) found → IfOk result (λ told. told ≡ Some (meta_of selection.asked found (all_living front.layers)))
+    → OnOk result (after ≡ then_reply before (sets_payloads status (found_sets selection found)) false) → OnErr result (after ≡ before)
+    → SaysPlan (Search index selection) (Read front) status result before after
+says_found index selection front found status before after (Ok told) are tells said unsaid =
+    (Finds (found_sets selection found) (meta_of selection.asked found (all_living front.layers)), (found, are, refl), said, tells)
+says_found index selection front found status before after (Err e) are tells said unsaid = (refl, search rules, unsaid)
 
 -- want of memory is told whatever the plan is
 pub no_memory_decides : (plan : Plan) → Decides plan NoMemory (Fails no_memory)

@@ -159,14 +159,27 @@ pub(crate) fn put_found(
 {
     let count = count_column(alloc)?;
     let mut tables = Vec::new(alloc);
+    push_tables(selection, found, &count, &mut tables)?;
+    replies.put_tables(alloc, tables.as_slice(), status)
+}
+
+/// Appends the table of what was found, then the facets.
+fn push_tables<'a>(
+    selection: &'a Selection,
+    found: &'a Found,
+    count: &'a Column,
+    tables: &mut Vec<ShownTable<'a>>,
+) -> Result<(), NoMemory>
+    requires { count.now ≡ count_column }
+    ensures { OnOk result (sets_of tables.new.items ≡ sets_of tables.old.items ++ found_sets selection.now found.now) }
+{
     tables.push(first_table(selection.shown.as_slice(), &found.table))?;
     push_facets(
         selection.facets.as_slice(),
         found.facets.as_slice(),
-        &count,
-        &mut tables,
-    )?;
-    replies.put_tables(alloc, tables.as_slice(), status)
+        count,
+        tables,
+    )
 }
 
 /// The documents or groups that are shown.

@@ -10,7 +10,6 @@ use ql_select::Selection;
 use reply_rows::ResultSet;
 
 /// What a statement wants of the outside, with what its reply needs beside that.
-#[derive(Drop)]
 pub enum Plan {
     /// Nothing: it is answered OK, and the transaction turns so.
     Agree(Turn),
@@ -53,6 +52,32 @@ pub enum Counted {
     Removed,
     /// None.
     Nothing,
+}
+
+// Not derived: so letting go of a plan is a call, and no caller's proof takes its kinds apart.
+impl Drop for Plan {
+    fn drop(self) {
+        match self {
+            Plan::Agree(_) => {}
+            Plan::Show(_set) => {}
+            Plan::Search {
+                index: _,
+                selection: _selection,
+            } => {}
+            Plan::Status { index: _ } => {}
+            Plan::Keep {
+                index: _,
+                txn: _txn,
+                affected: _,
+            } => {}
+            Plan::Put {
+                index: _,
+                txn: _txn,
+                counted: _,
+            } => {}
+            Plan::Commit { index: _, turn: _ } => {}
+        }
+    }
 }
 
 impl Plan {

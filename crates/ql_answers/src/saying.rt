@@ -1,12 +1,17 @@
 //! What is replied to a plan by what happened, a function for each kind of event: OK with the number of rows, a refusal,
 //! or a result set. Only events that the plan can have come here, so that no reply is made up for others. Result sets alone
 //! take memory.
-ghost use Rattle.std.specs.Prelude.{◌≡◌, IfOk, None};
-ghost use Rattle.reply_rows.specs.Written.{IsOpen};
-ghost use Rattle.doc_types.specs.Snapshots.{all_living};
+ghost use Rattle.std.specs.FinMap as finite;
+ghost use Rattle.std.specs.Prelude.{◌≡◌, ℕ, IfOk, None, OnErr, OnOk, Some, false};
+ghost use Rattle.reply_rows.specs.ResultSets.{sets_payloads};
+ghost use Rattle.reply_rows.specs.Written.{IsOpen, then_reply};
+ghost use Rattle.doc_types.specs.Snapshots.{all_living, live};
+ghost use Rattle.ql_answers.specs.declared.plan.Plan.TheVariants.{Search};
 ghost use Rattle.ql_answers.specs.Metas.{max_matches, meta_of};
-ghost use Rattle.ql_answers.specs.Replies.{replied};
-ghost use Rattle.ql_answers.specs.Sessions.{CanHave, Committing, Nothing, Read, happened_by, reply_to_commit};
+ghost use Rattle.ql_answers.specs.Reading.{found_sets};
+ghost use Rattle.ql_answers.specs.Replies.{Shows, replied};
+ghost use Rattle.ql_answers.specs.Sessions.{CanHave, CanSearch, Committing, Nothing, Read, disk_count, happened_by, reply_to_commit};
+ghost use Rattle.ql_answers.specs.Showing.{index_status};
 ghost use Rattle.ql_answers.specs.steps.Answering.{Says, SaysPlan};
 
 use crate::event::Event;
@@ -20,6 +25,7 @@ use doc_types::{HitLists, Snapshot};
 use ql_refusals::{
     disk_failed, disk_in_doubt, duplicate_id, index_full, memory_in_doubt, no_memory, strayed,
 };
+use ql_select::Selection;
 use reply_rows::Replies;
 use srch_base::NoMemory;
 use std::alloc::Global;
@@ -92,16 +98,9 @@ fn say_read<C: HitLists>(
     ensures { SaysPlan plan.now (Read snapshot.now) status result replies.old replies.new }
 {
     match plan {
-        Plan::Search { selection, .. } => {
-            let found = find_tables(alloc, &selection.asked, snapshot)?;
-            let meta = meta_of(alloc, &selection.asked, &found, snapshot)?;
-            put_found(alloc, selection, &found, status, replies)?;
-            Ok(Some(meta))
-        }
+        Plan::Search { selection, .. } => say_search(alloc, selection, snapshot, status, replies),
         Plan::Status { .. } => {
-            let documents = u64::from(snapshot.live_count());
-            let set = index_status(alloc, documents, u64::from(snapshot.disk_chunks()))?;
-            replies.put_set(alloc, &set, status)?;
+            say_status(alloc, snapshot, status, replies)?;
             Ok(None)
         }
         Plan::Agree(_)
@@ -110,6 +109,57 @@ fn say_read<C: HitLists>(
         | Plan::Put { .. }
         | Plan::Commit { .. } => unreachable!(),
     }
+}
+
+/// Replies to a SELECT with what it finds.
+fn say_search<C: HitLists>(
+    alloc: Global,
+    selection: &Selection,
+    snapshot: &Snapshot<C>,
+    status: u16,
+    replies: &mut Replies,
+) -> Result<Option<Meta>, NoMemory>
+    requires can { CanSearch selection.now.asked.question snapshot.now }
+    requires open { IsOpen replies.old }
+    ensures { (index : ℕ) → SaysPlan (Search index selection.now) (Read snapshot.now) status result replies.old replies.new }
+{
+    let found = find_tables(alloc, &selection.asked, snapshot)?;
+    say_found(alloc, selection, &found, snapshot, status, replies)
+}
+
+/// Replies to a SELECT with what was found, and gives what SHOW META tells of it.
+fn say_found<C: HitLists>(
+    alloc: Global,
+    selection: &Selection,
+    found: &Found,
+    snapshot: &Snapshot<C>,
+    status: u16,
+    replies: &mut Replies,
+) -> Result<Option<Meta>, NoMemory>
+    requires { IsOpen replies.old }
+    ensures told { IfOk result (λ told. told ≡ Some (meta_of selection.now.asked found.now (all_living snapshot.now.layers))) }
+    ensures ok { OnOk result (replies.new ≡ then_reply replies.old (sets_payloads status (found_sets selection.now found.now)) false) }
+    ensures err { OnErr result (replies.new ≡ replies.old) }
+{
+    let meta = meta_of(alloc, &selection.asked, found, snapshot)?;
+    put_found(alloc, selection, found, status, replies)?;
+    Ok(Some(meta))
+}
+
+/// Replies to SHOW INDEX STATUS.
+fn say_status<C: HitLists>(
+    alloc: Global,
+    snapshot: &Snapshot<C>,
+    status: u16,
+    replies: &mut Replies,
+) -> Result<(), NoMemory>
+    requires { IsOpen replies.old }
+    ensures ok { OnOk result (replies.new ≡ replied replies.old status (Shows (index_status (finite.len (live snapshot.now)) (disk_count snapshot.now)))) }
+    ensures err { OnErr result (replies.new ≡ replies.old) }
+{
+    let documents = u64::from(snapshot.live_count());
+    let set = index_status(alloc, documents, u64::from(snapshot.disk_chunks()))?;
+    replies.put_set(alloc, &set, status)
 }
 
 /// What SHOW META tells of a SELECT.

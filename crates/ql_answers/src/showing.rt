@@ -7,7 +7,7 @@ ghost use Rattle.ql_answers.specs.Showing.{current_database, databases, descript
 
 use crate::indexes::Catalog;
 use crate::meta::Meta;
-use crate::text_sets::{pair, single, text_columns};
+use crate::text_sets::{put_pair, single_row, text_set};
 use doc_types::{AttrKind, Schema};
 use itoa::Buffer;
 use mysql_wire::Cell;
@@ -26,14 +26,11 @@ pub(crate) fn variable(
     ensures { IfOk result (λ set. set ≡ variable name.now limit) }
 {
     let column = variable_column(alloc, name)?;
-    let columns = text_columns(alloc, &[column.as_slice()])?;
-    let mut rows = Vec::new(alloc);
-    match limit {
-        Some(0) => {}
-        _ => rows.push(single(alloc, variable_value(name))?)?,
-    }
-    let rows = Items::new(rows);
-    Ok(ResultSet { columns, rows })
+    let rows = match limit {
+        Some(0) => Items::new(Vec::new(alloc)),
+        _ => single_row(alloc, variable_value(name))?,
+    };
+    text_set(alloc, &[column.as_slice()], rows)
 }
 
 fn variable_column(alloc: Global, name: &[u8]) -> Result<Vec<u8>, NoMemory>
@@ -63,41 +60,33 @@ fn variable_value(name: &[u8]) -> &'static [u8]
 pub(crate) fn current_database(alloc: Global) -> Result<ResultSet, NoMemory>
     ensures { IfOk result (λ set. set ≡ current_database) }
 {
-    let columns = text_columns(alloc, &[b"database()"])?;
-    let mut rows = Vec::new(alloc);
-    rows.push(single(alloc, b"")?)?;
-    let rows = Items::new(rows);
-    Ok(ResultSet { columns, rows })
+    let rows = single_row(alloc, b"")?;
+    text_set(alloc, &[b"database()"], rows)
 }
 
 /// SHOW DATABASES.
 pub(crate) fn databases(alloc: Global) -> Result<ResultSet, NoMemory>
     ensures { IfOk result (λ set. set ≡ databases) }
 {
-    let columns = text_columns(alloc, &[b"Database"])?;
-    let rows = Items::new(Vec::new(alloc));
-    Ok(ResultSet { columns, rows })
+    text_set(alloc, &[b"Database"], Items::new(Vec::new(alloc)))
 }
 
 /// SHOW WARNINGS.
 pub(crate) fn warnings(alloc: Global) -> Result<ResultSet, NoMemory>
     ensures { IfOk result (λ set. set ≡ warnings) }
 {
-    let columns = text_columns(alloc, &[b"Level", b"Code", b"Message"])?;
     let rows = Items::new(Vec::new(alloc));
-    Ok(ResultSet { columns, rows })
+    text_set(alloc, &[b"Level", b"Code", b"Message"], rows)
 }
 
 /// SHOW VARIABLES.
 pub(crate) fn variables(alloc: Global, autocommit: bool) -> Result<ResultSet, NoMemory>
     ensures { IfOk result (λ set. set ≡ variables autocommit) }
 {
-    let columns = text_columns(alloc, &[b"Variable_name", b"Value"])?;
     let value: &[u8] = if autocommit { b"1" } else { b"0" };
     let mut rows = Vec::new(alloc);
-    rows.push(pair(alloc, b"autocommit", value)?)?;
-    let rows = Items::new(rows);
-    Ok(ResultSet { columns, rows })
+    put_pair(alloc, b"autocommit", value, &mut rows)?;
+    text_set(alloc, &[b"Variable_name", b"Value"], Items::new(rows))
 }
 
 /// SHOW INDEX STATUS: how many documents live, and how many chunks are on the disk.
@@ -108,27 +97,29 @@ pub(crate) fn index_status(
 ) -> Result<ResultSet, NoMemory>
     ensures { IfOk result (λ set. set ≡ index_status documents chunks) }
 {
-    let columns = text_columns(alloc, &[b"Variable_name", b"Value"])?;
+    let rows = status_rows(alloc, documents, chunks)?;
+    text_set(alloc, &[b"Variable_name", b"Value"], rows)
+}
+
+fn status_rows(alloc: Global, documents: u64, chunks: u64) -> Result<Items<Items<Cell>>, NoMemory>
+    ensures { IfOk result (λ rows. rows ≡ (index_status documents chunks).rows) }
+{
     let mut number = Buffer::new();
     let mut rows = Vec::new(alloc);
-    rows.push(pair(alloc, b"index_type", b"rt")?)?;
-    rows.push(pair(
-        alloc,
-        b"indexed_documents",
-        number.format(documents).as_bytes(),
-    )?)?;
-    rows.push(pair(alloc, b"disk_chunks", number.format(chunks).as_bytes())?)?;
-    let rows = Items::new(rows);
-    Ok(ResultSet { columns, rows })
+    put_pair(alloc, b"index_type", b"rt", &mut rows)?;
+    let shown = number.format(documents).as_bytes();
+    put_pair(alloc, b"indexed_documents", shown, &mut rows)?;
+    let shown = number.format(chunks).as_bytes();
+    put_pair(alloc, b"disk_chunks", shown, &mut rows)?;
+    Ok(Items::new(rows))
 }
 
 /// SHOW TABLES.
 pub(crate) fn tables<T: Catalog>(alloc: Global, catalog: &T) -> Result<ResultSet, NoMemory>
     ensures { IfOk result (λ set. set ≡ tables (T.confs catalog.now)) }
 {
-    let columns = text_columns(alloc, &[b"Index", b"Type"])?;
     let rows = index_rows(alloc, catalog)?;
-    Ok(ResultSet { columns, rows })
+    text_set(alloc, &[b"Index", b"Type"], rows)
 }
 
 fn index_rows<T: Catalog>(alloc: Global, catalog: &T) -> Result<Items<Items<Cell>>, NoMemory>
@@ -137,7 +128,7 @@ fn index_rows<T: Catalog>(alloc: Global, catalog: &T) -> Result<Items<Items<Cell
     let mut rows = Vec::new(alloc);
     'indexes: for index in 0..catalog.count() {
         let conf = catalog.conf(index);
-        rows.push(pair(alloc, conf.schema.name.as_bytes(), b"rt")?)?;
+        put_pair(alloc, conf.schema.name.as_bytes(), b"rt", &mut rows)?;
     }
     Ok(Items::new(rows))
 }
@@ -146,21 +137,20 @@ fn index_rows<T: Catalog>(alloc: Global, catalog: &T) -> Result<Items<Items<Cell
 pub(crate) fn description(alloc: Global, schema: &Schema) -> Result<ResultSet, NoMemory>
     ensures { IfOk result (λ set. set ≡ description schema.now) }
 {
-    let columns = text_columns(alloc, &[b"Field", b"Type"])?;
     let rows = description_rows(alloc, schema)?;
-    Ok(ResultSet { columns, rows })
+    text_set(alloc, &[b"Field", b"Type"], rows)
 }
 
 fn description_rows(alloc: Global, schema: &Schema) -> Result<Items<Items<Cell>>, NoMemory>
     ensures { IfOk result (λ rows. rows ≡ description_rows schema.now) }
 {
     let mut rows = Vec::new(alloc);
-    rows.push(pair(alloc, ID, b"bigint")?)?;
+    put_pair(alloc, ID, b"bigint", &mut rows)?;
     'fields: for field in schema.fields.as_slice() {
-        rows.push(pair(alloc, field.as_bytes(), b"field")?)?;
+        put_pair(alloc, field.as_bytes(), b"field", &mut rows)?;
     }
     'attrs: for attr in schema.attrs.as_slice() {
-        rows.push(pair(alloc, attr.0.as_bytes(), kind_text(attr.1))?)?;
+        put_pair(alloc, attr.0.as_bytes(), kind_text(attr.1), &mut rows)?;
     }
     Ok(Items::new(rows))
 }
@@ -181,12 +171,11 @@ fn kind_text(kind: AttrKind) -> &'static [u8]
 pub(crate) fn meta(alloc: Global, told: &Option<Meta>) -> Result<ResultSet, NoMemory>
     ensures { IfOk result (λ set. set ≡ meta_set told.now) }
 {
-    let columns = text_columns(alloc, &[b"Variable_name", b"Value"])?;
     let rows = match told {
         Some(meta) => meta_rows(alloc, meta)?,
         None => Items::new(Vec::new(alloc)),
     };
-    Ok(ResultSet { columns, rows })
+    text_set(alloc, &[b"Variable_name", b"Value"], rows)
 }
 
 fn meta_rows(alloc: Global, meta: &Meta) -> Result<Items<Items<Cell>>, NoMemory>
@@ -194,12 +183,10 @@ fn meta_rows(alloc: Global, meta: &Meta) -> Result<Items<Items<Cell>>, NoMemory>
 {
     let mut number = Buffer::new();
     let mut rows = Vec::new(alloc);
-    rows.push(pair(alloc, b"total", number.format(meta.total).as_bytes())?)?;
-    rows.push(pair(
-        alloc,
-        b"total_found",
-        number.format(meta.total_found).as_bytes(),
-    )?)?;
+    let shown = number.format(meta.total).as_bytes();
+    put_pair(alloc, b"total", shown, &mut rows)?;
+    let shown = number.format(meta.total_found).as_bytes();
+    put_pair(alloc, b"total_found", shown, &mut rows)?;
     put_words(alloc, meta.words.as_slice(), 0, &mut rows)?;
     Ok(Items::new(rows))
 }
@@ -239,11 +226,23 @@ fn put_word(
     ensures { OnOk result (rows.new.items ≡ rows.old.items ++ keyword_row number word.now ∷ [] ++ docs_row number word.now ∷ []) }
 {
     let mut docs = Buffer::new();
-    let keyword = numbered(alloc, b"keyword[", number)?;
-    rows.push(pair(alloc, keyword.as_slice(), word.word.as_bytes())?)?;
-    let counted = numbered(alloc, b"docs[", number)?;
-    rows.push(pair(alloc, counted.as_slice(), docs.format(word.docs).as_bytes())?)?;
-    Ok(())
+    put_numbered(alloc, b"keyword[", number, word.word.as_bytes(), rows)?;
+    let counted = docs.format(word.docs).as_bytes();
+    put_numbered(alloc, b"docs[", number, counted, rows)
+}
+
+/// Appends a row of a text under a name with a number.
+fn put_numbered(
+    alloc: Global,
+    name: &[u8],
+    number: u64,
+    text: &[u8],
+    rows: &mut Vec<Items<Cell>>,
+) -> Result<(), NoMemory>
+    ensures { OnOk result (rows.new.items ≡ rows.old.items ++ pair (numbered name.now number) text.now ∷ []) }
+{
+    let name = numbered(alloc, name, number)?;
+    put_pair(alloc, name.as_slice(), text, rows)
 }
 
 /// A name with a number in brackets, of which the first stands in the name.

@@ -4,3 +4,5 @@ pub mod Aliases
 pub mod Naming
 -- what is answered to the text of a MATCH
 pub mod Texts
+-- what a SELECT means, all but its query
+pub mod Rests

@@ -1,5 +1,5 @@
 //! The conditions of a SELECT: its MATCH, and those on columns.
-ghost use Rattle.std.specs.Prelude.{◌≡◌, ◌++◌, IfOk, OnOk, ◌<◌, ◌^◌, length, fold};
+ghost use Rattle.std.specs.Prelude.{◌≡◌, ◌++◌, [], ◌∷◌, IfOk, OnOk, ◌<◌, ◌^◌, length, fold};
 ghost use Rattle.std.specs.List.{flat_map};
 ghost use Rattle.ql_select.specs.Faults.{cond_faults};
 ghost use Rattle.ql_select.specs.FirstFaults.{sooner};
@@ -55,27 +55,46 @@ fn put_filter(
     ensures faults { OnOk result (faults.new.fault ≡ fold sooner faults.old.fault (cond_faults schema.now cond.now)) }
 {
     match cond {
-        Cond::Match(_) => {}
-        Cond::Compare { name, op, value } => filters.push(Filter::Compare {
-            column: column_of(schema, name.as_bytes(), faults),
-            op: operator(*op),
-            value: *value,
-        })?,
+        Cond::Match(_) => Ok(()),
+        Cond::Compare { name, op, value } => {
+            let column = column_of(schema, name.as_bytes(), faults);
+            let compare = Filter::Compare {
+                column,
+                op: operator(*op),
+                value: *value,
+            };
+            put(compare, filters)
+        }
         Cond::Among {
             name,
             values,
             negated,
-        } => filters.push(Filter::Among {
-            column: column_of(schema, name.as_bytes(), faults),
-            values: values.clone()?,
-            negated: *negated,
-        })?,
-        Cond::Between { name, low, high } => filters.push(Filter::Between {
-            column: column_of(schema, name.as_bytes(), faults),
-            low: *low,
-            high: *high,
-        })?,
+        } => {
+            let column = column_of(schema, name.as_bytes(), faults);
+            let among = Filter::Among {
+                column,
+                values: values.clone()?,
+                negated: *negated,
+            };
+            put(among, filters)
+        }
+        Cond::Between { name, low, high } => {
+            let column = column_of(schema, name.as_bytes(), faults);
+            let between = Filter::Between {
+                column,
+                low: *low,
+                high: *high,
+            };
+            put(between, filters)
+        }
     }
+}
+
+/// Appends a condition on a column.
+fn put(filter: Filter, filters: &mut Vec<Filter>) -> Result<(), NoMemory>
+    ensures { OnOk result (filters.new.items ≡ filters.old.items ++ filter ∷ []) }
+{
+    filters.push(filter)?;
     Ok(())
 }
 

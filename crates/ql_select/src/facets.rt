@@ -1,5 +1,5 @@
 //! The facets of a SELECT. "SELECT syntax" of the manual: FACET.
-ghost use Rattle.std.specs.Prelude.{◌≡◌, ◌<◌, ◌^◌, IfOk, OnOk, length, map, fold};
+ghost use Rattle.std.specs.Prelude.{◌≡◌, ◌<◌, ◌^◌, ◌++◌, [], ◌∷◌, IfOk, OnOk, length, map, fold};
 ghost use Rattle.std.specs.List.{flat_map};
 ghost use Rattle.ql_select.specs.Facets.{by_count, counted, facet_column, facet_descends, facet_of};
 ghost use Rattle.ql_select.specs.Faults.{facet_faults, facet_key_fault, facet_order_fault};
@@ -31,14 +31,31 @@ pub(crate) fn facets_of(
     let mut facets = Vec::with_capacity(alloc, parts.len())?;
     let mut columns = Vec::with_capacity(alloc, parts.len())?;
     'parts: for part in parts {
-        let facet = facet_of(schema, part, faults);
-        facets.push(facet)?;
-        columns.push(Column {
-            name: part.column.clone()?,
-            kind: column_kind(schema, facet.column),
-        })?;
+        put_facet(schema, part, &mut facets, &mut columns, faults)?;
     }
     Ok((Items::new(facets), Items::new(columns)))
+}
+
+/// Appends the facet that a part asks for, and the column of its values.
+fn put_facet(
+    schema: &Schema,
+    part: &FacetPart,
+    facets: &mut Vec<Facet>,
+    columns: &mut Vec<Column>,
+    faults: &mut FirstFault,
+) -> Result<(), NoMemory>
+    requires few { length schema.now.attrs < 2 ^ 16 }
+    ensures facets { OnOk result (facets.new.items ≡ facets.old.items ++ facet_of schema.now part.now ∷ []) }
+    ensures columns { OnOk result (columns.new.items ≡ columns.old.items ++ facet_column schema.now part.now ∷ []) }
+    ensures faults { OnOk result (faults.new.fault ≡ fold sooner faults.old.fault (facet_faults schema.now part.now)) }
+{
+    let facet = facet_of(schema, part, faults);
+    facets.push(facet)?;
+    columns.push(Column {
+        name: part.column.clone()?,
+        kind: column_kind(schema, facet.column),
+    })?;
+    Ok(())
 }
 
 /// The facet that a part asks for.

@@ -45,26 +45,25 @@ pub(crate) fn note_options(schema: &Schema, options: &[SelectOption], faults: &m
 fn option_names_fault(options: &[SelectOption]) -> Option<Refusal>
     ensures { result ≡ first_of option_name_fault options.now }
 {
-    options.iter().find_map(|option| option_name_fault(option))
-}
-
-fn option_name_fault(option: &SelectOption) -> Option<Refusal>
-    ensures { result ≡ option_name_fault option.now }
-{
-    if is_option(option.name.as_bytes()) {
-        None
-    } else {
-        Some(unknown_option(option.name.as_bytes()))
+    'options: for option in options {
+        let name = option.name.as_bytes();
+        if !is_option(name) {
+            return Some(unknown_option(name));
+        }
     }
+    None
 }
 
 /// The first fault of the options' values.
 fn options_fault(pass: Pass, schema: &Schema, options: &[SelectOption]) -> Option<Refusal>
     ensures { result ≡ first_of (option_fault pass schema.now) options.now }
 {
-    options
-        .iter()
-        .find_map(|option| option_fault(pass, schema, option))
+    'options: for option in options {
+        if let Some(refusal) = option_fault(pass, schema, option) {
+            return Some(refusal);
+        }
+    }
+    None
 }
 
 fn option_fault(pass: Pass, schema: &Schema, option: &SelectOption) -> Option<Refusal>
@@ -131,13 +130,23 @@ fn weight_names_fault(schema: &Schema, list: &[(Name, u64)]) -> Option<Refusal>
 fn is_weighed(list: &[(Name, u64)], name: &[u8]) -> bool
     ensures { result ≡ is_weighed list.now name.now }
 {
-    list.iter().any(|given| given.0.as_bytes() == name)
+    'list: for given in list {
+        if given.0.as_bytes() == name {
+            return true;
+        }
+    }
+    false
 }
 
 fn weights_fault(schema: &Schema, list: &[(Name, u64)]) -> Option<Refusal>
     ensures { result ≡ first_of (weight_fault schema.now) list.now }
 {
-    list.iter().find_map(|given| weight_fault(schema, given))
+    'list: for given in list {
+        if let Some(refusal) = weight_fault(schema, given) {
+            return Some(refusal);
+        }
+    }
+    None
 }
 
 /// A weight is given to a field, and is 1 to 65,535.

@@ -37,7 +37,12 @@ fn is_grouped(names: &Names) -> bool
 fn has_fold(sources: &[Source]) -> bool
     ensures { result ≡ list_any is_fold sources.now }
 {
-    sources.iter().any(|source| is_fold(*source))
+    'sources: for source in sources {
+        if is_fold(*source) {
+            return true;
+        }
+    }
+    false
 }
 
 /// The aggregate that an item is.
@@ -61,7 +66,13 @@ pub(crate) fn is_fold(source: Source) -> bool
 fn folds_in(sources: &[Source]) -> usize
     ensures count { result ≡ folds_in sources.now }
 {
-    sources.iter().filter(|source| is_fold(**source)).count()
+    let mut count = 0;
+    'sources: for source in sources {
+        if is_fold(*source) {
+            count += 1;
+        }
+    }
+    count
 }
 
 /// What an item is of a group, after so many aggregates.
@@ -125,13 +136,23 @@ pub(crate) fn row_order(alloc: Global, names: &Names) -> Result<Order, NoMemory>
     ensures { IfOk result (λ order. order ≡ row_order names.now) }
 {
     let shown = keys_of(alloc, names.sources.as_slice(), names.order.as_slice())?;
+    Ok(Order {
+        keys: best_keys(alloc, shown.as_slice())?,
+    })
+}
+
+/// The keys of rows that are shown.
+fn best_keys(
+    alloc: Global,
+    shown: &[(GroupColumn, bool)],
+) -> Result<Items<(ColumnRef, bool)>, NoMemory>
+    ensures { IfOk result (λ keys. keys ≡ map (λ key. (best_column key.0, key.1)) shown.now) }
+{
     let mut keys = Vec::with_capacity(alloc, shown.len())?;
-    'shown: for (column, descends) in shown.as_slice() {
+    'shown: for (column, descends) in shown {
         keys.push((best_column(*column), *descends))?;
     }
-    Ok(Order {
-        keys: Items::new(keys),
-    })
+    Ok(Items::new(keys))
 }
 
 /// The column of rows that is shown.
@@ -184,7 +205,12 @@ fn counts_hidden(names: &Names) -> bool
 fn orders_count(order: &[(KeySource, bool)]) -> bool
     ensures { result ≡ list_any (λ key. is_count key.0) order.now }
 {
-    order.iter().any(|key| is_count(key.0))
+    'order: for key in order {
+        if is_count(key.0) {
+            return true;
+        }
+    }
+    false
 }
 
 fn having_counts(having: &Option<HavingSource>) -> bool

@@ -2,8 +2,8 @@
 //! why it is refused.
 //!
 //! Everything here follows from the text and the configuration alone. A SELECT is gone over once, from left to right: each name is
-//! turned into what it means, and of the faults the one that decides is kept. Then comes the text of its MATCH, and then what the
-//! names mean together.
+//! turned into what it means, and of the faults the one that decides is kept. Then comes what the names mean together, and last
+//! the text of its MATCH.
 #![tactic(auto)]
 
 mod aliases;
@@ -18,6 +18,7 @@ mod limits;
 mod names;
 mod naming;
 mod options;
+mod rest;
 mod selecting;
 mod selection;
 mod showing;

@@ -91,19 +91,34 @@ fn wants_groups(select: &Select) -> bool
 fn has_key(items: &[SelectItem]) -> bool
     ensures { result ≡ list_any lists_key items.now }
 {
-    items.iter().any(|item| lists_key(item))
+    'items: for item in items {
+        if lists_key(item) {
+            return true;
+        }
+    }
+    false
 }
 
 fn has_aggregate(items: &[SelectItem]) -> bool
     ensures { result ≡ list_any lists_aggregate items.now }
 {
-    items.iter().any(|item| lists_aggregate(item))
+    'items: for item in items {
+        if lists_aggregate(item) {
+            return true;
+        }
+    }
+    false
 }
 
 fn orders_count(keys: &[SortKey]) -> bool
     ensures { result ≡ list_any (λ key. is_count key.by) keys.now }
 {
-    keys.iter().any(|key| is_count(key))
+    'keys: for key in keys {
+        if is_count(key) {
+            return true;
+        }
+    }
+    false
 }
 
 fn lists_key(item: &SelectItem) -> bool
@@ -146,7 +161,13 @@ fn is_count(key: &SortKey) -> bool
 fn count_matches(conds: &[Cond]) -> usize
     ensures { result ≡ count_by is_match conds.now }
 {
-    conds.iter().filter(|cond| is_match(cond)).count()
+    let mut count = 0;
+    'conds: for cond in conds {
+        if is_match(cond) {
+            count += 1;
+        }
+    }
+    count
 }
 
 fn is_match(cond: &Cond) -> bool

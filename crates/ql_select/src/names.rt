@@ -1,4 +1,6 @@
 //! A SELECT with its names turned into what they mean. Nothing after this looks a name up.
+ghost use Rattle.std.specs.Prelude.{◌≡◌};
+
 use group_facet::{Facet, Fold};
 use mysql_wire::Column;
 use row_select::{ColumnRef, CompareOp, Filter};
@@ -36,7 +38,6 @@ pub struct HavingSource {
 }
 
 /// The names of a SELECT, by what they mean.
-#[derive(Drop)]
 pub struct Names {
     /// One for each item of the list.
     pub sources: Items<Source>,
@@ -51,4 +52,39 @@ pub struct Names {
     pub facets: Items<Facet>,
     /// The column of each facet's values.
     pub facet_columns: Items<Column>,
+}
+
+impl Names {
+    /// What a selection has as it stands here: the conditions, the facets, and the columns of the facets' values.
+    pub(crate) fn into_kept(self) -> (Items<Filter>, Items<Facet>, Items<Column>)
+        ensures { result ≡ (self.filters, self.facets, self.facet_columns) }
+    {
+        let Names {
+            sources: _sources,
+            filters,
+            group: _,
+            within: _within,
+            having: _,
+            order: _order,
+            facets,
+            facet_columns,
+        } = self;
+        (filters, facets, facet_columns)
+    }
+}
+
+// Not derived: so letting go of names is a call, and no caller's proof takes their lists apart.
+impl Drop for Names {
+    fn drop(self) {
+        let Names {
+            sources: _sources,
+            filters: _filters,
+            group: _,
+            within: _within,
+            having: _,
+            order: _order,
+            facets: _facets,
+            facet_columns: _facet_columns,
+        } = self;
+    }
 }

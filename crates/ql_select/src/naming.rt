@@ -2,7 +2,7 @@
 //!
 //! A name that means nothing is noted as a fault, and stands for the id meanwhile: a SELECT with a fault is refused at the end, by
 //! the one that decides.
-ghost use Rattle.std.specs.Prelude.{◌≡◌, ◌<◌, ◌^◌, IfOk, OnOk, None, length, fold};
+ghost use Rattle.std.specs.Prelude.{◌≡◌, ◌<◌, ◌^◌, IfOk, OnOk, None, false, true, length, fold};
 ghost use Rattle.std.specs.List.{flat_map};
 ghost use Rattle.std.specs.Option.{option_map};
 ghost use Rattle.ql_select.specs.Faults.{expr_faults, faults_of, item_faults, name_faults};
@@ -59,21 +59,31 @@ fn go_over(
     let items = select.items.as_slice();
     let aliases = Aliases::of(alloc, false, items)?;
     let row_aliases = Aliases::of(alloc, true, items)?;
+    go_over_with(alloc, schema, select, &aliases, &row_aliases, faults)
+}
 
-    let sources = sources_of(alloc, schema, items, faults)?;
+/// The names of a SELECT whose list has these aliases, while its faults are noted.
+fn go_over_with(
+    alloc: Global,
+    schema: &Schema,
+    select: &Select,
+    aliases: &Aliases<'_>,
+    row_aliases: &Aliases<'_>,
+    faults: &mut FirstFault,
+) -> Result<Names, NoMemory>
+    requires few { length schema.now.attrs < 2 ^ 16 }
+    requires aliases { aliases.now ≡ (false, select.now.items) }
+    requires row_aliases { row_aliases.now ≡ (true, select.now.items) }
+    ensures names { IfOk result (λ names. names ≡ names_of schema.now select.now) }
+    ensures faults { OnOk result (faults.new.fault ≡ fold sooner faults.old.fault (faults_of schema.now select.now)) }
+{
+    let sources = sources_of(alloc, schema, select.items.as_slice(), faults)?;
     let filters = filters_of(alloc, schema, select.conds.as_slice(), faults)?;
     let group = group_of(schema, &select.group, faults);
     let keys = select.within.as_slice();
-    let within = within_of(
-        alloc,
-        schema,
-        &row_aliases,
-        sources.as_slice(),
-        keys,
-        faults,
-    )?;
-    let having = having_of(schema, &aliases, &select.having, faults);
-    let order = order_of(alloc, schema, &aliases, select.order.as_slice(), faults)?;
+    let within = within_of(alloc, schema, row_aliases, sources.as_slice(), keys, faults)?;
+    let having = having_of(schema, aliases, &select.having, faults);
+    let order = order_of(alloc, schema, aliases, select.order.as_slice(), faults)?;
     note_options(schema, select.options.as_slice(), faults);
     let (facets, facet_columns) = facets_of(alloc, schema, select.facets.as_slice(), faults)?;
     faults.note_any(FaultClass::Limit, limits_fault(schema, select));

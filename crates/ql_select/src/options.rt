@@ -120,8 +120,10 @@ fn weight_for(given: &[(Name, u64)], field: &[u8]) -> u32
     requires small { All (λ one. one.1 ≤ 65535) given.now }
     ensures { result ≡ weight_for given.now field.now }
 {
-    match given.iter().find(|one| one.0.as_bytes() == field) {
-        Some(one) => one.1 as u32,
-        None => 1,
+    'given: for one in given {
+        if one.0.as_bytes() == field {
+            return one.1 as u32;
+        }
     }
+    1
 }

@@ -1,9 +1,11 @@
-//! A SELECT from an index, taken as a whole.
+//! A SELECT from an index, taken as a whole: its names, what they mean together, and last the query that its text is. So nothing
+//! that is made after the query can fail, and no proof has to let go of a query's tree.
 ghost use Rattle.std.specs.Prelude.{◌≡◌, ◌<◌, ◌^◌, None, length, IfOk};
 ghost use Rattle.doc_types.specs.Schemas.{IsSchema};
 ghost use Rattle.ql_select.specs.Faults.{select_fault};
 ghost use Rattle.ql_select.specs.Names.{names_of};
-ghost use Rattle.ql_select.specs.Selections.{MeansOr, selection_of};
+ghost use Rattle.ql_select.specs.Selections.{MeansOr};
+ghost use Rattle.ql_select.specs.steps.Rests.{rest_of};
 ghost use Rattle.ql_select.specs.steps.Texts.{ReadsText};
 
 use crate::conditions::match_text;
@@ -12,9 +14,9 @@ use crate::limits::page_of;
 use crate::names::Names;
 use crate::naming::names_of;
 use crate::options::{ranker_of, weights_of};
+use crate::rest::Rest;
 use crate::selection::Selection;
 use crate::showing::columns_shown;
-use doc_search::Question;
 use index_conf::IndexConf;
 use op_eval::for_schema;
 use ql_refusals::{Refusal, bad_query, wrong_kind};
@@ -23,7 +25,6 @@ use query_read::read_query;
 use query_tree::Query;
 use srch_base::{NoMemory, Or};
 use std::alloc::Global;
-use table_search::Asked;
 
 /// What a SELECT from this index means, or why it is refused.
 ///
@@ -33,8 +34,10 @@ pub fn select(alloc: Global, conf: &IndexConf, select: &Select) -> Result<Select
     ensures { MeansOr conf.now select.now result }
 {
     let names = names_of(alloc, &conf.schema, select)?;
+    let rest = rest_of(alloc, conf, select, names)?;
     let query = query_of(alloc, conf, match_text(select.conds.as_slice()))?;
-    Ok(selection_of(alloc, conf, select, names, query)?)
+    let query = for_schema(alloc, query, &conf.schema)?;
+    Ok(rest.with_query(query))
 }
 
 /// The query that a text is.
@@ -56,43 +59,32 @@ fn query_of(alloc: Global, conf: &IndexConf, text: &[u8]) -> Result<Query, Or<Re
     }
 }
 
-/// What a SELECT means that nothing is wrong with, by its names and the query that its text is.
-fn selection_of(
-    alloc: Global,
-    conf: &IndexConf,
-    select: &Select,
-    names: Names,
-    query: Query,
-) -> Result<Selection, NoMemory>
+/// What a SELECT means that nothing is wrong with, all but its query, by its names.
+fn rest_of(alloc: Global, conf: &IndexConf, select: &Select, names: Names) -> Result<Rest, NoMemory>
     requires few { length conf.now.schema.attrs < 2 ^ 16 }
     requires good { select_fault conf.now.schema select.now ≡ None }
     requires names { names ≡ names_of conf.now.schema select.now }
-    ensures { IfOk result (λ selection. selection ≡ selection_of conf.now select.now names query) }
+    ensures { IfOk result (λ rest. rest ≡ rest_of conf.now select.now names) }
 {
     let schema = &conf.schema;
     let options = select.options.as_slice();
     let items = select.items.as_slice();
     let page = page_of(select);
+    let weights = weights_of(alloc, schema, options)?;
     let order = row_order(alloc, &names)?;
-    let table = table_of(alloc, &names, page)?;
     let shown = columns_shown(alloc, schema, names.group, items, names.sources.as_slice())?;
-    let question = Question {
-        query: for_schema(alloc, query, schema)?,
+    let table = table_of(alloc, &names, page)?;
+    let (filters, facets, facet_columns) = names.into_kept();
+    Ok(Rest {
         ranker: ranker_of(options),
-        weights: weights_of(alloc, schema, options)?,
-        filters: names.filters,
+        weights,
+        filters,
         order,
         page,
         attrs: schema.attrs.len() as u16,
-    };
-    let asked = Asked {
-        question,
         table,
-        facets: names.facets,
-    };
-    Ok(Selection {
-        asked,
+        facets,
         shown,
-        facets: names.facet_columns,
+        facet_columns,
     })
 }

@@ -1,5 +1,5 @@
 //! The columns that a SELECT shows.
-ghost use Rattle.std.specs.Prelude.{◌≡◌, ◌++◌, ◌∷◌, [], IfOk, OnOk, ◌<◌, ◌^◌, length};
+ghost use Rattle.std.specs.Prelude.{◌≡◌, ◌++◌, ◌∷◌, [], IfOk, OnOk, ◌<◌, ◌^◌, length, unwrap_or};
 ghost use Rattle.ql_select.specs.Columns.{all_shown, call_name, columns_shown, fold_kind, item_shown, key_kind, own_name, row_shown, source_kind, wide_kind};
 ghost use Rattle.ql_select.specs.Groups.{folds_in};
 ghost use Rattle.ql_select.specs.Names.{sources_of};
@@ -62,20 +62,17 @@ fn show_item(
     ensures { OnOk result (shown.new.items ≡ shown.old.items ++ item_shown schema.now by before source item.now) }
 {
     match item {
-        SelectItem::All => show_all(alloc, schema, shown)?,
+        SelectItem::All => show_all(alloc, schema, shown),
         SelectItem::One { expr, alias } => {
-            let name = match alias {
-                Some(alias) => Name::from_slice(alloc, alias.as_bytes())?,
-                None => own_name(alloc, expr)?,
-            };
+            let name = name_shown(alloc, expr, alias)?;
             let kind = source_kind(schema, by, source);
             shown.push(Shown {
                 column: Column { name, kind },
                 from: source_column(before, source),
             })?;
+            Ok(())
         }
     }
-    Ok(())
 }
 
 /// Appends what `*` shows: the id, and the attributes in schema order.
@@ -83,29 +80,41 @@ fn show_all(alloc: Global, schema: &Schema, shown: &mut Vec<Shown>) -> Result<()
     requires few { length schema.now.attrs < 2 ^ 16 }
     ensures { OnOk result (shown.new.items ≡ shown.old.items ++ all_shown schema.now) }
 {
-    shown.push(row_shown(alloc, schema, ID, ColumnRef::Id)?)?;
+    put_row_shown(alloc, schema, ID, ColumnRef::Id, shown)?;
     'attrs: for (place, attr) in schema.attrs.as_slice().iter().enumerate() {
         let column = ColumnRef::Attr(place as u16);
-        shown.push(row_shown(alloc, schema, attr.0.as_bytes(), column)?)?;
+        put_row_shown(alloc, schema, attr.0.as_bytes(), column, shown)?;
     }
     Ok(())
 }
 
-/// A column of rows under a name.
-fn row_shown(
+/// Appends a column of rows under a name.
+fn put_row_shown(
     alloc: Global,
     schema: &Schema,
     name: &[u8],
     column: ColumnRef,
-) -> Result<Shown, NoMemory>
-    ensures { IfOk result (λ shown. shown ≡ row_shown schema.now name.now column) }
+    shown: &mut Vec<Shown>,
+) -> Result<(), NoMemory>
+    ensures { OnOk result (shown.new.items ≡ shown.old.items ++ row_shown schema.now name.now column ∷ []) }
 {
     let kind = column_kind(schema, column);
     let name = Name::from_slice(alloc, name)?;
-    Ok(Shown {
+    shown.push(Shown {
         column: Column { name, kind },
         from: GroupColumn::Best(column),
-    })
+    })?;
+    Ok(())
+}
+
+/// The name of an item's column: its alias, else its own.
+fn name_shown(alloc: Global, expr: &SelectExpr, alias: &Option<Name>) -> Result<Name, NoMemory>
+    ensures { IfOk result (λ name. name ≡ unwrap_or alias.now (own_name expr.now)) }
+{
+    match alias {
+        Some(alias) => Name::from_slice(alloc, alias.as_bytes()),
+        None => own_name(alloc, expr),
+    }
 }
 
 /// The name of an item without an alias: the item in small letters.

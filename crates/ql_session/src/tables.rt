@@ -1,7 +1,7 @@
 //! The indexes of a configuration with their documents, which are held in memory from the start of a run to its end.
 //!
 //! A statement finds an index by its place among the others, by `Catalog`; what it needs of the documents is found here.
-ghost use Rattle.std.specs.Prelude.{◌≡◌, ◌<◌, ◌^◌, ◌≤◌, All, IfOk, Some, length, map, slice_get};
+ghost use Rattle.std.specs.Prelude.{◌≡◌, ◌<◌, ◌^◌, ◌≤◌, ◌++◌, [], ◌∷◌, All, IfOk, OnOk, Some, length, map, slice_get};
 ghost use Rattle.std.specs.Arc.{arc_value};
 ghost use Rattle.doc_types.specs.Documents.{AreRowsOf};
 ghost use Rattle.doc_types.specs.Schemas.{AreZones, IsSchema};
@@ -32,16 +32,6 @@ struct Table {
 }
 
 impl Table {
-    /// An index without documents.
-    fn new(alloc: Global, conf: IndexConf) -> Result<Table, NoMemory>
-        requires schema { IsSchema conf.schema }
-        requires zones { conf.rules.zones ≡ conf.schema.zones }
-        ensures { IfOk result (λ table. (table.conf ≡ conf) × (table.store.snapshot ≡ empty_snapshot)) }
-    {
-        let store = PlainStore::new(alloc, &conf.schema)?;
-        Ok(Table { conf, store })
-    }
-
     /// Its documents, which are of its columns.
     fn front(&self) -> Result<Arc<Snapshot<AnyChunk>, Global>, NoMemory>
         ensures front { IfOk result (λ front. arc_value front ≡ self.now.store.snapshot) }
@@ -88,11 +78,22 @@ impl PlainTables {
     {
         let mut tables = Vec::with_capacity(alloc, confs.len())?;
         'confs: for conf in confs {
-            let table = Table::new(alloc, conf)?;
-            tables.push(table)?;
+            put_table(alloc, conf, &mut tables)?;
         }
         Ok(PlainTables { tables })
     }
+}
+
+/// Appends an index without documents.
+fn put_table(alloc: Global, conf: IndexConf, tables: &mut Vec<Table>) -> Result<(), NoMemory>
+    requires schema { IsSchema conf.schema }
+    requires zones { conf.rules.zones ≡ conf.schema.zones }
+    ensures confs { OnOk result (map (λ table. table.conf) tables.new.items ≡ map (λ table. table.conf) tables.old.items ++ conf ∷ []) }
+    ensures fronts { OnOk result (map (λ table. table.store.snapshot) tables.new.items ≡ map (λ table. table.store.snapshot) tables.old.items ++ empty_snapshot ∷ []) }
+{
+    let store = PlainStore::new(alloc, &conf.schema)?;
+    tables.push(Table { conf, store })?;
+    Ok(())
 }
 
 impl Catalog for PlainTables {

@@ -1,4 +1,4 @@
-use Rattle.std.proofs.Common.{◌≡◌, refl}
+use Rattle.std.proofs.Common.{refl}
 use Rattle.ql_answers.specs.declared.plan.Plan.TheVariants.{Agree, Keep, Show}
 use Rattle.ql_answers.specs.Replies.{Done, Shows}
 use Rattle.ql_answers.specs.Sessions.{Nothing}

@@ -1,4 +1,4 @@
-use Rattle.std.proofs.Common.{◌≡◌, ◌∙◌, ℕ, ◌+◌, List, [], ◌∷◌, ◌++◌, OnOk, ap, append_assoc, subst, sym}
+use Rattle.std.proofs.Common.{◌≡◌, ◌∙◌, ℕ, List, [], ◌∷◌, ◌++◌, OnOk, ap, append_assoc, subst, sym}
 use Rattle.mysql_wire.specs.declared.rows.Cell.{Cell}
 use Rattle.table_search.specs.declared.keywords.WordDocs.{WordDocs}
 use Rattle.ql_answers.specs.Showing.{docs_row, keyword_row, word_rows}

@@ -6,8 +6,8 @@ use Rattle.ql_answers.proofs.showing.index_rows.Goals as goal
 
 pub indexes-preserved : goal.indexes-preserved
 indexes-preserved g c =
-    map_more (λ conf. pair conf.schema.name (codes "rt")) (g.T.Catalog.confs c.args.catalog.now) c.indexes.rows.items c.push.new.self.items c.indexes.index c.conf-conf.result.now c.in_ok-pair.field-0
-    c.indexes.invariant c.conf-conf.ensures.is (search rules) c.in_ok-push.ensures.items
+    map_more (λ conf. pair conf.schema.name (codes "rt")) (g.T.Catalog.confs c.args.catalog.now) c.indexes.rows.items c.put_pair.new.rows.items c.indexes.index c.conf-conf.result.now (pair c.as_bytes.result.now (codes "rt"))
+    c.indexes.invariant c.conf-conf.ensures.is (search rules) c.in_ok-put_pair.ensures
 
 pub returns : goal.returns
 returns g c =

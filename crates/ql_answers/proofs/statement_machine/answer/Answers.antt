@@ -1,7 +1,7 @@
 use Rattle.std.proofs.Common.{subst, sym}
 use Rattle.ql_answers.specs.declared.plan.Plan.{Plan}
 use Rattle.ql_answers.specs.Sessions.{CanHave, happened_by}
-use Rattle.ql_answers.proofs.Turned.{answered, can_left, unanswered}
+use Rattle.ql_answers.proofs.Turned.{answered, can_left}
 use Rattle.ql_answers.proofs.statement_machine.answer.Goals as goal
 
 pub say-requires-clause-can : goal.say-requires-clause-can

@@ -1,6 +1,6 @@
 use Rattle.std.proofs.Common.{rules}
 use Rattle.ql_select.proofs.GoneOver.{all_noted, same_names}
-use Rattle.ql_select.proofs.naming.go_over.Goals as goal
+use Rattle.ql_select.proofs.naming.go_over_with.Goals as goal
 
 pub returns-clause-names : goal.returns-clause-names
 returns-clause-names c =

@@ -4,7 +4,7 @@ use Rattle.ql_tree.specs.declared.select.SelectItem.{SelectItem}
 use Rattle.ql_tree.specs.declared.select.SelectOption.{SelectOption}
 use Rattle.ql_select.specs.Options.{field_weights_option, last_value, weights_in}
 use Rattle.ql_select.proofs.NoFault.{few_items, few_sources, is_page, small_weights}
-use Rattle.ql_select.proofs.selecting.selection_of.Goals as goal
+use Rattle.ql_select.proofs.selecting.rest_of.Goals as goal
 
 pub weights_of-requires : goal.weights_of-requires
 weights_of-requires c = record {

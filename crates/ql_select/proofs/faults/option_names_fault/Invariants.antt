@@ -1,0 +1,7 @@
+use Rattle.std.proofs.Common.{◌≡◌, drop}
+use Rattle.ql_refusals.specs.Refusals.{first_of}
+use Rattle.ql_select.specs.Faults.{option_name_fault}
+use Rattle.ql_select.proofs.faults.option_names_fault.Given as goal
+
+abbrev pub invariant-options : goal.invariant-options
+invariant-options l = first_of option_name_fault l.options ≡ first_of option_name_fault (drop l.option-index l.options)
