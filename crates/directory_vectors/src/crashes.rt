@@ -6,7 +6,7 @@ ghost use Rattle.directory_vectors.specs.Ready.{plain};
 
 use crate::opening::{gives, is_wanted, reopened};
 use crate::running::run;
-use crate::scripts::{BEGUN, COMMITS, SCRIPT, first_txns, schema};
+use crate::scripts::{COMMITS, first_txns, left_after, schema};
 use chunk_store::MemoryDisk;
 use doc_types::Schema;
 use std::alloc::Global;
@@ -97,17 +97,17 @@ fn leaves_all<R: Wait>(
 ) -> Option<()>
     requires { schema.now ≡ plain }
 {
-    let (mut from, mut before) = (0, BEGUN);
-    for (commits, line) in SCRIPT.lines().enumerate() {
-        let (_, after) = line.split_once(" ⇒ ")?;
+    let mut from = 0;
+    for commits in 0..=COMMITS {
+        let (before, after) = (left_after(commits.saturating_sub(1))?, left_after(commits)?);
         let to = disk_after(rt, alloc, commits, schema, said)?.calls();
         for calls in from..to {
             leaves_either(rt, alloc, whole, calls, schema, (before, after), said)?;
         }
         from = to;
-        before = after;
     }
-    leaves_either(rt, alloc, whole, from, schema, (before, before), said)
+    let last = left_after(COMMITS)?;
+    leaves_either(rt, alloc, whole, from, schema, (last, last), said)
 }
 
 /// None where a crash leaves something else than what was acknowledged; then that is said.

@@ -10,7 +10,7 @@ use std::alloc::Global;
 /// The commits, and what is there when the store is opened after each, worked out by hand: how many documents and commits, and the
 /// documents, each with the number of the commit that put it. `=7` puts an id, `+7` inserts it, `-7` removes it, and `*` removes
 /// all. Two insert an id that is there, so that they are refused.
-pub(crate) const SCRIPT: &str = "no commit ⇒ 0 0
+const SCRIPT: &str = "no commit ⇒ 0 0
 =7 ⇒ 1 1; 7 born 1
 =8 =9 ⇒ 3 2; 7 born 1; 8 born 2; 9 born 2
 -7 ⇒ 2 3; 8 born 2; 9 born 2
@@ -21,14 +21,17 @@ pub(crate) const SCRIPT: &str = "no commit ⇒ 0 0
 +5 +6 ⇒ 2 6; 6 born 6; 7 born 6
 ";
 
-/// What is there before the first of them.
-pub(crate) const BEGUN: &str = "0 0";
-
 /// How many commits the script has.
 pub(crate) const COMMITS: usize = 8;
 
 /// The most operations of a commit.
 const MOST: usize = 1_000;
+
+/// What is there after the first commits of the script.
+pub(crate) fn left_after(commits: usize) -> Option<&'static str> {
+    let (_, left) = SCRIPT.lines().nth(commits)?.split_once(" ⇒ ")?;
+    Some(left)
+}
 
 /// The columns: there are none.
 pub(crate) fn schema(alloc: Global) -> Schema
