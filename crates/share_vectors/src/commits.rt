@@ -1,11 +1,11 @@
-//! Insertions into an index without columns, and what a worker is told of them.
+//! Insertions into an index without columns, and what all workers know of them in the end.
 ghost use Rattle.std.specs.Prelude.{◌≡◌, [], IfOk};
 ghost use Rattle.doc_types.specs.Transactions.{IsTxnOf};
 ghost use Rattle.share_vectors.specs.Users.{IsUser, plain};
 
 use chunk_store::Disk;
 use doc_types::{Doc, Schema, Txn, TxnOp};
-use snap_share::{CommitFault, Committed, Engine, Naming, Token, learn, snapshot};
+use snap_share::{CommitFault, Committed, Engine, Naming, Note, Token};
 use srch_base::{Items, Name, NoMemory};
 use std::alloc::Global;
 use std::sync::Wait;
@@ -57,34 +57,21 @@ pub(crate) fn insert<D: Disk, J: Naming, R: Wait>(
     }
 }
 
-/// The number of a commit; of one that was refused, 1000 more than the id that is there; and of any other one 0.
-pub(crate) fn number_of<J: Naming>(answer: &Result<Committed<J>, CommitFault<J>>) -> u64 {
-    match answer {
-        Ok(made) => made.number,
-        Err(CommitFault::Duplicate { id, .. }) => id.saturating_add(1000),
-        Err(_) => 0,
+/// Whether an engine that ended told of so many commits, each token has seen all of them, and each worker made so many of them.
+pub(crate) fn have_all<J: Naming, E: Drop>(
+    told: Result<Note<J>, E>,
+    tokens: &[Token<J>],
+    all: u64,
+    own: u64,
+) -> bool {
+    let mut right = match told {
+        Ok(note) => note.len() == all,
+        Err(_) => false,
+    };
+    for token in tokens {
+        if token.len() != all || token.made() != own {
+            right = false;
+        }
     }
-}
-
-/// Tells a worker of another one's commit, where that was made.
-pub(crate) fn learn_of<J: Naming>(
-    token: &mut Token<J>,
-    answer: &Result<Committed<J>, CommitFault<J>>,
-)
-    requires { IfOk answer.now (λ made. made.note.index ≡ token.old.index) }
-    ensures { (token.new.index ≡ token.old.index) × (token.new.worker ≡ token.old.worker) }
-{
-    if let Ok(made) = answer {
-        learn(token, &made.note);
-    }
-}
-
-/// The number of the last commit that a worker finds, and 0 where it finds none.
-pub(crate) fn read<J: Naming>(token: &mut Token<J>) -> u64
-    ensures { (token.new.index ≡ token.old.index) × (token.new.worker ≡ token.old.worker) }
-{
-    match snapshot(token) {
-        Ok(found) => found.number,
-        Err(_) => 0,
-    }
+    right
 }

@@ -3,12 +3,14 @@
 #![tactic(auto)]
 
 #[cfg(test)]
+mod at_once;
+#[cfg(test)]
 mod calls;
 #[cfg(test)]
 mod commits;
 #[cfg(test)]
-mod reading;
+mod in_turn;
 #[cfg(test)]
-mod sharing;
+mod reading;
 #[cfg(test)]
 mod writing;

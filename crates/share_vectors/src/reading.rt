@@ -1,9 +1,7 @@
-//! A line that is written and read: call by call first, then by readers in threads of their own beside the writer. A clause says of
-//! each read that its snapshot is the last one of what the token has seen from then on; that the copies which the writer changes
-//! meanwhile are read whole is tried here.
+//! Readers in threads of their own beside a writer. A clause says of each read that its snapshot is the last one of what the token
+//! has seen from then on; that the copies which the writer changes meanwhile are read whole is tried here.
 ghost use Rattle.std.specs.Prelude.{◌≡◌, []};
 
-use crate::calls::{FIRST_STEPS, tell_all};
 use crate::writing::{is_after, open_line, write};
 use std::alloc::Global;
 use std::marker::Brand;
@@ -64,40 +62,45 @@ impl<J: Naming> Reader<J> {
     }
 }
 
-/// Adds a reader for each worker of the line.
-fn add_readers<J: Naming>(line: &Line<J>, readers: &mut Vec<Reader<J>>) -> Option<()>
+/// A reader for each worker of the line.
+fn readers<J: Naming>(alloc: Global, line: &Line<J>) -> Option<Vec<Reader<J>>>
     requires { line.now.workers ≡ 3 }
 {
+    let mut readers = Vec::new(alloc);
     for worker in 1..4 {
         let token = line.token(worker).ok()?;
         readers.push(Reader { token, wrong: 0 }).ok()?;
     }
-    Some(())
+    Some(readers)
 }
 
-/// Readers beside the writer of the steps that are left, and then each of them with a note. Whether each found what it was to find.
+/// Readers beside a writer, and then each of them with a note. Whether each found what it was to find.
 fn beside<J: Naming + Send + Sync, R: Threads + Wait + Sync>(
     rt: &R,
     alloc: Global,
     line: &mut Line<J>,
-    readers: &mut [Reader<J>],
-) -> bool {
+) -> bool
+    requires { line.old.workers ≡ 3 }
+{
+    let Some(mut readers) = readers(alloc, line) else {
+        return false;
+    };
     // The writing end stays in this thread.
     let ((), written) = join(
         rt,
         || {
             for_each_mut(
                 rt,
-                readers,
+                readers.as_mut_slice(),
                 READERS,
                 &|_: usize, reader: &mut Reader<J>| reader.read_on(),
             )
         },
-        || write(rt, alloc, line, FIRST_STEPS, STEPS).is_some(),
+        || write(rt, alloc, line, STEPS).is_some(),
     );
     let note = line.note();
     let mut all = written;
-    for reader in readers {
+    for reader in readers.as_mut_slice() {
         if !reader.finds(&note) {
             all = false;
         }
@@ -105,35 +108,8 @@ fn beside<J: Naming + Send + Sync, R: Threads + Wait + Sync>(
     all
 }
 
-/// Whether a line and its readers tell and find what they are to.
-fn read_all<J: Naming + Send + Sync, R: Threads + Wait + Sync>(
-    rt: &R,
-    alloc: Global,
-    line: &mut Line<J>,
-    readers: &mut [Reader<J>],
-) -> bool {
-    match readers {
-        [first, second, ..] => {
-            tell_all(rt, alloc, line, (&mut first.token, &mut second.token))
-                && beside(rt, alloc, line, readers)
-        }
-        _ => false,
-    }
-}
-
-/// Whether one of the readers finds something.
-fn find_any<J: Naming>(readers: &mut [Reader<J>]) -> bool {
-    let mut any = false;
-    for reader in readers {
-        if snapshot(&mut reader.token).is_ok() {
-            any = true;
-        }
-    }
-    any
-}
-
-/// Whether a new line and its readers do what they are to do, and the readers find nothing once it has ended.
-fn run<J: Naming + Send + Sync, R: Threads + Wait + Sync>(
+/// Whether the readers of a new line find what they are to find.
+fn read_beside<J: Naming + Send + Sync, R: Threads + Wait + Sync>(
     rt: &R,
     alloc: Global,
     opened: NewBook,
@@ -144,14 +120,12 @@ fn run<J: Naming + Send + Sync, R: Threads + Wait + Sync>(
     let Some(mut line) = open_line::<J>(alloc, opened) else {
         return false;
     };
-    let mut readers = Vec::new(alloc);
-    let right = add_readers(&line, &mut readers).is_some()
-        && read_all(rt, alloc, &mut line, readers.as_mut_slice());
+    let found = beside(rt, alloc, &mut line);
     line.close(rt);
-    right && !find_any(readers.as_mut_slice())
+    found
 }
 
 #[test]
-fn a_line_is_written_and_read(rt: HostRuntime) {
-    assert!(rt; run::<Brand, _>(&rt, rt.alloc(), NewBook::new()));
+fn readers_beside_a_writer(rt: HostRuntime) {
+    assert!(rt; read_beside::<Brand, _>(&rt, rt.alloc(), NewBook::new()));
 }

@@ -113,15 +113,14 @@ pub(crate) fn put<J: Naming, R: Wait>(
     Some(())
 }
 
-/// Publishes the steps from this one on, until there are so many.
+/// Publishes so many steps.
 pub(crate) fn write<J: Naming, R: Wait>(
     rt: &R,
     alloc: Global,
     line: &mut Line<J>,
-    from: u64,
     steps: u64,
 ) -> Option<()> {
-    for step in from..steps {
+    for step in 0..steps {
         put(rt, alloc, line, step)?;
     }
     line.settle(rt).ok()

@@ -3,7 +3,7 @@ use Rattle.std.proofs.Common.{◌<◌, subst}
 use Rattle.std.proofs.Crossing.{sync as heap_sync}
 use Rattle.snap_share.proofs.Crossing.{engine_sync}
 use Rattle.share_vectors.specs.Users.{IsUser}
-use Rattle.share_vectors.proofs.sharing.at_once.Goals as goal
+use Rattle.share_vectors.proofs.at_once.work_all.Goals as goal
 
 pub for_each_mut-requires-sync-F : goal.for_each_mut-requires-sync-F
 for_each_mut-requires-sync-F g c κs within = search (sendable, engine_sync, heap_sync) depth 40

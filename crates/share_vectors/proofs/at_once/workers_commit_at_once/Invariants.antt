@@ -1,6 +1,6 @@
 use Rattle.share_vectors.specs.Users.{plain}
 use Rattle.snap_share.specs.Opens.{base_of}
-use Rattle.share_vectors.proofs.sharing.workers_share_an_index.Given as goal
+use Rattle.share_vectors.proofs.at_once.workers_commit_at_once.Given as goal
 
 -- the store's own book and beginning
 abbrev pub ghosts-run : goal.ghosts-run

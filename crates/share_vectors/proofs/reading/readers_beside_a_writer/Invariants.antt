@@ -1,0 +1,10 @@
+use Rattle.std.proofs.Common.{[], false}
+use Rattle.share_vectors.proofs.reading.readers_beside_a_writer.Given as goal
+
+-- the book that was just made, and an index without documents
+abbrev pub ghosts-read_beside : goal.ghosts-read_beside
+ghosts-read_beside g a = record {
+  book = λ index. a.opened.past.seen.book;
+  schema = λ index. record { name = []; fields = []; attrs = []; zones = []; sp = false };
+  base = λ index. record { opening = record { number = 0; shape = 0; layers = [] }; log = 0 };
+}
