@@ -17,20 +17,29 @@ fn continue_on(alloc: Global, disk: &mut CarefulDisk, what: &str, text: &mut Str
     }
 }
 
-/// Puts `old` where a crash leaves what was before, `new` where it leaves what is after, and else what is read.
+/// Puts `new` where what is read is what is after, `old` where it is what was before, and else what is read.
+fn put_age_of(read: &str, (before, after): (&str, &str), text: &mut String) -> Option<()> {
+    if read == after {
+        return text.push_str("new").ok();
+    }
+    if read == before {
+        return text.push_str("old").ok();
+    }
+    text.push_str(read).ok()
+}
+
+/// Puts whether what a crash leaves is old or new.
 fn put_age(
     alloc: Global,
     disk: &MemoryDisk,
     crash: (u64, u8),
     what: &str,
-    (before, after): (&str, &str),
+    texts: (&str, &str),
     text: &mut String,
 ) -> Option<()> {
     let mut read = String::new(alloc);
     put_crash(alloc, disk, crash, what, &mut read)?;
-    let read = read.as_str();
-    let word = if read == before { "old" } else { read };
-    text.push_str(if read == after { "new" } else { word }).ok()
+    put_age_of(read.as_str(), texts, text)
 }
 
 /// Puts what each of the four crashes after so many calls leaves, as `old` or `new`.

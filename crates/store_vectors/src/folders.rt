@@ -5,7 +5,7 @@ use crate::bytes::{bytes_of, call_of, number_of};
 use crate::folder_steps::{LOG_PAYLOAD, STEPS};
 use crate::logs::staged_of;
 use crate::rows::{put_difference, verdict};
-use crate::telling::{LOG, put_digits, put_log, put_value};
+use crate::telling::{LOG, put_digits, put_log, put_number, put_value};
 use chunk_store::{DirDisk, Disk};
 use gate_log::{GateLog, Staged};
 use srch_base::Failed;
@@ -93,11 +93,18 @@ fn put_done(is_done: bool, text: &mut String) -> Option<()> {
     text.push_str(if is_done { "done" } else { "failed" }).ok()
 }
 
-/// Puts the length of a file, or that it is the greatest one.
+/// Puts a length, or that it is the greatest one.
+fn put_length(length: u64, greatest: u64, text: &mut String) -> Option<()> {
+    if length == greatest {
+        return text.push_str("longest").ok();
+    }
+    put_number(length, text)
+}
+
+/// Puts the length of a file, or that it has none.
 fn put_len(len: Result<Option<u64>, Failed>, greatest: u64, text: &mut String) -> Option<()> {
     match len {
-        Ok(Some(len)) if len == greatest => text.push_str("longest").ok(),
-        Ok(Some(len)) => put_value(&len, text),
+        Ok(Some(length)) => put_length(length, greatest, text),
         Ok(None) => text.push_str("none").ok(),
         Err(Failed) => text.push_str("failed").ok(),
     }

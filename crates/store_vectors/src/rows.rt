@@ -133,14 +133,19 @@ fn put_if_wrong(
     put_difference(words, told.as_str(), wrong)
 }
 
+/// The range from a number to another one, and the words behind that.
+fn range_of<'a>(from: &str, rest: &'a str) -> Option<(u64, u64, &'a str)> {
+    let (to, words) = rest.split_once(' ').unwrap_or((rest, ""));
+    let from = number_of(from)?;
+    let to = number_of(to)?;
+    Some((from, to, words))
+}
+
 /// The range that a row begins with, and what stands behind it. One that begins with none is tried for one number alone, which no
 /// count reaches.
 fn numbers_of(row: &str) -> Option<(u64, u64, &str)> {
     match row.split_once("..") {
-        Some((from, rest)) => {
-            let (to, words) = rest.split_once(' ').unwrap_or((rest, ""));
-            Some((number_of(from)?, number_of(to)?, words))
-        }
+        Some((from, rest)) => range_of(from, rest),
         None => Some((u64::MAX, u64::MAX, row)),
     }
 }

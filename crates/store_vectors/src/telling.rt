@@ -9,19 +9,34 @@ use std::fmt::Display;
 /// The file of each log.
 pub(crate) const LOG: u32 = 2;
 
-/// Puts a value as it is shown. All that is shown goes through here, since a formatted text is dear to prove.
+/// Puts a value as it is shown. All that is shown goes through here, or through [`put_number`], since a formatted text is dear to
+/// prove.
 pub(crate) fn put_value<T: Display>(value: &T, text: &mut String) -> Option<()> {
     write!(text, "{value}").ok()
 }
 
+/// Puts a number.
+pub(crate) fn put_number(number: u64, text: &mut String) -> Option<()> {
+    write!(text, "{number}").ok()
+}
+
+/// Puts a number, and a space behind it.
+fn put_spaced(number: u64, text: &mut String) -> Option<()> {
+    put_number(number, text)?;
+    text.push(' ').ok()
+}
+
+/// Puts a word with its number.
+fn put_named(word: &str, number: u64, text: &mut String) -> Option<()> {
+    text.push_str(word).ok()?;
+    text.push(' ').ok()?;
+    put_spaced(number, text)
+}
+
 /// Puts each of these words with its number.
 fn put_numbers(words: &str, numbers: &[u64], text: &mut String) -> Option<()> {
-    let mut words = words.split(' ');
-    for number in numbers {
-        text.push_str(words.next()?).ok()?;
-        text.push(' ').ok()?;
-        put_value(number, text)?;
-        text.push(' ').ok()?;
+    for (word, number) in words.split(' ').zip(numbers) {
+        put_named(word, *number, text)?;
     }
     Some(())
 }
@@ -40,7 +55,7 @@ pub(crate) fn put_digits(bytes: &[u8], text: &mut String) -> Option<()> {
         Some((front, rest)) if bytes.len() > 100 => {
             put_all_digits(front, text)?;
             text.push('+').ok()?;
-            put_value(&rest.len(), text)
+            put_number(rest.len() as u64, text)
         }
         _ => put_all_digits(bytes, text),
     }
@@ -76,7 +91,7 @@ fn put_left(alloc: Global, disk: &mut CarefulDisk, text: &mut String) -> Option<
 
 /// Puts a record as number:payload.
 pub(crate) fn put_entry(number: u64, payload: &[u8], text: &mut String) -> Option<()> {
-    put_value(&number, text)?;
+    put_number(number, text)?;
     text.push(':').ok()?;
     put_digits(payload, text)?;
     text.push(' ').ok()
@@ -85,7 +100,7 @@ pub(crate) fn put_entry(number: u64, payload: &[u8], text: &mut String) -> Optio
 /// Puts where a log ends.
 pub(crate) fn put_end(end: u64, text: &mut String) -> Option<()> {
     text.push_str("to ").ok()?;
-    put_value(&end, text)
+    put_number(end, text)
 }
 
 /// Puts the records of a log, and where it ends.
@@ -135,13 +150,13 @@ fn put_fields(state: &RootState, text: &mut String) -> Option<()> {
 /// Whether a state differs from others in the commit alone that it goes through.
 fn is_plain(state: &RootState) -> bool {
     let is_empty = state.schema_text.as_bytes().is_empty() && state.chunks.as_slice().is_empty();
-    is_empty && matches!((state.next_file, state.older, state.newer), (3, 0, 2))
+    is_empty && state.next_file == 3 && state.older == 0 && state.newer == 2
 }
 
 /// Puts a state, and whether the root is full. A plain state is told by the commit that it goes through.
 fn put_state(state: &RootState, is_full: bool, text: &mut String) -> Option<()> {
     if is_plain(state) {
-        put_value(&state.through, text)?;
+        put_number(state.through, text)?;
     } else {
         put_fields(state, text)?;
     }
