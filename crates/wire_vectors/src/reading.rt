@@ -128,8 +128,11 @@ fn has_numbers(kind: &str, payload: &[u8], wanted: &str) -> Option<bool>
 fn says(response: &Response41<'_>, wanted: &str) -> Option<bool> {
     let (flags, names) = wanted.split_once(" ")?;
     let (user, database) = names.split_once(" ")?;
-    let named = response.database.unwrap_or(b"none");
-    let are_names = response.user == user.as_bytes() && named == database.as_bytes();
+    let is_database = match response.database {
+        Some(named) => database != "none" && named == database.as_bytes(),
+        None => database == "none",
+    };
+    let are_names = response.user == user.as_bytes() && is_database;
     Some(u64::from(response.flags) == flags.parse::<u64>().ok()? && are_names)
 }
 
@@ -199,7 +202,8 @@ fn told(value: &Option<Text>) -> &[u8] {
 fn has_values(row: &[Option<Text>], wanted: &str) -> Option<bool> {
     let mut values = row.iter();
     for wanted in wanted.split(",") {
-        if told(values.next()?) != wanted.as_bytes() {
+        let value = values.next()?;
+        if value.is_none() != (wanted == "NULL") || told(value) != wanted.as_bytes() {
             return Some(false);
         }
     }
