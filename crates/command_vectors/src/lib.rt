@@ -17,4 +17,6 @@ mod telling;
 #[cfg(test)]
 mod tokens;
 #[cfg(test)]
+mod values;
+#[cfg(test)]
 mod words;
