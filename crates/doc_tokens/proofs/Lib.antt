@@ -5,6 +5,7 @@ pub mod Covers
 pub mod Passing
 pub mod PassSteps
 pub mod WalkSteps
+pub mod OwnRuns
 pub mod PlainSigns
 pub mod SpanOrder
 pub mod SpanLists

@@ -1,14 +1,15 @@
 -- The reader, sign by sign.
-use Rattle.std.proofs.Common.{◌≡◌, ℕ, ◌+◌, ◌<◌, ◌≤◌, Bool, true, false, cond, nat_lt, List, [], ◌∷◌, ◌++◌, All, length, map, take, Option, Some, None, Result, Ok, Err, IsUtf8, refl, sym, ◌∙◌, ap, subst, arith, append_assoc, append-nil, encode_utf8_all}
+use Rattle.std.proofs.Common.{◌≡◌, ℕ, ◌+◌, ◌-◌, ◌<◌, ◌≤◌, Bool, true, false, cond, nat_lt, List, [], ◌∷◌, ◌++◌, All, length, map, take, min, Option, Some, None, Result, Ok, Err, IsUtf8, refl, sym, ◌∙◌, ap, subst, arith, append_assoc, append-nil, length-append, encode_utf8_all}
 use Rattle.std.specs.Prelude.{find}
 use Rattle.std.specs.Char.{encode_utf8}
+use Rattle.std.specs.Str.{IsAscii}
 use Rattle.std.specs.String.{string_bytes}
-use Rattle.std.proofs.lemmas.List.{length-take, map-append, length_push}
+use Rattle.std.proofs.lemmas.List.{length-take, map-append, length_push, take_min}
 use Rattle.std.specs.Option.{option_or}
 use Rattle.std.proofs.lemmas.Bool.Decides.{nat_tests}
 use Rattle.std.proofs.lemmas.List.Elements.{All-push, All-head, All-tail}
 use Rattle.std.proofs.lemmas.List.Folds.{find-append}
-use Rattle.std.proofs.lemmas.Str.{length-le-encodes}
+use Rattle.std.proofs.lemmas.Str.{length-le-encodes, encodes-IsAscii, IsAscii-take}
 use Rattle.doc_types.specs.declared.tokens.TheConstants.{MAX_POSITION}
 use Rattle.doc_types.specs.declared.tokens.Gap.TheVariants as gaps
 use Rattle.doc_types.specs.declared.tokens.TokenWord.{TokenWord}
@@ -22,8 +23,8 @@ use Rattle.doc_tokens.specs.declared.sign.TextSign.TheVariants as signs
 use Rattle.doc_tokens.specs.Words.{Segment, segments, word_of}
 use Rattle.doc_tokens.specs.Spans.{tags_after}
 use Rattle.doc_tokens.specs.Tokens.{first_above}
-use Rattle.doc_tokens.specs.steps.TokenReader.{gap_after, word_after, words_after, all_words, BeginApart, Holds, Wants, EndsRun, ReadsSign, ReadsSome, Finds, IsFound}
-use Rattle.doc_tokens.proofs.Runs.{segments_run, apart_before, ahead_letter, word_more, word_cut, encodes_short}
+use Rattle.doc_tokens.specs.steps.TokenReader.{gap_after, signs_ahead, word_after, words_after, all_words, BeginApart, Holds, Wants, EndsRun, ReadsSign, ReadsSome, Finds, IsFound}
+use Rattle.doc_tokens.proofs.Runs.{segments_run, apart_before, ahead_letters, word_more, encodes_short}
 use Rattle.doc_tokens.proofs.WordLists.{all_positions}
 
 -- tests of numbers
@@ -33,16 +34,23 @@ not_below m n h = grind (arith, nat_tests)
 is_below : (m n : ℕ) → m < n → nat_lt m n ≡ true
 is_below m n h = grind (arith, nat_tests)
 
--- a letter joins the run
-pub holds_letter : (all : List TextSign) (old new : Reader) (letters : List ℕ) (c : ℕ) (rest : List TextSign)
+-- letters join the run, of which as many are kept as there is room for
+pub letters_joined : (all : List TextSign) (old new : Reader) (letters more : List ℕ) (kept : ℕ) (rest : List TextSign)
     → new.found ≡ old.found → new.position ≡ old.position → new.gap ≡ old.gap
-    → string_bytes new.run ≡ word_of (letters ++ c ∷ []) → new.letters ≡ length (take 42 (letters ++ c ∷ []))
-    → Holds all old letters (signs.Letter c ∷ rest) → Holds all new (letters ++ c ∷ []) rest
-holds_letter all old new letters c rest found position gap run_is count holds =
-    let ahead = sym (ahead_letter letters c rest) in
+    → kept ≡ min (42 - old.letters) (length more)
+    → string_bytes new.run ≡ string_bytes old.run ++ encode_utf8_all (take kept more) → new.letters ≡ old.letters + kept
+    → Holds all old letters (signs_ahead more rest) → Holds all new (letters ++ more) rest
+letters_joined all old new letters more kept rest found position gap room run_is count holds =
+    let ahead = sym (ahead_letters letters more rest) in
+    let had = holds.count in
+    let size = length-take 42 letters in
+    let taken = length-take 42 (letters ++ more) in
+    let both = length-append letters more in
+    let room_is : kept ≡ min (42 - length letters) (length more) = omega (arith, room, had, size) in
+    let front : take kept more ≡ take (42 - length letters) more = ap (λ (n : ℕ). take n more) room_is ∙ take_min (42 - length letters) more in
     record {
-      run = run_is;
-      count = count;
+      run = run_is ∙ (λ i. holds.run i ++ encode_utf8_all (front i)) ∙ sym (word_more letters more);
+      count = omega (arith, room, had, size, taken, both, count);
       words = (λ i. (found i).words.items ++ words_after (position i) (gap i) (segments (ahead i))) ∙ holds.words;
       tags = (λ i. (found i).tags.items ++ tags_after (length (found i).words.items) (segments (ahead i))) ∙ holds.tags;
       below = subst (λ f. All (λ (w : TokenWord). w.position ≤ MAX_POSITION) f.words.items) (sym found) holds.below;
@@ -149,25 +157,25 @@ pub letter_kept : (all : List TextSign) (old new : Reader) (letters : List ℕ) 
     → string_bytes new.run ≡ string_bytes old.run ++ encode_utf8 c → new.letters ≡ old.letters + 1
     → Holds all old letters (signs.Letter c ∷ rest) → Holds all new (letters ++ c ∷ []) rest
 letter_kept all old new letters c rest found position gap below run_is count holds =
-    let size = length-take 42 letters in
-    let taken = length-take 42 (letters ++ c ∷ []) in
-    let had = holds.count in
-    let more = length_push letters c in
-    let short : length letters < 42 = omega (arith, size, had) in
-    holds_letter all old new letters c rest found position gap
-    (run_is ∙ ap (λ (bytes : List ℕ). bytes ++ encode_utf8 c) holds.run ∙ sym (word_more letters c short))
-    (omega (arith, size, taken, had, more, count))
-    holds
+    letters_joined all old new letters (c ∷ []) 1 rest found position gap (omega (arith, below))
+    (run_is ∙ ap (λ (bytes : List ℕ). string_bytes old.run ++ bytes) (sym (append-nil (encode_utf8 c)))) count holds
 
 pub letter_cut : (all : List TextSign) (old : Reader) (letters : List ℕ) (c : ℕ) (rest : List TextSign) → 42 ≤ old.letters → Holds all old letters (signs.Letter c ∷ rest) → Holds all old (letters ++ c ∷ []) rest
 letter_cut all old letters c rest full holds =
-    let size = length-take 42 letters in
-    let had = holds.count in
-    let long : 42 ≤ length letters = omega (arith, size, had) in
-    holds_letter all old old letters c rest refl refl refl
-    (holds.run ∙ ap encode_utf8_all (sym (word_cut letters c long)))
-    (holds.count ∙ ap length (sym (word_cut letters c long)))
-    holds
+    letters_joined all old old letters (c ∷ []) 0 rest refl refl refl (omega (arith, full)) (sym (append-nil (string_bytes old.run))) (omega arith) holds
+
+-- ASCII letters join a run, as many of them as there is room for
+pub run_joined : (all : List TextSign) (old new : Reader) (run piece : List ℕ) (kept : ℕ) (rest : List TextSign)
+    → new.found ≡ old.found → new.position ≡ old.position → new.gap ≡ old.gap → IsAscii run
+    → kept ≡ min (42 - old.letters) (length run) → piece ≡ take kept run
+    → string_bytes new.run ≡ string_bytes old.run ++ piece → new.letters ≡ old.letters + kept
+    → Wants all old (signs_ahead run rest) → Wants all new rest
+run_joined all old new run piece kept rest found position gap ascii room piece_is run_is count wants = record {
+  letters = wants.letters ++ run;
+  holds = letters_joined all old new wants.letters run kept rest found position gap room
+      (run_is ∙ ap (λ (bytes : List ℕ). string_bytes old.run ++ bytes) (piece_is ∙ sym (encodes-IsAscii (take kept run) (IsAscii-take run kept ascii))))
+      count wants.holds;
+}
 
 -- a sign that can't be read for the word before it
 pub read_above : (old new : Reader) (sign : TextSign) (fault : Or TooLong) → BeginApart (sign ∷ []) → EndsRun old new (Err fault) → ReadsSign old sign new (Err fault)

@@ -1,7 +1,7 @@
 -- Segments of signs, sign by sign.
-use Rattle.std.proofs.Common.{◌≡◌, ℕ, ◌*◌, ◌<◌, ◌≤◌, List, [], ◌∷◌, ◌++◌, length, map, take, refl, sym, ◌∙◌, ap, arith, append_assoc, append-nil, length-append, encode_utf8_all}
+use Rattle.std.proofs.Common.{◌≡◌, ℕ, zero, suc, ◌*◌, ◌-◌, ◌≤◌, List, [], ◌∷◌, ◌++◌, length, map, take, refl, sym, ◌∙◌, ap, arith, append_assoc, length-append, encode_utf8_all}
 use Rattle.std.specs.Char.{encode_utf8}
-use Rattle.std.proofs.lemmas.List.{map-append, take_all, take-append-le}
+use Rattle.std.proofs.lemmas.List.{map-append}
 use Rattle.std.proofs.lemmas.Str.{encodes-append, length-encode, len_utf8_bounds}
 use Rattle.doc_tokens.specs.declared.sign.TextSign.{TextSign}
 use Rattle.doc_tokens.specs.declared.sign.TextSign.TheVariants as signs
@@ -23,9 +23,9 @@ pub segments_run : (c : ℕ) (letters : List ℕ) (rest : List TextSign) → Beg
 segments_run c [] rest apart = one_letter c rest apart
 segments_run c (d ∷ letters) rest apart = ap (with_letter c) (segments_run d letters rest apart)
 
--- a letter after the others of its run
-pub ahead_letter : (letters : List ℕ) (c : ℕ) (rest : List TextSign) → signs_ahead letters (signs.Letter c ∷ rest) ≡ signs_ahead (letters ++ c ∷ []) rest
-ahead_letter letters c rest = sym (append_assoc (map signs.Letter letters) (signs.Letter c ∷ []) rest) ∙ ap (λ (s : List TextSign). s ++ rest) (sym (map-append signs.Letter letters (c ∷ [])))
+-- letters after the others of their run
+pub ahead_letters : (letters more : List ℕ) (rest : List TextSign) → signs_ahead letters (signs_ahead more rest) ≡ signs_ahead (letters ++ more) rest
+ahead_letters letters more rest = sym (append_assoc (map signs.Letter letters) (map signs.Letter more) rest) ∙ ap (λ (s : List TextSign). s ++ rest) (sym (map-append signs.Letter letters more))
 
 -- a sign that is no letter is a segment
 pub segments_other : (sign : TextSign) (rest : List TextSign) → BeginApart (sign ∷ []) → segments (sign ∷ rest) ≡ other sign ∷ segments rest
@@ -45,16 +45,18 @@ apart_before signs.Paragraph rest apart = tt
 apart_before (signs.Open zone) rest apart = tt
 apart_before (signs.Close zone) rest apart = tt
 
--- the word of a run with one letter more, where it isn't cut
-pub word_more : (letters : List ℕ) (c : ℕ) → length letters < 42 → word_of (letters ++ c ∷ []) ≡ word_of letters ++ encode_utf8 c
-word_more letters c short =
-    ap encode_utf8_all (take_all 42 (letters ++ c ∷ []) (omega (arith, length-append letters (c ∷ []))))
-    ∙ encodes-append letters (c ∷ [])
-    ∙ (λ i. encode_utf8_all (sym (take_all 42 letters (omega arith)) i) ++ append-nil (encode_utf8 c) i)
+-- the front of two lists, one after the other
+take_both : (n : ℕ) (xs ys : List ℕ) → take n (xs ++ ys) ≡ take n xs ++ take (n - length xs) ys
+take_both zero [] ys = refl
+take_both (suc n) [] ys = let same : suc n ≡ suc n - 0 = omega arith in ap (λ (m : ℕ). take m ys) same
+take_both zero (x ∷ xs) ys = let none : 0 ≡ 0 - length (x ∷ xs) = omega arith in ap (λ (m : ℕ). take m ys) none
+take_both (suc n) (x ∷ xs) ys =
+    let same : n - length xs ≡ suc n - length (x ∷ xs) = omega arith in
+    ap (λ (l : List ℕ). x ∷ l) (take_both n xs ys ∙ ap (λ (m : ℕ). take n xs ++ take m ys) same)
 
--- and where it is
-pub word_cut : (letters : List ℕ) (c : ℕ) → 42 ≤ length letters → take 42 (letters ++ c ∷ []) ≡ take 42 letters
-word_cut letters c long = take-append-le 42 letters (c ∷ []) long
+-- the word of a run with more letters: as many of them join it as there is room for
+pub word_more : (letters more : List ℕ) → word_of (letters ++ more) ≡ word_of letters ++ encode_utf8_all (take (42 - length letters) more)
+word_more letters more = ap encode_utf8_all (take_both 42 letters more) ∙ encodes-append (take 42 letters) (take (42 - length letters) more)
 
 -- a character has at most four bytes
 pub encodes_short : (cs : List ℕ) → length (encode_utf8_all cs) ≤ 4 * length cs

@@ -1,10 +1,11 @@
-//! Words, from signs one by one.
+//! Words, from signs one by one, or from several letters at once where they are bytes of the text.
 //!
 //! A run of letters goes on until a sign that is no letter, and is then a word, cut after 42 letters. A boundary
 //! between two words takes a position of its own: several in a row are one, and those before the first word none. One
 //! buffer of 168 bytes holds the run; memory is taken for words alone.
 ghost use Rattle.std.specs.Prelude.{◌≡◌, ◌≤◌, ℕ, option_to_list, List, [], ◌∷◌, ◌++◌, IfOk, OnOk};
-ghost use Rattle.doc_types.specs.declared.tokens.TheConstants.{MAX_POSITION};
+ghost use Rattle.std.specs.Str.{IsAscii};
+ghost use Rattle.doc_types.specs.declared.tokens.TheConstants.{MAX_POSITION, MAX_WORD_CHARS};
 ghost use Rattle.doc_tokens.specs.Words.{end_of, stronger};
 ghost use Rattle.doc_tokens.specs.Spans.{tag_of};
 
@@ -38,6 +39,7 @@ pub(crate) struct Reader {
     /// The boundary since the last word.
     gap: Gap,
     ghost within: { position ≤ MAX_POSITION },
+    ghost cut: { letters ≤ MAX_WORD_CHARS },
 }
 
 /// The boundary that a sign makes.
@@ -97,7 +99,7 @@ fn stronger_of(first: Gap, second: Gap) -> Gap
 }
 
 impl Reader {
-    ghost use Rattle.doc_tokens.specs.steps.TokenReader.{gap_after, Wants, Holds, BeginApart, ReadsSign, EndsRun, Finds};
+    ghost use Rattle.doc_tokens.specs.steps.TokenReader.{gap_after, signs_ahead, Wants, Holds, BeginApart, ReadsSign, EndsRun, Finds};
 
     /// Nothing was read. There is room for the words that a text of so many bytes has for the most part.
     pub fn new(alloc: Global, bytes: usize) -> Result<Reader, NoMemory>
@@ -145,6 +147,20 @@ impl Reader {
             self.run.push(letter)?;
             self.letters += 1;
         }
+        Ok(())
+    }
+
+    /// ASCII letters join the run by one copy: as many of them as there is room for, and the others are dropped.
+    pub fn letters(&mut self, run: &str) -> Result<(), NoMemory>
+        requires { IsAscii run.now }
+        ensures { OnOk result ((all rest : List TextSign) → Wants all self.old (signs_ahead run.now rest) → Wants all self.new rest) }
+    {
+        if run.is_empty() {
+            return Ok(());
+        }
+        let kept = (MAX_WORD_CHARS - self.letters).min(run.len());
+        self.run.push_str(&run[..kept])?;
+        self.letters += kept;
         Ok(())
     }
 

@@ -1,7 +1,9 @@
 -- Reading: what the reader of a text keeps, and what its parts answer.
 use Rattle.std.specs.Prelude.{◌≡◌, ℕ, ◌+◌, ◌<◌, ◌≤◌, List, [], ◌∷◌, ◌++◌, ◌==◌, ◌&&◌, nat_lt, Bool, true, false, ◌-◌, slice_index_or, Option, Some, None, Result, Ok, Err, if◌then◌else◌, All, AllPairs, IsTrue, ◌↔◌, ◌⊎◌, Contains, length, map, take, drop}
+use Rattle.std.specs.Char.{is_ascii}
 use Rattle.std.specs.List.{list_any}
-use Rattle.std.specs.Str.{chars}
+use Rattle.std.specs.Option.{option_eq}
+use Rattle.std.specs.Str.{chars, IsAscii, IsUtf8}
 use Rattle.std.specs.String.{string_bytes}
 use Rattle.srch_base.specs.declared.faults.Or.{Or}
 use Rattle.srch_base.specs.declared.faults.Or.TheVariants as causes
@@ -128,6 +130,17 @@ Finds all (Err (causes.Fault too_long)) = first_above (segments all) ≡ Some to
 -- the signs of characters where the whole text is one run and no ends of sentences are marked
 abbrev pub plain_signs : (ℕ → Option ℕ) → List ℕ → List TextSign
 plain_signs fold cs = map (λ c. run_sign (fold c) false) cs
+
+-- the character is ASCII, and a letter of the table that folds to itself
+abbrev pub is_own : (ℕ → Option ℕ) → ℕ → Bool
+is_own fold c = is_ascii c && option_eq (λ a b. a == b) (fold c) (Some c)
+
+-- a text begins with these letters, and this text is left after them
+pub record BeginsWithRun (fold : ℕ → Option ℕ) (text run beyond : List ℕ) : Type 0 where
+  pub ascii : IsAscii run
+  pub parts : text ≡ run ++ beyond
+  pub utf8 : IsUtf8 beyond
+  pub signs : plain_signs fold (chars text) ≡ signs_ahead run (plain_signs fold (chars beyond))
 
 -- all that is wanted of the text was found, by its marks
 pub record IsFoundIn (fold : ℕ → Option ℕ) (rules : MarkRules) (text : List ℕ) (found : Found) : Type 0 where
