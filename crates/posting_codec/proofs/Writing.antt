@@ -1,11 +1,11 @@
 -- A hit list while it is written.
-use Rattle.std.proofs.Common.{◌≡◌, ℕ, suc, ◌+◌, ◌-◌, ◌/◌, ◌%◌, Bool, cond, List, [], ◌∷◌, ◌++◌, length, drop, take, get_or, refl, sym, ap, subst, ◌∙◌, append_assoc, append-nil, add-one, arith, length-append, ◌<◌, ◌≤◌, ◌^◌}
+use Rattle.std.proofs.Common.{◌≡◌, ℕ, suc, ◌+◌, ◌-◌, ◌/◌, ◌%◌, List, [], ◌∷◌, ◌++◌, length, drop, take, get_or, refl, sym, ap, subst, ◌∙◌, append_assoc, append-nil, add-one, arith, length-append, ◌<◌, ◌≤◌, ◌^◌}
 use Rattle.std.proofs.Math.Seq.{drop-cons, drop-length}
-use Rattle.std.proofs.lemmas.Bool.{lt-ltb}
 use Rattle.std.proofs.lemmas.List.{take_at}
 use Rattle.posting_codec.specs.HitLists.{IsHit, key, Ascend, AreHits, differences, hit_list}
-use Rattle.posting_codec.specs.Numbers.{number, spelled}
+use Rattle.posting_codec.specs.Numbers.{number}
 use Rattle.posting_codec.proofs.Entries.{list_short}
+use Rattle.posting_codec.proofs.Spellings.{long, short}
 
 -- what was appended to the list at the start, and the differences of the hits from this one on, are the spelling
 pub record Written (hits : List (ℕ × ℕ)) (start out : List ℕ) (i last : ℕ) : Type 0 where
@@ -45,23 +45,45 @@ written_all hits start out i last w e =
 pub written_front : (hits : List (ℕ × ℕ)) (start out : List ℕ) (i last : ℕ) → Written hits start out i last → take (length start) out ≡ start
 written_front hits start out i last w = rw w.grown (take_at start w.bytes (length start) refl)
 
--- a number of one byte
+-- numbers of one, two and three bytes
 small : (n : ℕ) → n < 128 → number n ≡ n ∷ []
 unfolding number
-small n less = ap (λ (b : Bool). cond b (n ∷ []) ((128 + n % 128) ∷ spelled 3 (n / 128))) (lt-ltb n 128 less)
+small n less = short 4 n less
 
--- the length and the spelling of a list of one hit whose key is small
-only_spelled : (hit : ℕ × ℕ) (k : ℕ) → k ≡ key hit → k < 128 → 2 ∷ 1 ∷ k ∷ [] ≡ number (length (hit_list (hit ∷ []))) ++ hit_list (hit ∷ [])
+two : (n : ℕ) → 128 ≤ n → n < 16384 → number n ≡ (128 + n % 128) ∷ n / 128 ∷ []
+unfolding number
+two n low less = long 3 n low ∙ ap (λ (l : List ℕ). (128 + n % 128) ∷ l) (short 3 (n / 128) (omega (arith, less)))
+
+three : (n : ℕ) → 16384 ≤ n → n < 2 ^ 21 → number n ≡ (128 + n % 128) ∷ (128 + n / 128 % 128) ∷ n / 128 / 128 ∷ []
+unfolding number
+three n low less =
+    long 3 n (omega (arith, low))
+    ∙ ap (λ (l : List ℕ). (128 + n % 128) ∷ l) (long 2 (n / 128) (omega (arith, low)) ∙ ap (λ (l : List ℕ). (128 + n / 128 % 128) ∷ l) (short 2 (n / 128 / 128) (omega (arith, less))))
+
+-- the length and the spelling of a list of one hit, whose key is spelled by these bytes
+only_spelled : (hit : ℕ × ℕ) (bytes : List ℕ) (n : ℕ) → number (key hit) ≡ bytes → length bytes ≡ n → n < 127 → (n + 1) ∷ 1 ∷ bytes ≡ number (length (hit_list (hit ∷ []))) ++ hit_list (hit ∷ [])
 unfolding hit_list
-only_spelled hit k is less =
-    let list : number 1 ++ (number (key hit - 0) ++ []) ≡ 1 ∷ k ∷ [] =
-    ap (λ (l : List ℕ). l ++ (number (key hit - 0) ++ [])) (small 1 (omega arith)) ∙ ap (λ (n : ℕ). 1 ∷ (number n ++ [])) (omega (arith, is)) ∙ ap (λ (l : List ℕ). 1 ∷ (l ++ [])) (small k less) in
-    sym (ap (λ (l : List ℕ). number (length l) ++ l) list ∙ ap (λ (l : List ℕ). l ++ (1 ∷ k ∷ [])) (small 2 (omega arith)))
+only_spelled hit bytes n is count less =
+    let list : number 1 ++ (number (key hit - 0) ++ []) ≡ 1 ∷ bytes =
+    ap (λ (l : List ℕ). l ++ (number (key hit - 0) ++ [])) (small 1 (omega arith)) ∙ ap (λ (n : ℕ). 1 ∷ (number n ++ [])) (omega arith) ∙ ap (λ (l : List ℕ). 1 ∷ l) (append-nil (number (key hit)) ∙ is) in
+    let more : length (1 ∷ bytes) ≡ n + 1 = omega (arith, count) in
+    let size : number (length (1 ∷ bytes)) ≡ (n + 1) ∷ [] = ap number more ∙ small (n + 1) (omega (arith, less)) in
+    sym (ap (λ (l : List ℕ). number (length l) ++ l) list ∙ ap (λ (l : List ℕ). l ++ (1 ∷ bytes)) size)
 
-pub one_spelled : (hits : List (ℕ × ℕ)) (d : ℕ × ℕ) (k : ℕ) → 1 ≤ length hits → length hits < 2 → k ≡ key (get_or hits 0 d) → k < 128 → 2 ∷ 1 ∷ k ∷ [] ≡ number (length (hit_list hits)) ++ hit_list hits
-one_spelled [] d k some few is less = absurd (omega (arith, some))
-one_spelled (hit ∷ []) d k some few is less = only_spelled hit k is less
-one_spelled (hit ∷ next ∷ hits) d k some few is less = absurd (omega (arith, few))
+pub near_spelled : (hit : ℕ × ℕ) (k a : ℕ) → k ≡ key hit → k < 128 → a ≡ k % 128 → 2 ∷ 1 ∷ a ∷ [] ≡ number (length (hit_list (hit ∷ []))) ++ hit_list (hit ∷ [])
+near_spelled hit k a is less low =
+    only_spelled hit (a ∷ []) 1 (ap number (sym is) ∙ small k less ∙ ap (λ (n : ℕ). n ∷ []) (omega (arith, less, low))) refl (omega arith)
+
+pub middle_spelled : (hit : ℕ × ℕ) (k a b : ℕ) → k ≡ key hit → 128 ≤ k → k < 16384 → a ≡ k % 128 → b ≡ k / 128 % 128 → 3 ∷ 1 ∷ (128 + a) ∷ b ∷ [] ≡ number (length (hit_list (hit ∷ []))) ++ hit_list (hit ∷ [])
+middle_spelled hit k a b is more less low high =
+    only_spelled hit ((128 + a) ∷ b ∷ []) 2
+    (ap number (sym is) ∙ two k more less ∙ ap (λ (n : ℕ). (128 + n) ∷ k / 128 ∷ []) (sym low) ∙ ap (λ (n : ℕ). (128 + a) ∷ n ∷ []) (omega (arith, less, high))) refl (omega arith)
+
+pub far_spelled : (hit : ℕ × ℕ) (k a b c : ℕ) → k ≡ key hit → 16384 ≤ k → k < 2 ^ 21 → a ≡ k % 128 → b ≡ k / 128 % 128 → c ≡ k / 16384 → 4 ∷ 1 ∷ (128 + a) ∷ (128 + b) ∷ c ∷ [] ≡ number (length (hit_list (hit ∷ []))) ++ hit_list (hit ∷ [])
+far_spelled hit k a b c is more less low high top =
+    only_spelled hit ((128 + a) ∷ (128 + b) ∷ c ∷ []) 3
+    (ap number (sym is) ∙ three k more less ∙ ap (λ (n : ℕ). (128 + n) ∷ (128 + k / 128 % 128) ∷ k / 128 / 128 ∷ []) (sym low)
+    ∙ ap (λ (n : ℕ). (128 + a) ∷ (128 + n) ∷ k / 128 / 128 ∷ []) (sym high) ∙ ap (λ (n : ℕ). (128 + a) ∷ (128 + b) ∷ n ∷ []) (omega (arith, top))) refl (omega arith)
 
 -- so many bytes were counted, and the differences of the hits from this one on are the rest of the spelling
 pub record Counted (hits : List (ℕ × ℕ)) (i last counted : ℕ) : Type 0 where

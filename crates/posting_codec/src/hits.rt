@@ -10,7 +10,7 @@
 //!
 //! As with numbers a list has one spelling, and there are two readers: `read_hits` asks whether there is one, and `hits_at`
 //! reads one that is known to be there.
-ghost use Rattle.std.specs.Prelude.{◌≡◌, ℕ, ◌+◌, ◌-◌, ◌*◌, ◌/◌, ◌%◌, ◌<◌, ◌^◌, ◌++◌, List, [], length, take, MatchOption, IfOk, OnOk, OnErr};
+ghost use Rattle.std.specs.Prelude.{◌≡◌, ℕ, ◌+◌, ◌-◌, ◌*◌, ◌/◌, ◌%◌, ◌<◌, ◌^◌, ◌++◌, ◌∷◌, List, [], length, take, MatchOption, IfOk, OnOk, OnErr};
 ghost use Rattle.posting_codec.specs.Numbers.{number};
 ghost use Rattle.posting_codec.specs.HitLists.{IsHit, key, AreHits, differences, hit_list, AreHitsAt};
 ghost use Rattle.posting_codec.specs.steps.Differences.{IsBehind, AreDifferencesAt};
@@ -58,7 +58,7 @@ pub fn put_hits(hits: &[(u16, u32)], out: &mut Vec<u8>) -> Result<(), NoMemory>
 }
 
 /// Appends the length of a hit list's spelling and the spelling, or a front of them where memory is refused. Most words stand once in
-/// a row, near its beginning: these three bytes are known.
+/// a row, whose bytes are known.
 #[inline]
 pub(crate) fn put_measured(hits: &[(u16, u32)], out: &mut Vec<u8>) -> Result<(), NoMemory>
     requires { AreHits hits.now }
@@ -66,14 +66,31 @@ pub(crate) fn put_measured(hits: &[(u16, u32)], out: &mut Vec<u8>) -> Result<(),
     ensures front { take (length out.old.items) out.new.items ≡ out.old.items }
 {
     if let [hit] = hits {
-        let key = key_of(*hit);
-        if key < 128 {
-            out.extend_from_slice(&[2, 1, key as u8])?;
-            return Ok(());
-        }
+        return put_one(*hit, out);
     }
     put_number(hits_length(hits), out)?;
     put_hits(hits, out)
+}
+
+/// The same of one hit: three bytes near the beginning of the first field, five in the fields behind it and far on in it.
+#[inline]
+fn put_one(hit: (u16, u32), out: &mut Vec<u8>) -> Result<(), NoMemory>
+    requires { AreHits (hit ∷ []) }
+    ensures ok { OnOk result (out.new.items ≡ out.old.items ++ (number (length (hit_list (hit ∷ []))) ++ hit_list (hit ∷ []))) }
+    ensures front { take (length out.old.items) out.new.items ≡ out.old.items }
+{
+    let key = key_of(hit);
+    let low = (key % 128) as u8;
+    let middle = (key / 128 % 128) as u8;
+    let high = (key / 16_384) as u8;
+    if key < 128 {
+        out.extend_from_slice(&[2, 1, low])?;
+    } else if key < 16_384 {
+        out.extend_from_slice(&[3, 1, 128 + low, middle])?;
+    } else {
+        out.extend_from_slice(&[4, 1, 128 + low, 128 + middle, high])?;
+    }
+    Ok(())
 }
 
 /// Appends the count and the differences, or a front of them where memory is refused.

@@ -20,7 +20,7 @@ ghost use Rattle.posting_codec.specs.steps.Parts.{IsPart};
 use srch_base::NoMemory;
 
 /// Appends the number's spelling, 1 to 5 bytes.
-#[inline]
+#[inline(always)]
 #[tactic(auto, unfolding(crate::specs::Numbers::number))]
 pub fn put_number(value: u32, out: &mut Vec<u8>) -> Result<(), NoMemory>
     ensures ok { OnOk result (out.new.items ≡ out.old.items ++ number value) }
@@ -92,7 +92,7 @@ fn read_part(bytes: &[u8], at: usize, more: u32) -> Option<(u64, usize)>
 }
 
 /// The number that is spelled at a place, and the place after it.
-#[inline]
+#[inline(always)]
 #[tactic(auto, unfolding(crate::specs::Numbers::number))]
 pub fn number_at(bytes: &[u8], at: usize) -> (u32, usize)
     requires { (n : ℕ) × (rest : List ℕ) × IsNumberAt bytes.now at n rest }
