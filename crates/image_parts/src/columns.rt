@@ -1,5 +1,5 @@
 //! Rows, which stand at fixed places, all of one length: id, commit, values, and where the row's marks begin.
-ghost use Rattle.std.specs.Prelude.{◌≡◌, ◌+◌, ◌*◌, ◌<◌, ◌≤◌, ◌^◌, ◌==◌, ℕ, List, Some, IsSome, length, slice_get};
+ghost use Rattle.std.specs.Prelude.{◌≡◌, ◌+◌, ◌*◌, ◌<◌, ◌≤◌, ◌^◌, ◌==◌, ℕ, List, Some, None, IsSome, IsTrue, length, slice_get};
 ghost use Rattle.std.specs.Option.{option_map};
 ghost use Rattle.std.specs.List.{position};
 ghost use Rattle.doc_types.specs.declared.documents.DocRow.{DocRow};
@@ -48,11 +48,27 @@ impl Parts {
         Value::Whole(number.cast_signed())
     }
 
+    /// Whether an id comes behind those of all rows. So it is with each new document where ids ascend, and one look tells it.
+    #[inline]
+    fn is_past(self, image: &[u8], id: u64) -> bool
+        requires { (rows : List DocRow) × (words : List (List ℕ)) × HaveImage rows words image.now × ArePartsOf rows words self }
+        ensures { IsTrue result → (rows : List DocRow) (words : List (List ℕ)) → HaveImage rows words image.now → ArePartsOf rows words self → None ≡ position (λ row. row.doc.id == id) rows }
+    {
+        if self.rows == 0 {
+            return true;
+        }
+        let last = self.id(image, self.rows - 1);
+        last < id
+    }
+
     /// The row of an id, if it is there. It is found by halving, since rows ascend by their ids.
     pub fn find(self, image: &[u8], id: u64) -> Option<u32>
         requires { (rows : List DocRow) × (words : List (List ℕ)) × HaveImage rows words image.now × ArePartsOf rows words self }
         ensures { (rows : List DocRow) (words : List (List ℕ)) → HaveImage rows words image.now → ArePartsOf rows words self → result ≡ position (λ row. row.doc.id == id) rows }
     {
+        if self.is_past(image, id) {
+            return None;
+        }
         let mut low = 0;
         let mut high = self.rows;
         'halves: while low < high {

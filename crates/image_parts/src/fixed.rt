@@ -3,7 +3,7 @@ ghost use Rattle.std.specs.Prelude.{◌≡◌, ◌+◌, ◌≤◌, length, take,
 ghost use Rattle.std.specs.Int.{w16, w32, w64, from_le_bytes};
 
 /// The number of 2 bytes at a place.
-#[inline]
+#[inline(always)]
 pub(crate) fn u16_in(bytes: &[u8], at: usize) -> u16
     requires { at + 2 ≤ length bytes.now }
     ensures { result ≡ from_le_bytes w16 (take 2 (drop at bytes.now)) }
@@ -13,7 +13,7 @@ pub(crate) fn u16_in(bytes: &[u8], at: usize) -> u16
 }
 
 /// The number of 4 bytes at a place.
-#[inline]
+#[inline(always)]
 pub(crate) fn u32_in(bytes: &[u8], at: usize) -> u32
     requires { at + 4 ≤ length bytes.now }
     ensures { result ≡ from_le_bytes w32 (take 4 (drop at bytes.now)) }
@@ -23,7 +23,7 @@ pub(crate) fn u32_in(bytes: &[u8], at: usize) -> u32
 }
 
 /// The number of 8 bytes at a place.
-#[inline]
+#[inline(always)]
 pub(crate) fn u64_in(bytes: &[u8], at: usize) -> u64
     requires { at + 8 ≤ length bytes.now }
     ensures { result ≡ from_le_bytes w64 (take 8 (drop at bytes.now)) }

@@ -14,7 +14,7 @@ use std::cmp::Ordering;
 
 impl Parts {
     /// Where the entry of a word begins.
-    #[inline]
+    #[inline(always)]
     fn entry(self, n: u32) -> usize
         requires { self.table + 12 * n < 2 ^ 64 }
         ensures { result ≡ self.table + 12 * n }
@@ -22,14 +22,25 @@ impl Parts {
         self.table + n as usize * ENTRY
     }
 
-    /// The word of this number, in the order of their bytes.
+    /// Where the word of this number stands: the place of its first byte, and how many bytes it has.
     #[inline]
+    pub fn word_span(self, image: &[u8], n: u32) -> (usize, usize)
+        requires { (rows : List DocRow) × (words : List (List ℕ)) × HaveImage rows words image.now × ArePartsOf rows words self × (n < length words) }
+        ensures within { result.0 + result.1 ≤ length image.now }
+        ensures word { (rows : List DocRow) (words : List (List ℕ)) → HaveImage rows words image.now → ArePartsOf rows words self → slice_get words n ≡ Some (take result.1 (drop result.0 image.now)) }
+    {
+        let at = self.dictionary + u32_in(image, self.entry(n)) as usize;
+        counted_at(image, at)
+    }
+
+    /// The word of this number, in the order of their bytes.
+    #[inline(always)]
     pub fn word(self, image: &[u8], n: u32) -> &[u8]
         requires { (rows : List DocRow) × (words : List (List ℕ)) × HaveImage rows words image.now × ArePartsOf rows words self × (n < length words) }
         ensures { (rows : List DocRow) (words : List (List ℕ)) → HaveImage rows words image.now → ArePartsOf rows words self → slice_get words n ≡ Some result.now }
     {
-        let at = self.dictionary + u32_in(image, self.entry(n)) as usize;
-        counted_bytes(image, at)
+        let (at, size) = self.word_span(image, n);
+        &image[at..at + size]
     }
 
     /// The number of a word, if it is there, by halving.
@@ -51,7 +62,7 @@ impl Parts {
     }
 
     /// How many rows have the word of this number.
-    #[inline]
+    #[inline(always)]
     pub fn count(self, image: &[u8], n: u32) -> u32
         requires { (rows : List DocRow) × (words : List (List ℕ)) × HaveImage rows words image.now × ArePartsOf rows words self × (n < length words) }
         ensures { (rows : List DocRow) (words : List (List ℕ)) (word : List ℕ) → HaveImage rows words image.now → ArePartsOf rows words self → slice_get words n ≡ Some word → result ≡ length (rows_with word rows) }
@@ -60,7 +71,7 @@ impl Parts {
     }
 
     /// Where the posting list of the word of this number begins.
-    #[inline]
+    #[inline(always)]
     pub fn list(self, image: &[u8], n: u32) -> usize
         requires { (rows : List DocRow) × (words : List (List ℕ)) × HaveImage rows words image.now × ArePartsOf rows words self × (n < length words) }
         ensures place { (rows : List DocRow) (words : List (List ℕ)) → HaveImage rows words image.now → ArePartsOf rows words self → result + length (postings_bytes rows (drop n words)) ≡ length image.now }
@@ -70,7 +81,7 @@ impl Parts {
     }
 
     /// Where the posting list of the word of this number ends.
-    #[inline]
+    #[inline(always)]
     pub fn list_end(self, image: &[u8], n: u32) -> usize
         requires { (rows : List DocRow) × (words : List (List ℕ)) × HaveImage rows words image.now × ArePartsOf rows words self × (n < length words) }
         ensures place { (rows : List DocRow) (words : List (List ℕ)) → HaveImage rows words image.now → ArePartsOf rows words self → result ≡ length image.now - length (postings_bytes rows (drop (n + 1) words)) }
@@ -84,13 +95,12 @@ impl Parts {
     }
 }
 
-/// The bytes whose number stands before them in one byte.
-#[inline]
-fn counted_bytes(bytes: &[u8], at: usize) -> &[u8]
+/// Where the bytes stand whose number stands before them in one byte, and that number.
+#[inline(always)]
+fn counted_at(bytes: &[u8], at: usize) -> (usize, usize)
     requires { at + 1 + slice_index bytes.now at ≤ length bytes.now }
-    ensures { result.now ≡ take (slice_index bytes.now at) (drop (at + 1) bytes.now) }
+    ensures place { result.0 ≡ at + 1 }
+    ensures size { result.1 ≡ slice_index bytes.now at }
 {
-    let begin = at + 1;
-    let end = begin + bytes[at] as usize;
-    &bytes[begin..end]
+    (at + 1, bytes[at] as usize)
 }

@@ -1,5 +1,6 @@
 pub mod Beginnings
 pub mod Endings
+pub mod Standing
 pub mod Marked
 pub mod Grouped
 pub mod Columned
@@ -9,5 +10,6 @@ pub mod Meeting
 pub mod ByWord
 pub mod Listed
 pub mod Tabled
-pub mod Assembled
+pub mod Imaged
 pub mod Lent
+pub mod Results

@@ -1,5 +1,5 @@
 //! The fixed part of rows: id, commit, values, and where the row's marks begin.
-ghost use Rattle.std.specs.Prelude.{◌≡◌, ◌++◌, [], All, OnOk, map};
+ghost use Rattle.std.specs.Prelude.{◌≡◌, ◌+◌, ◌*◌, ◌++◌, [], All, OnOk, map};
 ghost use Rattle.std.specs.List.{flat_map};
 ghost use Rattle.doc_types.specs.Documents.{IsDocOf};
 ghost use Rattle.doc_types.specs.Schemas.{IsSchema};
@@ -14,6 +14,13 @@ use crate::lending::LendsDoc;
 use crate::marks::put_marks;
 use doc_types::{Doc, Value};
 use srch_base::{NoMemory, put_u32, put_u64};
+
+/// How many bytes the columns of a row with so many attributes take.
+pub fn row_size(attrs: u16) -> usize
+    ensures { result ≡ 20 + 8 * attrs }
+{
+    20 + 8 * attrs as usize
+}
 
 /// Appends the columns of all rows to one list and their marks to another, which is empty. Documents without a number of their own
 /// have this one.

@@ -1,6 +1,6 @@
 //! The first bytes of a word as a number. Most words differ there, so most comparisons of words are of two numbers.
-ghost use Rattle.std.specs.Prelude.{◌≡◌, ◌+◌, ◌*◌, ◌<◌, ◌≤◌, drop, length, slice_index_or};
-ghost use Rattle.image_write.specs.Heads.{IsRead, eighth, ending, head, rank, tells};
+ghost use Rattle.std.specs.Prelude.{◌≡◌, ◌+◌, ◌-◌, ◌*◌, ◌/◌, ◌^◌, ◌<◌, ◌≤◌, drop, length, slice_index_or, take};
+ghost use Rattle.image_write.specs.Heads.{HasBytes, IsRead, eighth, ending, followed, head, rank, tells};
 
 /// The byte behind those that have a head's numbers wholly.
 const EIGHTH: usize = 7;
@@ -34,6 +34,54 @@ pub fn head_of(word: &[u8]) -> u64
         byte_of(word, 5),
         byte_of(word, 6),
         ending_of(word),
+    );
+    high * 4_294_967_296 + low
+}
+
+/// The head of the word of so many bytes that stands at a place of longer bytes. Mostly eight bytes stand there, which are read at
+/// once, and what lies behind the word is cut off: so no branch hangs on how long a short word is.
+#[inline]
+pub fn head_in(bytes: &[u8], at: usize, size: usize) -> u64
+    requires { at + size ≤ length bytes.now }
+    ensures is { result ≡ head (take size (drop at bytes.now)) }
+    ensures bytes { IsRead (take size (drop at bytes.now)) }
+{
+    if 0 < size && size <= EIGHTH && EIGHTH < bytes.len() - at {
+        front_of(eight_at(bytes, at), size) + size as u64
+    } else {
+        head_of(&bytes[at..at + size])
+    }
+}
+
+/// The bytes of a number from the highest one on, so many, and 0 for the others.
+#[inline]
+fn front_of(number: u64, size: usize) -> u64
+    requires { (1 ≤ size) × (size ≤ 7) }
+    ensures { result ≡ number / 2 ^ (64 - 8 * size) * 2 ^ (64 - 8 * size) }
+{
+    let others = 64 - 8 * size as u32;
+    number >> others << others
+}
+
+/// The eight bytes at a place as a number, the first one highest.
+#[inline]
+fn eight_at(bytes: &[u8], at: usize) -> u64
+    requires { at + 8 ≤ length bytes.now }
+    ensures is { result ≡ followed 8 0 (drop at bytes.now) }
+    ensures bytes { HasBytes 8 (drop at bytes.now) }
+{
+    let eight = &bytes[at..at + 8];
+    let high = four_of(
+        u64::from(eight[0]),
+        u64::from(eight[1]),
+        u64::from(eight[2]),
+        u64::from(eight[3]),
+    );
+    let low = four_of(
+        u64::from(eight[4]),
+        u64::from(eight[5]),
+        u64::from(eight[6]),
+        u64::from(eight[7]),
     );
     high * 4_294_967_296 + low
 }

@@ -1,5 +1,5 @@
 //! The image of a chunk, part by part, as docs/FILES.md draws it.
-ghost use Rattle.std.specs.Prelude.{◌≡◌, ◌≤◌, length, map, IfOk, OnOk};
+ghost use Rattle.std.specs.Prelude.{◌≡◌, ◌≤◌, ◌++◌, length, map, IfOk, OnOk};
 ghost use Rattle.doc_types.specs.Documents.{AreRowsOf};
 ghost use Rattle.doc_types.specs.Schemas.{IsSchema};
 ghost use Rattle.doc_types.specs.declared.schema.Schema.{Schema as AnySchema};
@@ -8,10 +8,10 @@ ghost use Rattle.image_write.specs.declared.image.TheConstants.{MAX_IMAGE};
 ghost use Rattle.image_write.specs.Written.{IsWritten, row_of};
 ghost use Rattle.image_write.specs.Headers.{counted};
 
-use crate::columns::put_rows;
+use crate::columns::{put_rows, row_size};
 use crate::gathering::gather;
 use crate::lending::LendsDoc;
-use crate::words::put_words;
+use crate::words::{Tables, tables_of};
 use doc_types::{Doc, DocRow, Schema};
 use srch_base::{NoMemory, put_u16, put_u32};
 use std::alloc::Global;
@@ -21,6 +21,9 @@ pub const MAX_IMAGE: usize = 536_870_912;
 
 /// The bytes of a header.
 const HEADER: usize = 32;
+
+/// How many bytes the marks of a row with a few fields and some twenty boundaries take.
+const FEW_MARKS: usize = 32;
 
 /// The lengths and counts that stand in a header.
 #[derive(Clone, Copy)]
@@ -40,7 +43,7 @@ pub struct Counts {
 /// The image of some rows of a schema.
 ///
 /// It sorts the occurrences of words by the words; beside the image it takes memory for each of them, twice 16 bytes while they are
-/// sorted, and for the image's parts once more.
+/// sorted, and then 26 bytes of room for the image's parts, or what these need where it is more.
 pub fn write_image(alloc: Global, rows: &[DocRow], schema: &Schema) -> Result<Vec<u8>, NoMemory>
     requires schema { IsSchema schema.now }
     requires rows { AreRowsOf schema.now rows.now }
@@ -95,36 +98,46 @@ fn write_lent<R: LendsDoc>(
 {
     let count = count_in(rows.len())?;
     let places = gather(alloc, rows)?;
-    let mut columns = Vec::new(alloc);
-    let mut marks = Vec::new(alloc);
+    let mut columns = Vec::with_capacity(alloc, rows.len().saturating_mul(row_size(attrs)))?;
+    let mut marks = Vec::with_capacity(alloc, rows.len().saturating_mul(FEW_MARKS))?;
     put_rows(rows, number, &mut columns, &mut marks)?;
-    let mut table = Vec::new(alloc);
-    let mut dictionary = Vec::new(alloc);
-    let mut postings = Vec::new(alloc);
-    let words = put_words(
-        alloc,
-        rows,
-        &places,
-        &mut table,
-        &mut dictionary,
-        &mut postings,
-    )?;
+    let tables = tables_of(alloc, rows, &places)?;
     let counts = Counts {
         rows: count,
         fields,
         attrs,
-        words: count_in(words)?,
+        words: tables.words,
         marks: place_in(&marks)?,
-        dictionary: place_in(&dictionary)?,
-        postings: place_in(&postings)?,
+        dictionary: place_in(&tables.dictionary)?,
+        postings: place_in(&tables.postings)?,
     };
-    let room = room_of(&columns, &marks, &table, &dictionary, &postings);
-    let mut image = header_of(alloc, room, &counts)?;
-    image.extend_from_slice(&columns)?;
-    image.extend_from_slice(&marks)?;
-    image.extend_from_slice(&table)?;
-    image.extend_from_slice(&dictionary)?;
-    image.extend_from_slice(&postings)?;
+    assembled(alloc, &counts, &columns, &marks, &tables)
+}
+
+/// The parts of an image, one behind the other.
+pub fn assembled(
+    alloc: Global,
+    counts: &Counts,
+    columns: &[u8],
+    marks: &[u8],
+    tables: &Tables,
+) -> Result<Vec<u8>, NoMemory>
+    ensures is { IfOk result (λ image. image.items ≡ counted counts.now ++ columns.now ++ marks.now ++ tables.now.table.items ++ tables.now.dictionary.items ++ tables.now.postings.items) }
+    ensures short { IfOk result (λ image. length image.items ≤ MAX_IMAGE) }
+{
+    let room = room_of(
+        columns,
+        marks,
+        &tables.table,
+        &tables.dictionary,
+        &tables.postings,
+    );
+    let mut image = header_of(alloc, room, counts)?;
+    image.extend_from_slice(columns)?;
+    image.extend_from_slice(marks)?;
+    image.extend_from_slice(&tables.table)?;
+    image.extend_from_slice(&tables.dictionary)?;
+    image.extend_from_slice(&tables.postings)?;
     place_in(&image)?;
     Ok(image)
 }

@@ -10,9 +10,10 @@ mod lists;
 mod marks;
 mod words;
 
-pub use heads::{head_of, tells};
+pub use columns::row_size;
+pub use heads::{head_in, head_of, tells};
 pub use image::{
-    Counts, MAX_IMAGE, count_in, header_of, place_in, room_of, write_counted, write_docs,
-    write_image,
+    Counts, MAX_IMAGE, assembled, count_in, header_of, place_in, room_of, write_counted,
+    write_docs, write_image,
 };
-pub use words::put_entry;
+pub use words::{Tables, put_entry, put_few};

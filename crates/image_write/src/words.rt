@@ -1,23 +1,86 @@
 //! The parts of an image that are about words: word table, dictionary and postings.
-ghost use Rattle.std.specs.Prelude.{◌≡◌, ◌≤◌, ◌++◌, ◌∷◌, [], List, IsSomeAnd, length, map, drop, slice_get, All, OnOk, IfOk};
+ghost use Rattle.std.specs.Prelude.{◌≡◌, ◌≤◌, ◌+◌, ◌++◌, ◌∷◌, [], List, IsSomeAnd, length, map, drop, slice_get, All, OnOk, IfOk, vec_capacity, vec_len};
 ghost use Rattle.std.specs.Int.{w32, to_le_bytes};
 ghost use Rattle.doc_types.specs.declared.documents.DocRow.{DocRow as AnyRow};
 ghost use Rattle.chunk_image.specs.ChunkImage.{dictionary_bytes, postings_bytes, table_bytes, word_bytes};
 ghost use Rattle.posting_codec.specs.PostingLists.{posting_list};
+ghost use Rattle.image_write.specs.declared.image.TheConstants.{MAX_IMAGE};
 ghost use Rattle.image_write.specs.steps.Gathering.{ArePostable, CanPost, IsGathered, grouped};
 ghost use Rattle.image_write.specs.steps.Places.{HasHead, by_word, word_at};
 
 use crate::gathering::{Occurrence, are_of_one, word_of};
-use crate::image::place_in;
+use crate::image::{count_in, place_in};
 use crate::lending::LendsDoc;
 use crate::lists::{Place, put_list};
 use doc_types::MAX_WORD_BYTES;
-use srch_base::{NoMemory, put_u32};
+use srch_base::NoMemory;
 use std::alloc::Global;
+
+/// How many bytes the entry of a word takes in the word table.
+const ENTRY: usize = 12;
+
+/// How many bytes a word of seven letters takes in the dictionary.
+const SHORT_WORD: usize = 8;
+
+/// How many bytes a posting list takes for a word that stands once in a row, where the row's number and the position are small.
+const POSTING: usize = 6;
+
+/// How many bytes are copied one by one at most.
+const FEW: usize = 8;
+
+/// How many places most words have in the rows of one statement.
+const FEW_PLACES: usize = 16;
+
+/// The parts of an image that are about words, and how many words they have.
+#[derive(Drop)]
+pub struct Tables {
+    pub words: u32,
+    pub table: Vec<u8>,
+    pub dictionary: Vec<u8>,
+    pub postings: Vec<u8>,
+}
+
+/// Word table, dictionary and postings of some documents. The occurrences are sorted by their words.
+///
+/// The lists get their room at once, as if each occurrence were of a word of its own, which is nearly so in one document. A list that
+/// grew by itself would be moved again and again.
+pub(crate) fn tables_of<R: LendsDoc>(
+    alloc: Global,
+    rows: &[R],
+    places: &[Occurrence],
+) -> Result<Tables, NoMemory>
+    requires heads { All (HasHead (map R.lent rows.now)) places.now }
+    requires posted { All CanPost (by_word (map R.lent rows.now) places.now) }
+    ensures table { IfOk result (λ tables. (all : List AnyRow) → All (IsGathered all) (by_word (map R.lent rows.now) places.now) → tables.table.items ≡ table_bytes all 0 0 (map (λ entry. entry.word) (by_word (map R.lent rows.now) places.now))) }
+    ensures dictionary { IfOk result (λ tables. tables.dictionary.items ≡ dictionary_bytes (map (λ entry. entry.word) (by_word (map R.lent rows.now) places.now))) }
+    ensures postings { IfOk result (λ tables. (all : List AnyRow) → All (IsGathered all) (by_word (map R.lent rows.now) places.now) → tables.postings.items ≡ postings_bytes all (map (λ entry. entry.word) (by_word (map R.lent rows.now) places.now))) }
+    ensures count { IfOk result (λ tables. tables.words ≡ length (by_word (map R.lent rows.now) places.now)) }
+    ensures few { IfOk result (λ tables. tables.words ≤ MAX_IMAGE) }
+{
+    let most = places.len();
+    let mut table = Vec::with_capacity(alloc, most.saturating_mul(ENTRY))?;
+    let mut dictionary = Vec::with_capacity(alloc, most.saturating_mul(SHORT_WORD))?;
+    let mut postings = Vec::with_capacity(alloc, most.saturating_mul(POSTING))?;
+    let count = put_words(
+        alloc,
+        rows,
+        places,
+        &mut table,
+        &mut dictionary,
+        &mut postings,
+    )?;
+    let words = count_in(count)?;
+    Ok(Tables {
+        words,
+        table,
+        dictionary,
+        postings,
+    })
+}
 
 /// Appends the word table to one list, and the dictionary and the postings to two others, which are empty; gives the number of
 /// words. The occurrences are sorted by their words.
-pub(crate) fn put_words<R: LendsDoc>(
+fn put_words<R: LendsDoc>(
     alloc: Global,
     rows: &[R],
     places: &[Occurrence],
@@ -34,8 +97,8 @@ pub(crate) fn put_words<R: LendsDoc>(
     ensures postings { OnOk result ((all : List AnyRow) → All (IsGathered all) (by_word (map R.lent rows.now) places.now) → postings.new.items ≡ postings_bytes all (map (λ entry. entry.word) (by_word (map R.lent rows.now) places.now))) }
     ensures count { IfOk result (λ count. count ≡ length (by_word (map R.lent rows.now) places.now)) }
 {
-    let mut group = Vec::new(alloc);
-    let mut hits = Vec::new(alloc);
+    let mut group = Vec::with_capacity(alloc, FEW_PLACES)?;
+    let mut hits = Vec::with_capacity(alloc, FEW_PLACES)?;
     let mut count = 0;
     let mut at = 0;
     while at < places.len() {
@@ -94,13 +157,47 @@ fn put_word(
     put_entry(at, rows, list, table)
 }
 
-/// Appends the entry of a word: its place in the dictionary, how many rows have it, and the place of its posting list.
+/// Appends the entry of a word: its place in the dictionary, how many rows have it, and the place of its posting list. Every word has
+/// one, so its room is looked at once.
+#[inline]
 pub fn put_entry(word: u32, rows: u32, list: u32, out: &mut Vec<u8>) -> Result<(), NoMemory>
     ensures { OnOk result (out.new.items ≡ out.old.items ++ (to_le_bytes w32 word ++ to_le_bytes w32 rows ++ to_le_bytes w32 list)) }
 {
-    put_u32(word, out)?;
-    put_u32(rows, out)?;
-    put_u32(list, out)
+    out.reserve(ENTRY)?;
+    put_number(word, out);
+    put_number(rows, out);
+    put_number(list, out);
+    Ok(())
+}
+
+/// Appends the number's 4 bytes, the low byte first, where there is room for them.
+#[inline(always)]
+fn put_number(value: u32, out: &mut Vec<u8>)
+    requires { vec_len out.old + 4 ≤ vec_capacity out.old }
+    ensures items { out.new.items ≡ out.old.items ++ to_le_bytes w32 value }
+    ensures room { vec_capacity out.new ≡ vec_capacity out.old }
+{
+    let [a, b, c, d] = value.to_le_bytes();
+    out.push_reserved(a);
+    out.push_reserved(b);
+    out.push_reserved(c);
+    out.push_reserved(d);
+}
+
+/// Appends bytes, of which there are mostly few: these one by one, since a call that copies takes longer than they do.
+#[inline(always)]
+pub fn put_few(bytes: &[u8], out: &mut Vec<u8>) -> Result<(), NoMemory>
+    ensures { OnOk result (out.new.items ≡ out.old.items ++ bytes.now) }
+{
+    if bytes.len() > FEW {
+        out.extend_from_slice(bytes)?;
+        return Ok(());
+    }
+    out.reserve(bytes.len())?;
+    for byte in bytes {
+        out.push_reserved(*byte);
+    }
+    Ok(())
 }
 
 /// Appends a word to the dictionary: its length and its bytes. No row has a word that is longer than a word may be.
@@ -111,6 +208,6 @@ fn put_bytes(word: &[u8], out: &mut Vec<u8>) -> Result<(), NoMemory>
         return Err(NoMemory);
     }
     out.push(word.len() as u8)?;
-    out.extend_from_slice(word)?;
+    put_few(word, out)?;
     Ok(())
 }

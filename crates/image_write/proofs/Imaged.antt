@@ -60,23 +60,26 @@ header schema rows words fields attrs counts written is =
     let w : counts.words ≡ length (map word_of words) = is.words_n ∙ sym (length-map words word_of) in
     λ i. counted (record { rows = is.rows_n i; fields = f i; attrs = a i; words = w i; marks = is.marks_n i; dictionary = is.dictionary_n i; postings = is.postings_n i })
 
-pub assembled : (schema : Schema) (rows : List DocRow) (words : List WordPlaces) (fields attrs : ℕ) (counts : Counts) (columns marks table postings i0 i1 i2 i3 i4 i5 : List ℕ)
+pub assembled : (schema : Schema) (rows : List DocRow) (words : List WordPlaces) (fields attrs : ℕ) (counts : Counts) (columns marks table dictionary postings image : List ℕ)
     → IsWritten schema rows fields attrs → AreGathered rows words → length words < 2 ^ 32 → AreCounts rows words fields attrs counts → All HasRoom rows
-    → columns ≡ rows_bytes 0 rows → marks ≡ marks_bytes rows → table ≡ table_bytes rows 0 0 (map word_of words) → postings ≡ postings_bytes rows (map word_of words)
-    → i0 ≡ counted counts → i1 ≡ i0 ++ columns → i2 ≡ i1 ++ marks → i3 ≡ i2 ++ table → i4 ≡ i3 ++ dictionary_bytes (map word_of words) → i5 ≡ i4 ++ postings
-    → IsImageOf schema rows i5
-assembled schema rows words fields attrs counts columns marks table postings i0 i1 i2 i3 i4 i5 written gathered few counts_are room cs ms ts ps e0 e1 e2 e3 e4 e5 =
+    → columns ≡ rows_bytes 0 rows → marks ≡ marks_bytes rows → table ≡ table_bytes rows 0 0 (map word_of words) → dictionary ≡ dictionary_bytes (map word_of words) → postings ≡ postings_bytes rows (map word_of words)
+    → image ≡ counted counts ++ columns ++ marks ++ table ++ dictionary ++ postings
+    → IsImageOf schema rows image
+assembled schema rows words fields attrs counts columns marks table dictionary postings image written gathered few counts_are room cs ms ts ds ps is =
     let h = header schema rows words fields attrs counts written counts_are in
     let d = dictionary_bytes (map word_of words) in
-    let first : i1 ≡ counted counts ++ rows_bytes 0 rows = e1 ∙ ap (λ l. l ++ columns) e0 ∙ ap (λ l. counted counts ++ l) cs in
-    let second : i2 ≡ counted counts ++ rows_bytes 0 rows ++ marks_bytes rows = e2 ∙ ap (λ l. l ++ marks) first ∙ ap (λ l. counted counts ++ rows_bytes 0 rows ++ l) ms in
-    let third : i3 ≡ counted counts ++ rows_bytes 0 rows ++ marks_bytes rows ++ table_bytes rows 0 0 (map word_of words) = e3 ∙ ap (λ l. l ++ table) second ∙ ap (λ l. counted counts ++ rows_bytes 0 rows ++ marks_bytes rows ++ l) ts in
-    let fifth : i5 ≡ counted counts ++ rows_bytes 0 rows ++ marks_bytes rows ++ table_bytes rows 0 0 (map word_of words) ++ d ++ postings_bytes rows (map word_of words) =
-    e5 ∙ ap (λ l. l ++ postings) (e4 ∙ ap (λ l. l ++ d) third) ∙ ap (λ l. counted counts ++ rows_bytes 0 rows ++ marks_bytes rows ++ table_bytes rows 0 0 (map word_of words) ++ d ++ l) ps in
+    let t = table_bytes rows 0 0 (map word_of words) in
+    let c = counted counts in
     record {
       words = map word_of words;
       are = are_words rows words gathered;
       few_words = omega (arith, few, length-map words word_of);
       room = room;
-      is = fifth ∙ ap (λ l. l ++ rows_bytes 0 rows ++ marks_bytes rows ++ table_bytes rows 0 0 (map word_of words) ++ d ++ postings_bytes rows (map word_of words)) h;
+      is =
+          is ∙ ap (λ l. c ++ l ++ marks ++ table ++ dictionary ++ postings) cs
+          ∙ ap (λ l. c ++ rows_bytes 0 rows ++ l ++ table ++ dictionary ++ postings) ms
+          ∙ ap (λ l. c ++ rows_bytes 0 rows ++ marks_bytes rows ++ l ++ dictionary ++ postings) ts
+          ∙ ap (λ l. c ++ rows_bytes 0 rows ++ marks_bytes rows ++ t ++ l ++ postings) ds
+          ∙ ap (λ l. c ++ rows_bytes 0 rows ++ marks_bytes rows ++ t ++ d ++ l) ps
+          ∙ ap (λ l. l ++ rows_bytes 0 rows ++ marks_bytes rows ++ t ++ d ++ postings_bytes rows (map word_of words)) h;
     }
