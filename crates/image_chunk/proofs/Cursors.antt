@@ -3,6 +3,7 @@ use Rattle.std.proofs.Common.{◌≡◌, ℕ, zero, suc, ◌+◌, ◌-◌, ◌<�
 use Rattle.std.specs.Prelude.{nat_lt}
 use Rattle.std.proofs.Math.Logic.{∥∥₁_elim}
 use Rattle.std.proofs.lemmas.Bool.{lt-ltb, ltb-true}
+use Rattle.std.proofs.lemmas.Bool.Decides.{nat_tests}
 use Rattle.std.specs.Coded.{le_prop}
 use Rattle.std.proofs.lemmas.Option.{slice_get_within}
 use Rattle.std.proofs.lemmas.List.{length-take}
@@ -135,6 +136,13 @@ pub not_at_end : (bytes : List ℕ) (is : Image bytes) (cursor : Cursor) → Sta
 not_at_end bytes is cursor stands some end =
     let none : next_row (place_in is.0.0 is.0.1 cursor) ≡ None = place_in-row_of bytes is cursor stands ∙ ap row_of end in
     let clash : false ≡ true = subst IsSome none some in absurd cc
+
+-- and one that isn't has one
+pub left_next : (bytes : List ℕ) (is : Image bytes) (cursor : Cursor) → StandsIn is.0.0 is.0.1 bytes cursor → (cursor.index ≡ NO_ROW → ⊥) → IsSome (next_row (place_in is.0.0 is.0.1 cursor))
+left_next bytes is cursor stands left =
+    let other : (cursor.index == NO_ROW) ≡ false = grind (arith, nat_tests) in
+    let some : IsSome (row_of cursor.index) = rw other refl in
+    subst IsSome (sym (place_in-row_of bytes is cursor stands)) some
 
 pub goes_open : (bytes : List ℕ) (is : Image bytes) (cursor : Cursor) (list : List ℕ) → list ≡ list_in is.0.0 is.0.1 bytes cursor.word → StandsIn is.0.0 is.0.1 bytes cursor → IsSome (next_row (place_in is.0.0 is.0.1 cursor)) → GoesOn is.0.0 is.0.1 bytes list cursor
 goes_open bytes is cursor list same stands some = goes_on bytes is cursor list same stands (not_at_end bytes is cursor stands some)

@@ -1,5 +1,5 @@
 -- A cursor before all rows of a word.
-use Rattle.std.proofs.Common.{◌≡◌, ℕ, zero, suc, ◌+◌, ◌-◌, ◌<◌, ◌≤◌, ◌^◌, true, List, [], ◌∷◌, ◌++◌, Option, Some, None, length, take, drop, map, slice_get, refl, sym, ap, subst, ◌∙◌, arith, get_or, length-append}
+use Rattle.std.proofs.Common.{◌≡◌, ℕ, zero, suc, ◌+◌, ◌-◌, ◌<◌, ◌≤◌, ◌^◌, true, List, [], ◌∷◌, ◌++◌, Option, Some, None, IsSome, length, take, drop, map, slice_get, refl, sym, ap, subst, ◌∙◌, arith, get_or, length-append}
 use Rattle.std.specs.List.{Contains, position}
 use Rattle.std.specs.Str.{bytes_eq}
 use Rattle.std.proofs.lemmas.List.{drop-take, length-drop, length-map, take_at}
@@ -9,7 +9,7 @@ use Rattle.std.proofs.lemmas.Option.{slice_get-get_or}
 use Rattle.doc_types.specs.declared.cursor.Cursor.{Cursor}
 use Rattle.doc_types.specs.declared.cursor.TheConstants.{NO_ROW}
 use Rattle.doc_types.specs.declared.documents.DocRow.{DocRow}
-use Rattle.doc_types.specs.Chunks.{first_place, rows_from, rows_with}
+use Rattle.doc_types.specs.Chunks.{CursorPlace, first_place, next_row, rows_from, rows_with}
 use Rattle.row_laws.specs.AlikeRows.{postings}
 use Rattle.posting_codec.specs.PostingLists.{posting_list}
 use Rattle.chunk_image.specs.ChunkImage.{postings_bytes, word_postings}
@@ -51,6 +51,14 @@ is_found bytes is word n found =
 -- and of each word by its number
 pub is_there : (bytes : List ℕ) (is : Image bytes) (n : ℕ) → n < length is.0.1 → IsFound is.0.0 is.0.1 (get_or is.0.1 n []) n
 is_there bytes is n low = record { within = low; there = slice_get-get_or is.0.1 n [] low; some = (words_are bytes is).each n [] low }
+
+-- so a row is next at the place before all its rows
+pub first_next : (bytes : List ℕ) (is : Image bytes) (n : ℕ) (place : CursorPlace) → n < length is.0.1 → ((word : List ℕ) → slice_get is.0.1 n ≡ Some word → place ≡ first_place word is.0.0) → IsSome (next_row place)
+first_next bytes is n place low first =
+    let word = get_or is.0.1 n [] in
+    let found = is_there bytes is n low in
+    let next : next_row place ≡ Some (get_or (rows_with word is.0.0) 0 0) = ap next_row (first word found.there) ∙ slice_get-get_or (rows_with word is.0.0) 0 0 found.some in
+    subst IsSome (sym next) refl
 
 -- the list of a word in the image that ends where the list does
 list_cut : (bytes list rest : List ℕ) (at end : ℕ) → drop at bytes ≡ list ++ rest → 0 < length list → end ≡ length bytes - length rest → drop at (take end bytes) ≡ list

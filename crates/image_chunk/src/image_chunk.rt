@@ -2,8 +2,8 @@
 //! found by halving, and a cursor is a place in the postings. The rows are those whose image the bytes are, of which there is one
 //! list.
 //!
-//! Beside the bytes it keeps a cursor at each 64th row of each word that has more, so that a search for a row goes over 64 rows at
-//! most, and not over all before it.
+//! Beside the bytes it keeps a cursor at each 64th row of each word that has more, so that a search for a row, or for the last one,
+//! goes over 64 rows at most, and not over all before it.
 ghost use Rattle.std.specs.Prelude.{◌≡◌, ◌<◌, ◌≤◌, ℕ, List, Some, All, IfOk, length, slice_get, IsSome, IsSomeAnd};
 ghost use Rattle.std.specs.Option.{option_map};
 ghost use Rattle.chunk_image.specs.Marks.{row_marks};
@@ -12,6 +12,7 @@ ghost use Rattle.doc_types.specs.Chunks.{fields_ahead, first_place, hits_ahead, 
 ghost use Rattle.chunk_image.specs.ChunkImage.{word_postings};
 ghost use Rattle.doc_types.specs.declared.documents.DocRow.{DocRow};
 ghost use Rattle.image_parts.specs.Images.{ArePartsOf, HasZones, HaveImage};
+ghost use Rattle.image_write.specs.Heads.{IsRead, head};
 ghost use Rattle.image_chunk.specs.Images.{Image};
 ghost use Rattle.image_chunk.specs.Places.{StandsIn, list_in, place_in};
 ghost use Rattle.image_chunk.specs.steps.OneImage.{content_whole, one_image, words_are};
@@ -22,6 +23,7 @@ use crate::skips::{SKIP, before, put_skips};
 use crate::steps::{fields_of, first, hit_bytes, put_hits, step};
 use doc_types::{Chunk, Cursor, Gap, HitLists, NO_ROW, Value, ZoneSpan};
 use image_parts::{Parts, attrs_of, marks_of, parts_of, put_gaps, put_lasts, put_spans};
+use image_write::head_in;
 use srch_base::{Items, NoMemory, Steps};
 use std::alloc::Global;
 use std::sync::ledger::Ledger;
@@ -89,7 +91,7 @@ impl ImageChunk {
     }
 
     /// The image up to the end of the posting list of a word.
-    #[inline]
+    #[inline(always)]
     fn list(&self, word: u32) -> &[u8]
         requires { word < length self.now.image.0.1 }
         ensures { result.now ≡ list_in self.now.image.0.0 self.now.image.0.1 self.now.bytes word }
@@ -99,7 +101,7 @@ impl ImageChunk {
     }
 
     /// The bytes of the word's hit list in the next row that has it.
-    #[inline]
+    #[inline(always)]
     pub fn hit_bytes(&self, cursor: &Cursor) -> &[u8]
         requires belongs { StandsIn self.now.image.0.0 self.now.image.0.1 self.now.bytes cursor.now }
         requires left { IsSome (next_row (place_in self.now.image.0.0 self.now.image.0.1 cursor.now)) }
@@ -148,7 +150,7 @@ impl ImageChunk {
     }
 
     /// The bytes of the posting list of the word of this number.
-    #[inline]
+    #[inline(always)]
     pub fn list_bytes(&self, number: u32) -> &[u8]
         requires { number < length self.now.image.0.1 }
         ensures { (word : List ℕ) → slice_get self.now.image.0.1 number ≡ Some word → result.now ≡ word_postings self.now.image.0.0 word }
@@ -159,12 +161,46 @@ impl ImageChunk {
     }
 
     /// How many rows have the word of this number.
-    #[inline]
+    #[inline(always)]
     pub fn count_of(&self, number: u32) -> u32
         requires { number < length self.now.image.0.1 }
         ensures { (word : List ℕ) → slice_get self.now.image.0.1 number ≡ Some word → result ≡ length (rows_with word self.now.image.0.0) }
     {
         self.parts.count(self.bytes.as_slice(), number)
+    }
+
+    /// The head of the word of this number, read where the word stands.
+    #[inline]
+    pub fn head_at(&self, number: u32) -> u64
+        requires { number < length self.now.image.0.1 }
+        ensures is { (word : List ℕ) → slice_get self.now.image.0.1 number ≡ Some word → result ≡ head word }
+        ensures bytes { (word : List ℕ) → slice_get self.now.image.0.1 number ≡ Some word → IsRead word }
+    {
+        let image = self.bytes.as_slice();
+        let (at, size) = self.parts.word_span(image, number);
+        head_in(image, at, size)
+    }
+
+    /// A cursor before some of the last rows that have the word of this number, at least one: the word's last skip entry, or its
+    /// front where it has none, as one of 64 rows or fewer.
+    pub fn near_end(&self, number: u32) -> Cursor
+        requires { number < length self.now.image.0.1 }
+        ensures stands { StandsIn self.now.image.0.0 self.now.image.0.1 self.now.bytes result }
+        ensures word { (word : List ℕ) → slice_get self.now.image.0.1 number ≡ Some word → (place_in self.now.image.0.0 self.now.image.0.1 result).word ≡ word }
+        ensures some { IsSome (next_row (place_in self.now.image.0.0 self.now.image.0.1 result)) }
+    {
+        if self.count_of(number) <= SKIP {
+            return self.front(number);
+        }
+        let skips = self.skips.as_slice();
+        let found = before(skips, number, NO_ROW);
+        if found > 0 {
+            let skip = skips[found - 1];
+            if skip.word == number && skip.index != NO_ROW {
+                return skip;
+            }
+        }
+        self.front(number)
     }
 
     /// The fields of the row at which a cursor stands, read off its hits.
@@ -177,7 +213,7 @@ impl ImageChunk {
     }
 
     /// Sets a cursor that stands at a row on to the next one of its word.
-    #[inline]
+    #[inline(always)]
     pub(crate) fn go_on(&self, cursor: &mut Cursor)
         requires belongs { StandsIn self.now.image.0.0 self.now.image.0.1 self.now.bytes cursor.old }
         requires left { cursor.old.index ≡ NO_ROW → ⊥ }
@@ -269,12 +305,12 @@ impl Chunk for ImageChunk {
         Some(self.front(number))
     }
 
-    #[inline]
+    #[inline(always)]
     fn row(&self, cursor: &Cursor) -> Option<u32> {
         cursor.next_row()
     }
 
-    #[inline]
+    #[inline(always)]
     fn advance(&self, cursor: &mut Cursor) {
         if cursor.index == NO_ROW {
             return;

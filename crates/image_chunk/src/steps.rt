@@ -30,7 +30,7 @@ pub(crate) fn first(list: &[u8], at: usize) -> (u32, u32)
 }
 
 /// The place and the row after a row of a list.
-#[inline]
+#[inline(always)]
 pub(crate) fn step(list: &[u8], at: u32, index: u32) -> (u32, u32)
     requires small { length list.now < 2 ^ 31 }
     requires here { IsHere list.now at index }
@@ -47,7 +47,7 @@ pub(crate) fn step(list: &[u8], at: u32, index: u32) -> (u32, u32)
 }
 
 /// The bytes of the hit list of the row at this place.
-#[inline]
+#[inline(always)]
 pub(crate) fn hit_bytes(list: &[u8], at: u32, index: u32) -> &[u8]
     requires small { length list.now < 2 ^ 31 }
     requires here { IsHere list.now at index }

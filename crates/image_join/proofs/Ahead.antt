@@ -1,5 +1,5 @@
 -- The rows ahead of a cursor.
-use Rattle.std.proofs.Common.{◌≡◌, ℕ, ◌+◌, ◌<◌, ◌≤◌, List, [], ◌∷◌, true, false, cond, Some, slice_get, length, map, get_or, sym, ap, ◌∙◌, arith, All, length-append}
+use Rattle.std.proofs.Common.{◌≡◌, ℕ, ◌+◌, ◌<◌, ◌≤◌, List, [], ◌∷◌, true, false, cond, Some, IsSome, slice_get, length, map, get_or, sym, ap, ◌∙◌, arith, All, length-append}
 use Rattle.std.specs.List.{filter, enumerate_from}
 use Rattle.std.proofs.lemmas.List.{get_or-append-add}
 use Rattle.std.proofs.lemmas.List.Elements.{All-cons, All-head, All-tail}
@@ -19,6 +19,13 @@ below word n (r ∷ rs) =
       | true ↦ All-cons (λ row. row < n + length (r ∷ rs)) n (numbers word (n + 1) rs) (omega arith) rest
       | false ↦ rest
     ]
+
+-- a place with a next row has rows ahead
+pub next_some : (place : CursorPlace) → IsSome (next_row place) → 0 < length place.ahead
+next_some place some = longer place.ahead some where
+  longer : (ahead : List ℕ) → IsSome (slice_get ahead 0) → 0 < length ahead
+  longer [] s = let clash : false ≡ true = s in absurd cc
+  longer (row ∷ rows) s = omega arith
 
 -- the next row is one of the rows
 pub next_below : (rows : List DocRow) (place : CursorPlace) (row : ℕ) → IsCursorPlace rows place → Some row ≡ next_row place → row < length rows

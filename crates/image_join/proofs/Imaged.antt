@@ -6,7 +6,7 @@ use Rattle.doc_types.specs.Chunks.{AreWordsOf}
 use Rattle.chunk_image.specs.ChunkImage.{HasRoom, IsImageOf, dictionary_bytes, header_bytes, marks_bytes, postings_bytes, rows_bytes, table_bytes}
 use Rattle.image_write.specs.declared.image.Counts.{Counts}
 use Rattle.image_write.specs.Headers.{counted}
-use Rattle.image_join.specs.declared.words.Tables.{Tables}
+use Rattle.image_write.specs.declared.words.Tables.{Tables}
 use Rattle.image_join.specs.steps.Merging.{AreTables}
 
 -- the counts of an image with these words

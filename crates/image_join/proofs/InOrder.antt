@@ -9,7 +9,7 @@ use Rattle.doc_types.specs.declared.documents.DocRow.{DocRow}
 use Rattle.doc_types.specs.Chunks.{has_word, hits_of}
 use Rattle.row_laws.specs.AlikeRows.{postings}
 use Rattle.posting_codec.specs.HitLists.{hit_list}
-use Rattle.image_join.specs.declared.words.Tables.{Tables}
+use Rattle.image_write.specs.declared.words.Tables.{Tables}
 use Rattle.image_join.specs.steps.Entries.{AreEntriesOf, Entry, entries_in, entry_of}
 use Rattle.image_join.specs.steps.Merging.{AreTables, added}
 use Rattle.image_join.specs.steps.Parts.{PartValue}

@@ -7,7 +7,6 @@ pub mod InOrder
 pub mod Joined
 pub mod Laid
 pub mod Least
-pub mod Lesser
 pub mod Listed
 pub mod Livings
 pub mod Merged

@@ -3,8 +3,8 @@ use Rattle.std.proofs.Common.{◌≡◌, ℕ, List, [], Option, Some, None, sym,
 use Rattle.std.specs.List.{flat_map}
 use Rattle.doc_types.specs.declared.documents.DocRow.{DocRow}
 use Rattle.doc_types.specs.Chunks.{AreWordsOf}
-use Rattle.image_join.specs.declared.words.Next.{Next}
-use Rattle.image_join.specs.declared.words.Tables.{Tables}
+use Rattle.image_join.specs.declared.nexts.Next.{Next}
+use Rattle.image_write.specs.declared.words.Tables.{Tables}
 use Rattle.image_join.specs.steps.Entries.{AreEntriesOf, Entry, entries_in}
 use Rattle.image_join.specs.steps.Merging.{AreTables, AreWordsUpTo, IsDone, IsLeast, StandAt, added}
 use Rattle.image_join.specs.steps.Numbering.{AreNumbered}

@@ -3,11 +3,10 @@ use Rattle.std.proofs.Common.{◌≡◌, ◌≢◌, ℕ, ◌+◌, ◌<◌, ◌�
 use Rattle.std.proofs.lemmas.Bool.Decides.{nat_tests}
 use Rattle.std.proofs.lemmas.Option.{slice_get-get_or, slice_get_within}
 use Rattle.doc_types.specs.Chunks.{AreWordsOf, rows_with}
-use Rattle.image_join.specs.steps.Merging.{IsBefore, IsHeaded, StandsAt, is_ahead, less}
+use Rattle.image_join.specs.steps.Merging.{IsBefore, IsHeadOf, StandsAt, is_ahead, less}
 use Rattle.image_join.specs.steps.Parts.{PartValue}
 use Rattle.image_join.proofs.Least.{in_order, le_told}
-use Rattle.image_join.specs.declared.words.Next.{Next}
-use Rattle.image_join.proofs.Lesser.{value}
+use Rattle.image_join.specs.declared.nexts.Next.{Next}
 use Rattle.image_join.proofs.Order.{not_back, not_itself, not_less, same_word}
 
 clash : (b : Bool) → b ≡ true → b ≡ false → ⊥
@@ -66,7 +65,6 @@ module _ (last : Option (List ℕ)) (part : PartValue) (next : Next) (word : Lis
         ] refl in
         is ∙ sym (le_true head n low))
         (below_or_not head n);
-    front = stands.front;
     headed = stands.headed;
   }
 
@@ -81,10 +79,9 @@ module _ (last : Option (List ℕ)) (part : PartValue) (next : Next) (word : Lis
       none (r ∷ rs) few = absurd (few (omega arith))
 
   -- where it is the next word, those behind it are ahead now
-  pub goes_on : (after : Next) → slice_get part.words head ≡ Some word → after.number ≡ head + 1 → value after.word ≡ slice_get part.words (head + 1) → IsHeaded after → StandsAt (Some word) part after
-  goes_on after here at front headed = record {
-    headed = headed;
-    front = front ∙ ap (slice_get part.words) (sym at);
+  pub goes_on : (after : Next) → slice_get part.words head ≡ Some word → after.number ≡ head + 1 → IsHeadOf (slice_get part.words (head + 1)) after.head → StandsAt (Some word) part after
+  goes_on after here at headed = record {
+    headed = subst (λ n. IsHeadOf (slice_get part.words n) after.head) (sym at) headed;
     split = λ n own here_at.
         ⊎_elim
         (λ low. not_ahead n own here_at low ∙ sym (le_false after.number n (omega (arith, low, at))))

@@ -139,6 +139,10 @@ behind_some : (a b : ℕ) (rows : List ℕ) → 0 < length rows → behind a row
 behind_some a b [] some = absurd (omega (arith, some))
 behind_some a b (r ∷ rs) some = refl
 
+-- the last rows tell what all of them do
+pub behind_last : (first last : List ℕ) → 0 < length last → behind 0 last ≡ behind 0 (first ++ last)
+behind_last first last some = behind_some 0 (behind 0 first) last some ∙ sym (behind_append 0 first last)
+
 -- the entries rise
 rising_from : (word : List ℕ) (least n : ℕ) (rows : List DocRow) → least ≤ n → n + length rows < NO_ROW → Rising least (map spell (postings word n rows))
 rising_from word least n [] low few = tt

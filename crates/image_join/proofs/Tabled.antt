@@ -6,7 +6,7 @@ use Rattle.std.proofs.lemmas.Grind.{flat_map-append}
 use Rattle.doc_types.specs.declared.documents.DocRow.{DocRow}
 use Rattle.doc_types.specs.Chunks.{rows_with}
 use Rattle.chunk_image.specs.ChunkImage.{dictionary_bytes, postings_bytes, table_bytes, word_bytes, word_postings}
-use Rattle.image_join.specs.declared.words.Tables.{Tables}
+use Rattle.image_write.specs.declared.words.Tables.{Tables}
 use Rattle.image_join.specs.steps.Entries.{AreEntriesOf, Entry, Rising, spelled_list}
 use Rattle.image_join.specs.steps.Merging.{AreTables, added}
 use Rattle.image_join.proofs.Listed.{word_listed}

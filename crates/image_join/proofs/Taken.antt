@@ -4,7 +4,7 @@ use Rattle.std.specs.List.{flat_map}
 use Rattle.std.proofs.lemmas.List.{get_or-set_other, get_or-append-add, get_or-set_same, get_or_append_left, get_or_default, take_more}
 use Rattle.std.proofs.lemmas.List.Concat.{flat_map-append}
 use Rattle.image_join.specs.steps.Entries.{Entry, entries_in}
-use Rattle.image_join.specs.declared.words.Next.{Next}
+use Rattle.image_join.specs.declared.nexts.Next.{Next}
 use Rattle.image_join.specs.steps.Merging.{StandsAt, blank_next, next_at}
 use Rattle.image_join.specs.steps.Parts.{PartValue, blank_part, part_at}
 

@@ -3,6 +3,7 @@ ghost use Rattle.std.specs.Prelude.{◌≡◌, ◌<◌, ℕ, List, IsSome, Some,
 ghost use Rattle.std.specs.Option.{option_map};
 ghost use Rattle.doc_types.specs.Chunks.{first_place, hits_ahead, next_row, rows_with};
 ghost use Rattle.chunk_image.specs.ChunkImage.{word_postings};
+ghost use Rattle.image_write.specs.Heads.{IsRead, head};
 ghost use Rattle.posting_codec.specs.HitLists.{hit_list};
 ghost use Rattle.chunk_image.specs.Marks.{row_marks};
 
@@ -32,6 +33,20 @@ pub trait CopyBytes: Chunk {
     fn count_at(&self, n: u32) -> u32
         requires { n < length (Self.words_of self.now) }
         ensures { (word : List ℕ) → slice_get (Self.words_of self.now) n ≡ Some word → result ≡ length (rows_with word (Self.content self.now)) };
+
+    /// The head of the word of this number.
+    fn head_at(&self, n: u32) -> u64
+        requires { n < length (Self.words_of self.now) }
+        ensures is { (word : List ℕ) → slice_get (Self.words_of self.now) n ≡ Some word → result ≡ head word }
+        ensures bytes { (word : List ℕ) → slice_get (Self.words_of self.now) n ≡ Some word → IsRead word };
+
+    /// A cursor before some of the last rows that have the word of this number, at least one. How many they are isn't said: the
+    /// fewer, the sooner the last one is found.
+    fn near_end(&self, n: u32) -> Cursor
+        requires { n < length (Self.words_of self.now) }
+        ensures belongs { Self.belongs self.now result }
+        ensures word { (word : List ℕ) → slice_get (Self.words_of self.now) n ≡ Some word → (Self.place self.now result).word ≡ word }
+        ensures some { IsSome (next_row (Self.place self.now result)) };
 
     /// The bytes of the word's hit list in the next row that has it.
     fn hit_bytes(&self, cursor: &Cursor) -> &[u8]

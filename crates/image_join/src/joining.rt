@@ -1,10 +1,9 @@
 //! The image of layers that are put together.
-ghost use Rattle.std.specs.Prelude.{◌≡◌, ◌<◌, ◌≤◌, ◌++◌, length, map, ℕ, All, IfOk, OnOk};
+ghost use Rattle.std.specs.Prelude.{◌≡◌, ◌<◌, ◌≤◌, length, map, ℕ, All, IfOk, OnOk};
 ghost use Rattle.doc_types.specs.Documents.{AreRowsOf};
 ghost use Rattle.doc_types.specs.Schemas.{IsSchema};
 ghost use Rattle.doc_types.specs.declared.schema.Schema.{Schema as AnySchema};
 ghost use Rattle.chunk_image.specs.ChunkImage.{IsImageOf};
-ghost use Rattle.image_write.specs.Headers.{counted};
 ghost use Rattle.doc_types.specs.Snapshots.{all_living};
 ghost use Rattle.image_write.specs.declared.image.TheConstants.{MAX_IMAGE};
 ghost use Rattle.layer_joins.specs.Joins.{AreOfOne};
@@ -17,9 +16,9 @@ use crate::columns::put_rows;
 use crate::copying::CopyBytes;
 use crate::ordering::{Living, numbers_of, order_of};
 use crate::parts::{Part, parts_of};
-use crate::words::{Tables, tables_of};
+use crate::words::tables_of;
 use doc_types::Layer;
-use image_write::{Counts, count_in, header_of, place_in, room_of};
+use image_write::{Counts, assembled, count_in, place_in, row_size};
 use srch_base::NoMemory;
 use std::alloc::Global;
 
@@ -71,39 +70,6 @@ fn image_of<C: CopyBytes>(
         postings: place_in(&tables.postings)?,
     };
     assembled(alloc, &counts, &columns, &marks, &tables)
-}
-
-/// How many bytes the columns of a row with so many attributes take.
-fn row_size(attrs: u16) -> usize {
-    20 + 8 * attrs as usize
-}
-
-/// The parts of an image, one behind the other.
-fn assembled(
-    alloc: Global,
-    counts: &Counts,
-    columns: &[u8],
-    marks: &[u8],
-    tables: &Tables,
-) -> Result<Vec<u8>, NoMemory>
-    ensures is { IfOk result (λ image. image.items ≡ counted counts.now ++ columns.now ++ marks.now ++ tables.now.table.items ++ tables.now.dictionary.items ++ tables.now.postings.items) }
-    ensures short { IfOk result (λ image. length image.items ≤ MAX_IMAGE) }
-{
-    let room = room_of(
-        columns,
-        marks,
-        &tables.table,
-        &tables.dictionary,
-        &tables.postings,
-    );
-    let mut image = header_of(alloc, room, counts)?;
-    image.extend_from_slice(columns)?;
-    image.extend_from_slice(marks)?;
-    image.extend_from_slice(&tables.table)?;
-    image.extend_from_slice(&tables.dictionary)?;
-    image.extend_from_slice(&tables.postings)?;
-    place_in(&image)?;
-    Ok(image)
 }
 
 /// How many fields and attributes the rows have.

@@ -12,6 +12,7 @@ mod columns;
 mod copying;
 mod joining;
 mod lists;
+mod nexts;
 mod ordering;
 mod parts;
 mod stacking;

@@ -6,6 +6,7 @@ ghost use Rattle.doc_types.specs.Chunks.{AreWordsOf, rows_with};
 ghost use Rattle.doc_types.specs.Snapshots.{all_living, living};
 ghost use Rattle.chunk_image.specs.ChunkImage.{word_postings};
 ghost use Rattle.chunk_image.specs.Marks.{row_marks};
+ghost use Rattle.image_write.specs.Heads.{IsRead, head};
 ghost use Rattle.image_join.specs.steps.Parts.{AreLaid, all_rows, living_of, row_at};
 
 use crate::copying::CopyBytes;
@@ -43,7 +44,7 @@ impl<C: CopyBytes> Part<C> {
     }
 
     /// How many rows stand before its first one.
-    #[inline]
+    #[inline(always)]
     pub(crate) fn first(&self) -> u32
         ensures { result ≡ self.now.first }
     {
@@ -103,7 +104,7 @@ impl<C: CopyBytes> Part<C> {
     }
 
     /// How many words it has.
-    #[inline]
+    #[inline(always)]
     pub(crate) fn words(&self) -> u32
         ensures count { result ≡ length self.now.words }
         ensures are { AreWordsOf self.now.rows self.now.words }
@@ -125,8 +126,27 @@ impl<C: CopyBytes> Part<C> {
         }
     }
 
+    /// The word of this number.
+    #[inline(always)]
+    pub(crate) fn word_at(&self, n: u32) -> &[u8]
+        requires { n < length self.now.words }
+        ensures { slice_get self.now.words n ≡ Some result.now }
+    {
+        self.chunk.word_at(n)
+    }
+
+    /// The head of the word of this number, by which it is put in order before it is looked at itself.
+    #[inline(always)]
+    pub(crate) fn head(&self, n: u32) -> u64
+        requires { n < length self.now.words }
+        ensures is { (word : List ℕ) → slice_get self.now.words n ≡ Some word → result ≡ head word }
+        ensures bytes { (word : List ℕ) → slice_get self.now.words n ≡ Some word → IsRead word }
+    {
+        self.chunk.head_at(n)
+    }
+
     /// The bytes of the posting list of the word of this number.
-    #[inline]
+    #[inline(always)]
     pub(crate) fn list(&self, n: u32) -> &[u8]
         requires { n < length self.now.words }
         ensures { (word : List ℕ) → slice_get self.now.words n ≡ Some word → result.now ≡ word_postings self.now.rows word }
@@ -135,7 +155,7 @@ impl<C: CopyBytes> Part<C> {
     }
 
     /// How many rows have the word of this number.
-    #[inline]
+    #[inline(always)]
     pub(crate) fn count(&self, n: u32) -> u32
         requires { n < length self.now.words }
         ensures { (word : List ℕ) → slice_get self.now.words n ≡ Some word → result ≡ length (rows_with word self.now.rows) }

@@ -5,22 +5,20 @@
 //! first entry changes, and the other bytes are copied as they are.
 ghost use Rattle.std.specs.Prelude.{◌≡◌, ◌<◌, ◌≤◌, ◌+◌, ◌++◌, ◌∷◌, ℕ, List, Option, Some, IsTrue, length, slice_get, true, All, IfOk, OnOk};
 ghost use Rattle.std.specs.List.{flat_map};
-ghost use Rattle.std.specs.Option.{option_map};
 ghost use Rattle.doc_types.specs.declared.cursor.TheConstants.{NO_ROW};
 ghost use Rattle.doc_types.specs.declared.documents.DocRow.{DocRow as AnyRow};
 ghost use Rattle.doc_types.specs.Chunks.{AreWordsOf, rows_with};
 ghost use Rattle.posting_codec.specs.PostingLists.{posting_list};
-ghost use Rattle.image_write.specs.Heads.{IsRead, head};
 ghost use Rattle.image_join.specs.steps.Entries.{AreEntriesOf};
-ghost use Rattle.image_join.specs.steps.Merging.{AreTables, IsBefore, IsHeaded, IsLeast, StandAt, StandsAt, added, is_ahead};
+ghost use Rattle.image_join.specs.steps.Merging.{AreTables, IsBefore, IsHeadOf, IsLeast, StandAt, StandsAt, added, is_ahead};
 ghost use Rattle.image_join.specs.steps.Parts.{AreLaid};
 ghost use Rattle.image_join.specs.steps.Stacking.{AreInOrder, ArePosted, Posting, at_front, behind, moved, stacked_in};
 
 use crate::copying::CopyBytes;
+use crate::nexts::{Next, is_next, next_of};
 use crate::parts::Part;
-use crate::words::{Next, Tables, is_next, next_of};
 use doc_types::{MAX_WORD_BYTES, NO_ROW};
-use image_write::{head_of, place_in, put_entry};
+use image_write::{Tables, place_in, put_entry, put_few};
 use posting_codec::{number_at, put_number};
 use srch_base::NoMemory;
 
@@ -48,7 +46,7 @@ pub(crate) fn stand_in_order(numbers: &[u32]) -> bool
 
 /// Appends a posting list, whose rows lie so many rows further on here, to one that ends before them, where this is the least row
 /// that can stand next. Gives the row behind the first one that was appended.
-#[inline]
+#[inline(always)]
 fn put_moved(list: &[u8], by: u32, least: u32, out: &mut Vec<u8>) -> Result<u32, NoMemory>
     requires list { (entry : Posting) × (entries : List Posting) × (list.now ≡ posting_list 0 (entry ∷ entries)) × (by + entry.0 < NO_ROW) }
     requires least { least ≤ by }
@@ -57,7 +55,7 @@ fn put_moved(list: &[u8], by: u32, least: u32, out: &mut Vec<u8>) -> Result<u32,
 {
     let (ahead, behind) = number_at(list, 0);
     put_number(by - least + ahead, out)?;
-    out.extend_from_slice(&list[behind..])?;
+    put_few(&list[behind..], out)?;
     Ok(by + ahead)
 }
 
@@ -68,7 +66,7 @@ fn behind_of<C: CopyBytes>(chunk: &C, word: u32) -> u32
     ensures is { (w : List ℕ) → slice_get (C.words_of chunk.now) word ≡ Some w → result ≡ behind 0 (rows_with w (C.content chunk.now)) }
     ensures within { result ≤ length (C.content chunk.now) }
 {
-    let mut cursor = chunk.start_at(word);
+    let mut cursor = chunk.near_end(word);
     let mut behind = 0;
     while let Some(row) = chunk.row(&cursor) {
         behind = row + 1;
@@ -91,7 +89,7 @@ fn behind_in<C: CopyBytes>(part: &Part<C>, word: u32) -> u32
 
 /// The row behind the last one of the part that has the word of this number, where so many have it, and this one stands behind the
 /// first of them. Most words of a small part are in one row of it, so that its list needn't be gone over.
-#[inline]
+#[inline(always)]
 fn behind_all<C: CopyBytes>(part: &Part<C>, word: u32, rows: u32, first: u32) -> u32
     requires word { word < length part.now.words }
     requires few { part.now.first + length part.now.rows < NO_ROW }
@@ -107,7 +105,7 @@ fn behind_all<C: CopyBytes>(part: &Part<C>, word: u32, rows: u32, first: u32) ->
 }
 
 /// Appends the entries of the part's word of this number, and says how far the list is then.
-#[inline]
+#[inline(always)]
 fn put_stacked<C: CopyBytes>(
     part: &Part<C>,
     word: u32,
@@ -131,27 +129,25 @@ fn put_stacked<C: CopyBytes>(
 
 /// Appends the entries of a word, whose head this is, in a part, if it is the part's next one, and gives where the part stands and
 /// how far the list is then.
-#[inline]
-fn stack_from<'p, C: CopyBytes>(
-    part: &'p Part<C>,
+#[inline(always)]
+fn stack_from<C: CopyBytes>(
+    part: &Part<C>,
     word: &[u8],
-    word_head: u64,
-    next: Next<'p>,
+    head: u64,
+    next: Next,
     reached: Reached,
     out: &mut Vec<u8>,
-) -> Result<(Next<'p>, Reached), NoMemory>
+) -> Result<(Next, Reached), NoMemory>
     requires words { AreWordsOf part.now.rows part.now.words }
     requires few { part.now.first + length part.now.rows < NO_ROW }
     requires least { reached.least ≤ part.now.first }
-    requires front { option_map (λ word. word.now) next.word ≡ slice_get part.now.words next.number }
-    requires headed { IsHeaded next }
-    requires head { word_head ≡ head word.now }
-    requires read { IsRead word.now }
+    requires next { IsHeadOf (slice_get part.now.words next.number) next.head }
+    requires head { IsHeadOf (Some word.now) head }
     ensures within { IfOk result (λ after. after.1.least ≤ part.now.first + length part.now.rows) }
-    ensures next { IfOk result (λ after. (last : Option (List ℕ)) → StandsAt last part.now next.entry → IsBefore last word.now part.now → is_ahead last word.now ≡ true → StandsAt (Some word.now) part.now after.0) }
-    ensures posted { IfOk result (λ after. (last : Option (List ℕ)) → StandsAt last part.now next.entry → IsBefore last word.now part.now → is_ahead last word.now ≡ true → ArePosted (stacked_in word.now part.now) out.old.items out.new.items reached after.1) }
+    ensures next { IfOk result (λ after. (last : Option (List ℕ)) → StandsAt last part.now next → IsBefore last word.now part.now → is_ahead last word.now ≡ true → StandsAt (Some word.now) part.now after.0) }
+    ensures posted { IfOk result (λ after. (last : Option (List ℕ)) → StandsAt last part.now next → IsBefore last word.now part.now → is_ahead last word.now ≡ true → ArePosted (stacked_in word.now part.now) out.old.items out.new.items reached after.1) }
 {
-    if !is_next(next, word, word_head) {
+    if !is_next(part, next, word, head) {
         return Ok((next, reached));
     }
     let after = put_stacked(part, next.number, reached, out)?;
@@ -159,24 +155,25 @@ fn stack_from<'p, C: CopyBytes>(
 }
 
 /// Appends the entries of a word, which is the least of the parts' next ones, goes over it, and says how far the list is then.
-fn stack_lists<'p, C: CopyBytes>(
-    parts: &'p [Part<C>],
+fn stack_lists<C: CopyBytes>(
+    parts: &[Part<C>],
     word: &[u8],
-    nexts: &mut [Next<'p>],
+    head: u64,
+    nexts: &mut [Next],
     out: &mut Vec<u8>,
 ) -> Result<Reached, NoMemory>
     requires words { All (λ part. AreWordsOf part.rows part.words) parts.now }
     requires stand { (last : Option (List ℕ)) × StandAt last parts.now nexts.old }
     requires few { All (λ part. part.first + length part.rows < NO_ROW) parts.now }
     requires laid { AreLaid 0 parts.now }
+    requires head { IsHeadOf (Some word.now) head }
     ensures long { length nexts.new ≡ length nexts.old }
     ensures nexts { OnOk result ((last : Option (List ℕ)) → StandAt last parts.now nexts.old → IsLeast last parts.now word.now → StandAt (Some word.now) parts.now nexts.new) }
     ensures posted { IfOk result (λ after. (last : Option (List ℕ)) → StandAt last parts.now nexts.old → IsLeast last parts.now word.now → ArePosted (flat_map (stacked_in word.now) parts.now) out.old.items out.new.items at_front after) }
 {
-    let word_head = head_of(word);
     let mut reached = Reached { least: 0, count: 0 };
     for (number, part) in parts.iter().enumerate() {
-        let (next, after) = stack_from(part, word, word_head, nexts[number], reached, out)?;
+        let (next, after) = stack_from(part, word, head, nexts[number], reached, out)?;
         nexts[number] = next;
         reached = after;
     }
@@ -184,23 +181,25 @@ fn stack_lists<'p, C: CopyBytes>(
 }
 
 /// Appends a word, which is the least of the parts' next ones, with its entries, where it has some, and goes over it.
-pub(crate) fn stack_word<'p, C: CopyBytes>(
-    parts: &'p [Part<C>],
+pub(crate) fn stack_word<C: CopyBytes>(
+    parts: &[Part<C>],
     word: &[u8],
-    nexts: &mut [Next<'p>],
+    head: u64,
+    nexts: &mut [Next],
     tables: &mut Tables,
 ) -> Result<(), NoMemory>
     requires words { All (λ part. AreWordsOf part.rows part.words) parts.now }
     requires stand { (last : Option (List ℕ)) × StandAt last parts.now nexts.old }
     requires few { All (λ part. part.first + length part.rows < NO_ROW) parts.now }
     requires laid { AreLaid 0 parts.now }
+    requires head { IsHeadOf (Some word.now) head }
     ensures long { length nexts.new ≡ length nexts.old }
     ensures nexts { OnOk result ((last : Option (List ℕ)) → StandAt last parts.now nexts.old → IsLeast last parts.now word.now → StandAt (Some word.now) parts.now nexts.new) }
     ensures tables { OnOk result ((last : Option (List ℕ)) → StandAt last parts.now nexts.old → IsLeast last parts.now word.now → (rows : List AnyRow) (words : List (List ℕ)) → AreTables rows words tables.old → AreEntriesOf word.now rows (flat_map (stacked_in word.now) parts.now) → AreTables rows (added (flat_map (stacked_in word.now) parts.now) words word.now) tables.new) }
 {
     let place = place_in(&tables.dictionary)?;
     let list = place_in(&tables.postings)?;
-    let reached = stack_lists(parts, word, nexts, &mut tables.postings)?;
+    let reached = stack_lists(parts, word, head, nexts, &mut tables.postings)?;
     if reached.count == 0 {
         return Ok(());
     }
@@ -209,7 +208,7 @@ pub(crate) fn stack_word<'p, C: CopyBytes>(
     }
     put_entry(place, reached.count, list, &mut tables.table)?;
     tables.dictionary.push(word.len() as u8)?;
-    tables.dictionary.extend_from_slice(word)?;
+    put_few(word, &mut tables.dictionary)?;
     tables.words = tables.words.checked_add(1).ok_or(NoMemory)?;
     Ok(())
 }

@@ -1,15 +1,15 @@
 -- The words of parts while they are merged.
-use Rattle.std.specs.Prelude.{◌≡◌, ◌<◌, ℕ, List, [], ◌∷◌, ◌++◌, Bool, true, false, Option, Some, None, nat_le, if◌then◌else◌, length, get_or, slice_get, All, AllPairs, Contains}
+use Rattle.std.specs.Prelude.{◌≡◌, ◌≢◌, ◌<◌, ◌≤◌, ℕ, List, [], ◌∷◌, ◌++◌, ◌==◌, Bool, true, false, Option, Some, None, nat_le, if◌then◌else◌, length, get_or, slice_get, All, AllPairs, Contains}
 use Rattle.std.specs.Cmp.Lexicographic.{slice_cmp}
-use Rattle.std.specs.Option.{option_map}
 use Rattle.std.specs.Ordering.{nat_cmp, is_lt}
 use Rattle.std.specs.declared.cmp.Ordering.TheVariants.{Less}
 use Rattle.doc_types.specs.declared.documents.DocRow.{DocRow}
 use Rattle.doc_types.specs.Chunks.{rows_with}
 use Rattle.chunk_image.specs.ChunkImage.{dictionary_bytes, postings_bytes, table_bytes}
 use Rattle.image_write.specs.Heads.{IsRead, head}
-use Rattle.image_join.specs.declared.words.Next.{Next}
-use Rattle.image_join.specs.declared.words.Tables.{Tables}
+use Rattle.image_join.specs.declared.nexts.Next.{Next}
+use Rattle.image_join.specs.declared.nexts.TheConstants.{NO_HEAD}
+use Rattle.image_write.specs.declared.words.Tables.{Tables}
 use Rattle.image_join.specs.steps.Parts.{PartValue, part_at}
 
 -- a word stands before another one
@@ -29,20 +29,31 @@ lesser (Some word) (Some other) = if less other word then Some other else Some w
 
 -- where a part stands for none
 abbrev pub blank_next : Next
-blank_next = record { number = 0; word = None; head = 0 }
+blank_next = record { number = 0; head = 0 }
 
 abbrev pub next_at : List Next → ℕ → Next
 next_at nexts k = get_or nexts k blank_next
 
--- the next word's first bytes are at hand as a number
-pub record IsHeaded (next : Next) : Type 0 where
-  pub is : (word : List ℕ) → option_map (λ word. word.now) next.word ≡ Some word → (next.head ≡ head word) × IsRead word
+-- the first bytes of a word as a number, or what stands for these where there is no word
+abbrev pub IsHeadOf : Option (List ℕ) → ℕ → Type 0
+IsHeadOf None number = number ≡ NO_HEAD
+IsHeadOf (Some word) number = (number ≡ head word) × IsRead word
 
--- the part's words from this number on are those ahead, and the first of them is at hand
+-- a word, where this is the head of the next one
+abbrev pub with_head : ℕ → Next → Option (List ℕ) → Option (List ℕ)
+with_head number next word = if next.head == number then word else None
+
+-- the least head of so many of these, and the place of one that has it, if any has a word
+pub record IsLeastHead (nexts : List Next) (count place number : ℕ) : Type 0 where
+  pub within : number ≤ NO_HEAD
+  pub least : (k : ℕ) → k < count → number ≤ (next_at nexts k).head
+  pub here : number ≢ NO_HEAD → (place < count) × ((next_at nexts place).head ≡ number)
+  pub none : number ≡ NO_HEAD → (k : ℕ) → k < count → (next_at nexts k).head ≡ NO_HEAD
+
+-- the part's words from this number on are those ahead, and the head of the first of them is at hand
 pub record StandsAt (last : Option (List ℕ)) (part : PartValue) (next : Next) : Type 0 where
   pub split : (n : ℕ) (word : List ℕ) → slice_get part.words n ≡ Some word → is_ahead last word ≡ nat_le next.number n
-  pub front : option_map (λ word. word.now) next.word ≡ slice_get part.words next.number
-  pub headed : IsHeaded next
+  pub headed : IsHeadOf (slice_get part.words next.number) next.head
 
 -- so each part stands
 pub record StandAt (last : Option (List ℕ)) (parts : List PartValue) (nexts : List Next) : Type 0 where

@@ -11,7 +11,7 @@ use Rattle.image_join.specs.steps.Numbering.{AreNumbered, row_in}
 use Rattle.image_join.specs.steps.Parts.{PartValue}
 use Rattle.image_join.proofs.Imaged.{image_is}
 use Rattle.image_join.proofs.Joined.{fields_of, values_of}
-use Rattle.image_join.proofs.Results.{handed}
+use Rattle.image_write.proofs.Results.{handed}
 use Rattle.image_join.proofs.joining.image_of.Goals as goal
 
 pub put_rows-requires-clause-wide : goal.put_rows-requires-clause-wide

@@ -46,8 +46,8 @@ returns-clause-nexts g c = λ last stand least. record {
   each = λ k low. c.loop-number.invariant.nexts last stand least k (omega (arith, low, c.loop-number-test.false));
 }
 
-pub stack_from-requires-clause-headed : goal.stack_from-requires-clause-headed
-stack_from-requires-clause-headed g c =
+pub stack_from-requires-clause-next : goal.stack_from-requires-clause-next
+stack_from-requires-clause-next g c =
     let parts : List PartValue = c.args.parts.now in
     let i = c.loop-number.number in
     let last = c.requires.stand.0 in

@@ -32,19 +32,8 @@ returns-clause-nexts g c = λ last stand least. record {
   each = λ k low. c.loop-number.invariant.nexts last stand least k (omega (arith, low, c.loop-number-test.false));
 }
 
-pub take_from-requires-clause-front : goal.take_from-requires-clause-front
-take_from-requires-clause-front g c =
-    let parts : List PartValue = c.args.parts.now in
-    let i = c.loop-number.number in
-    let last = c.requires.stand.0 in
-    let part = c.index-parts-number.result in
-    let here : part ≡ part_at parts i = c.index-parts-number.is ∙ get_or_default parts i part blank_part c.loop-number-test.true in
-    let stands : StandsAt last part (next_at c.loop-number.nexts i) =
-    subst (StandsAt last part) (sym (c.loop-number.invariant.later i (omega arith))) (subst (λ p. StandsAt last p (next_at c.args.nexts.now i)) (sym here) (c.requires.stand.1.each i c.loop-number-test.true)) in
-    stands.front
-
-pub take_from-requires-clause-headed : goal.take_from-requires-clause-headed
-take_from-requires-clause-headed g c =
+pub take_from-requires-clause-next : goal.take_from-requires-clause-next
+take_from-requires-clause-next g c =
     let parts : List PartValue = c.args.parts.now in
     let i = c.loop-number.number in
     let last = c.requires.stand.0 in

@@ -1,7 +1,7 @@
 use Rattle.std.proofs.Common.{◌≡◌, ◌∷◌, [], List, length, ap, ◌∙◌, arith, length-append}
 use Rattle.image_join.specs.steps.Parts.{PartValue}
 use Rattle.image_join.proofs.Taken.{first_more}
-use Rattle.image_join.proofs.words.nexts_of.Goals as goal
+use Rattle.image_join.proofs.nexts.nexts_of.Goals as goal
 
 pub loop-part-preserved : goal.loop-part-preserved
 loop-part-preserved g c =

@@ -1,7 +1,7 @@
 use Rattle.std.proofs.Common.{◌≡◌, ◌<◌, ℕ, length, None}
 use Rattle.image_join.specs.steps.Merging.{StandsAt, next_at}
 use Rattle.image_join.specs.steps.Parts.{part_at}
-use Rattle.image_join.proofs.words.nexts_of.Given as goal
+use Rattle.image_join.proofs.nexts.nexts_of.Given as goal
 
 abbrev pub invariant-loop-part : goal.invariant-loop-part
 invariant-loop-part g l = record {
