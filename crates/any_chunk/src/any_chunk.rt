@@ -35,7 +35,7 @@ impl AnyChunk {
     }
 
     /// The image that answers.
-    #[inline(always)]
+    #[inline]
     fn image(&self) -> &ImageChunk
         ensures { result.now ≡ image_of self.now }
     {
@@ -78,12 +78,10 @@ impl Chunk for AnyChunk {
         self.image().find(id)
     }
 
-    #[inline(always)]
     fn words(&self) -> u32 {
         self.image().words()
     }
 
-    #[inline(always)]
     fn word_at(&self, n: u32) -> &[u8] {
         self.image().word_at(n)
     }
@@ -96,12 +94,10 @@ impl Chunk for AnyChunk {
         self.image().start(word)
     }
 
-    #[inline(always)]
     fn row(&self, cursor: &Cursor) -> Option<u32> {
         self.image().row(cursor)
     }
 
-    #[inline(always)]
     fn advance(&self, cursor: &mut Cursor) {
         self.image().advance(cursor)
     }
@@ -160,17 +156,15 @@ impl CopyBytes for AnyChunk {
         self.image().front(n)
     }
 
-    #[inline(always)]
     fn list_bytes(&self, n: u32) -> &[u8] {
         self.image().list_bytes(n)
     }
 
-    #[inline(always)]
     fn count_at(&self, n: u32) -> u32 {
         self.image().count_of(n)
     }
 
-    #[inline(always)]
+    #[inline]
     fn head_at(&self, n: u32) -> u64 {
         self.image().head_at(n)
     }

@@ -55,7 +55,7 @@ fn first_of<C: CopyBytes>(part: &Part<C>) -> Next
 }
 
 /// The part's word behind the one of this number.
-#[inline(always)]
+#[inline]
 pub(crate) fn next_of<C: CopyBytes>(part: &Part<C>, number: u32) -> Next
     requires { number < length part.now.words }
     ensures number { result.number ≡ number + 1 }
@@ -66,7 +66,7 @@ pub(crate) fn next_of<C: CopyBytes>(part: &Part<C>, number: u32) -> Next
 }
 
 /// Where a part of so many words stands before this one of them, or behind all.
-#[inline(always)]
+#[inline]
 fn before<C: CopyBytes>(part: &Part<C>, number: u32, count: u32) -> Next
     requires { count ≡ length part.now.words }
     ensures number { result.number ≡ number }
@@ -104,7 +104,7 @@ pub(crate) fn least_word<'p, C: CopyBytes>(
 }
 
 /// The place of the least of the heads, and that head.
-#[inline(always)]
+#[inline]
 fn least_of(nexts: &[Next]) -> (usize, u64)
     ensures { IsLeastHead nexts.now (length nexts.now) result.0 result.1 }
 {
@@ -179,7 +179,7 @@ fn lesser<'p>(least: Option<&'p [u8]>, other: Option<&'p [u8]>) -> Option<&'p [u
 }
 
 /// Whether the part's next word is this one, whose head this is.
-#[inline(always)]
+#[inline]
 pub(crate) fn is_next<C: CopyBytes>(part: &Part<C>, next: Next, word: &[u8], head: u64) -> bool
     requires next { IsHeadOf (slice_get part.now.words next.number) next.head }
     requires head { IsHeadOf (Some word.now) head }
@@ -195,7 +195,7 @@ pub(crate) fn is_next<C: CopyBytes>(part: &Part<C>, next: Next, word: &[u8], hea
 }
 
 /// Whether the part's word of this number is this one.
-#[inline(never)]
+#[inline]
 fn has_at<C: CopyBytes>(part: &Part<C>, number: u32, word: &[u8]) -> bool
     ensures { MatchBool result (slice_get part.now.words number ≡ Some word.now) (slice_get part.now.words number ≢ Some word.now) }
 {

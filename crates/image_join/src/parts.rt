@@ -44,7 +44,7 @@ impl<C: CopyBytes> Part<C> {
     }
 
     /// How many rows stand before its first one.
-    #[inline(always)]
+    #[inline]
     pub(crate) fn first(&self) -> u32
         ensures { result ≡ self.now.first }
     {
@@ -104,7 +104,7 @@ impl<C: CopyBytes> Part<C> {
     }
 
     /// How many words it has.
-    #[inline(always)]
+    #[inline]
     pub(crate) fn words(&self) -> u32
         ensures count { result ≡ length self.now.words }
         ensures are { AreWordsOf self.now.rows self.now.words }
@@ -127,7 +127,7 @@ impl<C: CopyBytes> Part<C> {
     }
 
     /// The word of this number.
-    #[inline(always)]
+    #[inline]
     pub(crate) fn word_at(&self, n: u32) -> &[u8]
         requires { n < length self.now.words }
         ensures { slice_get self.now.words n ≡ Some result.now }
@@ -136,7 +136,7 @@ impl<C: CopyBytes> Part<C> {
     }
 
     /// The head of the word of this number, by which it is put in order before it is looked at itself.
-    #[inline(always)]
+    #[inline]
     pub(crate) fn head(&self, n: u32) -> u64
         requires { n < length self.now.words }
         ensures is { (word : List ℕ) → slice_get self.now.words n ≡ Some word → result ≡ head word }
@@ -146,7 +146,7 @@ impl<C: CopyBytes> Part<C> {
     }
 
     /// The bytes of the posting list of the word of this number.
-    #[inline(always)]
+    #[inline]
     pub(crate) fn list(&self, n: u32) -> &[u8]
         requires { n < length self.now.words }
         ensures { (word : List ℕ) → slice_get self.now.words n ≡ Some word → result.now ≡ word_postings self.now.rows word }
@@ -155,7 +155,7 @@ impl<C: CopyBytes> Part<C> {
     }
 
     /// How many rows have the word of this number.
-    #[inline(always)]
+    #[inline]
     pub(crate) fn count(&self, n: u32) -> u32
         requires { n < length self.now.words }
         ensures { (word : List ℕ) → slice_get self.now.words n ≡ Some word → result ≡ length (rows_with word self.now.rows) }

@@ -18,7 +18,7 @@ use crate::copying::CopyBytes;
 use crate::nexts::{Next, is_next, next_of};
 use crate::parts::Part;
 use doc_types::{MAX_WORD_BYTES, NO_ROW};
-use image_write::{Tables, place_in, put_entry, put_few};
+use image_write::{Tables, place_in, put_entry};
 use posting_codec::{number_at, put_number};
 use srch_base::NoMemory;
 
@@ -46,7 +46,7 @@ pub(crate) fn stand_in_order(numbers: &[u32]) -> bool
 
 /// Appends a posting list, whose rows lie so many rows further on here, to one that ends before them, where this is the least row
 /// that can stand next. Gives the row behind the first one that was appended.
-#[inline(always)]
+#[inline]
 fn put_moved(list: &[u8], by: u32, least: u32, out: &mut Vec<u8>) -> Result<u32, NoMemory>
     requires list { (entry : Posting) × (entries : List Posting) × (list.now ≡ posting_list 0 (entry ∷ entries)) × (by + entry.0 < NO_ROW) }
     requires least { least ≤ by }
@@ -55,7 +55,7 @@ fn put_moved(list: &[u8], by: u32, least: u32, out: &mut Vec<u8>) -> Result<u32,
 {
     let (ahead, behind) = number_at(list, 0);
     put_number(by - least + ahead, out)?;
-    put_few(&list[behind..], out)?;
+    out.extend_from_slice(&list[behind..])?;
     Ok(by + ahead)
 }
 
@@ -89,7 +89,7 @@ fn behind_in<C: CopyBytes>(part: &Part<C>, word: u32) -> u32
 
 /// The row behind the last one of the part that has the word of this number, where so many have it, and this one stands behind the
 /// first of them. Most words of a small part are in one row of it, so that its list needn't be gone over.
-#[inline(always)]
+#[inline]
 fn behind_all<C: CopyBytes>(part: &Part<C>, word: u32, rows: u32, first: u32) -> u32
     requires word { word < length part.now.words }
     requires few { part.now.first + length part.now.rows < NO_ROW }
@@ -105,7 +105,7 @@ fn behind_all<C: CopyBytes>(part: &Part<C>, word: u32, rows: u32, first: u32) ->
 }
 
 /// Appends the entries of the part's word of this number, and says how far the list is then.
-#[inline(always)]
+#[inline]
 fn put_stacked<C: CopyBytes>(
     part: &Part<C>,
     word: u32,
@@ -129,7 +129,7 @@ fn put_stacked<C: CopyBytes>(
 
 /// Appends the entries of a word, whose head this is, in a part, if it is the part's next one, and gives where the part stands and
 /// how far the list is then.
-#[inline(always)]
+#[inline]
 fn stack_from<C: CopyBytes>(
     part: &Part<C>,
     word: &[u8],
@@ -208,7 +208,7 @@ pub(crate) fn stack_word<C: CopyBytes>(
     }
     put_entry(place, reached.count, list, &mut tables.table)?;
     tables.dictionary.push(word.len() as u8)?;
-    put_few(word, &mut tables.dictionary)?;
+    tables.dictionary.extend_from_slice(word)?;
     tables.words = tables.words.checked_add(1).ok_or(NoMemory)?;
     Ok(())
 }

@@ -15,7 +15,7 @@ use crate::nexts::{Least, Next, is_next, least_word, next_of, nexts_of};
 use crate::parts::Part;
 use crate::stacking::{stack_word, stand_in_order};
 use doc_types::MAX_WORD_BYTES;
-use image_write::{Tables, count_in, place_in, put_entry, put_few};
+use image_write::{Tables, count_in, place_in, put_entry};
 use srch_base::NoMemory;
 use std::alloc::Global;
 
@@ -188,7 +188,7 @@ fn put_word(word: &[u8], found: &mut Vec<(u32, &[u8])>, tables: &mut Tables) -> 
     let rows = count_in(found.len())?;
     put_entry(place, rows, list, &mut tables.table)?;
     tables.dictionary.push(word.len() as u8)?;
-    put_few(word, &mut tables.dictionary)?;
+    tables.dictionary.extend_from_slice(word)?;
     put_in_order(found);
     put_list(found, &mut tables.postings)?;
     tables.words = tables.words.checked_add(1).ok_or(NoMemory)?;

@@ -16,4 +16,4 @@ pub use image::{
     Counts, MAX_IMAGE, assembled, count_in, header_of, place_in, room_of, write_counted,
     write_docs, write_image,
 };
-pub use words::{Tables, put_entry, put_few};
+pub use words::{Tables, put_entry};

@@ -1,5 +1,5 @@
 //! The parts of an image that are about words: word table, dictionary and postings.
-ghost use Rattle.std.specs.Prelude.{◌≡◌, ◌≤◌, ◌+◌, ◌++◌, ◌∷◌, [], List, IsSomeAnd, length, map, drop, slice_get, All, OnOk, IfOk, vec_capacity, vec_len};
+ghost use Rattle.std.specs.Prelude.{◌≡◌, ◌≤◌, ◌++◌, ◌∷◌, [], List, IsSomeAnd, length, map, drop, slice_get, All, OnOk, IfOk};
 ghost use Rattle.std.specs.Int.{w32, to_le_bytes};
 ghost use Rattle.doc_types.specs.declared.documents.DocRow.{DocRow as AnyRow};
 ghost use Rattle.chunk_image.specs.ChunkImage.{dictionary_bytes, postings_bytes, table_bytes, word_bytes};
@@ -24,9 +24,6 @@ const SHORT_WORD: usize = 8;
 
 /// How many bytes a posting list takes for a word that stands once in a row, where the row's number and the position are small.
 const POSTING: usize = 6;
-
-/// How many bytes are copied one by one at most.
-const FEW: usize = 8;
 
 /// How many places most words have in the rows of one statement.
 const FEW_PLACES: usize = 16;
@@ -157,46 +154,15 @@ fn put_word(
     put_entry(at, rows, list, table)
 }
 
-/// Appends the entry of a word: its place in the dictionary, how many rows have it, and the place of its posting list. Every word has
-/// one, so its room is looked at once.
-#[inline]
+/// Appends the entry of a word: its place in the dictionary, how many rows have it, and the place of its posting list.
 pub fn put_entry(word: u32, rows: u32, list: u32, out: &mut Vec<u8>) -> Result<(), NoMemory>
     ensures { OnOk result (out.new.items ≡ out.old.items ++ (to_le_bytes w32 word ++ to_le_bytes w32 rows ++ to_le_bytes w32 list)) }
 {
-    out.reserve(ENTRY)?;
-    put_number(word, out);
-    put_number(rows, out);
-    put_number(list, out);
-    Ok(())
-}
-
-/// Appends the number's 4 bytes, the low byte first, where there is room for them.
-#[inline(always)]
-fn put_number(value: u32, out: &mut Vec<u8>)
-    requires { vec_len out.old + 4 ≤ vec_capacity out.old }
-    ensures items { out.new.items ≡ out.old.items ++ to_le_bytes w32 value }
-    ensures room { vec_capacity out.new ≡ vec_capacity out.old }
-{
-    let [a, b, c, d] = value.to_le_bytes();
-    out.push_reserved(a);
-    out.push_reserved(b);
-    out.push_reserved(c);
-    out.push_reserved(d);
-}
-
-/// Appends bytes, of which there are mostly few: these one by one, since a call that copies takes longer than they do.
-#[inline(always)]
-pub fn put_few(bytes: &[u8], out: &mut Vec<u8>) -> Result<(), NoMemory>
-    ensures { OnOk result (out.new.items ≡ out.old.items ++ bytes.now) }
-{
-    if bytes.len() > FEW {
-        out.extend_from_slice(bytes)?;
-        return Ok(());
-    }
-    out.reserve(bytes.len())?;
-    for byte in bytes {
-        out.push_reserved(*byte);
-    }
+    // One append, not three: each looks at the room that is left, and every word has an entry.
+    let [w0, w1, w2, w3] = word.to_le_bytes();
+    let [r0, r1, r2, r3] = rows.to_le_bytes();
+    let [l0, l1, l2, l3] = list.to_le_bytes();
+    out.extend_from_slice(&[w0, w1, w2, w3, r0, r1, r2, r3, l0, l1, l2, l3])?;
     Ok(())
 }
 
@@ -208,6 +174,6 @@ fn put_bytes(word: &[u8], out: &mut Vec<u8>) -> Result<(), NoMemory>
         return Err(NoMemory);
     }
     out.push(word.len() as u8)?;
-    put_few(word, out)?;
+    out.extend_from_slice(word)?;
     Ok(())
 }

@@ -39,9 +39,6 @@ use step_book::{Made, Naming};
 use step_line::Pending;
 use store_steps::{LAST_COMMIT, MOST_LOG, MOST_LOG_BY_REMOVALS};
 
-/// The room in bytes that a record begins with: that of one document of some hundred words.
-const RECORD: usize = 1_024;
-
 /// A commit that has all its memory: its record, and the step that it makes.
 #[derive(Drop)]
 pub(crate) struct Prepared<J: Naming> {
@@ -97,7 +94,7 @@ fn record_of(alloc: Global, number: u64, txn: &Txn) -> Result<Staged, NoMemory>
     requires short { length (payload txn.now) < 2 ^ 32 }
     ensures { IfOk result (λ staged. staged ≡ record { number = number; payload = payload txn.now }) }
 {
-    let mut bytes = Vec::with_capacity(alloc, RECORD)?;
+    let mut bytes = Vec::new(alloc);
     put_txn(txn, &mut bytes)?;
     Staged::new(alloc, number, &bytes)
 }

@@ -8,8 +8,8 @@ returns-clause-list c = λ e es is low.
     let ahead = c.number_at-ahead.result.0 in
     let behind = c.number_at-ahead.result.1 in
     let at = c.number_at-ahead.ensures (e.0 + 1) (others e es) (first_there list e es c.args.by is low) in
-    moved_there c.args.by c.args.least (c.args.by - c.args.least + ahead) e es c.args.out.now.items c.put_number.new.out.items c.put_few.new.out.items (take (length list - behind) (drop behind list))
-    (omega (arith, at.0, c.requires.least)) (rest_there list e es behind is at.1) c.in_ok-put_number.ensures.ok c.in_ok-put_few.ensures
+    moved_there c.args.by c.args.least (c.args.by - c.args.least + ahead) e es c.args.out.now.items c.put_number.new.out.items c.extend_from_slice.new.self.items (take (length list - behind) (drop behind list))
+    (omega (arith, at.0, c.requires.least)) (rest_there list e es behind is at.1) c.in_ok-put_number.ensures.ok c.in_ok-extend_from_slice.ensures.items
 
 pub returns-clause-behind : goal.returns-clause-behind
 returns-clause-behind c = λ e es is low.

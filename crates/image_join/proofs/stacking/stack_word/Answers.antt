@@ -17,8 +17,8 @@ returns-clause-tables g c = λ last stand least rows words was are.
     let place : c.in_ok-place.place ≡ length old.dictionary.items = search rules in
     let list : c.in_ok-list.list ≡ length old.postings.items = search rules in
     let counted : c.push.new.self.items ≡ old.dictionary.items ++ length word ∷ [] = search rules in
-    let spelled : c.put_few.new.out.items ≡ c.push.new.self.items ++ word = search rules in
+    let spelled : c.extend_from_slice.new.self.items ≡ c.push.new.self.items ++ word = search rules in
     let next : c.in_ok-tables.field-0 ≡ old.words + 1 = search rules in
-    let its = word_put rows words word entries entries old c.in_ok-place.place c.in_ok-list.list c.in_ok-reached.reached.count c.in_ok-tables.field-0 c.put_entry.new.out.items c.push.new.self.items c.put_few.new.out.items c.stack_lists.new.out.items
+    let its = word_put rows words word entries entries old c.in_ok-place.place c.in_ok-list.list c.in_ok-reached.reached.count c.in_ok-tables.field-0 c.put_entry.new.out.items c.push.new.self.items c.extend_from_slice.new.self.items c.stack_lists.new.out.items
     (omega (arith, some, many)) was are (IsPermutation-refl entries) posted.rising place list many c.in_ok-put_entry.ensures counted spelled posted.bytes next in
     record { count = its.count_is; table = its.table_is; dictionary = its.dictionary_is; postings = its.postings_is }

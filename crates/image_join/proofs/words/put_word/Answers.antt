@@ -17,10 +17,10 @@ returns c = λ rows words was are.
     let list : c.in_ok-list.list ≡ length old.postings.items = search rules in
     let count : c.in_ok-rows.rows ≡ length c.args.found.now.items = search rules in
     let counted : c.push.new.self.items ≡ old.dictionary.items ++ length word ∷ [] = search rules in
-    let spelled : c.put_few.new.out.items ≡ c.push.new.self.items ++ word = search rules in
+    let spelled : c.extend_from_slice.new.self.items ≡ c.push.new.self.items ++ word = search rules in
     let posted : c.put_list.new.out.items ≡ old.postings.items ++ spelled_list 0 entries = search rules in
     let rising : Rising 0 entries = search rules in
     let next : c.in_ok-tables.field-0 ≡ old.words + 1 = search rules in
-    let its = word_put rows words word found entries old c.in_ok-place.place c.in_ok-list.list c.in_ok-rows.rows c.in_ok-tables.field-0 c.put_entry.new.out.items c.push.new.self.items c.put_few.new.out.items c.put_list.new.out.items
+    let its = word_put rows words word found entries old c.in_ok-place.place c.in_ok-list.list c.in_ok-rows.rows c.in_ok-tables.field-0 c.put_entry.new.out.items c.push.new.self.items c.extend_from_slice.new.self.items c.put_list.new.out.items
     (omega (arith, some, size)) was are c.put_in_order.ensures rising place list (count ∙ sym size) c.in_ok-put_entry.ensures counted spelled posted next in
     record { count = its.count_is; table = its.table_is; dictionary = its.dictionary_is; postings = its.postings_is }
