@@ -7,7 +7,8 @@ ghost use Rattle.doc_types.specs.Schemas.{IsSchema};
 ghost use Rattle.doc_types.specs.Snapshots.{IsLayer, all_living};
 ghost use Rattle.doc_types.specs.Transactions.{IsTxnOf};
 ghost use Rattle.doc_types.specs.declared.schema.Schema.{Schema};
-ghost use Rattle.layer_commit.specs.Commits.{Commits, is_kept, layers_of, row_at};
+ghost use Rattle.doc_types.specs.Commits.{Kill};
+ghost use Rattle.layer_commit.specs.Commits.{Commits, is_kept, layers_after, layers_of, row_at};
 ghost use Rattle.layer_commit.specs.steps.Finding.{AreOfOne, layer_with};
 
 use crate::dead_rows::dead_rows;
@@ -73,6 +74,19 @@ fn layers_with<C: Chunk>(
         let next = layer_with(alloc, layer, cleared, ids)?;
         push_kept(&mut after, next)?;
     }
+    Ok(after)
+}
+
+/// The layers after their rows of these ids die. Those of which no row lives any more are let go, but for images of files.
+pub fn kill_ids<C: Chunk>(
+    alloc: Global,
+    layers: &[Layer<C>],
+    ids: &[u64],
+) -> Result<Vec<Layer<C>>, NoMemory>
+    requires { AllPairs (λ id later. id < later) ids.now }
+    ensures { IfOk result (λ after. after.items ≡ layers_after (map Kill ids.now) [] layers.now) }
+{
+    let after = layers_with(alloc, layers, false, ids)?;
     Ok(after)
 }
 
