@@ -1,7 +1,7 @@
 -- Occurrences by their words: those of one word in a row are an entry.
 use Rattle.std.proofs.Common.{◌≡◌, ℕ, zero, suc, ◌+◌, ◌<◌, ◌≤◌, List, [], ◌∷◌, ◌++◌, Bool, true, false, cond, IsSomeAnd, slice_get, length, drop, take, get_or, map, refl, sym, ap, subst, ◌∙◌, arith, drop-cons}
 use Rattle.std.specs.Str.{bytes_eq}
-use Rattle.std.proofs.lemmas.List.{take-append-drop, take_more, map-append, length-take}
+use Rattle.std.proofs.lemmas.List.{take-append-drop, take_more, length-take}
 use Rattle.std.proofs.lemmas.Slice.Eq.{bytes_eq-Decides}
 use Rattle.doc_types.specs.declared.documents.Doc.{Doc}
 use Rattle.image_write.specs.declared.gathering.Occurrence.{Occurrence}
@@ -27,10 +27,6 @@ differ b v w told is e = clash (sym (same v w e) ∙ sym is ∙ told)
 
 pub agree : (b : Bool) (v w : List ℕ) → b ≡ true → b ≡ bytes_eq v w → v ≡ w
 agree b v w told is = (bytes_eq-Decides v w).0 (sym is ∙ told)
-
--- the first entry by another name of its word
-pub named : (word v : List ℕ) (group : List Place) (all rest : List WordPlaces) → word ≡ v → all ≡ record { word = v; places = group } ∷ rest → all ≡ record { word = word; places = group } ∷ rest
-named word v group all rest same e = e ∙ ap (λ w. record { word = w; places = group } ∷ rest) (sym same)
 
 module _ (docs : List Doc) where
   -- the first of these entries, and of these occurrences, isn't of this word
@@ -63,7 +59,7 @@ module _ (docs : List Doc) where
   behind_others word [] behind = tt
   behind_others word (o ∷ os) behind = with_others word (word_at docs o) (place_at o) (by_word docs os) behind
 
-  abbrev entry : List ℕ → List Occurrence → WordPlaces
+  abbrev pub entry : List ℕ → List Occurrence → WordPlaces
   entry word os = record { word = word; places = map place_at os }
 
   joins : (word : List ℕ) (p : Place) (places : List Place) (es : List WordPlaces) → with_place word p (record { word = word; places = places } ∷ es) ≡ record { word = word; places = p ∷ places } ∷ es
@@ -79,28 +75,20 @@ module _ (docs : List Doc) where
       ∙ ap (with_place word (place_at o)) (one_entry word (p ∷ os) rest (omega arith) are.1 behind)
       ∙ joins word (place_at o) (map place_at (p ∷ os)) (by_word docs rest)
 
-  taken : (word : List ℕ) (n : ℕ) (os : List Occurrence) (group : List Place) → AreOf word (take n os) → group ≡ map place_at (take n os) → 1 ≤ n → n ≤ length os → Behind word (drop n os)
-      → by_word docs os ≡ record { word = word; places = group } ∷ by_word docs (drop n os)
-  taken word n os group are e some within behind =
-      ap (by_word docs) (sym (take-append-drop n os))
-      ∙ one_entry word (take n os) (drop n os) (omega (arith, length-take n os, some, within)) are behind
-      ∙ ap (λ (places : List Place). record { word = word; places = places } ∷ by_word docs (drop n os)) (sym e)
+  taken : (word : List ℕ) (n : ℕ) (os : List Occurrence) → AreOf word (take n os) → 1 ≤ n → n ≤ length os → Behind word (drop n os) → by_word docs os ≡ entry word (take n os) ∷ by_word docs (drop n os)
+  taken word n os are some within behind =
+      ap (by_word docs) (sym (take-append-drop n os)) ∙ one_entry word (take n os) (drop n os) (omega (arith, length-take n os, some, within)) are behind
 
-  -- the exits of taking a word
-  some_taken : (word : List ℕ) (n : ℕ) (os : List Occurrence) (d : Occurrence) → n < length os → (word_at docs (get_or os n d) ≡ word → ⊥) → IsSomeAnd (slice_get os 0) (λ o. word_at docs o ≡ word) → 1 ≤ n
-  some_taken word zero [] d low ne first = absurd (omega (arith, low))
-  some_taken word zero (o ∷ os) d low ne first = absurd (ne first)
-  some_taken word (suc n) os d low ne first = omega arith
+  -- the exits of counting a word
+  pub some_counted : (word : List ℕ) (n : ℕ) (os : List Occurrence) (d : Occurrence) → n < length os → (word_at docs (get_or os n d) ≡ word → ⊥) → IsSomeAnd (slice_get os 0) (λ o. word_at docs o ≡ word) → 1 ≤ n
+  some_counted word zero [] d low ne first = absurd (omega (arith, low))
+  some_counted word zero (o ∷ os) d low ne first = absurd (ne first)
+  some_counted word (suc n) os d low ne first = omega arith
 
-  pub stopped : (word : List ℕ) (n : ℕ) (os : List Occurrence) (d : Occurrence) (group : List Place) → n < length os → (word_at docs (get_or os n d) ≡ word → ⊥) → IsSomeAnd (slice_get os 0) (λ o. word_at docs o ≡ word)
-      → AreOf word (take n os) → group ≡ map place_at (take n os) → by_word docs os ≡ record { word = word; places = group } ∷ by_word docs (drop n os)
-  stopped word n os d group low ne first are e =
-      let o = get_or os n d in
-      taken word n os group are e (some_taken word n os d low ne first) (omega (arith, low))
-      (subst (Behind word) (sym (drop-cons os n d low)) (λ f. ne (sym f)))
-
-  pub some_before : (word : List ℕ) (n : ℕ) (os : List Occurrence) (d : Occurrence) → n < length os → (word_at docs (get_or os n d) ≡ word → ⊥) → IsSomeAnd (slice_get os 0) (λ o. word_at docs o ≡ word) → 1 ≤ n
-  some_before = some_taken
+  pub stopped : (word : List ℕ) (n : ℕ) (os : List Occurrence) (d : Occurrence) → n < length os → (word_at docs (get_or os n d) ≡ word → ⊥) → IsSomeAnd (slice_get os 0) (λ o. word_at docs o ≡ word)
+      → AreOf word (take n os) → by_word docs os ≡ entry word (take n os) ∷ by_word docs (drop n os)
+  stopped word n os d low ne first are =
+      taken word n os are (some_counted word n os d low ne first) (omega (arith, low)) (subst (Behind word) (sym (drop-cons os n d low)) (λ f. ne (sym f)))
 
   none_behind : (word : List ℕ) (os : List Occurrence) → Behind word (drop (length os) os)
   none_behind word [] = tt
@@ -110,10 +98,9 @@ module _ (docs : List Doc) where
   some_there word [] first = absurd first
   some_there word (o ∷ os) first = omega arith
 
-  pub taken_all : (word : List ℕ) (n : ℕ) (os : List Occurrence) (group : List Place) → n ≡ length os → IsSomeAnd (slice_get os 0) (λ o. word_at docs o ≡ word)
-      → AreOf word (take n os) → group ≡ map place_at (take n os) → by_word docs os ≡ record { word = word; places = group } ∷ by_word docs (drop (length os) os)
-  taken_all word n os group at first are e =
-      taken word (length os) os group (subst (λ k. AreOf word (take k os)) at are) (e ∙ ap (λ k. map place_at (take k os)) at) (some_there word os first) (omega arith) (none_behind word os)
+  pub taken_all : (word : List ℕ) (n : ℕ) (os : List Occurrence) → n ≡ length os → IsSomeAnd (slice_get os 0) (λ o. word_at docs o ≡ word)
+      → AreOf word (take n os) → by_word docs os ≡ entry word (take (length os) os) ∷ by_word docs (drop (length os) os)
+  taken_all word n os at first are = taken word (length os) os (subst (λ k. AreOf word (take k os)) at are) (some_there word os first) (omega arith) (none_behind word os)
 
   -- one more occurrence of the word
   pub are_more : (word : List ℕ) (n : ℕ) (os : List Occurrence) (d : Occurrence) → n < length os → word_at docs (get_or os n d) ≡ word → AreOf word (take n os) → AreOf word (take (n + 1) os)
@@ -122,10 +109,6 @@ module _ (docs : List Doc) where
       added : (xs : List Occurrence) (o : Occurrence) → AreOf word xs → word_at docs o ≡ word → AreOf word (xs ++ o ∷ [])
       added [] o are is = (is, tt)
       added (x ∷ xs) o are is = (are.0, added xs o are.1 is)
-
-  pub place_more : (n : ℕ) (os : List Occurrence) (d : Occurrence) (group after : List Place) → n < length os → group ≡ map place_at (take n os) → after ≡ group ++ place_at (get_or os n d) ∷ [] → after ≡ map place_at (take (n + 1) os)
-  place_more n os d group after low was put =
-      put ∙ ap (λ l. l ++ place_at (get_or os n d) ∷ []) was ∙ sym (map-append place_at (take n os) (get_or os n d ∷ [])) ∙ ap (map place_at) (sym (take_more os n d low))
 
   pub first_there : (os : List Occurrence) (at : ℕ) (d : Occurrence) (word : List ℕ) → at < length os → word ≡ word_at docs (get_or os at d) → IsSomeAnd (slice_get (drop at os) 0) (λ o. word_at docs o ≡ word)
   first_there os at d word low is = subst (λ (l : List Occurrence). IsSomeAnd (slice_get l 0) (λ o. word_at docs o ≡ word)) (sym (drop-cons os at d low)) (sym is)

@@ -3,6 +3,7 @@ pub mod Endings
 pub mod Standing
 pub mod Marked
 pub mod Grouped
+pub mod Posted
 pub mod Columned
 pub mod Occurring
 pub mod Ordered

@@ -11,7 +11,7 @@ use Rattle.chunk_image.specs.ChunkImage.{dictionary_bytes, postings_bytes, table
 use Rattle.chunk_image.proofs.WordsTold.{many}
 use Rattle.image_write.specs.declared.gathering.Occurrence.{Occurrence}
 use Rattle.image_write.specs.steps.Gathering.{ArePostable, CanPost, IsGathered, Place, WordPlaces, grouped}
-use Rattle.image_write.specs.steps.Places.{by_word}
+use Rattle.image_write.specs.steps.Places.{by_word, place_at}
 use Rattle.image_write.proofs.Meeting.{taken_past}
 
 abbrev pub word_of : WordPlaces → List ℕ
@@ -111,9 +111,14 @@ module _ (docs : List Doc) (places : List Occurrence) where
   ahead : (at : ℕ) → take (length places - at) (drop at places) ≡ drop at places
   ahead at = taken_past (drop at places) (length places - at) (omega (arith, length-drop at places))
 
-  pub taken_of : (at n : ℕ) (e : WordPlaces) → by_word docs (take (length places - at) (drop at places)) ≡ e ∷ by_word docs (drop n (take (length places - at) (drop at places)))
-      → by_word docs (drop at places) ≡ e ∷ by_word docs (drop n (drop at places))
-  taken_of at n e is = sym (ap (by_word docs) (ahead at)) ∙ is ∙ ap (λ l. e ∷ by_word docs (drop n l)) (ahead at)
+  -- the entry of a word, by its name there, whose occurrences are so many from here
+  pub counted_of : (at n : ℕ) (word v : List ℕ) → word ≡ v
+      → by_word docs (take (length places - at) (drop at places)) ≡ record { word = v; places = map place_at (take n (take (length places - at) (drop at places))) } ∷ by_word docs (drop n (take (length places - at) (drop at places)))
+      → by_word docs (drop at places) ≡ record { word = word; places = map place_at (take (at + n - at) (drop at places)) } ∷ by_word docs (drop n (drop at places))
+  counted_of at n word v same is =
+      subst (λ l. by_word docs l ≡ record { word = v; places = map place_at (take n l) } ∷ by_word docs (drop n l)) (ahead at) is
+      ∙ ap (λ w. record { word = w; places = map place_at (take n (drop at places)) } ∷ by_word docs (drop n (drop at places))) (sym same)
+      ∙ ap (λ k. record { word = word; places = map place_at (take k (drop at places)) } ∷ by_word docs (drop n (drop at places))) (omega arith)
 
   pub within_ahead : (at n : ℕ) → n ≤ length (take (length places - at) (drop at places)) → n ≤ length (drop at places)
   within_ahead at n low = subst (λ l. n ≤ length l) (ahead at) low

@@ -4,3 +4,5 @@ pub mod Marking
 pub mod Gathering
 -- occurrences of words
 pub mod Places
+-- the entry of a row
+pub mod Posting

@@ -1,17 +1,17 @@
 //! The parts of an image that are about words: word table, dictionary and postings.
-ghost use Rattle.std.specs.Prelude.{◌≡◌, ◌≤◌, ◌++◌, ◌∷◌, [], List, IsSomeAnd, length, map, drop, slice_get, All, OnOk, IfOk};
+ghost use Rattle.std.specs.Prelude.{◌≡◌, ◌≤◌, ◌++◌, ◌∷◌, [], List, IsSomeAnd, length, map, drop, take, slice_get, All, OnOk, IfOk};
 ghost use Rattle.std.specs.Int.{w32, to_le_bytes};
 ghost use Rattle.doc_types.specs.declared.documents.DocRow.{DocRow as AnyRow};
 ghost use Rattle.chunk_image.specs.ChunkImage.{dictionary_bytes, postings_bytes, table_bytes, word_bytes};
 ghost use Rattle.posting_codec.specs.PostingLists.{posting_list};
 ghost use Rattle.image_write.specs.declared.image.TheConstants.{MAX_IMAGE};
 ghost use Rattle.image_write.specs.steps.Gathering.{ArePostable, CanPost, IsGathered, grouped};
-ghost use Rattle.image_write.specs.steps.Places.{HasHead, by_word, word_at};
+ghost use Rattle.image_write.specs.steps.Places.{HasHead, by_word, place_at, word_at};
 
 use crate::gathering::{Occurrence, are_of_one, word_of};
 use crate::image::{count_in, place_in};
 use crate::lending::LendsDoc;
-use crate::lists::{Place, put_list};
+use crate::lists::put_list;
 use doc_types::MAX_WORD_BYTES;
 use srch_base::NoMemory;
 use std::alloc::Global;
@@ -25,8 +25,8 @@ const SHORT_WORD: usize = 8;
 /// How many bytes a posting list takes for a word that stands once in a row, where the row's number and the position are small.
 const POSTING: usize = 6;
 
-/// How many places most words have in the rows of one statement.
-const FEW_PLACES: usize = 16;
+/// How many hits of a word most rows have at most.
+const FEW_HITS: usize = 16;
 
 /// The parts of an image that are about words, and how many words they have.
 #[derive(Drop)]
@@ -94,63 +94,61 @@ fn put_words<R: LendsDoc>(
     ensures postings { OnOk result ((all : List AnyRow) → All (IsGathered all) (by_word (map R.lent rows.now) places.now) → postings.new.items ≡ postings_bytes all (map (λ entry. entry.word) (by_word (map R.lent rows.now) places.now))) }
     ensures count { IfOk result (λ count. count ≡ length (by_word (map R.lent rows.now) places.now)) }
 {
-    let mut group = Vec::with_capacity(alloc, FEW_PLACES)?;
-    let mut hits = Vec::with_capacity(alloc, FEW_PLACES)?;
+    let mut hits = Vec::with_capacity(alloc, FEW_HITS)?;
     let mut count = 0;
     let mut at = 0;
     while at < places.len() {
         let word = word_of(rows, &places[at]);
-        group.clear();
-        let taken = take_word(rows, &places[at], &places[at..], &mut group)?;
-        put_word(word, &group, &mut hits, table, dictionary, postings)?;
-        at += taken;
+        let end = at + count_word(rows, &places[at], &places[at..]);
+        put_word(
+            word,
+            &places[at..end],
+            &mut hits,
+            table,
+            dictionary,
+            postings,
+        )?;
+        at = end;
         count += 1;
     }
     Ok(count)
 }
 
-/// Appends the places of the first occurrences, which are of the word of this one, and gives the number of these occurrences.
-fn take_word<R: LendsDoc>(
-    rows: &[R],
-    first: &Occurrence,
-    places: &[Occurrence],
-    group: &mut Vec<Place>,
-) -> Result<usize, NoMemory>
-    requires none { group.old.items ≡ [] }
+/// How many of the occurrences at the front are of the word of this one.
+fn count_word<R: LendsDoc>(rows: &[R], first: &Occurrence, places: &[Occurrence]) -> usize
     requires head { HasHead (map R.lent rows.now) first.now }
     requires heads { All (HasHead (map R.lent rows.now)) places.now }
     requires first { IsSomeAnd (slice_get places.now 0) (λ place. word_at (map R.lent rows.now) place ≡ word_at (map R.lent rows.now) first.now) }
-    ensures some { IfOk result (λ count. 1 ≤ count) }
-    ensures within { IfOk result (λ count. count ≤ length places.now) }
-    ensures word { IfOk result (λ count. by_word (map R.lent rows.now) places.now ≡ record { word = word_at (map R.lent rows.now) first.now; places = group.new.items } ∷ by_word (map R.lent rows.now) (drop count places.now)) }
+    ensures some { 1 ≤ result }
+    ensures within { result ≤ length places.now }
+    ensures word { by_word (map R.lent rows.now) places.now ≡ record { word = word_at (map R.lent rows.now) first.now; places = map place_at (take result places.now) } ∷ by_word (map R.lent rows.now) (drop result places.now) }
 {
     for (number, place) in places.iter().enumerate() {
         if !are_of_one(rows, place, first) {
-            return Ok(number);
+            return number;
         }
-        group.push((place.row(), (place.field(), u32::from(place.position))))?;
     }
-    Ok(places.len())
+    places.len()
 }
 
-/// Appends what an image has of a word with these places: its entry in the table, its bytes in the dictionary, its list.
+/// Appends what an image has of a word with these occurrences: its entry in the table, its bytes in the dictionary, its list.
 fn put_word(
     word: &[u8],
-    group: &[Place],
+    places: &[Occurrence],
     hits: &mut Vec<(u16, u32)>,
     table: &mut Vec<u8>,
     dictionary: &mut Vec<u8>,
     postings: &mut Vec<u8>,
 ) -> Result<(), NoMemory>
-    requires { ArePostable 0 (grouped group.now) }
-    ensures table { OnOk result (table.new.items ≡ table.old.items ++ (to_le_bytes w32 (length dictionary.old.items) ++ to_le_bytes w32 (length (grouped group.now)) ++ to_le_bytes w32 (length postings.old.items))) }
+    requires { ArePostable 0 (grouped (map place_at places.now)) }
+    ensures table { OnOk result (table.new.items ≡ table.old.items ++ (to_le_bytes w32 (length dictionary.old.items) ++ to_le_bytes w32 (length (grouped (map place_at places.now))) ++ to_le_bytes w32 (length postings.old.items))) }
     ensures dictionary { OnOk result (dictionary.new.items ≡ dictionary.old.items ++ word_bytes word.now) }
-    ensures postings { OnOk result (postings.new.items ≡ postings.old.items ++ posting_list 0 (grouped group.now)) }
+    ensures postings { OnOk result (postings.new.items ≡ postings.old.items ++ posting_list 0 (grouped (map place_at places.now))) }
 {
     let at = place_in(dictionary)?;
     let list = place_in(postings)?;
     put_bytes(word, dictionary)?;
-    let rows = put_list(group, hits, postings)?;
+    let rows = put_list(places, hits, postings)?;
     put_entry(at, rows, list, table)
 }
 

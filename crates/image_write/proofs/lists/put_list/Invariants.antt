@@ -1,6 +1,6 @@
 use Rattle.std.proofs.Common.{length, drop}
 use Rattle.posting_codec.specs.PostingLists.{least_after}
-use Rattle.image_write.proofs.Grouped.{AreListed}
+use Rattle.image_write.proofs.Posted.{AreListed}
 use Rattle.image_write.proofs.lists.put_list.Given as goal
 
 abbrev pub invariant-loop-at : goal.invariant-loop-at
