@@ -1,6 +1,6 @@
 -- How many chunks of a snapshot are on the disk.
 use Rattle.std.proofs.Common.{◌≡◌, length, ◌∙◌}
-use Rattle.std.specs.List.{count_by, filter}
+use Rattle.std.specs.List.{count_by}
 use Rattle.std.proofs.lemmas.List.{length-map}
 use Rattle.std.proofs.lemmas.List.Sums.{length-filter}
 use Rattle.doc_types.specs.Snapshots.{LayerValue, SnapshotValue}

@@ -14,14 +14,20 @@ pub mod Accepting
 pub mod Telling
 -- loops that look at each element of a list
 pub mod Fitting
+-- what is recent after changes
+pub mod Recents
 -- records of logs that are taken one by one
 pub mod Loads
 -- the bytes of a log whose records were read
 pub mod LogBytes
 -- files of logs that were read
 pub mod FilesRead
--- the layer of rows that were read
+-- rows that were read, by ascending id
 pub mod Layers
+-- layers of which rows died, and one more
+pub mod NewLayers
+-- what is recent has a layer
+pub mod Laid
 -- what was read of a disk is what it stands for
 pub mod Founds
 -- the root that was read

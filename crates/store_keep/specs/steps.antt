@@ -2,6 +2,8 @@
 pub mod Limits
 -- the parts of a commit
 pub mod Stages
+-- what was read of logs since the last layer was made
+pub mod Recents
 -- what was read of logs
 pub mod Loads
 -- what was read of their files

@@ -9,12 +9,14 @@ mod fault;
 mod keeper;
 mod kept;
 mod laws;
+mod laying;
 mod loading;
 mod making;
 mod numbers;
 mod opened;
 mod opening;
 mod preparing;
+mod recent;
 mod settling;
 
 pub use commit_outcomes::Doubt;

@@ -362,6 +362,7 @@ fn read_logs<D: Disk>(
     schema: &Schema,
     state: &RootState,
 ) -> Result<Logs, StoreFault>
+    requires { IsSchema schema.now }
     ensures read { ReadsLogs schema.now state.now (D.told disk.new) (D.may_leave disk.new) result }
     ensures looks { OnlyReads D.Disk disk.old disk.new }
     ensures cause { HasStoreCause (D.faults disk.old) (D.faults disk.new) result }
@@ -384,7 +385,8 @@ fn read_older<D: Disk>(
     state: &RootState,
     loaded: &mut Loaded,
 ) -> Result<(), StoreFault>
-    requires { IsLoaded schema.now state.now.through [] loaded.old }
+    requires limits { IsSchema schema.now }
+    requires loaded { IsLoaded schema.now state.now.through [] loaded.old }
     ensures read { ReadsOlder schema.now state.now (D.told disk.new) (D.may_leave disk.new) result loaded.new }
     ensures looks { OnlyReads D.Disk disk.old disk.new }
     ensures cause { HasStoreCause (D.faults disk.old) (D.faults disk.new) result }
@@ -406,6 +408,8 @@ fn read_log<D: Disk>(
     file: u32,
     loaded: &mut Loaded,
 ) -> Result<LogEnd, StoreFault>
+    requires limits { IsSchema schema.now }
+    requires loaded { (through : ℕ) × (front : List LogRecord) × IsLoaded schema.now through front loaded.old }
     ensures read { (through : ℕ) (front : List LogRecord) → IsLoaded schema.now through front loaded.old → ReadsLog schema.now through front file (D.told disk.new) result loaded.new }
     ensures synced { OnOk result (IsSynced file (D.told disk.new) (D.may_leave disk.new)) }
     ensures looks { OnlyReads D.Disk disk.old disk.new }

@@ -76,14 +76,14 @@ fn most_log(txn: &Txn) -> u64
     }
 }
 
-/// The snapshot after a commit, its last layers put together where that is cheap by now.
-fn upkept(alloc: Global, mut next: Snapshot<AnyChunk>) -> Snapshot<AnyChunk>
+/// A snapshot, its last layers put together where that is cheap by now.
+pub(crate) fn upkept(alloc: Global, mut next: Snapshot<AnyChunk>) -> Snapshot<AnyChunk>
     requires { AreOfOne (all_living next.layers) }
     ensures merges { MayMerge next result }
     ensures sound { AreLayers result.layers }
     ensures apart { AreApart (all_living next.layers) }
 {
-    // The commit stands, whether or not there is memory for upkeep.
+    // The rows stand, whether or not there is memory for upkeep.
     let _ = merge_last(alloc, &mut next);
     next
 }

@@ -1,19 +1,15 @@
 -- What was read of logs: their records, and the rows after them.
-use Rattle.std.specs.Prelude.{◌≡◌, ◌≢◌, ℕ, ◌<◌, ◌≤◌, List, [], ◌∷◌, ◌++◌, Option, Some, None, Result, Ok, Err, IfSome, All, false, length, map}
-use Rattle.std.specs.BTreeMap.{BTreeMap, get}
+use Rattle.std.specs.Prelude.{◌≡◌, ◌≢◌, ℕ, ◌<◌, ◌≤◌, List, [], ◌∷◌, ◌++◌, Option, Some, None, Result, Ok, Err, All, false, length, map}
 use Rattle.std.specs.FinMap as finite
-use Rattle.std.specs.List.{flat_map, fold}
-use Rattle.std.specs.Ordering.{nat_cmp}
+use Rattle.std.specs.List.{fold}
 use Rattle.doc_bytes.specs.Reading.{txn_at}
 use Rattle.doc_types.specs.declared.documents.DocRow.{DocRow}
 use Rattle.doc_types.specs.declared.schema.Schema.{Schema}
 use Rattle.doc_types.specs.declared.transactions.Txn.{Txn}
 use Rattle.doc_types.specs.declared.transactions.TxnOp.{TxnOp}
-use Rattle.doc_types.specs.Chunks.{IsContent}
 use Rattle.doc_types.specs.Commits.{Change, change_of}
-use Rattle.doc_types.specs.Documents.{IsDocOf}
 use Rattle.doc_types.specs.Rows.{Rows}
-use Rattle.doc_types.specs.Snapshots.{LayerValue, SnapshotValue, live}
+use Rattle.doc_types.specs.Snapshots.{SnapshotValue, live}
 use Rattle.step_history.specs.History.{AreOf}
 use Rattle.gate_log.specs.Logs.{AreRecords, last_number, spelled}
 use Rattle.gate_log.specs.Reading.{Begins, behind}
@@ -22,7 +18,6 @@ use Rattle.gate_log.specs.declared.fault.LogKind.TheVariants as logs
 use Rattle.gate_log.specs.declared.reading.Before.{Before}
 use Rattle.gate_log.specs.declared.reading.Before.TheVariants.{Chunks}
 use Rattle.gate_log.specs.declared.records.LogRecord.{LogRecord}
-use Rattle.layer_commit.specs.steps.Trying.{row_after}
 use Rattle.store_steps.specs.Batches.{Batch, IsBatchOf, above, after_batch, record_of}
 use Rattle.store_steps.specs.Damage.{IsBadBehind}
 use Rattle.store_steps.specs.declared.damage.Damage.{Damage}
@@ -32,6 +27,7 @@ use Rattle.store_keep.specs.declared.fault.StoreFault.{StoreFault}
 use Rattle.store_keep.specs.declared.fault.StoreFault.TheVariants as faults
 use Rattle.store_keep.specs.declared.loading.Loaded.{Loaded}
 use Rattle.store_keep.specs.declared.loading.LogEnd.{LogEnd}
+use Rattle.store_keep.specs.steps.Recents.{AreRowsAt, Changes, IsLaid, Owns, row_over}
 
 -- the changes of a transaction that was read
 abbrev pub changes_in : Result Txn ℕ → List Change
@@ -50,15 +46,6 @@ pub record IsRead (schema : Schema) (r : LogRecord) : Type 0 where
   pub of : IsBatchOf schema (batch_in schema r)
   pub is : record_of (batch_in schema r) ≡ r
 
--- A row of this id that the chunks don't have.
-pub record IsRowAt (schema : Schema) (through id : ℕ) (row : DocRow) : Type 0 where
-  pub id_is : row.doc.id ≡ id
-  pub newer : through < row.born
-  pub of : IsDocOf schema row.doc
-
-abbrev pub AreRowsAt : Schema → ℕ → BTreeMap ℕ DocRow → Type 0
-AreRowsAt schema through rows = (id : ℕ) → IfSome (get nat_cmp rows id) (IsRowAt schema through id)
-
 -- the rows after these records
 abbrev pub rows_after : Schema → ℕ → List LogRecord → Rows
 rows_after schema through records = fold after_batch finite.empty (above through (batches_in schema records))
@@ -66,8 +53,10 @@ rows_after schema through records = fold after_batch finite.empty (above through
 -- These records were taken.
 pub record IsLoaded (schema : Schema) (through : ℕ) (records : List LogRecord) (loaded : Loaded) : Type 0 where
   pub all : All (IsRead schema) records
-  pub rows : (id : ℕ) → get nat_cmp loaded.rows id ≡ finite.get (rows_after schema through records) id
-  pub each : AreRowsAt schema through loaded.rows
+  pub rows : (id : ℕ) → row_over loaded.recent loaded.laid id ≡ finite.get (rows_after schema through records) id
+  pub each : AreRowsAt schema through loaded.recent.rows
+  pub own : Owns loaded.recent
+  pub laid : IsLaid schema through loaded.laid
   pub through_is : loaded.through ≡ through
   pub last_is : loaded.last ≡ last_number records
 
@@ -75,8 +64,13 @@ pub record IsLoaded (schema : Schema) (through : ℕ) (records : List LogRecord)
 pub record Takes (number : ℕ) (ops : List TxnOp) (old new : Loaded) : Type 0 where
   pub same : new.through ≡ old.through
   pub last_is : new.last ≡ Some number
-  pub later : old.through < number → (id : ℕ) → get nat_cmp new.rows id ≡ row_after number id (get nat_cmp old.rows id) (map change_of ops)
-  pub earlier : number ≤ old.through → new.rows ≡ old.rows
+  pub laid : new.laid ≡ old.laid
+  pub later : old.through < number → Changes number (map change_of ops) old.recent new.recent
+  pub earlier : number ≤ old.through → new.recent ≡ old.recent
+
+-- The layers have all that was taken.
+abbrev pub IsAllLaid : Loaded → Type 0
+IsAllLaid loaded = (id : ℕ) → row_over loaded.recent loaded.laid id ≡ finite.get (live loaded.laid) id
 
 -- the number of the last commit: that of the last record, or else the last one that the chunks have
 abbrev pub number_after : ℕ → Option ℕ → ℕ
@@ -91,18 +85,6 @@ pub record IsSnapshotOf (schema : Schema) (through : ℕ) (records : List LogRec
   pub memory : All (λ layer. layer.disk ≡ false) snapshot.layers
   pub of : AreOf schema snapshot
   pub newer : (id : ℕ) (row : DocRow) → finite.get (live snapshot) id ≡ Some row → through < row.born
-
--- a layer in memory of which all rows live
-pub record IsWhole (layer : LayerValue) : Type 0 where
-  pub memory : layer.disk ≡ false
-  pub none : layer.dead ≡ []
-  pub content : IsContent layer.rows
-
--- such layers, which have the rows, one after the other
-pub record HaveRows (rows : List DocRow) (layers : List LayerValue) : Type 0 where
-  pub each : All IsWhole layers
-  pub are : flat_map (λ layer. layer.rows) layers ≡ rows
-  pub few : length layers ≤ 3
 
 -- what comes before the record behind these
 abbrev pub before_next : ℕ → List LogRecord → Before

@@ -1,8 +1,13 @@
 use Rattle.store_keep.proofs.FilesRead.{both_read, newer_bad}
 use Rattle.store_keep.proofs.opening.read_logs.Goals as goal
 
-pub read_older-requires : goal.read_older-requires
-read_older-requires g c = c.new-loaded.ensures c.args.schema.now
+pub read_older-requires-clause-loaded : goal.read_older-requires-clause-loaded
+read_older-requires-clause-loaded g c = c.new-loaded.ensures c.args.schema.now
+
+pub read_log-requires-clause-loaded : goal.read_log-requires-clause-loaded
+read_log-requires-clause-loaded g c =
+    let read = c.in-Ok.ensures.read in
+    (c.args.state.now.through, read.records, read.loaded)
 
 pub returns-in-Ok-read_log-clause-read : goal.returns-in-Ok-read_log-clause-read
 returns-in-Ok-read_log-clause-read g c =

@@ -1,4 +1,4 @@
-use Rattle.std.proofs.Common.{◌++◌, arith, map, take}
+use Rattle.std.proofs.Common.{◌+◌, ◌++◌, arith, map, take}
 use Rattle.gate_log.specs.Reading.{record_of}
 use Rattle.store_keep.proofs.LogBytes.{all_taken, end_well, end_wrong, entry_short, entry_taken, entry_wrong}
 use Rattle.store_keep.proofs.loading.Loaded.take_log.Goals as goal
@@ -6,10 +6,29 @@ use Rattle.store_keep.proofs.loading.Loaded.take_log.Goals as goal
 pub take_record-requires : goal.take_record-requires
 take_record-requires c = entry_short c.before-2.result c.args.bytes.now c.in_ok-read.read c.as_slice-entry-items.result.now c.loop-entry.entry-index _ c.in_ok-read.ensures c.as_slice-entry-items.ensures.value c.loop-entry-test.true
 
+pub lay_piece-requires : goal.lay_piece-requires
+lay_piece-requires c =
+    let schema = c.args.schema.now in
+    let items = c.as_slice-entry-items.result.now in
+    let i = c.loop-entry.entry-index in
+    let through = c.requires.loaded.0 in
+    let front = c.requires.loaded.1 in (
+      schema,
+      c.requires.limits,
+      (
+        through,
+        front ++ map record_of (take (i + 1) items),
+        entry_taken schema through front items i _ c.take_record.new.self c.loop-entry-test.true (c.in-Ok.ensures.takes through (front ++ map record_of (take i items)) (c.loop-entry.invariant through front c.requires.loaded.2)),
+      ),
+    )
+
 pub loop-entry-preserved : goal.loop-entry-preserved
 loop-entry-preserved c = λ through front loaded.
-    entry_taken c.args.schema.now through front c.as_slice-entry-items.result.now c.loop-entry.entry-index _ c.take_record.new.self c.loop-entry-test.true
-    (c.in-Ok.ensures.takes through (front ++ map record_of (take c.loop-entry.entry-index c.as_slice-entry-items.result.now)) (c.loop-entry.invariant through front loaded))
+    let schema = c.args.schema.now in
+    let items = c.as_slice-entry-items.result.now in
+    let i = c.loop-entry.entry-index in
+    c.in_ok-lay_piece-in-Ok.ensures schema through (front ++ map record_of (take (i + 1) items))
+    (entry_taken schema through front items i _ c.take_record.new.self c.loop-entry-test.true (c.in-Ok.ensures.takes through (front ++ map record_of (take i items)) (c.loop-entry.invariant through front loaded)))
 
 pub returns-in-Err-clause-takes : goal.returns-in-Err-clause-takes
 returns-in-Err-clause-takes c = λ through front loaded.
