@@ -11,12 +11,13 @@ use chunk_store::MemoryDisk;
 use doc_types::Schema;
 use std::alloc::Global;
 use std::sync::Wait;
+use std::thread::Threads;
 
 /// How many outcomes of a crash are tried.
 pub(crate) const OUTCOMES: u8 = 4;
 
 /// None where a disk that was opened gives something else after a crash at a moment of opening.
-fn gives_again<R: Wait>(
+fn gives_again<R: Threads + Wait>(
     rt: &R,
     alloc: Global,
     disk: &MemoryDisk,
@@ -36,7 +37,7 @@ fn gives_again<R: Wait>(
 }
 
 /// None where a crash leaves something else than this, or a crash while that is opened.
-fn leaves<R: Wait>(
+fn leaves<R: Threads + Wait>(
     rt: &R,
     alloc: Global,
     whole: &MemoryDisk,
@@ -52,7 +53,7 @@ fn leaves<R: Wait>(
 }
 
 /// None where a crash behind these calls leaves neither what was there before a commit nor what is after it.
-fn leaves_either<R: Wait>(
+fn leaves_either<R: Threads + Wait>(
     rt: &R,
     alloc: Global,
     whole: &MemoryDisk,
@@ -73,7 +74,7 @@ fn leaves_either<R: Wait>(
 }
 
 /// The disk after the first commits of the script, of which is said what it tells.
-fn disk_after<R: Wait>(
+fn disk_after<R: Threads + Wait>(
     rt: &R,
     alloc: Global,
     commits: usize,
@@ -88,7 +89,7 @@ fn disk_after<R: Wait>(
 }
 
 /// None where a crash behind any of the calls of the whole script leaves something else than it may.
-fn leaves_all<R: Wait>(
+fn leaves_all<R: Threads + Wait>(
     rt: &R,
     alloc: Global,
     whole: &MemoryDisk,
@@ -111,7 +112,7 @@ fn leaves_all<R: Wait>(
 }
 
 /// None where a crash leaves something else than what was acknowledged; then that is said.
-pub(crate) fn are_left<R: Wait>(rt: &R, alloc: Global, said: &mut String) -> Option<()> {
+pub(crate) fn are_left<R: Threads + Wait>(rt: &R, alloc: Global, said: &mut String) -> Option<()> {
     let schema = schema(alloc);
     let whole = disk_after(rt, alloc, COMMITS, &schema, said)?;
     leaves_all(rt, alloc, &whole, &schema, said)

@@ -13,6 +13,7 @@ use chunk_store::MemoryDisk;
 use doc_types::{Schema, Txn};
 use std::alloc::Global;
 use std::sync::Wait;
+use std::thread::Threads;
 
 /// How many calls are let fail, one by one; the script has fewer.
 const CALLS: u64 = 60;
@@ -51,7 +52,7 @@ fn wanted_of(told: &str) -> Option<&'static str> {
 }
 
 /// None where a disk gives something else than what was told.
-fn gives_all<R: Wait>(
+fn gives_all<R: Threads + Wait>(
     rt: &R,
     alloc: Global,
     disk: &MemoryDisk,
@@ -68,7 +69,7 @@ fn gives_all<R: Wait>(
 }
 
 /// None where a failing call leaves something else than the commits that were made.
-fn fails_well<R: Wait>(
+fn fails_well<R: Threads + Wait>(
     rt: &R,
     alloc: Global,
     call: u64,
@@ -87,7 +88,7 @@ fn fails_well<R: Wait>(
 }
 
 /// None where one of the calls does.
-fn all_fail_well<R: Wait>(
+fn all_fail_well<R: Threads + Wait>(
     rt: &R,
     alloc: Global,
     schema: &Schema,
@@ -104,7 +105,7 @@ fn all_fail_well<R: Wait>(
 }
 
 /// None where a failing call leaves something else than it may; then that is said.
-pub(crate) fn are_kept<R: Wait>(rt: &R, alloc: Global, said: &mut String) -> Option<()> {
+pub(crate) fn are_kept<R: Threads + Wait>(rt: &R, alloc: Global, said: &mut String) -> Option<()> {
     let schema = schema(alloc);
     let txns = first_txns(alloc, COMMITS)?;
     all_fail_well(rt, alloc, &schema, txns.as_slice(), said)

@@ -11,6 +11,7 @@ use doc_types::Schema;
 use index_conf::Conf;
 use std::alloc::Global;
 use std::sync::Wait;
+use std::thread::Threads;
 
 /// The indexes of the tables: one with one field, and one with two fields and four attributes.
 const INDEXES: &str = "index one {\ntype = rt\npath = a\nrt_field = title\n}\n\
@@ -18,7 +19,7 @@ index two {\ntype = rt\npath = b\nrt_field = title\nrt_field = body\nrt_attr_uin
 rt_attr_bigint = price\nrt_attr_bool = flag\nrt_attr_timestamp = seen\n}\n";
 
 /// The disk after a crash behind its first calls, once its store was opened again. What opening tells is said.
-pub(crate) fn reopened<R: Wait>(
+pub(crate) fn reopened<R: Threads + Wait>(
     rt: &R,
     alloc: Global,
     disk: &MemoryDisk,
@@ -44,7 +45,7 @@ pub(crate) fn is_wanted(wanted: &str, said: &mut String) -> Option<()> {
 }
 
 /// None where opening tells something else after such a crash; then that is said.
-pub(crate) fn gives<R: Wait>(
+pub(crate) fn gives<R: Threads + Wait>(
     rt: &R,
     alloc: Global,
     disk: &MemoryDisk,
@@ -60,7 +61,7 @@ pub(crate) fn gives<R: Wait>(
 }
 
 /// None where the directory of a line is told otherwise than the line says.
-fn is_told<R: Wait>(
+fn is_told<R: Threads + Wait>(
     rt: &R,
     alloc: Global,
     schema: &Schema,
@@ -77,7 +78,7 @@ fn is_told<R: Wait>(
 }
 
 /// None where a line of a table is such a line.
-fn is_table<R: Wait>(
+fn is_table<R: Threads + Wait>(
     rt: &R,
     alloc: Global,
     schema: &Schema,
@@ -96,7 +97,12 @@ fn is_table<R: Wait>(
 }
 
 /// None where one of the tables is such a table.
-fn are_tables<R: Wait>(rt: &R, alloc: Global, conf: &Conf, said: &mut String) -> Option<()>
+fn are_tables<R: Threads + Wait>(
+    rt: &R,
+    alloc: Global,
+    conf: &Conf,
+    said: &mut String,
+) -> Option<()>
     requires { IsSound conf.now }
 {
     let one = conf.indexes.as_slice().get(0)?;
@@ -106,7 +112,7 @@ fn are_tables<R: Wait>(rt: &R, alloc: Global, conf: &Conf, said: &mut String) ->
 }
 
 /// None where a directory is told otherwise than its line says; then that is said.
-pub(crate) fn are_told<R: Wait>(rt: &R, alloc: Global, said: &mut String) -> Option<()> {
+pub(crate) fn are_told<R: Threads + Wait>(rt: &R, alloc: Global, said: &mut String) -> Option<()> {
     let conf = read_conf(alloc, INDEXES.as_bytes()).ok()?;
     are_tables(rt, alloc, &conf, said)
 }

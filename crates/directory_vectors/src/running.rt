@@ -13,6 +13,7 @@ use doc_types::{Schema, Snapshot, Txn};
 use std::alloc::Global;
 use std::marker::Brand;
 use std::sync::Wait;
+use std::thread::Threads;
 use step_book::Naming;
 use step_tokens::{Token, snapshot};
 use store_keep::{CommitFault, Committed, Doubt, Keeper, Opened};
@@ -107,7 +108,7 @@ fn run_opened<D: Disk + Drop, J: Naming, R: Wait>(
 }
 
 /// Opens the store on a disk, and commits transactions.
-pub(crate) fn run<R: Wait>(
+pub(crate) fn run<R: Threads + Wait>(
     rt: &R,
     alloc: Global,
     disk: MemoryDisk,
@@ -119,7 +120,7 @@ pub(crate) fn run<R: Wait>(
     requires schema { IsSchema schema.now }
     requires of { All (IsTxnOf schema.now) txns.now }
 {
-    match Opened::open(alloc, disk, schema) {
+    match Opened::open(rt, alloc, disk, schema) {
         Ok(opened) => run_opened::<MemoryDisk, Brand, R>(rt, alloc, opened, schema, txns, into),
         Err((disk, _)) => {
             let _ = into.push_str("not opened");

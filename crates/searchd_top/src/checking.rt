@@ -18,10 +18,16 @@ use itoa::Buffer;
 use program_host::{Host, Status, Stream};
 use srch_base::NoMemory;
 use std::alloc::Global;
+use std::thread::Threads;
 use store_keep::Opened;
 
 /// Reads the configuration, and checks its indexes.
-pub(crate) fn run_check<H: Host>(alloc: Global, file: &str, host: &mut H) -> Status
+pub(crate) fn run_check<H: Host, R: Threads>(
+    rt: &R,
+    alloc: Global,
+    file: &str,
+    host: &mut H,
+) -> Status
     requires { length (H.stores_back host.old) ≤ length (H.stores_given host.old) }
     ensures runs { Runs H.Host H.Store.Disk H.Entry.Door H.Entry.Line.Link (Some (check file.now)) result host.old host.new }
     ensures asked { ¬ (result ≡ Status.Usage) }
@@ -30,13 +36,13 @@ pub(crate) fn run_check<H: Host>(alloc: Global, file: &str, host: &mut H) -> Sta
     ensures quiet { H.print_faults host.new Stream.Err ≡ H.print_faults host.old Stream.Err }
 {
     match configure(alloc, file, host) {
-        Ok(conf) => check(alloc, &conf, host),
+        Ok(conf) => check(rt, alloc, &conf, host),
         Err(status) => status,
     }
 }
 
 /// Opens the stores of these indexes, hands them back, and prints what each has. No line is printed before all are open.
-fn check<H: Host>(alloc: Global, conf: &Conf, host: &mut H) -> Status
+fn check<H: Host, R: Threads>(rt: &R, alloc: Global, conf: &Conf, host: &mut H) -> Status
     requires sound { IsSound conf.now }
     requires paths { AreTexts conf.now.indexes }
     requires stores { length (H.stores_back host.old) ≤ length (H.stores_given host.old) }
@@ -48,7 +54,7 @@ fn check<H: Host>(alloc: Global, conf: &Conf, host: &mut H) -> Status
 {
     let indexes = conf.indexes.as_slice();
     let mut opened = Vec::new(alloc);
-    match open_stores(alloc, indexes, &mut opened, host) {
+    match open_stores(rt, alloc, indexes, &mut opened, host) {
         Ok(()) => print_checked(alloc, indexes, opened, host),
         Err(stop) => give_up(opened, stop, host),
     }

@@ -10,6 +10,7 @@ use index_conf::IndexConf;
 use program_host::{Host, Status, Stream};
 use srch_base::{Name, NoMemory};
 use std::alloc::Global;
+use std::thread::Threads;
 use store_keep::{Opened, StoreFault};
 use store_steps::Damage;
 
@@ -21,7 +22,8 @@ pub(crate) struct Stop<S> {
 }
 
 /// Opens the stores of indexes in their order, and puts them behind those that are open.
-pub(crate) fn open_stores<H: Host>(
+pub(crate) fn open_stores<H: Host, R: Threads>(
+    rt: &R,
     alloc: Global,
     indexes: &[IndexConf],
     opened: &mut Vec<Opened<H::Store>>,
@@ -36,8 +38,8 @@ pub(crate) fn open_stores<H: Host>(
     ensures names { IfErr result (λ stop. NamesIndex stop.status) }
 {
     match indexes.split_first() {
-        Some((index, others)) => match open_store(alloc, index, opened, host) {
-            Ok(()) => open_stores(alloc, others, opened, host),
+        Some((index, others)) => match open_store(rt, alloc, index, opened, host) {
+            Ok(()) => open_stores(rt, alloc, others, opened, host),
             Err(stop) => Err(stop),
         },
         None => Ok(()),
@@ -45,7 +47,8 @@ pub(crate) fn open_stores<H: Host>(
 }
 
 /// Opens the store of an index, and puts it behind those that are open.
-fn open_store<H: Host>(
+fn open_store<H: Host, R: Threads>(
+    rt: &R,
     alloc: Global,
     index: &IndexConf,
     opened: &mut Vec<Opened<H::Store>>,
@@ -74,7 +77,7 @@ fn open_store<H: Host>(
             store: Some(store),
         });
     }
-    match Opened::open(alloc, store, &index.schema) {
+    match Opened::open(rt, alloc, store, &index.schema) {
         Ok(store) => {
             opened.push_reserved(store);
             Ok(())

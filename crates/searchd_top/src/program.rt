@@ -81,7 +81,7 @@ where
                 sessions,
             },
         ) => run_serve(rt, alloc, config, listen, workers, sessions, host),
-        Some(Mode::Check { config }) => run_check(alloc, config, host),
+        Some(Mode::Check { config }) => run_check(rt, alloc, config, host),
         Some(Mode::Selftest { number, docs }) => run_selftest(rt, alloc, number, docs, host),
         None => Status::Usage,
     }

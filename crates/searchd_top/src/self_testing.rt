@@ -13,13 +13,14 @@ use self_test::{SelftestFault, run_over_engine};
 use srch_base::{Name, NoMemory};
 use std::alloc::Global;
 use std::sync::Wait;
+use std::thread::Threads;
 
 /// The name of the index that a selftest is run over.
 const INDEX: &[u8] = b"t";
 
 /// Runs a selftest over an index in memory, and prints what it says to the output. Where the history of the index strayed, or memory was
 /// refused, nothing is printed there.
-pub(crate) fn run_selftest<H: Host, R: Wait>(
+pub(crate) fn run_selftest<H: Host, R: Threads + Wait>(
     rt: &R,
     alloc: Global,
     number: u32,
@@ -40,7 +41,12 @@ pub(crate) fn run_selftest<H: Host, R: Wait>(
 
 /// The lines of a selftest, or how it ended without them.
 #[tactic(auto, unfolding(crate::specs::Selftests::selftest_lines))]
-fn selftest_lines<R: Wait>(rt: &R, alloc: Global, number: u32, docs: u32) -> Result<String, Status>
+fn selftest_lines<R: Threads + Wait>(
+    rt: &R,
+    alloc: Global,
+    number: u32,
+    docs: u32,
+) -> Result<String, Status>
     ensures lines { IfOk result (λ lines. string_bytes lines ≡ selftest_lines number docs) }
     ensures ends { IfErr result IsUnprinted }
     ensures asked { IfErr result (λ status. ¬ (status ≡ Status.Usage)) }

@@ -100,7 +100,7 @@ where
     ensures prints { KeepsPrints H.Host host.old host.new }
 {
     let mut opened = Vec::new(alloc);
-    match open_stores(alloc, conf.indexes.as_slice(), &mut opened, host) {
+    match open_stores(rt, alloc, conf.indexes.as_slice(), &mut opened, host) {
         Ok(()) => {
             let indexes = conf.indexes.into_vec();
             serve_opened(rt, alloc, indexes, opened, listen, workers, sessions, host)

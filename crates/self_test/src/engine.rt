@@ -21,12 +21,13 @@ use srch_base::{NoMemory, Or};
 use std::alloc::Global;
 use std::marker::Brand;
 use std::sync::Wait;
+use std::thread::Threads;
 use step_book::Naming;
 use store_keep::Opened;
 
 /// Runs a selftest over an engine of the index `t`, with the field `title` and the attribute `gid`, on a disk in memory. The engine
 /// has ended before this answers: where its history strayed, that is the answer, whatever was found.
-pub fn run_over_engine<R: Wait>(
+pub fn run_over_engine<R: Threads + Wait>(
     rt: &R,
     alloc: Global,
     number: u32,
@@ -36,7 +37,7 @@ pub fn run_over_engine<R: Wait>(
     ensures ends { Ends ⟦<MemoryDisk as Disk>⟧ result }
 {
     let disk = MemoryDisk::new(alloc, Vec::new(alloc));
-    match open_index(alloc, disk) {
+    match open_index(rt, alloc, disk) {
         Ok((index, store)) => {
             run_over_store::<MemoryDisk, Brand, R>(rt, alloc, index, store, number, docs)
         }
@@ -60,12 +61,16 @@ fn read_index(alloc: Global) -> Result<IndexConf, NoMemory>
 }
 
 /// The index and its store on a disk. The disk fails for want of memory alone.
-fn open_index<D: Disk + Drop>(alloc: Global, disk: D) -> Result<(IndexConf, Opened<D>), NoMemory>
+fn open_index<D: Disk + Drop, R: Threads>(
+    rt: &R,
+    alloc: Global,
+    disk: D,
+) -> Result<(IndexConf, Opened<D>), NoMemory>
     requires { HidesNothing D.Disk disk }
     ensures { IfOk result (λ made. IsReady D.Disk made.0 made.1) }
 {
     let index = read_index(alloc)?;
-    match Opened::open(alloc, disk, &index.schema) {
+    match Opened::open(rt, alloc, disk, &index.schema) {
         Ok(store) => Ok((index, store)),
         Err(_) => Err(NoMemory),
     }

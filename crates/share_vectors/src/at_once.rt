@@ -96,7 +96,7 @@ fn run<D: Disk + Drop + Send, J: Naming + Send + Sync, R: Threads + Wait + Sync>
 fn workers_commit_at_once(rt: HostRuntime) {
     let alloc = rt.alloc();
     let schema = schema(alloc);
-    let right = match Opened::open(alloc, MemoryDisk::new(alloc, Vec::new(alloc)), &schema) {
+    let right = match Opened::open(&rt, alloc, MemoryDisk::new(alloc, Vec::new(alloc)), &schema) {
         Ok(opened) => run::<MemoryDisk, Brand, _>(&rt, alloc, opened),
         Err(_) => false,
     };

@@ -74,7 +74,7 @@ fn run<D: Disk + Drop, J: Naming, R: Wait>(rt: &R, alloc: Global, opened: Opened
 fn two_workers_share_an_index(rt: HostRuntime) {
     let alloc = rt.alloc();
     let schema = schema(alloc);
-    let right = match Opened::open(alloc, MemoryDisk::new(alloc, Vec::new(alloc)), &schema) {
+    let right = match Opened::open(&rt, alloc, MemoryDisk::new(alloc, Vec::new(alloc)), &schema) {
         Ok(opened) => run::<MemoryDisk, Brand, _>(&rt, alloc, opened),
         Err(_) => false,
     };

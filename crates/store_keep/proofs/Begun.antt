@@ -32,7 +32,8 @@ use Rattle.store_keep.specs.Opens.{HidesNothing, IsBegun, LeavesBegun}
 use Rattle.store_keep.specs.declared.opening.Found.{Found}
 use Rattle.store_keep.specs.steps.Beginnings.{Begins, MayBegin, first_state}
 use Rattle.store_keep.specs.steps.Finds.{Finds, IsFound, IsRootRead}
-use Rattle.store_keep.specs.steps.Loads.{IsRead, IsSnapshotOf}
+use Rattle.store_keep.specs.steps.Loads.{IsSnapshotOf}
+use Rattle.store_keep.specs.steps.Records.{IsRead}
 use Rattle.store_keep.specs.declared.fault.StoreFault.{StoreFault}
 use Rattle.store_keep.specs.declared.fault.StoreFault.TheVariants as faults
 use Rattle.store_keep.proofs.Founds.{dir_of, empty_rows, in_order, no_disk, numbered, reaches_of, slot_same}

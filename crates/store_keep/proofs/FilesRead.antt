@@ -20,7 +20,8 @@ use Rattle.store_keep.specs.declared.fault.StoreFault.{StoreFault}
 use Rattle.store_keep.specs.declared.fault.StoreFault.TheVariants as faults
 use Rattle.store_keep.specs.declared.loading.Loaded.{Loaded}
 use Rattle.store_keep.specs.declared.loading.LogEnd.{LogEnd}
-use Rattle.store_keep.specs.steps.Loads.{IsLogRead, IsOfBytes, TakesLog, batches_in, before_next}
+use Rattle.store_keep.specs.steps.Loads.{IsLogRead, IsOfBytes, TakesLog, before_next}
+use Rattle.store_keep.specs.steps.Records.{batches_in}
 use Rattle.store_keep.specs.steps.LogFiles.{AreRead, HasOlder, IsOlderRead, IsSteady, ReadsLog, ReadsLogs, ReadsOlder}
 use Rattle.store_keep.proofs.LogBytes.{batches_of, read_again}
 
@@ -107,12 +108,12 @@ pub newer_bad : {D : Type 0} (words : DiskWords D) (schema : Schema) (state : Ro
 newer_bad words schema state mid new between after faults.NoMemory looks older reads = tt
 newer_bad words schema state mid new between after faults.DiskFault looks older reads = tt
 newer_bad words schema state mid new between after (faults.Damaged damage) looks older reads = λ image is.
-    let again : map record_of (batches_in schema older.records) ≡ older.records = read_again schema older.records older.loaded.all in
+    let again : map record_of (batches_in schema older.records) ≡ older.records = read_again schema older.records older.loaded.of.all in
     let bad : IsBadNewer schema state image damage = record {
       older = batches_in schema older.records;
       is_older = older_log schema state.older older.records image again (older.has image (sym looks.same ∙ is));
       begins = subst (λ (l : List LogRecord). Begins (Chunks state.through) l) (sym again) older.begins;
-      of = batches_of schema older.records older.loaded.all;
+      of = batches_of schema older.records older.loaded.of.all;
       file = reads.0;
       bad = subst (λ (l : List LogRecord). IsBadLog schema (behind (Chunks state.through) (last_number l)) damage.kind damage.place (image state.newer)) (sym again) (reads.1 image is);
     } in

@@ -37,7 +37,8 @@ use Rattle.store_keep.specs.Opens.{HidesNothing}
 use Rattle.store_keep.specs.declared.opening.Found.{Found}
 use Rattle.store_keep.specs.declared.opening.Logs.{Logs}
 use Rattle.store_keep.specs.steps.Finds.{IsFound, IsLoadedAs, IsRootRead}
-use Rattle.store_keep.specs.steps.Loads.{IsRead, batch_in, batches_in, number_after}
+use Rattle.store_keep.specs.steps.Loads.{number_after}
+use Rattle.store_keep.specs.steps.Records.{IsRead, batch_in, batches_in}
 use Rattle.store_keep.specs.steps.LogFiles.{AreRead, IsSteady}
 use Rattle.store_keep.proofs.FilesRead.{log_of, older_log}
 use Rattle.store_keep.proofs.LogBytes.{batches_of, front_fits, read_again}
@@ -132,7 +133,7 @@ no_disk (layer ∷ layers) all =
 image_of : (schema : Schema) (root : Root) (state : RootState) (told : Option Image) (may : Image → Type 0) (logs : Logs) (image : Image) → IsGoodState schema state → Opens root (Some state) (slots_of image) → (read : AreRead schema state told may logs) → told ≡ Some image
     → IsImage schema (dir_of schema state read.older read.newer) root.number root (quiet_log state.newer logs.end.end logs.end.last) None image
 image_of schema root state told may logs image good opens read is =
-    let all = read.loaded.all in
+    let all = read.loaded.of.all in
     let none : state.chunks ≡ [] = none_of state.chunks good.few in
     let own : Slot = record { number = root.number; state = state } in
     let older_again : map record_of (batches_in schema read.older) ≡ read.older = read_again schema read.older (front_fits (IsRead schema) read.older read.newer all) in
@@ -182,7 +183,7 @@ found_is words schema root state old new logs found state_is good slots looks re
     let none : state.chunks ≡ [] = none_of state.chunks good.few in
     let same : logged dir ≡ batches_in schema records = logged_is schema read.older read.newer in
     let numbers : AreNumbered schema state.through records = numbered schema state.through records (joined (Chunks state.through) read.older read.newer read.older_are.numbers read.newer_is.records_are.numbers read.newer_is.begins) (begins_both (Chunks state.through) read.older read.newer read.begins read.newer_is.begins) in
-    let order : IsInOrder schema dir = in_order schema state read.older read.newer good numbers read.loaded.all in
+    let order : IsInOrder schema dir = in_order schema state read.older read.newer good numbers read.loaded.of.all in
     let reaches : Reaches dir = reaches_of schema state read.older read.newer numbers loads.reach in
     let newer_again : map record_of (batches_in schema read.newer) ≡ read.newer = read_again schema read.newer read.newer_is.all in
     let rows : directory_rows dir ≡ live snapshot =

@@ -28,6 +28,8 @@ pub mod Layers
 pub mod NewLayers
 -- what is recent has a layer
 pub mod Laid
+-- pieces one behind the other
+pub mod BothPieces
 -- what was read of a disk is what it stands for
 pub mod Founds
 -- the root that was read

@@ -1,4 +1,4 @@
--- Records of logs that are taken one by one.
+-- Records of logs that are taken one by one, and pieces that are laid.
 use Rattle.std.proofs.Common.{◌≡◌, inl, inr, ℕ, ◌<◌, ◌≤◌, List, [], ◌∷◌, ◌++◌, Bool, true, false, cond, ◌==◌, Option, Some, None, is_some, Result, Ok, Err, refl, sym, ◌∙◌, ap, subst, arith, map, All, append-nil}
 use Rattle.std.specs.Prelude.{IfSome, nat_lt}
 use Rattle.std.specs.BTreeMap.{get}
@@ -9,7 +9,7 @@ use Rattle.std.specs.Ordering.{nat_cmp}
 use Rattle.std.proofs.lemmas.Bool.{cases_lt, lt-ltb, le-ltb}
 use Rattle.std.proofs.lemmas.Cmp.{nat_cmp_total}
 use Rattle.std.proofs.lemmas.List.{map-append}
-use Rattle.std.proofs.lemmas.List.Elements.{All-head, All-push, All-tail, filter-append}
+use Rattle.std.proofs.lemmas.List.Elements.{All-append, All-head, All-push, All-tail, filter-append}
 use Rattle.std.proofs.lemmas.List.Sums.{fold-append}
 use Rattle.byte_fields.specs.Fields.{placed}
 use Rattle.doc_bytes.specs.Payload.{payload}
@@ -22,49 +22,47 @@ use Rattle.doc_types.specs.declared.transactions.TxnOp.{TxnOp}
 use Rattle.doc_types.specs.declared.transactions.TxnOp.TheVariants as operations
 use Rattle.doc_types.specs.Commits.{after_change, change_of}
 use Rattle.doc_types.specs.Documents.{AreRowsOf}
-use Rattle.doc_types.specs.Rows.{rows_of}
+use Rattle.doc_types.specs.Rows.{Rows, rows_of}
 use Rattle.doc_types.specs.Snapshots.{LayerValue, SnapshotValue, all_living, live}
 use Rattle.doc_types.specs.Transactions.{IsOpOf, IsTxnOf}
 use Rattle.gate_log.specs.declared.records.LogRecord.{LogRecord}
-use Rattle.gate_log.proofs.OneMore.{last-push}
+use Rattle.gate_log.specs.Logs.{last_number}
 use Rattle.layer_commit.specs.Commits.{row_at}
 use Rattle.layer_commit.specs.steps.Trying.{row_after, row_then}
 use Rattle.layer_commit.proofs.RowMaps.{equal, get_changes, true_false}
 use Rattle.store_steps.specs.Batches.{Batch, above, after_batch, op_of, txn_of}
 use Rattle.store_keep.specs.declared.loading.Loaded.{Loaded}
 use Rattle.store_keep.specs.declared.recent.Recent.{Recent}
-use Rattle.store_keep.specs.steps.Loads.{IsAllLaid, IsLoaded, IsRead, IsSnapshotOf, Takes, batch_in, batches_in, changes_in, number_after, rows_after}
-use Rattle.store_keep.specs.steps.Recents.{IsLaid, IsRowAt, Owns, is_gone, row_over}
+use Rattle.store_keep.specs.steps.Loads.{IsLoaded, IsSnapshotOf, number_after}
+use Rattle.store_keep.specs.steps.Pieces.{IsLaidOf, IsTaken, Takes}
+use Rattle.store_keep.specs.steps.Recents.{IsLaid, IsRowAt, Owns, is_gone, row_from, row_over}
+use Rattle.store_keep.specs.steps.Records.{IsRead, batch_in, batches_in, changes_in, rows_after, rows_from}
 use Rattle.store_keep.proofs.Recents.{owns_after, row_changed}
 
--- nothing was taken yet
-pub loaded_nothing : (schema : Schema) (through : ℕ) (loaded : Loaded) → ((id : ℕ) → get nat_cmp loaded.recent.rows id ≡ None) → ((id : ℕ) → is_gone loaded.recent id ≡ false) → loaded.laid ≡ record { number = through; shape = 0; layers = [] }
-    → loaded.through ≡ through → loaded.last ≡ None → IsLoaded schema through [] loaded
-loaded_nothing schema through loaded none kept laid through_is last =
-    let nowhere : (id : ℕ) → finite.get (live loaded.laid) id ≡ None = λ id. ap (λ (s : SnapshotValue). finite.get (live s) id) laid ∙ finite.get-empty nat_cmp id in
-    record {
-      all = λ k d h. absurd (omega (arith, h));
-      rows = λ id.
-          ap (λ o. option_or o (cond (is_gone loaded.recent id) None (finite.get (live loaded.laid) id))) (none id)
-          ∙ ap (λ b. cond b None (finite.get (live loaded.laid) id)) (kept id)
-          ∙ nowhere id ∙ sym (finite.get-empty nat_cmp id);
-      each = λ id. subst (λ (o : Option DocRow). IfSome o (IsRowAt schema through id)) (sym (none id)) tt;
-      own = λ id some. absurd (true_false (sym some ∙ ap is_some (none id)));
-      laid = subst (IsLaid schema through) (sym laid) (nothing_laid schema through);
-      through_is = through_is;
-      last_is = last;
-    }
+-- no record was taken yet
+pub taken_nothing : (schema : Schema) (through : ℕ) (recent : Recent) → ((id : ℕ) → get nat_cmp recent.rows id ≡ None) → ((id : ℕ) → is_gone recent id ≡ false) → IsTaken schema through [] recent
+taken_nothing schema through recent none kept = record {
+  all = λ k d h. absurd (omega (arith, h));
+  rows = λ old id. ap (λ o. option_or o (cond (is_gone recent id) None (finite.get old id))) (none id) ∙ ap (λ b. cond b None (finite.get old id)) (kept id);
+  each = λ id. subst (λ (o : Option DocRow). IfSome o (IsRowAt schema through id)) (sym (none id)) tt;
+  own = λ id some. absurd (true_false (sym some ∙ ap is_some (none id)));
+}
+
+-- nothing was laid yet
+pub laid_nothing : (schema : Schema) (through : ℕ) → IsLaidOf schema through [] (record { number = through; shape = 0; layers = [] })
+laid_nothing schema through = record {
+  all = λ k d h. absurd (omega (arith, h));
+  rows = refl;
+  laid = record {
+    shape_is = refl;
+    memory = λ k d h. absurd (omega (arith, h));
+    of = λ k d h. absurd (omega (arith, h));
+    newer = λ id row found. no_row (sym (finite.get-empty nat_cmp id) ∙ found);
+  };
+}
   where
     no_row : {A : Type 0} {row : DocRow} → None ≡ Some row → A
     no_row e = cc
-
-    nothing_laid : (schema : Schema) (through : ℕ) → IsLaid schema through (record { number = through; shape = 0; layers = [] })
-    nothing_laid schema through = record {
-      shape_is = refl;
-      memory = λ k d h. absurd (omega (arith, h));
-      of = λ k d h. absurd (omega (arith, h));
-      newer = λ id row found. no_row (sym (finite.get-empty nat_cmp id) ∙ found);
-    }
 
 -- what a payload was read as
 pub txn_is : (r : Result Txn ℕ) (size : ℕ) (txn : Txn) → placed size r ≡ Ok txn → r ≡ Ok txn
@@ -126,86 +124,107 @@ above-push : (schema : Schema) (through : ℕ) (front : List LogRecord) (r : Log
 above-push schema through front r = ap (λ (bs : List Batch). above through bs) (batches-push schema front r) ∙ filter-append (λ (b : Batch). nat_lt through b.number) (batches_in schema front) (batch_in schema r ∷ [])
 
 -- the rows after one record more
-rows-push : (schema : Schema) (through : ℕ) (front : List LogRecord) (r : LogRecord) → through < r.number → rows_after schema through (front ++ r ∷ []) ≡ after_batch (rows_after schema through front) (batch_in schema r)
-rows-push schema through front r lt =
+rows-push : (schema : Schema) (through : ℕ) (old : Rows) (front : List LogRecord) (r : LogRecord) → through < r.number → rows_from schema through old (front ++ r ∷ []) ≡ after_batch (rows_from schema through old front) (batch_in schema r)
+rows-push schema through old front r lt =
     let one : above through (batch_in schema r ∷ []) ≡ batch_in schema r ∷ [] = ap (λ (c : Bool). cond c (batch_in schema r ∷ []) []) (lt-ltb through r.number lt) in
-    ap (λ (bs : List Batch). fold after_batch finite.empty bs) (above-push schema through front r ∙ ap (λ (bs : List Batch). above through (batches_in schema front) ++ bs) one)
-    ∙ fold-append after_batch finite.empty (above through (batches_in schema front)) (batch_in schema r ∷ [])
+    ap (λ (bs : List Batch). fold after_batch old bs) (above-push schema through front r ∙ ap (λ (bs : List Batch). above through (batches_in schema front) ++ bs) one)
+    ∙ fold-append after_batch old (above through (batches_in schema front)) (batch_in schema r ∷ [])
 
-rows-passed : (schema : Schema) (through : ℕ) (front : List LogRecord) (r : LogRecord) → r.number ≤ through → rows_after schema through (front ++ r ∷ []) ≡ rows_after schema through front
-rows-passed schema through front r le =
+rows-passed : (schema : Schema) (through : ℕ) (old : Rows) (front : List LogRecord) (r : LogRecord) → r.number ≤ through → rows_from schema through old (front ++ r ∷ []) ≡ rows_from schema through old front
+rows-passed schema through old front r le =
     let none : above through (batch_in schema r ∷ []) ≡ [] = ap (λ (c : Bool). cond c (batch_in schema r ∷ []) []) (le-ltb through r.number le) in
-    ap (λ (bs : List Batch). fold after_batch finite.empty bs) (above-push schema through front r ∙ ap (λ (bs : List Batch). above through (batches_in schema front) ++ bs) none ∙ append-nil (above through (batches_in schema front)))
+    ap (λ (bs : List Batch). fold after_batch old bs) (above-push schema through front r ∙ ap (λ (bs : List Batch). above through (batches_in schema front) ++ bs) none ∙ append-nil (above through (batches_in schema front)))
+
+-- the rows after some records and others
+rows-then : (schema : Schema) (through : ℕ) (old : Rows) (front records : List LogRecord) → rows_from schema through old (front ++ records) ≡ rows_from schema through (rows_from schema through old front) records
+rows-then schema through old front records =
+    ap (λ (bs : List Batch). fold after_batch old (above through bs)) (map-append (batch_in schema) front records)
+    ∙ ap (λ (bs : List Batch). fold after_batch old bs) (filter-append (λ (b : Batch). nat_lt through b.number) (batches_in schema front) (batches_in schema records))
+    ∙ fold-append after_batch old (above through (batches_in schema front)) (above through (batches_in schema records))
 
 -- one record more was taken
-pub loaded_more : (schema : Schema) (through : ℕ) (front : List LogRecord) (r : LogRecord) (old new : Loaded) (txn : Txn) → IsLoaded schema through front old → IsRead schema r → txn_at schema r.payload ≡ Ok txn → All (IsOpOf schema) txn.ops
-    → Takes r.number txn.ops old new → IsLoaded schema through (front ++ r ∷ []) new
-loaded_more schema through front r old new txn loaded read is of takes = elim (cases_lt through r.number) [
+pub taken_more : (schema : Schema) (through : ℕ) (front : List LogRecord) (r : LogRecord) (old new : Recent) (txn : Txn) → IsTaken schema through front old → IsRead schema r → txn_at schema r.payload ≡ Ok txn → All (IsOpOf schema) txn.ops
+    → Takes through r.number txn.ops old new → IsTaken schema through (front ++ r ∷ []) new
+taken_more schema through front r old new txn taken read is of takes = elim (cases_lt through r.number) [
   | inl lt ↦
-      let made = takes.later (omega (arith, lt, loaded.through_is)) in
+      let made = takes.later lt in
       record {
-        all = All-push (IsRead schema) front r loaded.all read;
-        rows = λ id.
-            ap (row_over_laid new.recent id) takes.laid
-            ∙ row_changed r.number id (map change_of txn.ops) old.recent new.recent old.laid made
-            ∙ ap (λ (o : Option DocRow). row_after r.number id o (map change_of txn.ops)) (loaded.rows id)
-            ∙ sym (get_changes r.number id (rows_after schema through front) (map change_of txn.ops))
-            ∙ ap (λ (t : Result Txn ℕ). finite.get (fold (after_change r.number) (rows_after schema through front) (changes_in t)) id) (sym is)
-            ∙ ap (λ (m : _). finite.get m id) (sym (rows-push schema through front r lt));
-        each = λ id. subst (λ (o : Option DocRow). IfSome o (IsRowAt schema through id)) (sym (made.rows id)) (rows_kept schema through r.number id (get nat_cmp old.recent.rows id) txn.ops lt of (loaded.each id));
-        own = owns_after r.number (map change_of txn.ops) old.recent new.recent made loaded.own;
-        laid = subst (IsLaid schema through) (sym takes.laid) loaded.laid;
-        through_is = takes.same ∙ loaded.through_is;
-        last_is = takes.last_is ∙ sym (last-push front r);
+        all = All-push (IsRead schema) front r taken.all read;
+        rows = λ rows id.
+            row_changed r.number id (map change_of txn.ops) old new (finite.get rows id) made
+            ∙ ap (λ (o : Option DocRow). row_after r.number id o (map change_of txn.ops)) (taken.rows rows id)
+            ∙ sym (get_changes r.number id (rows_from schema through rows front) (map change_of txn.ops))
+            ∙ ap (λ (t : Result Txn ℕ). finite.get (fold (after_change r.number) (rows_from schema through rows front) (changes_in t)) id) (sym is)
+            ∙ ap (λ (m : _). finite.get m id) (sym (rows-push schema through rows front r lt));
+        each = λ id. subst (λ (o : Option DocRow). IfSome o (IsRowAt schema through id)) (sym (made.rows id)) (rows_kept schema through r.number id (get nat_cmp old.rows id) txn.ops lt of (taken.each id));
+        own = owns_after r.number (map change_of txn.ops) old new made taken.own;
       }
   | inr le ↦
-      let same = takes.earlier (omega (arith, le, loaded.through_is)) in
+      let same = takes.earlier le in
       record {
-        all = All-push (IsRead schema) front r loaded.all read;
-        rows = λ id.
-            ap (row_over_laid new.recent id) takes.laid
-            ∙ ap (λ (recent : Recent). row_over recent old.laid id) same
-            ∙ loaded.rows id ∙ ap (λ (m : _). finite.get m id) (sym (rows-passed schema through front r le));
-        each = λ id. subst (λ (recent : Recent). IfSome (get nat_cmp recent.rows id) (IsRowAt schema through id)) (sym same) (loaded.each id);
-        own = subst Owns (sym same) loaded.own;
-        laid = subst (IsLaid schema through) (sym takes.laid) loaded.laid;
-        through_is = takes.same ∙ loaded.through_is;
-        last_is = takes.last_is ∙ sym (last-push front r);
+        all = All-push (IsRead schema) front r taken.all read;
+        rows = λ rows id.
+            ap (λ (recent : Recent). row_from recent (finite.get rows id) id) same
+            ∙ taken.rows rows id ∙ ap (λ (m : _). finite.get m id) (sym (rows-passed schema through rows front r le));
+        each = λ id. subst (λ (recent : Recent). IfSome (get nat_cmp recent.rows id) (IsRowAt schema through id)) (sym same) (taken.each id);
+        own = subst Owns (sym same) taken.own;
       }
 ]
-  where
-    row_over_laid : Recent → ℕ → SnapshotValue → Option DocRow
-    row_over_laid recent id laid = row_over recent laid id
 
--- the layers have all
-pub all_laid : (loaded : Loaded) → ((id : ℕ) → get nat_cmp loaded.recent.rows id ≡ None) → ((id : ℕ) → is_gone loaded.recent id ≡ false) → IsAllLaid loaded
-all_laid loaded none kept id =
-    ap (λ o. option_or o (cond (is_gone loaded.recent id) None (finite.get (live loaded.laid) id))) (none id)
-    ∙ ap (λ b. cond b None (finite.get (live loaded.laid) id)) (kept id)
-
--- what was recent has a layer
-pub loaded_laid : (schema : Schema) (through : ℕ) (front : List LogRecord) (old new : Loaded) → IsLoaded schema through front old → ((id : ℕ) → get nat_cmp new.recent.rows id ≡ None) → ((id : ℕ) → is_gone new.recent id ≡ false)
-    → ((id : ℕ) → finite.get (live new.laid) id ≡ row_over old.recent old.laid id) → IsLaid schema through new.laid → new.through ≡ old.through → new.last ≡ old.last → IsLoaded schema through front new
-loaded_laid schema through front old new loaded none kept rows laid same last = record {
-  all = loaded.all;
-  rows = λ id. all_laid new none kept id ∙ rows id ∙ loaded.rows id;
-  each = λ id. subst (λ (o : Option DocRow). IfSome o (IsRowAt schema through id)) (sym (none id)) tt;
-  own = λ id some. absurd (true_false (sym some ∙ ap is_some (none id)));
+-- a piece was laid
+pub laid_more : (schema : Schema) (through : ℕ) (front records : List LogRecord) (recent : Recent) (old new : SnapshotValue) → IsLaidOf schema through front old → IsTaken schema through records recent
+    → ((id : ℕ) → finite.get (live new) id ≡ row_over recent old id) → IsLaid schema through new → IsLaidOf schema through (front ++ records) new
+laid_more schema through front records recent old new before taken rows laid = record {
+  all = All-append (IsRead schema) front records before.all taken.all;
+  rows = finite.same_map nat_cmp_total finite.nat_cmp-IsAntisymmetric (live new) (rows_after schema through (front ++ records)) (λ id.
+      rows id ∙ taken.rows (live old) id
+      ∙ ap (λ (m : Rows). finite.get (rows_from schema through m records) id) before.rows
+      ∙ ap (λ (m : Rows). finite.get m id) (sym (rows-then schema through finite.empty front records)));
   laid = laid;
+}
+
+-- nothing was read yet
+pub loaded_nothing : (schema : Schema) (through : ℕ) (loaded : Loaded) → loaded.laid ≡ record { number = through; shape = 0; layers = [] } → loaded.through ≡ through → loaded.last ≡ None → IsLoaded schema through [] loaded
+loaded_nothing schema through loaded laid through_is last = record {
+  of = subst (IsLaidOf schema through []) (sym laid) (laid_nothing schema through);
+  through_is = through_is;
+  last_is = last;
+}
+
+-- the last number of records and others
+last_then : (front records : List LogRecord) → option_or (last_number records) (last_number front) ≡ last_number (front ++ records)
+last_then [] records = or_none (last_number records)
+  where
+    or_none : (o : Option ℕ) → option_or o None ≡ o
+    or_none None = refl
+    or_none (Some last) = refl
+last_then (r ∷ []) [] = refl
+last_then (r ∷ []) (s ∷ records) = some_last s records (Some r.number)
+  where
+    some_last : (s : LogRecord) (records : List LogRecord) (other : Option ℕ) → option_or (last_number (s ∷ records)) other ≡ last_number (s ∷ records)
+    some_last s [] other = refl
+    some_last s (t ∷ records) other = some_last t records other
+last_then (r ∷ s ∷ front) records = last_then (s ∷ front) records
+
+-- a log was read
+pub loaded_more : (schema : Schema) (through : ℕ) (front records : List LogRecord) (old new : Loaded) (last : Option ℕ) → IsLoaded schema through front old → IsLaidOf schema through (front ++ records) new.laid
+    → last ≡ last_number records → new.last ≡ option_or last old.last → new.through ≡ old.through → IsLoaded schema through (front ++ records) new
+loaded_more schema through front records old new last loaded laid is last_is same = record {
+  of = laid;
   through_is = same ∙ loaded.through_is;
-  last_is = last ∙ loaded.last_is;
+  last_is = last_is ∙ ap (λ (o : Option ℕ). option_or o old.last) is ∙ ap (option_or (last_number records)) loaded.last_is ∙ last_then front records;
 }
 
 -- the snapshot of what was taken
-pub snapshot_of : (schema : Schema) (through : ℕ) (records : List LogRecord) (loaded : Loaded) (snapshot : SnapshotValue) → IsLoaded schema through records loaded → IsAllLaid loaded → snapshot.layers ≡ loaded.laid.layers → snapshot.shape ≡ loaded.laid.shape
+pub snapshot_of : (schema : Schema) (through : ℕ) (records : List LogRecord) (loaded : Loaded) (snapshot : SnapshotValue) → IsLoaded schema through records loaded → snapshot.layers ≡ loaded.laid.layers → snapshot.shape ≡ loaded.laid.shape
     → snapshot.number ≡ number_after loaded.through loaded.last → IsSnapshotOf schema through records snapshot
-snapshot_of schema through records loaded snapshot is all layers shape number =
+snapshot_of schema through records loaded snapshot is layers shape number =
     let same : live snapshot ≡ live loaded.laid = ap (λ (l : List LayerValue). rows_of (all_living l)) layers in
     record {
       number_is = number ∙ ap (λ (n : ℕ). number_after n loaded.last) is.through_is ∙ ap (number_after through) is.last_is;
-      shape_is = shape ∙ is.laid.shape_is;
-      rows_are = same ∙ finite.same_map nat_cmp_total finite.nat_cmp-IsAntisymmetric (live loaded.laid) (rows_after schema through records) (λ id. sym (all id) ∙ is.rows id);
-      memory = subst (All (λ (layer : LayerValue). layer.disk ≡ false)) (sym layers) is.laid.memory;
-      of = subst (All (λ (layer : LayerValue). AreRowsOf schema layer.rows)) (sym layers) is.laid.of;
-      newer = λ id row found. is.laid.newer id row (ap (λ m. finite.get m id) (sym same) ∙ found);
+      shape_is = shape ∙ is.of.laid.shape_is;
+      rows_are = same ∙ is.of.rows;
+      memory = subst (All (λ (layer : LayerValue). layer.disk ≡ false)) (sym layers) is.of.laid.memory;
+      of = subst (All (λ (layer : LayerValue). AreRowsOf schema layer.rows)) (sym layers) is.of.laid.of;
+      newer = λ id row found. is.of.laid.newer id row (ap (λ m. finite.get m id) (sym same) ∙ found);
     }

@@ -1,7 +1,7 @@
 -- The bytes of a log whose records were read, up to one of them, or to their end.
-use Rattle.std.proofs.Common.{◌≡◌, ℕ, ◌+◌, ◌<◌, ◌≤◌, ◌^◌, suc, List, [], ◌∷◌, ◌++◌, Option, Some, None, Err, refl, sym, ◌∙◌, ap, subst, arith, length, map, take, drop, get_or, All, append_assoc, length-append}
-use Rattle.std.proofs.Math.Seq.{drop-append_seam, drop-cons, take-append_seam}
-use Rattle.std.proofs.lemmas.List.{length-map, map-append, take-append-drop, take_all, take_more}
+use Rattle.std.proofs.Common.{◌≡◌, ℕ, ◌+◌, ◌<◌, ◌^◌, List, [], ◌∷◌, ◌++◌, Option, Some, None, Ok, Err, refl, sym, ◌∙◌, ap, subst, arith, length, map, All, append_assoc, length-append}
+use Rattle.std.proofs.Math.Seq.{drop-append_seam, take-append_seam}
+use Rattle.std.proofs.lemmas.List.{length-map, map-append}
 use Rattle.std.proofs.lemmas.List.Concat.{flat_map-append, flat_map-cons}
 use Rattle.std.proofs.lemmas.List.Elements.{All-cons, All-drop, All-head, All-nil, All-tail, All-take}
 use Rattle.doc_bytes.specs.Reading.{txn_at}
@@ -23,7 +23,12 @@ use Rattle.store_steps.specs.declared.damage.Damage.{Damage}
 use Rattle.store_keep.specs.declared.fault.StoreFault.{StoreFault}
 use Rattle.store_keep.specs.declared.fault.StoreFault.TheVariants as faults
 use Rattle.store_keep.specs.declared.loading.Loaded.{Loaded}
-use Rattle.store_keep.specs.steps.Loads.{IsLoaded, IsLogRead, IsRead, TakesLog, TakesRecord, bad_record, batch_in, batches_in, before_next, kind_of}
+use Rattle.doc_types.specs.Snapshots.{SnapshotValue}
+use Rattle.std.specs.Option.{option_or}
+use Rattle.store_keep.proofs.Loads.{loaded_more}
+use Rattle.store_keep.specs.steps.Loads.{IsLoaded, IsLogRead, TakesLog, bad_record, before_next, kind_of}
+use Rattle.store_keep.specs.steps.Pieces.{AreShort, IsLaidOf, RefusesPiece}
+use Rattle.store_keep.specs.steps.Records.{IsRead, batch_in, batches_in}
 
 front_numbers : (xs ys : List LogRecord) → AreConsecutive (xs ++ ys) → AreConsecutive xs
 front_numbers [] ys is = tt
@@ -151,59 +156,45 @@ good_end schema before bytes read found none good =
       last_is = found.last;
     }
 
--- ---- one after the other
+-- the payloads can be read
+pub all_short : (before : Before) (bytes : List ℕ) (read : LogRead) (items : List RecordAt) → IsReadAs before bytes read → items ≡ read.records.items → AreShort items
+all_short before bytes read items found same = subst AreShort (sym same) (short_all read.records.items found.records_are.fit)
+  where
+    short_all : (items : List RecordAt) → All Fits (map read_of items) → AreShort items
+    short_all [] all = All-nil (λ (entry : RecordAt). length entry.payload.now < 2 ^ 32)
+    short_all (r ∷ items) all = All-cons (λ (entry : RecordAt). length entry.payload.now < 2 ^ 32) r items (All-head Fits (read_of r) (map read_of items) all).payload (short_all items (All-tail Fits (read_of r) (map read_of items) all))
 
-pub entry_split : (items : List RecordAt) (i : ℕ) (d : RecordAt) → i < length items → items ≡ take i items ++ get_or items i d ∷ drop (suc i) items
-entry_split items i d lt = sym (take-append-drop i items) ∙ ap (λ (l : List RecordAt). take i items ++ l) (drop-cons items i d lt)
+-- one of the records holds no transaction
+pub records_wrong : (schema : Schema) (through : ℕ) (front : List LogRecord) (before : Before) (bytes : List ℕ) (read : LogRead) (items : List RecordAt) (file : ℕ) (fault : StoreFault) (new : Loaded) → before ≡ before_next through front → IsReadAs before bytes read
+    → items ≡ read.records.items → RefusesPiece schema file items fault → TakesLog schema through front file bytes (Err fault) new
+records_wrong schema through front before bytes read items file faults.NoMemory new is found same wrong = tt
+records_wrong schema through front before bytes read items file faults.DiskFault new is found same wrong = absurd wrong
+records_wrong schema through front before bytes read items file (faults.Damaged damage) new is found same wrong =
+    let batches = batches_in schema (map read_of wrong.front) in
+    let bad : IsBadBehind schema before kinds.RecordPayload wrong.entry.place batches bytes =
+    bad_there schema before bytes read wrong.front wrong.entry wrong.back found (sym same ∙ wrong.are) wrong.read wrong.left wrong.wrong in
+    let here : IsBadBehind schema (before_next through front) kinds.RecordPayload wrong.entry.place batches bytes = subst (λ (b : Before). IsBadBehind schema b kinds.RecordPayload wrong.entry.place batches bytes) is bad in
+    (ap (λ (e : Damage). e.file) wrong.damage_is, (batches, subst (λ (e : Damage). IsBadBehind schema (before_next through front) e.kind e.place batches bytes) (sym wrong.damage_is) here))
 
-pub entry_short : (before : Before) (bytes : List ℕ) (read : LogRead) (items : List RecordAt) (i : ℕ) (d : RecordAt) → IsReadAs before bytes read → items ≡ read.records.items → i < length items → length (get_or items i d).payload.now < 2 ^ 32
-entry_short before bytes read items i d found same lt =
-    let front = map read_of (take i items) in
-    let back = map read_of (drop (suc i) items) in
-    let r = get_or items i d in
-    let all : map read_of read.records.items ≡ front ++ read_of r ∷ back = ap (map read_of) (sym same ∙ entry_split items i d lt) ∙ map-append read_of (take i items) (r ∷ drop (suc i) items) in
-    let fits : Fits (read_of r) = All-head Fits (read_of r) back (back_fits Fits front (read_of r ∷ back) (subst (λ (l : List LogRecord). All Fits l) all found.records_are.fit)) in
-    fits.payload
-
-pub entry_taken : (schema : Schema) (through : ℕ) (front : List LogRecord) (items : List RecordAt) (i : ℕ) (d : RecordAt) (new : Loaded) → i < length items → IsLoaded schema through ((front ++ map read_of (take i items)) ++ read_of (get_or items i d) ∷ []) new
-    → IsLoaded schema through (front ++ map read_of (take (i + 1) items)) new
-entry_taken schema through front items i d new lt loaded =
-    let r = get_or items i d in
-    let same : (front ++ map read_of (take i items)) ++ read_of r ∷ [] ≡ front ++ map read_of (take (i + 1) items) =
-    append_assoc front (map read_of (take i items)) (read_of r ∷ [])
-    ∙ ap (λ (l : List LogRecord). front ++ l) (sym (map-append read_of (take i items) (r ∷ [])))
-    ∙ ap (λ (l : List RecordAt). front ++ map read_of l) (sym (take_more items i d lt)) in
-    subst (λ (l : List LogRecord). IsLoaded schema through l new) same loaded
-
-pub entry_wrong : (schema : Schema) (through : ℕ) (front : List LogRecord) (before : Before) (bytes : List ℕ) (read : LogRead) (items : List RecordAt) (i : ℕ) (d : RecordAt) (file : ℕ) (fault : StoreFault) (self new : Loaded) → before ≡ before_next through front → IsReadAs before bytes read
-    → items ≡ read.records.items → i < length items → IsLoaded schema through (front ++ map read_of (take i items)) self
-    → TakesRecord schema through (front ++ map read_of (take i items)) (read_of (get_or items i d)) file (get_or items i d).place (Err fault) new → TakesLog schema through front file bytes (Err fault) new
-entry_wrong schema through front before bytes read items i d file faults.NoMemory self new is found same lt loaded wrong = tt
-entry_wrong schema through front before bytes read items i d file faults.DiskFault self new is found same lt loaded wrong = absurd wrong
-entry_wrong schema through front before bytes read items i d file (faults.Damaged damage) self new is found same lt loaded wrong =
-    let good : All (IsRead schema) (map read_of (take i items)) = back_fits (IsRead schema) front (map read_of (take i items)) loaded.all in
-    let bad : IsBadBehind schema before kinds.RecordPayload (get_or items i d).place (batches_in schema (map read_of (take i items))) bytes =
-    bad_there schema before bytes read (take i items) (get_or items i d) (drop (suc i) items) found (sym same ∙ entry_split items i d lt) good wrong.1.0 wrong.1.1 in
-    let here : IsBadBehind schema (before_next through front) kinds.RecordPayload (get_or items i d).place (batches_in schema (map read_of (take i items))) bytes =
-    subst (λ (b : Before). IsBadBehind schema b kinds.RecordPayload (get_or items i d).place (batches_in schema (map read_of (take i items))) bytes) is bad in
-    (ap (λ (e : Damage). e.file) wrong.0, (batches_in schema (map read_of (take i items)), subst (λ (e : Damage). IsBadBehind schema (before_next through front) e.kind e.place (batches_in schema (map read_of (take i items))) bytes) (sym wrong.0) here))
-
-pub all_taken : (schema : Schema) (through : ℕ) (front : List LogRecord) (read : LogRead) (items : List RecordAt) (i : ℕ) (self : Loaded) → items ≡ read.records.items → length items ≤ i → IsLoaded schema through (front ++ map read_of (take i items)) self
-    → IsLoaded schema through (front ++ map read_of read.records.items) self
-all_taken schema through front read items i self same le loaded =
-    subst (λ (l : List RecordAt). IsLoaded schema through (front ++ map read_of l) self) (take_all i items le ∙ same) loaded
-
-pub end_wrong : (schema : Schema) (through : ℕ) (front : List LogRecord) (before : Before) (bytes : List ℕ) (read : LogRead) (kind : LogKind) (file : ℕ) (damage : Damage) (self : Loaded) → before ≡ before_next through front → IsReadAs before bytes read → read.fault ≡ Some kind
-    → IsLoaded schema through (front ++ map read_of read.records.items) self → damage ≡ bad_record file read.end kind → (damage.file ≡ file) × ((batches : List Batch) × IsBadBehind schema (before_next through front) damage.kind damage.place batches bytes)
-end_wrong schema through front before bytes read kind file damage self is found fault loaded which =
-    let good : All (IsRead schema) (map read_of read.records.items) = back_fits (IsRead schema) front (map read_of read.records.items) loaded.all in
+-- what is wrong behind records that were laid
+pub end_wrong : (schema : Schema) (through : ℕ) (front : List LogRecord) (before : Before) (bytes : List ℕ) (read : LogRead) (items : List RecordAt) (kind : LogKind) (file : ℕ) (damage : Damage) (laid : SnapshotValue) → before ≡ before_next through front → IsReadAs before bytes read
+    → items ≡ read.records.items → read.fault ≡ Some kind → IsLaidOf schema through (front ++ map read_of items) laid → damage ≡ bad_record file read.end kind
+    → (damage.file ≡ file) × ((batches : List Batch) × IsBadBehind schema (before_next through front) damage.kind damage.place batches bytes)
+end_wrong schema through front before bytes read items kind file damage laid is found same fault laid_of which =
+    let good : All (IsRead schema) (map read_of read.records.items) = subst (λ (l : List RecordAt). All (IsRead schema) (map read_of l)) same (back_fits (IsRead schema) front (map read_of items) laid_of.all) in
     let batches = batches_in schema (map read_of read.records.items) in
     let here : IsBadBehind schema (before_next through front) (kind_of kind) read.end batches bytes =
     subst (λ (b : Before). IsBadBehind schema b (kind_of kind) read.end batches bytes) is (bad_end schema before bytes read kind found fault good) in
     (ap (λ (e : Damage). e.file) which, (batches, subst (λ (e : Damage). IsBadBehind schema (before_next through front) e.kind e.place batches bytes) (sym which) here))
 
-pub end_well : (schema : Schema) (through : ℕ) (front : List LogRecord) (before : Before) (bytes : List ℕ) (read : LogRead) (self : Loaded) → before ≡ before_next through front → IsReadAs before bytes read → read.fault ≡ None
-    → IsLoaded schema through (front ++ map read_of read.records.items) self → IsLogRead schema (before_next through front) (map read_of read.records.items) bytes (record { end = read.end; last = read.last })
-end_well schema through front before bytes read self is found none loaded =
-    let good : All (IsRead schema) (map read_of read.records.items) = back_fits (IsRead schema) front (map read_of read.records.items) loaded.all in
-    subst (λ (b : Before). IsLogRead schema b (map read_of read.records.items) bytes (record { end = read.end; last = read.last })) is (good_end schema before bytes read found none good)
+-- a log whose records were laid
+pub end_well : (schema : Schema) (through file : ℕ) (front : List LogRecord) (before : Before) (bytes : List ℕ) (read : LogRead) (items : List RecordAt) (old new : Loaded) → before ≡ before_next through front → IsReadAs before bytes read → items ≡ read.records.items
+    → read.fault ≡ None → IsLoaded schema through front old → IsLaidOf schema through (front ++ map read_of items) new.laid → new.last ≡ option_or read.last old.last → new.through ≡ old.through
+    → TakesLog schema through front file bytes (Ok (record { end = read.end; last = read.last })) new
+end_well schema through file front before bytes read items old new is found same none loaded laid last through_is =
+    let here : IsLaidOf schema through (front ++ map read_of read.records.items) new.laid = subst (λ (l : List RecordAt). IsLaidOf schema through (front ++ map read_of l) new.laid) same laid in
+    let good : All (IsRead schema) (map read_of read.records.items) = back_fits (IsRead schema) front (map read_of read.records.items) here.all in (
+      map read_of read.records.items,
+      subst (λ (b : Before). IsLogRead schema b (map read_of read.records.items) bytes (record { end = read.end; last = read.last })) is (good_end schema before bytes read found none good),
+      loaded_more schema through front (map read_of read.records.items) old new read.last loaded here found.last last through_is,
+    )

@@ -1,18 +1,16 @@
 -- What is recent after changes, and over the layers before it.
 use Rattle.std.proofs.Common.{◌≡◌, ℕ, List, [], ◌∷◌, Bool, true, false, cond, ◌||◌, Option, Some, None, is_some, refl, sym, ◌∙◌, ap, map}
 use Rattle.std.specs.BTreeMap.{get}
-use Rattle.std.specs.FinMap as finite
 use Rattle.std.specs.Option.{option_or}
 use Rattle.std.specs.Ordering.{nat_cmp}
 use Rattle.doc_types.specs.declared.documents.DocRow.{DocRow}
 use Rattle.doc_types.specs.declared.transactions.TxnOp.{TxnOp}
 use Rattle.doc_types.specs.Commits.{Change, change_of}
-use Rattle.doc_types.specs.Snapshots.{SnapshotValue, live}
 use Rattle.layer_commit.specs.Commits.{named, names}
 use Rattle.layer_commit.specs.steps.Trying.{row_after}
 use Rattle.layer_commit.proofs.RowMaps.{named_alike, unnamed}
 use Rattle.store_keep.specs.declared.recent.Recent.{Recent}
-use Rattle.store_keep.specs.steps.Recents.{Changes, Owns, is_gone, row_over}
+use Rattle.store_keep.specs.steps.Recents.{Changes, Owns, is_gone, row_from}
 
 or_false : (b : Bool) → (b || false) ≡ b
 or_false true = refl
@@ -64,11 +62,11 @@ over_after number id changes gone own other =
     or_none None = refl
     or_none (Some row) = refl
 
-pub row_changed : (number id : ℕ) (changes : List Change) (old new : Recent) (laid : SnapshotValue) → Changes number changes old new → row_over new laid id ≡ row_after number id (row_over old laid id) changes
-row_changed number id changes old new laid made =
-    ap (λ b. option_or (get nat_cmp new.rows id) (cond b None (finite.get (live laid) id))) (made.gone id)
-    ∙ ap (λ o. option_or o (cond (is_gone old id || named changes id) None (finite.get (live laid) id))) (made.rows id)
-    ∙ over_after number id changes (is_gone old id) (get nat_cmp old.rows id) (finite.get (live laid) id)
+pub row_changed : (number id : ℕ) (changes : List Change) (old new : Recent) (before : Option DocRow) → Changes number changes old new → row_from new before id ≡ row_after number id (row_from old before id) changes
+row_changed number id changes old new before made =
+    ap (λ b. option_or (get nat_cmp new.rows id) (cond b None before)) (made.gone id)
+    ∙ ap (λ o. option_or o (cond (is_gone old id || named changes id) None before)) (made.rows id)
+    ∙ over_after number id changes (is_gone old id) (get nat_cmp old.rows id) before
 
 -- rows that were put stay named
 pub owns_after : (number : ℕ) (changes : List Change) (old new : Recent) → Changes number changes old new → Owns old → Owns new

@@ -1,11 +1,7 @@
-//! How rows that were read of a log get a layer, piece by piece.
-//!
-//! So few of a long log's rows are documents at a time: these take five times the bytes that they have in the log, and the memory of
-//! those that have their layer serves for the next ones. What was named since the last layer dies in the layers that are there, and
-//! these are put together as after a commit.
-ghost use Rattle.std.specs.Prelude.{◌≡◌, ◌<◌, ◌^◌, ◌+◌, ◌++◌, ℕ, [], AllPairs, if◌then◌else◌, false, IfOk, IfSome, length, map};
+//! How a piece of a log gets a layer: what it names dies in the layers that are there, its rows become one more, and these are put
+//! together as after a commit.
+ghost use Rattle.std.specs.Prelude.{◌≡◌, ◌<◌, ◌^◌, ◌+◌, ◌++◌, ℕ, List, [], AllPairs, if◌then◌else◌, false, IfOk, IfSome, length, map};
 ghost use Rattle.std.specs.BTreeMap.{IsOrdered};
-ghost use Rattle.std.specs.FinMap as finite;
 ghost use Rattle.std.specs.List.{sum_by};
 ghost use Rattle.std.specs.List.Sorted.{IsStrictlySortedBy};
 ghost use Rattle.std.specs.Map.{values_of};
@@ -14,13 +10,15 @@ ghost use Rattle.doc_types.specs.Chunks.{IsContent};
 ghost use Rattle.doc_types.specs.Commits.{Kill};
 ghost use Rattle.doc_types.specs.Documents.{word_count};
 ghost use Rattle.doc_types.specs.Schemas.{IsSchema};
-ghost use Rattle.doc_types.specs.Snapshots.{AreLayers, all_living, live};
+ghost use Rattle.doc_types.specs.Snapshots.{AreLayers, all_living};
 ghost use Rattle.doc_types.specs.declared.schema.Schema.{Schema as AnySchema};
+ghost use Rattle.gate_log.specs.declared.records.LogRecord.{LogRecord};
 ghost use Rattle.layer_commit.specs.Commits.{layers_after, layers_of};
-ghost use Rattle.store_keep.specs.steps.Recents.{AreRowsAt, IsLaid, Owns, row_over};
+ghost use Rattle.store_keep.specs.steps.Pieces.{IsLaidOf, IsPiece};
+ghost use Rattle.store_keep.specs.steps.Recents.{AreRowsAt};
 
+use crate::pieces::Piece;
 use crate::preparing::upkept;
-use crate::recent::Recent;
 use any_chunk::AnyChunk;
 use doc_types::{Chunk, DocRow, Layer, Snapshot};
 use layer_commit::{kill_ids, live_count};
@@ -38,26 +36,22 @@ const MOST_WORDS: u32 = 1 << 31;
 /// The most layers of a snapshot.
 const MOST_LAYERS: usize = 65_535;
 
-/// The snapshot once what is recent has a layer behind its own.
+/// The snapshot once a piece has a layer behind its own.
 pub(crate) fn lay(
     alloc: Global,
     laid: &Snapshot<AnyChunk>,
-    recent: Recent,
+    piece: Piece,
 ) -> Result<Snapshot<AnyChunk>, NoMemory>
-    requires rows { (schema : AnySchema) × IsSchema schema × ((through : ℕ) × AreRowsAt schema through recent.rows × IsLaid schema through laid.now) }
-    requires own { Owns recent }
-    ensures rows { IfOk result (λ next. (id : ℕ) → finite.get (live next) id ≡ row_over recent laid.now id) }
-    ensures laid { IfOk result (λ next. (schema : AnySchema) (through : ℕ) → AreRowsAt schema through recent.rows → IsLaid schema through laid.now → IsLaid schema through next) }
+    requires { (schema : AnySchema) × IsSchema schema × ((through : ℕ) × (front : List LogRecord) × (records : List LogRecord) × IsLaidOf schema through front laid.now × IsPiece schema through records piece) }
+    ensures { IfOk result (λ next. (schema : AnySchema) (through : ℕ) (front records : List LogRecord) → IsLaidOf schema through front laid.now → IsPiece schema through records piece → IsLaidOf schema through (front ++ records) next) }
 {
-    let Recent {
+    let Piece {
         cleared,
         named,
-        rows,
-    } = recent;
-    let ids = ids_in(alloc, named)?;
-    let left = left_of(alloc, laid, cleared, &ids)?;
-    let rows = content_of(alloc, rows)?;
-    let layers = with_layer(alloc, left, rows)?;
+        chunk,
+    } = piece;
+    let left = left_of(alloc, laid, cleared, &named)?;
+    let layers = with_layer(alloc, left, chunk)?;
     let next = snapshot_of(laid, layers)?;
     Ok(upkept(alloc, next))
 }
@@ -86,7 +80,7 @@ fn snapshot_of(
 }
 
 /// The ids of a set, ascending.
-fn ids_in(alloc: Global, ids: BTreeSet<u64>) -> Result<Vec<u64>, NoMemory>
+pub(crate) fn ids_in(alloc: Global, ids: BTreeSet<u64>) -> Result<Vec<u64>, NoMemory>
     ensures ids { IfOk result (λ list. list.items ≡ ids.keys) }
     ensures ordered { IsStrictlySortedBy nat_cmp ids.keys }
 {
@@ -111,28 +105,27 @@ fn left_of(
     kill_ids(alloc, layers, ids)
 }
 
-/// These layers and one of these rows, if there are some.
+/// These layers and one of a chunk in memory, if it has rows.
 fn with_layer(
     alloc: Global,
     layers: Vec<Layer<AnyChunk>>,
-    rows: Vec<DocRow>,
+    chunk: AnyChunk,
 ) -> Result<Vec<Layer<AnyChunk>>, NoMemory>
-    requires { IsContent rows.items }
-    ensures { IfOk result (λ all. all.items ≡ layers.items ++ layers_of rows.items) }
+    requires { IsContent (⟦<AnyChunk as Chunk>⟧.content chunk) }
+    ensures { IfOk result (λ all. all.items ≡ layers.items ++ layers_of (⟦<AnyChunk as Chunk>⟧.content chunk)) }
 {
     let mut layers = layers;
-    if !rows.is_empty() {
-        layers.push(layer_of(alloc, rows)?)?;
+    if chunk.rows() > 0 {
+        layers.push(layer_of(alloc, chunk)?)?;
     }
     Ok(layers)
 }
 
-/// A layer in memory of these rows.
-fn layer_of(alloc: Global, rows: Vec<DocRow>) -> Result<Layer<AnyChunk>, NoMemory>
-    requires { IsContent rows.items }
-    ensures { IfOk result (λ layer. layer ≡ record { rows = rows.items; disk = false; dead = [] }) }
+/// A layer of a chunk in memory.
+fn layer_of(alloc: Global, chunk: AnyChunk) -> Result<Layer<AnyChunk>, NoMemory>
+    requires { IsContent (⟦<AnyChunk as Chunk>⟧.content chunk) }
+    ensures { IfOk result (λ layer. layer ≡ record { rows = ⟦<AnyChunk as Chunk>⟧.content chunk; disk = false; dead = [] }) }
 {
-    let chunk = chunk_of(alloc, rows)?;
     Ok(Layer {
         chunk: Arc::new(alloc, chunk)?,
         disk: false,
@@ -140,17 +133,11 @@ fn layer_of(alloc: Global, rows: Vec<DocRow>) -> Result<Layer<AnyChunk>, NoMemor
     })
 }
 
-/// A chunk in memory of these rows.
-fn chunk_of(alloc: Global, rows: Vec<DocRow>) -> Result<AnyChunk, NoMemory>
-    requires { IsContent rows.items }
-    ensures rows { IfOk result (λ chunk. ⟦<AnyChunk as Chunk>⟧.content chunk ≡ rows.items) }
-    ensures content { IsContent rows.items }
-{
-    AnyChunk::build(alloc, rows)
-}
-
 /// The rows of a map, by ascending id, unless they have too many words for a chunk.
-fn content_of(alloc: Global, rows: BTreeMap<u64, DocRow>) -> Result<Vec<DocRow>, NoMemory>
+pub(crate) fn content_of(
+    alloc: Global,
+    rows: BTreeMap<u64, DocRow>,
+) -> Result<Vec<DocRow>, NoMemory>
     requires { (schema : AnySchema) × IsSchema schema × ((through : ℕ) × AreRowsAt schema through rows) }
     ensures rows { IfOk result (λ list. list.items ≡ values_of rows.entries) }
     ensures content { IfOk result (λ list. IsContent list.items) }

@@ -15,7 +15,9 @@ mod making;
 mod numbers;
 mod opened;
 mod opening;
+mod pieces;
 mod preparing;
+mod reading;
 mod recent;
 mod settling;
 

@@ -1,21 +1,22 @@
-//! The documents of a log's records. Each is moved out of its record, so that it is in memory once.
-ghost use Rattle.std.specs.Prelude.{◌≡◌, ◌<◌, ◌^◌, ◌++◌, ℕ, List, [], IfOk, OnOk, length};
+//! The documents of logs. A log is laid piece by piece, two pieces at once, so that few of its rows are documents at a time: these take
+//! five times the bytes that they have in the log, and the memory of those that have their layer serves for the next ones.
+ghost use Rattle.std.specs.Prelude.{◌≡◌, ◌++◌, ℕ, List, [], OnOk};
 ghost use Rattle.doc_types.specs.Schemas.{IsSchema};
 ghost use Rattle.doc_types.specs.declared.schema.Schema.{Schema as AnySchema};
-ghost use Rattle.gate_log.specs.Reading.{record_of};
 ghost use Rattle.gate_log.specs.declared.records.LogRecord.{LogRecord};
-ghost use Rattle.store_keep.specs.steps.Loads.{IsAllLaid, IsLoaded, IsOfBytes, IsSnapshotOf, Takes, TakesLog, TakesRecord, bad_record, before_next, number_after};
+ghost use Rattle.store_keep.specs.steps.Loads.{IsLoaded, IsOfBytes, IsSnapshotOf, TakesLog, bad_record, before_next, number_after};
+ghost use Rattle.store_keep.specs.steps.Pieces.{AreShort, IsLaidOf, IsPiece, Lays};
 
 use crate::fault::StoreFault;
 use crate::laying::lay;
-use crate::recent::Recent;
+use crate::pieces::{Piece, piece_size, read_both};
+use crate::reading::Log;
 use any_chunk::AnyChunk;
-use doc_bytes::read_txn;
-use doc_types::{Schema, Snapshot, Txn};
+use doc_types::{Chunk, Schema, Snapshot};
 use gate_log::{Before, LogKind, RecordAt, read_records};
-use srch_base::{Items, NoMemory, Or};
+use srch_base::{Items, NoMemory};
 use std::alloc::Global;
-use std::mem;
+use std::thread::Threads;
 use store_steps::{Damage, DamageKind};
 
 /// How many layers are made of a log at most. As many of one size don't become one with the next commit.
@@ -29,14 +30,10 @@ const LEAST_PIECE: usize = 1_048_576;
 pub(crate) struct Loaded {
     /// The layers that were made.
     laid: Snapshot<AnyChunk>,
-    /// What was read since the last one was.
-    recent: Recent,
-    /// How many bytes the records of that have.
-    bytes: usize,
     /// The last commit that the chunks have.
     through: u64,
     /// The number of the last record.
-    pub(crate) last: Option<u64>,
+    last: Option<u64>,
 }
 
 /// Where the records of a log end, and with which number.
@@ -57,8 +54,6 @@ impl Loaded {
                 shape: 0,
                 layers: Items::new(Vec::new(alloc)),
             },
-            recent: Recent::new(alloc),
-            bytes: 0,
             through,
             last: None,
         }
@@ -75,8 +70,9 @@ impl Loaded {
     }
 
     /// Takes the records of a log with these bytes.
-    pub(crate) fn take_log(
+    pub(crate) fn take_log<R: Threads>(
         &mut self,
+        rt: &R,
         alloc: Global,
         schema: &Schema,
         file: u32,
@@ -89,11 +85,14 @@ impl Loaded {
     {
         let read = read_records(alloc, bytes, self.before())?;
         let piece = (bytes.len() / PIECES).max(LEAST_PIECE);
-        for entry in read.records.as_slice() {
-            match self.take_record(alloc, schema, file, entry) {
-                Ok(()) => self.lay_piece(alloc, entry.payload.len(), piece)?,
-                Err(fault) => return Err(fault),
-            }
+        let log = Log {
+            schema,
+            through: self.through,
+            file,
+        };
+        match lay_records(rt, alloc, log, piece, &read.records, &mut self.laid) {
+            Ok(()) => self.last = read.last.or(self.last),
+            Err(fault) => return Err(fault),
         }
         match read.fault {
             Some(kind) => Err(StoreFault::Damaged(damage_of(file, read.end, kind))),
@@ -104,86 +103,87 @@ impl Loaded {
         }
     }
 
-    /// Takes one record.
-    fn take_record(
-        &mut self,
-        alloc: Global,
-        schema: &Schema,
-        file: u32,
-        entry: &RecordAt,
-    ) -> Result<(), StoreFault>
-        requires { length entry.now.payload.now < 2 ^ 32 }
-        ensures bytes { IsOfBytes result }
-        ensures takes { (through : ℕ) (front : List LogRecord) → IsLoaded schema.now through front self.old → TakesRecord schema.now through front (record_of entry.now) file entry.now.place result self.new }
+    /// The snapshot of all that was read.
+    pub(crate) fn into_snapshot(self) -> Snapshot<AnyChunk>
+        ensures { (schema : AnySchema) (through : ℕ) (front : List LogRecord) → IsLoaded schema through front self → IsSnapshotOf schema through front result }
     {
-        match read_txn(alloc, schema, entry.payload) {
-            Ok(txn) => match self.take(entry.number, txn) {
+        let Loaded {
+            laid,
+            through,
+            last,
+        } = self;
+        let mut snapshot = laid;
+        snapshot.number = number_of(last, through);
+        snapshot
+    }
+}
+
+/// Lays records in pieces of so many bytes, two at a time.
+fn lay_records<R: Threads>(
+    rt: &R,
+    alloc: Global,
+    log: Log<'_>,
+    piece: usize,
+    records: &[RecordAt<'_>],
+    laid: &mut Snapshot<AnyChunk>,
+) -> Result<(), StoreFault>
+    requires limits { IsSchema log.schema.now }
+    requires short { AreShort records.now }
+    requires laid { (front : List LogRecord) × IsLaidOf log.schema.now log.through front laid.old }
+    ensures { (front : List LogRecord) → IsLaidOf log.entry.schema.now log.entry.through front laid.old → Lays log.entry.schema.now log.entry.through front log.entry.file records.now result laid.new }
+{
+    if records.is_empty() {
+        return Ok(());
+    }
+    let (first, others) = records.split_at(piece_size(records, piece));
+    let (second, others) = others.split_at(piece_size(others, piece));
+    match lay_two(rt, alloc, log, first, second, laid) {
+        Ok(()) => lay_records(rt, alloc, log, piece, others, laid),
+        Err(fault) => Err(fault),
+    }
+}
+
+/// Lays the records of two pieces.
+fn lay_two<R: Threads>(
+    rt: &R,
+    alloc: Global,
+    log: Log<'_>,
+    first: &[RecordAt<'_>],
+    second: &[RecordAt<'_>],
+    laid: &mut Snapshot<AnyChunk>,
+) -> Result<(), StoreFault>
+    requires limits { IsSchema log.schema.now }
+    requires first { AreShort first.now }
+    requires second { AreShort second.now }
+    requires laid { (front : List LogRecord) × IsLaidOf log.schema.now log.through front laid.old }
+    ensures { (front : List LogRecord) → IsLaidOf log.entry.schema.now log.entry.through front laid.old → Lays log.entry.schema.now log.entry.through front log.entry.file (first.now ++ second.now) result laid.new }
+{
+    let (first, second) = read_both(rt, alloc, log, first, second);
+    match first {
+        Ok(first) => match second {
+            Ok(second) => match lay_both(alloc, first, second, laid) {
                 Ok(()) => Ok(()),
                 Err(NoMemory) => Err(StoreFault::NoMemory),
             },
-            Err(Or::NoMemory) => Err(StoreFault::NoMemory),
-            Err(Or::Fault(_)) => Err(StoreFault::Damaged(Damage {
-                file,
-                place: entry.place,
-                kind: DamageKind::RecordPayload,
-            })),
-        }
+            Err(fault) => Err(fault),
+        },
+        Err(fault) => Err(fault),
     }
+}
 
-    /// Takes the commit of this number. What the chunks have isn't made again.
-    fn take(&mut self, number: u64, txn: Txn) -> Result<(), NoMemory>
-        ensures { OnOk result (Takes number txn.ops self.old self.new) }
-    {
-        self.last = Some(number);
-        if number > self.through {
-            self.recent.take_txn(number, txn)?;
-        }
-        Ok(())
-    }
-
-    /// Counts the bytes of a record that was taken, and makes a layer of what has none yet once they are more than these.
-    fn lay_piece(&mut self, alloc: Global, size: usize, piece: usize) -> Result<(), NoMemory>
-        requires { (schema : AnySchema) × IsSchema schema × ((through : ℕ) × (front : List LogRecord) × IsLoaded schema through front self.old) }
-        ensures { OnOk result ((schema : AnySchema) (through : ℕ) (front : List LogRecord) → IsLoaded schema through front self.old → IsLoaded schema through front self.new) }
-    {
-        self.bytes = self.bytes.saturating_add(size);
-        if self.bytes <= piece {
-            return Ok(());
-        }
-        self.lay(alloc)?;
-        Ok(())
-    }
-
-    /// Makes a layer of what has none yet.
-    fn lay(&mut self, alloc: Global) -> Result<(), NoMemory>
-        requires { (schema : AnySchema) × IsSchema schema × ((through : ℕ) × (front : List LogRecord) × IsLoaded schema through front self.old) }
-        ensures loaded { OnOk result ((schema : AnySchema) (through : ℕ) (front : List LogRecord) → IsLoaded schema through front self.old → IsLoaded schema through front self.new) }
-        ensures all { OnOk result (IsAllLaid self.new) }
-    {
-        let recent = mem::replace(&mut self.recent, Recent::new(alloc));
-        self.laid = lay(alloc, &self.laid, recent)?;
-        self.bytes = 0;
-        Ok(())
-    }
-
-    /// The snapshot of all that was read.
-    pub(crate) fn into_snapshot(self, alloc: Global) -> Result<Snapshot<AnyChunk>, NoMemory>
-        requires { (schema : AnySchema) × IsSchema schema × ((through : ℕ) × (front : List LogRecord) × IsLoaded schema through front self) }
-        ensures { IfOk result (λ snapshot. (schema : AnySchema) (through : ℕ) (front : List LogRecord) → IsLoaded schema through front self → IsSnapshotOf schema through front snapshot) }
-    {
-        let mut loaded = self;
-        loaded.lay(alloc)?;
-        let Loaded {
-            laid,
-            recent: _,
-            bytes: _,
-            through,
-            last,
-        } = loaded;
-        let mut snapshot = laid;
-        snapshot.number = number_of(last, through);
-        Ok(snapshot)
-    }
+/// Lays two pieces, one behind the other.
+fn lay_both(
+    alloc: Global,
+    first: Piece,
+    second: Piece,
+    laid: &mut Snapshot<AnyChunk>,
+) -> Result<(), NoMemory>
+    requires { (schema : AnySchema) × IsSchema schema × ((through : ℕ) × (front : List LogRecord) × (one : List LogRecord) × (two : List LogRecord) × IsLaidOf schema through front laid.old × IsPiece schema through one first × IsPiece schema through two second) }
+    ensures { OnOk result ((schema : AnySchema) (through : ℕ) (front one two : List LogRecord) → IsLaidOf schema through front laid.old → IsPiece schema through one first → IsPiece schema through two second → IsLaidOf schema through ((front ++ one) ++ two) laid.new) }
+{
+    *laid = lay(alloc, laid, first)?;
+    *laid = lay(alloc, laid, second)?;
+    Ok(())
 }
 
 /// The number of the last commit: that of the last record, or else the last one that the chunks have.

@@ -30,6 +30,7 @@ use root_slots::{Root, RootBytes, RootFault, RootKind, RootState};
 use srch_base::{Failed, Items, NoMemory, OpenFault, Text};
 use std::alloc::Global;
 use std::sync::Arc;
+use std::thread::Threads;
 use step_book::NewBook;
 use store_steps::{Damage, DamageKind, MOST_OPENED_CHUNKS};
 
@@ -63,7 +64,14 @@ struct Found {
 
 impl<D: Disk> Opened<D> {
     /// Opens the store of an index on a disk, which comes back where it can't be opened.
-    pub fn open(alloc: Global, disk: D, schema: &Schema) -> Result<Opened<D>, (D, StoreFault)>
+    ///
+    /// A long log is read and indexed by two threads, as far as the system gives them.
+    pub fn open<R: Threads>(
+        rt: &R,
+        alloc: Global,
+        disk: D,
+        schema: &Schema,
+    ) -> Result<Opened<D>, (D, StoreFault)>
         requires { IsSchema schema.now }
         ensures found { IfOk result (λ opened. Told (IsFoundIn schema.now (arc_value opened.snapshot) opened.records) (D.told disk)) }
         ensures opened { IfOk result (λ opened. HidesNothing D.Disk disk → IsOpened D.Disk schema.now opened) }
@@ -72,7 +80,7 @@ impl<D: Disk> Opened<D> {
         ensures cause { IfErr result (λ refused. HasStoreCause {T = D} (D.faults disk) (D.faults refused.0) (Err refused.1)) }
     {
         let mut disk = disk;
-        match find(alloc, &mut disk, schema) {
+        match find(rt, alloc, &mut disk, schema) {
             Ok(found) => {
                 let Found {
                     root,
@@ -97,14 +105,19 @@ impl<D: Disk> Opened<D> {
 }
 
 /// Reads the files of an index, or makes the first ones.
-fn find<D: Disk>(alloc: Global, disk: &mut D, schema: &Schema) -> Result<Found, StoreFault>
+fn find<D: Disk, R: Threads>(
+    rt: &R,
+    alloc: Global,
+    disk: &mut D,
+    schema: &Schema,
+) -> Result<Found, StoreFault>
     requires { IsSchema schema.now }
     ensures finds { Finds D.Disk schema.now disk.old disk.new result }
     ensures leaves { HidesNothing D.Disk disk.old → LeavesBegun D.Disk schema.now disk.old disk.new }
     ensures cause { HasStoreCause (D.faults disk.old) (D.faults disk.new) result }
 {
     match read_root(alloc, disk) {
-        Ok((root, Some(state))) => read_found(alloc, disk, schema, root, &state),
+        Ok((root, Some(state))) => read_found(rt, alloc, disk, schema, root, &state),
         Ok((root, None)) => begin(alloc, disk, schema, root),
         Err(fault) => Err(fault),
     }
@@ -146,7 +159,8 @@ fn bad_root(slot: u8, place: u64, kind: RootKind) -> Damage
 }
 
 /// Reads the logs of a root.
-fn read_found<D: Disk>(
+fn read_found<D: Disk, R: Threads>(
+    rt: &R,
     alloc: Global,
     disk: &mut D,
     schema: &Schema,
@@ -161,7 +175,7 @@ fn read_found<D: Disk>(
     ensures cause { HasStoreCause (D.faults disk.old) (D.faults disk.new) result }
 {
     match check_columns(alloc, schema, &root, state) {
-        Ok(()) => match read_logs(alloc, disk, schema, state) {
+        Ok(()) => match read_logs(rt, alloc, disk, schema, state) {
             Ok(logs) => match load(alloc, root, state, logs) {
                 Ok(found) => Ok(found),
                 Err(NoMemory) => Err(StoreFault::NoMemory),
@@ -254,7 +268,7 @@ fn first_of(
 {
     let state = state_of(alloc, schema)?;
     let bytes = RootBytes::new(alloc, &state)?;
-    let snapshot = Loaded::new(alloc, 0).into_snapshot(alloc)?;
+    let snapshot = Loaded::new(alloc, 0).into_snapshot();
     Ok((bytes, Arc::new(alloc, snapshot)?))
 }
 
@@ -327,11 +341,10 @@ fn same_bytes(left: &[u8], right: &[u8]) -> bool
 
 /// The documents of a root's logs.
 fn load(alloc: Global, root: Root, state: &RootState, logs: Logs) -> Result<Found, NoMemory>
-    requires { (schema : AnySchema) × IsSchema schema × ((records : List LogRecord) × IsLoaded schema state.now.through records logs.loaded) }
     ensures { IfOk result (λ found. (schema : AnySchema) (records : List LogRecord) → IsLoaded schema state.now.through records logs.loaded → IsLoadedAs schema root state.now logs records found) }
 {
     let Logs { loaded, end } = logs;
-    let snapshot = loaded.into_snapshot(alloc)?;
+    let snapshot = loaded.into_snapshot();
     // Logs that end before the chunks do have no room for the next number. No keeper leaves them so.
     if snapshot.number < state.through {
         return Err(NoMemory);
@@ -356,7 +369,8 @@ struct Logs {
 }
 
 /// Reads both logs of a root.
-fn read_logs<D: Disk>(
+fn read_logs<D: Disk, R: Threads>(
+    rt: &R,
     alloc: Global,
     disk: &mut D,
     schema: &Schema,
@@ -368,8 +382,8 @@ fn read_logs<D: Disk>(
     ensures cause { HasStoreCause (D.faults disk.old) (D.faults disk.new) result }
 {
     let mut loaded = Loaded::new(alloc, state.through);
-    match read_older(alloc, disk, schema, state, &mut loaded) {
-        Ok(()) => match read_log(alloc, disk, schema, state.newer, &mut loaded) {
+    match read_older(rt, alloc, disk, schema, state, &mut loaded) {
+        Ok(()) => match read_log(rt, alloc, disk, schema, state.newer, &mut loaded) {
             Ok(end) => Ok(Logs { loaded, end }),
             Err(fault) => Err(fault),
         },
@@ -378,7 +392,8 @@ fn read_logs<D: Disk>(
 }
 
 /// Reads the older log of a root, where there is one.
-fn read_older<D: Disk>(
+fn read_older<D: Disk, R: Threads>(
+    rt: &R,
     alloc: Global,
     disk: &mut D,
     schema: &Schema,
@@ -394,14 +409,15 @@ fn read_older<D: Disk>(
     if state.older == 0 {
         return Ok(());
     }
-    match read_log(alloc, disk, schema, state.older, loaded) {
+    match read_log(rt, alloc, disk, schema, state.older, loaded) {
         Ok(_) => Ok(()),
         Err(fault) => Err(fault),
     }
 }
 
 /// Reads one log.
-fn read_log<D: Disk>(
+fn read_log<D: Disk, R: Threads>(
+    rt: &R,
     alloc: Global,
     disk: &mut D,
     schema: &Schema,
@@ -416,7 +432,7 @@ fn read_log<D: Disk>(
     ensures cause { HasStoreCause (D.faults disk.old) (D.faults disk.new) result }
 {
     match read_steady(alloc, disk, file) {
-        Ok(Some(bytes)) => loaded.take_log(alloc, schema, file, bytes.as_slice()),
+        Ok(Some(bytes)) => loaded.take_log(rt, alloc, schema, file, bytes.as_slice()),
         Ok(None) => Err(StoreFault::Damaged(Damage {
             file,
             place: 0,

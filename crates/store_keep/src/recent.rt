@@ -1,4 +1,4 @@
-//! What logs say since the last layer was made of them: the rows that were put, and the ids whose rows in the layers are gone.
+//! What records of a log come to, over any layers before them: the rows that were put, and the ids whose rows in the layers are gone.
 //!
 //! It is what the operations come to, as in a commit (`layer_commit`), but of many commits: so each row has the number of its own.
 ghost use Rattle.std.specs.Prelude.{◌≡◌, ◌==◌, ◌||◌, ◌∷◌, [], ℕ, None, Some, false, if◌then◌else◌, OnOk, map};
@@ -12,12 +12,12 @@ use srch_base::NoMemory;
 use std::alloc::Global;
 use std::collections::{BTreeMap, BTreeSet};
 
-/// What was read of logs since the last layer was made.
+/// What was read of the records of a piece.
 #[derive(Drop)]
 pub(crate) struct Recent {
     /// All rows that the layers have are gone.
     pub(crate) cleared: bool,
-    /// The ids that were named since then. Rows that the layers have of them are gone.
+    /// The ids that were named. Rows that the layers have of them are gone.
     pub(crate) named: BTreeSet<u64>,
     /// The rows that were put and not killed, by their ids.
     pub(crate) rows: BTreeMap<u64, DocRow>,

@@ -1,14 +1,8 @@
--- What was read of logs: their records, and the rows after them.
-use Rattle.std.specs.Prelude.{◌≡◌, ◌≢◌, ℕ, ◌<◌, ◌≤◌, List, [], ◌∷◌, ◌++◌, Option, Some, None, Result, Ok, Err, All, false, length, map}
+-- What was read of logs: their records, and the layers of these.
+use Rattle.std.specs.Prelude.{◌≡◌, ◌≢◌, ℕ, ◌<◌, List, ◌∷◌, ◌++◌, Option, Some, None, Result, Ok, Err, All, false, length}
 use Rattle.std.specs.FinMap as finite
-use Rattle.std.specs.List.{fold}
-use Rattle.doc_bytes.specs.Reading.{txn_at}
 use Rattle.doc_types.specs.declared.documents.DocRow.{DocRow}
 use Rattle.doc_types.specs.declared.schema.Schema.{Schema}
-use Rattle.doc_types.specs.declared.transactions.Txn.{Txn}
-use Rattle.doc_types.specs.declared.transactions.TxnOp.{TxnOp}
-use Rattle.doc_types.specs.Commits.{Change, change_of}
-use Rattle.doc_types.specs.Rows.{Rows}
 use Rattle.doc_types.specs.Snapshots.{SnapshotValue, live}
 use Rattle.step_history.specs.History.{AreOf}
 use Rattle.gate_log.specs.Logs.{AreRecords, last_number, spelled}
@@ -18,7 +12,7 @@ use Rattle.gate_log.specs.declared.fault.LogKind.TheVariants as logs
 use Rattle.gate_log.specs.declared.reading.Before.{Before}
 use Rattle.gate_log.specs.declared.reading.Before.TheVariants.{Chunks}
 use Rattle.gate_log.specs.declared.records.LogRecord.{LogRecord}
-use Rattle.store_steps.specs.Batches.{Batch, IsBatchOf, above, after_batch, record_of}
+use Rattle.store_steps.specs.Batches.{Batch}
 use Rattle.store_steps.specs.Damage.{IsBadBehind}
 use Rattle.store_steps.specs.declared.damage.Damage.{Damage}
 use Rattle.store_steps.specs.declared.damage.DamageKind.{DamageKind}
@@ -27,50 +21,14 @@ use Rattle.store_keep.specs.declared.fault.StoreFault.{StoreFault}
 use Rattle.store_keep.specs.declared.fault.StoreFault.TheVariants as faults
 use Rattle.store_keep.specs.declared.loading.Loaded.{Loaded}
 use Rattle.store_keep.specs.declared.loading.LogEnd.{LogEnd}
-use Rattle.store_keep.specs.steps.Recents.{AreRowsAt, Changes, IsLaid, Owns, row_over}
-
--- the changes of a transaction that was read
-abbrev pub changes_in : Result Txn ℕ → List Change
-changes_in (Ok txn) = map change_of txn.ops
-changes_in (Err left) = []
-
--- the batch of a record
-abbrev pub batch_in : Schema → LogRecord → Batch
-batch_in schema r = record { number = r.number; changes = changes_in (txn_at schema r.payload) }
-
-abbrev pub batches_in : Schema → List LogRecord → List Batch
-batches_in schema records = map (batch_in schema) records
-
--- A batch of the schema was read, of which the record is.
-pub record IsRead (schema : Schema) (r : LogRecord) : Type 0 where
-  pub of : IsBatchOf schema (batch_in schema r)
-  pub is : record_of (batch_in schema r) ≡ r
-
--- the rows after these records
-abbrev pub rows_after : Schema → ℕ → List LogRecord → Rows
-rows_after schema through records = fold after_batch finite.empty (above through (batches_in schema records))
+use Rattle.store_keep.specs.steps.Pieces.{IsLaidOf}
+use Rattle.store_keep.specs.steps.Records.{IsRead, rows_after}
 
 -- These records were taken.
 pub record IsLoaded (schema : Schema) (through : ℕ) (records : List LogRecord) (loaded : Loaded) : Type 0 where
-  pub all : All (IsRead schema) records
-  pub rows : (id : ℕ) → row_over loaded.recent loaded.laid id ≡ finite.get (rows_after schema through records) id
-  pub each : AreRowsAt schema through loaded.recent.rows
-  pub own : Owns loaded.recent
-  pub laid : IsLaid schema through loaded.laid
+  pub of : IsLaidOf schema through records loaded.laid
   pub through_is : loaded.through ≡ through
   pub last_is : loaded.last ≡ last_number records
-
--- A commit's operations were taken, unless the chunks have it.
-pub record Takes (number : ℕ) (ops : List TxnOp) (old new : Loaded) : Type 0 where
-  pub same : new.through ≡ old.through
-  pub last_is : new.last ≡ Some number
-  pub laid : new.laid ≡ old.laid
-  pub later : old.through < number → Changes number (map change_of ops) old.recent new.recent
-  pub earlier : number ≤ old.through → new.recent ≡ old.recent
-
--- The layers have all that was taken.
-abbrev pub IsAllLaid : Loaded → Type 0
-IsAllLaid loaded = (id : ℕ) → row_over loaded.recent loaded.laid id ≡ finite.get (live loaded.laid) id
 
 -- the number of the last commit: that of the last record, or else the last one that the chunks have
 abbrev pub number_after : ℕ → Option ℕ → ℕ
@@ -102,10 +60,6 @@ pub record IsLogRead (schema : Schema) (before : Before) (records : List LogReco
   pub end_is : found.end ≡ length (spelled records)
   pub last_is : found.last ≡ last_number records
 
--- the damage of a record that holds no transaction
-abbrev pub bad_payload : ℕ → ℕ → Damage
-bad_payload file place = record { file = file; place = place; kind = kinds.RecordPayload }
-
 -- what is wrong behind records, among the damage of an index
 abbrev pub kind_of : LogKind → DamageKind
 kind_of logs.Missing = kinds.LogMissing
@@ -121,13 +75,6 @@ IsOfBytes (Ok value) = Unit {0}
 IsOfBytes (Err faults.NoMemory) = Unit {0}
 IsOfBytes (Err faults.DiskFault) = ⊥
 IsOfBytes (Err (faults.Damaged damage)) = Unit {0}
-
--- what taking a record comes to, whose gate stands at this place of a file
-abbrev pub TakesRecord : Schema → ℕ → List LogRecord → LogRecord → ℕ → ℕ → Result (Unit {0}) StoreFault → Loaded → Type 0
-TakesRecord schema through front r file place (Ok done) new = IsLoaded schema through (front ++ r ∷ []) new
-TakesRecord schema through front r file place (Err faults.NoMemory) new = Unit {0}
-TakesRecord schema through front r file place (Err faults.DiskFault) new = ⊥
-TakesRecord schema through front r file place (Err (faults.Damaged damage)) new = (damage ≡ bad_payload file place) × ((left : ℕ) × (txn_at schema r.payload ≡ Err left))
 
 -- what taking the bytes of a log comes to, behind these records
 abbrev pub TakesLog : Schema → ℕ → List LogRecord → ℕ → List ℕ → Result LogEnd StoreFault → Loaded → Type 0

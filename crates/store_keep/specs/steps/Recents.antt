@@ -1,4 +1,4 @@
--- What was read of logs since the last layer was made, and the layers before it.
+-- What was read of records of a log, and the layers before them.
 use Rattle.std.specs.Prelude.{◌≡◌, ℕ, ◌<◌, List, Bool, true, false, ◌||◌, Option, Some, None, if◌then◌else◌, IfSome, All}
 use Rattle.std.specs.BTreeMap.{BTreeMap, get}
 use Rattle.std.specs.BTreeSet.{contains}
@@ -28,9 +28,13 @@ AreRowsAt schema through rows = (id : ℕ) → IfSome (get nat_cmp rows id) (IsR
 abbrev pub is_gone : Recent → ℕ → Bool
 is_gone recent id = recent.cleared || contains nat_cmp recent.named id
 
--- the row of this id, over the layers: the one that was put since, or the layers' own
+-- the row of this id, over what was there: the one that was put since, or the one that was there and isn't gone
+abbrev pub row_from : Recent → Option DocRow → ℕ → Option DocRow
+row_from recent before id = option_or (get nat_cmp recent.rows id) (if is_gone recent id then None else before)
+
+-- the row of this id, over the layers
 abbrev pub row_over : Recent → SnapshotValue → ℕ → Option DocRow
-row_over recent laid id = option_or (get nat_cmp recent.rows id) (if is_gone recent id then None else finite.get (live laid) id)
+row_over recent laid id = row_from recent (finite.get (live laid) id) id
 
 -- the rows that were put were named
 abbrev pub Owns : Recent → Type 0

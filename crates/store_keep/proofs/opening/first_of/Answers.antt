@@ -3,8 +3,5 @@ use Rattle.doc_types.specs.Snapshots.{SnapshotValue}
 use Rattle.store_keep.specs.steps.Loads.{IsSnapshotOf}
 use Rattle.store_keep.proofs.opening.first_of.Goals as goal
 
-pub into_snapshot-requires : goal.into_snapshot-requires
-into_snapshot-requires c = (c.args.schema.now, c.requires, (0, [], c.new-2.ensures c.args.schema.now))
-
 pub returns-clause-snapshot : goal.returns-clause-snapshot
-returns-clause-snapshot c = subst (λ (s : SnapshotValue). IsSnapshotOf c.args.schema.now 0 [] s) (sym c.in_ok-new.ensures.ok) (c.in_ok-snapshot.ensures c.args.schema.now 0 [] (c.new-2.ensures c.args.schema.now))
+returns-clause-snapshot c = subst (λ (s : SnapshotValue). IsSnapshotOf c.args.schema.now 0 [] s) (sym c.in_ok-new.ensures.ok) (c.into_snapshot-snapshot.ensures c.args.schema.now 0 [] (c.new-2.ensures c.args.schema.now))

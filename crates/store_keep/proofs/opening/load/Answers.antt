@@ -5,5 +5,5 @@ use Rattle.store_keep.proofs.opening.load.Goals as goal
 
 pub returns : goal.returns
 returns c = λ schema records loaded.
-    loaded_as schema c.args.state.now c.args.logs records _ c.in_ok-snapshot.snapshot c.snapshot.inside.number (c.in_ok-snapshot.ensures schema c.args.state.now.through records loaded) c.in_ok-new.ensures.ok
+    loaded_as schema c.args.state.now c.args.logs records _ c.into_snapshot-snapshot.result c.snapshot.inside.number (c.into_snapshot-snapshot.ensures schema c.args.state.now.through records loaded) c.in_ok-new.ensures.ok
     (ap (λ (s : SnapshotValue). s.number) c.snapshot.view_is) (omega (arith, c.if-snapshot-state.false)) c.behind.ensures c.saturating_sub-records.ensures c.live_count-documents.ensures

@@ -5,4 +5,4 @@ use Rattle.store_keep.proofs.loading.Loaded.into_snapshot.Goals as goal
 
 pub returns : goal.returns
 returns c = λ schema through front loaded.
-    snapshot_of schema through front c.lay.new.self _ (c.in_ok-lay.ensures.loaded schema through front loaded) c.in_ok-lay.ensures.all (ap (λ (s : SnapshotValue). s.layers) c.snapshot.view_is) (ap (λ (s : SnapshotValue). s.shape) c.snapshot.view_is) c.number_of.ensures
+    snapshot_of schema through front c.args.self _ loaded (ap (λ (s : SnapshotValue). s.layers) c.snapshot.view_is) (ap (λ (s : SnapshotValue). s.shape) c.snapshot.view_is) c.number_of.ensures

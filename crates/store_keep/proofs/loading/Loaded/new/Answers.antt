@@ -3,4 +3,4 @@ use Rattle.store_keep.proofs.Loads.{loaded_nothing}
 use Rattle.store_keep.proofs.loading.Loaded.new.Goals as goal
 
 pub returns : goal.returns
-returns c = λ schema. loaded_nothing schema c.args.through _ c.new-3.ensures.rows c.new-3.ensures.gone (search rules) refl refl
+returns c = λ schema. loaded_nothing schema c.args.through _ (search rules) refl refl

@@ -1,48 +1,33 @@
-use Rattle.std.proofs.Common.{◌+◌, ◌++◌, arith, map, take}
+use Rattle.std.proofs.Common.{◌++◌, refl, subst, sym, ℕ, map}
 use Rattle.gate_log.specs.Reading.{record_of}
-use Rattle.store_keep.proofs.LogBytes.{all_taken, end_well, end_wrong, entry_short, entry_taken, entry_wrong}
+use Rattle.store_keep.specs.steps.Pieces.{IsLaidOf}
+use Rattle.store_keep.proofs.LogBytes.{all_short, end_well, end_wrong, records_wrong}
 use Rattle.store_keep.proofs.loading.Loaded.take_log.Goals as goal
 
-pub take_record-requires : goal.take_record-requires
-take_record-requires c = entry_short c.before-2.result c.args.bytes.now c.in_ok-read.read c.as_slice-entry-items.result.now c.loop-entry.entry-index _ c.in_ok-read.ensures c.as_slice-entry-items.ensures.value c.loop-entry-test.true
+pub lay_records-requires-clause-short : goal.lay_records-requires-clause-short
+lay_records-requires-clause-short g c = all_short _ _ _ _ c.in_ok-read.ensures c.deref.ensures.value
 
-pub lay_piece-requires : goal.lay_piece-requires
-lay_piece-requires c =
-    let schema = c.args.schema.now in
-    let items = c.as_slice-entry-items.result.now in
-    let i = c.loop-entry.entry-index in
-    let through = c.requires.loaded.0 in
-    let front = c.requires.loaded.1 in (
-      schema,
-      c.requires.limits,
-      (
-        through,
-        front ++ map record_of (take (i + 1) items),
-        entry_taken schema through front items i _ c.take_record.new.self c.loop-entry-test.true (c.in-Ok.ensures.takes through (front ++ map record_of (take i items)) (c.loop-entry.invariant through front c.requires.loaded.2)),
-      ),
-    )
-
-pub loop-entry-preserved : goal.loop-entry-preserved
-loop-entry-preserved c = λ through front loaded.
-    let schema = c.args.schema.now in
-    let items = c.as_slice-entry-items.result.now in
-    let i = c.loop-entry.entry-index in
-    c.in_ok-lay_piece-in-Ok.ensures schema through (front ++ map record_of (take (i + 1) items))
-    (entry_taken schema through front items i _ c.take_record.new.self c.loop-entry-test.true (c.in-Ok.ensures.takes through (front ++ map record_of (take i items)) (c.loop-entry.invariant through front loaded)))
+pub lay_records-requires-clause-laid : goal.lay_records-requires-clause-laid
+lay_records-requires-clause-laid g c =
+    let loaded = c.requires.loaded.2 in
+    (c.requires.loaded.1, subst (λ (t : ℕ). IsLaidOf c.args.schema.now t c.requires.loaded.1 c.args.self.now.laid) (sym loaded.through_is) loaded.of)
 
 pub returns-in-Err-clause-takes : goal.returns-in-Err-clause-takes
-returns-in-Err-clause-takes c = λ through front loaded.
-    let before = c.loop-entry.invariant through front loaded in
-    entry_wrong c.args.schema.now through front c.before-2.result c.args.bytes.now c.in_ok-read.read c.as_slice-entry-items.result.now c.loop-entry.entry-index _ c.args.file c.in-Err.fault c.loop-entry.self c.take_record.new.self
-    (c.before-2.ensures c.args.schema.now through front loaded) c.in_ok-read.ensures c.as_slice-entry-items.ensures.value c.loop-entry-test.true before
-    (c.in-Err.ensures.takes through (front ++ map record_of (take c.loop-entry.entry-index c.as_slice-entry-items.result.now)) before)
+returns-in-Err-clause-takes g c = λ through front loaded.
+    records_wrong c.args.schema.now through front c.before-2.result c.args.bytes.now c.in_ok-read.read c.deref.result.now c.args.file c.in-Err.fault _
+    (c.before-2.ensures c.args.schema.now through front loaded) c.in_ok-read.ensures c.deref.ensures.value
+    (c.in-Err.ensures front (subst (λ (t : ℕ). IsLaidOf c.args.schema.now t front c.args.self.now.laid) (sym loaded.through_is) loaded.of))
 
 pub returns-in-Some-clause-takes : goal.returns-in-Some-clause-takes
-returns-in-Some-clause-takes c = λ through front loaded.
-    let all = all_taken c.args.schema.now through front c.in_ok-read.read c.as_slice-entry-items.result.now c.loop-entry.entry-index c.loop-entry.self c.as_slice-entry-items.ensures.value (omega (arith, c.loop-entry-test.false)) (c.loop-entry.invariant through front loaded) in
-    end_wrong c.args.schema.now through front c.before-2.result c.args.bytes.now c.in_ok-read.read c.in-Some.kind c.args.file c.damage_of.result c.loop-entry.self (c.before-2.ensures c.args.schema.now through front loaded) c.in_ok-read.ensures c.in-Some.is all c.damage_of.ensures
+returns-in-Some-clause-takes g c = λ through front loaded.
+    let before = subst (λ (t : ℕ). IsLaidOf c.args.schema.now t front c.args.self.now.laid) (sym loaded.through_is) loaded.of in
+    let laid = subst (λ (t : ℕ). IsLaidOf c.args.schema.now t (front ++ map record_of c.deref.result.now) c.lay_records.new.laid) loaded.through_is (c.in-Ok.ensures front before) in
+    end_wrong c.args.schema.now through front c.before-2.result c.args.bytes.now c.in_ok-read.read c.deref.result.now c.in-Some.kind c.args.file c.damage_of.result c.lay_records.new.laid
+    (c.before-2.ensures c.args.schema.now through front loaded) c.in_ok-read.ensures c.deref.ensures.value c.in-Some.is laid c.damage_of.ensures
 
 pub returns-clause-takes : goal.returns-clause-takes
-returns-clause-takes c = λ through front loaded.
-    let all = all_taken c.args.schema.now through front c.in_ok-read.read c.as_slice-entry-items.result.now c.loop-entry.entry-index c.loop-entry.self c.as_slice-entry-items.ensures.value (omega (arith, c.loop-entry-test.false)) (c.loop-entry.invariant through front loaded) in
-    (map record_of c.in_ok-read.read.records.items, end_well c.args.schema.now through front c.before-2.result c.args.bytes.now c.in_ok-read.read c.loop-entry.self (c.before-2.ensures c.args.schema.now through front loaded) c.in_ok-read.ensures c.in-None.is all, all)
+returns-clause-takes g c = λ through front loaded.
+    let before = subst (λ (t : ℕ). IsLaidOf c.args.schema.now t front c.args.self.now.laid) (sym loaded.through_is) loaded.of in
+    let laid = subst (λ (t : ℕ). IsLaidOf c.args.schema.now t (front ++ map record_of c.deref.result.now) c.lay_records.new.laid) loaded.through_is (c.in-Ok.ensures front before) in
+    end_well c.args.schema.now through c.args.file front c.before-2.result c.args.bytes.now c.in_ok-read.read c.deref.result.now c.args.self.now _
+    (c.before-2.ensures c.args.schema.now through front loaded) c.in_ok-read.ensures c.deref.ensures.value c.in-None.is loaded laid c.or-self.ensures refl
