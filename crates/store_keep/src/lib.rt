@@ -2,6 +2,7 @@
 //! for good before anyone sees it.
 #![tactic(auto)]
 
+mod beginning;
 mod closing;
 mod committing;
 mod entering;

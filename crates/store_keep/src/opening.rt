@@ -1,24 +1,21 @@
 //! How a store is opened. Each file is synced and then read, so that what was read is what a crash leaves.
-ghost use Rattle.std.specs.Prelude.{◌≡◌, ◌≢◌, ◌<◌, ◌^◌, ℕ, List, [], None, Some, Err, MatchBool, IfOk, IfErr, IfSome, OnOk};
+ghost use Rattle.std.specs.Prelude.{◌≡◌, ◌≢◌, ◌<◌, ℕ, List, [], None, Some, Err, MatchBool, IfOk, IfErr, IfSome, OnOk};
 ghost use Rattle.doc_bytes.specs.SchemaText.{schema_text};
 ghost use Rattle.doc_types.specs.Schemas.{IsSchema};
 ghost use Rattle.doc_types.specs.declared.schema.Schema.{Schema as AnySchema};
-ghost use Rattle.gate_log.specs.Logs.{quiet_log};
-ghost use Rattle.root_slots.specs.Roots.{Stands as RootStands, Steps, replaced};
-ghost use Rattle.root_slots.specs.Slots.{slots_of};
 ghost use Rattle.root_slots.specs.States.{IsState};
 ghost use Rattle.std.specs.Arc.{arc_value};
-ghost use Rattle.store_keep.specs.steps.Beginnings.{Begins, MayBegin, first_state};
 ghost use Rattle.store_steps.specs.Damage.{of_root};
 ghost use Rattle.store_keep.specs.steps.Finds.{ChecksState, Finds, IsLoadedAs, IsRootRead, ReadsSlots};
-ghost use Rattle.chunk_store.specs.Images.{Image, Told};
-ghost use Rattle.chunk_store.specs.Calls.{Crashes, Finds as FindsFile, HasOpenCause, IsSynced, OnlyReads};
+ghost use Rattle.chunk_store.specs.Images.{Told};
+ghost use Rattle.chunk_store.specs.Calls.{Finds as FindsFile, HasOpenCause, IsSynced, OnlyReads};
 ghost use Rattle.gate_log.specs.declared.records.LogRecord.{LogRecord};
 ghost use Rattle.srch_base.specs.Counts.{HasCause};
 ghost use Rattle.store_keep.specs.Opens.{HasStoreCause, HidesNothing, IsFoundIn, IsOpened, LeavesBegun, SaysDamage, disk_of};
-ghost use Rattle.store_keep.specs.steps.Loads.{IsLoaded, IsOfBytes, IsSnapshotOf};
+ghost use Rattle.store_keep.specs.steps.Loads.{IsLoaded, IsOfBytes};
 ghost use Rattle.store_keep.specs.steps.LogFiles.{IsSteady, ReadsLog, ReadsLogs, ReadsOlder};
 
+use crate::beginning::begin;
 use crate::fault::StoreFault;
 use crate::loading::{Loaded, LogEnd};
 use any_chunk::AnyChunk;
@@ -26,19 +23,13 @@ use chunk_store::{Disk, read_whole};
 use doc_bytes::put_schema;
 use doc_types::{Schema, Snapshot};
 use gate_log::GateLog;
-use root_slots::{Root, RootBytes, RootFault, RootKind, RootState};
-use srch_base::{Failed, Items, NoMemory, OpenFault, Text};
+use root_slots::{Root, RootFault, RootKind, RootState};
+use srch_base::{Failed, NoMemory, OpenFault};
 use std::alloc::Global;
 use std::sync::Arc;
 use std::thread::Threads;
 use step_book::NewBook;
 use store_steps::{Damage, DamageKind, MOST_OPENED_CHUNKS};
-
-/// The first file of an index that isn't a slot.
-const FIRST_LOG: u32 = 2;
-
-/// The most bytes of the text of columns. Those of a schema have far fewer.
-const MOST_TEXT: usize = 65_535;
 
 /// A store that was opened and has no name yet.
 #[derive(Drop)]
@@ -54,12 +45,12 @@ pub struct Opened<D: Disk> {
 
 /// What the files of an index are: root, log, and the documents.
 #[derive(Drop)]
-struct Found {
-    root: Root,
-    log: GateLog,
-    snapshot: Arc<Snapshot<AnyChunk>, Global>,
-    records: u64,
-    documents: u32,
+pub(crate) struct Found {
+    pub(crate) root: Root,
+    pub(crate) log: GateLog,
+    pub(crate) snapshot: Arc<Snapshot<AnyChunk>, Global>,
+    pub(crate) records: u64,
+    pub(crate) documents: u32,
 }
 
 impl<D: Disk> Opened<D> {
@@ -203,7 +194,7 @@ fn check_columns(
 }
 
 /// The text of the columns.
-fn text_of(alloc: Global, schema: &Schema) -> Result<Vec<u8>, NoMemory>
+pub(crate) fn text_of(alloc: Global, schema: &Schema) -> Result<Vec<u8>, NoMemory>
     ensures { IfOk result (λ text. text.items ≡ schema_text schema.now) }
 {
     let mut text = Vec::new(alloc);
@@ -220,93 +211,6 @@ fn steady<D: Disk>(disk: &mut D, file: u32) -> Result<(), Failed>
     match disk.len(file)? {
         Some(_) => disk.sync(file),
         None => Ok(()),
-    }
-}
-
-/// The first log and the first root of an index without documents.
-fn begin<D: Disk>(
-    alloc: Global,
-    disk: &mut D,
-    schema: &Schema,
-    mut root: Root,
-) -> Result<Found, StoreFault>
-    requires schema { IsSchema schema.now }
-    requires root { IsRootRead (D.told disk.old) (D.may_leave disk.old) root None }
-    ensures finds { Finds D.Disk schema.now disk.old disk.new result }
-    ensures leaves { HidesNothing D.Disk disk.old → LeavesBegun D.Disk schema.now disk.old disk.new }
-    ensures cause { HasStoreCause (D.faults disk.old) (D.faults disk.new) result }
-{
-    match first_of(alloc, schema) {
-        Ok((bytes, snapshot)) => {
-            if root.full() {
-                return Err(StoreFault::NoMemory);
-            }
-            match first_files(disk, &mut root, &bytes) {
-                Ok(log) => Ok(Found {
-                    root,
-                    log,
-                    snapshot,
-                    records: 0,
-                    documents: 0,
-                }),
-                Err(Failed) => Err(StoreFault::DiskFault),
-            }
-        }
-        Err(NoMemory) => Err(StoreFault::NoMemory),
-    }
-}
-
-/// The first root of an index, and its snapshot.
-fn first_of(
-    alloc: Global,
-    schema: &Schema,
-) -> Result<(RootBytes, Arc<Snapshot<AnyChunk>, Global>), NoMemory>
-    requires { IsSchema schema.now }
-    ensures bytes { IfOk result (λ first. first.0 ≡ first_state schema.now) }
-    ensures state { IfOk result (λ first. IsState (first_state schema.now)) }
-    ensures snapshot { IfOk result (λ first. IsSnapshotOf schema.now 0 [] (arc_value first.1)) }
-{
-    let state = state_of(alloc, schema)?;
-    let bytes = RootBytes::new(alloc, &state)?;
-    let snapshot = Loaded::new(alloc, 0).into_snapshot();
-    Ok((bytes, Arc::new(alloc, snapshot)?))
-}
-
-/// The first state of an index.
-fn state_of(alloc: Global, schema: &Schema) -> Result<RootState, NoMemory>
-    ensures state { IfOk result (λ state. state ≡ first_state schema.now) }
-    ensures is { IfOk result (λ state. IsState (first_state schema.now)) }
-{
-    let text = text_of(alloc, schema)?;
-    if text.len() > MOST_TEXT {
-        return Err(NoMemory);
-    }
-    Ok(RootState {
-        schema_text: Text::new(text),
-        through: 0,
-        next_file: FIRST_LOG + 1,
-        older: 0,
-        newer: FIRST_LOG,
-        chunks: Items::new(Vec::new(alloc)),
-    })
-}
-
-/// Writes the first log and the first root.
-fn first_files<D: Disk>(disk: &mut D, root: &mut Root, bytes: &RootBytes) -> Result<GateLog, Failed>
-    requires room { root.old.number < 2 ^ 63 }
-    requires stands { Told (λ image. RootStands root.old None None (slots_of image)) (D.told disk.old) }
-    ensures log { IfOk result (λ log. log ≡ quiet_log 2 0 None) }
-    ensures root { OnOk result (root.new ≡ replaced root.old) }
-    ensures stands { OnOk result (Steps D.Disk (Begins root.old bytes.now) disk.old disk.new) }
-    ensures crash { Crashes D.Disk disk.old disk.new (MayBegin root.old bytes.now) }
-    ensures cause { HasCause (D.faults disk.old) (D.faults disk.new) result }
-{
-    match GateLog::create(disk, FIRST_LOG) {
-        Ok(log) => match root.replace(disk, bytes) {
-            Ok(()) => Ok(log),
-            Err(Failed) => Err(Failed),
-        },
-        Err(Failed) => Err(Failed),
     }
 }
 

@@ -3,7 +3,7 @@ use Rattle.chunk_store.specs.Images.{Both, Changes}
 use Rattle.gate_log.specs.Logs.{Stands as LogStands}
 use Rattle.gate_log.specs.declared.log.GateLog.{GateLog}
 use Rattle.store_keep.proofs.FirstFiles.{both_begin, log_leaves, may_replace, root_leaves_it}
-use Rattle.store_keep.proofs.opening.first_files.Goals as goal
+use Rattle.store_keep.proofs.beginning.first_files.Goals as goal
 
 pub replace-requires-clause-stands : goal.replace-requires-clause-stands
 replace-requires-clause-stands g c = may_replace _ c.args.root.now (g.D.Disk.told c.args.disk.now) (g.D.Disk.told c.create.new.disk) c.requires.stands c.in-Ok.ensures.stands

@@ -1,7 +1,7 @@
 use Rattle.std.proofs.Common.{[], subst, sym}
 use Rattle.doc_types.specs.Snapshots.{SnapshotValue}
 use Rattle.store_keep.specs.steps.Loads.{IsSnapshotOf}
-use Rattle.store_keep.proofs.opening.first_of.Goals as goal
+use Rattle.store_keep.proofs.beginning.first_of.Goals as goal
 
 pub returns-clause-snapshot : goal.returns-clause-snapshot
 returns-clause-snapshot c = subst (λ (s : SnapshotValue). IsSnapshotOf c.args.schema.now 0 [] s) (sym c.in_ok-new.ensures.ok) (c.into_snapshot-snapshot.ensures c.args.schema.now 0 [] (c.new-2.ensures c.args.schema.now))

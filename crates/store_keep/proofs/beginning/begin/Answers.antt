@@ -4,7 +4,7 @@ use Rattle.root_slots.specs.Roots.{Steps}
 use Rattle.root_slots.specs.declared.state.RootState.{RootState}
 use Rattle.store_keep.specs.steps.Beginnings.{Begins, MayBegin}
 use Rattle.store_keep.proofs.Begun.{begun_found, begun_leaves}
-use Rattle.store_keep.proofs.opening.begin.Goals as goal
+use Rattle.store_keep.proofs.beginning.begin.Goals as goal
 
 pub returns-in-Ok-first_files-clause-finds : goal.returns-in-Ok-first_files-clause-finds
 returns-in-Ok-first_files-clause-finds g c =
