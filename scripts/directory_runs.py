@@ -28,7 +28,7 @@ from case_sessions import LONGEST, Program, over_pipes
 from directories import directories
 from shown_documents import Documents, configuration
 
-KNOWN = 1041
+KNOWN = 1042
 SIDE_BY_SIDE = 4
 # The document that is put last, and the number behind which there is none.
 PUT = 77

@@ -24,7 +24,7 @@ impl ImageChunk {
         let (fields, attrs) = counts_of(list);
         let bytes = write_counted(alloc, list, fields, attrs)?;
         zones_fit(list);
-        // The rows go before the chunk takes memory that stays: behind that, theirs couldn't be given back.
+        // The rows go before skip entries are taken, which stay: behind the rows they would keep their memory from being given back.
         drop(rows);
         let chunk = ImageChunk::over(alloc, bytes)?;
         Ok(chunk)

@@ -29,7 +29,7 @@ use Rattle.store_steps.specs.Damage.{IsGoodState}
 use Rattle.store_steps.specs.Directory.{IsInOrder, StandsFor}
 use Rattle.store_steps.specs.Kept.{IsImage, Reaches, Says}
 use Rattle.store_keep.specs.Opens.{HidesNothing, IsBegun, LeavesBegun}
-use Rattle.store_keep.specs.declared.opening.Found.{Found}
+use Rattle.store_keep.specs.declared.found.Found.{Found}
 use Rattle.store_keep.specs.steps.Beginnings.{Begins, MayBegin, first_state}
 use Rattle.store_keep.specs.steps.Finds.{Finds, IsFound, IsRootRead}
 use Rattle.store_keep.specs.steps.Loads.{IsSnapshotOf}

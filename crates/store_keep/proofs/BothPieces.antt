@@ -97,5 +97,6 @@ lays_then schema through front file two rest records (Err fault) mid new same la
     subst (λ (l : List RecordAt). RefusesPiece schema file l fault) same
     (refuses_back schema file two rest fault (back_fits (IsRead schema) front (map record_of two) laid.all) (lays (front ++ map record_of two) laid))
 
+-- a fault among the first records ends all of it
 pub stops_then : (schema : Schema) (file : ℕ) (two rest records : List RecordAt) (fault : StoreFault) → two ++ rest ≡ records → RefusesPiece schema file two fault → RefusesPiece schema file records fault
 stops_then schema file two rest records fault same wrong = subst (λ (l : List RecordAt). RefusesPiece schema file l fault) same (refuses_front schema file two rest fault wrong)

@@ -34,7 +34,7 @@ use Rattle.store_steps.specs.Directory.{Directory, IsChunkFile, IsChunkOf, IsInO
 use Rattle.store_steps.specs.Kept.{IsImage, Reaches, Says}
 use Rattle.store_steps.proofs.Opening.{Agree, begins, number_from, reached}
 use Rattle.store_keep.specs.Opens.{HidesNothing}
-use Rattle.store_keep.specs.declared.opening.Found.{Found}
+use Rattle.store_keep.specs.declared.found.Found.{Found}
 use Rattle.store_keep.specs.declared.opening.Logs.{Logs}
 use Rattle.store_keep.specs.steps.Finds.{IsFound, IsLoadedAs, IsRootRead}
 use Rattle.store_keep.specs.steps.Loads.{number_after}

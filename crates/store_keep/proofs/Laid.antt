@@ -33,9 +33,10 @@ use Rattle.step_history.specs.History.{AreOf}
 use Rattle.store_keep.specs.declared.recent.Recent.{Recent}
 use Rattle.gate_log.specs.declared.records.LogRecord.{LogRecord}
 use Rattle.store_keep.specs.declared.pieces.Piece.{Piece}
-use Rattle.store_keep.specs.steps.Pieces.{IsLaidOf, IsPiece, rows_in}
-use Rattle.store_keep.specs.steps.Recents.{AreRowsAt, IsLaid, IsRowAt, Owns, is_gone, row_over}
+use Rattle.store_keep.specs.steps.Pieces.{IsLaid, IsLaidOf, IsPiece, piece_rows}
+use Rattle.store_keep.specs.steps.Recents.{AreRowsAt, IsRowAt, Owns, is_gone}
 use Rattle.store_keep.proofs.Loads.{laid_more}
+use Rattle.store_keep.proofs.Recents.{row_over}
 use Rattle.store_keep.proofs.Layers.{entries_at, rows_of_schema, values_found}
 use Rattle.store_keep.proofs.NewLayers.{left_all, left_layers, new_layer, next_layers, next_row, next_sound, out}
 
@@ -139,21 +140,21 @@ module _ (schema : Schema) (through : ℕ) (front records : List LogRecord) (lai
   pub piece_up : AllPairs (λ id later. id < later) ids
   piece_up = ids_up ids of.recent.named.keys keys_are of.made.ascend
 
-  module _ (left layers : List LayerValue) (left_is : left ≡ left_layers piece.cleared ids laid.layers) (layers_are : layers ≡ left ++ layers_of (rows_in piece)) where
-    next_are : layers ≡ next_layers of.recent.cleared ids laid.layers (rows_in piece)
-    next_are = layers_are ∙ ap (λ (l : List LayerValue). l ++ layers_of (rows_in piece)) left_is ∙ ap (λ b. next_layers b ids laid.layers (rows_in piece)) of.made.cleared_is
+  module _ (left layers : List LayerValue) (left_is : left ≡ left_layers piece.cleared ids laid.layers) (layers_are : layers ≡ left ++ layers_of (piece_rows piece)) where
+    next_are : layers ≡ next_layers of.recent.cleared ids laid.layers (piece_rows piece)
+    next_are = layers_are ∙ ap (λ (l : List LayerValue). l ++ layers_of (piece_rows piece)) left_is ∙ ap (λ b. next_layers b ids laid.layers (piece_rows piece)) of.made.cleared_is
 
     pub piece_sound : AreLayers laid.layers → length layers < 2 ^ 16 → length (all_living layers) < 2 ^ 32 → AreLayers layers
     piece_sound are few many =
         subst AreLayers (sym next_are)
-        (sound laid of.recent ids (rows_in piece) keys_are of.made.rows_are of.made.ordered of.taken.own schema through of.taken.each are of.made.content
+        (sound laid of.recent ids (piece_rows piece) keys_are of.made.rows_are of.made.ordered of.taken.own schema through of.taken.each are of.made.content
         (subst (λ (l : List LayerValue). length l < 2 ^ 16) next_are few) (subst (λ (l : List LayerValue). length (all_living l) < 2 ^ 32) next_are many))
 
     pub piece_of_one : IsSchema schema → (next : SnapshotValue) → next.layers ≡ layers → AreOfOne (all_living next.layers)
-    piece_of_one limits next e = of_one laid of.recent ids (rows_in piece) keys_are of.made.rows_are of.made.ordered of.taken.own schema through of.taken.each next (e ∙ next_are) limits is.laid
+    piece_of_one limits next e = of_one laid of.recent ids (piece_rows piece) keys_are of.made.rows_are of.made.ordered of.taken.own schema through of.taken.each next (e ∙ next_are) limits is.laid
 
     pub piece_laid : (next after : SnapshotValue) → next.layers ≡ layers → next.shape ≡ laid.shape → MayMerge next after → AreLayers after.layers → AreApart (all_living next.layers) → IsLaidOf schema through (front ++ records) after
     piece_laid next after e shape joins are apart =
         laid_more schema through front records of.recent laid after is of.taken
-        (row_after_joins laid of.recent ids (rows_in piece) keys_are of.made.rows_are of.made.ordered of.taken.own schema through of.taken.each next after (e ∙ next_are) joins apart)
-        (laid_on laid of.recent ids (rows_in piece) keys_are of.made.rows_are of.made.ordered of.taken.own schema through of.taken.each next after (e ∙ next_are) shape is.laid joins are apart)
+        (row_after_joins laid of.recent ids (piece_rows piece) keys_are of.made.rows_are of.made.ordered of.taken.own schema through of.taken.each next after (e ∙ next_are) joins apart)
+        (laid_on laid of.recent ids (piece_rows piece) keys_are of.made.rows_are of.made.ordered of.taken.own schema through of.taken.each next after (e ∙ next_are) shape is.laid joins are apart)

@@ -16,7 +16,7 @@ pub mod Telling
 pub mod Fitting
 -- what is recent after changes
 pub mod Recents
--- records of logs that are taken one by one
+-- records of logs that are taken one by one, and pieces that are laid
 pub mod Loads
 -- the bytes of a log whose records were read
 pub mod LogBytes

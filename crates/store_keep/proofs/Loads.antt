@@ -34,10 +34,10 @@ use Rattle.store_steps.specs.Batches.{Batch, above, after_batch, op_of, txn_of}
 use Rattle.store_keep.specs.declared.loading.Loaded.{Loaded}
 use Rattle.store_keep.specs.declared.recent.Recent.{Recent}
 use Rattle.store_keep.specs.steps.Loads.{IsLoaded, IsSnapshotOf, number_after}
-use Rattle.store_keep.specs.steps.Pieces.{IsLaidOf, IsTaken, Takes}
-use Rattle.store_keep.specs.steps.Recents.{IsLaid, IsRowAt, Owns, is_gone, row_from, row_over}
+use Rattle.store_keep.specs.steps.Pieces.{IsLaid, IsLaidOf, IsTaken, Takes}
+use Rattle.store_keep.specs.steps.Recents.{IsRowAt, Owns, is_gone, row_from}
 use Rattle.store_keep.specs.steps.Records.{IsRead, batch_in, batches_in, changes_in, rows_after, rows_from}
-use Rattle.store_keep.proofs.Recents.{owns_after, row_changed}
+use Rattle.store_keep.proofs.Recents.{owns_after, row_changed, row_over}
 
 -- no record was taken yet
 pub taken_nothing : (schema : Schema) (through : ℕ) (recent : Recent) → ((id : ℕ) → get nat_cmp recent.rows id ≡ None) → ((id : ℕ) → is_gone recent id ≡ false) → IsTaken schema through [] recent

@@ -1,16 +1,22 @@
 -- What is recent after changes, and over the layers before it.
 use Rattle.std.proofs.Common.{◌≡◌, ℕ, List, [], ◌∷◌, Bool, true, false, cond, ◌||◌, Option, Some, None, is_some, refl, sym, ◌∙◌, ap, map}
 use Rattle.std.specs.BTreeMap.{get}
+use Rattle.std.specs.FinMap as finite
 use Rattle.std.specs.Option.{option_or}
 use Rattle.std.specs.Ordering.{nat_cmp}
 use Rattle.doc_types.specs.declared.documents.DocRow.{DocRow}
 use Rattle.doc_types.specs.declared.transactions.TxnOp.{TxnOp}
 use Rattle.doc_types.specs.Commits.{Change, change_of}
+use Rattle.doc_types.specs.Snapshots.{SnapshotValue, live}
 use Rattle.layer_commit.specs.Commits.{named, names}
 use Rattle.layer_commit.specs.steps.Trying.{row_after}
 use Rattle.layer_commit.proofs.RowMaps.{named_alike, unnamed}
 use Rattle.store_keep.specs.declared.recent.Recent.{Recent}
 use Rattle.store_keep.specs.steps.Recents.{Changes, Owns, is_gone, row_from}
+
+-- the row of this id, over the layers
+abbrev pub row_over : Recent → SnapshotValue → ℕ → Option DocRow
+row_over recent laid id = row_from recent (finite.get (live laid) id) id
 
 or_false : (b : Bool) → (b || false) ≡ b
 or_false true = refl

@@ -26,7 +26,7 @@ use Rattle.store_steps.specs.declared.damage.TheConstants.{MOST_OPENED_CHUNKS}
 use Rattle.store_keep.specs.Opens.{SaysDamage}
 use Rattle.store_keep.specs.declared.fault.StoreFault.{StoreFault}
 use Rattle.store_keep.specs.declared.fault.StoreFault.TheVariants as faults
-use Rattle.store_keep.specs.declared.opening.Found.{Found}
+use Rattle.store_keep.specs.declared.found.Found.{Found}
 use Rattle.store_keep.specs.declared.opening.Logs.{Logs}
 use Rattle.store_keep.specs.steps.Finds.{ChecksState, IsLoadedAs, IsRootRead}
 use Rattle.store_keep.specs.steps.Loads.{IsSnapshotOf}

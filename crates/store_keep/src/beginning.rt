@@ -1,5 +1,5 @@
 //! An index without documents: its first log, and then its first root, which names that log.
-ghost use Rattle.std.specs.Prelude.{◌≡◌, ◌<◌, ◌^◌, [], None, Err, IfOk, OnOk};
+ghost use Rattle.std.specs.Prelude.{◌≡◌, ◌<◌, ◌^◌, [], None, IfOk, OnOk};
 ghost use Rattle.doc_bytes.specs.SchemaText.{schema_text};
 ghost use Rattle.doc_types.specs.Schemas.{IsSchema};
 ghost use Rattle.gate_log.specs.Logs.{quiet_log};
@@ -16,10 +16,11 @@ ghost use Rattle.store_keep.specs.Opens.{HasStoreCause, HidesNothing, LeavesBegu
 ghost use Rattle.store_keep.specs.steps.Loads.{IsSnapshotOf};
 
 use crate::fault::StoreFault;
+use crate::found::Found;
 use crate::loading::Loaded;
-use crate::opening::{Found, text_of};
 use any_chunk::AnyChunk;
 use chunk_store::Disk;
+use doc_bytes::put_schema;
 use doc_types::{Schema, Snapshot};
 use gate_log::GateLog;
 use root_slots::{Root, RootBytes, RootState};
@@ -99,6 +100,15 @@ fn state_of(alloc: Global, schema: &Schema) -> Result<RootState, NoMemory>
         newer: FIRST_LOG,
         chunks: Items::new(Vec::new(alloc)),
     })
+}
+
+/// The text of the columns.
+pub(crate) fn text_of(alloc: Global, schema: &Schema) -> Result<Vec<u8>, NoMemory>
+    ensures { IfOk result (λ text. text.items ≡ schema_text schema.now) }
+{
+    let mut text = Vec::new(alloc);
+    put_schema(schema, &mut text)?;
+    Ok(text)
 }
 
 /// Writes the first log and the first root.

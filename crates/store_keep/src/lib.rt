@@ -7,6 +7,7 @@ mod closing;
 mod committing;
 mod entering;
 mod fault;
+mod found;
 mod keeper;
 mod kept;
 mod laws;

@@ -1,5 +1,6 @@
-//! The documents of logs. A log is laid piece by piece, two pieces at once, so that few of its rows are documents at a time: these take
-//! five times the bytes that they have in the log, and the memory of those that have their layer serves for the next ones.
+//! The documents of logs. A log is read and indexed in pieces, two at once, which are then laid in their order; so few of its rows are
+//! documents at a time: these take five times the bytes that they have in the log, and the memory of those that have their layer serves
+//! for the next ones.
 ghost use Rattle.std.specs.Prelude.{◌≡◌, ◌++◌, ℕ, List, [], OnOk};
 ghost use Rattle.doc_types.specs.Schemas.{IsSchema};
 ghost use Rattle.doc_types.specs.declared.schema.Schema.{Schema as AnySchema};
@@ -10,9 +11,9 @@ ghost use Rattle.store_keep.specs.steps.Pieces.{AreShort, IsLaidOf, IsPiece, Lay
 use crate::fault::StoreFault;
 use crate::laying::lay;
 use crate::pieces::{Piece, piece_size, read_both};
-use crate::reading::Log;
+use crate::reading::Source;
 use any_chunk::AnyChunk;
-use doc_types::{Chunk, Schema, Snapshot};
+use doc_types::{Schema, Snapshot};
 use gate_log::{Before, LogKind, RecordAt, read_records};
 use srch_base::{Items, NoMemory};
 use std::alloc::Global;
@@ -85,12 +86,12 @@ impl Loaded {
     {
         let read = read_records(alloc, bytes, self.before())?;
         let piece = (bytes.len() / PIECES).max(LEAST_PIECE);
-        let log = Log {
+        let source = Source {
             schema,
             through: self.through,
             file,
         };
-        match lay_records(rt, alloc, log, piece, &read.records, &mut self.laid) {
+        match lay_records(rt, alloc, source, piece, &read.records, &mut self.laid) {
             Ok(()) => self.last = read.last.or(self.last),
             Err(fault) => return Err(fault),
         }
@@ -118,27 +119,27 @@ impl Loaded {
     }
 }
 
-/// Lays records in pieces of so many bytes, two at a time.
+/// Lays records in pieces of just more than so many bytes, two of them at a time.
 fn lay_records<R: Threads>(
     rt: &R,
     alloc: Global,
-    log: Log<'_>,
+    source: Source<'_>,
     piece: usize,
     records: &[RecordAt<'_>],
     laid: &mut Snapshot<AnyChunk>,
 ) -> Result<(), StoreFault>
-    requires limits { IsSchema log.schema.now }
+    requires limits { IsSchema source.schema.now }
     requires short { AreShort records.now }
-    requires laid { (front : List LogRecord) × IsLaidOf log.schema.now log.through front laid.old }
-    ensures { (front : List LogRecord) → IsLaidOf log.entry.schema.now log.entry.through front laid.old → Lays log.entry.schema.now log.entry.through front log.entry.file records.now result laid.new }
+    requires laid { (front : List LogRecord) × IsLaidOf source.schema.now source.through front laid.old }
+    ensures { (front : List LogRecord) → IsLaidOf source.entry.schema.now source.entry.through front laid.old → Lays source.entry.schema.now source.entry.through front source.entry.file records.now result laid.new }
 {
     if records.is_empty() {
         return Ok(());
     }
     let (first, others) = records.split_at(piece_size(records, piece));
     let (second, others) = others.split_at(piece_size(others, piece));
-    match lay_two(rt, alloc, log, first, second, laid) {
-        Ok(()) => lay_records(rt, alloc, log, piece, others, laid),
+    match lay_two(rt, alloc, source, first, second, laid) {
+        Ok(()) => lay_records(rt, alloc, source, piece, others, laid),
         Err(fault) => Err(fault),
     }
 }
@@ -147,18 +148,18 @@ fn lay_records<R: Threads>(
 fn lay_two<R: Threads>(
     rt: &R,
     alloc: Global,
-    log: Log<'_>,
+    source: Source<'_>,
     first: &[RecordAt<'_>],
     second: &[RecordAt<'_>],
     laid: &mut Snapshot<AnyChunk>,
 ) -> Result<(), StoreFault>
-    requires limits { IsSchema log.schema.now }
+    requires limits { IsSchema source.schema.now }
     requires first { AreShort first.now }
     requires second { AreShort second.now }
-    requires laid { (front : List LogRecord) × IsLaidOf log.schema.now log.through front laid.old }
-    ensures { (front : List LogRecord) → IsLaidOf log.entry.schema.now log.entry.through front laid.old → Lays log.entry.schema.now log.entry.through front log.entry.file (first.now ++ second.now) result laid.new }
+    requires laid { (front : List LogRecord) × IsLaidOf source.schema.now source.through front laid.old }
+    ensures { (front : List LogRecord) → IsLaidOf source.entry.schema.now source.entry.through front laid.old → Lays source.entry.schema.now source.entry.through front source.entry.file (first.now ++ second.now) result laid.new }
 {
-    let (first, second) = read_both(rt, alloc, log, first, second);
+    let (first, second) = read_both(rt, alloc, source, first, second);
     match first {
         Ok(first) => match second {
             Ok(second) => match lay_both(alloc, first, second, laid) {

@@ -1,5 +1,5 @@
 //! How a store is opened. Each file is synced and then read, so that what was read is what a crash leaves.
-ghost use Rattle.std.specs.Prelude.{◌≡◌, ◌≢◌, ◌<◌, ℕ, List, [], None, Some, Err, MatchBool, IfOk, IfErr, IfSome, OnOk};
+ghost use Rattle.std.specs.Prelude.{◌≡◌, ◌≢◌, ℕ, List, [], Some, Err, MatchBool, IfOk, IfErr, IfSome, OnOk};
 ghost use Rattle.doc_bytes.specs.SchemaText.{schema_text};
 ghost use Rattle.doc_types.specs.Schemas.{IsSchema};
 ghost use Rattle.doc_types.specs.declared.schema.Schema.{Schema as AnySchema};
@@ -15,12 +15,12 @@ ghost use Rattle.store_keep.specs.Opens.{HasStoreCause, HidesNothing, IsFoundIn,
 ghost use Rattle.store_keep.specs.steps.Loads.{IsLoaded, IsOfBytes};
 ghost use Rattle.store_keep.specs.steps.LogFiles.{IsSteady, ReadsLog, ReadsLogs, ReadsOlder};
 
-use crate::beginning::begin;
+use crate::beginning::{begin, text_of};
 use crate::fault::StoreFault;
+use crate::found::Found;
 use crate::loading::{Loaded, LogEnd};
 use any_chunk::AnyChunk;
 use chunk_store::{Disk, read_whole};
-use doc_bytes::put_schema;
 use doc_types::{Schema, Snapshot};
 use gate_log::GateLog;
 use root_slots::{Root, RootFault, RootKind, RootState};
@@ -38,16 +38,6 @@ pub struct Opened<D: Disk> {
     pub(crate) root: Root,
     pub(crate) log: GateLog,
     pub(crate) book: NewBook,
-    pub(crate) snapshot: Arc<Snapshot<AnyChunk>, Global>,
-    pub(crate) records: u64,
-    pub(crate) documents: u32,
-}
-
-/// What the files of an index are: root, log, and the documents.
-#[derive(Drop)]
-pub(crate) struct Found {
-    pub(crate) root: Root,
-    pub(crate) log: GateLog,
     pub(crate) snapshot: Arc<Snapshot<AnyChunk>, Global>,
     pub(crate) records: u64,
     pub(crate) documents: u32,
@@ -191,15 +181,6 @@ fn check_columns(
         Ok(text) => check_state(root, state, text.as_slice()),
         Err(NoMemory) => Err(StoreFault::NoMemory),
     }
-}
-
-/// The text of the columns.
-pub(crate) fn text_of(alloc: Global, schema: &Schema) -> Result<Vec<u8>, NoMemory>
-    ensures { IfOk result (λ text. text.items ≡ schema_text schema.now) }
-{
-    let mut text = Vec::new(alloc);
-    put_schema(schema, &mut text)?;
-    Ok(text)
 }
 
 /// Makes sure that what is read of a file is what a crash leaves of it.

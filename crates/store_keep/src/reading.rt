@@ -12,9 +12,9 @@ use srch_base::{NoMemory, Or};
 use std::alloc::Global;
 use store_steps::{Damage, DamageKind};
 
-/// The log that is read.
+/// Where records come from.
 #[derive(Clone, Copy)]
-pub(crate) struct Log<'a> {
+pub(crate) struct Source<'a> {
     pub(crate) schema: &'a Schema,
     /// The last commit that the chunks have.
     pub(crate) through: u64,
@@ -25,15 +25,15 @@ pub(crate) struct Log<'a> {
 /// Reads the records of a piece. Each document is moved out of its record, so that it is in memory once.
 pub(crate) fn read_piece(
     alloc: Global,
-    log: Log<'_>,
+    source: Source<'_>,
     records: &[RecordAt<'_>],
 ) -> Result<Recent, StoreFault>
     requires { AreShort records.now }
-    ensures { ReadsPiece log.entry.schema.now log.entry.through log.entry.file records.now result }
+    ensures { ReadsPiece source.entry.schema.now source.entry.through source.entry.file records.now result }
 {
     let mut recent = Recent::new(alloc);
     for entry in records {
-        match take_record(alloc, log, entry, &mut recent) {
+        match take_record(alloc, source, entry, &mut recent) {
             Ok(()) => {}
             Err(fault) => return Err(fault),
         }
@@ -44,21 +44,21 @@ pub(crate) fn read_piece(
 /// Takes one record.
 fn take_record(
     alloc: Global,
-    log: Log<'_>,
+    source: Source<'_>,
     entry: &RecordAt<'_>,
     recent: &mut Recent,
 ) -> Result<(), StoreFault>
     requires { length entry.now.payload.now < 2 ^ 32 }
-    ensures { (front : List LogRecord) → IsTaken log.entry.schema.now log.entry.through front recent.old → TakesRecord log.entry.schema.now log.entry.through front entry.now log.entry.file result recent.new }
+    ensures { (front : List LogRecord) → IsTaken source.entry.schema.now source.entry.through front recent.old → TakesRecord source.entry.schema.now source.entry.through front entry.now source.entry.file result recent.new }
 {
-    match read_txn(alloc, log.schema, entry.payload) {
-        Ok(txn) => match take(log.through, entry.number, txn, recent) {
+    match read_txn(alloc, source.schema, entry.payload) {
+        Ok(txn) => match take(source.through, entry.number, txn, recent) {
             Ok(()) => Ok(()),
             Err(NoMemory) => Err(StoreFault::NoMemory),
         },
         Err(Or::NoMemory) => Err(StoreFault::NoMemory),
         Err(Or::Fault(_)) => Err(StoreFault::Damaged(Damage {
-            file: log.file,
+            file: source.file,
             place: entry.place,
             kind: DamageKind::RecordPayload,
         })),

@@ -15,9 +15,9 @@ use std::collections::{BTreeMap, BTreeSet};
 /// What was read of the records of a piece.
 #[derive(Drop)]
 pub(crate) struct Recent {
-    /// All rows that the layers have are gone.
+    /// All rows that the layers before have are gone.
     pub(crate) cleared: bool,
-    /// The ids that were named. Rows that the layers have of them are gone.
+    /// The ids that were named. Rows that the layers before have of them are gone.
     pub(crate) named: BTreeSet<u64>,
     /// The rows that were put and not killed, by their ids.
     pub(crate) rows: BTreeMap<u64, DocRow>,

@@ -19,7 +19,7 @@ use Rattle.store_steps.specs.Kept.{IsKept}
 use Rattle.store_keep.specs.Opens.{HidesNothing, IsFoundIn, SaysDamage}
 use Rattle.store_keep.specs.declared.fault.StoreFault.{StoreFault}
 use Rattle.store_keep.specs.declared.fault.StoreFault.TheVariants as faults
-use Rattle.store_keep.specs.declared.opening.Found.{Found}
+use Rattle.store_keep.specs.declared.found.Found.{Found}
 use Rattle.store_keep.specs.declared.opening.Logs.{Logs}
 use Rattle.store_keep.specs.steps.LogFiles.{IsSteady}
 use Rattle.store_keep.specs.steps.Loads.{IsSnapshotOf, number_after}

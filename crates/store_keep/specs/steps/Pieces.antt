@@ -1,5 +1,5 @@
 -- Pieces of a log: what their records come to over any rows before them, and the layers that they become.
-use Rattle.std.specs.Prelude.{◌≡◌, ℕ, ◌<◌, ◌≤◌, ◌^◌, List, [], ◌∷◌, ◌++◌, Result, Ok, Err, All, length, map}
+use Rattle.std.specs.Prelude.{◌≡◌, ℕ, ◌<◌, ◌≤◌, ◌^◌, List, [], ◌∷◌, ◌++◌, Some, false, Result, Ok, Err, All, length, map}
 use Rattle.std.specs.BTreeMap.{IsOrdered}
 use Rattle.std.specs.FinMap as finite
 use Rattle.std.specs.List.Sorted.{IsStrictlySortedBy}
@@ -22,7 +22,8 @@ use Rattle.store_keep.specs.declared.fault.StoreFault.TheVariants as faults
 use Rattle.any_chunk.specs.contracts.any_chunk.AnyChunkChunk.TheImpl as words
 use Rattle.store_keep.specs.declared.pieces.Piece.{Piece}
 use Rattle.store_keep.specs.declared.recent.Recent.{Recent}
-use Rattle.store_keep.specs.steps.Recents.{AreRowsAt, Changes, IsLaid, Owns, row_from}
+use Rattle.step_history.specs.History.{AreOf}
+use Rattle.store_keep.specs.steps.Recents.{AreRowsAt, Changes, Owns, row_from}
 use Rattle.store_keep.specs.steps.Records.{IsRead, bad_payload, rows_after, rows_from}
 
 -- Records have payloads that can be read.
@@ -49,7 +50,7 @@ TakesRecord schema through front entry file (Err faults.DiskFault) new = ⊥
 TakesRecord schema through front entry file (Err (faults.Damaged damage)) new = (damage ≡ bad_payload file entry.place) × ((left : ℕ) × (txn_at schema entry.payload.now ≡ Err left))
 
 -- One of the records holds no transaction, and those before it were read.
-pub record StopsAt (schema : Schema) (file : ℕ) (entries : List RecordAt) (damage : Damage) : Type 0 where
+pub record IsBadAt (schema : Schema) (file : ℕ) (entries : List RecordAt) (damage : Damage) : Type 0 where
   pub front : List RecordAt
   pub entry : RecordAt
   pub back : List RecordAt
@@ -63,7 +64,7 @@ pub record StopsAt (schema : Schema) (file : ℕ) (entries : List RecordAt) (dam
 abbrev pub RefusesPiece : Schema → ℕ → List RecordAt → StoreFault → Type 0
 RefusesPiece schema file entries faults.NoMemory = Unit {0}
 RefusesPiece schema file entries faults.DiskFault = ⊥
-RefusesPiece schema file entries (faults.Damaged damage) = StopsAt schema file entries damage
+RefusesPiece schema file entries (faults.Damaged damage) = IsBadAt schema file entries damage
 
 -- what reading the records of a piece comes to
 abbrev pub ReadsPiece : Schema → ℕ → ℕ → List RecordAt → Result Recent StoreFault → Type 0
@@ -71,17 +72,17 @@ ReadsPiece schema through file entries (Ok recent) = IsTaken schema through (map
 ReadsPiece schema through file entries (Err fault) = RefusesPiece schema file entries fault
 
 -- the rows of a piece
-abbrev pub rows_in : Piece → List DocRow
-rows_in piece = words.ghosts.content piece.chunk
+abbrev pub piece_rows : Piece → List DocRow
+piece_rows piece = words.ghosts.content piece.chunk
 
 -- What is recent was made a piece: whether all rows before are gone, the ids whose rows are, and the rows.
 pub record IsMade (recent : Recent) (piece : Piece) : Type 0 where
   pub cleared_is : piece.cleared ≡ recent.cleared
   pub named_are : piece.named.items ≡ recent.named.keys
   pub ascend : IsStrictlySortedBy nat_cmp recent.named.keys
-  pub rows_are : rows_in piece ≡ values_of recent.rows.entries
+  pub rows_are : piece_rows piece ≡ values_of recent.rows.entries
   pub ordered : IsOrdered nat_cmp recent.rows
-  pub content : IsContent (rows_in piece)
+  pub content : IsContent (piece_rows piece)
 
 -- The piece of these records.
 pub record IsPiece (schema : Schema) (through : ℕ) (records : List LogRecord) (piece : Piece) : Type 0 where
@@ -94,7 +95,14 @@ abbrev pub MakesPiece : Schema → ℕ → ℕ → List RecordAt → Result Piec
 MakesPiece schema through file entries (Ok piece) = IsPiece schema through (map record_of entries) piece
 MakesPiece schema through file entries (Err fault) = RefusesPiece schema file entries fault
 
--- The layers have the rows after these records, and nothing else.
+-- Layers in memory, of rows that the chunks don't have.
+pub record IsLaid (schema : Schema) (through : ℕ) (laid : SnapshotValue) : Type 0 where
+  pub shape_is : laid.shape ≡ 0
+  pub memory : All (λ layer. layer.disk ≡ false) laid.layers
+  pub of : AreOf schema laid
+  pub newer : (id : ℕ) (row : DocRow) → finite.get (live laid) id ≡ Some row → through < row.born
+
+-- These records were read, and the layers have the rows after them, and nothing else.
 pub record IsLaidOf (schema : Schema) (through : ℕ) (records : List LogRecord) (snapshot : SnapshotValue) : Type 0 where
   pub all : All (IsRead schema) records
   pub rows : live snapshot ≡ rows_after schema through records

@@ -4,4 +4,4 @@ use Rattle.store_keep.specs.steps.Pieces.{IsTaken}
 use Rattle.store_keep.proofs.reading.read_piece.Given as goal
 
 abbrev pub invariant-loop-entry : goal.invariant-loop-entry
-invariant-loop-entry l = IsTaken l.log.schema.now l.log.through (map record_of (take l.entry-index l.records)) l.recent
+invariant-loop-entry l = IsTaken l.source.schema.now l.source.through (map record_of (take l.entry-index l.records)) l.recent

@@ -6,8 +6,8 @@ use Rattle.store_keep.proofs.reading.take_record.Goals as goal
 
 pub returns-in-Ok-take : goal.returns-in-Ok-take
 returns-in-Ok-take c = λ front taken.
-    let schema = c.args.log.schema.now in
+    let schema = c.args.source.schema.now in
     let bytes = c.args.entry.now.payload.now in
     let is = txn_is (txn_at schema bytes) (length bytes) c.in-Ok.txn c.in-Ok.ensures.exact in
     let found = c.in-Ok.ensures.found in
-    taken_more schema c.args.log.through front (record_of c.args.entry.now) c.args.recent.now c.take.new.recent c.in-Ok.txn taken (was_read schema c.args.entry.now.number bytes c.in-Ok.txn is found.0 found.1 found.2) is found.0.operations c.in-Ok-take.ensures
+    taken_more schema c.args.source.through front (record_of c.args.entry.now) c.args.recent.now c.take.new.recent c.in-Ok.txn taken (was_read schema c.args.entry.now.number bytes c.in-Ok.txn is found.0 found.1 found.2) is found.0.operations c.in-Ok-take.ensures

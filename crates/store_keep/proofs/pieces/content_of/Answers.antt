@@ -2,7 +2,7 @@ use Rattle.std.proofs.Common.{◌≡◌, ap, arith}
 use Rattle.std.specs.List.{sum_by}
 use Rattle.doc_types.specs.Documents.{word_count}
 use Rattle.store_keep.proofs.Layers.{content_by}
-use Rattle.store_keep.proofs.laying.content_of.Goals as goal
+use Rattle.store_keep.proofs.pieces.content_of.Goals as goal
 
 pub returns-clause-content : goal.returns-clause-content
 returns-clause-content c =
