@@ -2,8 +2,10 @@
 ghost use Rattle.std.specs.Prelude.{◌<◌, length};
 
 use any_chunk::AnyChunk;
-use doc_types::{Chunk, Gap, Snapshot, ZoneSpan};
+use doc_types::{Chunk, Gap, Layer, Snapshot, ZoneSpan};
+use srch_base::Items;
 use std::alloc::Global;
+use std::collections::{BTreeMap, BTreeSet};
 
 /// Appends how many sentences and how many paragraphs end in a row, where one does, and its spans.
 fn put_parts(
@@ -42,28 +44,77 @@ fn put_row<C: Chunk>(alloc: Global, chunk: &C, row: u32, into: &mut String) -> O
     put_parts(gaps.as_slice(), spans.as_slice(), into)
 }
 
-/// Appends the rows of a chunk, and its words in their order.
-fn put_chunk<C: Chunk>(alloc: Global, chunk: &C, into: &mut String) -> Option<()> {
-    for row in 0..chunk.rows() {
-        put_row(alloc, chunk, row, into)?;
+/// Whether a row of a layer lives.
+fn lives(layer: &Layer<AnyChunk>, row: u32) -> bool {
+    let dead: &Items<u32> = &layer.dead;
+    !dead.as_slice().contains(&row)
+}
+
+/// Whether a row has a word.
+fn has_word<C: Chunk>(chunk: &C, word: &[u8], row: u32) -> bool {
+    match chunk.start(word) {
+        Some(first) => {
+            let mut cursor = first;
+            chunk.seek(&mut cursor, row) == row
+        }
+        None => false,
     }
-    for word in 0..chunk.words() {
-        let word = str::from_utf8(chunk.word_at(word)).ok()?;
-        into.push_str(" /").ok()?;
-        into.push_str(word).ok()?;
+}
+
+/// Adds the words of a row.
+fn add_words<C: Chunk>(
+    alloc: Global,
+    chunk: &C,
+    row: u32,
+    words: &mut BTreeSet<String>,
+) -> Option<()> {
+    for number in 0..chunk.words() {
+        let word = chunk.word_at(number);
+        if has_word(chunk, word, row) {
+            let mut text = String::new(alloc);
+            text.push_str(str::from_utf8(word).ok()?).ok()?;
+            words.insert(text).ok()?;
+        }
     }
     Some(())
 }
 
-/// Appends the documents of a snapshot.
+/// Adds the rows of a layer that live, each told by its id, and their words.
+fn add_layer(
+    alloc: Global,
+    layer: &Layer<AnyChunk>,
+    rows: &mut BTreeMap<u64, String>,
+    words: &mut BTreeSet<String>,
+) -> Option<()> {
+    let chunk: &AnyChunk = &layer.chunk;
+    for row in 0..chunk.rows() {
+        if lives(layer, row) {
+            let mut told = String::new(alloc);
+            put_row(alloc, chunk, row, &mut told)?;
+            rows.insert(chunk.id(row), told).ok()?;
+            add_words(alloc, chunk, row, words)?;
+        }
+    }
+    Some(())
+}
+
+/// Appends the documents of a snapshot by their ids, in whichever layers they are, and then their words.
 pub(crate) fn put_snapshot(
     alloc: Global,
     snapshot: &Snapshot<AnyChunk>,
     into: &mut String,
 ) -> Option<()> {
+    let mut rows = BTreeMap::new(alloc);
+    let mut words = BTreeSet::new(alloc);
     for layer in snapshot.layers.as_slice() {
-        let chunk: &AnyChunk = &layer.chunk;
-        put_chunk(alloc, chunk, into)?;
+        add_layer(alloc, layer, &mut rows, &mut words)?;
+    }
+    for told in rows.values() {
+        into.push_str(told).ok()?;
+    }
+    for word in words.iter() {
+        into.push_str(" /").ok()?;
+        into.push_str(word).ok()?;
     }
     Some(())
 }
