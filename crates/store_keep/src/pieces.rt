@@ -1,6 +1,6 @@
 //! Pieces of a log: records that become one layer. What a piece comes to doesn't depend on the records before it, so two of them are
 //! read and indexed at once, one of them in a thread of its own.
-ghost use Rattle.std.specs.Prelude.{◌≡◌, ◌<◌, ◌≤◌, ◌+◌, ℕ, IfOk, IfSome, length};
+ghost use Rattle.std.specs.Prelude.{◌≡◌, ◌<◌, ◌≤◌, ◌+◌, ℕ, IfOk, IfSome, length, take};
 ghost use Rattle.std.specs.BTreeMap.{IsOrdered};
 ghost use Rattle.std.specs.List.{sum_by};
 ghost use Rattle.std.specs.List.Sorted.{IsStrictlySortedBy};
@@ -45,6 +45,7 @@ pub(crate) struct Piece {
 pub(crate) fn piece_size(records: &[RecordAt<'_>], bytes: usize) -> usize
     ensures some { 0 < length records.now → 0 < result }
     ensures within { result ≤ length records.now }
+    ensures over { result < length records.now → bytes < sum_by (λ entry. length entry.payload.now) (take result records.now) }
 {
     let mut sum: usize = 0;
     for (number, record) in records.iter().enumerate() {
