@@ -79,7 +79,21 @@ fn add_words<C: Chunk>(
     Some(())
 }
 
-/// Adds the rows of a layer that live, each told by its id, and their words.
+/// Whether the words of a chunk ascend, and some row has each.
+fn are_words<C: Chunk>(chunk: &C) -> bool {
+    for number in 0..chunk.words() {
+        let word = chunk.word_at(number);
+        if chunk.count(word) == 0 {
+            return false;
+        }
+        if number > 0 && chunk.word_at(number - 1).cmp(word).is_ge() {
+            return false;
+        }
+    }
+    true
+}
+
+/// Adds the rows of a layer that live, each told by its id, and their words. Words that are none of a chunk end the telling.
 fn add_layer(
     alloc: Global,
     layer: &Layer<AnyChunk>,
@@ -87,6 +101,9 @@ fn add_layer(
     words: &mut BTreeSet<String>,
 ) -> Option<()> {
     let chunk: &AnyChunk = &layer.chunk;
+    if !are_words(chunk) {
+        return None;
+    }
     for row in 0..chunk.rows() {
         if lives(layer, row) {
             let mut told = String::new(alloc);
