@@ -1,0 +1,1 @@
+"""What stands beside the proofs: the gate, the cases, the figures and the clients (README.md)."""

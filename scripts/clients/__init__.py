@@ -1,0 +1,1 @@
+"""Clients of MySQL's protocol, and the daemon that they are let at."""

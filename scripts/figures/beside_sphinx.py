@@ -1,0 +1,200 @@
+"""Measures SELECTs of many classes beside Sphinx 2.2, over the same documents of 100 words in one run.
+
+    python3 -m scripts.figures.beside_sphinx --program PROGRAM [--sphinx PATH] [--docs N..] [--texts N] [--rounds N] [--flush]
+
+starts both over empty folders, loads both with N documents (40,000 if nothing is said; as many as PROGRAM's index takes
+where that is fewer) by INSERTs of 1,000, and sends the texts of each class to one after the other. The table has how many
+documents were found, and where the two found different numbers, in how many of the texts; then the time of a text as a
+client over loopback sees it, and that of the daemon's processors, which is the one to look at where the machine has other
+work. Each is the mean of a class's texts in the best of three rounds, and beside it stands how many times as long Sphinx
+took. Behind the table stand the geometric means and the classes in which Sphinx was faster. Weights are those of the
+ranker `proximity` on both sides. With --flush Sphinx writes its documents into one chunk on the disk first. Debian's
+package is sphinxsearch. PROGRAM may be Sphinx as well, which shows what the machine's noise is.
+"""
+
+import argparse
+import math
+import random
+import subprocess
+import sys
+import tempfile
+import time
+from pathlib import Path
+
+from scripts.figures import hundred_words as documents
+from scripts.clients.daemon import COLUMNS, Daemon, processor, resident
+from scripts.clients.mysql_client import Refused
+
+# the ranks of the words that stand in a text as c1, c2 .. of the most common, f1 .. frequent, m1 .. some, r1 .. rare
+RANKS = {"c": (6, 13), "f": (15, 60), "m": (500, 1500), "r": (15000, 40000)}
+RANKED = " OPTION ranker=proximity"
+CLASSES = [
+    ("a rare word", "SELECT id, WEIGHT() FROM rt WHERE MATCH('{r1}')" + RANKED),
+    ("a word that some have", "SELECT id, WEIGHT() FROM rt WHERE MATCH('{m1}')" + RANKED),
+    ("a common word", "SELECT id, WEIGHT() FROM rt WHERE MATCH('{c1}')" + RANKED),
+    ("the same, not ranked", "SELECT id FROM rt WHERE MATCH('{c1}') OPTION ranker=none"),
+    ("a common word in one field", "SELECT id, WEIGHT() FROM rt WHERE MATCH('@content {c1}')" + RANKED),
+    ("two words", "SELECT id, WEIGHT() FROM rt WHERE MATCH('{f1} {f2}')" + RANKED),
+    ("three words", "SELECT id, WEIGHT() FROM rt WHERE MATCH('{f1} {f2} {f3}')" + RANKED),
+    ("a rare and a common word", "SELECT id, WEIGHT() FROM rt WHERE MATCH('{r1} {c1}')" + RANKED),
+    ("NOT", "SELECT id, WEIGHT() FROM rt WHERE MATCH('{f1} -{f2}')" + RANKED),
+    ("MAYBE", "SELECT id, WEIGHT() FROM rt WHERE MATCH('{m1} MAYBE {f1}')" + RANKED),
+    ("one of two", "SELECT id, WEIGHT() FROM rt WHERE MATCH('{f1} | {f2}')" + RANKED),
+    ("one of five", "SELECT id, WEIGHT() FROM rt WHERE MATCH('{c1} | {f1} | {f2} | {m1} | {m2}')" + RANKED),
+    ("a phrase", "SELECT id, WEIGHT() FROM rt WHERE MATCH('\"{f1} {f2}\"')" + RANKED),
+    ("proximity", "SELECT id, WEIGHT() FROM rt WHERE MATCH('\"{f1} {f2} {f3}\"~5')" + RANKED),
+    ("NEAR", "SELECT id, WEIGHT() FROM rt WHERE MATCH('{f1} NEAR/3 {f2}')" + RANKED),
+    ("strict order", "SELECT id, WEIGHT() FROM rt WHERE MATCH('{f1} << {m1}')" + RANKED),
+    ("quorum", "SELECT id, WEIGHT() FROM rt WHERE MATCH('\"{f1} {f2} {f3} {m1} {m2}\"/3')" + RANKED),
+    ("a word and a condition", "SELECT id FROM rt WHERE MATCH('{f1}') AND gid = {gid}" + RANKED),
+    ("a word and a range", "SELECT id FROM rt WHERE MATCH('{f1}') AND price BETWEEN {low} AND {high}" + RANKED),
+    ("a condition alone", "SELECT id FROM rt WHERE gid = {gid}"),
+    ("a range alone", "SELECT id FROM rt WHERE price BETWEEN {low} AND {high}"),
+    ("the order of an attribute", "SELECT id, price FROM rt WHERE MATCH('{f1}') ORDER BY price DESC" + RANKED),
+    ("the same without MATCH", "SELECT id, price FROM rt ORDER BY price DESC"),
+    ("id =", "SELECT id, gid, price FROM rt WHERE id = {id}"),
+    ("the page at 10,000", "SELECT id FROM rt WHERE MATCH('{c1}') LIMIT 9980, 20" + RANKED + ", max_matches=10000"),
+    ("GROUP BY", "SELECT gid, COUNT(*) FROM rt WHERE MATCH('{f1}') GROUP BY gid" + RANKED),
+    ("a facet", "SELECT id FROM rt WHERE MATCH('{f1}')" + RANKED + " FACET gid"),
+    ("COUNT(*)", "SELECT COUNT(*) FROM rt WHERE MATCH('{f1}')" + RANKED),
+    ("COUNT(*) of all", "SELECT COUNT(*) FROM rt"),
+]
+# a class's texts are sent again and again until the daemon worked for so many seconds
+ROUND = 0.05
+
+
+def texts_of(template, number, count):
+    """The texts of a class, the same at each run."""
+    draws, made = random.Random(template), []
+    for _ in range(number):
+        words = {
+            f"{group}{place}": f"w{rank}"
+            for group, ranks in RANKS.items()
+            for place, rank in enumerate(draws.sample(range(*ranks), 3), 1)
+        }
+        low = draws.randrange(900000)
+        numbers = {"gid": draws.randrange(1000), "low": low, "high": low + 20000, "id": draws.randrange(1, count + 1)}
+        made.append(template.format(**words, **numbers))
+    return made
+
+
+class Side:
+    """One of the two daemons, with a client."""
+
+    def __init__(self, program, folder, sphinx):
+        folder.mkdir()
+        self.daemon = Daemon(program, folder, {"rt": COLUMNS}, 2, sphinx)
+        self.daemon.start()
+        self.client = self.daemon.client()
+
+    def load(self, count):
+        """Adds documents, and gives how many there are and the seconds that it took; their texts are made before."""
+        taken = done = 0
+        while done < count:
+            numbers = range(done + 1, min(done + 1000, count) + 1)
+            text = documents.insert(numbers)
+            before = time.perf_counter()
+            try:
+                self.client.query(text)
+            except Refused as refused:
+                if " full at " not in refused.text:
+                    raise
+                print(f"no more than {done:,} documents: {refused.text}")
+                break
+            taken += time.perf_counter() - before
+            done += len(numbers)
+        return done, taken
+
+    def found(self, text):
+        """How many documents or groups a SELECT finds."""
+        self.client.queries(text)
+        return int(dict(self.client.query("SHOW META").rows)["total_found"])
+
+    def round(self, texts):
+        """The mean time of a text: until its reply was there, and of the daemon's processors."""
+        pid = self.daemon.process.pid
+        begin, worked, times = time.perf_counter(), processor(pid), 0
+        while times == 0 or processor(pid) - worked < ROUND:
+            for text in texts:
+                self.client.queries(text)
+            times += len(texts)
+        return (time.perf_counter() - begin) / times, (processor(pid) - worked) / times
+
+
+def measured(sides, count, options):
+    """Prints the table; gives of each class how many times as long Sphinx took, in all and on its processors."""
+    classes = [(title, texts_of(template, options.texts, count)) for title, template in CLASSES]
+    founds = {title: [[side.found(text) for text in texts] for side in sides] for title, texts in classes}
+    rounds = {title: ([], []) for title, _ in classes}
+    for _ in range(options.rounds):
+        for title, texts in classes:
+            for side, times in zip(sides, rounds[title]):
+                times.append(side.round(texts))
+    print(f"| over {count:,} documents | found | time | Sphinx | ratio | processor | Sphinx | ratio |\n|---|{'---|' * 7}")
+    ratios = {}
+    for title, both in rounds.items():
+        (ours, our_work), (theirs, their_work) = ([min(column) for column in zip(*times)] for times in both)
+        ratios[title] = theirs / ours, their_work / our_work
+        cells = [found_by(*founds[title]), *compared(ours, theirs), *compared(our_work, their_work)]
+        print(f"| {title} | {' | '.join(cells)} |")
+    return ratios
+
+
+def found_by(ours, theirs):
+    differing = sum(one != other for one, other in zip(ours, theirs))
+    mean = f"{sum(ours) / len(ours):,.0f}"
+    return f"{mean}, other in {differing} of {len(ours)}" if differing else mean
+
+
+def compared(ours, theirs):
+    return f"{ours * 1e6:,.0f} µs", f"{theirs * 1e6:,.0f} µs", f"{theirs / ours:.2f}"
+
+
+def told(kind, ratios):
+    """The geometric mean of the classes' ratios, and where Sphinx was faster."""
+    slower = [title for title, ratio in ratios.items() if ratio < 1]
+    mean = math.exp(sum(map(math.log, ratios.values())) / len(ratios))
+    return f"{kind}: geometric mean {mean:.2f}; Sphinx was faster in {len(slower)} of {len(ratios)}: {', '.join(slower) or 'none'}"
+
+
+def beside(count, folder, options):
+    sides = [
+        Side(options.program, folder / "ours", "sphinx" in version(options.program)),
+        Side(options.sphinx, folder / "sphinx", True),
+    ]
+    try:
+        count, *_ = loads = sides[0].load(count)
+        for name, side, (_, taken) in zip(("this program", "Sphinx"), sides, (loads, sides[1].load(count))):
+            memory = resident(side.daemon.process.pid) / 2**20
+            print(f"{name}: {count:,} documents in {taken:.1f} s, {taken / count * 1e6:.0f} µs each; {memory:,.0f} MB")
+        if options.flush:
+            sides[1].client.query("FLUSH RAMCHUNK rt")
+        ratios = measured(sides, count, options)
+        print(told("time", {title: ratio for title, (ratio, _) in ratios.items()}))
+        print(told("processor", {title: ratio for title, (_, ratio) in ratios.items()}))
+    finally:
+        for side in sides:
+            side.daemon.kill()
+
+
+def version(program):
+    """What a program says to --help, in small letters; Sphinx says who it is."""
+    return subprocess.run([program, "--help"], capture_output=True, text=True, check=False).stdout.lower()
+
+
+def main():
+    words = argparse.ArgumentParser(description=__doc__.split("\n\n", maxsplit=1)[0])
+    words.add_argument("--program", required=True)
+    words.add_argument("--sphinx", default="/usr/bin/searchd", help="searchd of Sphinx 2.2")
+    words.add_argument("--docs", type=int, nargs="+", default=[40000])
+    words.add_argument("--texts", type=int, default=20, help="texts of a class")
+    words.add_argument("--rounds", type=int, default=3)
+    words.add_argument("--flush", action="store_true")
+    options = words.parse_args()
+    for count in options.docs:
+        with tempfile.TemporaryDirectory() as folder:
+            beside(count, Path(folder), options)
+
+
+if __name__ == "__main__":
+    sys.exit(main())

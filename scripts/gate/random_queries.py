@@ -1,0 +1,288 @@
+"""Asks a daemon random queries over random documents, and compares what it finds with a scan of its own.
+
+    python3 -m scripts.gate.random_queries --program PROGRAM [--docs 20000] [--queries 20000] [--seed 1]
+
+starts the program over an empty folder and inserts documents with ids in no order, some by one statement each and some
+by many; in between it replaces and deletes some, so that there are several layers with dead rows. Then it asks queries of words, AND,
+OR, NOT, MAYBE, phrases, proximities, quorums, `<<`, NEAR and fields, one in another, some with a condition on an
+attribute, and compares the ids of the first thousand documents, and of how many there are, with a scan in Python. Where there
+are no more than some thousands it also compares a short page, in some order and by weights, with the beginning of the page that
+has all: a row that can't enter a full page isn't weighed. Words are few and drawn as in a natural text, so that most queries
+find something. It ends at the first query that differs.
+"""
+
+import argparse
+import random
+import sys
+import tempfile
+from pathlib import Path
+
+from scripts.clients.daemon import Daemon, Ended
+from scripts.clients.mysql_client import Lost, Refused
+from scripts.gate.last_line import ended
+
+FIELDS = ["title", "content"]
+COLUMNS = ["rt_field = title", "rt_field = content", "rt_attr_uint = gid"]
+VOCABULARY = 1000
+SHOWN = 1000
+# Pages of up to so many rows are compared with short ones.
+WHOLE = 3000
+ORDERS = ["", " ORDER BY gid ASC", " ORDER BY WEIGHT() ASC", " ORDER BY gid DESC, WEIGHT() DESC"]
+
+
+def word(draws, least=0.0):
+    """The r-th word in proportion to 1 / r; with a least power above 0 the most common ones are left out."""
+    return f"w{int(VOCABULARY ** draws.uniform(least, 1))}"
+
+
+def asked(draws):
+    return word(draws, 0.3)
+
+
+class Scan:
+    """The documents that live: of each its group and, of each word, its places as field and position; and who has a word."""
+
+    def __init__(self):
+        self.live, self.having = {}, {}
+
+    def put(self, number, group, texts):
+        self.drop(number)
+        places = {}
+        for field, text in enumerate(texts):
+            for position, one in enumerate(text.split(), 1):
+                places.setdefault(one, []).append((field, position))
+        self.live[number] = (group, places)
+        for one in places:
+            self.having.setdefault(one, set()).add(number)
+
+    def drop(self, number):
+        _, places = self.live.pop(number, (None, {}))
+        for one in places:
+            self.having[one].discard(number)
+
+    def has(self, one):
+        return self.having.get(one, set())
+
+    def find(self, query, below):
+        """The documents that the query matches, looked for among those whose words can be enough."""
+        found = query.among(self)
+        return sorted(n for n in found if self.live[n][0] < below and query.matches(self.live[n][1]))
+
+
+class Word:
+    """A word, in one field or in all."""
+
+    def __init__(self, draws):
+        self.word = asked(draws)
+        self.field = draws.randrange(2) if draws.random() < 0.15 else None
+
+    def __str__(self):
+        return self.word if self.field is None else f"(@{FIELDS[self.field]} {self.word})"
+
+    def spans(self, places):
+        """Its occurrences: field, first and last position."""
+        return [(f, p, p) for f, p in places.get(self.word, []) if self.field in (None, f)]
+
+    def matches(self, places):
+        return bool(self.spans(places))
+
+    def among(self, scan):
+        return scan.has(self.word)
+
+
+class Quoted:
+    """Words in quotes: a phrase, a proximity or a quorum."""
+
+    def __init__(self, draws, kinds="phrase near some".split()):
+        self.kind, self.words = draws.choice(kinds), [asked(draws) for _ in range(draws.randrange(2, 5))]
+        self.number = draws.randrange(1, 12) if self.kind == "near" else draws.randrange(1, len(self.words) + 2)
+
+    def __str__(self):
+        sign = {"phrase": "", "near": f"~{self.number}", "some": f"/{self.number}"}[self.kind]
+        return '"' + " ".join(self.words) + '"' + sign
+
+    def spans(self, places):
+        """The runs of a phrase."""
+        first, later = self.words[0], [set(places.get(one, [])) for one in self.words[1:]]
+        runs = (
+            (f, p, p + len(later))
+            for f, p in places.get(first, [])
+            if all((f, p + step) in its for step, its in enumerate(later, 1))
+        )
+        return list(runs)
+
+    def matches(self, places):
+        if self.kind == "phrase":
+            return bool(self.spans(places))
+        if self.kind == "some":
+            return sum(one in places for one in self.words) >= min(self.number, len(self.words))
+        wide = len(self.words) + self.number - 1
+        return any(
+            self.fits(places, field, first, first + wide) for one in set(self.words) for field, first in places.get(one, [])
+        )
+
+    def among(self, scan):
+        join = set.union if self.kind == "some" else set.intersection
+        return join(*map(scan.has, self.words))
+
+    def fits(self, places, field, first, end):
+        """Whether the positions from the one to before the other have each word as often as it is listed."""
+        return all(
+            sum(f == field and first <= p < end for f, p in places.get(one, [])) >= self.words.count(one)
+            for one in set(self.words)
+        )
+
+
+class Pair:
+    """Two parts that go together in one field: one before the other, or near it."""
+
+    def __init__(self, draws):
+        self.left, self.right = (
+            Word(draws) if draws.random() < 0.7 else Quoted(draws, ["phrase"]) for _ in range(2)
+        )
+        self.near = draws.randrange(1, 15) if draws.random() < 0.5 else None
+
+    def __str__(self):
+        sign = "<<" if self.near is None else f"NEAR/{self.near}"
+        return f"({self.left} {sign} {self.right})"
+
+    def go_together(self, one, two):
+        before = one[2] < two[1]
+        if self.near is None:
+            return one[0] == two[0] and before
+        gap = two[1] - one[2] if before else one[1] - two[2]
+        return one[0] == two[0] and 0 < gap <= self.near
+
+    def matches(self, places):
+        return any(
+            self.go_together(one, two) for one in self.left.spans(places) for two in self.right.spans(places)
+        )
+
+    def among(self, scan):
+        return self.left.among(scan) & self.right.among(scan)
+
+
+class Group:
+    """Parts joined by AND, some of them negated, by OR or by MAYBE."""
+
+    def __init__(self, draws, depth):
+        self.kind = draws.choice(["and", "and", "or", "maybe"])
+        self.parts = [query(draws, depth - 1) for _ in range(2 if self.kind == "maybe" else draws.randrange(2, 4))]
+        self.nots = [query(draws, depth - 1)] if self.kind == "and" and draws.random() < 0.4 else []
+
+    def __str__(self):
+        sign = {"and": " ", "or": " | ", "maybe": " MAYBE "}[self.kind]
+        nots = "".join(f" -({part})" for part in self.nots)
+        return f"({sign.join(map(str, self.parts))}{nots})"
+
+    def matches(self, places):
+        if self.kind == "or":
+            return any(part.matches(places) for part in self.parts)
+        if self.kind == "maybe":
+            return self.parts[0].matches(places)
+        return all(part.matches(places) for part in self.parts) and not any(
+            part.matches(places) for part in self.nots
+        )
+
+    def among(self, scan):
+        if self.kind == "maybe":
+            return self.parts[0].among(scan)
+        join = set.union if self.kind == "or" else set.intersection
+        return join(*(part.among(scan) for part in self.parts))
+
+
+def query(draws, depth=2):
+    kind = draws.random()
+    if depth and kind < 0.45:
+        return Group(draws, depth)
+    if kind < 0.65:
+        return Quoted(draws)
+    return Pair(draws) if kind < 0.75 else Word(draws)
+
+
+def fill(client, scan, draws, count):
+    """Inserts so many documents, and replaces and deletes some."""
+    numbers = draws.sample(range(1, 10 * count), count)
+    while numbers:
+        some = 1 if draws.random() < 0.5 else draws.randrange(2, 60)
+        now, numbers = numbers[:some], numbers[some:]
+        put(client, scan, draws, "INSERT", now)
+        known = list(scan.live) if draws.random() < 0.02 else []
+        if known:
+            put(client, scan, draws, "REPLACE", draws.sample(known, min(len(known), 20)))
+            gone = draws.sample(known, min(len(known), 10))
+            client.query(f"DELETE FROM rt WHERE id IN ({', '.join(map(str, gone))})")
+            for number in gone:
+                scan.drop(number)
+
+
+def put(client, scan, draws, verb, numbers):
+    rows = []
+    for number in numbers:
+        group, texts = draws.randrange(100), [" ".join(word(draws) for _ in range(n)) for n in (6, 40)]
+        scan.put(number, group, texts)
+        rows.append(f"({number}, '{texts[0]}', '{texts[1]}', {group})")
+    client.query(f"{verb} INTO rt (id, title, content, gid) VALUES {', '.join(rows)}")
+
+
+def ask(client, scan, draws):
+    """One query; what is wrong with its reply, or None."""
+    tree, below = query(draws), draws.choice([100, 100, 50, 5])
+    text = f"SELECT id FROM rt WHERE MATCH('{tree}') AND gid < {below} LIMIT {SHOWN} OPTION ranker=none"
+    wanted = scan.find(tree, below)
+    found = [int(row[0]) for row in client.query(text).rows]
+    told = int(dict(client.query("SHOW META").rows)["total_found"])
+    if found == wanted[:SHOWN] and told == len(wanted):
+        return ask_page(client, draws, tree, below, told) if 0 < told <= WHOLE else None
+    return f"{text}: {len(found)} of {told} documents, wanted {len(wanted)}; first that differs: " + next(
+        (f"{one} for {two}" for one, two in zip(found, wanted) if one != two), "none"
+    )
+
+
+def ask_page(client, draws, tree, below, told):
+    """A short page by weights beside the page of all; what is wrong with it, or None."""
+    count, order = draws.choice([1, 5, 20]), draws.choice(ORDERS)
+    text = f"SELECT id, WEIGHT() FROM rt WHERE MATCH('{tree}') AND gid < {below}{order}"
+    option = "OPTION field_weights=(title=3), max_matches="
+    short, whole = (client.query(f"{text} LIMIT {rows} {option}{rows}").rows for rows in (count, told))
+    if short == whole[:count] and len(whole) == told:
+        return None
+    return f"{text} LIMIT {count}: {short}, wanted {whole[:count]} of {told}, of which there are {len(whole)}"
+
+
+def first_wrong(given):
+    """How many queries find what the scan finds before the first that doesn't, and what is wrong with that one, or None."""
+    draws, scan, done = random.Random(given.seed), Scan(), 0
+    with tempfile.TemporaryDirectory() as folder:
+        daemon = Daemon(given.program, Path(folder), {"rt": COLUMNS}, 2)
+        daemon.start()
+        try:
+            client = daemon.client()
+            fill(client, scan, draws, given.docs)
+            while done < given.queries:
+                wrong = ask(client, scan, draws)
+                if wrong:
+                    return done, f"query {done + 1}: {wrong}"
+                done += 1
+            client.quit()
+        except (Ended, Lost, Refused) as error:
+            return done, f"behind query {done}: {error}"
+        finally:
+            daemon.kill()
+    print(f"{done:,} queries over {len(scan.live):,} documents find what a scan finds")
+    return done, None
+
+
+def main():
+    words = argparse.ArgumentParser(description=__doc__.splitlines()[0])
+    words.add_argument("--program", required=True)
+    for name, number in (("docs", 20000), ("queries", 20000), ("seed", 1)):
+        words.add_argument(f"--{name}", type=int, default=number)
+    done, wrong = first_wrong(words.parse_args())
+    if wrong:
+        print(wrong)
+    return ended("random_queries", done, 1 if wrong else 0)
+
+
+if __name__ == "__main__":
+    sys.exit(main())
