@@ -1,3 +1,7 @@
+pub mod OneField
+pub mod ByField
+pub mod OneRow
+pub mod AllRows
 pub mod Fixed
 pub mod MarksTold
 pub mod PostingsTold

@@ -9,8 +9,8 @@ use Rattle.doc_types.specs.declared.schema.Schema.{Schema}
 use Rattle.doc_types.specs.Documents.{AreRowsOf, AreSmall}
 use Rattle.doc_types.specs.Schemas.{IsSchema}
 use Rattle.doc_types.specs.Chunks.{AreWordsOf, rows_with}
-use Rattle.row_laws.specs.AlikeRows.{AreAlike, postings}
-use Rattle.row_laws.proofs.AllRows.{rows_told as told_by_answers}
+use Rattle.chunk_image.specs.AlikeRows.{AreAlike, postings}
+use Rattle.chunk_image.proofs.AllRows.{rows_told as told_by_answers}
 use Rattle.chunk_image.specs.ChunkImage.{IsImageOf, image, magic, rows_bytes, marks_bytes, table_bytes, dictionary_bytes, postings_bytes}
 use Rattle.chunk_image.proofs.Fixed.{four, four_any, parted, two}
 use Rattle.chunk_image.proofs.MarksTold.{AreMarkedAlike, rows_told as marks_told}

@@ -12,7 +12,7 @@ use Rattle.doc_types.specs.Documents.{Follow, IsField, step}
 use Rattle.doc_types.specs.Chunks.{has_word, hits_of, is_word, positions_of}
 use Rattle.doc_types.proofs.FieldParts.{parts}
 use Rattle.doc_types.proofs.Numbers.{All-tail}
-use Rattle.row_laws.specs.AlikeRows.{postings}
+use Rattle.chunk_image.specs.AlikeRows.{postings}
 use Rattle.posting_codec.specs.HitLists.{Ascend, AreHits}
 use Rattle.chunk_image.proofs.PostingsTold.{ArePosted}
 

@@ -5,7 +5,7 @@ use Rattle.std.specs.List.{filter, enumerate_from}
 use Rattle.std.proofs.lemmas.List.{length-map}
 use Rattle.doc_types.specs.declared.documents.DocRow.{DocRow}
 use Rattle.doc_types.specs.Chunks.{has_word, hits_of, rows_with}
-use Rattle.row_laws.specs.AlikeRows.{postings}
+use Rattle.chunk_image.specs.AlikeRows.{postings}
 use Rattle.chunk_image.specs.ChunkImage.{dictionary_bytes, postings_bytes, table_bytes, word_postings}
 use Rattle.posting_codec.specs.PostingLists.{posting_list}
 use Rattle.chunk_image.proofs.Fixed.{four, four_any, parted}

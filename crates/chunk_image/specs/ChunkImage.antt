@@ -15,7 +15,7 @@ use Rattle.doc_types.specs.declared.schema.Schema.{Schema}
 use Rattle.doc_types.specs.Chunks.{AreWordsOf, rows_with}
 use Rattle.doc_bytes.specs.Payload.{value_bytes}
 use Rattle.doc_bytes.specs.RoundTrip.{IsNumber}
-use Rattle.row_laws.specs.AlikeRows.{postings}
+use Rattle.chunk_image.specs.AlikeRows.{postings}
 use Rattle.posting_codec.specs.PostingLists.{posting_list}
 use Rattle.chunk_image.specs.Marks.{row_marks}
 

@@ -1,3 +1,5 @@
+-- rows of which a chunk answers alike
+pub mod AlikeRows
 -- boundaries and spans of a row
 pub mod Marks
 -- the whole image

@@ -5,7 +5,7 @@ ghost use Rattle.doc_types.specs.declared.schema.Schema.{Schema};
 ghost use Rattle.doc_types.specs.Documents.{AreRowsOf, AreSmall};
 ghost use Rattle.doc_types.specs.Schemas.{IsSchema};
 ghost use Rattle.chunk_image.specs.ChunkImage.{IsImageOf, image};
-ghost use Rattle.row_laws.specs.AlikeRows.{postings};
+ghost use Rattle.chunk_image.specs.AlikeRows.{postings};
 ghost use Rattle.chunk_image.specs.Example.{example_schema, example_rows, example_words, example_bytes};
 
 /// The image of one document: id 7, commit 1, and the title `hello world`.

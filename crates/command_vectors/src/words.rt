@@ -1,4 +1,4 @@
-//! Lists of words of docs/cases/words.md, as scripts/word_cases.py writes them: edit them there. The words stand with `|`
+//! Lists of words of docs/cases/words.md, as `word_cases` of scripts/ writes them: edit them there. The words stand with `|`
 //! between, and behind ` ⇒ ` what they stand for: an address and the numbers of workers and sessions, or the numbers of a selftest.
 
 /// Lists of the modes `serve` and `selftest`.

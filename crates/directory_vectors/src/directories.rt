@@ -1,4 +1,4 @@
-//! Directories of docs/cases/directories.md, as scripts/directory_cases.py writes them: edit them there. A line is what the
+//! Directories of docs/cases/directories.md, as `directory_cases` of scripts/ writes them: edit them there. A line is what the
 //! directory is, ` | `, its files and ` ⇒ ` with how many documents and records are found in it, and what no session shows of the
 //! documents. A file is its number, `=` and its bytes. `⟨x×n⟩` is x written n times.
 

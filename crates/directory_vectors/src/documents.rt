@@ -1,8 +1,8 @@
 //! What no session shows of documents, as a text, by the calls of the chunks that have them.
 ghost use Rattle.std.specs.Prelude.{◌<◌, length};
 
-use any_chunk::AnyChunk;
 use doc_types::{Chunk, Gap, Layer, Snapshot, ZoneSpan};
+use image_chunk::AnyChunk;
 use srch_base::Items;
 use std::alloc::Global;
 use std::collections::{BTreeMap, BTreeSet};

@@ -7,9 +7,9 @@ ghost use Rattle.doc_types.specs.Transactions.{IsTxnOf};
 ghost use Rattle.store_keep.specs.Opens.{HidesNothing, IsOpened, base_of};
 
 use crate::documents::put_snapshot;
-use any_chunk::AnyChunk;
 use chunk_store::{Disk, MemoryDisk};
 use doc_types::{Schema, Snapshot, Txn};
+use image_chunk::AnyChunk;
 use std::alloc::Global;
 use std::marker::Brand;
 use std::sync::Wait;

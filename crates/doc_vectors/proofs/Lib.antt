@@ -2,3 +2,4 @@ pub mod TheSchema
 pub mod Rows
 pub mod Layers
 mod PlainSchema
+pub mod Committed

@@ -11,7 +11,6 @@ use crate::tables::{
     LAST_POSITION, LONG_WORDS, NOTHING, SHE_LEFT, TWO_FIELDS,
 };
 use crate::telling::answers;
-use any_chunk::AnyChunk;
 use doc_types::{Chunk, NO_ROW, PlainChunk};
 use image_chunk::RamChunk;
 use std::alloc::Global;
@@ -31,7 +30,7 @@ fn plain_answers(
     answers(alloc, &chunk, attrs, wanted, said)
 }
 
-/// None where their image does, as itself or as a chunk of any kind, or where that of no document hasn't 32 bytes.
+/// None where their image does, or where that of no document hasn't 32 bytes.
 fn image_answers(
     alloc: Global,
     documents: &str,
@@ -41,13 +40,11 @@ fn image_answers(
     said: &mut String,
 ) -> Option<()> {
     let rows = rows_of(alloc, documents, fields, attrs)?;
-    let chunk = AnyChunk::Ram(RamChunk::build(alloc, rows).ok()?);
-    let AnyChunk::Ram(image) = &chunk;
+    let image = RamChunk::build(alloc, rows).ok()?;
     if image.rows() == 0 && image.as_bytes().len() != 32 {
         return None;
     }
-    answers(alloc, image, attrs, wanted, said)?;
-    answers(alloc, &chunk, attrs, wanted, said)
+    answers(alloc, &image, attrs, wanted, said)
 }
 
 /// None where chunks over a table's documents answer otherwise; then the first line that is wrong is said.

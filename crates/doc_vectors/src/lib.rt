@@ -22,6 +22,8 @@ mod scripts;
 #[cfg(test)]
 mod snapshots;
 #[cfg(test)]
+mod store;
+#[cfg(test)]
 mod tables;
 #[cfg(test)]
 mod telling;

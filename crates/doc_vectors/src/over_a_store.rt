@@ -4,7 +4,7 @@ ghost use Rattle.doc_vectors.specs.steps.Plain.{plain};
 
 use crate::outcomes::{put_count, put_outcome};
 use crate::scripts::{schema, txn};
-use plain_store::PlainStore;
+use crate::store::PlainStore;
 use std::alloc::Global;
 
 /// A transaction and what becomes of it, as over layers. A layer more than half of whose rows are dead becomes one with those

@@ -12,10 +12,10 @@ ghost use Rattle.engine_tables.specs.Workers.{CommitsBy, GrowAll, HasSeen, docum
 ghost use Rattle.engine_tables.specs.steps.Lasts.{last_told, last_token, shortened};
 
 use crate::outcomes::{numbers_of, outcome_of};
-use any_chunk::AnyChunk;
 use chunk_store::Disk;
 use commit_outcomes::{CommitOutcome, Strayed};
 use doc_types::{Snapshot, Txn};
+use image_chunk::AnyChunk;
 use snap_share::{Engine, Token, snapshot};
 use srch_base::NoMemory;
 use std::alloc::Global;

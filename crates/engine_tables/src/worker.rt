@@ -3,10 +3,10 @@ ghost use Rattle.std.specs.Prelude.{◌≡◌};
 ghost use Rattle.engine_tables.specs.Tokens.{SitsAt};
 
 use crate::{Engines, Tokens};
-use any_chunk::AnyChunk;
 use chunk_store::Disk;
 use commit_outcomes::CommitOutcome;
 use doc_types::{Snapshot, Txn};
+use image_chunk::AnyChunk;
 use index_conf::IndexConf;
 use ql_answers::Catalog;
 use ql_session::TableStore;

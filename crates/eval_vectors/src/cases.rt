@@ -1,4 +1,4 @@
-//! The documents and queries of docs/cases/evaluation.md, as scripts/evaluation_cases.py writes them: edit them there. A
+//! The documents and queries of docs/cases/evaluation.md, as `evaluation_cases` of scripts/ writes them: edit them there. A
 //! line `# S` begins what is of the set S. Parts of a line are separated by ` ⇒ `; the empty text is an empty part. The set `long` isn't
 //! from there: the script says what it is.
 

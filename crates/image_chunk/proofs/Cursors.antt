@@ -11,7 +11,7 @@ use Rattle.doc_types.specs.declared.cursor.Cursor.{Cursor}
 use Rattle.doc_types.specs.declared.cursor.TheConstants.{NO_ROW}
 use Rattle.doc_types.specs.declared.documents.DocRow.{DocRow}
 use Rattle.doc_types.specs.Chunks.{CursorPlace, next_row, next_place, place_from, row_of, rows_from, rows_with}
-use Rattle.row_laws.specs.AlikeRows.{postings}
+use Rattle.chunk_image.specs.AlikeRows.{postings}
 use Rattle.posting_codec.specs.HitLists.{AreHits}
 use Rattle.image_chunk.specs.Images.{Image}
 use Rattle.image_chunk.specs.Places.{Entry, Here, IsHere, Rising, StandsIn, entries_from, list_in, place_of, place_in}

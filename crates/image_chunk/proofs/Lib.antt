@@ -4,3 +4,5 @@ pub mod Cursors
 pub mod Starting
 pub mod Opening
 pub mod Building
+-- layers that were put together as an image
+pub mod JoinedLayers

@@ -11,7 +11,7 @@ use Rattle.doc_types.specs.declared.documents.DocRow.{DocRow}
 use Rattle.doc_types.specs.declared.tokens.FieldTokens.{FieldTokens}
 use Rattle.doc_types.specs.declared.tokens.TokenWord.{TokenWord}
 use Rattle.doc_types.specs.Chunks.{fields_ahead, fields_with, has_word, hits_ahead, hits_of, is_word, positions_of}
-use Rattle.row_laws.specs.AlikeRows.{postings}
+use Rattle.chunk_image.specs.AlikeRows.{postings}
 use Rattle.image_chunk.specs.Places.{Entry, place_in}
 use Rattle.image_chunk.specs.steps.FieldBits.{field_bits}
 use Rattle.image_chunk.proofs.Cursors.{GoesOn}

@@ -10,7 +10,7 @@ use Rattle.doc_types.specs.declared.cursor.Cursor.{Cursor}
 use Rattle.doc_types.specs.declared.cursor.TheConstants.{NO_ROW}
 use Rattle.doc_types.specs.declared.documents.DocRow.{DocRow}
 use Rattle.doc_types.specs.Chunks.{CursorPlace, first_place, next_row, rows_from, rows_with}
-use Rattle.row_laws.specs.AlikeRows.{postings}
+use Rattle.chunk_image.specs.AlikeRows.{postings}
 use Rattle.posting_codec.specs.PostingLists.{posting_list}
 use Rattle.chunk_image.specs.ChunkImage.{postings_bytes, word_postings}
 use Rattle.image_parts.specs.Images.{HaveImage}

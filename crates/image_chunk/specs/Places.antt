@@ -4,7 +4,7 @@ use Rattle.doc_types.specs.declared.cursor.Cursor.{Cursor}
 use Rattle.doc_types.specs.declared.cursor.TheConstants.{NO_ROW}
 use Rattle.doc_types.specs.declared.documents.DocRow.{DocRow}
 use Rattle.doc_types.specs.Chunks.{CursorPlace, rows_from, rows_with}
-use Rattle.row_laws.specs.AlikeRows.{postings}
+use Rattle.chunk_image.specs.AlikeRows.{postings}
 use Rattle.posting_codec.specs.Numbers.{number}
 use Rattle.posting_codec.specs.HitLists.{AreHits, hit_list}
 use Rattle.posting_codec.specs.PostingLists.{posting_list}

@@ -14,7 +14,7 @@ use Rattle.doc_types.specs.declared.tokens.TokenWord.{TokenWord}
 use Rattle.doc_types.specs.Chunks.{AreWordsOf, has_word, hits_of, is_word, positions_of}
 use Rattle.doc_types.specs.Documents.{word_count}
 use Rattle.doc_types.proofs.FieldParts.{parts}
-use Rattle.row_laws.specs.AlikeRows.{postings}
+use Rattle.chunk_image.specs.AlikeRows.{postings}
 use Rattle.posting_codec.specs.HitLists.{differences, hit_list, key}
 use Rattle.posting_codec.specs.Numbers.{number, spelled}
 use Rattle.posting_codec.specs.PostingLists.{posting, posting_list}

@@ -7,7 +7,7 @@ use Rattle.std.proofs.lemmas.List.Elements.{All-head, All-tail}
 use Rattle.doc_types.specs.declared.cursor.TheConstants.{NO_ROW}
 use Rattle.doc_types.specs.declared.documents.DocRow.{DocRow}
 use Rattle.doc_types.specs.Chunks.{has_word, hits_of}
-use Rattle.row_laws.specs.AlikeRows.{postings}
+use Rattle.chunk_image.specs.AlikeRows.{postings}
 use Rattle.posting_codec.specs.HitLists.{hit_list}
 use Rattle.image_write.specs.declared.words.Tables.{Tables}
 use Rattle.image_join.specs.steps.Entries.{AreEntriesOf, Entry, entries_in, entry_of}

@@ -8,7 +8,7 @@ use Rattle.std.proofs.lemmas.List.Sorted.{All-permutation, length_permutation, l
 use Rattle.doc_types.specs.declared.documents.DocRow.{DocRow}
 use Rattle.doc_types.specs.Chunks.{has_word, hits_of, rows_with}
 use Rattle.doc_types.proofs.Numbers.{All-tail}
-use Rattle.row_laws.specs.AlikeRows.{postings}
+use Rattle.chunk_image.specs.AlikeRows.{postings}
 use Rattle.posting_codec.specs.HitLists.{hit_list}
 use Rattle.posting_codec.specs.PostingLists.{posting_list, spelled_posting}
 use Rattle.chunk_image.specs.ChunkImage.{word_postings}

@@ -5,7 +5,7 @@ use Rattle.std.proofs.lemmas.Bool.Decides.{nat_tests}
 use Rattle.doc_types.specs.declared.documents.DocRow.{DocRow}
 use Rattle.doc_types.specs.Chunks.{has_word, hits_of}
 use Rattle.doc_types.proofs.Numbers.{All-tail}
-use Rattle.row_laws.specs.AlikeRows.{postings}
+use Rattle.chunk_image.specs.AlikeRows.{postings}
 use Rattle.chunk_image.proofs.RowsPosted.{HasFields, are_hits}
 use Rattle.image_write.specs.steps.Gathering.{Place, Entry, ArePostable, grouped, joined, places_of}
 

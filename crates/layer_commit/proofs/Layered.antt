@@ -32,7 +32,7 @@ use Rattle.layer_commit.specs.declared.trial.Outcome.{Outcome}
 use Rattle.commit_outcomes.specs.declared.outcome.Full.{Full}
 use Rattle.commit_outcomes.specs.declared.outcome.FullKind.TheVariants.{Documents}
 use Rattle.commit_outcomes.specs.Outcomes.{IsFull, changed}
-use Rattle.layer_commit.specs.Commits.{Applies, ArePut, Commits, is_kept, layer_after, layers_after, layers_of, named, row_at}
+use Rattle.layer_commit.specs.Commits.{Applies, ArePut, Commits, is_kept, layer_after, layers_after, layers_of, named, removals, row_at}
 use Rattle.layer_commit.specs.steps.Finding.{AreOfOne, layer_with, lives}
 use Rattle.layer_commit.specs.steps.Trying.{ComesTo, Tries, row_after, row_then}
 use Rattle.layer_commit.proofs.DeadRows.{layer_is}
@@ -243,13 +243,14 @@ kept_more test layers count layer next old new h at was made is =
     ∙ ap (filter is_kept) (sym (map-append (layer_with test) (take count layers) (layer ∷ [])))
     ∙ ap (λ ls. filter is_kept (map (layer_with test) ls)) (sym (take_more layers count layer h ∙ ap (λ l. take count layers ++ l ∷ []) (sym at)))
 
--- ids that are killed are named
-killed_named : (ids : List ℕ) (id : ℕ) → list_any (λ n. n == id) ids ≡ named (map commits.Kill ids) id
-killed_named [] id = refl
-killed_named (n ∷ ids) id = ap (λ b. (n == id) || b) (killed_named ids id)
+-- rows that are removed are named
+removed_named : (cleared : Bool) (ids : List ℕ) (id : ℕ) → (cleared || list_any (λ n. n == id) ids) ≡ named (removals cleared ids) id
+removed_named true ids id = refl
+removed_named false [] id = refl
+removed_named false (n ∷ ids) id = ap (λ b. (n == id) || b) (removed_named false ids id)
 
--- the layers after ids are killed
-pub killed_layers : (ids : List ℕ) (layers after : List LayerValue) → after ≡ filter is_kept (map (layer_with (λ id. false || list_any (λ n. n == id) ids)) layers) → after ≡ layers_after (map commits.Kill ids) [] layers
-killed_layers ids layers after are =
-    let test : (λ id. false || list_any (λ n. n == id) ids) ≡ named (map commits.Kill ids) = λ i id. killed_named ids id i in
-    are ∙ ap (λ (test : ℕ → Bool). filter is_kept (map (layer_with test) layers)) test ∙ sym (append-nil (filter is_kept (map (layer_after (map commits.Kill ids)) layers)))
+-- the layers after they are
+pub killed_layers : (cleared : Bool) (ids : List ℕ) (layers after : List LayerValue) → after ≡ filter is_kept (map (layer_with (λ id. cleared || list_any (λ n. n == id) ids)) layers) → after ≡ layers_after (removals cleared ids) [] layers
+killed_layers cleared ids layers after are =
+    let test : (λ id. cleared || list_any (λ n. n == id) ids) ≡ named (removals cleared ids) = λ i id. removed_named cleared ids id i in
+    are ∙ ap (λ (test : ℕ → Bool). filter is_kept (map (layer_with test) layers)) test ∙ sym (append-nil (filter is_kept (map (layer_after (removals cleared ids)) layers)))

@@ -1,5 +1,5 @@
 -- Commits: what a transaction makes of the layers of a snapshot, and what is answered to it.
-use Rattle.std.specs.Prelude.{◌≡◌, ℕ, ◌+◌, ◌<◌, ◌≤◌, List, [], ◌∷◌, ◌++◌, Bool, true, false, ◌==◌, ◌||◌, nat_lt, Result, Ok, Err, AllPairs, length, map}
+use Rattle.std.specs.Prelude.{◌≡◌, ℕ, ◌+◌, ◌<◌, ◌≤◌, List, [], ◌∷◌, ◌++◌, Bool, true, false, ◌==◌, ◌||◌, if◌then◌else◌, nat_lt, Result, Ok, Err, AllPairs, length, map}
 use Rattle.std.specs.List.{filter, fold, list_any, enumerate_from}
 use Rattle.std.specs.FinMap as finite
 use Rattle.srch_base.specs.declared.faults.Or.{Or}
@@ -49,6 +49,10 @@ layers_of (row ∷ rows) = record { rows = row ∷ rows; disk = false; dead = []
 -- the layers after the changes, of which these rows were put
 abbrev pub layers_after : List Change → List DocRow → List LayerValue → List LayerValue
 layers_after changes put layers = filter is_kept (map (layer_after changes) layers) ++ layers_of put
+
+-- the changes that remove all rows, or those of these ids
+abbrev pub removals : Bool → List ℕ → List Change
+removals cleared ids = if cleared then Clear ∷ [] else map Kill ids
 
 -- The rows that the changes of a commit put: as a map they are what the changes make of no rows.
 pub record ArePut (number : ℕ) (changes : List Change) (rows : List DocRow) : Type 0 where

@@ -7,8 +7,7 @@ ghost use Rattle.doc_types.specs.Schemas.{IsSchema};
 ghost use Rattle.doc_types.specs.Snapshots.{IsLayer, all_living};
 ghost use Rattle.doc_types.specs.Transactions.{IsTxnOf};
 ghost use Rattle.doc_types.specs.declared.schema.Schema.{Schema};
-ghost use Rattle.doc_types.specs.Commits.{Kill};
-ghost use Rattle.layer_commit.specs.Commits.{Commits, is_kept, layers_after, layers_of, row_at};
+ghost use Rattle.layer_commit.specs.Commits.{Commits, is_kept, layers_after, layers_of, removals, row_at};
 ghost use Rattle.layer_commit.specs.steps.Finding.{AreOfOne, layer_with};
 
 use crate::dead_rows::dead_rows;
@@ -77,16 +76,18 @@ fn layers_with<C: Chunk>(
     Ok(after)
 }
 
-/// The layers after their rows of these ids die. Those of which no row lives any more are let go, but for images of files.
-pub fn kill_ids<C: Chunk>(
+/// The layers after all of their rows, or those of these ids, die. Those of which no row lives any more are let go, but for images
+/// of files.
+pub fn kill_rows<C: Chunk>(
     alloc: Global,
     layers: &[Layer<C>],
+    cleared: bool,
     ids: &[u64],
 ) -> Result<Vec<Layer<C>>, NoMemory>
     requires { AllPairs (λ id later. id < later) ids.now }
-    ensures { IfOk result (λ after. after.items ≡ layers_after (map Kill ids.now) [] layers.now) }
+    ensures { IfOk result (λ after. after.items ≡ layers_after (removals cleared ids.now) [] layers.now) }
 {
-    let after = layers_with(alloc, layers, false, ids)?;
+    let after = layers_with(alloc, layers, cleared, ids)?;
     Ok(after)
 }
 

@@ -12,7 +12,7 @@ mod making;
 mod refusal;
 mod trial;
 
-pub use committing::{commit, kill_ids, live_count};
+pub use committing::{commit, kill_rows, live_count};
 pub use finding::is_dead;
 pub use making::MakeChunk;
 pub use refusal::Refusal;

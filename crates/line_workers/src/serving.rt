@@ -3,7 +3,7 @@ ghost use Rattle.std.specs.Prelude.{◌≡◌, ◌<◌, ◌≤◌, ◌^◌, ◌*
 ghost use Rattle.line_workers.specs.Lines.{ServesDoor, Service};
 ghost use Rattle.line_workers.specs.steps.Turns.{ServesNext};
 
-use ql_session::{TableStore, serve_over};
+use ql_session::{TableStore, serve_link};
 use srch_base::{Door, Failed};
 use std::alloc::Global;
 
@@ -41,7 +41,7 @@ fn serve_next<T: TableStore, E: Door>(
 {
     match door.next() {
         Ok(Some(mut line)) => {
-            let _end = serve_over(alloc, tables, connection, &mut line);
+            let _end = serve_link(alloc, tables, connection, &mut line);
             door.done(line);
             Next::Served
         }

@@ -6,8 +6,5 @@ pub mod Replying
 pub mod MemoryWants
 pub mod Reading
 pub mod Several
-pub mod Committing
 pub mod OneReply
-pub mod SoundFronts
-pub mod SameReplies
 pub mod OneCommand

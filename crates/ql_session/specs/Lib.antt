@@ -1,7 +1,5 @@
 -- what the outside does, whatever holds the documents
 pub mod Events
--- the indexes and their documents in memory, and what happens to them
-pub mod Tables
 -- what is pending fits the indexes
 pub mod Fitting
 -- what is replied to a text of statements

@@ -12,8 +12,6 @@ use Rattle.index_conf.specs.declared.conf.IndexConf.{IndexConf}
 use Rattle.ql_answers.specs.declared.state.State.{State}
 use Rattle.ql_answers.specs.States.{new_state, status_of}
 use Rattle.ql_session.specs.Events.{Event, NoMemory, StoreWords, Follows}
-use Rattle.ql_session.specs.Tables.{Tables}
-use Rattle.ql_session.specs.Tables as plain
 use Rattle.ql_session.specs.Statements.{AnswersText}
 use Rattle.ql_session.specs.declared.session.StepEnd.{StepEnd}
 use Rattle.ql_session.specs.declared.session.StepEnd.TheVariants.{Reply, Quit}
@@ -42,18 +40,3 @@ TakesStep confs words Quit old asked before left out new = (asked ≡ asks_quit)
 -- A whole session over a connection.
 abbrev pub IsSession : {F : Type 0} → (F → SnapshotValue) → ℕ → Meters → Meters → List ℕ → List ℕ → LinkEnd → List (Event F) → Type 0
 IsSession documents connection before now read written end events = IsLine (statement_machine documents) connection new_state before now read written end events
-
--- The same over tables in memory, whose fronts are their documents.
-abbrev pub Session : ℕ → Meters → Meters → List ℕ → List ℕ → LinkEnd → List plain.Event → Type 0
-Session = IsSession plain.in_memory.documents
-
--- A whole session of this connection that led from tables to tables, which its client ended and to which no memory was refused.
-pub record IsUndisturbed (connection : ℕ) (old : Tables) (read written : List ℕ) (left : Tables) : Type 0 where
-  pub before : Meters
-  pub now : Meters
-  pub end : LinkEnd
-  pub events : List plain.Event
-  pub session : Session connection before now read written end events
-  pub follows : FollowAll plain.Follows old events left
-  pub client : EndsByClient end
-  pub memory : All (λ event. event ≢ NoMemory) events

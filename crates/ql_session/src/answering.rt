@@ -63,6 +63,6 @@ impl<T: TableStore> Answerer for SessionOver<T> {
         command: Command<'_>,
         replies: &mut Replies,
     ) {
-        let _end = self.session.step_over(alloc, tables, command, replies);
+        let _end = self.session.step(alloc, tables, command, replies);
     }
 }

@@ -7,18 +7,14 @@ ghost use Rattle.ql_answers.specs.Replies.{Reply};
 ghost use Rattle.ql_answers.specs.Sessions.{HasLayers};
 ghost use Rattle.ql_answers.specs.declared.state.State.{State};
 ghost use Rattle.mysql_wire.specs.Commands.{ClientCommand};
-ghost use Rattle.ql_session.specs.Session.{Answers, IsUndisturbed};
+ghost use Rattle.ql_session.specs.Session.{Answers};
 ghost use Rattle.ql_session.specs.Statements.{AnswersText, HaveLayers, RefusesText, Replies, States, told};
-ghost use Rattle.ql_session.specs.Events.{Event as EventOf};
-ghost use Rattle.ql_session.specs.Tables.{AreSound, Event, Follows, HaveSameRows, Tables, empty_tables, in_memory};
-ghost use Rattle.serve_line.specs.Machines.{FollowAll};
+ghost use Rattle.ql_session.specs.Events.{Event};
 
 use crate::TableStore;
-use commit_outcomes::a_commit_has_one_outcome;
-use mysql_wire::{bytes_begin_in_one_way, payload_is_one_response_or_bad};
 use ql_answers::{a_plan_has_one_reply, a_statement_has_one_plan};
-use ql_laws::{packets_have_no_fault, tokens_have_one_fault, tokens_have_one_value};
 use ql_lex::one_reading;
+use ql_parse::{packets_have_no_fault, tokens_have_one_fault, tokens_have_one_value};
 
 /// A text states one list of statements or is refused for one reason, and never both.
 pub fn a_text_is_read_in_one_way()
@@ -35,7 +31,7 @@ pub fn a_text_is_read_in_one_way()
 /// What came of a statement has one reply and leaves the session in one state, where what was read has layers as a snapshot has
 /// them.
 pub fn a_statement_has_one_reply<T: TableStore>()
-    ensures { (confs : List IndexConf) (old : State) (statement : StatementValue) (event : EventOf T.Front) (a b : Reply) (x y : State) → HasLayers (told T.words.documents event)
+    ensures { (confs : List IndexConf) (old : State) (statement : StatementValue) (event : Event T.Front) (a b : Reply) (x y : State) → HasLayers (told T.words.documents event)
         → Replies T.words.documents confs old statement event a x → Replies T.words.documents confs old statement event b y → (a ≡ b) × (x ≡ y) }
 {
     a_statement_has_one_plan();
@@ -45,7 +41,7 @@ pub fn a_statement_has_one_reply<T: TableStore>()
 /// What came of a text has one reply, byte for byte, and leaves the session in one state, where what was read has layers as a
 /// snapshot has them.
 pub fn a_text_has_one_reply<T: TableStore>()
-    ensures { (old : State) (text : List ℕ) (events : List (EventOf T.Front)) (a b : List ℕ) (x y : State) → HaveLayers T.words.documents events
+    ensures { (old : State) (text : List ℕ) (events : List (Event T.Front)) (a b : List ℕ) (x y : State) → HaveLayers T.words.documents events
         → AnswersText T.words.documents old text events a x → AnswersText T.words.documents old text events b y → (a ≡ b) × (x ≡ y) }
 {
     a_text_is_read_in_one_way();
@@ -54,28 +50,8 @@ pub fn a_text_has_one_reply<T: TableStore>()
 
 /// What came of a command has one reply, byte for byte, and leaves the session in one state.
 pub fn a_command_has_one_reply<T: TableStore>()
-    ensures { (old : State) (asked : ClientCommand) (events : List (EventOf T.Front)) (a b : List ℕ) (x y : State) → HaveLayers T.words.documents events
+    ensures { (old : State) (asked : ClientCommand) (events : List (Event T.Front)) (a b : List ℕ) (x y : State) → HaveLayers T.words.documents events
         → Answers T.words.documents old asked events a x → Answers T.words.documents old asked events b y → (a ≡ b) × (x ≡ y) }
 {
     a_text_has_one_reply::<T>();
 }
-
-/// Equal bytes have equal replies: two sessions of one connection over the same documents that read the same bytes wrote the same bytes,
-/// and left the same documents, where their clients ended them and no memory was refused.
-pub fn a_line_has_one_reply()
-    ensures { (connection : ℕ) (old other left leaves : Tables) (read written replies : List ℕ) → AreSound old → AreSound other → HaveSameRows old other
-        → IsUndisturbed connection old read written left → IsUndisturbed connection other read replies leaves → (written ≡ replies) × HaveSameRows left leaves }
-{
-    bytes_begin_in_one_way();
-    payload_is_one_response_or_bad();
-    a_statement_has_one_plan();
-    a_plan_has_one_reply();
-    a_commit_has_one_outcome();
-    a_text_is_read_in_one_way();
-}
-
-/// Documents that begin with none keep layers as a snapshot has them, whatever follows, and so has what is read of them.
-pub fn layers_stay_sound()
-    ensures first { (confs : List IndexConf) → AreSound (empty_tables confs) }
-    ensures after { (old : Tables) (events : List Event) (new : Tables) → AreSound old → FollowAll Follows old events new → HaveLayers in_memory.documents events × AreSound new }
-{}

@@ -10,17 +10,15 @@ mod line;
 mod running;
 mod session;
 mod stores;
-mod tables;
 mod texts;
 
 pub use laws::{
-    a_command_has_one_reply, a_line_has_one_reply, a_statement_has_one_reply, a_text_has_one_reply,
-    a_text_is_read_in_one_way, layers_stay_sound,
+    a_command_has_one_reply, a_statement_has_one_reply, a_text_has_one_reply,
+    a_text_is_read_in_one_way,
 };
-pub use line::{serve_link, serve_over};
+pub use line::serve_link;
 pub use ql_answers::{Catalog, Event, Need};
 pub use ql_refusals::Refusal;
 pub use serve_line::LinkEnd;
 pub use session::{Session, StepEnd};
 pub use stores::TableStore;
-pub use tables::PlainTables;

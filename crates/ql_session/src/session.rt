@@ -1,15 +1,14 @@
 //! A session: it answers the commands of a connection, and a command's text is read and its statements run.
-ghost use Rattle.std.specs.Prelude.{◌≡◌, ◌≤◌, [], vec_capacity};
+ghost use Rattle.std.specs.Prelude.{◌≡◌};
 ghost use Rattle.mysql_wire.specs.CommandValues.{command_value};
 ghost use Rattle.reply_rows.specs.Written.{begun};
 ghost use Rattle.ql_session.specs.Fitting.{Fits};
 ghost use Rattle.ql_session.specs.Session.{TakesStep};
-ghost use Rattle.ql_session.specs.Tables.{in_memory};
 ghost use Rattle.ql_session.specs.steps.Running.{RepliesText};
 
+use crate::TableStore;
 use crate::running::run_all;
 use crate::texts::statements;
-use crate::{PlainTables, TableStore};
 use mysql_wire::Command;
 use ql_answers::{StatementMachine, put_refusal};
 use ql_refusals::no_memory;
@@ -17,7 +16,6 @@ use reply_rows::Replies;
 use srch_base::Or;
 use std::alloc::Global;
 use std::marker::Model;
-use std::mem;
 
 /// What came of a command.
 #[derive(Clone, Copy, PartialEq, Eq)]
@@ -55,32 +53,10 @@ impl Session {
         }
     }
 
-    /// Answers one command over tables in memory, of the indexes that what is pending in the session was written for, as it is where
-    /// a session has always one store. `out` is empty and has 1,024 spare bytes at least, so that replies of one
-    /// packet take no memory. Where a statement's memory is refused, nothing of it was done, and the reply says so.
-    pub fn step(
-        &mut self,
-        alloc: Global,
-        tables: &mut PlainTables,
-        command: Command<'_>,
-        out: &mut Vec<u8>,
-    ) -> StepEnd
-        requires empty { out.old.items ≡ [] }
-        requires room { 1024 ≤ vec_capacity out.old }
-        requires fits { Fits tables.old.confs self.old }
-        ensures steps { TakesStep (λ all. all.confs) in_memory result self.old (command_value command.entry) tables.old tables.new out.new.items self.new }
-        ensures room { 1024 ≤ vec_capacity out.new }
-        ensures fits { Fits tables.new.confs self.new }
-        ensures confs { tables.new.confs ≡ tables.old.confs }
-    {
-        let mut replies = Replies::over(mem::replace(out, Vec::new(alloc)), 1);
-        let end = self.step_over(alloc, tables, command, &mut replies);
-        *out = replies.into_out();
-        end
-    }
-
-    /// Answers one command over any store, by packets from number 1 on.
-    pub fn step_over<T: TableStore>(
+    /// Answers one command by packets from number 1 on, over indexes of which that is pending in the session can be committed, as it is
+    /// where a session has always one store. Replies of one packet take no memory. Where a statement's memory is refused, nothing of it
+    /// was done, and the reply says so.
+    pub fn step<T: TableStore>(
         &mut self,
         alloc: Global,
         tables: &mut T,

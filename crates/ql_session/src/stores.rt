@@ -1,5 +1,4 @@
-//! What holds the documents that sessions ask for and change, as a trait: tables in memory are one such store. What a session
-//! replies is proved once, over any of them.
+//! What holds the documents that sessions ask for and change, as a trait. What a session replies is proved once, over any store.
 ghost use Rattle.std.specs.Prelude.{◌≡◌, ◌<◌, ℕ, List, All, IfOk, OnErr, Some, length, slice_get};
 ghost use Rattle.std.specs.Arc.{arc_value};
 ghost use Rattle.doc_types.specs.Documents.{AreRowsOf};

@@ -22,3 +22,5 @@ pub mod LoneValues
 pub mod MostWeights
 -- hits whose fields ascend
 pub mod Runs
+-- the first hit of a field
+pub mod FirstHits

@@ -1,5 +1,7 @@
 -- the weight of a document by its hits
 pub mod Weight
+-- what a field gives to a ranking expression
+pub mod Factors
 -- the fields of hits, and hits of one keyword
 pub mod Fields
 -- hits that are of so many keywords at most

@@ -1,7 +1,8 @@
-//! The weight of a document by its hits, for each ranker.
+//! The weight of a document by its hits, for each ranker, and what a field gives to a ranking expression.
 #![tactic(auto)]
 
 mod by_fields;
+mod field_factors;
 pub mod law;
 mod limits;
 mod offsets;
@@ -10,6 +11,7 @@ mod weighing;
 mod words;
 
 pub use by_fields::weight_of_fields;
+pub use field_factors::factors;
 pub use limits::most_weight;
-pub use ranker::{MAX_FIELD_WEIGHT, Ranker, Weights};
+pub use ranker::{Factors, MAX_FIELD_WEIGHT, Ranker, Weights};
 pub use weighing::weight;

@@ -26,3 +26,15 @@ pub struct Weights {
     /// By the fields' numbers.
     pub list: Items<u32>,
 }
+
+/// What a field gives to a ranking expression, all of it 0 for a field without a hit.
+#[derive(Clone, Copy, Debug, PartialEq, Eq)]
+pub struct Factors {
+    /// The most keywords that stand in the field as they do in the query.
+    pub lcs: u32,
+    pub hit_count: u32,
+    /// How many distinct words have a hit.
+    pub word_count: u32,
+    /// The least position with a hit.
+    pub min_hit_pos: u32,
+}

@@ -86,7 +86,7 @@ pub(crate) fn sum_of(weights: &[u32]) -> u64
 }
 
 /// How many hits the field has.
-fn count_in(hits: &[Hit], field: u16) -> u64
+pub(crate) fn count_in(hits: &[Hit], field: u16) -> u64
     ensures { result ≡ hit_count (in_field field hits.now) }
 {
     hits.iter().filter(|hit| hit.field == field).count() as u64

@@ -51,7 +51,7 @@ impl Client {
         let query = Command::Query(text.as_bytes());
         let _end = self
             .session
-            .step_over(self.alloc, tables, query, &mut self.replies);
+            .step(self.alloc, tables, query, &mut self.replies);
     }
 
     /// Asks a text that is to be answered OK, with so many rows affected and this status.

@@ -3,8 +3,8 @@
 ghost use Rattle.std.specs.Prelude.{◌≡◌, [], None, IfSome};
 ghost use Rattle.step_line.specs.Lines.{IsBy};
 
-use any_chunk::AnyChunk;
 use doc_types::{Snapshot, Txn};
+use image_chunk::AnyChunk;
 use srch_base::{Items, NoMemory};
 use std::alloc::Global;
 use std::sync::{Arc, Wait};

@@ -8,9 +8,9 @@ use Rattle.std.specs.contracts.impls.GlobalAllocator.TheImpl.{ghosts}
 use Rattle.left_right.specs.contracts.writer.Writer as writer
 use Rattle.left_right.proofs.writer.Writer.TheSendSync as writers
 use Rattle.doc_types.proofs.snapshot.Snapshot.TheSendSync as snapshots
-use Rattle.any_chunk.proofs.any_chunk.AnyChunk.TheSendSync as chunks
-use Rattle.any_chunk.specs.contracts.any_chunk.AnyChunk as any_chunk
-use Rattle.any_chunk.specs.contracts.any_chunk.AnyChunkChunk.TheImpl as any_chunk_words
+use Rattle.image_chunk.proofs.image_chunk.ImageChunk.TheSendSync as chunks
+use Rattle.image_chunk.specs.contracts.image_chunk.ImageChunk as chunk
+use Rattle.image_chunk.specs.contracts.image_chunk.ImageChunkChunk.TheImpl as chunk_words
 use Rattle.chunk_store.specs.declared.disk.Disk.{Ghosts as DiskWords}
 use Rattle.step_book.specs.declared.naming.Naming.{Ghosts as Names}
 use Rattle.step_book.specs.contracts.made.Made as made
@@ -25,13 +25,14 @@ use Rattle.step_tokens.proofs.shown.Shown.TheSendSync as showns
 use Rattle.step_line.specs.contracts.line.Line as line
 use Rattle.step_line.specs.contracts.line.Line.TheInside as line_inside
 use Rattle.step_line.specs.contracts.pending.Pending as pending
+use Rattle.store_steps.proofs.files.Files.TheSendSync as known
 use Rattle.store_keep.specs.contracts.keeper.Keeper as keeper
 use Rattle.snap_share.specs.contracts.engine.Engine as engine
 use Rattle.snap_share.specs.contracts.held.Held as held
 
 ruleset parts = (books.the_send, books.the_field_send, fronts.the_send, snapshots.the_send, snapshots.the_sync, chunks.the_send, chunks.the_sync)
 
-made_send : IsSend (made.the_row any_chunk.the_row any_chunk_words.ghosts)
+made_send : IsSend (made.the_row chunk.the_row chunk_words.ghosts)
 made_send = search (sendable, crosses) depth 20
 
 module _ (N : RattleType) (g : Names N.Denot) where
@@ -67,7 +68,7 @@ module _ (N : RattleType) (g : Names N.Denot) where
 
     module _ (D : RattleType) (d : IsSend D) (w : DiskWords D.Denot) where
       keeper_send : IsSend (keeper.the_field D N g).row
-      keeper_send = let v = line_send in search (sendable, crosses) depth 60
+      keeper_send = let v = line_send in search (sendable, crosses, known.the_send) depth 60 fits 40000
 
       held_send : IsSend (held.the_row D N w g)
       held_send = let v = keeper_send in search (sendable, crosses) depth 20

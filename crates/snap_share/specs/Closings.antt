@@ -7,13 +7,12 @@ use Rattle.chunk_store.specs.Images.{Image}
 use Rattle.chunk_store.specs.declared.disk.Disk.{Ghosts as DiskWords}
 use Rattle.commit_outcomes.specs.declared.strayed.Strayed.{Strayed}
 use Rattle.doc_types.specs.declared.schema.Schema.{Schema}
-use Rattle.gate_log.specs.declared.log.GateLog.{GateLog}
-use Rattle.root_slots.specs.declared.root.Root.{Root}
 use Rattle.step_book.specs.Fronts.{FrontValue}
 use Rattle.step_history.specs.History.{Base}
 use Rattle.step_line.specs.Lines.{IsLine, LineValue}
 use Rattle.step_tokens.specs.Tokens.{TokenValue}
 use Rattle.store_steps.specs.Kept.{GivesEither, IsKept}
+use Rattle.store_steps.specs.declared.files.Files.{Files}
 use Rattle.store_keep.specs.Commits.{front_of}
 use Rattle.store_keep.specs.Tellings.{HasSeenAll, first_stray}
 
@@ -21,9 +20,9 @@ use Rattle.store_keep.specs.Tellings.{HasSeenAll, first_stray}
 abbrev pub Keeps : {D : Type 0} → DiskWords D → Schema → Base → D → LineValue → Type 0
 Keeps words schema base disk line = (x : Image) → words.may_leave disk x → GivesEither schema base line.history line.waiting x
 
--- by some root and log the disk keeps the steps of the line, and the one that waits
+-- by what some keeper knows of its files the disk keeps the steps of the line, and the one that waits
 abbrev pub HasKept : {D : Type 0} → DiskWords D → Schema → Base → D → LineValue → Type 0
-HasKept words schema base disk line = (root : Root) × (log : GateLog) × IsKept words schema base line.history line.waiting disk root log
+HasKept words schema base disk line = (files : Files) × IsKept words schema base line.history line.waiting disk files
 
 -- Of the contradictions that workers were told, the one that a keeper holds is one: it was told; or it holds none, and none was.
 abbrev pub WasTold : List Strayed → Option Strayed → Type 0

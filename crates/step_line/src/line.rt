@@ -8,8 +8,8 @@ ghost use Rattle.step_line.specs.Lines.{IsBy, IsLine, kept_by, new_line, settled
 use crate::counting::count_step;
 use crate::pending::Pending;
 use crate::showing::{WritingEnd, show_next};
-use any_chunk::AnyChunk;
 use doc_types::Snapshot;
+use image_chunk::AnyChunk;
 use left_right::writer::Writer;
 use srch_base::NoMemory;
 use std::alloc::Global;

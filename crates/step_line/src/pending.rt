@@ -7,8 +7,8 @@ ghost use Rattle.step_history.specs.History.{snapshot_of};
 ghost use Rattle.step_line.specs.Lines.{MayFollow};
 ghost use Rattle.step_line.specs.steps.Queues.{longer};
 
-use any_chunk::AnyChunk;
 use doc_types::Snapshot;
+use image_chunk::AnyChunk;
 use srch_base::NoMemory;
 use std::alloc::Global;
 use std::marker::Model;

@@ -7,9 +7,9 @@ ghost use Rattle.step_tokens.specs.Shows.{IsShown};
 ghost use Rattle.step_line.specs.steps.Queues.{longer, queued};
 
 use crate::pending::Pending;
-use any_chunk::AnyChunk;
 use core::mem::replace_with;
 use doc_types::Snapshot;
+use image_chunk::AnyChunk;
 use left_right::writer::Writer;
 use srch_base::NoMemory;
 use std::alloc::{AllocError, Global};

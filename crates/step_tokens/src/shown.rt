@@ -5,8 +5,8 @@ ghost use Rattle.std.specs.Arc.{arc_value};
 ghost use Rattle.step_history.specs.History.{last_snapshot};
 ghost use Rattle.step_tokens.specs.Shows.{IsShown};
 
-use any_chunk::AnyChunk;
 use doc_types::Snapshot;
+use image_chunk::AnyChunk;
 use left_right::Absorb;
 use std::alloc::{AllocError, Global};
 use std::marker::Model;

@@ -29,9 +29,7 @@ use Rattle.commit_outcomes.specs.Outcomes.{IsFull, changed}
 use Rattle.commit_outcomes.specs.declared.outcome.Full.{Full}
 use Rattle.commit_outcomes.specs.declared.outcome.FullKind.TheVariants as limits
 use Rattle.commit_outcomes.specs.declared.outcome.TheConstants.{MAX_DOCUMENTS}
-use Rattle.gate_log.specs.declared.log.GateLog.{GateLog}
 use Rattle.gate_log.specs.declared.records.LogRecord.{LogRecord}
-use Rattle.root_slots.specs.declared.root.Root.{Root}
 use Rattle.layer_commit.specs.Commits.{Applies, layers_after}
 use Rattle.layer_joins.specs.Joins.{AreOfOne, MayMerge}
 use Rattle.layer_joins.specs.Joins.{AreApart}
@@ -47,6 +45,7 @@ use Rattle.step_line.specs.Lines.{LineValue, MayFollow, kept_by, with_waiting}
 use Rattle.store_steps.specs.Batches.{Batch, IsBatchOf, batch_of, op_of, record_of, txn_of}
 use Rattle.store_steps.specs.Kept.{Has}
 use Rattle.store_steps.specs.Refusals.{batch_length, full_documents, full_numbers, full_of, is_put, most_log}
+use Rattle.store_steps.specs.declared.files.Files.{Files}
 use Rattle.store_steps.specs.declared.limits.TheConstants.{LAST_COMMIT, MOST_LOG, MOST_LOG_BY_REMOVALS}
 use Rattle.store_steps.proofs.Keeping.{none_next}
 use Rattle.store_keep.specs.Commits.{front_of}
@@ -133,10 +132,10 @@ pub size_of : (txn : Txn) → batch_length (map change_of txn.ops) ≡ 13 + payl
 size_of txn = ends.payload (record { worker = 0; seq = 0; number = 0; changes = map change_of txn.ops }) txn refl
 
 -- the log ends where the history's does
-pub end_is : {D : Type 0} (words : DiskWords D) (schema : ℕ → Schema) (base : ℕ → Base) (disk : D) (root : Root) (log : GateLog) (line : LineValue) → Keeps words schema base disk root log line → line.waiting ≡ None → log.staged ≡ None → log.end ≡ log_at (base line.index) line.history
-end_is words schema base disk root log line kept none rests =
-    let next : kept.next ≡ None = none_next log.staged kept.next kept.staged rests in
-    let has : Has (schema line.index) (base line.index) line.history line.waiting log kept.dir None = subst (λ (n : Option Batch). Has (schema line.index) (base line.index) line.history line.waiting log kept.dir n) next kept.has in
+pub end_is : {D : Type 0} (words : DiskWords D) (schema : ℕ → Schema) (base : ℕ → Base) (disk : D) (files : Files) (line : LineValue) → Keeps words schema base disk files line → line.waiting ≡ None → files.log.staged ≡ None → files.log.end ≡ log_at (base line.index) line.history
+end_is words schema base disk files line kept none rests =
+    let next : kept.next ≡ None = none_next files.log.staged kept.next kept.staged rests in
+    let has : Has (schema line.index) (base line.index) kept.start line.history line.waiting files.log kept.dir None = subst (λ (n : Option Batch). Has (schema line.index) (base line.index) kept.start line.history line.waiting files.log kept.dir n) next kept.has in
     has.end ∙ ap (λ (w : Option Step). log_at (base line.index) (with_waiting line.history w)) none
 
 if_none : {X : Type 0} (b : Bool) (x : X) (other : Option X) → cond b (Some x) other ≡ None → (b ≡ false) × (other ≡ None)

@@ -15,7 +15,7 @@ use Rattle.doc_bytes.specs.SchemaText.{schema_text}
 use Rattle.doc_types.specs.declared.schema.Schema.{Schema}
 use Rattle.doc_types.specs.declared.documents.DocRow.{DocRow}
 use Rattle.doc_types.specs.Rows.{Rows}
-use Rattle.doc_types.specs.Snapshots.{LayerValue, all_living}
+use Rattle.doc_types.specs.Snapshots.{LayerValue, all_living, live}
 use Rattle.gate_log.specs.Logs.{IsLogOf, quiet_log}
 use Rattle.gate_log.specs.declared.log.GateLog.{GateLog}
 use Rattle.root_slots.specs.Roots.{Stands as RootStands, Steps, next, replaced}
@@ -23,15 +23,18 @@ use Rattle.root_slots.specs.Slots.{IsRoot, Slots, slots_of}
 use Rattle.root_slots.specs.States.{IsState, chunks_bytes, numbers_bytes, text_bytes}
 use Rattle.root_slots.specs.declared.root.Root.{Root}
 use Rattle.root_slots.specs.declared.state.ChunkEntry.{ChunkEntry}
+use Rattle.root_slots.specs.declared.state.RootState.{RootState}
 use Rattle.root_slots.proofs.Standing.{root_leaves}
 use Rattle.step_history.specs.History.{Base}
-use Rattle.store_steps.specs.Damage.{IsGoodState}
-use Rattle.store_steps.specs.Directory.{IsInOrder, StandsFor}
-use Rattle.store_steps.specs.Kept.{IsImage, Reaches, Says}
+use Rattle.store_steps.specs.Directory.{IsInOrder, Reaches, StandsFor}
+use Rattle.store_steps.specs.Doubts.{sure_files}
+use Rattle.store_steps.specs.Grown.{AreBorn}
+use Rattle.store_steps.specs.Kept.{IsImage, IsKept, Says}
+use Rattle.store_steps.specs.declared.files.Files.{Files}
 use Rattle.store_keep.specs.Opens.{HidesNothing, IsBegun, LeavesBegun}
 use Rattle.store_keep.specs.declared.found.Found.{Found}
 use Rattle.store_keep.specs.steps.Beginnings.{Begins, MayBegin, first_state}
-use Rattle.store_keep.specs.steps.Finds.{Finds, IsFound, IsRootRead}
+use Rattle.store_keep.specs.steps.Finds.{Finds, IsFound, IsOpenable, IsRootRead}
 use Rattle.store_keep.specs.steps.Loads.{IsSnapshotOf}
 use Rattle.store_keep.specs.steps.Records.{IsRead}
 use Rattle.store_keep.specs.declared.fault.StoreFault.{StoreFault}
@@ -57,8 +60,8 @@ first_is_state schema short = record {
 
 -- ---- what stands for the empty index
 
-good : (schema : Schema) → IsGoodState schema (first_state schema)
-good schema = record { few = omega arith; text = refl }
+good : (schema : Schema) → IsOpenable schema (first_state schema)
+good schema = record { text = refl; none = refl }
 
 order : (schema : Schema) → IsInOrder schema (dir_of schema (first_state schema) [] [])
 order schema = in_order schema (first_state schema) [] [] (good schema) (numbered schema 0 [] tt tt) (All-nil (IsRead schema))
@@ -70,7 +73,7 @@ stands_empty : (schema : Schema) (root : Root) (x : Image) → IsRoot None (slot
 stands_empty schema root x (inl none) = record { found = None; holds = none; rows_are = refl; number_is = refl }
 stands_empty schema root x (inr new) = record {
   found = Some (dir_of schema (first_state schema) [] []);
-  holds = record { number = root.number + 1; files = record { root = new.0; chunks = tt; older = refl }; newer = new.1; in_order = order schema };
+  holds = (record { number = root.number + 1; files = record { root = new.0; chunks = tt; older = refl }; newer = new.1; in_order = order schema }, reaches schema);
   rows_are = empty_rows;
   number_is = refl;
 }
@@ -103,27 +106,28 @@ begun_leaves words schema root old new read tells crashes hides = record {
 pub same_leaves : {D : Type 0} (words : DiskWords D) (schema : Schema) (disk : D) → LeavesBegun words schema disk disk
 same_leaves words schema disk = record { later = omega arith; now = λ x left. inl left; since = λ t x le left. inl left }
 
-begun_image : (schema : Schema) (root : Root) (found : Found) (d x : Image) → found.root ≡ replaced root → found.log ≡ quiet_log 2 0 None → RootStands root None None (slots_of d) → Begins root (first_state schema) d x
-    → IsImage schema (dir_of schema (first_state schema) [] []) (root.number + 1) found.root found.log None x
-begun_image schema root found d x root_is log_is stands begins =
-    let slots : RootStands (replaced root) (Some (next root (first_state schema))) None (slots_of x) = begins.root_is stands in
-    let image : IsImage schema (dir_of schema (first_state schema) [] []) (root.number + 1) (replaced root) (quiet_log 2 0 None) None x = record {
-      files = record { root = root_leaves (replaced root) (Some (next root (first_state schema))) None (slots_of x) slots; chunks = tt; older = refl };
-      slots = slots;
-      newer = begins.log_is;
-    } in
-    subst (λ (l : GateLog). IsImage schema (dir_of schema (first_state schema) [] []) (root.number + 1) found.root l None x) (sym log_is)
-    (subst (λ (r : Root). IsImage schema (dir_of schema (first_state schema) [] []) (root.number + 1) r (quiet_log 2 0 None) None x) (sym root_is) image)
+-- the files of an index that was begun
+pub files_are : (schema : Schema) (root own : Root) (state : RootState) (log : GateLog) → own ≡ replaced root → state ≡ first_state schema → log ≡ quiet_log 2 0 None → sure_files own state log ≡ sure_files (replaced root) (first_state schema) (quiet_log 2 0 None)
+files_are schema root own state log own_is state_is log_is =
+    ap (λ (r : Root). sure_files r state log) own_is ∙ ap (λ (s : RootState). sure_files (replaced root) s log) state_is ∙ ap (sure_files (replaced root) (first_state schema)) log_is
+
+begun_image : (schema : Schema) (root : Root) (d x : Image) → RootStands root None None (slots_of d) → Begins root (first_state schema) d x
+    → IsImage schema (dir_of schema (first_state schema) [] []) (root.number + 1) None (replaced root) (quiet_log 2 0 None) None x
+begun_image schema root d x stands begins = record { chunks = tt; older = refl; slots = begins.root_is stands; newer = begins.log_is; other = tt }
+
+none_born : (number : ℕ) → AreBorn finite.empty number
+none_born number id row got = absurd (cc (finite.get-empty nat_cmp id, got))
 
 -- an index that was begun is kept
 pub begun_found : {D : Type 0} (words : DiskWords D) (schema : Schema) (root : Root) (old new : D) (found : Found) → IsState (first_state schema) → IsRootRead (words.told old) (words.may_leave old) root None → ((x : Image) → words.may_leave old x → (image : Image) × (words.told old ≡ Some image))
-    → Steps words (Begins root (first_state schema)) old new → found.root ≡ replaced root → found.log ≡ quiet_log 2 0 None → IsSnapshotOf schema 0 [] (arc_value found.snapshot) → found.records ≡ 0 → found.documents ≡ 0 → IsFound words schema old new found
-begun_found words schema root old new found state_is read tells steps root_is log_is loaded records documents =
+    → Steps words (Begins root (first_state schema)) old new → found.files ≡ sure_files (replaced root) (first_state schema) (quiet_log 2 0 None) → IsSnapshotOf schema 0 [] (arc_value found.snapshot) → found.records ≡ 0 → found.documents ≡ 0 → IsFound words schema old new found
+begun_found words schema root old new found state_is read tells steps files_is loaded records documents =
     let snapshot = arc_value found.snapshot in
     let dir = dir_of schema (first_state schema) [] [] in
     let none : (image : Image) → words.told old ≡ Some image → IsRoot None (slots_of image) = λ image is. root_leaves root None None (slots_of image) (read.opens image is).stands in
     let says : Says dir snapshot = record { rows = empty_rows ∙ sym loaded.rows_are; number = sym loaded.number_is; chunks = sym (ap (map (λ (l : LayerValue). l.rows)) (no_disk snapshot.layers loaded.memory)) } in
-    let base : Base = record { opening = snapshot; log = found.log.end } in
+    let base : Base = record { opening = snapshot; log = 0 } in
+    let born : AreBorn (live snapshot) snapshot.number = subst (λ (rows : Rows). AreBorn rows snapshot.number) (sym loaded.rows_are) (none_born snapshot.number) in
     record {
       said = λ image is. record {
         found = None;
@@ -137,24 +141,33 @@ begun_found words schema root old new found state_is read tells steps root_is lo
         few = omega arith;
         records_are = records;
       };
-      kept = λ hides. record {
-        dir = dir;
-        number = root.number + 1;
-        next = None;
-        state = state_is;
-        in_order = order schema;
-        reaches = reaches schema;
-        file = ap (λ (l : GateLog). l.file) log_is;
-        staged = ap (λ (l : GateLog). l.staged) log_is;
-        quiet = λ (_ : _). ap (λ (l : GateLog). l.pending) log_is;
-        last = ap (λ (l : GateLog). l.last) log_is;
-        has = record { says = says; end = refl };
-        told = told_by {R = Begins root (first_state schema)} {P = λ image. RootStands root None None (slots_of image)} {Q = λ image. IsImage schema dir (root.number + 1) found.root found.log None image} (words.told old) (words.told new) steps.told
-            (λ image is. (read.opens image is).stands) (λ d x stands begins. begun_image schema root found d x root_is log_is stands begins);
-        left = λ x left.
-            let from = steps.left x left in
-            begun_image schema root found from.0 x root_is log_is (slots_stand words root old read hides tells from.0 from.1) from.2;
-      };
+      kept = λ hides.
+          subst (λ (fs : Files). IsKept words schema (record { opening = snapshot; log = fs.log.end }) [] None new fs) (sym files_is) (record {
+            dir = dir;
+            number = root.number + 1;
+            doubt = None;
+            next = None;
+            start = record { batches = []; through = 0 };
+            start_low = omega arith;
+            born = born;
+            state_is = refl;
+            state = state_is;
+            made = omega arith;
+            in_order = order schema;
+            reaches = reaches schema;
+            file = refl;
+            staged = refl;
+            quiet = λ (_ : _). refl;
+            last = refl;
+            has = record { says = says; end = refl; grown_is = refl; through_is = refl };
+            may = tt;
+            sure = λ (_ : _). refl;
+            told = told_by {R = Begins root (first_state schema)} {P = λ image. RootStands root None None (slots_of image)} {Q = λ image. IsImage schema dir (root.number + 1) None (replaced root) (quiet_log 2 0 None) None image} (words.told old) (words.told new) steps.told
+                (λ image is. (read.opens image is).stands) (λ d x stands begins. begun_image schema root d x stands begins);
+            left = λ x left.
+                let from = steps.left x left in
+                begun_image schema root from.0 x (slots_stand words root old read hides tells from.0 from.1) from.2;
+          });
       of = loaded.of;
       shape = loaded.shape_is;
       documents_are = documents ∙ sym (finite.len-empty nat_cmp DocRow) ∙ ap (λ (m : Rows). finite.len m) (sym loaded.rows_are);

@@ -20,7 +20,7 @@ use Rattle.gate_log.specs.declared.reading.Before.{Before}
 use Rattle.gate_log.specs.declared.reading.Before.TheVariants.{Chunks}
 use Rattle.gate_log.specs.declared.records.LogRecord.{LogRecord}
 use Rattle.root_slots.specs.Openings.{Opens}
-use Rattle.root_slots.specs.Slots.{Slot, slots_of}
+use Rattle.root_slots.specs.Slots.{slots_of}
 use Rattle.root_slots.specs.States.{IsState}
 use Rattle.root_slots.specs.declared.root.Root.{Root}
 use Rattle.root_slots.specs.declared.state.ChunkEntry.{ChunkEntry}
@@ -29,23 +29,20 @@ use Rattle.root_slots.proofs.Standing.{root_leaves}
 use Rattle.step_history.specs.History.{Base}
 use Rattle.step_history.specs.Places.{disk_chunks}
 use Rattle.store_steps.specs.Batches.{AreFrom, Batch, IsBatchOf, above, after_batch, record_of}
-use Rattle.store_steps.specs.Damage.{IsGoodState}
-use Rattle.store_steps.specs.Directory.{Directory, IsChunkFile, IsChunkOf, IsInOrder, directory_number, directory_rows, layers_from, logged, taken}
-use Rattle.store_steps.specs.Kept.{IsImage, Reaches, Says}
+use Rattle.store_steps.specs.Directory.{AreFiles, Directory, IsChunkFile, IsChunkOf, IsInOrder, Reaches, directory_number, directory_rows, layers_from, logged, taken}
+use Rattle.store_steps.specs.Doubts.{sure_files}
+use Rattle.store_steps.specs.Kept.{IsImage, IsKept, Says}
+use Rattle.store_steps.specs.declared.files.Files.{Files}
 use Rattle.store_steps.proofs.Opening.{Agree, begins, number_from, reached}
 use Rattle.store_keep.specs.Opens.{HidesNothing}
 use Rattle.store_keep.specs.declared.found.Found.{Found}
 use Rattle.store_keep.specs.declared.opening.Logs.{Logs}
-use Rattle.store_keep.specs.steps.Finds.{IsFound, IsLoadedAs, IsRootRead}
+use Rattle.store_keep.specs.steps.Finds.{IsFound, IsLoadedAs, IsOpenable, IsRootRead}
 use Rattle.store_keep.specs.steps.Loads.{number_after}
 use Rattle.store_keep.specs.steps.Records.{IsRead, batch_in, batches_in}
 use Rattle.store_keep.specs.steps.LogFiles.{AreRead, IsSteady}
 use Rattle.store_keep.proofs.FilesRead.{log_of, older_log}
 use Rattle.store_keep.proofs.LogBytes.{batches_of, front_fits, read_again}
-
-none_of : {A : Type 0} (xs : List A) → length xs ≤ 0 → xs ≡ []
-none_of [] le = refl
-none_of (x ∷ xs) le = absurd (omega (arith, le))
 
 -- ---- numbers
 
@@ -106,9 +103,9 @@ dir_of schema state older newer = record { state = state; chunks = []; older = b
 logged_is : (schema : Schema) (older newer : List LogRecord) → batches_in schema older ++ batches_in schema newer ≡ batches_in schema (older ++ newer)
 logged_is schema older newer = sym (map-append (batch_in schema) older newer)
 
-pub in_order : (schema : Schema) (state : RootState) (older newer : List LogRecord) → IsGoodState schema state → AreNumbered schema state.through (older ++ newer) → All (IsRead schema) (older ++ newer) → IsInOrder schema (dir_of schema state older newer)
+pub in_order : (schema : Schema) (state : RootState) (older newer : List LogRecord) → IsOpenable schema state → AreNumbered schema state.through (older ++ newer) → All (IsRead schema) (older ++ newer) → IsInOrder schema (dir_of schema state older newer)
 in_order schema state older newer good numbers all =
-    let none : state.chunks ≡ [] = none_of state.chunks good.few in
+    let none : state.chunks ≡ [] = good.none in
     let same = logged_is schema older newer in
     record {
       text = good.text;
@@ -130,12 +127,11 @@ no_disk (layer ∷ layers) all =
     ∙ no_disk layers (All-tail (λ (l : LayerValue). l.disk ≡ false) layer layers all)
 
 -- the files of a disk after they were synced and read
-image_of : (schema : Schema) (root : Root) (state : RootState) (told : Option Image) (may : Image → Type 0) (logs : Logs) (image : Image) → IsGoodState schema state → Opens root (Some state) (slots_of image) → (read : AreRead schema state told may logs) → told ≡ Some image
-    → IsImage schema (dir_of schema state read.older read.newer) root.number root (quiet_log state.newer logs.end.end logs.end.last) None image
+image_of : (schema : Schema) (root : Root) (state : RootState) (told : Option Image) (may : Image → Type 0) (logs : Logs) (image : Image) → IsOpenable schema state → Opens root (Some state) (slots_of image) → (read : AreRead schema state told may logs) → told ≡ Some image
+    → IsImage schema (dir_of schema state read.older read.newer) root.number None root (quiet_log state.newer logs.end.end logs.end.last) None image
 image_of schema root state told may logs image good opens read is =
     let all = read.loaded.of.all in
-    let none : state.chunks ≡ [] = none_of state.chunks good.few in
-    let own : Slot = record { number = root.number; state = state } in
+    let none : state.chunks ≡ [] = good.none in
     let older_again : map record_of (batches_in schema read.older) ≡ read.older = read_again schema read.older (front_fits (IsRead schema) read.older read.newer all) in
     let newer_again : map record_of (batches_in schema read.newer) ≡ read.newer = read_again schema read.newer read.newer_is.all in
     let stands : LogStands (quiet_log state.newer logs.end.end logs.end.last) read.newer None (Some read.bytes) = record {
@@ -152,14 +148,20 @@ image_of schema root state told may logs image good opens read is =
     let here : LogStands (quiet_log state.newer logs.end.end logs.end.last) read.newer None (image state.newer) =
     subst (λ (f : Option (List ℕ)). LogStands (quiet_log state.newer logs.end.end logs.end.last) read.newer None f) (sym (read.bytes_are image is)) stands in
     record {
-      files = record {
-        root = root_leaves root (Some own) None (slots_of image) opens.stands;
-        chunks = subst (λ (cs : List ChunkEntry). AllZip (IsChunkFile schema image) cs []) (sym none) tt;
-        older = older_log schema state.older read.older image older_again (read.has image is);
-      };
+      chunks = subst (λ (cs : List ChunkEntry). AllZip (IsChunkFile schema image) cs []) (sym none) tt;
+      older = older_log schema state.older read.older image older_again (read.has image is);
       slots = opens.stands;
       newer = subst (λ (l : List LogRecord). LogStands (quiet_log state.newer logs.end.end logs.end.last) l None (image state.newer)) (sym newer_again) here;
+      other = tt;
     }
+
+-- the root's slot is read as its own state
+files_of : {schema : Schema} (root : Root) {log : GateLog} (dir : Directory) (image : Image) → IsImage schema dir root.number None root log None image → AreFiles schema dir root.number image
+files_of root dir image is = record {
+  root = root_leaves root (Some (record { number = root.number; state = dir.state })) None (slots_of image) is.slots;
+  chunks = is.chunks;
+  older = is.older;
+}
 
 pub empty_rows : rows_of [] ≡ finite.empty
 empty_rows = refl
@@ -174,13 +176,13 @@ older_same : (file : ℕ) (image x : Image) → x 0 ≡ image 0 → (file ≢ 0 
 older_same zero image x zeroth other = zeroth
 older_same (suc file) image x zeroth other = other (λ (e : suc file ≡ 0). absurd (omega (arith, e)))
 
-pub found_is : {D : Type 0} (words : DiskWords D) (schema : Schema) (root : Root) (state : RootState) (old new : D) (logs : Logs) (found : Found) → IsState state → IsGoodState schema state → IsRootRead (words.told old) (words.may_leave old) root (Some state) → OnlyReads words old new
+pub found_is : {D : Type 0} (words : DiskWords D) (schema : Schema) (root : Root) (state : RootState) (old new : D) (logs : Logs) (found : Found) → IsState state → IsOpenable schema state → IsRootRead (words.told old) (words.may_leave old) root (Some state) → OnlyReads words old new
     → (read : AreRead schema state (words.told new) (words.may_leave new) logs) → IsLoadedAs schema root state logs (read.older ++ read.newer) found → ((x : Image) → words.may_leave new x → (image : Image) × (words.told new ≡ Some image)) → IsFound words schema old new found
 found_is words schema root state old new logs found state_is good slots looks read loads tells =
     let records = read.older ++ read.newer in
     let snapshot = arc_value found.snapshot in
     let dir = dir_of schema state read.older read.newer in
-    let none : state.chunks ≡ [] = none_of state.chunks good.few in
+    let none : state.chunks ≡ [] = good.none in
     let same : logged dir ≡ batches_in schema records = logged_is schema read.older read.newer in
     let numbers : AreNumbered schema state.through records = numbered schema state.through records (joined (Chunks state.through) read.older read.newer read.older_are.numbers read.newer_is.records_are.numbers read.newer_is.begins) (begins_both (Chunks state.through) read.older read.newer read.begins read.newer_is.begins) in
     let order : IsInOrder schema dir = in_order schema state read.older read.newer good numbers read.loaded.of.all in
@@ -194,18 +196,18 @@ found_is words schema root state old new logs found state_is good slots looks re
     let number : directory_number dir ≡ snapshot.number = omega (arith, number_from state.through numbers.first (logged dir) (subst (λ (bs : List Batch). AreFrom numbers.first bs) (sym same) numbers.from) numbers.low (omega (arith, numbers.last, loads.reach, ap length same)), numbers.last, loads.snapshot.number_is, ap length same) in
     let chunks : dir.chunks ≡ disk_chunks snapshot = sym (ap (map (λ (l : LayerValue). l.rows)) (no_disk snapshot.layers loads.snapshot.memory)) in
     let says : Says dir snapshot = record { rows = rows; number = number; chunks = chunks } in
-    let base : Base = record { opening = snapshot; log = found.log.end } in
-    let image_is : (image : Image) → words.told new ≡ Some image → IsImage schema dir root.number root (quiet_log state.newer logs.end.end logs.end.last) None image =
+    let log : GateLog = quiet_log state.newer logs.end.end logs.end.last in
+    let files : Files = sure_files root state log in
+    let base : Base = record { opening = snapshot; log = log.end } in
+    let image_is : (image : Image) → words.told new ≡ Some image → IsImage schema dir root.number None root (quiet_log state.newer logs.end.end logs.end.last) None image =
     λ image is. image_of schema root state (words.told new) (words.may_leave new) logs image good (slots.opens image (sym looks.same ∙ is)) read is in
-    let image_found : (image : Image) → words.told new ≡ Some image → IsImage schema dir root.number found.root found.log None image =
-    λ image is. subst (λ (l : GateLog). IsImage schema dir root.number found.root l None image) (sym loads.log_is) (subst (λ (r : Root). IsImage schema dir root.number r (quiet_log state.newer logs.end.end logs.end.last) None image) (sym loads.root_is) (image_is image is)) in
     record {
       said = λ image is.
           let now : words.told new ≡ Some image = looks.same ∙ is in
           let log : IsLogOf read.newer (contents (image state.newer)) = subst (λ (f : Option (List ℕ)). IsLogOf read.newer (contents f)) (sym (read.bytes_are image now)) (log_of read.newer_is) in
           record {
             found = Some dir;
-            holds = record { number = root.number; files = (image_is image now).files; newer = subst (λ (l : List LogRecord). IsLogOf l (contents (image state.newer))) (sym newer_again) log; in_order = order };
+            holds = (record { number = root.number; files = files_of root dir image (image_is image now); newer = subst (λ (l : List LogRecord). IsLogOf l (contents (image state.newer))) (sym newer_again) log; in_order = order }, reaches);
             rows = rows;
             number = number;
             places = λ id row got.
@@ -216,10 +218,8 @@ found_is words schema root state old new logs found state_is good slots looks re
             records_are = omega (arith, loads.records_are, count_from state.through numbers.first (batches_in schema records) numbers.from numbers.low (omega (arith, numbers.last, loads.reach)), numbers.last, loads.snapshot.number_is, ap (λ (bs : List Batch). length (above state.through bs)) same);
           };
       kept = λ hides.
-          begins words schema base new found.root found.log dir root.number state_is order reaches
-          (ap (λ (l : GateLog). l.file) loads.log_is) (ap (λ (l : GateLog). l.staged) loads.log_is) (ap (λ (l : GateLog). l.pending) loads.log_is)
-          (ap (λ (l : GateLog). l.last) loads.log_is ∙ read.newer_is.last_is ∙ ap last_number (sym newer_again))
-          (record { says = says; end = refl }) image_found
+          subst (λ (fs : Files). IsKept words schema (record { opening = snapshot; log = fs.log.end }) [] None new fs) (sym loads.files_are)
+          (begins words schema base new files dir root.number state_is order reaches says refl refl refl refl refl refl (read.newer_is.last_is ∙ ap last_number (sym newer_again)) image_is
           (λ x left.
           let i = tells x left in
           let told : words.told old ≡ Some i.0 = sym looks.same ∙ i.1 in
@@ -231,7 +231,7 @@ found_is words schema root state old new logs found state_is good slots looks re
             older = older_same state.older i.0 x zeroth (λ apart. read.older_steady i.0 i.1 apart x left);
             newer = read.newer_steady i.0 i.1 x left;
           } in
-          (i.0, i.1, agree));
+          (i.0, i.1, agree)));
       of = loads.snapshot.of;
       shape = loads.snapshot.shape_is;
       documents_are = loads.documents_are;

@@ -1,13 +1,15 @@
 -- The root that was read, and what is wrong with it.
-use Rattle.std.proofs.Common.{◌≡◌, ◌≢◌, inl, inr, ℕ, ◌+◌, ◌-◌, ◌<◌, ◌≤◌, List, Bool, true, false, Option, Some, None, Err, refl, sym, ◌∙◌, ap, subst, arith, length}
+use Rattle.std.proofs.Common.{◌≡◌, ◌≢◌, inl, inr, ℕ, ◌+◌, ◌-◌, ◌≤◌, List, [], Bool, true, false, Option, Some, None, Err, refl, sym, ◌∙◌, ap, subst, arith, AllPairs}
 use Rattle.std.specs.Arc.{arc_value}
 use Rattle.std.specs.FinMap as finite
+use Rattle.std.specs.List.{AllZip}
 use Rattle.chunk_store.specs.Images.{Image}
 use Rattle.chunk_store.specs.Calls.{OnlyReads}
 use Rattle.chunk_store.specs.declared.disk.Disk.{Ghosts as DiskWords}
 use Rattle.doc_bytes.specs.SchemaText.{schema_text}
+use Rattle.doc_types.specs.declared.documents.DocRow.{DocRow}
 use Rattle.doc_types.specs.declared.schema.Schema.{Schema}
-use Rattle.doc_types.specs.Snapshots.{SnapshotValue, live}
+use Rattle.doc_types.specs.Snapshots.{SnapshotValue, all_living, live}
 use Rattle.gate_log.specs.Logs.{quiet_log}
 use Rattle.gate_log.specs.declared.records.LogRecord.{LogRecord}
 use Rattle.root_slots.specs.Choosing.{IsBadRoot}
@@ -17,18 +19,20 @@ use Rattle.root_slots.specs.declared.fault.RootKind.{RootKind}
 use Rattle.root_slots.specs.declared.root.Holder.{Holder}
 use Rattle.root_slots.specs.declared.root.Holder.TheVariants.{Neither, Zeroth, First}
 use Rattle.root_slots.specs.declared.root.Root.{Root}
+use Rattle.root_slots.specs.declared.state.ChunkEntry.{ChunkEntry}
 use Rattle.root_slots.specs.declared.state.RootState.{RootState}
 use Rattle.root_slots.proofs.Standing.{held_is}
-use Rattle.store_steps.specs.Damage.{IsBadRootState, IsBadSlot, IsGoodState, IsRootIn, count_place, of_root}
+use Rattle.store_steps.specs.Damage.{IsBadRootState, IsBadSlot, IsRootIn, of_root}
+use Rattle.store_steps.specs.Directory.{IsChunkFile, IsChunkOf, layers_from}
+use Rattle.store_steps.specs.Doubts.{sure_files}
 use Rattle.store_steps.specs.declared.damage.Damage.{Damage}
 use Rattle.store_steps.specs.declared.damage.DamageKind.TheVariants as kinds
-use Rattle.store_steps.specs.declared.damage.TheConstants.{MOST_OPENED_CHUNKS}
 use Rattle.store_keep.specs.Opens.{SaysDamage}
 use Rattle.store_keep.specs.declared.fault.StoreFault.{StoreFault}
 use Rattle.store_keep.specs.declared.fault.StoreFault.TheVariants as faults
 use Rattle.store_keep.specs.declared.found.Found.{Found}
 use Rattle.store_keep.specs.declared.opening.Logs.{Logs}
-use Rattle.store_keep.specs.steps.Finds.{ChecksState, IsLoadedAs, IsRootRead}
+use Rattle.store_keep.specs.steps.Finds.{ChecksState, IsLoadedAs, IsOpenable, IsRootRead}
 use Rattle.store_keep.specs.steps.Loads.{IsSnapshotOf}
 use Rattle.store_keep.specs.steps.LogFiles.{ReadsLogs}
 
@@ -51,20 +55,12 @@ root_in root own x stands = stand_in root.holder root.zeroth_shut root.first_shu
 pub bad_slot : (image : Image) (damage : Damage) (slot place : ℕ) (kind : RootKind) → damage ≡ record { file = slot; place = place; kind = of_root kind } → IsBadRoot slot place kind (slots_of image) → IsBadSlot image damage
 bad_slot image damage slot place kind is bad = subst (λ (d : Damage). IsBadSlot image d) (sym is) (record { kind = kind; is = refl; bad = bad })
 
-pub bad_count : (schema : Schema) (root : Root) (state : RootState) (own : Slot) (x : Image) (file place : ℕ) → file ≡ own_slot root.holder → MOST_OPENED_CHUNKS < length state.chunks → place ≡ count_place state → own.state ≡ state → RootStands root (Some own) None (slots_of x)
-    → IsBadRootState schema x (record { file = file; place = place; kind = kinds.RootState })
-bad_count schema root state own x file place file_is many place_is same stands = record {
-  root = own;
-  stands = subst (λ (n : ℕ). IsRootIn n own x) (sym file_is) (root_in root own x stands);
-  bad = (subst (λ (s : RootState). MOST_OPENED_CHUNKS < length s.chunks) (sym same) many, place_is ∙ ap count_place (sym same));
-}
-
-pub bad_columns : (schema : Schema) (root : Root) (state : RootState) (own : Slot) (x : Image) (file : ℕ) → file ≡ own_slot root.holder → length state.chunks ≤ MOST_OPENED_CHUNKS → state.schema_text ≢ schema_text schema → own.state ≡ state → RootStands root (Some own) None (slots_of x)
+pub bad_columns : (schema : Schema) (root : Root) (state : RootState) (own : Slot) (x : Image) (file : ℕ) → file ≡ own_slot root.holder → state.schema_text ≢ schema_text schema → own.state ≡ state → RootStands root (Some own) None (slots_of x)
     → IsBadRootState schema x (record { file = file; place = 13; kind = kinds.RootSchema })
-bad_columns schema root state own x file file_is few other same stands = record {
+bad_columns schema root state own x file file_is other same stands = record {
   root = own;
   stands = subst (λ (n : ℕ). IsRootIn n own x) (sym file_is) (root_in root own x stands);
-  bad = (subst (λ (s : RootState). length s.chunks ≤ MOST_OPENED_CHUNKS) (sym same) few, subst (λ (s : RootState). s.schema_text ≢ schema_text schema) (sym same) other, refl);
+  bad = (subst (λ (s : RootState). s.schema_text ≢ schema_text schema) (sym same) other, refl);
 }
 
 -- what is said of a root that can't be taken
@@ -74,24 +70,29 @@ says_root schema root state told may faults.DiskFault read checks = tt
 says_root schema root state told may (faults.Damaged damage) read checks = λ image is. inr (inl (checks image (record { number = root.number; state = state }) refl (read.opens image is).stands))
 
 -- what is said of logs that can't be read
-pub says_logs : {D : Type 0} (words : DiskWords D) (schema : Schema) (root : Root) (state : RootState) (old new : D) (fault : StoreFault) → IsRootRead (words.told old) (words.may_leave old) root (Some state) → IsGoodState schema state → OnlyReads words old new
+pub says_logs : {D : Type 0} (words : DiskWords D) (schema : Schema) (root : Root) (state : RootState) (old new : D) (fault : StoreFault) → IsRootRead (words.told old) (words.may_leave old) root (Some state) → IsOpenable schema state → OnlyReads words old new
     → ReadsLogs schema state (words.told new) (words.may_leave new) (Err fault) → SaysDamage schema (words.told old) fault
 says_logs words schema root state old new faults.NoMemory read good looks bad = tt
 says_logs words schema root state old new faults.DiskFault read good looks bad = tt
 says_logs words schema root state old new (faults.Damaged damage) read good looks bad = λ image is.
-    inr (inr (record {
+    inr (inr (inr (inl (record {
       file = own_slot root.holder;
       root = record { number = root.number; state = state };
       stands = root_in root (record { number = root.number; state = state }) image (read.opens image is).stands;
-      good = good;
+      good = good.text;
+      chunks = [];
+      are = record {
+        files = subst (λ (cs : List ChunkEntry). AllZip (IsChunkFile schema image) cs []) (sym good.none) tt;
+        rows = subst (λ (cs : List ChunkEntry). AllZip (IsChunkOf schema state.through) cs []) (sym good.none) tt;
+      };
+      once = subst (λ (cs : List ChunkEntry). AllPairs (λ (row other : DocRow). row.doc.id ≢ other.doc.id) (all_living (layers_from cs []))) (sym good.none) (λ i j d l h. absurd (omega (arith, h)));
       bad = bad image (looks.same ∙ is);
-    }))
+    }))))
 
-pub loaded_as : (schema : Schema) (state : RootState) (logs : Logs) (records : List LogRecord) (found : Found) (snapshot : SnapshotValue) (number : ℕ) → IsSnapshotOf schema state.through records snapshot → arc_value found.snapshot ≡ snapshot → number ≡ snapshot.number → state.through ≤ number
-    → found.log ≡ quiet_log state.newer logs.end.end logs.end.last → found.records ≡ number - state.through → found.documents ≡ finite.len (live snapshot) → IsLoadedAs schema found.root state logs records found
-loaded_as schema state logs records found snapshot number is same number_is le log many documents = record {
-  root_is = refl;
-  log_is = log;
+pub loaded_as : (schema : Schema) (root : Root) (state : RootState) (logs : Logs) (records : List LogRecord) (found : Found) (snapshot : SnapshotValue) (number : ℕ) → IsSnapshotOf schema state.through records snapshot → arc_value found.snapshot ≡ snapshot → number ≡ snapshot.number → state.through ≤ number
+    → found.files ≡ sure_files root state (quiet_log state.newer logs.end.end logs.end.last) → found.records ≡ number - state.through → found.documents ≡ finite.len (live snapshot) → IsLoadedAs schema root state logs records found
+loaded_as schema root state logs records found snapshot number is same number_is le files many documents = record {
+  files_are = files;
   snapshot = subst (λ (s : SnapshotValue). IsSnapshotOf schema state.through records s) (sym same) is;
   reach = omega (arith, le, number_is, is.number_is);
   records_are = many ∙ ap (λ (n : ℕ). n - state.through) (number_is ∙ ap (λ (s : SnapshotValue). s.number) (sym same));

@@ -49,11 +49,11 @@ pub record IsFoundIn (schema : Schema) (snapshot : SnapshotValue) (records : ℕ
 
 -- where the history of a store begins: its snapshot, and the end of its log
 abbrev pub base_of : {D : Type 0} → Opened D → Base
-base_of opened = record { opening = arc_value opened.snapshot; log = opened.log.end }
+base_of opened = record { opening = arc_value opened.snapshot; log = opened.files.log.end }
 
 -- The disk of a store that was opened keeps its snapshot, and no step.
 pub record IsOpened {D : Type 0} (words : DiskWords D) (schema : Schema) (opened : Opened D) : Type 0 where
-  pub kept : IsKept words schema (base_of opened) [] None opened.disk opened.root opened.log
+  pub kept : IsKept words schema (base_of opened) [] None opened.disk opened.files
   pub of : AreOf schema (arc_value opened.snapshot)
   pub shape : (arc_value opened.snapshot).shape ≡ 0
   pub documents_are : opened.documents ≡ finite.len (live (arc_value opened.snapshot))

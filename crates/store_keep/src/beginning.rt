@@ -18,15 +18,16 @@ ghost use Rattle.store_keep.specs.steps.Loads.{IsSnapshotOf};
 use crate::fault::StoreFault;
 use crate::found::Found;
 use crate::loading::Loaded;
-use any_chunk::AnyChunk;
 use chunk_store::Disk;
 use doc_bytes::put_schema;
 use doc_types::{Schema, Snapshot};
 use gate_log::GateLog;
+use image_chunk::AnyChunk;
 use root_slots::{Root, RootBytes, RootState};
 use srch_base::{Failed, Items, NoMemory, Text};
 use std::alloc::Global;
 use std::sync::Arc;
+use store_steps::Files;
 
 /// The first file of an index that isn't a slot.
 const FIRST_LOG: u32 = 2;
@@ -48,14 +49,13 @@ pub(crate) fn begin<D: Disk>(
     ensures cause { HasStoreCause (D.faults disk.old) (D.faults disk.new) result }
 {
     match first_of(alloc, schema) {
-        Ok((bytes, snapshot)) => {
+        Ok((state, bytes, snapshot)) => {
             if root.full() {
                 return Err(StoreFault::NoMemory);
             }
             match first_files(disk, &mut root, &bytes) {
                 Ok(log) => Ok(Found {
-                    root,
-                    log,
+                    files: Files::sure(root, state, log),
                     snapshot,
                     records: 0,
                     documents: 0,
@@ -67,20 +67,21 @@ pub(crate) fn begin<D: Disk>(
     }
 }
 
-/// The first root of an index, and its snapshot.
+/// The first state of an index, its bytes, and its snapshot.
 fn first_of(
     alloc: Global,
     schema: &Schema,
-) -> Result<(RootBytes, Arc<Snapshot<AnyChunk>, Global>), NoMemory>
+) -> Result<(RootState, RootBytes, Arc<Snapshot<AnyChunk>, Global>), NoMemory>
     requires { IsSchema schema.now }
-    ensures bytes { IfOk result (λ first. first.0 ≡ first_state schema.now) }
+    ensures first { IfOk result (λ first. first.0 ≡ first_state schema.now) }
+    ensures bytes { IfOk result (λ first. first.1 ≡ first_state schema.now) }
     ensures state { IfOk result (λ first. IsState (first_state schema.now)) }
-    ensures snapshot { IfOk result (λ first. IsSnapshotOf schema.now 0 [] (arc_value first.1)) }
+    ensures snapshot { IfOk result (λ first. IsSnapshotOf schema.now 0 [] (arc_value first.2)) }
 {
     let state = state_of(alloc, schema)?;
     let bytes = RootBytes::new(alloc, &state)?;
     let snapshot = Loaded::new(alloc, 0).into_snapshot();
-    Ok((bytes, Arc::new(alloc, snapshot)?))
+    Ok((state, bytes, Arc::new(alloc, snapshot)?))
 }
 
 /// The first state of an index.

@@ -74,8 +74,7 @@ impl<D: Disk, J: Naming> Keeper<D, J> {
         let Kept {
             alloc: _alloc,
             disk,
-            root: _root,
-            log: _log,
+            files: _files,
             line,
         } = kept;
         line.close(rt);

@@ -24,9 +24,9 @@ impl<D: Disk, J: Naming> Kept<D, J> {
     /// Settles what waits, and teaches the token the history.
     fn ready<R: Wait>(&mut self, rt: &R, token: &mut Token<J>) -> Result<(), Or<Failed>>
         requires index { token.old.index ≡ self.old.line.index }
-        requires kept { Keeps D.Disk J.schema J.base self.old.disk self.old.root self.old.log self.old.line }
-        ensures ends { Readies self.old.line token.old (D.faults self.old.disk) result self.new.line self.new.log token.new (D.faults self.new.disk) }
-        ensures kept { Keeps D.Disk J.schema J.base self.new.disk self.new.root self.new.log self.new.line }
+        requires kept { Keeps D.Disk J.schema J.base self.old.disk self.old.files self.old.line }
+        ensures ends { Readies self.old.line token.old (D.faults self.old.disk) result self.new.line self.new.files.log token.new (D.faults self.new.disk) }
+        ensures kept { Keeps D.Disk J.schema J.base self.new.disk self.new.files self.new.line }
         ensures crash { LeavesOnly D.Disk self.old.disk self.new.disk (GivesEither (J.schema self.old.line.index) (J.base self.old.line.index) self.old.line.history self.old.line.waiting) }
     {
         let settled = self.settle(rt);
@@ -71,7 +71,7 @@ impl<D: Disk, J: Naming> Keeper<D, J> {
         requires worker { (0 < worker) × (worker ≤ self.old.kept.line.workers) }
         requires of { IsSchema (J.schema self.old.kept.line.index) × IsTxnOf (J.schema self.old.kept.line.index) txn.now }
         requires sound { IsSound D.Disk J.schema J.base self.old }
-        ensures ends { Commits (J.base self.old.kept.line.index) self.old.kept.line token.old worker txn.now.ops (D.faults self.old.kept.disk) result self.new.kept.line self.new.kept.log token.new (D.faults self.new.kept.disk) }
+        ensures ends { Commits (J.base self.old.kept.line.index) self.old.kept.line token.old worker txn.now.ops (D.faults self.old.kept.disk) result self.new.kept.line self.new.kept.files.log token.new (D.faults self.new.kept.disk) }
         ensures strayed { self.new.strayed ≡ strayed_after self.old.strayed result }
         ensures same { IsSameKeeper self.old self.new }
         ensures token { IsSameToken token.old token.new }
@@ -92,7 +92,7 @@ impl<D: Disk, J: Naming> Keeper<D, J> {
     /// Settles the step that waits: after it nothing does. Otherwise it still waits.
     pub fn settle<R: Wait>(&mut self, rt: &R) -> Result<(), Or<Failed>>
         requires sound { IsSound D.Disk J.schema J.base self.old }
-        ensures ends { Settles self.old.kept.line (D.faults self.old.kept.disk) result self.new.kept.line self.new.kept.log (D.faults self.new.kept.disk) }
+        ensures ends { Settles self.old.kept.line (D.faults self.old.kept.disk) result self.new.kept.line self.new.kept.files.log (D.faults self.new.kept.disk) }
         ensures strayed { self.new.strayed ≡ self.old.strayed }
         ensures same { IsSameKeeper self.old self.new }
         ensures sound { IsSound D.Disk J.schema J.base self.new }

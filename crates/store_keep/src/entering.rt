@@ -21,20 +21,20 @@ use step_line::Pending;
 impl<D: Disk, J: Naming> Kept<D, J> {
     /// Stages the record of a commit, which waits from then on.
     pub(crate) fn enter(&mut self, staged: &Staged, pending: Pending<J>) -> Result<(), Failed>
-        requires rests { self.old.log.staged ≡ None }
+        requires rests { self.old.files.log.staged ≡ None }
         requires none { self.old.line.waiting ≡ None }
         requires from { pending.from ≡ record { index = self.old.line.index; steps = self.old.line.history } }
         requires by { IsBy self.old.line.workers pending.step }
         requires enters { Enters (J.schema self.old.line.index) (J.base self.old.line.index) self.old.line.history pending.step staged.now }
-        requires kept { Keeps D.Disk J.schema J.base self.old.disk self.old.root self.old.log self.old.line }
+        requires kept { Keeps D.Disk J.schema J.base self.old.disk self.old.files self.old.line }
         ensures ok { OnOk result (self.new.line ≡ record self.old.line { waiting = Some pending.step }) }
         ensures err { OnErr result (self.new.line ≡ self.old.line) }
-        ensures rests { OnErr result (self.new.log.staged ≡ None) }
-        ensures kept { Keeps D.Disk J.schema J.base self.new.disk self.new.root self.new.log self.new.line }
+        ensures rests { OnErr result (self.new.files.log.staged ≡ None) }
+        ensures kept { Keeps D.Disk J.schema J.base self.new.disk self.new.files self.new.line }
         ensures crash { LeavesOnly D.Disk self.old.disk self.new.disk (Gives (J.schema self.old.line.index) (J.base self.old.line.index) self.old.line.history) }
         ensures cause { HasCause (D.faults self.old.disk) (D.faults self.new.disk) result }
     {
-        match self.log.stage(&mut self.disk, staged) {
+        match self.files.log.stage(&mut self.disk, staged) {
             Ok(()) => {
                 self.line.put(pending);
                 Ok(())

@@ -1,15 +1,13 @@
-use any_chunk::AnyChunk;
 use doc_types::Snapshot;
-use gate_log::GateLog;
-use root_slots::Root;
+use image_chunk::AnyChunk;
 use std::alloc::Global;
 use std::sync::Arc;
+use store_steps::Files;
 
-/// What the files of an index are: root, log, and the documents.
+/// What the files of an index are, and the documents.
 #[derive(Drop)]
 pub(crate) struct Found {
-    pub(crate) root: Root,
-    pub(crate) log: GateLog,
+    pub(crate) files: Files,
     pub(crate) snapshot: Arc<Snapshot<AnyChunk>, Global>,
     pub(crate) records: u64,
     pub(crate) documents: u32,

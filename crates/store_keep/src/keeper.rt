@@ -39,10 +39,10 @@ impl<D: Disk, J: Naming> Keeper<D, J> {
     ) -> Result<(Keeper<D, J>, Vec<Token<J>>), D>
         requires workers { 0 < workers }
         requires book { opened.book.past.seen.book ≡ J.book index }
-        requires base { J.base index ≡ record { opening = arc_value opened.snapshot; log = opened.log.end } }
+        requires base { J.base index ≡ record { opening = arc_value opened.snapshot; log = opened.files.log.end } }
         requires shape { (arc_value opened.snapshot).shape ≡ 0 }
         requires of { AreOf (J.schema index) (arc_value opened.snapshot) }
-        requires kept { IsKept D.Disk (J.schema index) (J.base index) [] None opened.disk opened.root opened.log }
+        requires kept { IsKept D.Disk (J.schema index) (J.base index) [] None opened.disk opened.files }
         ensures keeper { IfOk result (λ named. IsNamed opened index workers named.0) }
         ensures tokens { IfOk result (λ named. named.1.items ≡ first_tokens index workers) }
         ensures sound { IfOk result (λ named. IsSound D.Disk J.schema J.base named.0) }
@@ -50,8 +50,7 @@ impl<D: Disk, J: Naming> Keeper<D, J> {
     {
         let Opened {
             disk,
-            root,
-            log,
+            files,
             book,
             snapshot,
             records,
@@ -65,8 +64,7 @@ impl<D: Disk, J: Naming> Keeper<D, J> {
                 let kept = Kept {
                     alloc,
                     disk,
-                    root,
-                    log,
+                    files,
                     line,
                 };
                 let keeper = Keeper {

@@ -12,9 +12,9 @@ ghost use Rattle.store_keep.specs.steps.Pieces.{IsLaidOf, IsPiece};
 
 use crate::pieces::{MOST_ROWS, Piece};
 use crate::preparing::upkept;
-use any_chunk::AnyChunk;
 use doc_types::{Chunk, Layer, Snapshot};
-use layer_commit::{kill_ids, live_count};
+use image_chunk::AnyChunk;
+use layer_commit::{kill_rows, live_count};
 use srch_base::{Items, NoMemory};
 use std::alloc::Global;
 use std::sync::Arc;
@@ -80,7 +80,7 @@ fn left_of(
     if cleared {
         return Ok(Vec::new(alloc));
     }
-    kill_ids(alloc, layers, ids)
+    kill_rows(alloc, layers, false, ids)
 }
 
 /// These layers and one of a chunk in memory, if it has rows.

@@ -26,5 +26,7 @@ mod settling;
 pub use commit_outcomes::Doubt;
 pub use fault::{CommitFault, Committed, StoreFault};
 pub use keeper::Keeper;
-pub use laws::a_crash_between_calls_leaves_the_documents;
+pub use laws::{
+    a_crash_between_calls_leaves_the_documents, files_between_calls_are_those_of_the_history,
+};
 pub use opening::Opened;

@@ -29,9 +29,9 @@ impl<D: Disk, J: Naming> Kept<D, J> {
         removed: u32,
     ) -> Result<Committed<J>, CommitFault<J>>
         requires token { token.old.index ≡ self.old.line.index }
-        requires kept { Keeps D.Disk J.schema J.base self.old.disk self.old.root self.old.log self.old.line }
-        ensures ends { Finishes self.old.line token.old number removed (D.faults self.old.disk) result self.new.line self.new.log token.new (D.faults self.new.disk) }
-        ensures kept { Keeps D.Disk J.schema J.base self.new.disk self.new.root self.new.log self.new.line }
+        requires kept { Keeps D.Disk J.schema J.base self.old.disk self.old.files self.old.line }
+        ensures ends { Finishes self.old.line token.old number removed (D.faults self.old.disk) result self.new.line self.new.files.log token.new (D.faults self.new.disk) }
+        ensures kept { Keeps D.Disk J.schema J.base self.new.disk self.new.files self.new.line }
         ensures crash { LeavesOnly D.Disk self.old.disk self.new.disk (GivesEither (J.schema self.old.line.index) (J.base self.old.line.index) self.old.line.history self.old.line.waiting) }
     {
         match self.settle(rt) {
@@ -56,16 +56,16 @@ impl<D: Disk, J: Naming> Kept<D, J> {
         token: &mut Token<J>,
         prepared: Prepared<J>,
     ) -> Result<Committed<J>, CommitFault<J>>
-        requires rests { self.old.log.staged ≡ None }
+        requires rests { self.old.files.log.staged ≡ None }
         requires none { self.old.line.waiting ≡ None }
         requires index { token.old.index ≡ self.old.line.index }
         requires room { token.old.made + 1 < 2 ^ 64 }
         requires from { prepared.pending.from ≡ front_of self.old.line }
         requires by { IsBy self.old.line.workers prepared.pending.step }
         requires enters { Enters (J.schema self.old.line.index) (J.base self.old.line.index) self.old.line.history prepared.pending.step prepared.staged }
-        requires kept { Keeps D.Disk J.schema J.base self.old.disk self.old.root self.old.log self.old.line }
-        ensures ends { Makes self.old.line token.old prepared.pending.step prepared.number prepared.removed (D.faults self.old.disk) result self.new.line self.new.log token.new (D.faults self.new.disk) }
-        ensures kept { Keeps D.Disk J.schema J.base self.new.disk self.new.root self.new.log self.new.line }
+        requires kept { Keeps D.Disk J.schema J.base self.old.disk self.old.files self.old.line }
+        ensures ends { Makes self.old.line token.old prepared.pending.step prepared.number prepared.removed (D.faults self.old.disk) result self.new.line self.new.files.log token.new (D.faults self.new.disk) }
+        ensures kept { Keeps D.Disk J.schema J.base self.new.disk self.new.files self.new.line }
         ensures crash { LeavesOnly D.Disk self.old.disk self.new.disk (GivesEntered (J.schema self.old.line.index) (J.base self.old.line.index) self.old.line.history self.new.line) }
     {
         let Prepared {
@@ -91,15 +91,15 @@ impl<D: Disk, J: Naming> Kept<D, J> {
         token: &mut Token<J>,
         txn: &Txn,
     ) -> Result<Committed<J>, CommitFault<J>>
-        requires rests { self.old.log.staged ≡ None }
+        requires rests { self.old.files.log.staged ≡ None }
         requires none { self.old.line.waiting ≡ None }
         requires index { token.old.index ≡ self.old.line.index }
         requires worker { (0 < worker) × (worker ≤ self.old.line.workers) }
         requires made { token.old.made ≡ kept_by worker self.old.line }
         requires of { IsSchema (J.schema self.old.line.index) × IsTxnOf (J.schema self.old.line.index) txn.now }
-        requires kept { Keeps D.Disk J.schema J.base self.old.disk self.old.root self.old.log self.old.line }
-        ensures ends { Ends (J.base self.old.line.index) self.old.line token.old worker txn.now.ops (D.faults self.old.disk) result self.new.line self.new.log token.new (D.faults self.new.disk) }
-        ensures kept { Keeps D.Disk J.schema J.base self.new.disk self.new.root self.new.log self.new.line }
+        requires kept { Keeps D.Disk J.schema J.base self.old.disk self.old.files self.old.line }
+        ensures ends { Ends (J.base self.old.line.index) self.old.line token.old worker txn.now.ops (D.faults self.old.disk) result self.new.line self.new.files.log token.new (D.faults self.new.disk) }
+        ensures kept { Keeps D.Disk J.schema J.base self.new.disk self.new.files self.new.line }
         ensures crash { LeavesOnly D.Disk self.old.disk self.new.disk (GivesEntered (J.schema self.old.line.index) (J.base self.old.line.index) self.old.line.history self.new.line) }
     {
         match self.prepare(worker, txn) {

@@ -6,9 +6,9 @@ ghost use Rattle.doc_types.specs.Snapshots.{live};
 ghost use Rattle.step_history.specs.Places.{disk_chunks};
 
 use crate::opening::Opened;
-use any_chunk::AnyChunk;
 use chunk_store::Disk;
 use doc_types::Snapshot;
+use image_chunk::AnyChunk;
 
 impl<D: Disk> Opened<D> {
     /// How many documents live.
@@ -40,8 +40,7 @@ impl<D: Disk> Opened<D> {
     {
         let Opened {
             disk,
-            root: _root,
-            log: _log,
+            files: _files,
             book: _book,
             snapshot: _snapshot,
             records: _records,

@@ -19,24 +19,23 @@ use crate::beginning::{begin, text_of};
 use crate::fault::StoreFault;
 use crate::found::Found;
 use crate::loading::{Loaded, LogEnd};
-use any_chunk::AnyChunk;
 use chunk_store::{Disk, read_whole};
 use doc_types::{Schema, Snapshot};
 use gate_log::GateLog;
+use image_chunk::AnyChunk;
 use root_slots::{Root, RootFault, RootKind, RootState};
 use srch_base::{Failed, NoMemory, OpenFault};
 use std::alloc::Global;
 use std::sync::Arc;
 use std::thread::Threads;
 use step_book::NewBook;
-use store_steps::{Damage, DamageKind, MOST_OPENED_CHUNKS};
+use store_steps::{Damage, DamageKind, Files};
 
 /// A store that was opened and has no name yet.
 #[derive(Drop)]
 pub struct Opened<D: Disk> {
     pub(crate) disk: D,
-    pub(crate) root: Root,
-    pub(crate) log: GateLog,
+    pub(crate) files: Files,
     pub(crate) book: NewBook,
     pub(crate) snapshot: Arc<Snapshot<AnyChunk>, Global>,
     pub(crate) records: u64,
@@ -64,16 +63,14 @@ impl<D: Disk> Opened<D> {
         match find(rt, alloc, &mut disk, schema) {
             Ok(found) => {
                 let Found {
-                    root,
-                    log,
+                    files,
                     snapshot,
                     records,
                     documents,
                 } = found;
                 Ok(Opened {
                     disk,
-                    root,
-                    log,
+                    files,
                     book: NewBook::new(),
                     snapshot,
                     records,
@@ -98,7 +95,7 @@ fn find<D: Disk, R: Threads>(
     ensures cause { HasStoreCause (D.faults disk.old) (D.faults disk.new) result }
 {
     match read_root(alloc, disk) {
-        Ok((root, Some(state))) => read_found(rt, alloc, disk, schema, root, &state),
+        Ok((root, Some(state))) => read_found(rt, alloc, disk, schema, root, state),
         Ok((root, None)) => begin(alloc, disk, schema, root),
         Err(fault) => Err(fault),
     }
@@ -146,17 +143,17 @@ fn read_found<D: Disk, R: Threads>(
     disk: &mut D,
     schema: &Schema,
     root: Root,
-    state: &RootState,
+    state: RootState,
 ) -> Result<Found, StoreFault>
     requires schema { IsSchema schema.now }
-    requires state { IsState state.now }
-    requires root { IsRootRead (D.told disk.old) (D.may_leave disk.old) root (Some state.now) }
+    requires state { IsState state }
+    requires root { IsRootRead (D.told disk.old) (D.may_leave disk.old) root (Some state) }
     ensures finds { Finds D.Disk schema.now disk.old disk.new result }
     ensures looks { OnlyReads D.Disk disk.old disk.new }
     ensures cause { HasStoreCause (D.faults disk.old) (D.faults disk.new) result }
 {
-    match check_columns(alloc, schema, &root, state) {
-        Ok(()) => match read_logs(rt, alloc, disk, schema, state) {
+    match check_columns(alloc, schema, &root, &state) {
+        Ok(()) => match read_logs(rt, alloc, disk, schema, &state) {
             Ok(logs) => match load(alloc, root, state, logs) {
                 Ok(found) => Ok(found),
                 Err(NoMemory) => Err(StoreFault::NoMemory),
@@ -195,21 +192,18 @@ fn steady<D: Disk>(disk: &mut D, file: u32) -> Result<(), Failed>
     }
 }
 
-/// Whether a root can be taken: it names no more chunks than are opened, and its columns are those of the schema.
+/// Whether a root can be taken: its columns are those of the schema. One with chunks isn't opened yet.
 fn check_state(root: &Root, state: &RootState, text: &[u8]) -> Result<(), StoreFault>
     ensures bytes { IsOfBytes result }
     ensures checks { (schema : AnySchema) → text.now ≡ schema_text schema → ChecksState schema root.now state.now result }
 {
     let file = u32::from(root.slot());
-    if state.chunks.len() > MOST_OPENED_CHUNKS {
-        return Err(StoreFault::Damaged(Damage {
-            file,
-            place: state.schema_text.as_bytes().len() as u64 + 35,
-            kind: DamageKind::RootState,
-        }));
-    }
     if same_bytes(state.schema_text.as_bytes(), text) {
-        return Ok(());
+        return if state.chunks.is_empty() {
+            Ok(())
+        } else {
+            Err(StoreFault::NoMemory)
+        };
     }
     Err(StoreFault::Damaged(Damage {
         file,
@@ -225,8 +219,8 @@ fn same_bytes(left: &[u8], right: &[u8]) -> bool
 }
 
 /// The documents of a root's logs.
-fn load(alloc: Global, root: Root, state: &RootState, logs: Logs) -> Result<Found, NoMemory>
-    ensures { IfOk result (λ found. (schema : AnySchema) (records : List LogRecord) → IsLoaded schema state.now.through records logs.loaded → IsLoadedAs schema root state.now logs records found) }
+fn load(alloc: Global, root: Root, state: RootState, logs: Logs) -> Result<Found, NoMemory>
+    ensures { IfOk result (λ found. (schema : AnySchema) (records : List LogRecord) → IsLoaded schema state.through records logs.loaded → IsLoadedAs schema root state logs records found) }
 {
     let Logs { loaded, end } = logs;
     let snapshot = loaded.into_snapshot();
@@ -236,9 +230,9 @@ fn load(alloc: Global, root: Root, state: &RootState, logs: Logs) -> Result<Foun
     }
     let records = snapshot.number.saturating_sub(state.through);
     let documents = snapshot.live_count();
+    let log = GateLog::behind(state.newer, end.end, end.last);
     Ok(Found {
-        root,
-        log: GateLog::behind(state.newer, end.end, end.last),
+        files: Files::sure(root, state, log),
         snapshot: Arc::new(alloc, snapshot)?,
         records,
         documents,

@@ -24,12 +24,12 @@ ghost use Rattle.store_keep.specs.steps.Stages.{IsPrepared, Prepares};
 use crate::fault::CommitFault;
 use crate::kept::Kept;
 use crate::numbers::numbers_fit;
-use any_chunk::AnyChunk;
 use chunk_store::Disk;
 use commit_outcomes::{Full, FullKind, MAX_DOCUMENTS};
 use doc_bytes::put_txn;
 use doc_types::{Snapshot, Txn, TxnOp, txn_bytes};
 use gate_log::Staged;
+use image_chunk::AnyChunk;
 use layer_commit::{Refusal, commit};
 use layer_joins::merge_last;
 use srch_base::{NoMemory, Or};
@@ -102,10 +102,10 @@ fn record_of(alloc: Global, number: u64, txn: &Txn) -> Result<Staged, NoMemory>
 impl<D: Disk, J: Naming> Kept<D, J> {
     /// Whether the log has no room for the record of a transaction. No memory holds a transaction whose length can't be counted.
     fn log_full(&self, txn: &Txn) -> Result<Option<Full>, NoMemory>
-        requires end { self.now.log.end ≡ log_at (J.base self.now.line.index) self.now.line.history }
+        requires end { self.now.files.log.end ≡ log_at (J.base self.now.line.index) self.now.line.history }
         ensures { IfOk result (λ full. full ≡ full_log (J.base self.now.line.index) self.now.line.history (map change_of txn.now.ops)) }
     {
-        let at = self.log.end();
+        let at = self.files.log.end();
         let need = txn_bytes(txn).checked_add(13).ok_or(NoMemory)?;
         if at.saturating_add(need) <= most_log(txn) {
             return Ok(None);
@@ -128,7 +128,7 @@ impl<D: Disk, J: Naming> Kept<D, J> {
 
     /// The limit that a commit of a transaction would pass, where there aren't too many documents.
     fn full(&self, txn: &Txn) -> Result<Option<Full>, NoMemory>
-        requires end { self.now.log.end ≡ log_at (J.base self.now.line.index) self.now.line.history }
+        requires end { self.now.files.log.end ≡ log_at (J.base self.now.line.index) self.now.line.history }
         requires few { finite.len (changed (last_snapshot (J.base self.now.line.index) self.now.line.history) (map change_of txn.now.ops)) ≤ MAX_DOCUMENTS }
         ensures { IfOk result (λ full. full ≡ full_of (J.base self.now.line.index) self.now.line.history (map change_of txn.now.ops)) }
     {
@@ -189,7 +189,7 @@ impl<D: Disk, J: Naming> Kept<D, J> {
         removed: u32,
     ) -> Result<Prepared<J>, CommitFault<J>>
         requires none { self.now.line.waiting ≡ None }
-        requires end { self.now.log.end ≡ log_at (J.base self.now.line.index) self.now.line.history }
+        requires end { self.now.files.log.end ≡ log_at (J.base self.now.line.index) self.now.line.history }
         requires worker { (0 < worker) × (worker ≤ self.now.line.workers) }
         requires of { IsSchema (J.schema self.now.line.index) × IsTxnOf (J.schema self.now.line.index) txn.now }
         requires applies { Applies MAX_DOCUMENTS txn.now.ops (last_snapshot (J.base self.now.line.index) self.now.line.history) removed next }
@@ -210,7 +210,7 @@ impl<D: Disk, J: Naming> Kept<D, J> {
 
     /// Refuses a commit that was accepted, after which there would be too many documents.
     fn refuse(&self, txn: &Txn, full: Full) -> CommitFault<J>
-        requires end { self.now.log.end ≡ log_at (J.base self.now.line.index) self.now.line.history }
+        requires end { self.now.files.log.end ≡ log_at (J.base self.now.line.index) self.now.line.history }
         requires full { IsFull MAX_DOCUMENTS txn.now.ops (last_snapshot (J.base self.now.line.index) self.now.line.history) full }
         ensures { Refuses (J.base self.now.line.index) self.now.line txn.now.ops result }
     {
@@ -225,10 +225,10 @@ impl<D: Disk, J: Naming> Kept<D, J> {
     /// Tries the operations of a transaction, and makes what it commits.
     pub(crate) fn prepare(&self, worker: u32, txn: &Txn) -> Result<Prepared<J>, CommitFault<J>>
         requires none { self.now.line.waiting ≡ None }
-        requires rests { self.now.log.staged ≡ None }
+        requires rests { self.now.files.log.staged ≡ None }
         requires worker { (0 < worker) × (worker ≤ self.now.line.workers) }
         requires of { IsSchema (J.schema self.now.line.index) × IsTxnOf (J.schema self.now.line.index) txn.now }
-        requires kept { Keeps D.Disk J.schema J.base self.now.disk self.now.root self.now.log self.now.line }
+        requires kept { Keeps D.Disk J.schema J.base self.now.disk self.now.files self.now.line }
         ensures { Prepares (J.schema self.now.line.index) (J.base self.now.line.index) self.now.line worker txn.now.ops result }
     {
         match commit::<AnyChunk>(self.alloc, self.line.snapshot(), txn, MAX_DOCUMENTS) {

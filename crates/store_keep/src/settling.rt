@@ -15,39 +15,38 @@ use step_book::Naming;
 impl<D: Disk, J: Naming> Kept<D, J> {
     /// Opens the gate of the record that is staged, if one is.
     pub(crate) fn sync_pending(&mut self) -> Result<(), Failed>
-        requires kept { Keeps D.Disk J.schema J.base self.old.disk self.old.root self.old.log self.old.line }
+        requires kept { Keeps D.Disk J.schema J.base self.old.disk self.old.files self.old.line }
         ensures line { self.new.line ≡ self.old.line }
-        ensures root { self.new.root ≡ self.old.root }
-        ensures none { OnOk result (self.new.log.staged ≡ None) }
-        ensures kept { Keeps D.Disk J.schema J.base self.new.disk self.new.root self.new.log self.new.line }
+        ensures none { OnOk result (self.new.files.log.staged ≡ None) }
+        ensures kept { Keeps D.Disk J.schema J.base self.new.disk self.new.files self.new.line }
         ensures crash { LeavesOnly D.Disk self.old.disk self.new.disk (GivesEither (J.schema self.old.line.index) (J.base self.old.line.index) self.old.line.history self.old.line.waiting) }
         ensures waits { OnErr result (self.old.line.waiting ≢ None) }
         ensures cause { HasCause (D.faults self.old.disk) (D.faults self.new.disk) result }
     {
-        if self.log.is_staged() {
-            self.log.open_gate(&mut self.disk)?;
+        if self.files.log.is_staged() {
+            self.files.log.open_gate(&mut self.disk)?;
         }
         Ok(())
     }
 
     /// Publishes the step that waits. Its record isn't staged any more.
     pub(crate) fn publish<R: Wait>(&mut self, rt: &R) -> Result<(), NoMemory>
-        requires none { self.old.log.staged ≡ None }
-        requires kept { Keeps D.Disk J.schema J.base self.old.disk self.old.root self.old.log self.old.line }
+        requires none { self.old.files.log.staged ≡ None }
+        requires kept { Keeps D.Disk J.schema J.base self.old.disk self.old.files self.old.line }
         ensures ok { OnOk result (self.new.line ≡ settled self.old.line) }
         ensures err { OnErr result (self.new.line ≡ self.old.line) }
         ensures disk { self.new.disk ≡ self.old.disk }
-        ensures log { self.new.log ≡ self.old.log }
-        ensures kept { Keeps D.Disk J.schema J.base self.new.disk self.new.root self.new.log self.new.line }
+        ensures log { self.new.files.log ≡ self.old.files.log }
+        ensures kept { Keeps D.Disk J.schema J.base self.new.disk self.new.files self.new.line }
     {
         self.line.settle(rt)
     }
 
     /// Settles the step that waits: after it nothing does. Otherwise it still waits.
     pub(crate) fn settle<R: Wait>(&mut self, rt: &R) -> Result<(), Or<Failed>>
-        requires kept { Keeps D.Disk J.schema J.base self.old.disk self.old.root self.old.log self.old.line }
-        ensures ends { Settles self.old.line (D.faults self.old.disk) result self.new.line self.new.log (D.faults self.new.disk) }
-        ensures kept { Keeps D.Disk J.schema J.base self.new.disk self.new.root self.new.log self.new.line }
+        requires kept { Keeps D.Disk J.schema J.base self.old.disk self.old.files self.old.line }
+        ensures ends { Settles self.old.line (D.faults self.old.disk) result self.new.line self.new.files.log (D.faults self.new.disk) }
+        ensures kept { Keeps D.Disk J.schema J.base self.new.disk self.new.files self.new.line }
         ensures crash { LeavesOnly D.Disk self.old.disk self.new.disk (GivesEither (J.schema self.old.line.index) (J.base self.old.line.index) self.old.line.history self.old.line.waiting) }
     {
         match self.sync_pending() {

@@ -1,8 +1,15 @@
 -- One damage, or none: what is wrong with files is one thing, and nothing is where they can be read.
-use Rattle.std.proofs.Common.{◌≡◌, ◌≢◌, ◌⊎◌, inl, inr, ℕ, zero, suc, ◌+◌, ◌≤◌, List, [], ◌∷◌, ◌++◌, Option, Some, None, length, map, refl, sym, ◌∙◌, ap, subst, arith}
+use Rattle.std.proofs.Common.{◌≡◌, ◌≢◌, ◌⊎◌, inl, inr, ℕ, zero, suc, ◌+◌, ◌≤◌, ◌<◌, Bool, cond, List, [], ◌∷◌, ◌++◌, Option, Some, None, length, map, refl, sym, ◌∙◌, ap, subst, arith}
 use Rattle.std.specs.Prelude.{All}
+use Rattle.std.specs.List.{fold}
+use Rattle.std.proofs.lemmas.Bool.{le-ltb}
+use Rattle.std.proofs.lemmas.List.Elements.{All-head, All-tail}
+use Rattle.chunk_damage.specs.Header.{row_at}
+use Rattle.doc_types.specs.declared.documents.DocRow.{DocRow}
 use Rattle.doc_types.specs.declared.schema.Schema.{Schema}
 use Rattle.doc_types.specs.Rows.{Rows}
+use Rattle.doc_types.specs.Schemas.{IsSchema}
+use Rattle.doc_types.specs.Snapshots.{all_living}
 use Rattle.chunk_store.specs.Images.{Image, contents}
 use Rattle.gate_log.specs.Logs.{last_number}
 use Rattle.gate_log.specs.Reading.{Begins, MayCome, behind}
@@ -12,18 +19,20 @@ use Rattle.gate_log.specs.declared.records.LogRecord.{LogRecord}
 use Rattle.gate_log.proofs.OneReading.{behind_is, one_list}
 use Rattle.root_slots.specs.Choosing.{IsBadRoot, IsGood}
 use Rattle.root_slots.specs.Slots.{IsRoot, Slot, slots_of}
+use Rattle.root_slots.specs.States.{IsState}
 use Rattle.root_slots.specs.declared.fault.RootKind.{RootKind}
 use Rattle.root_slots.specs.declared.state.RootState.{RootState}
-use Rattle.store_steps.specs.Batches.{Batch, AreFrom, IsBatchOf, record_of}
-use Rattle.store_steps.specs.Damage.{AreBadLogs, IsBadLog, IsBadNewer, IsBadOlder, IsBadRootState, IsBadSlot, IsBadState, IsDamaged, IsGoodState, IsRootIn, of_root}
-use Rattle.store_steps.specs.Directory.{Directory, Holds, HoldsFiles, IsOlderLog, StandsFor}
+use Rattle.store_steps.specs.Batches.{Batch, AreFrom, IsBatchOf, above, record_of}
+use Rattle.store_steps.specs.Damage.{AreBadChunks, AreBadLogs, AreChunks, EndsEarly, HasBadChunks, HasIdTwice, IsAgain, IsBadLog, IsBadNewer, IsBadOlder, IsBadRootState, IsBadSlot, IsBadState, IsDamaged, IsGoodState, IsLastGate, IsRootIn, of_root}
+use Rattle.store_steps.specs.Directory.{Directory, Holds, HoldsFiles, IsOlderLog, Reaches, StandsFor, directory_number, layers_from, logged}
 use Rattle.store_steps.specs.declared.damage.Damage.{Damage}
 use Rattle.store_steps.specs.declared.damage.DamageKind.{DamageKind}
 use Rattle.store_steps.specs.declared.damage.DamageKind.TheVariants as kinds
-use Rattle.store_steps.specs.declared.damage.TheConstants.{MOST_OPENED_CHUNKS}
-use Rattle.store_laws.proofs.OneDirectory.{newer_are, older_are, root_of}
+use Rattle.store_steps.proofs.Apart.{AreApart}
+use Rattle.store_laws.proofs.OneChunk.{ImageLaws, never_again, never_bad_chunks, one_again, one_bad_chunks}
+use Rattle.store_laws.proofs.OneDirectory.{HasRoot, newer_are, older_are, one_list_of_chunks, root_of, same_directory}
 use Rattle.store_laws.proofs.OneLog.{never_bad_log, one_bad_log}
-use Rattle.store_laws.proofs.OneRoot.{both_good, never_bad, none_good, no_root, one_bad, one_slot, root_in}
+use Rattle.store_laws.proofs.OneRoot.{both_good, never_bad, none_good, no_root, one_bad, one_slot}
 
 -- ---- slots
 
@@ -55,18 +64,49 @@ one_bad_slot x damage other one two =
 
 -- a state that can't be taken is so in one way, and it isn't one that can
 one_bad_state : (schema : Schema) (state : RootState) (kind its : DamageKind) (place other : ℕ) → IsBadState schema state kind place → IsBadState schema state its other → (kind ≡ its) × (place ≡ other)
-one_bad_state schema state kinds.RootState kinds.RootState place other one two = (refl, one.1 ∙ sym two.1)
-one_bad_state schema state kinds.RootState kinds.RootSchema place other one two = absurd (omega (arith, one.0, two.0))
-one_bad_state schema state kinds.RootSchema kinds.RootState place other one two = absurd (omega (arith, one.0, two.0))
-one_bad_state schema state kinds.RootSchema kinds.RootSchema place other one two = (refl, one.2 ∙ sym two.2)
-one_bad_state schema state kinds.RootState its place other one two = absurd two
+one_bad_state schema state kinds.RootSchema kinds.RootSchema place other one two = (refl, one.1 ∙ sym two.1)
 one_bad_state schema state kinds.RootSchema its place other one two = absurd two
 one_bad_state schema state kind its place other one two = absurd one
 
 never_bad_state : (schema : Schema) (state : RootState) (kind : DamageKind) (place : ℕ) → IsGoodState schema state → IsBadState schema state kind place → ⊥
-never_bad_state schema state kinds.RootState place good bad = omega (arith, good.few, bad.0)
-never_bad_state schema state kinds.RootSchema place good bad = bad.1 good.text
+never_bad_state schema state kinds.RootSchema place good bad = bad.0 good
 never_bad_state schema state kind place good bad = bad
+
+-- ---- what the chunks say
+
+-- the state that a slot holds keeps the layout
+state_in : (file : ℕ) (root : Slot) (x : Image) → IsRootIn file root x → IsState root.state
+state_in zero root x is = is.0.slot.state
+state_in (suc zero) root x is = is.0.slot.state
+state_in (suc (suc file)) root x is = absurd is
+
+-- the chunks are wrong
+abbrev AreWrongChunks : Schema → RootState → Image → Damage → Type 0
+AreWrongChunks schema state x damage = AreBadChunks schema state.through x damage state.chunks ⊎ HasIdTwice schema state x damage
+
+module _ (schema : Schema) (limits : IsSchema schema) (laws : ImageLaws schema) (state : RootState) (is : IsState state) (x : Image) where
+  bad_never_good : (chunks : List (List DocRow)) (damage : Damage) → AreChunks schema state x chunks → AreBadChunks schema state.through x damage state.chunks → ⊥
+  bad_never_good chunks damage are bad = never_bad_chunks schema limits laws x state.through state.next_file (state.older ∷ state.newer ∷ []) state.chunks chunks damage is.chunks are.files are.rows bad
+
+  one_chunks : (xs ys : List (List DocRow)) → AreChunks schema state x xs → AreChunks schema state x ys → xs ≡ ys
+  one_chunks xs ys one two = one_list_of_chunks schema x state.through state.chunks xs ys limits one.files two.files one.rows two.rows
+
+  one_wrong_chunks : (damage other : Damage) → AreWrongChunks schema state x damage → AreWrongChunks schema state x other → damage ≡ other
+  one_wrong_chunks damage other (inl one) (inl two) = one_bad_chunks schema limits laws x state.through state.next_file (state.older ∷ state.newer ∷ []) state.chunks damage other is.chunks one two
+  one_wrong_chunks damage other (inl one) (inr two) = absurd (bad_never_good two.chunks damage two.are one)
+  one_wrong_chunks damage other (inr one) (inl two) = absurd (bad_never_good one.chunks other one.are two)
+  one_wrong_chunks damage other (inr one) (inr two) =
+      let same = one_chunks two.chunks one.chunks two.are one.are in
+      let both = one_again [] state.chunks one.chunks damage.file other.file one.row two.row one.again (subst (λ (chunks : List (List DocRow)). IsAgain [] state.chunks chunks other.file two.row) same two.again) in
+      let kind : damage.kind ≡ other.kind = one.kind ∙ sym two.kind in
+      let place : damage.place ≡ other.place = one.place ∙ ap (row_at schema) both.1 ∙ sym two.place in
+      λ i. record { file = both.0 i; place = place i; kind = kind i }
+
+  -- good chunks aren't wrong
+  never_wrong_chunks : (chunks : List (List DocRow)) (damage : Damage) → AreChunks schema state x chunks → AreApart (all_living (layers_from state.chunks chunks)) → AreWrongChunks schema state x damage → ⊥
+  never_wrong_chunks chunks damage are once (inl bad) = bad_never_good chunks damage are bad
+  never_wrong_chunks chunks damage are once (inr twice) =
+      never_again [] state.chunks chunks damage.file twice.row once (subst (λ (chunks : List (List DocRow)). IsAgain [] state.chunks chunks damage.file twice.row) (one_chunks twice.chunks chunks twice.are are) twice.again)
 
 -- ---- what the logs say
 
@@ -130,36 +170,87 @@ never_wrong schema x dir damage holds wrong =
           never_bad_log schema (before (map record_of newer.older)) dir.newer damage.kind damage.place (x dir.state.newer) begins (newer_are schema dir x holds) holds.newer newer.bad
     ]
 
--- The root names no more chunks than are opened.
-abbrev NamesFew : Image → Type 0
-NamesFew x = (root : Slot) → IsRoot (Some root) (slots_of x) → length root.state.chunks ≤ MOST_OPENED_CHUNKS
+-- ---- logs that end early
 
-held_never : (schema : Schema) (x : Image) (dir : Directory) (damage : Damage) → NamesFew x → HoldsFiles schema dir x → IsDamaged schema x damage → ⊥
-held_never schema x dir damage few holds damaged =
-    let at = root_of schema dir x holds in
-    elim damaged [
-      | inl slot ↦ never_bad_root damage.file damage.place slot.kind x (both_good at.slot at.root x at.stands) slot.bad
-      | inr (inl state) ↦
-          let same = one_slot at.slot damage.file at.root state.root x at.stands state.stands in
-          let text : state.root.state.schema_text ≡ _ = ap (λ (s : Slot). s.state.schema_text) (sym same.1) ∙ ap (λ (s : RootState). s.schema_text) at.state ∙ holds.in_order.text in
-          never_bad_state schema state.root.state damage.kind damage.place (record { few = few state.root (root_in damage.file state.root x state.stands); text = text }) state.bad
-      | inr (inr logs) ↦
-          let same = one_slot logs.file at.slot logs.root at.root x logs.stands at.stands in
-          never_wrong schema x dir damage holds (subst (λ (s : RootState). AreWrong schema s x damage) (ap (λ (s : Slot). s.state) same.1 ∙ at.state) logs.bad)
-    ]
+none_above : (through : ℕ) (bs : List Batch) → All (λ b. b.number < through) bs → above through bs ≡ []
+none_above through [] all = refl
+none_above through (b ∷ bs) all =
+    ap (λ (c : Bool). cond c (b ∷ above through bs) (above through bs)) (le-ltb through b.number (let low = All-head (λ (b : Batch). b.number < through) b bs all in omega (arith, low)))
+    ∙ none_above through bs (All-tail (λ (b : Batch). b.number < through) b bs all)
+
+low_end : (through number : ℕ) (bs : List Batch) → AreFrom number bs → All (λ b. b.number < through) bs → 0 < length bs → number + length bs ≤ through
+low_end through number [] from all some = absurd (omega (arith, some))
+low_end through number (b ∷ []) from all some = let low = All-head (λ (b : Batch). b.number < through) b [] all in omega (arith, low, from.0)
+low_end through number (b ∷ c ∷ bs) from all some = let rest = low_end through (number + 1) (c ∷ bs) from.1 (All-tail (λ (b : Batch). b.number < through) b (c ∷ bs) all) (omega arith) in omega (arith, rest)
+
+-- logs that end early don't reach as far as the chunks
+never_early : (dir : Directory) → Reaches dir → 0 < length (logged dir) → All (λ b. b.number < dir.state.through) (logged dir) → ⊥
+never_early dir reaches some early =
+    let number : directory_number dir ≡ dir.state.through = ap (fold (λ (number : ℕ) (b : Batch). b.number) dir.state.through) (none_above dir.state.through (logged dir) early) in
+    let low = low_end dir.state.through reaches.first (logged dir) reaches.numbers early some in
+    omega (arith, number, low, reaches.next)
+
+one_gate : (state : RootState) (older newer : List Batch) (file its place other : ℕ) → IsLastGate state older newer file place → IsLastGate state older newer its other → (file ≡ its) × (place ≡ other)
+one_gate state older [] file its place other one two = (one.0 ∙ sym two.0, one.1 ∙ sym two.1)
+one_gate state older (b ∷ newer) file its place other one two = (one.0 ∙ sym two.0, one.1 ∙ sym two.1)
+
+one_early : (schema : Schema) (x : Image) (damage other : Damage) → IsSchema schema → EndsEarly schema x damage → EndsEarly schema x other → damage ≡ other
+one_early schema x damage other limits one two =
+    let same = same_directory schema x two.dir one.dir limits two.holds one.holds in
+    let both = one_gate one.dir.state one.dir.older one.dir.newer damage.file other.file damage.place other.place one.gate (subst (λ (dir : Directory). IsLastGate dir.state dir.older dir.newer other.file other.place) same two.gate) in
+    let kind : damage.kind ≡ other.kind = one.kind ∙ sym two.kind in
+    λ i. record { file = both.0 i; place = both.1 i; kind = kind i }
+
+-- ---- files of a directory
+
+module _ (schema : Schema) (limits : IsSchema schema) (laws : ImageLaws schema) (x : Image) (dir : Directory) (holds : HoldsFiles schema dir x) where
+  at : HasRoot dir x
+  at = root_of schema dir x holds
+
+  -- another root is this one
+  state_of : (file : ℕ) (root : Slot) → IsRootIn file root x → root.state ≡ dir.state
+  state_of file root stands = ap (λ (s : Slot). s.state) (one_slot file at.slot root at.root x stands at.stands).1 ∙ at.state
+
+  layout : IsState dir.state
+  layout = subst IsState at.state (state_in at.slot at.root x at.stands)
+
+  held_slot : (damage : Damage) → IsBadSlot x damage → ⊥
+  held_slot damage bad = never_bad_root damage.file damage.place bad.kind x (both_good at.slot at.root x at.stands) bad.bad
+
+  held_state : (damage : Damage) → IsBadRootState schema x damage → ⊥
+  held_state damage state = never_bad_state schema state.root.state damage.kind damage.place (ap (λ (s : RootState). s.schema_text) (state_of damage.file state.root state.stands) ∙ holds.in_order.text) state.bad
+
+  held_chunks : (damage : Damage) → HasBadChunks schema x damage → ⊥
+  held_chunks damage chunks =
+      never_wrong_chunks schema limits laws dir.state layout x dir.chunks damage (record { files = holds.files.chunks; rows = holds.in_order.chunks }) holds.in_order.once
+      (subst (λ (s : RootState). AreWrongChunks schema s x damage) (state_of chunks.file chunks.root chunks.stands) chunks.bad)
+
+  held_logs : (damage : Damage) → AreBadLogs schema x damage → ⊥
+  held_logs damage logs = never_wrong schema x dir damage holds (subst (λ (s : RootState). AreWrong schema s x damage) (state_of logs.file logs.root logs.stands) logs.bad)
+
+  held_never : (damage : Damage) → Reaches dir → IsDamaged schema x damage → ⊥
+  held_never damage reaches (inl slot) = held_slot damage slot
+  held_never damage reaches (inr (inl state)) = held_state damage state
+  held_never damage reaches (inr (inr (inl chunks))) = held_chunks damage chunks
+  held_never damage reaches (inr (inr (inr (inl logs)))) = held_logs damage logs
+  held_never damage reaches (inr (inr (inr (inr early)))) =
+      let same = same_directory schema x early.dir dir limits early.holds holds in
+      never_early dir reaches (subst (λ (d : Directory). 0 < length (logged d)) same early.some) (subst (λ (d : Directory). All (λ b. b.number < d.state.through) (logged d)) same early.early)
 
 none_never : (schema : Schema) (x : Image) (damage : Damage) → IsRoot None (slots_of x) → IsDamaged schema x damage → ⊥
 none_never schema x damage none (inl slot) = never_bad_root damage.file damage.place slot.kind x (none_good x none) slot.bad
 none_never schema x damage none (inr (inl state)) = no_root damage.file state.root x none state.stands
-none_never schema x damage none (inr (inr logs)) = no_root logs.file logs.root x none logs.stands
+none_never schema x damage none (inr (inr (inl chunks))) = no_root chunks.file chunks.root x none chunks.stands
+none_never schema x damage none (inr (inr (inr (inl logs)))) = no_root logs.file logs.root x none logs.stands
+none_never schema x damage none (inr (inr (inr (inr early)))) = let at = root_of schema early.dir x early.holds in no_root at.slot at.root x none at.stands
 
-found_never : (schema : Schema) (x : Image) (found : Option Directory) (damage : Damage) → NamesFew x → Holds schema found x → IsDamaged schema x damage → ⊥
-found_never schema x None damage few holds damaged = none_never schema x damage holds damaged
-found_never schema x (Some dir) damage few holds damaged = held_never schema x dir damage few holds damaged
+found_never : (schema : Schema) (x : Image) (found : Option Directory) (damage : Damage) → IsSchema schema → ImageLaws schema → Holds schema found x → IsDamaged schema x damage → ⊥
+found_never schema x None damage limits laws holds damaged = none_never schema x damage holds damaged
+found_never schema x (Some dir) damage limits laws holds damaged = held_never schema limits laws x dir holds.0 damage holds.1 damaged
 
 -- Files that are damaged stand for nothing.
-pub never_damaged : (schema : Schema) (x : Image) (rows : Rows) (number : ℕ) (damage : Damage) → NamesFew x → StandsFor schema x rows number → IsDamaged schema x damage → ⊥
-never_damaged schema x rows number damage few stands damaged = found_never schema x stands.found damage few stands.holds damaged
+pub never_damaged : (schema : Schema) (x : Image) (rows : Rows) (number : ℕ) (damage : Damage) → IsSchema schema → ImageLaws schema → StandsFor schema x rows number → IsDamaged schema x damage → ⊥
+never_damaged schema x rows number damage limits laws stands damaged = found_never schema x stands.found damage limits laws stands.holds damaged
 
 -- ---- one damage
 
@@ -173,24 +264,59 @@ one_root_state schema x damage other one two =
     let both = one_bad_state schema one.root.state damage.kind other.kind damage.place other.place one.bad (subst (λ (s : Slot). IsBadState schema s.state other.kind other.place) (sym same.1) two.bad) in
     λ i. record { file = same.0 i; place = both.1 i; kind = both.0 i }
 
-never_both : (schema : Schema) (x : Image) (damage other : Damage) → IsBadRootState schema x damage → AreBadLogs schema x other → ⊥
-never_both schema x damage other state logs =
-    let same = one_slot logs.file damage.file logs.root state.root x logs.stands state.stands in
-    never_bad_state schema state.root.state damage.kind damage.place (subst (λ (s : Slot). IsGoodState schema s.state) same.1 logs.good) state.bad
+-- a root that can be taken, and one that can't
+never_state : (schema : Schema) (x : Image) (damage : Damage) (file : ℕ) (root : Slot) → IsRootIn file root x → IsGoodState schema root.state → IsBadRootState schema x damage → ⊥
+never_state schema x damage file root stands good state =
+    let same = one_slot file damage.file root state.root x stands state.stands in
+    never_bad_state schema state.root.state damage.kind damage.place (subst (λ (s : Slot). IsGoodState schema s.state) same.1 good) state.bad
 
-one_of_logs : (schema : Schema) (x : Image) (damage other : Damage) → AreBadLogs schema x damage → AreBadLogs schema x other → damage ≡ other
-one_of_logs schema x damage other one two =
-    let same = one_slot two.file one.file two.root one.root x two.stands one.stands in
-    one_wrong schema one.root.state x damage other one.bad (subst (λ (s : Slot). AreWrong schema s.state x other) same.1 two.bad)
+module _ (schema : Schema) (limits : IsSchema schema) (laws : ImageLaws schema) (x : Image) where
+  one_of_chunks : (damage other : Damage) → HasBadChunks schema x damage → HasBadChunks schema x other → damage ≡ other
+  one_of_chunks damage other one two =
+      let same = one_slot two.file one.file two.root one.root x two.stands one.stands in
+      one_wrong_chunks schema limits laws one.root.state (state_in one.file one.root x one.stands) x damage other one.bad (subst (λ (s : Slot). AreWrongChunks schema s.state x other) same.1 two.bad)
 
--- Files are damaged in one way.
-pub one_damage : (schema : Schema) (x : Image) (damage other : Damage) → IsDamaged schema x damage → IsDamaged schema x other → damage ≡ other
-one_damage schema x damage other (inl one) (inl two) = one_bad_slot x damage other one two
-one_damage schema x damage other (inl one) (inr (inl two)) = absurd (never_slot x damage other.file two.root two.stands one)
-one_damage schema x damage other (inl one) (inr (inr two)) = absurd (never_slot x damage two.file two.root two.stands one)
-one_damage schema x damage other (inr (inl one)) (inl two) = absurd (never_slot x other damage.file one.root one.stands two)
-one_damage schema x damage other (inr (inl one)) (inr (inl two)) = one_root_state schema x damage other one two
-one_damage schema x damage other (inr (inl one)) (inr (inr two)) = absurd (never_both schema x damage other one two)
-one_damage schema x damage other (inr (inr one)) (inl two) = absurd (never_slot x other one.file one.root one.stands two)
-one_damage schema x damage other (inr (inr one)) (inr (inl two)) = absurd (never_both schema x other damage two one)
-one_damage schema x damage other (inr (inr one)) (inr (inr two)) = one_of_logs schema x damage other one two
+  chunks_or_logs : (damage other : Damage) → HasBadChunks schema x damage → AreBadLogs schema x other → ⊥
+  chunks_or_logs damage other chunks logs =
+      let same = one_slot chunks.file logs.file chunks.root logs.root x chunks.stands logs.stands in
+      never_wrong_chunks schema limits laws logs.root.state (state_in logs.file logs.root x logs.stands) x logs.chunks damage logs.are logs.once (subst (λ (s : Slot). AreWrongChunks schema s.state x damage) same.1 chunks.bad)
+
+  one_of_logs : (damage other : Damage) → AreBadLogs schema x damage → AreBadLogs schema x other → damage ≡ other
+  one_of_logs damage other one two =
+      let same = one_slot two.file one.file two.root one.root x two.stands one.stands in
+      one_wrong schema one.root.state x damage other one.bad (subst (λ (s : Slot). AreWrong schema s.state x other) same.1 two.bad)
+
+  -- what comes before logs that end early
+  before_early : (damage other : Damage) → EndsEarly schema x other → IsBadSlot x damage ⊎ (IsBadRootState schema x damage ⊎ (HasBadChunks schema x damage ⊎ AreBadLogs schema x damage)) → ⊥
+  before_early damage other early (inl slot) = held_slot schema limits laws x early.dir early.holds damage slot
+  before_early damage other early (inr (inl state)) = held_state schema limits laws x early.dir early.holds damage state
+  before_early damage other early (inr (inr (inl chunks))) = held_chunks schema limits laws x early.dir early.holds damage chunks
+  before_early damage other early (inr (inr (inr logs))) = held_logs schema limits laws x early.dir early.holds damage logs
+
+  -- Files are damaged in one way.
+  pub one_damage : (damage other : Damage) → IsDamaged schema x damage → IsDamaged schema x other → damage ≡ other
+  one_damage damage other (inl one) (inl two) = one_bad_slot x damage other one two
+  one_damage damage other (inl one) (inr (inl two)) = absurd (never_slot x damage other.file two.root two.stands one)
+  one_damage damage other (inl one) (inr (inr (inl two))) = absurd (never_slot x damage two.file two.root two.stands one)
+  one_damage damage other (inl one) (inr (inr (inr (inl two)))) = absurd (never_slot x damage two.file two.root two.stands one)
+  one_damage damage other (inl one) (inr (inr (inr (inr two)))) = absurd (before_early damage other two (inl one))
+  one_damage damage other (inr (inl one)) (inl two) = absurd (never_slot x other damage.file one.root one.stands two)
+  one_damage damage other (inr (inl one)) (inr (inl two)) = one_root_state schema x damage other one two
+  one_damage damage other (inr (inl one)) (inr (inr (inl two))) = absurd (never_state schema x damage two.file two.root two.stands two.good one)
+  one_damage damage other (inr (inl one)) (inr (inr (inr (inl two)))) = absurd (never_state schema x damage two.file two.root two.stands two.good one)
+  one_damage damage other (inr (inl one)) (inr (inr (inr (inr two)))) = absurd (before_early damage other two (inr (inl one)))
+  one_damage damage other (inr (inr (inl one))) (inl two) = absurd (never_slot x other one.file one.root one.stands two)
+  one_damage damage other (inr (inr (inl one))) (inr (inl two)) = absurd (never_state schema x other one.file one.root one.stands one.good two)
+  one_damage damage other (inr (inr (inl one))) (inr (inr (inl two))) = one_of_chunks damage other one two
+  one_damage damage other (inr (inr (inl one))) (inr (inr (inr (inl two)))) = absurd (chunks_or_logs damage other one two)
+  one_damage damage other (inr (inr (inl one))) (inr (inr (inr (inr two)))) = absurd (before_early damage other two (inr (inr (inl one))))
+  one_damage damage other (inr (inr (inr (inl one)))) (inl two) = absurd (never_slot x other one.file one.root one.stands two)
+  one_damage damage other (inr (inr (inr (inl one)))) (inr (inl two)) = absurd (never_state schema x other one.file one.root one.stands one.good two)
+  one_damage damage other (inr (inr (inr (inl one)))) (inr (inr (inl two))) = absurd (chunks_or_logs other damage two one)
+  one_damage damage other (inr (inr (inr (inl one)))) (inr (inr (inr (inl two)))) = one_of_logs damage other one two
+  one_damage damage other (inr (inr (inr (inl one)))) (inr (inr (inr (inr two)))) = absurd (before_early damage other two (inr (inr (inr one))))
+  one_damage damage other (inr (inr (inr (inr one)))) (inl two) = absurd (before_early other damage one (inl two))
+  one_damage damage other (inr (inr (inr (inr one)))) (inr (inl two)) = absurd (before_early other damage one (inr (inl two)))
+  one_damage damage other (inr (inr (inr (inr one)))) (inr (inr (inl two))) = absurd (before_early other damage one (inr (inr (inl two))))
+  one_damage damage other (inr (inr (inr (inr one)))) (inr (inr (inr (inl two)))) = absurd (before_early other damage one (inr (inr (inr two))))
+  one_damage damage other (inr (inr (inr (inr one)))) (inr (inr (inr (inr two)))) = one_early schema x damage other limits one two

@@ -78,7 +78,7 @@ pub one_older : (schema : Schema) (x : Image) (file : ℕ) (xs ys : List Batch) 
 one_older schema x zero xs ys one two log its = log ∙ sym its
 one_older schema x (suc file) xs ys one two log its = one_log schema (contents (x (suc file))) xs ys one two log its
 
-one_list_of_chunks : (schema : Schema) (x : Image) (through : ℕ) (entries : List ChunkEntry) (xs ys : List (List DocRow)) → IsSchema schema → AllZip (IsChunkFile schema x) entries xs → AllZip (IsChunkFile schema x) entries ys
+pub one_list_of_chunks : (schema : Schema) (x : Image) (through : ℕ) (entries : List ChunkEntry) (xs ys : List (List DocRow)) → IsSchema schema → AllZip (IsChunkFile schema x) entries xs → AllZip (IsChunkFile schema x) entries ys
     → AllZip (IsChunkOf schema through) entries xs → AllZip (IsChunkOf schema through) entries ys → xs ≡ ys
 one_list_of_chunks schema x through [] [] [] limits files its are others = refl
 one_list_of_chunks schema x through [] [] (b ∷ ys) limits files its are others = absurd its
@@ -113,7 +113,7 @@ older_are schema dir x holds = subst (All (IsBatchOf schema)) (take_at dir.older
 pub newer_are : (schema : Schema) (dir : Directory) (x : Image) → HoldsFiles schema dir x → All (IsBatchOf schema) dir.newer
 newer_are schema dir x holds = subst (All (IsBatchOf schema)) (drop_at dir.older dir.newer (length dir.older) refl) (All-drop (IsBatchOf schema) (length dir.older) (logged dir) holds.in_order.batches)
 
-same_directory : (schema : Schema) (x : Image) (dir other : Directory) → IsSchema schema → HoldsFiles schema dir x → HoldsFiles schema other x → dir ≡ other
+pub same_directory : (schema : Schema) (x : Image) (dir other : Directory) → IsSchema schema → HoldsFiles schema dir x → HoldsFiles schema other x → dir ≡ other
 same_directory schema x dir other limits one two =
     let first = root_of schema dir x one in
     let second = root_of schema other x two in
@@ -132,9 +132,9 @@ same_directory schema x dir other limits one two =
 -- Files hold one directory.
 pub one_directory : (schema : Schema) (x : Image) (found other : Option Directory) → IsSchema schema → Holds schema found x → Holds schema other x → found ≡ other
 one_directory schema x None None limits one two = refl
-one_directory schema x None (Some dir) limits one two = let at = root_of schema dir x two in absurd (no_root at.slot at.root x one at.stands)
-one_directory schema x (Some dir) None limits one two = let at = root_of schema dir x one in absurd (no_root at.slot at.root x two at.stands)
-one_directory schema x (Some dir) (Some other) limits one two = ap Some (same_directory schema x dir other limits one two)
+one_directory schema x None (Some dir) limits one two = let at = root_of schema dir x two.0 in absurd (no_root at.slot at.root x one at.stands)
+one_directory schema x (Some dir) None limits one two = let at = root_of schema dir x one.0 in absurd (no_root at.slot at.root x two at.stands)
+one_directory schema x (Some dir) (Some other) limits one two = ap Some (same_directory schema x dir other limits one.0 two.0)
 
 -- They stand for the same rows, by the same number.
 pub one_meaning : (schema : Schema) (x : Image) (rows others : Rows) (number its : ℕ) → IsSchema schema → StandsFor schema x rows number → StandsFor schema x others its → (rows ≡ others) × (number ≡ its)

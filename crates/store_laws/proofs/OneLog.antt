@@ -40,13 +40,10 @@ EndsBy schema kind before rest = ((fault : Option LogKind) × (kind ≡ option_m
 
 ends_by : (schema : Schema) (kind : Option DamageKind) (before : Before) (rest : List ℕ) → EndsAs schema kind before rest → EndsBy schema kind before rest
 ends_by schema None before rest ends = inl (None, refl, ends)
-ends_by schema (Some kinds.RootLength) before rest ends = absurd ends
-ends_by schema (Some kinds.RootState) before rest ends = absurd ends
-ends_by schema (Some kinds.RootSchema) before rest ends = absurd ends
-ends_by schema (Some kinds.LogMissing) before rest ends = absurd ends
 ends_by schema (Some kinds.RecordLength) before rest ends = inl (Some faults.Length, refl, ends)
 ends_by schema (Some kinds.RecordNumber) before rest ends = inl (Some faults.Number, refl, ends)
 ends_by schema (Some kinds.RecordPayload) before rest ends = inr (refl, ends)
+ends_by schema (Some kind) before rest ends = absurd ends
 
 -- where a record with its gate stands that may come, a log doesn't end
 log_goes_on : (before : Before) (fault : Option LogKind) (r : LogRecord) (after rest : List ℕ) → Fits r → MayCome before r.number → 0 < length after → rest ≡ 1 ∷ (frame r ++ after) → Ends fault before rest → ⊥

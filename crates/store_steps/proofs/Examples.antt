@@ -65,10 +65,13 @@ wrong_length = record {
 }
 
 pub damaged : IsDamaged example_schema (files_of example_root damaged_log) (record { file = 2; place = 0; kind = RecordLength })
-damaged = inr (inr (record {
+damaged = inr (inr (inr (inl (record {
   file = 0;
   root = example_slot;
   stands = (root_is_open, inl (inl (omega arith)));
-  good = record { few = omega arith; text = refl };
+  good = refl;
+  chunks = [];
+  are = record { files = tt; rows = tt };
+  once = λ i j d l h. absurd (omega (arith, h));
   bad = inr (record { older = []; is_older = refl; begins = tt; of = All-nil (IsBatchOf example_schema); file = refl; bad = ([], wrong_length) });
-}))
+}))))

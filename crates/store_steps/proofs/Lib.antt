@@ -10,7 +10,13 @@ pub mod Keeping
 pub mod Leaving
 -- how long a record is
 pub mod Lengths
+-- what the log that grows has
+pub mod Growing
+-- no row is of a later commit
+pub mod Born
 -- the example
 pub mod Examples
 -- what is kept once a store was opened
 pub mod Opening
+-- rows apart
+pub mod Apart

@@ -1,5 +1,5 @@
 -- One more batch in the newer log.
-use Rattle.std.proofs.Common.{◌≡◌, ◌⊎◌, inl, inr, ℕ, ◌+◌, ◌≤◌, ◌<◌, List, [], ◌∷◌, ◌++◌, map, Bool, cond, sym, ◌∙◌, ap, subst, arith, append_assoc, length, length-append, All}
+use Rattle.std.proofs.Common.{◌≡◌, ◌⊎◌, inl, inr, ℕ, ◌+◌, ◌≤◌, ◌<◌, List, [], ◌∷◌, ◌++◌, map, Bool, cond, Option, Some, None, IfSome, sym, ◌∙◌, ap, subst, arith, append_assoc, length, length-append, All}
 use Rattle.std.specs.List.{fold}
 use Rattle.std.proofs.lemmas.List.Sums.{fold-append}
 use Rattle.std.proofs.lemmas.List.Elements.{All-push, filter-append}
@@ -11,9 +11,9 @@ use Rattle.doc_types.specs.Snapshots.{SnapshotValue, all_living}
 use Rattle.gate_log.specs.Logs.{MayFollow, last_number}
 use Rattle.step_history.specs.History.{Base, Step, CommitFollows, last_snapshot}
 use Rattle.store_steps.specs.Batches.{AreFrom, Batch, IsBatchOf, above, after_batch, batch_of, record_of}
-use Rattle.store_steps.specs.Directory.{AreFiles, Directory, IsInOrder, directory_number, layers_of, logged, taken}
-use Rattle.store_steps.specs.Kept.{Reaches, Says}
-use Rattle.chunk_store.specs.Images.{Image}
+use Rattle.store_steps.specs.Directory.{Directory, IsInOrder, Reaches, directory_number, directory_rows, layers_of, logged, taken}
+use Rattle.store_steps.specs.Doubts.{Doubted, MayStand, shadow_of}
+use Rattle.store_steps.specs.Kept.{Says}
 
 -- the directory with one more batch
 abbrev pub with_batch : Directory → Batch → Directory
@@ -48,6 +48,12 @@ number-push dir b lt =
     ap (λ (l : List Batch). fold (λ (m : ℕ) (c : Batch). c.number) dir.state.through l) (taken-push dir b lt)
     ∙ fold-append (λ (m : ℕ) (c : Batch). c.number) dir.state.through (taken dir) (b ∷ [])
 
+-- and its rows come last
+pub rows-push : (dir : Directory) (b : Batch) → dir.state.through < b.number → directory_rows (with_batch dir b) ≡ after_batch (directory_rows dir) b
+rows-push dir b lt =
+    ap (λ (l : List Batch). fold after_batch (rows_of (all_living (layers_of dir))) l) (taken-push dir b lt)
+    ∙ fold-append after_batch (rows_of (all_living (layers_of dir))) (taken dir) (b ∷ [])
+
 -- with a commit's batch the directory says what the commit makes
 pub says_more : (base : Base) (steps : List Step) (dir : Directory) (snapshot : SnapshotValue) (entry : Entry) → Says dir (last_snapshot base steps) → CommitFollows base steps entry snapshot → Says (with_batch dir (batch_of entry)) snapshot
 says_more base steps dir snapshot entry says follows =
@@ -65,7 +71,7 @@ from-push : (n : ℕ) (bs : List Batch) (b : Batch) → AreFrom n bs → b.numbe
 from-push n [] b from is = (omega (arith, is), tt)
 from-push n (c ∷ bs) b from is = (from.0, from-push (n + 1) bs b from.1 (omega (arith, is)))
 
-from-behind : (n : ℕ) (xs bs : List Batch) → AreFrom n (xs ++ bs) → AreFrom (n + length xs) bs
+pub from-behind : (n : ℕ) (xs bs : List Batch) → AreFrom n (xs ++ bs) → AreFrom (n + length xs) bs
 from-behind n [] bs from =
     let is : n ≡ n + 0 = omega arith in
     subst (λ (m : ℕ). AreFrom m bs) is from
@@ -110,6 +116,22 @@ order_more schema dir b order reaches is of = record {
   batches = subst (λ (l : List Batch). All (IsBatchOf schema) l) (sym (logged-push dir b)) (All-push (IsBatchOf schema) (logged dir) b order.batches of);
 }
 
--- what stands in the other files isn't about the newer log's batches
-pub files_more : (schema : Schema) (dir : Directory) (b : Batch) (number : ℕ) (x : Image) → AreFiles schema dir number x → AreFiles schema (with_batch dir b) number x
-files_more schema dir b number x files = record { root = files.root; chunks = files.chunks; older = files.older }
+-- a state in doubt says one more batch too
+may-one : (schema : Schema) (next_file : ℕ) (dir : Directory) (d : Doubted) (b : Batch) → MayStand schema next_file dir d → b.number ≡ directory_number dir + 1 → IsBatchOf schema b → MayStand schema next_file (with_batch dir b) d
+may-one schema next_file dir d b may is of =
+    let other : b.number ≡ directory_number (shadow_of dir d) + 1 = omega (arith, is, may.number) in
+    let low_own : dir.state.through < b.number = omega (arith, number-low dir, is) in
+    let low_other : d.state.through < b.number = omega (arith, number-low (shadow_of dir d), other) in
+    record {
+      state = may.state;
+      older = may.older;
+      made = may.made;
+      in_order = order_more schema (shadow_of dir d) b may.in_order may.reaches other of;
+      reaches = reaches_more (shadow_of dir d) b may.reaches other;
+      rows = rows-push (shadow_of dir d) b low_other ∙ ap (λ (rows : Rows). after_batch rows b) may.rows ∙ sym (rows-push dir b low_own);
+      number = number-push (shadow_of dir d) b low_other ∙ sym (number-push dir b low_own);
+    }
+
+pub may_more : (schema : Schema) (next_file : ℕ) (dir : Directory) (doubt : Option Doubted) (b : Batch) → IfSome doubt (MayStand schema next_file dir) → b.number ≡ directory_number dir + 1 → IsBatchOf schema b → IfSome doubt (MayStand schema next_file (with_batch dir b))
+may_more schema next_file dir None b may is of = tt
+may_more schema next_file dir (Some d) b may is of = may-one schema next_file dir d b may is of

@@ -12,6 +12,7 @@ use Rattle.doc_types.specs.Rows.{Rows, rows_of}
 use Rattle.doc_types.specs.Snapshots.{LayerValue, all_living}
 use Rattle.doc_bytes.specs.SchemaText.{schema_text}
 use Rattle.chunk_image.specs.ChunkImage.{IsImageOf}
+use Rattle.image_parts.specs.Images.{HasZones}
 use Rattle.chunk_store.specs.Images.{Image, contents}
 use Rattle.gate_log.specs.Logs.{IsLogOf}
 use Rattle.root_slots.specs.Slots.{IsRoot, slots_of}
@@ -31,11 +32,15 @@ pub record Directory : Type 0 where
 abbrev pub logged : Directory → List Batch
 logged dir = dir.older ++ dir.newer
 
+-- a chunk as a layer
+abbrev pub layer_from : ChunkEntry → List DocRow → LayerValue
+layer_from entry rows = record { rows = rows; disk = true; dead = entry.dead }
+
 -- the chunks as layers
 abbrev pub layers_from : List ChunkEntry → List (List DocRow) → List LayerValue
 layers_from [] chunks = []
 layers_from (entry ∷ entries) [] = []
-layers_from (entry ∷ entries) (rows ∷ chunks) = record { rows = rows; disk = true; dead = entry.dead } ∷ layers_from entries chunks
+layers_from (entry ∷ entries) (rows ∷ chunks) = layer_from entry rows ∷ layers_from entries chunks
 
 abbrev pub layers_of : Directory → List LayerValue
 layers_of dir = layers_from dir.state.chunks dir.chunks
@@ -58,10 +63,12 @@ pub record AreFiles (schema : Schema) (dir : Directory) (number : ℕ) (x : Imag
   pub chunks : AllZip (IsChunkFile schema x) dir.state.chunks dir.chunks
   pub older : IsOlderLog x dir.state.older dir.older
 
--- Rows of a chunk: of the schema, no newer than the last commit that the chunks have, and of them these are dead.
+-- Rows of a chunk: of the schema, with zones that have room in 16 bits, and no newer than the last commit that the chunks have; and
+-- of them these are dead.
 pub record IsChunkOf (schema : Schema) (through : ℕ) (entry : ChunkEntry) (rows : List DocRow) : Type 0 where
   pub of : AreRowsOf schema rows
   pub small : AreSmall rows
+  pub zones : All HasZones rows
   pub dead : All (λ row. row < length rows) entry.dead
   pub born : All (λ row. row.born ≤ through) rows
 
@@ -74,18 +81,6 @@ pub record IsInOrder (schema : Schema) (dir : Directory) : Type 0 where
   pub numbers : (first : ℕ) × (first ≤ dir.state.through + 1) × AreFrom first (logged dir)
   pub batches : All (IsBatchOf schema) (logged dir)
 
--- The image has the files of the directory, and they fit together.
-pub record HoldsFiles (schema : Schema) (dir : Directory) (x : Image) : Type 0 where
-  pub number : ℕ
-  pub files : AreFiles schema dir number x
-  pub newer : IsLogOf (map record_of dir.newer) (contents (x dir.state.newer))
-  pub in_order : IsInOrder schema dir
-
--- What an image holds: a directory, or nothing where no slot is open.
-abbrev pub Holds : Schema → Option Directory → Image → Type 0
-Holds schema None x = IsRoot None (slots_of x)
-Holds schema (Some dir) x = HoldsFiles schema dir x
-
 -- the batches that the chunks don't have
 abbrev pub taken : Directory → List Batch
 taken dir = above dir.state.through (logged dir)
@@ -94,13 +89,32 @@ taken dir = above dir.state.through (logged dir)
 abbrev pub directory_rows : Directory → Rows
 directory_rows dir = fold after_batch (rows_of (all_living (layers_of dir))) (taken dir)
 
-abbrev pub rows_in : Option Directory → Rows
-rows_in None = finite.empty
-rows_in (Some dir) = directory_rows dir
-
 -- the number of the last commit
 abbrev pub directory_number : Directory → ℕ
 directory_number dir = fold (λ number b. b.number) dir.state.through (taken dir)
+
+-- The logs reach as far as the chunks do: the number of the next commit is the one that comes next in them.
+pub record Reaches (dir : Directory) : Type 0 where
+  pub first : ℕ
+  pub low : first ≤ dir.state.through + 1
+  pub numbers : AreFrom first (logged dir)
+  pub next : directory_number dir + 1 ≡ first + length (logged dir)
+
+-- The image has the files of the directory, and they fit together.
+pub record HoldsFiles (schema : Schema) (dir : Directory) (x : Image) : Type 0 where
+  pub number : ℕ
+  pub files : AreFiles schema dir number x
+  pub newer : IsLogOf (map record_of dir.newer) (contents (x dir.state.newer))
+  pub in_order : IsInOrder schema dir
+
+-- What an image holds: a directory whose logs reach as far as its chunks, or nothing where no slot is open.
+abbrev pub Holds : Schema → Option Directory → Image → Type 0
+Holds schema None x = IsRoot None (slots_of x)
+Holds schema (Some dir) x = HoldsFiles schema dir x × Reaches dir
+
+abbrev pub rows_in : Option Directory → Rows
+rows_in None = finite.empty
+rows_in (Some dir) = directory_rows dir
 
 abbrev pub number_in : Option Directory → ℕ
 number_in None = 0

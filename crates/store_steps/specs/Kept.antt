@@ -1,6 +1,10 @@
 -- Kept: what a disk keeps of the history of an index. Whatever a crash leaves gives the documents after all published steps, or
 -- after these and the one step that waits.
-use Rattle.std.specs.Prelude.{◌≡◌, ◌⊎◌, ℕ, ◌+◌, ◌≤◌, ◌<◌, ◌^◌, List, false, Option, Some, None, length, map}
+--
+-- The files hold one directory, by the own state of their root, or by one in doubt that stands for the same documents (Doubts). It
+-- has the chunks of the last snapshot, and in the log that grows the commits since the last job.
+use Rattle.std.specs.Prelude.{◌≡◌, ◌⊎◌, ℕ, ◌+◌, ◌≤◌, ◌<◌, ◌^◌, List, true, false, Option, Some, None, IfSome, length, map}
+use Rattle.std.specs.List.{AllZip}
 use Rattle.std.specs.Option.{option_map}
 use Rattle.doc_types.specs.declared.schema.Schema.{Schema}
 use Rattle.doc_types.specs.Commits.{Entry}
@@ -17,8 +21,11 @@ use Rattle.step_history.specs.History.{Base, Step, Commit, CommitFollows, last_s
 use Rattle.step_history.specs.Logs.{log_at}
 use Rattle.step_history.specs.Places.{disk_chunks}
 use Rattle.step_line.specs.Lines.{with_waiting}
-use Rattle.store_steps.specs.Batches.{Batch, AreFrom, IsBatchOf, batch_of, record_of}
-use Rattle.store_steps.specs.Directory.{AreFiles, Directory, IsInOrder, StandsFor, directory_number, directory_rows, logged}
+use Rattle.store_steps.specs.Batches.{Batch, IsBatchOf, batch_of, record_of}
+use Rattle.store_steps.specs.Directory.{Directory, IsChunkFile, IsInOrder, IsOlderLog, Reaches, StandsFor, directory_number, directory_rows}
+use Rattle.store_steps.specs.Doubts.{AreOther, Doubted, MayStand, slot_in}
+use Rattle.store_steps.specs.Grown.{AreBorn, Start, grown, through_at}
+use Rattle.store_steps.specs.declared.files.Files.{Files}
 
 -- The image stands for the documents after these steps.
 abbrev pub Gives : Schema → Base → List Step → Image → Type 0
@@ -40,21 +47,16 @@ pub record Says (dir : Directory) (snapshot : SnapshotValue) : Type 0 where
   pub number : directory_number dir ≡ snapshot.number
   pub chunks : dir.chunks ≡ disk_chunks snapshot
 
--- The logs reach as far as the chunks do: the number of the next commit is the one that comes next in them.
-pub record Reaches (dir : Directory) : Type 0 where
-  pub first : ℕ
-  pub low : first ≤ dir.state.through + 1
-  pub numbers : AreFrom first (logged dir)
-  pub next : directory_number dir + 1 ≡ first + length (logged dir)
-
 -- the number of a batch, and how many bytes its record takes
 abbrev pub mark : Batch → ℕ × ℕ
 mark b = (b.number, 13 + length (record_of b).payload)
 
 -- A commit waits, and its record is staged behind the log's closed gate.
-pub record IsStaged (schema : Schema) (base : Base) (steps : List Step) (waiting : Option Step) (log : GateLog) (dir : Directory) (b : Batch) : Type 0 where
+pub record IsStaged (schema : Schema) (base : Base) (start : Start) (steps : List Step) (waiting : Option Step) (log : GateLog) (dir : Directory) (b : Batch) : Type 0 where
   pub says : Says dir (last_snapshot base steps)
   pub end : log.end ≡ log_at base steps
+  pub grown_is : dir.newer ≡ grown start.batches steps
+  pub through_is : dir.state.through ≡ through_at start.through steps
   pub entry : Entry
   pub snapshot : SnapshotValue
   pub waits : waiting ≡ Some (Commit entry snapshot)
@@ -64,33 +66,47 @@ pub record IsStaged (schema : Schema) (base : Base) (steps : List Step) (waiting
   pub room : log.end + (13 + length (record_of b).payload) < 2 ^ 64
 
 -- The directory has all steps, the one that waits too.
-pub record HasAll (base : Base) (steps : List Step) (log : GateLog) (dir : Directory) : Type 0 where
+pub record HasAll (base : Base) (start : Start) (steps : List Step) (log : GateLog) (dir : Directory) : Type 0 where
   pub says : Says dir (last_snapshot base steps)
   pub end : log.end ≡ log_at base steps
+  pub grown_is : dir.newer ≡ grown start.batches steps
+  pub through_is : dir.state.through ≡ through_at start.through steps
 
 -- what the directory has of the steps, by the batch whose record is staged
-abbrev pub Has : Schema → Base → List Step → Option Step → GateLog → Directory → Option Batch → Type 0
-Has schema base steps waiting log dir None = HasAll base (with_waiting steps waiting) log dir
-Has schema base steps waiting log dir (Some b) = IsStaged schema base steps waiting log dir b
+abbrev pub Has : Schema → Base → Start → List Step → Option Step → GateLog → Directory → Option Batch → Type 0
+Has schema base start steps waiting log dir None = HasAll base start (with_waiting steps waiting) log dir
+Has schema base start steps waiting log dir (Some b) = IsStaged schema base start steps waiting log dir b
 
--- The image is one of this directory, as its root and its newer log left it, and this batch is staged.
-pub record IsImage (schema : Schema) (dir : Directory) (number : ℕ) (root : Root) (log : GateLog) (next : Option Batch) (x : Image) : Type 0 where
-  pub files : AreFiles schema dir number x
-  pub slots : RootStands root (Some (record { number = number; state = dir.state })) None (slots_of x)
+-- The image is one of this directory, whose root has this number, as its root and its newer log left it; this batch is staged, and
+-- this state is in doubt.
+pub record IsImage (schema : Schema) (dir : Directory) (number : ℕ) (doubt : Option Doubted) (root : Root) (log : GateLog) (next : Option Batch) (x : Image) : Type 0 where
+  pub chunks : AllZip (IsChunkFile schema x) dir.state.chunks dir.chunks
+  pub older : IsOlderLog x dir.state.older dir.older
+  pub slots : RootStands root (Some (record { number = number; state = dir.state })) (slot_in doubt) (slots_of x)
   pub newer : LogStands log (map record_of dir.newer) (option_map record_of next) (x dir.state.newer)
+  pub other : IfSome doubt (AreOther schema x)
 
--- The disk, by root and log, keeps these steps and the one that waits.
-pub record IsKept {D : Type 0} (words : DiskWords D) (schema : Schema) (base : Base) (steps : List Step) (waiting : Option Step) (disk : D) (root : Root) (log : GateLog) : Type 0 where
+-- The disk, by what is known of its files, keeps these steps and the one that waits.
+pub record IsKept {D : Type 0} (words : DiskWords D) (schema : Schema) (base : Base) (steps : List Step) (waiting : Option Step) (disk : D) (files : Files) : Type 0 where
   pub dir : Directory
   pub number : ℕ
+  pub doubt : Option Doubted
   pub next : Option Batch
+  pub start : Start
+  pub start_low : start.through ≤ base.opening.number
+  pub born : AreBorn (live base.opening) base.opening.number
+  pub state_is : files.state ≡ dir.state
   pub state : IsState dir.state
+  -- no state names a file from this number on
+  pub made : dir.state.next_file ≤ files.next_file
   pub in_order : IsInOrder schema dir
   pub reaches : Reaches dir
-  pub file : log.file ≡ dir.state.newer
-  pub staged : log.staged ≡ option_map mark next
-  pub quiet : next ≡ None → log.pending ≡ false
-  pub last : log.last ≡ last_number (map record_of dir.newer)
-  pub has : Has schema base steps waiting log dir next
-  pub told : Told (IsImage schema dir number root log next) (words.told disk)
-  pub left : (x : Image) → words.may_leave disk x → IsImage schema dir number root log next x
+  pub file : files.log.file ≡ dir.state.newer
+  pub staged : files.log.staged ≡ option_map mark next
+  pub quiet : next ≡ None → files.log.pending ≡ false
+  pub last : files.log.last ≡ last_number (map record_of dir.newer)
+  pub has : Has schema base start steps waiting files.log dir next
+  pub may : IfSome doubt (MayStand schema files.next_file dir)
+  pub sure : files.sure ≡ true → doubt ≡ None
+  pub told : Told (IsImage schema dir number doubt files.root files.log next) (words.told disk)
+  pub left : (x : Image) → words.may_leave disk x → IsImage schema dir number doubt files.root files.log next x

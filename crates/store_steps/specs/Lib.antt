@@ -6,6 +6,10 @@ pub mod Directory
 pub mod Damage
 -- and in which words that is told
 pub mod DamageTexts
+-- what the log that grows has after some steps
+pub mod Grown
+-- a root of which it is in doubt which state it has
+pub mod Doubts
 -- what a disk keeps of a history
 pub mod Kept
 -- when a commit is refused

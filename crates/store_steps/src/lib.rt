@@ -3,11 +3,13 @@
 #![tactic(auto)]
 
 mod damage;
+mod files;
 mod laws;
 mod limits;
 
 pub use commit_outcomes::Strayed;
 pub use damage::{Damage, DamageKind, MOST_OPENED_CHUNKS};
+pub use files::Files;
 pub use laws::{
     another_length_is_damage, no_open_slot_stands_for_no_document, the_example_has_these_bytes,
 };

@@ -1,4 +1,4 @@
-//! The trees of docs/cases/extended_queries.md, as scripts/query_cases.py writes them: edit them there. After `# ` stands the
+//! The trees of docs/cases/extended_queries.md, as `query_cases` of scripts/ writes them: edit them there. After `# ` stands the
 //! configuration of the index by which texts are read, and then an empty line. Each text is followed by `⇒` and by its tree.
 //! `⟨x × n⟩` is x written n times, `⟨tab⟩` a tab.
 

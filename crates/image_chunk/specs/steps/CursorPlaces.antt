@@ -14,7 +14,7 @@ use Rattle.doc_types.specs.declared.cursor.Cursor.{Cursor}
 use Rattle.doc_types.specs.declared.cursor.TheConstants.{NO_ROW}
 use Rattle.doc_types.specs.declared.documents.DocRow.{DocRow}
 use Rattle.doc_types.specs.Chunks.{IsCursorPlace, has_word, hits_of, next_row, row_of, rows_from, rows_with}
-use Rattle.row_laws.specs.AlikeRows.{postings}
+use Rattle.chunk_image.specs.AlikeRows.{postings}
 use Rattle.posting_codec.specs.HitLists.{IsHit, key, Ascend, AreHits}
 use Rattle.chunk_image.proofs.RowsPosted.{HasFields, are_hits}
 use Rattle.chunk_image.proofs.Orderly.{have_fields}

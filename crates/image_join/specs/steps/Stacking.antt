@@ -1,7 +1,7 @@
 -- Posting lists of a word put one behind the other, where the rows of the parts keep their order.
 use Rattle.std.specs.Prelude.{◌≡◌, ◌<◌, ℕ, ◌+◌, List, [], ◌∷◌, ◌++◌, length, map, slice_index}
 use Rattle.doc_types.specs.declared.cursor.TheConstants.{NO_ROW}
-use Rattle.row_laws.specs.AlikeRows.{postings}
+use Rattle.chunk_image.specs.AlikeRows.{postings}
 use Rattle.posting_codec.specs.HitLists.{hit_list}
 use Rattle.image_join.specs.declared.stacking.Reached.{Reached}
 use Rattle.image_join.specs.steps.Entries.{Entry, Rising, spelled_list}

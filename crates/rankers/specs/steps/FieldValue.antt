@@ -1,10 +1,11 @@
 -- What a field gives, and what is asked of hits for it.
-use Rattle.std.specs.Prelude.{ℕ, ◌+◌, ◌-◌, ◌*◌, ◌^◌, ◌≤◌, List, All, AllPairs, if◌then◌else◌, ◌==◌, sum_by}
+use Rattle.std.specs.Prelude.{ℕ, ◌+◌, ◌-◌, ◌*◌, ◌^◌, ◌≤◌, List, Option, All, AllPairs, if◌then◌else◌, ◌==◌, sum_by}
 use Rattle.std.specs.List.{list_any, enumerate_from}
 use Rattle.doc_types.specs.declared.hits.Hit.{Hit}
 use Rattle.doc_types.specs.declared.tokens.TheConstants.{MAX_POSITION}
 use Rattle.rankers.specs.declared.ranker.Ranker.{Ranker}
 use Rattle.rankers.specs.declared.ranker.Ranker.TheVariants as rankers
+use Rattle.rankers.specs.Factors.{earlier}
 use Rattle.rankers.specs.Fields.{has_bit}
 use Rattle.rankers.specs.Weight.{Differ, in_field, hit_count, word_count, lcs}
 
@@ -51,3 +52,7 @@ value_by_bit ranker fields number weight = if has_bit fields number then lone_va
 -- what all fields give whose bits are set
 abbrev pub values_by_bits : Ranker → ℕ → List ℕ → ℕ
 values_by_bits ranker fields weights = sum_by (λ e. value_by_bit ranker fields e.0 e.1) (enumerate_from 0 weights)
+
+-- the least position so far, with one hit more, which may be of another field
+abbrev pub with_hit : ℕ → Option ℕ → Hit → Option ℕ
+with_hit field least hit = if hit.field == field then earlier least hit.position else least

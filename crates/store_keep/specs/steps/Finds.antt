@@ -15,6 +15,7 @@ use Rattle.root_slots.specs.declared.root.Root.{Root}
 use Rattle.root_slots.specs.declared.state.RootState.{RootState}
 use Rattle.step_history.specs.History.{AreOf}
 use Rattle.store_steps.specs.Damage.{IsBadRootState, IsBadSlot, IsGoodState}
+use Rattle.store_steps.specs.Doubts.{sure_files}
 use Rattle.store_steps.specs.Kept.{IsKept}
 use Rattle.store_keep.specs.Opens.{HidesNothing, IsFoundIn, SaysDamage}
 use Rattle.store_keep.specs.declared.fault.StoreFault.{StoreFault}
@@ -37,17 +38,21 @@ ReadsSlots told may_leave (Err faults.NoMemory) = Unit {0}
 ReadsSlots told may_leave (Err faults.DiskFault) = Unit {0}
 ReadsSlots told may_leave (Err (faults.Damaged damage)) = Told (λ image. IsBadSlot image damage) told
 
+-- The root can be taken, and names no chunk: these aren't read yet.
+pub record IsOpenable (schema : Schema) (state : RootState) : Type 0 where
+  pub text : IsGoodState schema state
+  pub none : state.chunks ≡ []
+
 -- whether a state can be taken
 abbrev pub ChecksState : Schema → Root → RootState → Result (Unit {0}) StoreFault → Type 0
-ChecksState schema root state (Ok done) = IsGoodState schema state
+ChecksState schema root state (Ok done) = IsOpenable schema state
 ChecksState schema root state (Err faults.NoMemory) = Unit {0}
 ChecksState schema root state (Err faults.DiskFault) = ⊥
 ChecksState schema root state (Err (faults.Damaged damage)) = (x : Image) (own : Slot) → own.state ≡ state → RootStands root (Some own) None (slots_of x) → IsBadRootState schema x damage
 
 -- The records of both logs were made a snapshot. The logs end no earlier than the chunks do.
 pub record IsLoadedAs (schema : Schema) (root : Root) (state : RootState) (logs : Logs) (records : List LogRecord) (found : Found) : Type 0 where
-  pub root_is : found.root ≡ root
-  pub log_is : found.log ≡ quiet_log state.newer logs.end.end logs.end.last
+  pub files_are : found.files ≡ sure_files root state (quiet_log state.newer logs.end.end logs.end.last)
   pub snapshot : IsSnapshotOf schema state.through records (arc_value found.snapshot)
   pub reach : state.through ≤ number_after state.through (last_number records)
   pub records_are : found.records ≡ (arc_value found.snapshot).number - state.through
@@ -56,7 +61,7 @@ pub record IsLoadedAs (schema : Schema) (root : Root) (state : RootState) (logs 
 -- What was found is what the files stood for, and the disk keeps it.
 pub record IsFound {D : Type 0} (words : DiskWords D) (schema : Schema) (old new : D) (found : Found) : Type 0 where
   pub said : Told (IsFoundIn schema (arc_value found.snapshot) found.records) (words.told old)
-  pub kept : HidesNothing words old → IsKept words schema (record { opening = arc_value found.snapshot; log = found.log.end }) [] None new found.root found.log
+  pub kept : HidesNothing words old → IsKept words schema (record { opening = arc_value found.snapshot; log = found.files.log.end }) [] None new found.files
   pub of : AreOf schema (arc_value found.snapshot)
   pub shape : (arc_value found.snapshot).shape ≡ 0
   pub documents_are : found.documents ≡ finite.len (live (arc_value found.snapshot))

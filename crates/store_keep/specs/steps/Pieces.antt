@@ -19,7 +19,7 @@ use Rattle.gate_log.specs.declared.records.LogRecord.{LogRecord}
 use Rattle.store_steps.specs.declared.damage.Damage.{Damage}
 use Rattle.store_keep.specs.declared.fault.StoreFault.{StoreFault}
 use Rattle.store_keep.specs.declared.fault.StoreFault.TheVariants as faults
-use Rattle.any_chunk.specs.contracts.any_chunk.AnyChunkChunk.TheImpl as words
+use Rattle.image_chunk.specs.contracts.image_chunk.ImageChunkChunk.TheImpl as words
 use Rattle.store_keep.specs.declared.pieces.Piece.{Piece}
 use Rattle.store_keep.specs.declared.recent.Recent.{Recent}
 use Rattle.step_history.specs.History.{AreOf}

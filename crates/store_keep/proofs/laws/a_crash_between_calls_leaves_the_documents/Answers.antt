@@ -5,10 +5,10 @@ use Rattle.store_keep.proofs.laws.a_crash_between_calls_leaves_the_documents.Goa
 pub returns-clause-either : goal.returns-clause-either
 returns-clause-either g c =
     let k = c.args.keeper.now.kept in
-    gives_now g.D.Disk (g.J.Naming.schema k.line.index) (g.J.Naming.base k.line.index) k.line.history k.line.waiting k.disk k.root k.log c.requires.kept
+    gives_now g.D.Disk (g.J.Naming.schema k.line.index) (g.J.Naming.base k.line.index) k.line.history k.line.waiting k.disk k.files c.requires.kept
 
 pub returns-clause-all : goal.returns-clause-all
 returns-clause-all g c = λ none x may.
     let k = c.args.keeper.now.kept in
-    gives_at_rest g.D.Disk (g.J.Naming.schema k.line.index) (g.J.Naming.base k.line.index) (entered k.line) k.disk k.root k.log
-    (published g.D.Disk (g.J.Naming.schema k.line.index) (g.J.Naming.base k.line.index) k.line.history k.line.waiting k.disk k.root k.log c.requires.kept none) none x may
+    gives_at_rest g.D.Disk (g.J.Naming.schema k.line.index) (g.J.Naming.base k.line.index) (entered k.line) k.disk k.files
+    (published g.D.Disk (g.J.Naming.schema k.line.index) (g.J.Naming.base k.line.index) k.line.history k.line.waiting k.disk k.files c.requires.kept none) none x may

@@ -6,7 +6,7 @@ use Rattle.self_test.proofs.asking.Client.ask.Goals as goal
 
 pub returns-clause-asks : goal.returns-clause-asks
 returns-clause-asks g c =
-    let after = c.step_over-end in
+    let after = c.step-end in
     subst (λ (text : List ℕ). Asks g.T.Catalog.confs g.T.TableStore.words text after.new.replies.bytes c.args.self.now.session c.args.tables.now after.new.self after.new.tables)
     c.as_bytes.ensures.value
     (query_answered g.T.Catalog.confs g.T.TableStore.words after.result c.as_bytes.result.now after.new.replies.bytes c.args.self.now.session after.new.self
@@ -14,7 +14,7 @@ returns-clause-asks g c =
 
 pub returns-clause-leads : goal.returns-clause-leads
 returns-clause-leads g c =
-    let after = c.step_over-end in
+    let after = c.step-end in
     asked_leads g.T.Catalog.confs g.T.TableStore.words c.as_bytes.result.now after.new.replies.bytes c.args.self.now.session after.new.self c.args.tables.now after.new.tables
     (query_answered g.T.Catalog.confs g.T.TableStore.words after.result c.as_bytes.result.now after.new.replies.bytes c.args.self.now.session after.new.self
     c.args.tables.now after.new.tables after.ensures.steps)

@@ -9,7 +9,7 @@ returns g c =
     let line = keeper.kept.line in
     let told = c.newest-answer in
     let gives = subst (λ disk. Keeps g.D.Disk (g.J.Naming.schema line.index) (g.J.Naming.base line.index) disk line) (sym c.close-2.ensures) c.a_crash_between_calls_leaves_the_documents.ensures.either in
-    let kept = subst (λ disk. HasKept g.D.Disk (g.J.Naming.schema line.index) (g.J.Naming.base line.index) disk line) (sym c.close-2.ensures) (keeper.kept.root, keeper.kept.log, c.self.invariant.2.kept) in
+    let kept = subst (λ disk. HasKept g.D.Disk (g.J.Naming.schema line.index) (g.J.Naming.base line.index) disk line) (sym c.close-2.ensures) (keeper.kept.files, c.self.invariant.2.kept) in
     let was = subst (WasTold c.args.told.now) c.self.invariant.3 (c.was_told.ensures.0 c.if-not-was_told.false) in
     closes_so g.D.Disk g.J.Naming.schema g.J.Naming.base c.args.index c.args.workers line keeper.strayed c.args.told.now c.args.tokens.now told.new.tokens c.close-2.result told.result
     (sym c.if-own-index.false ∙ c.self.invariant.0) (sym c.if-known-workers.false ∙ c.self.invariant.1) gives kept was told.ensures.line told.ensures.tells

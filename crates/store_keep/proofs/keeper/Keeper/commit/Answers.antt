@@ -9,7 +9,7 @@ returns-in-Some-clause-crash g c =
     let line = c.args.self.now.kept.line in
     ready_leaves g.D.Disk (g.J.Naming.schema line.index) (g.J.Naming.base line.index) c.args.self.now.kept.disk c.args.self.now.kept.disk line line
     (leaves_still g.D.Disk c.args.self.now.kept.disk {P = GivesEither (g.J.Naming.schema line.index) (g.J.Naming.base line.index) line.history line.waiting} (g.met.D.Disk.only_now c.args.self.now.kept.disk)
-    (gives_now g.D.Disk (g.J.Naming.schema line.index) (g.J.Naming.base line.index) line.history line.waiting c.args.self.now.kept.disk c.args.self.now.kept.root c.args.self.now.kept.log c.requires.sound.kept))
+    (gives_now g.D.Disk (g.J.Naming.schema line.index) (g.J.Naming.base line.index) line.history line.waiting c.args.self.now.kept.disk c.args.self.now.kept.files c.requires.sound.kept))
 
 pub returns-in-Ok-clause-crash : goal.returns-in-Ok-clause-crash
 returns-in-Ok-clause-crash g c =

@@ -16,15 +16,15 @@ make-requires-clause-room g c = count_room c.args.self.now.line c.args.worker c.
 pub returns-in-Ok-clause-ends : goal.returns-in-Ok-clause-ends
 returns-in-Ok-clause-ends g c =
     made_ends (g.J.Naming.base c.args.self.now.line.index) c.args.self.now.line c.args.token.now c.args.worker c.args.txn.now.ops c.in-Ok.prepared.removed c.in-Ok.prepared.number c.in-Ok.prepared.pending.step
-    (g.D.Disk.faults c.args.self.now.disk) (g.D.Disk.faults c.make.new.self.disk) c.make.new.self.line c.make.new.self.log c.make.new.token c.make.result
+    (g.D.Disk.faults c.args.self.now.disk) (g.D.Disk.faults c.make.new.self.disk) c.make.new.self.line c.make.new.self.files.log c.make.new.token c.make.result
     (is_commit (g.J.Naming.schema c.args.self.now.line.index) (g.J.Naming.base c.args.self.now.line.index) c.args.self.now.line c.args.worker c.args.txn.now.ops c.in-Ok.prepared c.in-Ok.ensures) c.make.ensures.ends
 
 pub returns-in-Err-clause-ends : goal.returns-in-Err-clause-ends
 returns-in-Err-clause-ends g c =
-    refused_ends (g.J.Naming.schema c.args.self.now.line.index) (g.J.Naming.base c.args.self.now.line.index) c.args.self.now.line c.args.token.now c.args.worker c.args.txn.now.ops (g.D.Disk.faults c.args.self.now.disk) c.args.self.now.log c.in-Err.fault c.in-Err.ensures
+    refused_ends (g.J.Naming.schema c.args.self.now.line.index) (g.J.Naming.base c.args.self.now.line.index) c.args.self.now.line c.args.token.now c.args.worker c.args.txn.now.ops (g.D.Disk.faults c.args.self.now.disk) c.args.self.now.files.log c.in-Err.fault c.in-Err.ensures
 
 pub returns-in-Err-clause-crash : goal.returns-in-Err-clause-crash
 returns-in-Err-clause-crash g c =
     leaves_weaker g.D.Disk c.args.self.now.disk c.args.self.now.disk {P = Gives (g.J.Naming.schema c.args.self.now.line.index) (g.J.Naming.base c.args.self.now.line.index) c.args.self.now.line.history}
     {R = GivesEntered (g.J.Naming.schema c.args.self.now.line.index) (g.J.Naming.base c.args.self.now.line.index) c.args.self.now.line.history c.args.self.now.line} (λ x gives. inl gives)
-    (left_still g.D.Disk g.J.Naming.schema g.J.Naming.base c.args.self.now.disk c.args.self.now.root c.args.self.now.log c.args.self.now.line c.requires.kept c.requires.none c.requires.rests (g.met.D.Disk.only_now c.args.self.now.disk))
+    (left_still g.D.Disk g.J.Naming.schema g.J.Naming.base c.args.self.now.disk c.args.self.now.files c.args.self.now.line c.requires.kept c.requires.none c.requires.rests (g.met.D.Disk.only_now c.args.self.now.disk))

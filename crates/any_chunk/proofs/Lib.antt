@@ -1,2 +1,0 @@
--- layers that were put together as an image
-pub mod JoinedLayers

@@ -1,2 +1,0 @@
--- kinds of chunks
-pub mod Kinds

@@ -1,0 +1,3 @@
+pub mod MarksApart
+pub mod WordsApart
+pub mod ListsApart

@@ -1,0 +1,10 @@
+pub mod FieldOwners
+pub mod WordOwners
+pub mod RowOwners
+pub mod RowMarking
+pub mod LaidOut
+pub mod RowsSaid
+pub mod WordsSaid
+pub mod OneDamage
+pub mod NoDamage
+pub mod SomeDamage

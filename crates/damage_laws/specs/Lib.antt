@@ -1,0 +1,2 @@
+-- what some bytes are
+pub mod Outcomes

@@ -1,0 +1,2 @@
+-- items at a place
+pub mod Places

@@ -1,2 +1,0 @@
--- what a commit makes of a store
-pub mod Committed

@@ -1,2 +1,0 @@
--- layers, and how they are put together
-pub mod Layering

@@ -1,5 +1,0 @@
-use Rattle.ql_laws.proofs.Faults.{packet_no_fault}
-use Rattle.ql_laws.proofs.law.packets_have_no_fault.Goals as goal
-
-pub returns : goal.returns
-returns c = packet_no_fault

@@ -1,5 +1,0 @@
-use Rattle.ql_laws.proofs.Faults.{one_fault}
-use Rattle.ql_laws.proofs.law.tokens_have_one_fault.Goals as goal
-
-pub returns : goal.returns
-returns c = one_fault

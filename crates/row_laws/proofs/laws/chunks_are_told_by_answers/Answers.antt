@@ -1,5 +1,0 @@
-use Rattle.row_laws.proofs.AllRows.{contents_told}
-use Rattle.row_laws.proofs.laws.chunks_are_told_by_answers.Goals as goal
-
-pub returns : goal.returns
-returns g c = contents_told (g.C.Chunk.content c.args.chunk.now) (g.D.Chunk.content c.args.other.now) (g.met.C.Chunk.whole c.args.chunk.now) (g.met.D.Chunk.whole c.args.other.now) c.requires

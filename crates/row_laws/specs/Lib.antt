@@ -1,2 +1,0 @@
--- rows of which a chunk answers alike
-pub mod AlikeRows
