@@ -1,0 +1,2 @@
+-- the chunk over an image
+pub mod Kept

@@ -1,0 +1,2 @@
+-- what opening answers
+pub mod Opens

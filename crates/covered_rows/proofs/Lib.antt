@@ -1,0 +1,6 @@
+mod Counts
+mod Owning
+mod Passing
+mod Ranges
+mod RowCover
+mod AllRows

@@ -1,0 +1,2 @@
+-- what marks leave
+pub mod Marked

@@ -1,0 +1,5 @@
+mod AllLists
+pub mod Apart
+mod Counting
+mod Listing
+pub mod Taken

@@ -1,0 +1,2 @@
+-- ids one row at a time
+pub mod Ascending

@@ -1,0 +1,2 @@
+-- what the header is read as
+pub mod Heads

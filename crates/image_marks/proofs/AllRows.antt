@@ -1,0 +1,111 @@
+-- The marks of rows one row at a time.
+use Rattle.std.proofs.Common.{◌≡◌, ℕ, zero, suc, ◌+◌, ◌<◌, List, [], ◌∷◌, ◌++◌, length, drop, refl, sym, ap, subst, ◌∙◌, arith, append-nil, add-one, append_assoc, length-append}
+use Rattle.doc_types.specs.declared.schema.Schema.{Schema}
+use Rattle.item_lists.specs.Items.{spelled}
+use Rattle.item_lists.specs.steps.Places.{IsItemAt}
+use Rattle.item_lists.proofs.Reading.{Gone, all_read, gone_more, gone_none, left_wrong, none_wrong}
+use Rattle.chunk_damage.specs.RowMarks.{AreTold, RowMarks, and_marks, bytes_of, told_place}
+use Rattle.image_marks.specs.Markings.{fields_least, row_bits, row_starts, rows_bits, rows_least, rows_starts}
+use Rattle.image_marks.specs.Parts.{AreBadMarksIn, AreMarksIn}
+use Rattle.image_marks.specs.steps.MarkItems.{rows_begun}
+use Rattle.image_marks.proofs.RowReading.{NoRow, RowRead}
+
+module _ (schema : Schema) (image : List ℕ) where
+  abbrev Told : ℕ × ℕ → RowMarks → Type 0
+  Told = AreTold schema image
+
+  abbrev fields : ℕ
+  fields = length schema.fields
+
+  abbrev pub Last : List ℕ → ℕ → ℕ → ℕ → Type 0
+  Last part last at zero = at ≡ 0
+  Last part last at (suc i) =
+      (earlier : List RowMarks) × (m : RowMarks) × (rest : List ℕ) × (s : ℕ × ℕ) × Gone bytes_of and_marks (AreTold schema image) part 0 last (0, 0) s i earlier × IsItemAt bytes_of (AreTold schema image) part last s m rest × (at ≡ last + length (bytes_of s m))
+
+  pub record RowsRead (part : List ℕ) (at last n : ℕ) (starts bits starts_now bits_now : List ℕ) (least least_now : ℕ) : Type 0 where
+    pub marks : List RowMarks
+    pub gone : Gone bytes_of and_marks (AreTold schema image) part 0 at (0, 0) (n, at) n marks
+    pub its_last : Last part last at n
+    pub begun : starts_now ≡ starts ++ rows_begun bits marks
+    pub taken : bits_now ≡ rows_bits bits marks
+    pub least_is : least_now ≡ rows_least 0 least marks
+
+  pub rows_none : (part starts bits : List ℕ) (least : ℕ) → RowsRead part 0 0 0 starts bits starts bits least least
+  rows_none part starts bits least = record { marks = []; gone = gone_none bytes_of and_marks Told part 0 (0, 0); its_last = refl; begun = sym (append-nil starts); taken = refl; least_is = refl }
+
+  more_bits : (bits : List ℕ) (marks : List RowMarks) (m : RowMarks) → rows_bits bits (marks ++ m ∷ []) ≡ row_bits (rows_bits bits marks) m.fields
+  more_bits bits [] m = refl
+  more_bits bits (k ∷ marks) m = more_bits (row_bits bits k.fields) marks m
+
+  more_begun : (bits : List ℕ) (marks : List RowMarks) (m : RowMarks) → rows_begun bits (marks ++ m ∷ []) ≡ rows_begun bits marks ++ row_starts (rows_bits bits marks) m.fields
+  more_begun bits [] m = append-nil (row_starts bits m.fields)
+  more_begun bits (k ∷ marks) m =
+      ap (λ l. row_starts bits k.fields ++ l) (more_begun (row_bits bits k.fields) marks m) ∙ sym (append_assoc (row_starts bits k.fields) (rows_begun (row_bits bits k.fields) marks) (row_starts (rows_bits (row_bits bits k.fields) marks) m.fields))
+
+  more_least : (n least : ℕ) (marks : List RowMarks) (m : RowMarks) → rows_least n least (marks ++ m ∷ []) ≡ fields_least (n + length marks) (rows_least n least marks) m.fields
+  more_least n least [] m = let same : n ≡ n + 0 = omega arith in ap (λ k. fields_least k least m.fields) same
+  more_least n least (k ∷ marks) m =
+      let same : n + 1 + length marks ≡ n + suc (length marks) = omega arith in
+      more_least (n + 1) (fields_least n least k.fields) marks m ∙ ap (λ r. fields_least r (rows_least (n + 1) (fields_least n least k.fields) marks) m.fields) same
+
+  pub rows_more : (part : List ℕ) (at end last n told : ℕ) (starts bits starts_now bits_now starts_after bits_after : List ℕ) (least least_now least_after : ℕ) → RowsRead part at last n starts bits starts_now bits_now least least_now → told ≡ told_place schema image n → told ≡ at
+      → RowRead part at fields n starts_now bits_now starts_after bits_after least_now least_after end → RowsRead part end at (n + 1) starts bits starts_after bits_after least least_after
+  rows_more part at end last n told starts bits starts_now bits_now starts_after bits_after least least_now least_after g t same read =
+      let m = read.0 in
+      let item : IsItemAt bytes_of Told part at (n, at) m read.1 = record { fits = record { told = sym t ∙ same; fits = read.2.fits }; here = read.2.here } in
+      let more = gone_more bytes_of and_marks Told part 0 at end (0, 0) (n, at) n g.marks m read.1 g.gone item read.3 in
+      let number : 0 + length g.marks ≡ n = omega (arith, g.gone.counted) in
+      record {
+        marks = g.marks ++ m ∷ [];
+        gone = subst (λ k. Gone bytes_of and_marks Told part 0 end (0, 0) (n + 1, k) (n + 1) (g.marks ++ m ∷ [])) (sym read.3) more;
+        its_last = subst (Last part at end) (sym (add-one n)) (g.marks, m, read.1, (n, at), g.gone, item, read.3);
+        begun = read.4 ∙ ap (λ l. l ++ row_starts bits_now m.fields) g.begun ∙ ap (λ c. (starts ++ rows_begun bits g.marks) ++ row_starts c m.fields) g.taken ∙ append_assoc starts (rows_begun bits g.marks) (row_starts (rows_bits bits g.marks) m.fields) ∙ ap (λ l. starts ++ l) (sym (more_begun bits g.marks m));
+        taken = read.5 ∙ ap (λ c. row_bits c m.fields) g.taken ∙ sym (more_bits bits g.marks m);
+        least_is = read.6 ∙ ap (λ k. fields_least n k m.fields) g.least_is ∙ ap (λ r. fields_least r (rows_least 0 least g.marks) m.fields) (sym number) ∙ sym (more_least 0 least g.marks m);
+      }
+
+  pub rows_more_of : (part : List ℕ) (at end last n told count : ℕ) (starts bits starts_now bits_now starts_after bits_after : List ℕ) (least least_now least_after : ℕ) → RowsRead part at last n starts bits starts_now bits_now least least_now → told ≡ told_place schema image n → told ≡ at → count ≡ fields
+      → RowRead part at count n starts_now bits_now starts_after bits_after least_now least_after end → RowsRead part end at (n + 1) starts bits starts_after bits_after least least_after
+  rows_more_of part at end last n told count starts bits starts_now bits_now starts_after bits_after least least_now least_after g t same e read =
+      rows_more part at end last n told starts bits starts_now bits_now starts_after bits_after least least_now least_after g t same (subst (λ k. RowRead part at k n starts_now bits_now starts_after bits_after least_now least_after end) e read)
+
+  -- the next row's marks aren't there, or the row says another place
+  pub rows_stop : (part : List ℕ) (at last n rows : ℕ) (starts bits starts_now bits_now : List ℕ) (least least_now : ℕ) → RowsRead part at last n starts bits starts_now bits_now least least_now → n < rows → NoRow part at fields → AreBadMarksIn schema image part rows at
+  rows_stop part at last n rows starts bits starts_now bits_now least least_now g low none =
+      none_wrong bytes_of and_marks Told part at (0, 0) (n, at) n rows g.marks g.gone low (λ m rest is. none m rest (record { fits = is.fits.fits; here = is.here }))
+
+  pub rows_untold : (part : List ℕ) (at last n rows told : ℕ) (starts bits starts_now bits_now : List ℕ) (least least_now : ℕ) → RowsRead part at last n starts bits starts_now bits_now least least_now → n < rows → told ≡ told_place schema image n → (told ≡ at → ⊥) → AreBadMarksIn schema image part rows at
+  rows_untold part at last n rows told starts bits starts_now bits_now least least_now g low t other =
+      none_wrong bytes_of and_marks Told part at (0, 0) (n, at) n rows g.marks g.gone low (λ m rest is. other (t ∙ is.fits.told))
+
+  pub rows_left : (part : List ℕ) (at last n rows : ℕ) (starts bits starts_now bits_now : List ℕ) (least least_now : ℕ) → RowsRead part at last n starts bits starts_now bits_now least least_now → n ≡ rows → (rows ≡ 0 → length part ≡ 0) → (at ≡ length part → ⊥) → AreBadMarksIn schema image part rows last
+  rows_left part at last zero rows starts bits starts_now bits_now least least_now g e none more = absurd (more (g.its_last ∙ sym (none (sym e))))
+  rows_left part at last (suc i) rows starts bits starts_now bits_now least least_now g e none more =
+      let l = g.its_last in
+      left_wrong bytes_of and_marks Told part last at (0, 0) l.3 i rows l.0 l.1 l.2 l.4 (omega (arith, e)) l.5 l.6 not_past
+    where
+      not_past : at < length part
+      not_past =
+          let long : length part ≡ length (spelled bytes_of and_marks (0, 0) g.marks) + length (drop at part) = ap length g.gone.here ∙ length-append (spelled bytes_of and_marks (0, 0) g.marks) (drop at part) in
+          omega (arith, long, g.gone.place, more)
+
+  abbrev pub PartRead : List ℕ → ℕ → List ℕ → List ℕ → List ℕ → List ℕ → ℕ → ℕ → Type 0
+  PartRead part rows starts bits starts_after bits_after least least_after =
+      (marks : List RowMarks) × AreMarksIn schema image part rows marks × (starts_after ≡ starts ++ rows_begun bits marks) × (bits_after ≡ rows_bits bits marks) × (least_after ≡ rows_least 0 least marks)
+
+  pub rows_all : (part : List ℕ) (at last n rows : ℕ) (starts bits starts_now bits_now : List ℕ) (least least_now : ℕ) → RowsRead part at last n starts bits starts_now bits_now least least_now → n ≡ rows → at ≡ length part → PartRead part rows starts bits starts_now bits_now least least_now
+  rows_all part at last n rows starts bits starts_now bits_now least least_now g e all = (g.marks, all_read bytes_of and_marks Told part at (0, 0) (n, at) n rows g.marks g.gone e all, g.begun, g.taken, g.least_is)
+
+-- where rows begin, and where the last one ends
+pub ended : (bits : List ℕ) (marks : List RowMarks) → rows_begun bits marks ++ length (rows_bits bits marks) ∷ [] ≡ rows_starts bits marks
+ended bits [] = refl
+ended bits (m ∷ marks) = append_assoc (row_starts bits m.fields) (rows_begun (row_bits bits m.fields) marks) (length (rows_bits (row_bits bits m.fields) marks) ∷ []) ∙ ap (λ l. row_starts bits m.fields ++ l) (ended (row_bits bits m.fields) marks)
+
+-- all rows were read, and the place where the last one ends is appended
+pub part_answer : (schema : Schema) (image part : List ℕ) (rows end : ℕ) (starts bits starts_read starts_after bits_after : List ℕ) (least least_after : ℕ) → starts ≡ [] → bits ≡ [] → PartRead schema image part rows starts bits starts_read bits_after least least_after → end ≡ length bits_after → starts_after ≡ starts_read ++ end ∷ []
+    → (marks : List RowMarks) × AreMarksIn schema image part rows marks × (starts_after ≡ rows_starts [] marks) × (bits_after ≡ rows_bits [] marks) × (least_after ≡ rows_least 0 least marks)
+part_answer schema image part rows end starts bits starts_read starts_after bits_after least least_after s b read e a =
+    let marks = read.0 in
+    let taken : bits_after ≡ rows_bits [] marks = read.3 ∙ ap (λ k. rows_bits k marks) b in
+    let begun : starts_read ≡ rows_begun [] marks = read.2 ∙ ap (λ l. l ++ rows_begun bits marks) s ∙ ap (λ k. rows_begun k marks) b in
+    (marks, read.1, a ∙ ap (λ l. l ++ end ∷ []) begun ∙ ap (λ n. rows_begun [] marks ++ n ∷ []) (e ∙ ap length taken) ∙ ended [] marks, taken, read.4)

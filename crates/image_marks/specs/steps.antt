@@ -1,0 +1,4 @@
+-- marks as items
+pub mod MarkItems
+-- spans as items
+pub mod SpanItems

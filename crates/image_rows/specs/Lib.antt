@@ -1,0 +1,4 @@
+-- bytes that are the image of a chunk
+pub mod Images
+-- what serves proofs alone
+pub mod steps

@@ -1,0 +1,3 @@
+mod HeadReading
+mod Ordered
+mod TableReading

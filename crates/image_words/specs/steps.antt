@@ -1,0 +1,2 @@
+-- lists by their heads, and words at a place
+pub mod Heads
