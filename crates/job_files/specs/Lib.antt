@@ -1,0 +1,2 @@
+-- what the end of a job writes
+pub mod Jobs

@@ -1,0 +1,4 @@
+pub mod Merging
+pub mod Moved
+pub mod Numbers
+pub mod Taking
