@@ -1,0 +1,12 @@
+-- the pieces of a text
+pub mod Pieces
+-- the marks of a text
+pub mod Marks
+-- the grammar, with its values
+pub mod Grammar
+-- the first fault of a text
+pub mod ExprFaults
+-- the weight that an expression gives a document
+pub mod ExpressionWeight
+-- what serves proofs and private functions alone
+pub mod steps

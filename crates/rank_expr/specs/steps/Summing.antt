@@ -1,0 +1,16 @@
+-- What is kept of the fields that were looked at, and whether a value is 0.
+use Rattle.std.specs.Prelude.{◌≡◌, ℕ, Bool, List, Option, Some, None, slice_get, ℤ, pos}
+use Rattle.std.specs.Ordering.{int_eq}
+use Rattle.doc_types.specs.declared.hits.Hits.{Hits}
+use Rattle.rankers.specs.declared.ranker.Factors.{Factors}
+use Rattle.rankers.specs.Factors.{factors_of}
+use Rattle.rankers.specs.Weight.{in_field}
+
+-- what is kept of a field is what it gives
+pub record IsMemo (hits : Hits) (memo : List (Option Factors)) : Type 0 where
+  pub right : (field : ℕ) (factors : Factors) → slice_get memo field ≡ Some (Some factors) → factors ≡ factors_of (in_field field hits.list)
+
+-- whether a value is 0, where there is one
+abbrev pub zero_of : Option ℤ → Option Bool
+zero_of None = None
+zero_of (Some x) = Some (int_eq x (pos 0))
