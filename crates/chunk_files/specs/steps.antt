@@ -1,0 +1,4 @@
+-- one file
+pub mod Files
+-- one file after the other
+pub mod Rests
