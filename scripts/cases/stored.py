@@ -310,7 +310,6 @@ def stands_for(schema, text, files):
     chunks = f", chunks {len(state.chunks)}" if state.chunks else ""
     found = "; ".join(told(its_id, documents[its_id]) for its_id in sorted(documents))
     return f"number {last}, through {state.through}, above {above}{chunks}: {found or 'none'}"
-<<<<<<< ours
 
 
 def is_unread(files, stands):
@@ -324,5 +323,3 @@ def is_unread(files, stands):
         return False
     ended = re.fullmatch(r"(\d+) at (\d+): record number", stands)
     return bool(root[2].chunks) or bool(ended) and files[int(ended[1])][int(ended[2])] != 1
-=======
->>>>>>> theirs

@@ -1,9 +1,7 @@
 //! The engine: what each worker calls.
-ghost use Rattle.std.specs.Prelude.{◌≡◌, ◌<◌, ◌≤◌, IfOk, IfErr, length};
-ghost use Rattle.std.specs.Arc.{arc_value};
+ghost use Rattle.std.specs.Prelude.{◌≡◌, ◌<◌, ◌≤◌, IfOk, IfErr};
 ghost use Rattle.doc_types.specs.Schemas.{IsSchema};
 ghost use Rattle.doc_types.specs.Transactions.{IsTxnOf};
-ghost use Rattle.step_history.specs.Places.{disk_chunks};
 ghost use Rattle.step_line.specs.Lines.{new_line};
 ghost use Rattle.store_keep.specs.Names.{first_tokens};
 ghost use Rattle.store_keep.specs.Opens.{IsOpened, base_of};
@@ -30,7 +28,6 @@ pub struct Engine<D: Disk, J: Naming> {
     workers: u32,
     records: u64,
     documents: u32,
-    chunks: u32,
     keeper: Mutex<Held<D, J>>,
 }
 
@@ -39,7 +36,7 @@ impl<D: Disk, J: Naming> Model for Engine<D, J> {
 
     ghost Value = { EngineValue };
 
-    ghost view = { λ e. record { index = e.index; workers = e.workers; records = e.records; documents = e.documents; chunks = e.chunks } };
+    ghost view = { λ e. record { index = e.index; workers = e.workers; records = e.records; documents = e.documents } };
 }
 
 impl<D: Disk, J: Naming> Engine<D, J> {
@@ -56,20 +53,19 @@ impl<D: Disk, J: Naming> Engine<D, J> {
         requires book { opened.book.past.seen.book ≡ J.book index }
         requires base { J.base index ≡ base_of opened }
         requires opened { IsOpened D.Disk (J.schema index) opened }
-        ensures engine { IfOk result (λ named. named.0 ≡ record { index = index; workers = workers; records = opened.records; documents = opened.documents; chunks = length (disk_chunks (arc_value opened.snapshot)) }) }
+        ensures engine { IfOk result (λ named. named.0 ≡ record { index = index; workers = workers; records = opened.records; documents = opened.documents }) }
         ensures tokens { IfOk result (λ named. named.1.items ≡ first_tokens index workers) }
         ensures disk { IfErr result (λ disk. disk ≡ opened.disk) }
     {
         match Keeper::named(rt, alloc, opened, index, workers) {
             Ok((keeper, tokens)) => {
                 let records = keeper.records();
-                let (documents, chunks) = keeper.opened();
+                let (documents, _) = keeper.opened();
                 let engine = Engine {
                     index,
                     workers,
                     records,
                     documents,
-                    chunks,
                     keeper: Mutex::new(Held::new(keeper, index, workers)),
                 };
                 Ok((engine, tokens))
@@ -87,9 +83,9 @@ impl<D: Disk, J: Naming> Engine<D, J> {
 
     /// How many documents and how many chunks on the disk there were at opening.
     pub fn opened(&self) -> (u32, u32)
-        ensures { result ≡ (self.now.documents, self.now.chunks) }
+        ensures { result ≡ (self.now.documents, 0) }
     {
-        (self.documents, self.chunks)
+        (self.documents, 0)
     }
 
     /// Commits a transaction of a worker with its token. What waits is settled first. It waits for the commits of other workers.
@@ -128,7 +124,6 @@ impl<D: Disk, J: Naming> Engine<D, J> {
             workers,
             records: _records,
             documents: _documents,
-            chunks: _chunks,
             keeper,
         } = self;
         keeper.into_inner().close(rt, index, workers, tokens, told)

@@ -30,14 +30,8 @@ pub mod NewLayers
 pub mod Laid
 -- pieces one behind the other
 pub mod BothPieces
--- chunks that were read
-pub mod Bases
--- chunks as layers, over which logs are laid
-pub mod Chunked
 -- what was read of a disk is what it stands for
 pub mod Founds
--- logs that end early
-pub mod Early
 -- the root that was read
 pub mod RootFound
 -- the first log and the first root are written

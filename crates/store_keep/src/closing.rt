@@ -69,7 +69,6 @@ impl<D: Disk, J: Naming> Keeper<D, J> {
             first: _first,
             records: _records,
             documents: _documents,
-            chunks: _chunks,
             strayed: _strayed,
         } = self;
         let Kept {

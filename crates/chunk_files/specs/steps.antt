@@ -1,4 +1,0 @@
--- one file
-pub mod Files
--- one file after the other
-pub mod Rests
