@@ -1,0 +1,5 @@
+pub mod Growing
+pub mod Chunks
+pub mod Ends
+pub mod Layouts
+pub mod Pushing
