@@ -19,8 +19,6 @@ mod pages;
 #[cfg(test)]
 mod queries;
 #[cfg(test)]
-mod ranked;
-#[cfg(test)]
 mod rows;
 #[cfg(test)]
 mod sets;

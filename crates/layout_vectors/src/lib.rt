@@ -1,10 +1,8 @@
-//! Tests by tables of bytes from outside over what is kept: posting lists, transactions, schemas and images of chunks.
+//! Tests by tables of bytes from outside over what is kept: posting lists, transactions and schemas.
 #![tactic(auto)]
 
 #[cfg(test)]
 mod codes;
-#[cfg(test)]
-mod images;
 #[cfg(test)]
 mod payloads;
 #[cfg(test)]

@@ -1,5 +1,0 @@
-pub mod Growing
-pub mod Chunks
-pub mod Ends
-pub mod Layouts
-pub mod Pushing

@@ -1,2 +1,0 @@
--- the state of a root at the end of a job
-pub mod States

@@ -1,8 +1,0 @@
-//! The state of a root at the end of a job, and how the job ends on the disk.
-#![tactic(auto)]
-
-mod finishing;
-mod state;
-
-pub use finishing::{Fault, finish};
-pub use state::state_of;
