@@ -49,6 +49,12 @@ pub enum FullKind {
     Log,
     /// Documents that live.
     Documents,
+    /// Chunks that stand on the disk.
+    Chunks,
+    /// Bytes of their images.
+    Images,
     /// Numbers of commits.
     Numbers,
+    /// Numbers of files, or of roots.
+    Root,
 }

@@ -9,7 +9,7 @@ use Rattle.query_grammar.specs.FaultTexts.{fault_text as query_text}
 use Rattle.query_grammar.specs.declared.fault.QueryFault.{QueryFault}
 use Rattle.commit_outcomes.specs.declared.outcome.Full.{Full}
 use Rattle.commit_outcomes.specs.declared.outcome.FullKind.{FullKind}
-use Rattle.commit_outcomes.specs.declared.outcome.FullKind.TheVariants.{Documents, Log, Numbers}
+use Rattle.commit_outcomes.specs.declared.outcome.FullKind.TheVariants.{Chunks, Documents, Images, Log, Numbers, Root}
 use Rattle.commit_outcomes.specs.declared.strayed.Strayed.{Strayed}
 
 -- why a statement is refused: a code of the protocol, and a text
@@ -147,7 +147,10 @@ duplicate_id id = refused (codes "duplicate id " ++ decimal id)
 abbrev pub full_text : FullKind → List ℕ
 full_text Log = codes "log"
 full_text Documents = codes "documents"
+full_text Chunks = codes "chunks"
+full_text Images = codes "images"
 full_text Numbers = codes "numbers"
+full_text Root = codes "root"
 
 abbrev pub index_full : Full → Refused
 index_full full = refused (full_text full.what ++ codes " full at " ++ decimal full.at ++ codes " needs " ++ decimal full.need)

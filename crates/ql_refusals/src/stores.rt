@@ -20,7 +20,10 @@ fn full_text(kind: FullKind) -> &'static [u8]
     match kind {
         FullKind::Log => b"log",
         FullKind::Documents => b"documents",
+        FullKind::Chunks => b"chunks",
+        FullKind::Images => b"images",
         FullKind::Numbers => b"numbers",
+        FullKind::Root => b"root",
     }
 }
 
