@@ -17,7 +17,8 @@ use image_cover::Cover;
 pub fn uncovered_row(starts: &[u32], width: usize, rows: u32, cover: &Cover) -> Option<u32>
     requires laid { AreLaid starts.now width rows (length (bits_of cover.now.taken)) }
     requires from { slice_index starts.now 0 ≡ 0 }
-    ensures { (s : Seen) (marks : List RowMarks) (lists : List (List Entry)) → AreMarked starts.now width s marks → length marks ≡ rows → AllShort marks → AllByRecursion (AreEntries rows 0) lists → width ≤ 33 → seen cover.now ≡ take_all s (places_of_lists starts.now width lists) → MatchOption result (AllCovered lists 0 marks) (λ row. IsUncovered lists marks row) }
+    ensures taken { MatchOption result (ArePassed starts.now width (seen cover.now) rows) (λ row. IsStopped starts.now width (seen cover.now) rows row) }
+    ensures cover { (s : Seen) (marks : List RowMarks) (lists : List (List Entry)) → AreMarked starts.now width s marks → length marks ≡ rows → AllShort marks → AllByRecursion (AreEntries rows 0) lists → width ≤ 33 → seen cover.now ≡ take_all s (places_of_lists starts.now width lists) → MatchOption result (AllCovered lists 0 marks) (λ row. IsUncovered lists marks row) }
 {
     stopped_row(starts, width, rows, cover)
 }

@@ -1,20 +1,18 @@
 -- Damage of each kind, where the parts before are good.
-use Rattle.std.proofs.Common.{◌≡◌, ℕ, ◌+◌, ◌*◌, ◌<◌, ◌≤◌, List, [], ◌∷◌, ◌++◌, Err, length, refl, sym, ap, subst, ◌∙◌, arith, length-append}
+use Rattle.std.proofs.Common.{◌≡◌, ℕ, ◌+◌, ◌*◌, ◌<◌, List, [], ◌∷◌, Err, length, sym, ap, subst, arith}
 use Rattle.std.specs.List.{AllByRecursion}
 use Rattle.srch_base.specs.declared.faults.Or.{Or}
 use Rattle.srch_base.specs.declared.faults.Or.TheVariants.{Fault}
 use Rattle.doc_types.specs.declared.schema.Schema.{Schema}
-use Rattle.doc_types.specs.declared.tokens.TheConstants.{MAX_POSITION}
-use Rattle.item_lists.specs.Items.{AllFit, AreAllItems, IsFirstWrong}
+use Rattle.item_lists.specs.Items.{AllFit}
 use Rattle.chunk_damage.specs.declared.fault.BadChunk.{BadChunk}
 use Rattle.chunk_damage.specs.declared.fault.ChunkKind.TheVariants as kinds
-use Rattle.chunk_damage.specs.Header.{dictionary_at, dictionary_part, marks_at, marks_part, postings_at, postings_part, row_at, rows_in, table_at, table_part, words_in}
+use Rattle.chunk_damage.specs.Header.{row_at}
 use Rattle.chunk_damage.specs.RowOrder.{IsUnordered}
-use Rattle.chunk_damage.specs.RowMarks.{AreBadMarks, AreFieldMarks, AreMarks, AreTold, FieldMarks, RowMarks, and_marks}
-use Rattle.chunk_damage.specs.WordTable.{IsBadEntry, IsEntered}
-use Rattle.chunk_damage.specs.WordTable.{and_word as and_entered, bytes_of as entered_of}
+use Rattle.chunk_damage.specs.RowMarks.{AreBadMarks}
+use Rattle.chunk_damage.specs.WordTable.{IsBadEntry}
 use Rattle.chunk_damage.specs.WordOrder.{IsBadWord}
-use Rattle.chunk_damage.specs.WordLists.{AreEntries, AreLists, Entry, IsBadList, IsList, and_list}
+use Rattle.chunk_damage.specs.WordLists.{AreEntries, Entry, IsBadList, IsList, and_list}
 use Rattle.chunk_damage.specs.Cover.{AllCovered, IsUncovered}
 use Rattle.chunk_damage.specs.Damage.{HasLists, HasMarks, HasRowOrder, HasTable, HasWordOrder, IsBadChunk, IsUndamaged}
 use Rattle.image_head.specs.declared.header.Sizes.{Sizes}

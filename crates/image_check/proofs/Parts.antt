@@ -1,11 +1,11 @@
 -- Where the parts of an image lie, by the sizes of its header.
-use Rattle.std.proofs.Common.{◌≡◌, ℕ, ◌+◌, ◌-◌, ◌*◌, ◌<◌, ◌≤◌, List, ◌++◌, length, take, drop, refl, sym, ap, ◌∙◌, arith, length-append}
+use Rattle.std.proofs.Common.{◌≡◌, ℕ, ◌+◌, ◌-◌, ◌*◌, ◌<◌, ◌≤◌, List, length, take, drop, sym, ap, ◌∙◌, arith, length-append}
 use Rattle.std.specs.List.{slice_range}
 use Rattle.std.proofs.lemmas.List.{length-drop, length-take, take_all}
 use Rattle.std.proofs.lemmas.Nat.{row_fits}
 use Rattle.doc_types.specs.declared.schema.Schema.{Schema}
 use Rattle.item_lists.specs.Items.{IsFirstWrong, spelled}
-use Rattle.chunk_damage.specs.Header.{dictionary_at, dictionary_part, end_at, four_in, marks_at, marks_part, postings_at, postings_part, row_at, row_size, rows_in, table_at, table_part, words_in}
+use Rattle.chunk_damage.specs.Header.{dictionary_at, dictionary_part, four_in, marks_at, marks_part, postings_at, postings_part, row_at, row_size, table_at, table_part, words_in}
 use Rattle.image_head.specs.declared.header.Sizes.{Sizes}
 use Rattle.image_check.specs.Begun.{IsBegun}
 

@@ -1,5 +1,7 @@
 //! The marks of the rows, which lay out a place for each position.
-ghost use Rattle.std.specs.Prelude.{◌<◌, ◌≤◌, ◌^◌};
+//!
+//! What takes a place has a byte of its own: a row, a boundary, a hit. So an image has no more places than bytes; where marks claim
+//! more, some row in front of those that aren't laid out isn't covered.
 ghost use Rattle.chunk_damage.specs.Damage.{HasRowOrder};
 ghost use Rattle.image_check.specs.Checks.{Checks};
 ghost use Rattle.image_check.specs.Begun.{IsBegun};
@@ -32,13 +34,13 @@ pub(crate) fn check_marks(
         taken: BitList::new(alloc),
         least: NO_ROW,
     };
-    let most = most_positions(image.len());
     match read_part(
+        alloc,
         image,
         part,
         schema,
         sizes.rows,
-        most,
+        image.len(),
         &mut starts,
         &mut cover,
     ) {
@@ -46,13 +48,4 @@ pub(crate) fn check_marks(
         Ok(Some(at)) => Err(damage(sizes.marks + at, ChunkKind::Marks)),
         Err(_) => Err(Or::NoMemory),
     }
-}
-
-/// How many positions may be laid out: more than an image of so many bytes has. A row has at most 2^21 of them, and all that is
-/// behind that is damage, which isn't worth the memory.
-fn most_positions(size: usize) -> usize
-    requires { size ≤ 536870912 }
-    ensures { result < 2 ^ 32 }
-{
-    (8 * size + 0x20_0000).min(u32::MAX as usize)
 }

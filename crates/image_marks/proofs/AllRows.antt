@@ -5,12 +5,13 @@ use Rattle.item_lists.specs.Items.{spelled}
 use Rattle.item_lists.specs.steps.Places.{IsItemAt}
 use Rattle.item_lists.proofs.Reading.{Gone, all_read, gone_more, gone_none, left_wrong, none_wrong}
 use Rattle.chunk_damage.specs.RowMarks.{AreTold, RowMarks, and_marks, bytes_of, told_place}
-use Rattle.image_marks.specs.Markings.{fields_least, row_bits, row_starts, rows_bits, rows_least, rows_starts}
+use Rattle.image_marks.specs.Markings.{fields_least, laid_row, laid_rows, row_bits, row_starts, rows_bits, rows_least, rows_starts}
 use Rattle.image_marks.specs.Parts.{AreBadMarksIn, AreMarksIn}
 use Rattle.image_marks.specs.steps.MarkItems.{rows_begun}
-use Rattle.image_marks.proofs.RowReading.{NoRow, RowRead}
+use Rattle.image_marks.proofs.RowReading.{NoRow}
+use Rattle.image_marks.proofs.RowLaying.{RowLaid, laid_many}
 
-module _ (schema : Schema) (image : List ℕ) where
+module _ (schema : Schema) (image : List ℕ) (enough : ℕ) where
   abbrev Told : ℕ × ℕ → RowMarks → Type 0
   Told = AreTold schema image
 
@@ -26,9 +27,9 @@ module _ (schema : Schema) (image : List ℕ) where
     pub marks : List RowMarks
     pub gone : Gone bytes_of and_marks (AreTold schema image) part 0 at (0, 0) (n, at) n marks
     pub its_last : Last part last at n
-    pub begun : starts_now ≡ starts ++ rows_begun bits marks
-    pub taken : bits_now ≡ rows_bits bits marks
-    pub least_is : least_now ≡ rows_least 0 least marks
+    pub begun : starts_now ≡ starts ++ rows_begun bits (laid_rows enough bits marks)
+    pub taken : bits_now ≡ rows_bits bits (laid_rows enough bits marks)
+    pub least_is : least_now ≡ rows_least 0 least (laid_rows enough bits marks)
 
   pub rows_none : (part starts bits : List ℕ) (least : ℕ) → RowsRead part 0 0 0 starts bits starts bits least least
   rows_none part starts bits least = record { marks = []; gone = gone_none bytes_of and_marks Told part 0 (0, 0); its_last = refl; begun = sym (append-nil starts); taken = refl; least_is = refl }
@@ -48,26 +49,33 @@ module _ (schema : Schema) (image : List ℕ) where
       let same : n + 1 + length marks ≡ n + suc (length marks) = omega arith in
       more_least (n + 1) (fields_least n least k.fields) marks m ∙ ap (λ r. fields_least r (rows_least (n + 1) (fields_least n least k.fields) marks) m.fields) same
 
+  more_laid : (bits bits_now : List ℕ) (marks : List RowMarks) (m : RowMarks) → bits_now ≡ rows_bits bits (laid_rows enough bits marks) → laid_rows enough bits (marks ++ m ∷ []) ≡ laid_rows enough bits marks ++ laid_row enough bits_now m ∷ []
+  more_laid bits bits_now [] m e = ap (λ b. laid_row enough b m ∷ []) (sym e)
+  more_laid bits bits_now (k ∷ marks) m e = ap (λ l. laid_row enough bits k ∷ l) (more_laid (row_bits bits (laid_row enough bits k).fields) bits_now marks m e)
+
   pub rows_more : (part : List ℕ) (at end last n told : ℕ) (starts bits starts_now bits_now starts_after bits_after : List ℕ) (least least_now least_after : ℕ) → RowsRead part at last n starts bits starts_now bits_now least least_now → told ≡ told_place schema image n → told ≡ at
-      → RowRead part at fields n starts_now bits_now starts_after bits_after least_now least_after end → RowsRead part end at (n + 1) starts bits starts_after bits_after least least_after
+      → RowLaid part at enough fields n starts_now bits_now starts_after bits_after least_now least_after end → RowsRead part end at (n + 1) starts bits starts_after bits_after least least_after
   rows_more part at end last n told starts bits starts_now bits_now starts_after bits_after least least_now least_after g t same read =
       let m = read.0 in
+      let l = laid_rows enough bits g.marks in
+      let k = laid_row enough bits_now m in
       let item : IsItemAt bytes_of Told part at (n, at) m read.1 = record { fits = record { told = sym t ∙ same; fits = read.2.fits }; here = read.2.here } in
       let more = gone_more bytes_of and_marks Told part 0 at end (0, 0) (n, at) n g.marks m read.1 g.gone item read.3 in
-      let number : 0 + length g.marks ≡ n = omega (arith, g.gone.counted) in
+      let number : 0 + length l ≡ n = omega (arith, g.gone.counted, laid_many enough bits g.marks) in
+      let both : laid_rows enough bits (g.marks ++ m ∷ []) ≡ l ++ k ∷ [] = more_laid bits bits_now g.marks m g.taken in
       record {
         marks = g.marks ++ m ∷ [];
         gone = subst (λ k. Gone bytes_of and_marks Told part 0 end (0, 0) (n + 1, k) (n + 1) (g.marks ++ m ∷ [])) (sym read.3) more;
         its_last = subst (Last part at end) (sym (add-one n)) (g.marks, m, read.1, (n, at), g.gone, item, read.3);
-        begun = read.4 ∙ ap (λ l. l ++ row_starts bits_now m.fields) g.begun ∙ ap (λ c. (starts ++ rows_begun bits g.marks) ++ row_starts c m.fields) g.taken ∙ append_assoc starts (rows_begun bits g.marks) (row_starts (rows_bits bits g.marks) m.fields) ∙ ap (λ l. starts ++ l) (sym (more_begun bits g.marks m));
-        taken = read.5 ∙ ap (λ c. row_bits c m.fields) g.taken ∙ sym (more_bits bits g.marks m);
-        least_is = read.6 ∙ ap (λ k. fields_least n k m.fields) g.least_is ∙ ap (λ r. fields_least r (rows_least 0 least g.marks) m.fields) (sym number) ∙ sym (more_least 0 least g.marks m);
+        begun = read.4 ∙ ap (λ s. s ++ row_starts bits_now k.fields) g.begun ∙ ap (λ c. (starts ++ rows_begun bits l) ++ row_starts c k.fields) g.taken ∙ append_assoc starts (rows_begun bits l) (row_starts (rows_bits bits l) k.fields) ∙ ap (λ s. starts ++ s) (sym (more_begun bits l k)) ∙ ap (λ s. starts ++ rows_begun bits s) (sym both);
+        taken = read.5 ∙ ap (λ c. row_bits c k.fields) g.taken ∙ sym (more_bits bits l k) ∙ ap (rows_bits bits) (sym both);
+        least_is = read.6 ∙ ap (λ j. fields_least n j k.fields) g.least_is ∙ ap (λ r. fields_least r (rows_least 0 least l) k.fields) (sym number) ∙ sym (more_least 0 least l k) ∙ ap (rows_least 0 least) (sym both);
       }
 
   pub rows_more_of : (part : List ℕ) (at end last n told count : ℕ) (starts bits starts_now bits_now starts_after bits_after : List ℕ) (least least_now least_after : ℕ) → RowsRead part at last n starts bits starts_now bits_now least least_now → told ≡ told_place schema image n → told ≡ at → count ≡ fields
-      → RowRead part at count n starts_now bits_now starts_after bits_after least_now least_after end → RowsRead part end at (n + 1) starts bits starts_after bits_after least least_after
+      → RowLaid part at enough count n starts_now bits_now starts_after bits_after least_now least_after end → RowsRead part end at (n + 1) starts bits starts_after bits_after least least_after
   rows_more_of part at end last n told count starts bits starts_now bits_now starts_after bits_after least least_now least_after g t same e read =
-      rows_more part at end last n told starts bits starts_now bits_now starts_after bits_after least least_now least_after g t same (subst (λ k. RowRead part at k n starts_now bits_now starts_after bits_after least_now least_after end) e read)
+      rows_more part at end last n told starts bits starts_now bits_now starts_after bits_after least least_now least_after g t same (subst (λ k. RowLaid part at enough k n starts_now bits_now starts_after bits_after least_now least_after end) e read)
 
   -- the next row's marks aren't there, or the row says another place
   pub rows_stop : (part : List ℕ) (at last n rows : ℕ) (starts bits starts_now bits_now : List ℕ) (least least_now : ℕ) → RowsRead part at last n starts bits starts_now bits_now least least_now → n < rows → NoRow part at fields → AreBadMarksIn schema image part rows at
@@ -91,7 +99,7 @@ module _ (schema : Schema) (image : List ℕ) where
 
   abbrev pub PartRead : List ℕ → ℕ → List ℕ → List ℕ → List ℕ → List ℕ → ℕ → ℕ → Type 0
   PartRead part rows starts bits starts_after bits_after least least_after =
-      (marks : List RowMarks) × AreMarksIn schema image part rows marks × (starts_after ≡ starts ++ rows_begun bits marks) × (bits_after ≡ rows_bits bits marks) × (least_after ≡ rows_least 0 least marks)
+      (marks : List RowMarks) × AreMarksIn schema image part rows marks × (starts_after ≡ starts ++ rows_begun bits (laid_rows enough bits marks)) × (bits_after ≡ rows_bits bits (laid_rows enough bits marks)) × (least_after ≡ rows_least 0 least (laid_rows enough bits marks))
 
   pub rows_all : (part : List ℕ) (at last n rows : ℕ) (starts bits starts_now bits_now : List ℕ) (least least_now : ℕ) → RowsRead part at last n starts bits starts_now bits_now least least_now → n ≡ rows → at ≡ length part → PartRead part rows starts bits starts_now bits_now least least_now
   rows_all part at last n rows starts bits starts_now bits_now least least_now g e all = (g.marks, all_read bytes_of and_marks Told part at (0, 0) (n, at) n rows g.marks g.gone e all, g.begun, g.taken, g.least_is)
@@ -102,10 +110,12 @@ ended bits [] = refl
 ended bits (m ∷ marks) = append_assoc (row_starts bits m.fields) (rows_begun (row_bits bits m.fields) marks) (length (rows_bits (row_bits bits m.fields) marks) ∷ []) ∙ ap (λ l. row_starts bits m.fields ++ l) (ended (row_bits bits m.fields) marks)
 
 -- all rows were read, and the place where the last one ends is appended
-pub part_answer : (schema : Schema) (image part : List ℕ) (rows end : ℕ) (starts bits starts_read starts_after bits_after : List ℕ) (least least_after : ℕ) → starts ≡ [] → bits ≡ [] → PartRead schema image part rows starts bits starts_read bits_after least least_after → end ≡ length bits_after → starts_after ≡ starts_read ++ end ∷ []
-    → (marks : List RowMarks) × AreMarksIn schema image part rows marks × (starts_after ≡ rows_starts [] marks) × (bits_after ≡ rows_bits [] marks) × (least_after ≡ rows_least 0 least marks)
-part_answer schema image part rows end starts bits starts_read starts_after bits_after least least_after s b read e a =
+pub part_answer : (schema : Schema) (image : List ℕ) (enough : ℕ) (part : List ℕ) (rows end : ℕ) (starts bits starts_read starts_after bits_after : List ℕ) (least least_after : ℕ) → starts ≡ [] → bits ≡ [] → PartRead schema image enough part rows starts bits starts_read bits_after least least_after → end ≡ length bits_after
+    → starts_after ≡ starts_read ++ end ∷ []
+    → (marks : List RowMarks) × AreMarksIn schema image part rows marks × (starts_after ≡ rows_starts [] (laid_rows enough [] marks)) × (bits_after ≡ rows_bits [] (laid_rows enough [] marks)) × (least_after ≡ rows_least 0 least (laid_rows enough [] marks))
+part_answer schema image enough part rows end starts bits starts_read starts_after bits_after least least_after s b read e a =
     let marks = read.0 in
-    let taken : bits_after ≡ rows_bits [] marks = read.3 ∙ ap (λ k. rows_bits k marks) b in
-    let begun : starts_read ≡ rows_begun [] marks = read.2 ∙ ap (λ l. l ++ rows_begun bits marks) s ∙ ap (λ k. rows_begun k marks) b in
-    (marks, read.1, a ∙ ap (λ l. l ++ end ∷ []) begun ∙ ap (λ n. rows_begun [] marks ++ n ∷ []) (e ∙ ap length taken) ∙ ended [] marks, taken, read.4)
+    let l = laid_rows enough [] marks in
+    let taken : bits_after ≡ rows_bits [] l = read.3 ∙ ap (λ k. rows_bits k (laid_rows enough k marks)) b in
+    let begun : starts_read ≡ rows_begun [] l = read.2 ∙ ap (λ s. s ++ rows_begun bits (laid_rows enough bits marks)) s ∙ ap (λ k. rows_begun k (laid_rows enough k marks)) b in
+    (marks, read.1, a ∙ ap (λ s. s ++ end ∷ []) begun ∙ ap (λ n. rows_begun [] l ++ n ∷ []) (e ∙ ap length taken) ∙ ended [] l, taken, read.4 ∙ ap (λ k. rows_least 0 least (laid_rows enough k marks)) b)

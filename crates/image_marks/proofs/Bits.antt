@@ -144,7 +144,7 @@ rows_keep : (bits : List ℕ) (marks : List RowMarks) (k : ℕ) → RowsFit mark
 rows_keep bits [] k fit low = refl
 rows_keep bits (m ∷ marks) k fit low = rows_keep (row_bits bits m.fields) marks k fit.1 (omega (arith, low, row_long bits m.fields)) ∙ row_keeps bits m.fields k fit.0 low
 
-rows_long : (bits : List ℕ) (marks : List RowMarks) → length bits ≤ length (rows_bits bits marks)
+pub rows_long : (bits : List ℕ) (marks : List RowMarks) → length bits ≤ length (rows_bits bits marks)
 rows_long bits [] = omega arith
 rows_long bits (m ∷ marks) = omega (arith, rows_long (row_bits bits m.fields) marks, row_long bits m.fields)
 

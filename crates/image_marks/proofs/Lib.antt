@@ -4,5 +4,7 @@ pub mod SpanReading
 pub mod Bits
 pub mod Laying
 pub mod RowReading
+pub mod RowLaying
+pub mod Fronts
 pub mod AllRows
 pub mod Marking

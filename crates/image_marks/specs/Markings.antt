@@ -3,7 +3,7 @@
 -- is noted.
 use Rattle.std.specs.Prelude.{ℕ, ◌+◌, ◌-◌, List, [], ◌∷◌, ◌++◌, Bool, false, ◌||◌, nat_lt, nat_le, if◌then◌else◌, length, replicate, slice_set}
 use Rattle.doc_types.specs.declared.tokens.Gap.{Gap}
-use Rattle.chunk_damage.specs.RowMarks.{FieldMarks, RowMarks}
+use Rattle.chunk_damage.specs.RowMarks.{FieldMarks, RowMarks, empty_field}
 use Rattle.image_cover.specs.Places.{with_row}
 
 -- a boundary takes the place of its position, if the field has it; here the field's places begin, and that is its last position
@@ -61,3 +61,17 @@ fields_least row least (m ∷ ms) = fields_least row (noted (some_misplaced 0 m.
 abbrev pub rows_least : ℕ → ℕ → List RowMarks → ℕ
 rows_least row least [] = least
 rows_least row least (m ∷ marks) = rows_least (row + 1) (fields_least row least m.fields) marks
+
+-- ---- how many places there are
+
+-- a row with so many fields, and no word in any of them
+abbrev pub emptied : RowMarks → RowMarks
+emptied m = record { fields = replicate (length m.fields) empty_field; spans = [] }
+
+-- A row is laid out with its positions while there are no more than so many places before it, and as one without words behind that.
+abbrev pub laid_row : ℕ → List ℕ → RowMarks → RowMarks
+laid_row enough bits m = if nat_le (length bits) enough then m else emptied m
+
+abbrev pub laid_rows : ℕ → List ℕ → List RowMarks → List RowMarks
+laid_rows enough bits [] = []
+laid_rows enough bits (m ∷ marks) = laid_row enough bits m ∷ laid_rows enough (row_bits bits (laid_row enough bits m).fields) marks

@@ -5,6 +5,7 @@
 mod fields;
 mod gaps;
 mod part;
+mod placing;
 mod rows;
 mod spans;
 

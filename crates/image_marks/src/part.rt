@@ -4,14 +4,15 @@ ghost use Rattle.bit_lists.specs.BitLists.{bits_of};
 ghost use Rattle.doc_types.specs.Schemas.{IsSchema};
 ghost use Rattle.chunk_damage.specs.Header.{row_at, row_size as size_of_row};
 ghost use Rattle.chunk_damage.specs.RowMarks.{RowMarks, told_place};
-ghost use Rattle.image_marks.specs.Markings.{rows_bits, rows_least, rows_starts};
+ghost use Rattle.image_marks.specs.Markings.{laid_rows, rows_bits, rows_least, rows_starts};
 ghost use Rattle.image_marks.specs.Parts.{AreBadMarksIn, AreMarksIn};
 ghost use Rattle.image_marks.specs.steps.MarkItems.{rows_begun};
 
-use crate::rows::read_row;
+use crate::placing::lay_row;
 use doc_types::Schema;
 use image_cover::Cover;
 use srch_base::NoMemory;
+use std::alloc::Global;
 
 /// Where a row says that its marks begin: its last four bytes.
 fn told_of(image: &[u8], schema: &Schema, size: usize, row: u32) -> u32
@@ -26,19 +27,20 @@ fn told_of(image: &[u8], schema: &Schema, size: usize, row: u32) -> u32
 
 /// Reads the marks of so many rows and appends their places; gives the place of the first that are wrong.
 fn read_rows(
+    alloc: Global,
     image: &[u8],
     part: &[u8],
     schema: &Schema,
     rows: u32,
-    most: usize,
+    enough: usize,
     starts: &mut Vec<u32>,
     cover: &mut Cover,
 ) -> Result<Option<usize>, NoMemory>
     requires schema { IsSchema schema.now }
-    requires most { most < 2 ^ 32 }
+    requires enough { enough < 2 ^ 31 }
     requires long { row_at schema.now rows ≤ length image.now }
     requires none { rows ≡ 0 → length part.now ≡ 0 }
-    ensures { IfOk result (λ found. MatchOption found ((marks : List RowMarks) × AreMarksIn schema.now image.now part.now rows marks × (starts.new.items ≡ starts.old.items ++ rows_begun (bits_of cover.old.taken) marks) × (bits_of cover.new.taken ≡ rows_bits (bits_of cover.old.taken) marks) × (cover.new.least ≡ rows_least 0 cover.old.least marks)) (λ place. AreBadMarksIn schema.now image.now part.now rows place)) }
+    ensures { IfOk result (λ found. MatchOption found ((marks : List RowMarks) × AreMarksIn schema.now image.now part.now rows marks × (starts.new.items ≡ starts.old.items ++ rows_begun (bits_of cover.old.taken) (laid_rows enough (bits_of cover.old.taken) marks)) × (bits_of cover.new.taken ≡ rows_bits (bits_of cover.old.taken) (laid_rows enough (bits_of cover.old.taken) marks)) × (cover.new.least ≡ rows_least 0 cover.old.least (laid_rows enough (bits_of cover.old.taken) marks))) (λ place. AreBadMarksIn schema.now image.now part.now rows place)) }
 {
     let size = 20 + 8 * schema.attrs.len();
     let fields = schema.fields.len() as u16;
@@ -49,7 +51,7 @@ fn read_rows(
         if told as usize != at {
             return Ok(Some(at));
         }
-        match read_row(part, at, fields, row, most, starts, cover)? {
+        match lay_row(alloc, part, at, fields, row, enough, starts, cover)? {
             Some(end) => {
                 last = at;
                 at = end;
@@ -63,29 +65,30 @@ fn read_rows(
     Ok(None)
 }
 
-/// Reads the marks of so many rows and lays out their places; gives the place of the first that are wrong. There is no memory for
-/// more than so many places.
+/// Reads the marks of so many rows and lays out their places; gives the place of the first that are wrong. Once there are more than
+/// `enough` places, rows are laid out as rows without words, though their marks are read as those of the others.
 pub fn read_part(
+    alloc: Global,
     image: &[u8],
     part: &[u8],
     schema: &Schema,
     rows: u32,
-    most: usize,
+    enough: usize,
     starts: &mut Vec<u32>,
     cover: &mut Cover,
 ) -> Result<Option<usize>, NoMemory>
     requires schema { IsSchema schema.now }
-    requires most { most < 2 ^ 32 }
+    requires enough { enough < 2 ^ 31 }
     requires long { row_at schema.now rows ≤ length image.now }
     requires none { rows ≡ 0 → length part.now ≡ 0 }
     requires begin { (starts.old.items ≡ []) × (bits_of cover.old.taken ≡ []) }
-    ensures { IfOk result (λ found. MatchOption found ((marks : List RowMarks) × AreMarksIn schema.now image.now part.now rows marks × (starts.new.items ≡ rows_starts [] marks) × (bits_of cover.new.taken ≡ rows_bits [] marks) × (cover.new.least ≡ rows_least 0 cover.old.least marks)) (λ place. AreBadMarksIn schema.now image.now part.now rows place)) }
+    ensures { IfOk result (λ found. MatchOption found ((marks : List RowMarks) × AreMarksIn schema.now image.now part.now rows marks × (starts.new.items ≡ rows_starts [] (laid_rows enough [] marks)) × (bits_of cover.new.taken ≡ rows_bits [] (laid_rows enough [] marks)) × (cover.new.least ≡ rows_least 0 cover.old.least (laid_rows enough [] marks))) (λ place. AreBadMarksIn schema.now image.now part.now rows place)) }
 {
-    match read_rows(image, part, schema, rows, most, starts, cover)? {
+    match read_rows(alloc, image, part, schema, rows, enough, starts, cover)? {
         Some(place) => Ok(Some(place)),
         None => {
             let end = cover.taken.len();
-            if most < end {
+            if end > u32::MAX as usize {
                 return Err(NoMemory);
             }
             starts.push(end as u32)?;

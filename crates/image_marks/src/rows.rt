@@ -40,7 +40,11 @@ fn grow_taken(cover: &mut Cover) -> Result<(), NoMemory>
 }
 
 /// Begins the places of a row: those of its fields stand behind its own.
-fn begin_row(starts: &mut Vec<u32>, cover: &mut Cover, first: u32) -> Result<(), NoMemory>
+pub(crate) fn begin_row(
+    starts: &mut Vec<u32>,
+    cover: &mut Cover,
+    first: u32,
+) -> Result<(), NoMemory>
     requires { first ≡ length (bits_of cover.old.taken) }
     ensures { OnOk result ((starts.new.items ≡ starts.old.items ++ length (bits_of cover.old.taken) ∷ []) × (bits_of cover.new.taken ≡ bits_of cover.old.taken ++ 1 ∷ []) × (cover.new.least ≡ cover.old.least)) }
 {

@@ -7,8 +7,8 @@ use Rattle.covered_rows.specs.Marked.{ArePassed, IsStopped}
 use Rattle.covered_rows.proofs.AllRows.{answer}
 use Rattle.covered_rows.proofs.rows.uncovered_row.Goals as goal
 
-pub returns : goal.returns
-returns c = λ s marks lists marked count short are few taken.
+pub returns-clause-cover : goal.returns-clause-cover
+returns-clause-cover c = λ s marks lists marked count short are few taken.
     let starts = c.args.starts.now in let width = c.args.width in let found = c.stopped_row.result in
     let final = take_all s (places_of_lists starts width lists) in
     let of_seen = subst (λ (t : Seen). MatchOption found (ArePassed starts width t c.args.rows) (IsStopped starts width t c.args.rows)) taken c.stopped_row.ensures in

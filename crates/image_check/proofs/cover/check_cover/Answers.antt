@@ -16,7 +16,7 @@ pub damage-requires : goal.damage-requires
 damage-requires c =
     let schema = c.args.schema.now in let image = c.args.image.now in let sizes = c.args.sizes.now in let begun = c.requires.begun in
     let have = c.requires.lists in
-    let found = found_rows schema image sizes begun c.args.starts.now (seen c.args.cover.now) (c.len-width.result + 1) c.uncovered_row.result (ap (λ n. n + 1) c.len-width.ensures) have c.uncovered_row.ensures in
+    let found = found_rows schema image sizes begun c.args.starts.now (seen c.args.cover.now) (c.len-width.result + 1) c.uncovered_row.result (ap (λ n. n + 1) c.len-width.ensures) have c.uncovered_row.ensures.taken c.uncovered_row.ensures.cover in
     let bad : IsUncovered have.lists have.marks.marks c.in-Some.row = subst (λ (r : Option ℕ). MatchOption r (AllCovered have.lists 0 have.marks.marks) (λ row. IsUncovered have.lists have.marks.marks row)) c.in-Some.is found in
     row_small schema image sizes begun c.in-Some.row c.len.result c.len.ensures (uncovered_low schema image sizes begun c.args.starts.now (seen c.args.cover.now) c.in-Some.row have bad)
 
@@ -24,7 +24,7 @@ pub returns-in-Some : goal.returns-in-Some
 returns-in-Some c =
     let schema = c.args.schema.now in let image = c.args.image.now in let sizes = c.args.sizes.now in let begun = c.requires.begun in
     let have = c.requires.lists in
-    let found = found_rows schema image sizes begun c.args.starts.now (seen c.args.cover.now) (c.len-width.result + 1) c.uncovered_row.result (ap (λ n. n + 1) c.len-width.ensures) have c.uncovered_row.ensures in
+    let found = found_rows schema image sizes begun c.args.starts.now (seen c.args.cover.now) (c.len-width.result + 1) c.uncovered_row.result (ap (λ n. n + 1) c.len-width.ensures) have c.uncovered_row.ensures.taken c.uncovered_row.ensures.cover in
     let bad : IsUncovered have.lists have.marks.marks c.in-Some.row = subst (λ (r : Option ℕ). MatchOption r (AllCovered have.lists 0 have.marks.marks) (λ row. IsUncovered have.lists have.marks.marks row)) c.in-Some.is found in
     told schema image c.damage.result _ c.damage.ensures
     (bad_cover schema image sizes begun c.requires.rows (have.marks.marks, have.marks.are) c.requires.table c.requires.order (have.lists, have.are) c.in-Some.row (32 + c.in-Some.row * (20 + 8 * c.len.result)) bad
@@ -34,6 +34,6 @@ pub returns-in-None : goal.returns-in-None
 returns-in-None c =
     let schema = c.args.schema.now in let image = c.args.image.now in let sizes = c.args.sizes.now in let begun = c.requires.begun in
     let have = c.requires.lists in
-    let found = found_rows schema image sizes begun c.args.starts.now (seen c.args.cover.now) (c.len-width.result + 1) c.uncovered_row.result (ap (λ n. n + 1) c.len-width.ensures) have c.uncovered_row.ensures in
+    let found = found_rows schema image sizes begun c.args.starts.now (seen c.args.cover.now) (c.len-width.result + 1) c.uncovered_row.result (ap (λ n. n + 1) c.len-width.ensures) have c.uncovered_row.ensures.taken c.uncovered_row.ensures.cover in
     let good : AllCovered have.lists 0 have.marks.marks = subst (λ (r : Option ℕ). MatchOption r (AllCovered have.lists 0 have.marks.marks) (λ row. IsUncovered have.lists have.marks.marks row)) c.in-None.is found in
     undamaged schema image sizes begun c.requires.rows (have.marks.marks, have.marks.are) c.requires.table c.requires.order (have.lists, have.are) good

@@ -1,4 +1,4 @@
-use Rattle.std.proofs.Common.{ℕ, ◌+◌, ◌≤◌, ◌∙◌, arith, refl}
+use Rattle.std.proofs.Common.{◌+◌, ◌≤◌, ◌∙◌, arith, refl}
 use Rattle.bit_lists.specs.BitLists.{bits_of}
 use Rattle.image_check.proofs.Damages.{bad_marks, told}
 use Rattle.image_check.proofs.Laid.{have_found, wrong_found}
