@@ -6,3 +6,5 @@ pub mod Opening
 pub mod Building
 -- layers that were put together as an image
 pub mod JoinedLayers
+-- how long an image is
+pub mod Sizes

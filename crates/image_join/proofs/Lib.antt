@@ -19,4 +19,6 @@ pub mod Spelled
 pub mod Stacked
 pub mod Tabled
 pub mod Taken
+pub mod Told
 pub mod Worded
+pub mod Lengths

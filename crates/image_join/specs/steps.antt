@@ -8,3 +8,5 @@ pub mod Entries
 pub mod Merging
 -- posting lists one behind the other
 pub mod Stacking
+-- what becomes of rows that are in order
+pub mod OrderedRows

@@ -10,8 +10,8 @@ ghost use Rattle.image_join.specs.steps.Parts.{row_at};
 use crate::copying::CopyBytes;
 use crate::ordering::Living;
 use crate::parts::Part;
+use crate::places::low_place;
 use doc_types::Value;
-use image_write::place_in;
 use srch_base::{NoMemory, put_u32, put_u64};
 
 /// Appends the columns of the rows to one list and their marks to another, which is empty.
@@ -30,7 +30,7 @@ pub(crate) fn put_rows<C: CopyBytes>(
     ensures room { OnOk result (All HasRoom (map (row_in parts.now) order.now)) }
 {
     for living in order {
-        let place = place_in(marks)?;
+        let place = low_place(marks);
         let part = &parts[living.part as usize];
         put_row(part, living.row, attrs, place, columns)?;
         marks.extend_from_slice(part.marks(living.row))?;

@@ -6,6 +6,7 @@ ghost use Rattle.chunk_image.specs.ChunkImage.{word_postings};
 ghost use Rattle.image_write.specs.Heads.{IsRead, head};
 ghost use Rattle.posting_codec.specs.HitLists.{hit_list};
 ghost use Rattle.chunk_image.specs.Marks.{row_marks};
+ghost use Rattle.image_join.specs.JoinedImages.{HasImageLength};
 
 use doc_types::{Chunk, Cursor};
 
@@ -15,8 +16,9 @@ pub trait CopyBytes: Chunk {
     fn attrs(&self) -> u16
         ensures { All (λ row. length row.doc.values ≡ result) (Self.content self.now) };
 
-    /// How many bytes its image takes: what is copied of it takes no more. Room alone goes by it, so no clause says it.
-    fn size(&self) -> usize;
+    /// How many bytes its image takes: what is copied of it takes no more.
+    fn size(&self) -> usize
+        ensures { HasImageLength (Self.content self.now) result };
 
     /// A cursor before all rows that have the word of this number.
     fn start_at(&self, n: u32) -> Cursor

@@ -15,8 +15,9 @@ mod lists;
 mod nexts;
 mod ordering;
 mod parts;
+mod places;
 mod stacking;
 mod words;
 
 pub use copying::CopyBytes;
-pub use joining::join;
+pub use joining::{JoinedImage, join, join_or_tell};

@@ -17,8 +17,9 @@ ghost use Rattle.image_join.specs.steps.Stacking.{AreInOrder, ArePosted, Posting
 use crate::copying::CopyBytes;
 use crate::nexts::{Next, is_next, next_of};
 use crate::parts::Part;
+use crate::places::low_place;
 use doc_types::{MAX_WORD_BYTES, NO_ROW};
-use image_write::{Tables, place_in, put_entry};
+use image_write::{Tables, put_entry};
 use posting_codec::{number_at, put_number};
 use srch_base::NoMemory;
 
@@ -197,8 +198,8 @@ pub(crate) fn stack_word<C: CopyBytes>(
     ensures nexts { OnOk result ((last : Option (List ℕ)) → StandAt last parts.now nexts.old → IsLeast last parts.now word.now → StandAt (Some word.now) parts.now nexts.new) }
     ensures tables { OnOk result ((last : Option (List ℕ)) → StandAt last parts.now nexts.old → IsLeast last parts.now word.now → (rows : List AnyRow) (words : List (List ℕ)) → AreTables rows words tables.old → AreEntriesOf word.now rows (flat_map (stacked_in word.now) parts.now) → AreTables rows (added (flat_map (stacked_in word.now) parts.now) words word.now) tables.new) }
 {
-    let place = place_in(&tables.dictionary)?;
-    let list = place_in(&tables.postings)?;
+    let place = low_place(&tables.dictionary);
+    let list = low_place(&tables.postings);
     let reached = stack_lists(parts, word, head, nexts, &mut tables.postings)?;
     if reached.count == 0 {
         return Ok(());

@@ -13,9 +13,10 @@ use crate::copying::CopyBytes;
 use crate::lists::{collect, put_in_order, put_list};
 use crate::nexts::{Least, Next, is_next, least_word, next_of, nexts_of};
 use crate::parts::Part;
+use crate::places::low_place;
 use crate::stacking::{stack_word, stand_in_order};
 use doc_types::MAX_WORD_BYTES;
-use image_write::{Tables, count_in, place_in, put_entry};
+use image_write::{Tables, count_in, put_entry};
 use srch_base::NoMemory;
 use std::alloc::Global;
 
@@ -183,8 +184,8 @@ fn put_word(word: &[u8], found: &mut Vec<(u32, &[u8])>, tables: &mut Tables) -> 
     if word.len() > MAX_WORD_BYTES {
         return Err(NoMemory);
     }
-    let place = place_in(&tables.dictionary)?;
-    let list = place_in(&tables.postings)?;
+    let place = low_place(&tables.dictionary);
+    let list = low_place(&tables.postings);
     let rows = count_in(found.len())?;
     put_entry(place, rows, list, &mut tables.table)?;
     tables.dictionary.push(word.len() as u8)?;
