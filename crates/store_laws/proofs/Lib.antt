@@ -10,3 +10,11 @@ pub mod OneChunk
 pub mod ImageLaws
 -- one damage, or none
 pub mod OneDamage
+-- some root, or a slot that is wrong
+pub mod SomeRoot
+-- good chunks, or wrong ones
+pub mod SomeChunks
+-- a log that is read, or wrong
+pub mod SomeLog
+-- a directory, or damage
+pub mod SomeDirectory

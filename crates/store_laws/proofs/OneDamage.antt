@@ -75,7 +75,7 @@ never_bad_state schema state kind place good bad = bad
 -- ---- what the chunks say
 
 -- the state that a slot holds keeps the layout
-state_in : (file : ℕ) (root : Slot) (x : Image) → IsRootIn file root x → IsState root.state
+pub state_in : (file : ℕ) (root : Slot) (x : Image) → IsRootIn file root x → IsState root.state
 state_in zero root x is = is.0.slot.state
 state_in (suc zero) root x is = is.0.slot.state
 state_in (suc (suc file)) root x is = absurd is
@@ -244,7 +244,7 @@ none_never schema x damage none (inr (inr (inl chunks))) = no_root chunks.file c
 none_never schema x damage none (inr (inr (inr (inl logs)))) = no_root logs.file logs.root x none logs.stands
 none_never schema x damage none (inr (inr (inr (inr early)))) = let at = root_of schema early.dir x early.holds in no_root at.slot at.root x none at.stands
 
-found_never : (schema : Schema) (x : Image) (found : Option Directory) (damage : Damage) → IsSchema schema → ImageLaws schema → Holds schema found x → IsDamaged schema x damage → ⊥
+pub found_never : (schema : Schema) (x : Image) (found : Option Directory) (damage : Damage) → IsSchema schema → ImageLaws schema → Holds schema found x → IsDamaged schema x damage → ⊥
 found_never schema x None damage limits laws holds damaged = none_never schema x damage holds damaged
 found_never schema x (Some dir) damage limits laws holds damaged = held_never schema limits laws x dir holds.0 damage holds.1 damaged
 

@@ -7,6 +7,8 @@ ghost use Rattle.chunk_store.specs.Images.{Image};
 ghost use Rattle.store_steps.specs.Damage.{IsDamaged};
 ghost use Rattle.store_steps.specs.Directory.{Directory, Holds, StandsFor};
 ghost use Rattle.store_steps.specs.declared.damage.Damage.{Damage};
+ghost use Rattle.damage_laws.specs.Outcomes.{IsEither};
+ghost use Rattle.store_laws.specs.Outcomes.{AreDamaged, CanBeRead, HaveBytes};
 
 /// Files that can be read hold one directory: one state, the same rows of each chunk, the same batches of both logs. So they stand
 /// for the same rows, after the commit of the same number.
@@ -23,4 +25,9 @@ pub fn a_damaged_directory_stands_for_nothing()
 /// Files are damaged in one way at most: in one file, at one place, of one kind.
 pub fn a_directory_has_one_damage()
     ensures { (schema : Schema) (x : Image) (damage other : Damage) → IsSchema schema → IsDamaged schema x damage → IsDamaged schema x other → damage ≡ other }
+{}
+
+/// Files can be read, or they are damaged: not both, and never neither. So there is a directory, or exactly one damage.
+pub fn files_are_a_directory_or_damaged()
+    ensures { (schema : Schema) (x : Image) → IsSchema schema → HaveBytes x → IsEither (CanBeRead schema x) (AreDamaged schema x) }
 {}

@@ -5,5 +5,5 @@ mod laws;
 
 pub use laws::{
     a_damaged_directory_stands_for_nothing, a_directory_has_one_damage,
-    a_directory_stands_for_one_thing,
+    a_directory_stands_for_one_thing, files_are_a_directory_or_damaged,
 };

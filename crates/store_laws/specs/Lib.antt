@@ -1,0 +1,2 @@
+-- what files are
+pub mod Outcomes
