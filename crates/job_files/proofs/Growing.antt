@@ -11,7 +11,6 @@ use Rattle.step_history.proofs.Steps.{last_one, shape_up}
 use Rattle.store_steps.specs.Batches.{AreFrom, Batch, above, after_batch, batch_of}
 use Rattle.store_steps.specs.Grown.{grown, through_at}
 use Rattle.store_steps.proofs.Growing.{grown_commit, one_above, one_below}
-use Rattle.std.specs.FinMap as finite
 
 grown_then : (first : List Batch) (xs ys : List Step) → grown first (xs ++ ys) ≡ grown (grown first xs) ys
 grown_then first [] ys = refl

@@ -23,7 +23,7 @@ use Rattle.store_steps.specs.declared.files.Files.{Files}
 use Rattle.store_steps.specs.Batches.{AreFrom, Batch, IsBatchOf, above, after_batch, batch_of}
 use Rattle.store_steps.specs.Directory.{Directory, IsChunkFile, directory_number, directory_rows, layers_from}
 use Rattle.store_steps.specs.Grown.{grown}
-use Rattle.job_files.specs.Jobs.{Adds, HasNewFiles, IsJob, IsSameFile, Stay}
+use Rattle.job_files.specs.Jobs.{Adds, HasNewFiles, IsJob, IsSameFile, Stay, log_file}
 use Rattle.store_steps.specs.Doubts.{AreOther, Doubted, MayStand, shadow_of}
 use Rattle.store_steps.specs.Kept.{HasAll, IsKept}
 use Rattle.job_files.proofs.Growing.{above_behind, grown_since, last_from, numbers_rise, rows_after}
@@ -142,7 +142,7 @@ module _ {D : Type 0} (words : DiskWords D) (schema : Schema) (base : Base) (ste
       let rise : (last_snapshot base steps).number ≡ (last_snapshot base earlier).number + length (commits since) = ap (λ (xs : List Step). (last_snapshot base xs).number) job.follows.both ∙ numbers_rise schema base earlier since good_both in
       omega (arith, here, rise, length-map (commits since) batch_of, through_is, all.says.number)
 
-  pub job_may : (files : ℕ) → file + 2 ≤ files → MayStand schema files dir doubted
+  pub job_may : (files : ℕ) → log_file file chunk + 1 ≤ files → MayStand schema files dir doubted
   job_may files le = record {
     state = job.state;
     older = job.older ∙ ap (λ (s : RootState). s.newer) kept.state_is;
@@ -172,7 +172,7 @@ module _ {D : Type 0} (words : DiskWords D) (schema : Schema) (base : Base) (ste
       let stay = stay_files schema x job.job known.state.chunks job.kept _ job.kept_rows job.stay files in
       let add = add_files schema x file chunk job.added job.added_rows job.add new_files.chunk_is in
       let both = zip_both (IsChunkFile schema x) job.kept job.added job.kept_rows job.added_rows stay add in
-      let log : IsLogOf [] (contents (x (file + 1))) = gives_records (quiet_log (file + 1) 0 None) [] (x (file + 1)) refl new_files.log in
+      let log : IsLogOf [] (contents (x (log_file file chunk))) = gives_records (quiet_log (log_file file chunk) 0 None) [] (x (log_file file chunk)) refl new_files.log in
       record {
         chunks = subst (λ (l : List ChunkEntry). AllZip (IsChunkFile schema x) l job.chunks) (sym job.entries) (subst (λ (l : List (List DocRow)). AllZip (IsChunkFile schema x) (job.kept ++ job.added) l) (sym job.chunks_are) both);
         newer = subst (λ (f : ℕ). IsLogOf [] (contents (x f))) (sym job.newer) log;

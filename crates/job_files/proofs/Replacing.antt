@@ -25,7 +25,7 @@ use Rattle.store_steps.specs.declared.files.Files.{Files}
 use Rattle.store_steps.specs.Batches.{Batch, record_of}
 use Rattle.store_steps.specs.Directory.{Directory, IsChunkFile, IsOlderLog}
 use Rattle.store_steps.specs.Grown.{grown, through_at}
-use Rattle.job_files.specs.Jobs.{AreWritten, HasNewFiles, IsJob}
+use Rattle.job_files.specs.Jobs.{AreWritten, HasNewFiles, IsJob, log_file}
 use Rattle.store_steps.specs.Doubts.{AreOther, Doubted, MayStand, face_of, slot_in}
 use Rattle.store_steps.specs.Kept.{Gives, HasAll, IsImage, IsKept, LeavesOnly, Says}
 use Rattle.store_steps.proofs.Giving.{face_gives, face_number, face_order, face_reaches, face_rows, older_log, says_so, stands_with}
@@ -112,7 +112,7 @@ module _ {D : Type 0} (words : DiskWords D) (schema : Schema) (base : Base) (ste
       (gives_records known.log (map record_of kept.dir.newer) (d kept.dir.state.newer) (is_quiet words schema base steps disk known kept none) (at d image).newer)
 
   -- one image while the root is replaced
-  replacing : (files : ℕ) → file + 2 ≤ files → (d x : Image) → Image1 d → HasNewFiles chunk file d → ChangesSlots (Replacing known.root new) d x → Gives schema base steps x
+  replacing : (files : ℕ) → log_file file chunk + 1 ≤ files → (d x : Image) → Image1 d → HasNewFiles chunk file d → ChangesSlots (Replacing known.root new) d x → Gives schema base steps x
   replacing files le d x image new_files changes =
       let log = log_in d x image changes.others in
       ⊎_elim
@@ -129,7 +129,7 @@ module _ {D : Type 0} (words : DiskWords D) (schema : Schema) (base : Base) (ste
   replacing_leaves after only crashes =
       leaves_by words disk after {I = λ x. Image1 x × HasNewFiles chunk file x} {R = ChangesSlots (Replacing known.root new)} only (λ x may. (kept.left x may, written.left x may))
       (λ x both. gives words schema base steps disk known kept none x (at x both.0))
-      (λ d x both changes. replacing (file + 2) (omega arith) d x both.0 both.1 changes) crashes
+      (λ d x both changes. replacing (log_file file chunk + 1) (omega arith) d x both.0 both.1 changes) crashes
 
   -- ---- it was replaced
 
@@ -137,7 +137,7 @@ module _ {D : Type 0} (words : DiskWords D) (schema : Schema) (base : Base) (ste
   dir_new = face_of kept.dir d_new
 
   abbrev log_new : GateLog
-  log_new = quiet_log (file + 1) 0 None
+  log_new = quiet_log (log_file file chunk) 0 None
 
   new_image : (d x : Image) → Image1 d → HasNewFiles chunk file d → ChangesSlots (Replaces known.root new) d x → IsImage schema dir_new (known.root.number + 1) None (replaced known.root) log_new None x
   new_image d x image files changes =
@@ -157,7 +157,7 @@ module _ {D : Type 0} (words : DiskWords D) (schema : Schema) (base : Base) (ste
 
   says_new : Says dir_new (last_snapshot base (steps ++ step ∷ []))
   says_new =
-      let may = job_may words schema base steps disk known kept none file chunk new step job good (file + 2) (omega arith) in
+      let may = job_may words schema base steps disk known kept none file chunk new step job good (log_file file chunk + 1) (omega arith) in
       let last : last_snapshot base (steps ++ step ∷ []) ≡ job.next = ap (λ (s : Step). last_snapshot base (steps ++ s ∷ [])) job.is ∙ last_one base steps (Reshape job.job new.through job.next) in
       let says : Says dir_new job.next = record {
         rows = face_rows kept.dir d_new ∙ may.rows ∙ all.says.rows ∙ sym job.follows.rows;
@@ -166,7 +166,7 @@ module _ {D : Type 0} (words : DiskWords D) (schema : Schema) (base : Base) (ste
       } in
       subst (λ (s : SnapshotValue). Says dir_new s) (sym last) says
 
-  pub was_replaced : (after : D) (known2 : Files) → file + 2 ≤ known2.next_file → known2.root ≡ replaced known.root → known2.log ≡ log_new → known2.state ≡ new → Steps words (ChangesSlots (Replaces known.root new)) disk after → IsKept words schema base steps (Some step) after known2
+  pub was_replaced : (after : D) (known2 : Files) → log_file file chunk + 1 ≤ known2.next_file → known2.root ≡ replaced known.root → known2.log ≡ log_new → known2.state ≡ new → Steps words (ChangesSlots (Replaces known.root new)) disk after → IsKept words schema base steps (Some step) after known2
   was_replaced after known2 le root_is log_is state_is moved =
       let may = job_may words schema base steps disk known kept none file chunk new step job good known2.next_file le in
       let image : (d x : Image) → Image1 d → HasNewFiles chunk file d → ChangesSlots (Replaces known.root new) d x → IsImage schema dir_new (known.root.number + 1) None known2.root known2.log None x =
@@ -209,7 +209,7 @@ module _ {D : Type 0} (words : DiskWords D) (schema : Schema) (base : Base) (ste
   later_slot later (inl was) = was
   later_slot later (inr new_one) = new_one
 
-  later_may : (files : ℕ) → known.next_file ≤ files → file + 2 ≤ files → (later : Option Slot) (which : (later ≡ slot_in kept.doubt) ⊎ (later ≡ Some (next known.root new))) → IfSome (later_doubt later which) (MayStand schema files kept.dir)
+  later_may : (files : ℕ) → known.next_file ≤ files → log_file file chunk + 1 ≤ files → (later : Option Slot) (which : (later ≡ slot_in kept.doubt) ⊎ (later ≡ Some (next known.root new))) → IfSome (later_doubt later which) (MayStand schema files kept.dir)
   later_may files le more later (inl was) = may_with schema known.next_file files kept.dir kept.doubt le kept.may
   later_may files le more later (inr new_one) = job_may words schema base steps disk known kept none file chunk new step job good files more
 
@@ -217,7 +217,7 @@ module _ {D : Type 0} (words : DiskWords D) (schema : Schema) (base : Base) (ste
   later_other later (inl was) d x image files same = others_stay schema known.next_file kept.dir kept.doubt d x kept.may same image.other
   later_other later (inr new_one) d x image files same = new_other d x image files same
 
-  pub not_replaced : (after : D) (known2 : Files) → known.next_file ≤ known2.next_file → file + 2 ≤ known2.next_file → known2.log ≡ known.log → known2.state ≡ known.state → known2.sure ≡ false → Failing words known.root known2.root (slot_in kept.doubt) new disk after → IsKept words schema base steps None after known2
+  pub not_replaced : (after : D) (known2 : Files) → known.next_file ≤ known2.next_file → log_file file chunk + 1 ≤ known2.next_file → known2.log ≡ known.log → known2.state ≡ known.state → known2.sure ≡ false → Failing words known.root known2.root (slot_in kept.doubt) new disk after → IsKept words schema base steps None after known2
   not_replaced after known2 le more log_is state_is unsure failing =
       let later = failing.later in
       let doubt = later_doubt later failing.which in

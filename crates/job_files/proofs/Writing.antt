@@ -14,7 +14,7 @@ use Rattle.root_slots.specs.Roots.{Steps}
 use Rattle.step_history.specs.History.{Base, Step}
 use Rattle.store_steps.specs.declared.files.Files.{Files}
 use Rattle.store_steps.specs.Directory.{Directory}
-use Rattle.job_files.specs.Jobs.{Anything, AreWritten, Becomes, HasNewFiles, IsBegun}
+use Rattle.job_files.specs.Jobs.{Anything, AreWritten, Becomes, HasNewFiles, IsBegun, log_file}
 use Rattle.store_steps.specs.Doubts.{Doubted, MayStand}
 use Rattle.store_steps.specs.Kept.{Gives, IsImage, IsKept, LeavesOnly}
 use Rattle.store_steps.proofs.Keeping.{at_rest, gives}
@@ -90,23 +90,21 @@ module _ {D : Type 0} (words : DiskWords D) (schema : Schema) (base : Base) (ste
 
 -- ---- what stands in the new files
 
-chunk_is : (chunk : Option (List ℕ)) (file : ℕ) (d x : Image) → Changes file (Becomes chunk) d x → IfSome chunk (λ bytes. x file ≡ Some bytes)
-chunk_is None file d x changes = tt
-chunk_is (Some bytes) file d x changes = changes.here
+-- the log's file isn't one from before
+pub log_low : (file : ℕ) (chunk : Option (List ℕ)) → file ≤ log_file file chunk
+log_low file None = omega arith
+log_low file (Some bytes) = omega arith
 
-chunk_then : (chunk : Option (List ℕ)) (file : ℕ) (d x : Image) → x file ≡ d file → IfSome chunk (λ bytes. d file ≡ Some bytes) → IfSome chunk (λ bytes. x file ≡ Some bytes)
-chunk_then None file d x same is = tt
-chunk_then (Some bytes) file d x same is = same ∙ is
-
-new_files : (chunk : Option (List ℕ)) (file : ℕ) (d e x : Image) → Changes file (Becomes chunk) d e → Changes (file + 1) (IsBegun (file + 1)) e x → HasNewFiles chunk file x
-new_files chunk file d e x first second = record {
-  chunk_is = chunk_then chunk file e x (second.others file (λ (same : file ≡ file + 1). absurd (omega (arith, same)))) (chunk_is chunk file d e first);
+new_files : (chunk : Option (List ℕ)) (file : ℕ) (d e x : Image) → Changes file (Becomes chunk) d e → Changes (log_file file chunk) (IsBegun (log_file file chunk)) e x → HasNewFiles chunk file x
+new_files None file d e x first second = record { chunk_is = tt; log = second.here }
+new_files (Some bytes) file d e x first second = record {
+  chunk_is = second.others file (λ (same : file ≡ file + 1). absurd (omega (arith, same))) ∙ first.here;
   log = second.here;
 }
 
-pub both_written : {D : Type 0} (words : DiskWords D) (chunk : Option (List ℕ)) (file : ℕ) (old mid new : D) → Steps words (Changes file (Becomes chunk)) old mid → Steps words (Changes (file + 1) (IsBegun (file + 1))) mid new → AreWritten words chunk file new
+pub both_written : {D : Type 0} (words : DiskWords D) (chunk : Option (List ℕ)) (file : ℕ) (old mid new : D) → Steps words (Changes file (Becomes chunk)) old mid → Steps words (Changes (log_file file chunk) (IsBegun (log_file file chunk))) mid new → AreWritten words chunk file new
 both_written words chunk file old mid new first second = record {
-  told = told_by {R = Changes (file + 1) (IsBegun (file + 1))} {P = λ e. (d : Image) × Changes file (Becomes chunk) d e} {Q = HasNewFiles chunk file} (words.told mid) (words.told new) second.told
+  told = told_by {R = Changes (log_file file chunk) (IsBegun (log_file file chunk))} {P = λ e. (d : Image) × Changes file (Becomes chunk) d e} {Q = HasNewFiles chunk file} (words.told mid) (words.told new) second.told
       (told_after {R = Changes file (Becomes chunk)} {Q = λ e. (d : Image) × Changes file (Becomes chunk) d e} (words.told old) (words.told mid) first.told (λ d e changes. (d, changes)))
       (λ e x before changes. new_files chunk file before.0 e x before.1 changes);
   left = λ x may. let e = second.left x may in let d = first.left e.0 e.1 in new_files chunk file d.0 e.0 x d.2 e.2;

@@ -1,6 +1,5 @@
 -- Jobs: what the end of a job writes.
-use Rattle.std.specs.Prelude.{◌≡◌, ◌≢◌, ℕ, ◌+◌, List, [], ◌∷◌, ◌++◌, Bool, ◌==◌, Option, Some, None, IfSome, Vec, length, map, AllPairs}
-use Rattle.std.specs.declared.alloc.Global.{Global}
+use Rattle.std.specs.Prelude.{◌≡◌, ◌≢◌, ℕ, ◌+◌, List, [], ◌∷◌, ◌++◌, Bool, ◌==◌, Option, Some, None, IfSome, length, map, AllPairs}
 use Rattle.std.specs.List.{AllZip, list_any}
 use Rattle.doc_types.specs.declared.documents.DocRow.{DocRow}
 use Rattle.doc_types.specs.declared.schema.Schema.{Schema}
@@ -20,10 +19,10 @@ use Rattle.step_history.specs.Places.{disk_chunks}
 use Rattle.chunk_image.specs.ChunkImage.{IsImageOf}
 use Rattle.store_steps.specs.Directory.{IsChunkOf, layers_from}
 
--- the bytes of a chunk, where there is one
-abbrev pub bytes_in : Option (Vec ℕ Global) → Option (List ℕ)
-bytes_in None = None
-bytes_in (Some bytes) = Some bytes.items
+-- the file of the new log: the next one, or the one behind that of the chunk, where there is one
+abbrev pub log_file : ℕ → Option (List ℕ) → ℕ
+log_file file None = file
+log_file file (Some bytes) = file + 1
 
 -- The entries are of one file.
 pub record IsSameFile (old new : ChunkEntry) : Type 0 where
@@ -51,8 +50,8 @@ pub record IsJob (schema : Schema) (base : Base) (steps : List Step) (own : Root
   pub state : IsState new
   pub text : new.schema_text ≡ schema_text schema
   pub older : new.older ≡ own.newer
-  pub newer : new.newer ≡ file + 1
-  pub next_file : new.next_file ≡ file + 2
+  pub newer : new.newer ≡ log_file file chunk
+  pub next_file : new.next_file ≡ log_file file chunk + 1
   pub chunks : List (List DocRow)
   pub kept : List ChunkEntry
   pub kept_rows : List (List DocRow)
@@ -70,7 +69,7 @@ pub record IsJob (schema : Schema) (base : Base) (steps : List Step) (own : Root
 -- The new files are there.
 pub record HasNewFiles (chunk : Option (List ℕ)) (file : ℕ) (x : Image) : Type 0 where
   pub chunk_is : IfSome chunk (λ bytes. x file ≡ Some bytes)
-  pub log : LogStands (quiet_log (file + 1) 0 None) [] None (x (file + 1))
+  pub log : LogStands (quiet_log (log_file file chunk) 0 None) [] None (x (log_file file chunk))
 
 -- They are there for good.
 pub record AreWritten {D : Type 0} (words : DiskWords D) (chunk : Option (List ℕ)) (file : ℕ) (disk : D) : Type 0 where

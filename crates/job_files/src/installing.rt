@@ -1,11 +1,12 @@
 //! How the end of a job is written: its chunk, a new log, and a root that names them. The log so far becomes the older one.
 ghost use Rattle.std.specs.Prelude.{◌≡◌, ◌+◌, ◌<◌, ◌≤◌, ◌^◌, ℕ, [], None, Some, true, false, Option, List, OnOk, OnErr, IfOk};
+ghost use Rattle.std.specs.Option.{option_copied};
 ghost use Rattle.srch_base.specs.Counts.{HasCause};
 ghost use Rattle.chunk_store.specs.Images.{Both, Changes};
 ghost use Rattle.chunk_store.specs.Calls.{Crashes};
 ghost use Rattle.gate_log.specs.Logs.{quiet_log};
 ghost use Rattle.root_slots.specs.Roots.{Steps};
-ghost use Rattle.job_files.specs.Jobs.{Anything, AreWritten, Becomes, IsBegun, IsJob, bytes_in, names};
+ghost use Rattle.job_files.specs.Jobs.{Anything, AreWritten, Becomes, IsBegun, IsJob, log_file, names};
 ghost use Rattle.store_steps.specs.Kept.{Gives, GivesEither, IsKept, LeavesOnly};
 
 use chunk_store::{Disk, remake};
@@ -17,15 +18,15 @@ use step_book::{Front, Made, Naming};
 use store_steps::Files;
 
 /// Writes a chunk's file, where there is one.
-fn put_chunk<D: Disk>(disk: &mut D, file: u32, chunk: &Option<Vec<u8>>) -> Result<(), Failed>
-    ensures stands { OnOk result (Steps D.Disk (Changes file (Becomes (bytes_in chunk.now))) disk.old disk.new) }
+fn put_chunk<D: Disk>(disk: &mut D, file: u32, chunk: Option<&[u8]>) -> Result<(), Failed>
+    ensures stands { OnOk result (Steps D.Disk (Changes file (Becomes (option_copied chunk.entry))) disk.old disk.new) }
     ensures moved { Both (Changes file Anything) (D.told disk.old) (D.told disk.new) }
     ensures crash { Crashes D.Disk disk.old disk.new (Changes file Anything) }
     ensures cause { HasCause (D.faults disk.old) (D.faults disk.new) result }
 {
     match chunk {
         None => Ok(()),
-        Some(bytes) => match remake(disk, file, bytes.as_slice()) {
+        Some(bytes) => match remake(disk, file, bytes) {
             Ok(()) => Ok(()),
             Err(Failed) => Err(Failed),
         },
@@ -46,27 +47,39 @@ fn begin_log<D: Disk>(disk: &mut D, file: u32) -> Result<GateLog, Failed>
     }
 }
 
+/// The file of the new log, where the files from this number on are made.
+pub fn log_file(file: u32, chunk: Option<&[u8]>) -> u32
+    requires { file + 1 < 2 ^ 32 }
+    ensures { result ≡ log_file file (option_copied chunk.entry) }
+{
+    match chunk {
+        None => file,
+        Some(_) => file + 1,
+    }
+}
+
 /// Writes the new files. Their numbers aren't taken again, even after an error.
 fn write_files<D: Disk, J: Naming>(
     files: &mut Files,
     disk: &mut D,
     front: &Front<J>,
-    chunk: &Option<Vec<u8>>,
+    chunk: Option<&[u8]>,
 ) -> Result<GateLog, Failed>
     requires kept { IsKept D.Disk (J.schema front.now.index) (J.base front.now.index) front.now.steps None disk.old files.old }
     requires rests { files.old.log.staged ≡ None }
     requires room { files.old.next_file + 2 < 2 ^ 32 }
-    ensures own { files.new ≡ record files.old { next_file = files.old.next_file + 2 } }
+    ensures own { files.new ≡ record files.old { next_file = log_file files.old.next_file (option_copied chunk.entry) + 1 } }
     ensures kept { IsKept D.Disk (J.schema front.now.index) (J.base front.now.index) front.now.steps None disk.new files.new }
-    ensures log { IfOk result (λ log. log ≡ quiet_log (files.old.next_file + 1) 0 None) }
-    ensures written { OnOk result (AreWritten D.Disk (bytes_in chunk.now) files.old.next_file disk.new) }
+    ensures log { IfOk result (λ log. log ≡ quiet_log (log_file files.old.next_file (option_copied chunk.entry)) 0 None) }
+    ensures written { OnOk result (AreWritten D.Disk (option_copied chunk.entry) files.old.next_file disk.new) }
     ensures crash { LeavesOnly D.Disk disk.old disk.new (Gives (J.schema front.now.index) (J.base front.now.index) front.now.steps) }
     ensures cause { HasCause (D.faults disk.old) (D.faults disk.new) result }
 {
     let file = files.next_file;
-    files.next_file = file + 2;
+    let new_log = log_file(file, chunk);
+    files.next_file = new_log + 1;
     match put_chunk(disk, file, chunk) {
-        Ok(()) => match begin_log(disk, file + 1) {
+        Ok(()) => match begin_log(disk, new_log) {
             Ok(log) => Ok(log),
             Err(Failed) => Err(Failed),
         },
@@ -81,7 +94,7 @@ fn replace_root<D: Disk, J: Naming, C: Chunk>(
     front: &Front<J>,
     made: &Made<C>,
     file: u32,
-    chunk: &Option<Vec<u8>>,
+    chunk: Option<&[u8]>,
     state: RootState,
     bytes: &RootBytes,
     log: GateLog,
@@ -89,11 +102,11 @@ fn replace_root<D: Disk, J: Naming, C: Chunk>(
     requires kept { IsKept D.Disk (J.schema front.now.index) (J.base front.now.index) front.now.steps None disk.old files.old }
     requires rests { files.old.log.staged ≡ None }
     requires room { files.old.root.number < 2 ^ 63 }
-    requires files { files.old.next_file ≡ file + 2 }
-    requires log { log ≡ quiet_log (file + 1) 0 None }
+    requires files { files.old.next_file ≡ log_file file (option_copied chunk) + 1 }
+    requires log { log ≡ quiet_log (log_file file (option_copied chunk)) 0 None }
     requires bytes { bytes.now ≡ state }
-    requires written { AreWritten D.Disk (bytes_in chunk.now) file disk.old }
-    requires job { IsJob (J.schema front.now.index) (J.base front.now.index) front.now.steps files.old.state file (bytes_in chunk.now) state made.now }
+    requires written { AreWritten D.Disk (option_copied chunk) file disk.old }
+    requires job { IsJob (J.schema front.now.index) (J.base front.now.index) front.now.steps files.old.state file (option_copied chunk) state made.now }
     ensures ok { OnOk result (IsKept D.Disk (J.schema front.now.index) (J.base front.now.index) front.now.steps (Some made.now) disk.new files.new) }
     ensures err { OnErr result (IsKept D.Disk (J.schema front.now.index) (J.base front.now.index) front.now.steps None disk.new files.new) }
     ensures sure { OnOk result (files.new.sure ≡ true) }
@@ -122,7 +135,7 @@ pub fn install<D: Disk, J: Naming, C: Chunk>(
     disk: &mut D,
     front: &Front<J>,
     made: &Made<C>,
-    chunk: &Option<Vec<u8>>,
+    chunk: Option<&[u8]>,
     state: RootState,
     bytes: &RootBytes,
 ) -> Result<(), Failed>
@@ -131,7 +144,7 @@ pub fn install<D: Disk, J: Naming, C: Chunk>(
     requires room { files.old.root.number < 2 ^ 63 }
     requires files { files.old.next_file + 2 < 2 ^ 32 }
     requires bytes { bytes.now ≡ state }
-    requires job { IsJob (J.schema front.now.index) (J.base front.now.index) front.now.steps files.old.state files.old.next_file (bytes_in chunk.now) state made.now }
+    requires job { IsJob (J.schema front.now.index) (J.base front.now.index) front.now.steps files.old.state files.old.next_file (option_copied chunk) state made.now }
     ensures ok { OnOk result (IsKept D.Disk (J.schema front.now.index) (J.base front.now.index) front.now.steps (Some made.now) disk.new files.new) }
     ensures err { OnErr result (IsKept D.Disk (J.schema front.now.index) (J.base front.now.index) front.now.steps None disk.new files.new) }
     ensures sure { OnOk result (files.new.sure ≡ true) }

@@ -6,4 +6,4 @@
 
 mod installing;
 
-pub use installing::{install, remove};
+pub use installing::{install, log_file, remove};

@@ -1,0 +1,3 @@
+pub mod RowSizes
+pub mod Staying
+pub mod Built

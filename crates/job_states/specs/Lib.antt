@@ -1,0 +1,2 @@
+-- the state of a root at the end of a job
+pub mod States
