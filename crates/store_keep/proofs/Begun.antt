@@ -1,11 +1,9 @@
 -- An index that was begun.
-use Rattle.std.proofs.Common.{◌≡◌, inl, inr, ⊎_elim, ◌⊎◌, ℕ, ◌+◌, ◌≤◌, List, [], ◌++◌, not, ◌==◌, Option, Some, None, Result, Ok, Err, refl, sym, ◌∙◌, ap, subst, arith, length, map, length-append}
+use Rattle.std.proofs.Common.{◌≡◌, inl, inr, ⊎_elim, ◌⊎◌, ℕ, ◌+◌, ◌≤◌, List, [], ◌++◌, Option, Some, None, Result, Ok, Err, refl, sym, ◌∙◌, ap, subst, arith, length, length-append}
 use Rattle.std.specs.Arc.{arc_value}
 use Rattle.std.specs.FinMap as finite
-use Rattle.std.specs.List.{list_any}
 use Rattle.std.specs.Int.{w16, to_le_bytes}
 use Rattle.std.specs.Ordering.{nat_cmp}
-use Rattle.std.proofs.lemmas.Bool.{lt-ltb}
 use Rattle.std.proofs.lemmas.List.Elements.{All-nil}
 use Rattle.chunk_store.specs.Images.{Image, contents}
 use Rattle.chunk_store.specs.Calls.{Crashes, OnlyReads}
@@ -15,7 +13,7 @@ use Rattle.doc_bytes.specs.SchemaText.{schema_text}
 use Rattle.doc_types.specs.declared.schema.Schema.{Schema}
 use Rattle.doc_types.specs.declared.documents.DocRow.{DocRow}
 use Rattle.doc_types.specs.Rows.{Rows}
-use Rattle.doc_types.specs.Snapshots.{LayerValue, all_living, live}
+use Rattle.doc_types.specs.Snapshots.{live}
 use Rattle.gate_log.specs.Logs.{IsLogOf, quiet_log}
 use Rattle.gate_log.specs.declared.log.GateLog.{GateLog}
 use Rattle.root_slots.specs.Roots.{Stands as RootStands, Steps, next, replaced}
@@ -34,12 +32,12 @@ use Rattle.store_steps.specs.declared.files.Files.{Files}
 use Rattle.store_keep.specs.Opens.{HidesNothing, IsBegun, LeavesBegun}
 use Rattle.store_keep.specs.declared.found.Found.{Found}
 use Rattle.store_keep.specs.steps.Beginnings.{Begins, MayBegin, first_state}
-use Rattle.store_keep.specs.steps.Finds.{Finds, IsFound, IsOpenable, IsRootRead}
+use Rattle.store_keep.specs.steps.Finds.{Finds, IsFound, IsRootRead}
 use Rattle.store_keep.specs.steps.Loads.{IsSnapshotOf}
 use Rattle.store_keep.specs.steps.Records.{IsRead}
 use Rattle.store_keep.specs.declared.fault.StoreFault.{StoreFault}
 use Rattle.store_keep.specs.declared.fault.StoreFault.TheVariants as faults
-use Rattle.store_keep.proofs.Founds.{dir_of, empty_rows, in_order, no_disk, numbered, reaches_of, slot_same}
+use Rattle.store_keep.proofs.Founds.{dir_of, empty_rows, in_order, numbered, reaches_of, slot_same}
 
 pub state_is : (schema : Schema) (text : List ℕ) (chunks : List ChunkEntry) → text ≡ schema_text schema → chunks ≡ [] → record { schema_text = text; through = 0; next_file = 3; older = 0; newer = 2; chunks = chunks } ≡ first_state schema
 state_is schema text chunks is none =
@@ -60,19 +58,16 @@ first_is_state schema short = record {
 
 -- ---- what stands for the empty index
 
-good : (schema : Schema) → IsOpenable schema (first_state schema)
-good schema = record { text = refl; none = refl }
+order : (schema : Schema) → IsInOrder schema (dir_of schema (first_state schema) [] [] [])
+order schema = in_order schema (first_state schema) [] [] [] refl tt (λ i j d l h. absurd (omega (arith, h))) (numbered schema 0 [] tt tt) (All-nil (IsRead schema))
 
-order : (schema : Schema) → IsInOrder schema (dir_of schema (first_state schema) [] [])
-order schema = in_order schema (first_state schema) [] [] (good schema) (numbered schema 0 [] tt tt) (All-nil (IsRead schema))
-
-reaches : (schema : Schema) → Reaches (dir_of schema (first_state schema) [] [])
-reaches schema = reaches_of schema (first_state schema) [] [] (numbered schema 0 [] tt tt) (omega arith)
+reaches : (schema : Schema) → Reaches (dir_of schema (first_state schema) [] [] [])
+reaches schema = reaches_of schema (first_state schema) [] [] [] (numbered schema 0 [] tt tt) (omega arith)
 
 stands_empty : (schema : Schema) (root : Root) (x : Image) → IsRoot None (slots_of x) ⊎ (IsRoot (Some (next root (first_state schema))) (slots_of x) × IsLogOf [] (contents (x 2))) → StandsFor schema x finite.empty 0
 stands_empty schema root x (inl none) = record { found = None; holds = none; rows_are = refl; number_is = refl }
 stands_empty schema root x (inr new) = record {
-  found = Some (dir_of schema (first_state schema) [] []);
+  found = Some (dir_of schema (first_state schema) [] [] []);
   holds = (record { number = root.number + 1; files = record { root = new.0; chunks = tt; older = refl }; newer = new.1; in_order = order schema }, reaches schema);
   rows_are = empty_rows;
   number_is = refl;
@@ -112,7 +107,7 @@ files_are schema root own state log own_is state_is log_is =
     ap (λ (r : Root). sure_files r state log) own_is ∙ ap (λ (s : RootState). sure_files (replaced root) s log) state_is ∙ ap (sure_files (replaced root) (first_state schema)) log_is
 
 begun_image : (schema : Schema) (root : Root) (d x : Image) → RootStands root None None (slots_of d) → Begins root (first_state schema) d x
-    → IsImage schema (dir_of schema (first_state schema) [] []) (root.number + 1) None (replaced root) (quiet_log 2 0 None) None x
+    → IsImage schema (dir_of schema (first_state schema) [] [] []) (root.number + 1) None (replaced root) (quiet_log 2 0 None) None x
 begun_image schema root d x stands begins = record { chunks = tt; older = refl; slots = begins.root_is stands; newer = begins.log_is; other = tt }
 
 none_born : (number : ℕ) → AreBorn finite.empty number
@@ -120,12 +115,12 @@ none_born number id row got = absurd (cc (finite.get-empty nat_cmp id, got))
 
 -- an index that was begun is kept
 pub begun_found : {D : Type 0} (words : DiskWords D) (schema : Schema) (root : Root) (old new : D) (found : Found) → IsState (first_state schema) → IsRootRead (words.told old) (words.may_leave old) root None → ((x : Image) → words.may_leave old x → (image : Image) × (words.told old ≡ Some image))
-    → Steps words (Begins root (first_state schema)) old new → found.files ≡ sure_files (replaced root) (first_state schema) (quiet_log 2 0 None) → IsSnapshotOf schema 0 [] (arc_value found.snapshot) → found.records ≡ 0 → found.documents ≡ 0 → IsFound words schema old new found
+    → Steps words (Begins root (first_state schema)) old new → found.files ≡ sure_files (replaced root) (first_state schema) (quiet_log 2 0 None) → IsSnapshotOf schema [] 0 [] (arc_value found.snapshot) → found.records ≡ 0 → found.documents ≡ 0 → IsFound words schema old new found
 begun_found words schema root old new found state_is read tells steps files_is loaded records documents =
     let snapshot = arc_value found.snapshot in
-    let dir = dir_of schema (first_state schema) [] [] in
+    let dir = dir_of schema (first_state schema) [] [] [] in
     let none : (image : Image) → words.told old ≡ Some image → IsRoot None (slots_of image) = λ image is. root_leaves root None None (slots_of image) (read.opens image is).stands in
-    let says : Says dir snapshot = record { rows = empty_rows ∙ sym loaded.rows_are; number = sym loaded.number_is; chunks = sym (ap (map (λ (l : LayerValue). l.rows)) (no_disk snapshot.layers loaded.memory)) } in
+    let says : Says dir snapshot = record { rows = empty_rows ∙ sym loaded.rows_are; number = sym loaded.number_is; chunks = sym loaded.chunks_are } in
     let base : Base = record { opening = snapshot; log = 0 } in
     let born : AreBorn (live snapshot) snapshot.number = subst (λ (rows : Rows). AreBorn rows snapshot.number) (sym loaded.rows_are) (none_born snapshot.number) in
     record {
@@ -134,9 +129,7 @@ begun_found words schema root old new found state_is read tells steps files_is l
         holds = none image is;
         rows = sym loaded.rows_are;
         number = sym loaded.number_is;
-        places = λ id row got.
-            ap (λ (ls : List LayerValue). list_any (λ row. row.doc.id == id) (all_living ls)) (no_disk snapshot.layers loaded.memory)
-            ∙ sym (ap not (lt-ltb 0 row.born (loaded.newer id row got)));
+        places = loaded.places;
         chunks = says.chunks;
         few = omega arith;
         records_are = records;

@@ -4,7 +4,7 @@ use Rattle.std.proofs.Math.Seq.{drop-cons}
 use Rattle.std.proofs.lemmas.List.{map-append, take-append-drop, take_more}
 use Rattle.std.proofs.lemmas.List.Elements.{All-append}
 use Rattle.doc_types.specs.declared.schema.Schema.{Schema}
-use Rattle.doc_types.specs.Snapshots.{SnapshotValue}
+use Rattle.doc_types.specs.Snapshots.{LayerValue, SnapshotValue}
 use Rattle.gate_log.specs.Reading.{record_of}
 use Rattle.gate_log.specs.declared.reading.RecordAt.{RecordAt}
 use Rattle.gate_log.specs.declared.records.LogRecord.{LogRecord}
@@ -73,9 +73,9 @@ refuses_back schema file first second (faults.Damaged damage) good is = record {
 }
 
 -- two pieces were laid
-pub laid_both : (schema : Schema) (through : ℕ) (front : List LogRecord) (first second : List RecordAt) (new : SnapshotValue) → IsLaidOf schema through ((front ++ map record_of first) ++ map record_of second) new → IsLaidOf schema through (front ++ map record_of (first ++ second)) new
-laid_both schema through front first second new is =
-    subst (λ (l : List LogRecord). IsLaidOf schema through l new)
+pub laid_both : (schema : Schema) (chunks : List LayerValue) (through : ℕ) (front : List LogRecord) (first second : List RecordAt) (new : SnapshotValue) → IsLaidOf schema chunks through ((front ++ map record_of first) ++ map record_of second) new → IsLaidOf schema chunks through (front ++ map record_of (first ++ second)) new
+laid_both schema chunks through front first second new is =
+    subst (λ (l : List LogRecord). IsLaidOf schema chunks through l new)
     (append_assoc front (map record_of first) (map record_of second) ∙ ap (λ (l : List LogRecord). front ++ l) (sym (map-append record_of first second))) is
 
 -- records that are cut in three
@@ -89,11 +89,11 @@ cut_three records first others second rest n m first_is others_are second_is res
     cut items front back n front_is back_is = ap (λ (l : List RecordAt). l ++ back) front_is ∙ ap (λ (l : List RecordAt). take n items ++ l) back_is ∙ take-append-drop n items
 
 -- the records behind two pieces are laid
-pub lays_then : (schema : Schema) (through : ℕ) (front : List LogRecord) (file : ℕ) (two rest records : List RecordAt) (result : Result (Unit {0}) StoreFault) (mid new : SnapshotValue) → two ++ rest ≡ records → IsLaidOf schema through (front ++ map record_of two) mid
-    → ((before : List LogRecord) → IsLaidOf schema through before mid → Lays schema through before file rest result new) → Lays schema through front file records result new
-lays_then schema through front file two rest records (Ok done) mid new same laid lays =
-    subst (λ (l : List RecordAt). IsLaidOf schema through (front ++ map record_of l) new) same (laid_both schema through front two rest new (lays (front ++ map record_of two) laid))
-lays_then schema through front file two rest records (Err fault) mid new same laid lays =
+pub lays_then : (schema : Schema) (chunks : List LayerValue) (through : ℕ) (front : List LogRecord) (file : ℕ) (two rest records : List RecordAt) (result : Result (Unit {0}) StoreFault) (mid new : SnapshotValue) → two ++ rest ≡ records → IsLaidOf schema chunks through (front ++ map record_of two) mid
+    → ((before : List LogRecord) → IsLaidOf schema chunks through before mid → Lays schema chunks through before file rest result new) → Lays schema chunks through front file records result new
+lays_then schema chunks through front file two rest records (Ok done) mid new same laid lays =
+    subst (λ (l : List RecordAt). IsLaidOf schema chunks through (front ++ map record_of l) new) same (laid_both schema chunks through front two rest new (lays (front ++ map record_of two) laid))
+lays_then schema chunks through front file two rest records (Err fault) mid new same laid lays =
     subst (λ (l : List RecordAt). RefusesPiece schema file l fault) same
     (refuses_back schema file two rest fault (back_fits (IsRead schema) front (map record_of two) laid.all) (lays (front ++ map record_of two) laid))
 

@@ -1,10 +1,11 @@
 -- Files of logs that were synced and then read.
-use Rattle.std.proofs.Common.{◌≡◌, ◌≢◌, inr, ℕ, zero, suc, ◌≤◌, List, [], Option, Some, None, Result, Ok, Err, refl, sym, ◌∙◌, ap, subst, map}
+use Rattle.std.proofs.Common.{◌≡◌, ◌≢◌, inl, inr, ℕ, zero, suc, ◌≤◌, List, [], Option, Some, None, Result, Ok, Err, refl, sym, ◌∙◌, ap, subst, map}
 use Rattle.std.specs.Result.{OnOk}
 use Rattle.chunk_store.specs.Images.{Image, IsThere, Told, contents}
 use Rattle.chunk_store.specs.Calls.{IsSynced, OnlyReads}
 use Rattle.chunk_store.specs.declared.disk.Disk.{Ghosts as DiskWords}
 use Rattle.doc_types.specs.declared.schema.Schema.{Schema}
+use Rattle.doc_types.specs.Snapshots.{LayerValue}
 use Rattle.gate_log.specs.Logs.{IsLogOf, last_number}
 use Rattle.gate_log.specs.Reading.{Begins, behind}
 use Rattle.gate_log.specs.declared.reading.Before.{Before}
@@ -46,11 +47,11 @@ cause_of (Err faults.DiskFault) before now le of = absurd of
 cause_of (Err (faults.Damaged damage)) before now le of = le
 
 -- what the file's bytes come to
-pub reads_by : (schema : Schema) (through : ℕ) (front : List LogRecord) (file : ℕ) (bytes : List ℕ) (told : Option Image) (r : Result LogEnd StoreFault) (new : Loaded) → Told (λ image. image file ≡ Some bytes) told → TakesLog schema through front file bytes r new → ReadsLog schema through front file told r new
-reads_by schema through front file bytes told (Ok found) new there takes = (bytes, there, takes)
-reads_by schema through front file bytes told (Err faults.NoMemory) new there takes = tt
-reads_by schema through front file bytes told (Err faults.DiskFault) new there takes = tt
-reads_by schema through front file bytes told (Err (faults.Damaged damage)) new there takes =
+pub reads_by : (schema : Schema) (chunks : List LayerValue) (through : ℕ) (front : List LogRecord) (file : ℕ) (bytes : List ℕ) (told : Option Image) (r : Result LogEnd StoreFault) (new : Loaded) → Told (λ image. image file ≡ Some bytes) told → TakesLog schema chunks through front file bytes r new → ReadsLog schema chunks through front file told r new
+reads_by schema chunks through front file bytes told (Ok found) new there takes = (bytes, there, takes)
+reads_by schema chunks through front file bytes told (Err faults.NoMemory) new there takes = tt
+reads_by schema chunks through front file bytes told (Err faults.DiskFault) new there takes = tt
+reads_by schema chunks through front file bytes told (Err (faults.Damaged damage)) new there takes =
     (takes.0, λ image is. subst (λ (f : Option (List ℕ)). IsBadLog schema (before_next through front) damage.kind damage.place f) (sym (there image is)) takes.1)
 
 pub missing_by : (schema : Schema) (before : Before) (file : Option (List ℕ)) → file ≡ None → IsBadLog schema before kinds.LogMissing 0 file
@@ -63,8 +64,8 @@ has_older : (file : ℕ) (records : List LogRecord) (bytes : List ℕ) (image : 
 has_older zero records bytes image apart is log = absurd (apart refl)
 has_older (suc file) records bytes image apart is log = subst (λ (f : Option (List ℕ)). IsLogOf records (contents f)) (sym is) log
 
-pub older_read : (schema : Schema) (through file : ℕ) (told : Option Image) (may : Image → Type 0) (found : LogEnd) (new : Loaded) → file ≢ 0 → IsSynced file told may → ReadsLog schema through [] file told (Ok found) new → IsOlderRead schema through file told may new
-older_read schema through file told may found new apart synced reads =
+pub older_read : (schema : Schema) (chunks : List LayerValue) (through file : ℕ) (told : Option Image) (may : Image → Type 0) (found : LogEnd) (new : Loaded) → file ≢ 0 → IsSynced file told may → ReadsLog schema chunks through [] file told (Ok found) new → IsOlderRead schema chunks through file told may found.end new
+older_read schema chunks through file told may found new apart synced reads =
     let taken = reads.2 in
     record {
       records = taken.0;
@@ -72,22 +73,30 @@ older_read schema through file told may found new apart synced reads =
       begins = taken.1.begins;
       has = λ image is. has_older file taken.0 reads.0 image apart (reads.1 image is) (log_of taken.1);
       steady = λ image is other x left. synced image is x left;
+      ends = taken.1.end_is;
       loaded = taken.2;
     }
 
-pub older_bad : (schema : Schema) (state : RootState) (told : Option Image) (may : Image → Type 0) (fault : StoreFault) (new : Loaded) → state.older ≢ 0 → ReadsLog schema state.through [] state.older told (Err fault) new → ReadsOlder schema state told may (Err fault) new
-older_bad schema state told may faults.NoMemory new apart reads = tt
-older_bad schema state told may faults.DiskFault new apart reads = tt
-older_bad schema state told may (faults.Damaged damage) new apart reads = λ image is. (apart, reads.0, reads.1 image is)
+pub older_bad : (schema : Schema) (chunks : List LayerValue) (state : RootState) (told : Option Image) (may : Image → Type 0) (fault : StoreFault) (new : Loaded) → state.older ≢ 0 → ReadsLog schema chunks state.through [] state.older told (Err fault) new → ReadsOlder schema chunks state told may (Err fault) new
+older_bad schema chunks state told may faults.NoMemory new apart reads = tt
+older_bad schema chunks state told may faults.DiskFault new apart reads = tt
+older_bad schema chunks state told may (faults.Damaged damage) new apart reads = λ image is. (apart, reads.0, reads.1 image is)
+
+-- what is wrong with the older log is wrong with both
+pub older_wrong : (schema : Schema) (chunks : List LayerValue) (state : RootState) (told : Option Image) (may : Image → Type 0) (fault : StoreFault) (new : Loaded) → ReadsOlder schema chunks state told may (Err fault) new → ReadsLogs schema chunks state told may (Err fault)
+older_wrong schema chunks state told may faults.NoMemory new reads = tt
+older_wrong schema chunks state told may faults.DiskFault new reads = tt
+older_wrong schema chunks state told may (faults.Damaged damage) new reads = λ image is. inl (reads image is)
 
 -- the newer log was read behind the older one
-pub both_read : {D : Type 0} (words : DiskWords D) (schema : Schema) (state : RootState) (mid new : D) (between after : Loaded) (found : LogEnd) → OnlyReads words mid new → (older : IsOlderRead schema state.through state.older (words.told mid) (words.may_leave mid) between)
-    → IsSynced state.newer (words.told new) (words.may_leave new) → ReadsLog schema state.through older.records state.newer (words.told new) (Ok found) after → AreRead schema state (words.told new) (words.may_leave new) (record { loaded = after; end = found })
-both_read words schema state mid new between after found looks older synced reads =
+pub both_read : {D : Type 0} (words : DiskWords D) (schema : Schema) (chunks : List LayerValue) (state : RootState) (mid new : D) (end : ℕ) (between after : Loaded) (found : LogEnd) → OnlyReads words mid new → (older : IsOlderRead schema chunks state.through state.older (words.told mid) (words.may_leave mid) end between)
+    → IsSynced state.newer (words.told new) (words.may_leave new) → ReadsLog schema chunks state.through older.records state.newer (words.told new) (Ok found) after → AreRead schema chunks state (words.told new) (words.may_leave new) (record { loaded = after; older_end = end; end = found })
+both_read words schema chunks state mid new end between after found looks older synced reads =
     let taken = reads.2 in
     record {
       older = older.records;
       older_are = older.records_are;
+      older_ends = older.ends;
       begins = older.begins;
       has = λ image is. older.has image (sym looks.same ∙ is);
       older_steady = λ image is apart x left. older.steady image (sym looks.same ∙ is) apart x (looks.now x left);
@@ -103,11 +112,11 @@ pub older_log : (schema : Schema) (file : ℕ) (records : List LogRecord) (image
 older_log schema zero records image again has = ap (batches_in schema) has
 older_log schema (suc file) records image again has = subst (λ (l : List LogRecord). IsLogOf l (contents (image (suc file)))) (sym again) has
 
-pub newer_bad : {D : Type 0} (words : DiskWords D) (schema : Schema) (state : RootState) (mid new : D) (between after : Loaded) (fault : StoreFault) → OnlyReads words mid new → (older : IsOlderRead schema state.through state.older (words.told mid) (words.may_leave mid) between)
-    → ReadsLog schema state.through older.records state.newer (words.told new) (Err fault) after → ReadsLogs schema state (words.told new) (words.may_leave new) (Err fault)
-newer_bad words schema state mid new between after faults.NoMemory looks older reads = tt
-newer_bad words schema state mid new between after faults.DiskFault looks older reads = tt
-newer_bad words schema state mid new between after (faults.Damaged damage) looks older reads = λ image is.
+pub newer_bad : {D : Type 0} (words : DiskWords D) (schema : Schema) (chunks : List LayerValue) (state : RootState) (mid new : D) (end : ℕ) (between after : Loaded) (fault : StoreFault) → OnlyReads words mid new → (older : IsOlderRead schema chunks state.through state.older (words.told mid) (words.may_leave mid) end between)
+    → ReadsLog schema chunks state.through older.records state.newer (words.told new) (Err fault) after → ReadsLogs schema chunks state (words.told new) (words.may_leave new) (Err fault)
+newer_bad words schema chunks state mid new end between after faults.NoMemory looks older reads = tt
+newer_bad words schema chunks state mid new end between after faults.DiskFault looks older reads = tt
+newer_bad words schema chunks state mid new end between after (faults.Damaged damage) looks older reads = λ image is.
     let again : map record_of (batches_in schema older.records) ≡ older.records = read_again schema older.records older.loaded.of.all in
     let bad : IsBadNewer schema state image damage = record {
       older = batches_in schema older.records;

@@ -132,13 +132,16 @@ named_is_put entry old new id rows lives =
       ] refl
     ] refl
 
--- which ids live on the disk after it
+-- which ids live on the disk once the rows that changes name are gone
+pub disk_left : (changes : List Change) (put : List DocRow) (old new : SnapshotValue) → new.layers ≡ layers_after changes put old.layers → (id : ℕ) → on_disk new id ≡ (on_disk old id && not (named changes id))
+disk_left changes put old new is id =
+    ap (λ layers. list_any (λ row. row.doc.id == id) (all_living layers)) (disk_after changes put old new is)
+    ∙ ap (λ rows. list_any (λ row. row.doc.id == id) rows) (left_living changes (disk_layers old))
+    ∙ any_left (named changes) id (all_living (disk_layers old))
+
+-- which ids live on the disk after a commit
 pub disk_follows : (entry : Entry) (put : List DocRow) (old new : SnapshotValue) → new.layers ≡ layers_after entry.changes put old.layers → live new ≡ after_entry (live old) entry → (id : ℕ) → IsLive new id → on_disk new id ≡ (on_disk old id && not (puts entry id))
-disk_follows entry put old new is rows id lives =
-    ap (λ layers. list_any (λ row. row.doc.id == id) (all_living layers)) (disk_after entry.changes put old new is)
-    ∙ ap (λ rows. list_any (λ row. row.doc.id == id) rows) (left_living entry.changes (disk_layers old))
-    ∙ any_left (named entry.changes) id (all_living (disk_layers old))
-    ∙ ap (λ b. on_disk old id && not b) (named_is_put entry old new id rows lives)
+disk_follows entry put old new is rows id lives = disk_left entry.changes put old new is id ∙ ap (λ b. on_disk old id && not b) (named_is_put entry old new id rows lives)
 
 rows_of_put : (schema : Schema) (put : List DocRow) → AreRowsOf schema put → All (λ layer. AreRowsOf schema layer.rows) (layers_of put)
 rows_of_put schema [] are = All-nil (λ (layer : LayerValue). AreRowsOf schema layer.rows)

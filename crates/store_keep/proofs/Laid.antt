@@ -1,6 +1,6 @@
 -- What is recent has a layer: the rows are the same, each in a layer.
-use Rattle.std.proofs.Common.{◌≡◌, ℕ, ◌<◌, ◌^◌, List, [], ◌∷◌, ◌++◌, Bool, true, false, cond, ◌==◌, ◌||◌, Option, Some, None, is_some, refl, sym, ◌∙◌, ap, subst, map, length, get_or, take, All, AllPairs}
-use Rattle.std.specs.Prelude.{IfSome}
+use Rattle.std.proofs.Common.{◌≡◌, ℕ, ◌<◌, ◌^◌, List, [], ◌∷◌, ◌++◌, Bool, true, false, cond, ◌==◌, ◌&&◌, ◌||◌, not, Option, Some, None, is_some, refl, sym, ◌∙◌, ap, subst, map, length, get_or, All, AllPairs}
+use Rattle.std.specs.Prelude.{IfSome, nat_lt}
 use Rattle.std.specs.BTreeMap.{IsOrdered, get}
 use Rattle.std.specs.BTreeSet.{BTreeSet, contains}
 use Rattle.std.specs.FinMap as finite
@@ -9,8 +9,9 @@ use Rattle.std.specs.List.Sorted.{IsStrictlySortedBy}
 use Rattle.std.specs.Map.{values_of}
 use Rattle.std.specs.Option.{option_or}
 use Rattle.std.specs.Ordering.{is_eq, nat_cmp}
+use Rattle.std.proofs.lemmas.Bool.{lt-ltb}
 use Rattle.std.proofs.lemmas.Cmp.{nat_cmp_total}
-use Rattle.std.proofs.lemmas.List.Elements.{All-append, All-cons, All-head, All-nil, All-tail, All-take}
+use Rattle.std.proofs.lemmas.List.Elements.{All-append, All-cons, All-head, All-nil, All-tail}
 use Rattle.std.proofs.lemmas.List.Kept.{AllPairs-from_increasing}
 use Rattle.std.proofs.lemmas.Map.Keys.{IsStrictlyIncreasing-from_sorted}
 use Rattle.std.proofs.lemmas.Map.Views.{All-found}
@@ -22,14 +23,15 @@ use Rattle.doc_types.specs.Documents.{AreRowsOf}
 use Rattle.doc_types.specs.Rows.{rows_of}
 use Rattle.doc_types.specs.Schemas.{IsSchema}
 use Rattle.doc_types.specs.Snapshots.{AreLayers, LayerValue, SnapshotValue, all_living, live}
-use Rattle.layer_commit.specs.Commits.{layers_of, named}
+use Rattle.layer_commit.specs.Commits.{layers_after, layers_of, named, removals}
 use Rattle.layer_commit.proofs.RowMaps.{flipped}
 use Rattle.layer_commit.proofs.Tried.{same_test}
 use Rattle.layer_joins.specs.Joins.{AreApart, AreOfOne, MayMerge}
-use Rattle.layer_joins.proofs.Kept.{of_joined}
+use Rattle.layer_joins.proofs.Kept.{disk_joined, of_joined}
 use Rattle.layer_joins.proofs.Livings.{docs_of}
 use Rattle.layer_joins.proofs.Upkeep.{live_joined}
 use Rattle.step_history.specs.History.{AreOf}
+use Rattle.step_history.specs.Places.{disk_layers, on_disk}
 use Rattle.store_keep.specs.declared.recent.Recent.{Recent}
 use Rattle.gate_log.specs.declared.records.LogRecord.{LogRecord}
 use Rattle.store_keep.specs.declared.pieces.Piece.{Piece}
@@ -37,8 +39,9 @@ use Rattle.store_keep.specs.steps.Pieces.{IsLaid, IsLaidOf, IsPiece, piece_rows}
 use Rattle.store_keep.specs.steps.Recents.{AreRowsAt, IsRowAt, Owns, is_gone}
 use Rattle.store_keep.proofs.Loads.{laid_more}
 use Rattle.store_keep.proofs.Recents.{row_over}
+use Rattle.store_keep.proofs.Following.{chunks_stay, disk_left}
 use Rattle.store_keep.proofs.Layers.{entries_at, rows_of_schema, values_found}
-use Rattle.store_keep.proofs.NewLayers.{left_all, left_layers, new_layer, next_layers, next_row, next_sound, out}
+use Rattle.store_keep.proofs.NewLayers.{left_all, left_layers, new_layer, next_after, next_layers, next_row, next_sound, out}
 
 -- ids that are named, as a set and as changes
 named_in : (ids : List ℕ) (id : ℕ) → named (map Kill ids) id ≡ list_any (λ n. n == id) ids
@@ -51,6 +54,14 @@ tied a b = flipped a b ∙ same_test b a
 set_has : (set : BTreeSet ℕ) (id : ℕ) → contains nat_cmp set id ≡ list_any (λ n. n == id) set.keys
 set_has set id = (let same_test : (λ (k : ℕ). is_eq (nat_cmp id k)) ≡ (λ n. n == id) = λ i k. sym (tied k id) i in ap (λ test. list_any test set.keys) same_test)
 
+and_true : (b : Bool) → (b && true) ≡ b
+and_true true = refl
+and_true false = refl
+
+and_false : (b : Bool) → (b && false) ≡ false
+and_false true = refl
+and_false false = refl
+
 -- the ids ascend
 pub ids_up : (ids keys : List ℕ) → ids ≡ keys → IsStrictlySortedBy nat_cmp keys → AllPairs (λ id later. id < later) ids
 ids_up ids keys is ordered = subst (AllPairs (λ id later. id < later)) (sym is) (AllPairs-from_increasing keys (IsStrictlyIncreasing-from_sorted keys ordered))
@@ -58,9 +69,12 @@ ids_up ids keys is ordered = subst (AllPairs (λ id later. id < later)) (sym is)
 module _ (laid : SnapshotValue) (recent : Recent) (ids : List ℕ) (rows : List DocRow) (ids_are : ids ≡ recent.named.keys) (rows_are : rows ≡ values_of recent.rows.entries) (ordered : IsOrdered nat_cmp recent.rows) (own : Owns recent) where
   -- the ids whose rows are gone are those that are out
   out_is : (id : ℕ) → out recent.cleared ids id ≡ is_gone recent id
-  out_is id = ap (λ b. recent.cleared || b) (named_in ids id ∙ ap (list_any (λ n. n == id)) ids_are ∙ sym (set_has recent.named id))
+  out_is id = elim recent.cleared as (λ (b : Bool). named (removals b ids) id ≡ (b || contains nat_cmp recent.named id)) [
+    | true ↦ refl
+    | false ↦ named_in ids id ∙ ap (list_any (λ n. n == id)) ids_are ∙ sym (set_has recent.named id)
+  ]
 
-  module _ (schema : Schema) (through : ℕ) (each : AreRowsAt schema through recent.rows) where
+  module _ (schema : Schema) (chunks : List LayerValue) (through : ℕ) (each : AreRowsAt schema through recent.rows) where
     found : (id : ℕ) → find (λ row. row.doc.id == id) rows ≡ get nat_cmp recent.rows id
     found id = ap (find (λ row. row.doc.id == id)) rows_are ∙ values_found schema through id recent.rows.entries (entries_at schema through recent.rows ordered each)
 
@@ -90,50 +104,47 @@ module _ (laid : SnapshotValue) (recent : Recent) (ids : List ℕ) (rows : List 
         ∙ ap (λ o. option_or o (cond (out recent.cleared ids id) None (finite.get (live laid) id))) (found id)
         ∙ ap (λ b. option_or (get nat_cmp recent.rows id) (cond b None (finite.get (live laid) id))) (out_is id)
 
-    pub of_next : (next : SnapshotValue) → next.layers ≡ next_layers recent.cleared ids laid.layers rows → IsLaid schema through laid → AreOf schema next
+    pub of_next : (next : SnapshotValue) → next.layers ≡ next_layers recent.cleared ids laid.layers rows → IsLaid schema chunks through laid → AreOf schema next
     of_next next layers is =
         subst (All (λ (layer : LayerValue). AreRowsOf schema layer.rows)) (sym layers)
         (All-append (λ (layer : LayerValue). AreRowsOf schema layer.rows) (left_layers recent.cleared ids laid.layers) (layers_of rows)
         (left_all (λ (layer : LayerValue). AreRowsOf schema layer.rows) (λ changes layer of. of) recent.cleared ids laid.layers is.of)
         (new_layer (λ (layer : LayerValue). AreRowsOf schema layer.rows) rows (subst (AreRowsOf schema) (sym rows_are) (rows_of_schema schema through recent.rows ordered each))))
 
-    pub of_one : (next : SnapshotValue) → next.layers ≡ next_layers recent.cleared ids laid.layers rows → IsSchema schema → IsLaid schema through laid → AreOfOne (all_living next.layers)
+    pub of_one : (next : SnapshotValue) → next.layers ≡ next_layers recent.cleared ids laid.layers rows → IsSchema schema → IsLaid schema chunks through laid → AreOfOne (all_living next.layers)
     of_one next layers limits is = record { schema = schema; limits = limits; docs = docs_of schema next.layers (of_next next layers is) }
 
-    newer_by : (id : ℕ) (o other : Option DocRow) (b : Bool) (row : DocRow) → IfSome o (IsRowAt schema through id) → ((row : DocRow) → other ≡ Some row → through < row.born) → option_or o (cond b None other) ≡ Some row → through < row.born
-    newer_by id None other true row its old is = absurd (no_row is)
-      where
-        no_row : {row : DocRow} → None ≡ Some row → ⊥
-        no_row e = cc
-    newer_by id None other false row its old is = old row is
-    newer_by id (Some own) other b row its old is = subst (λ (o : Option DocRow). IfSome o (λ r. through < r.born)) is its.newer
+    -- a row of it is on the disk where it was, and wasn't named
+    placed : (id : ℕ) (o other : Option DocRow) (b d : Bool) (row : DocRow) → IfSome o (IsRowAt schema through id) → (is_some o ≡ true → b ≡ true) → ((row : DocRow) → other ≡ Some row → d ≡ not (nat_lt through row.born)) → option_or o (cond b None other) ≡ Some row
+        → (d && not b) ≡ not (nat_lt through row.born)
+    placed id None other true d row its owns old is = absurd (cc (is))
+    placed id None other false d row its owns old is = and_true d ∙ old row is
+    placed id (Some own) other b d row its owns old is =
+        let same : own ≡ row = cc is in
+        ap (λ (c : Bool). d && not c) (owns refl) ∙ and_false d ∙ sym (ap not (lt-ltb through row.born (subst (λ (r : DocRow). through < r.born) same its.newer)))
 
     -- they are laid, also once the last of them are put together
-    pub laid_on : (next after : SnapshotValue) → next.layers ≡ next_layers recent.cleared ids laid.layers rows → next.shape ≡ laid.shape → IsLaid schema through laid → MayMerge next after → AreLayers after.layers → AreApart (all_living next.layers) → IsLaid schema through after
+    pub laid_on : (next after : SnapshotValue) → next.layers ≡ next_layers recent.cleared ids laid.layers rows → next.shape ≡ laid.shape → IsLaid schema chunks through laid → MayMerge next after → AreLayers after.layers → AreApart (all_living next.layers) → IsLaid schema chunks through after
     laid_on next after layers shape is joins are apart =
-        let memory : All (λ layer. layer.disk ≡ false) next.layers =
-        subst (All (λ (layer : LayerValue). layer.disk ≡ false)) (sym layers)
-        (All-append (λ (layer : LayerValue). layer.disk ≡ false) (left_layers recent.cleared ids laid.layers) (layers_of rows)
-        (left_all (λ (layer : LayerValue). layer.disk ≡ false) (λ changes layer no. no) recent.cleared ids laid.layers is.memory)
-        (new_layer (λ (layer : LayerValue). layer.disk ≡ false) rows refl)) in
+        let put : next.layers ≡ layers_after (removals recent.cleared ids) rows laid.layers = layers ∙ next_after recent.cleared ids laid.layers rows in
+        let disk : disk_layers after ≡ disk_layers next = disk_joined next.layers after.layers joins.joins in
         record {
           shape_is = joins.shape ∙ shape ∙ is.shape_is;
-          memory =
-              subst (All (λ (layer : LayerValue). layer.disk ≡ false)) (sym joins.joins.layers)
-              (All-append (λ (layer : LayerValue). layer.disk ≡ false) (take joins.joins.start next.layers) (layers_of joins.joins.rows)
-              (All-take (λ (layer : LayerValue). layer.disk ≡ false) joins.joins.start next.layers memory)
-              (new_layer (λ (layer : LayerValue). layer.disk ≡ false) joins.joins.rows refl));
-          of = of_joined schema next.layers after.layers (of_next next layers is) are joins.joins;
-          newer = λ id row there.
-              newer_by id (get nat_cmp recent.rows id) (finite.get (live laid) id) (is_gone recent id) row (each id) (is.newer id)
+          chunks_are = ap (map (λ (layer : LayerValue). layer.rows)) disk ∙ chunks_stay (removals recent.cleared ids) rows laid next put ∙ is.chunks_are;
+          places = λ id row there.
+              ap (λ (ls : List LayerValue). list_any (λ row. row.doc.id == id) (all_living ls)) disk
+              ∙ disk_left (removals recent.cleared ids) rows laid next put id
+              ∙ ap (λ (b : Bool). on_disk laid id && not b) (out_is id)
+              ∙ placed id (get nat_cmp recent.rows id) (finite.get (live laid) id) (is_gone recent id) (on_disk laid id) row (each id) (own id) (is.places id)
               (sym (row_is next layers id) ∙ ap (λ m. finite.get m id) (sym (live_joined next after joins apart)) ∙ there);
+          of = of_joined schema next.layers after.layers (of_next next layers is) are joins.joins;
         }
 
     pub row_after_joins : (next after : SnapshotValue) → next.layers ≡ next_layers recent.cleared ids laid.layers rows → MayMerge next after → AreApart (all_living next.layers) → (id : ℕ) → finite.get (live after) id ≡ row_over recent laid id
     row_after_joins next after layers joins apart id = ap (λ m. finite.get m id) (live_joined next after joins apart) ∙ row_is next layers id
 
 -- a piece over what was laid
-module _ (schema : Schema) (through : ℕ) (front records : List LogRecord) (laid : SnapshotValue) (piece : Piece) (ids : List ℕ) (ids_are : ids ≡ piece.named.items) (is : IsLaidOf schema through front laid) (of : IsPiece schema through records piece) where
+module _ (schema : Schema) (chunks : List LayerValue) (through : ℕ) (front records : List LogRecord) (laid : SnapshotValue) (piece : Piece) (ids : List ℕ) (ids_are : ids ≡ piece.named.items) (is : IsLaidOf schema chunks through front laid) (of : IsPiece schema through records piece) where
   keys_are : ids ≡ of.recent.named.keys
   keys_are = ids_are ∙ of.made.named_are
 
@@ -147,14 +158,14 @@ module _ (schema : Schema) (through : ℕ) (front records : List LogRecord) (lai
     pub piece_sound : AreLayers laid.layers → length layers < 2 ^ 16 → length (all_living layers) < 2 ^ 32 → AreLayers layers
     piece_sound are few many =
         subst AreLayers (sym next_are)
-        (sound laid of.recent ids (piece_rows piece) keys_are of.made.rows_are of.made.ordered of.taken.own schema through of.taken.each are of.made.content
+        (sound laid of.recent ids (piece_rows piece) keys_are of.made.rows_are of.made.ordered of.taken.own schema chunks through of.taken.each are of.made.content
         (subst (λ (l : List LayerValue). length l < 2 ^ 16) next_are few) (subst (λ (l : List LayerValue). length (all_living l) < 2 ^ 32) next_are many))
 
     pub piece_of_one : IsSchema schema → (next : SnapshotValue) → next.layers ≡ layers → AreOfOne (all_living next.layers)
-    piece_of_one limits next e = of_one laid of.recent ids (piece_rows piece) keys_are of.made.rows_are of.made.ordered of.taken.own schema through of.taken.each next (e ∙ next_are) limits is.laid
+    piece_of_one limits next e = of_one laid of.recent ids (piece_rows piece) keys_are of.made.rows_are of.made.ordered of.taken.own schema chunks through of.taken.each next (e ∙ next_are) limits is.laid
 
-    pub piece_laid : (next after : SnapshotValue) → next.layers ≡ layers → next.shape ≡ laid.shape → MayMerge next after → AreLayers after.layers → AreApart (all_living next.layers) → IsLaidOf schema through (front ++ records) after
+    pub piece_laid : (next after : SnapshotValue) → next.layers ≡ layers → next.shape ≡ laid.shape → MayMerge next after → AreLayers after.layers → AreApart (all_living next.layers) → IsLaidOf schema chunks through (front ++ records) after
     piece_laid next after e shape joins are apart =
-        laid_more schema through front records of.recent laid after is of.taken
-        (row_after_joins laid of.recent ids (piece_rows piece) keys_are of.made.rows_are of.made.ordered of.taken.own schema through of.taken.each next after (e ∙ next_are) joins apart)
-        (laid_on laid of.recent ids (piece_rows piece) keys_are of.made.rows_are of.made.ordered of.taken.own schema through of.taken.each next after (e ∙ next_are) shape is.laid joins are apart)
+        laid_more schema chunks through front records of.recent laid after is of.taken
+        (row_after_joins laid of.recent ids (piece_rows piece) keys_are of.made.rows_are of.made.ordered of.taken.own schema chunks through of.taken.each next after (e ∙ next_are) joins apart)
+        (laid_on laid of.recent ids (piece_rows piece) keys_are of.made.rows_are of.made.ordered of.taken.own schema chunks through of.taken.each next after (e ∙ next_are) shape is.laid joins are apart)

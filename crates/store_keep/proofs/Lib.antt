@@ -30,8 +30,14 @@ pub mod NewLayers
 pub mod Laid
 -- pieces one behind the other
 pub mod BothPieces
+-- chunks that were read
+pub mod Bases
+-- chunks as layers, over which logs are laid
+pub mod Chunked
 -- what was read of a disk is what it stands for
 pub mod Founds
+-- logs that end early
+pub mod Early
 -- the root that was read
 pub mod RootFound
 -- the first log and the first root are written
@@ -40,3 +46,4 @@ pub mod FirstFiles
 pub mod Begun
 -- chunks of a snapshot that are on the disk
 pub mod Counted
+pub mod Reshaping

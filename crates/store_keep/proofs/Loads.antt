@@ -1,9 +1,9 @@
 -- Records of logs that are taken one by one, and pieces that are laid.
-use Rattle.std.proofs.Common.{◌≡◌, inl, inr, ℕ, ◌<◌, ◌≤◌, List, [], ◌∷◌, ◌++◌, Bool, true, false, cond, ◌==◌, Option, Some, None, is_some, Result, Ok, Err, refl, sym, ◌∙◌, ap, subst, arith, map, All, append-nil}
+use Rattle.std.proofs.Common.{◌≡◌, inl, inr, ℕ, ◌<◌, ◌≤◌, List, [], ◌∷◌, ◌++◌, Bool, true, false, cond, not, ◌==◌, ◌||◌, Option, Some, None, is_some, Result, Ok, Err, refl, sym, ◌∙◌, ap, subst, arith, map, All, append-nil}
 use Rattle.std.specs.Prelude.{IfSome, nat_lt}
 use Rattle.std.specs.BTreeMap.{get}
 use Rattle.std.specs.FinMap as finite
-use Rattle.std.specs.List.{fold}
+use Rattle.std.specs.List.{filter, find, fold, list_any}
 use Rattle.std.specs.Option.{option_or}
 use Rattle.std.specs.Ordering.{nat_cmp}
 use Rattle.std.proofs.lemmas.Bool.{cases_lt, lt-ltb, le-ltb}
@@ -23,18 +23,18 @@ use Rattle.doc_types.specs.declared.transactions.TxnOp.TheVariants as operations
 use Rattle.doc_types.specs.Commits.{after_change, change_of}
 use Rattle.doc_types.specs.Documents.{AreRowsOf}
 use Rattle.doc_types.specs.Rows.{Rows, rows_of}
-use Rattle.doc_types.specs.Snapshots.{LayerValue, SnapshotValue, all_living, live}
+use Rattle.doc_types.specs.Snapshots.{AreLayers, LayerValue, SnapshotValue, all_living, live}
 use Rattle.doc_types.specs.Transactions.{IsOpOf, IsTxnOf}
 use Rattle.gate_log.specs.declared.records.LogRecord.{LogRecord}
 use Rattle.gate_log.specs.Logs.{last_number}
 use Rattle.layer_commit.specs.Commits.{row_at}
 use Rattle.layer_commit.specs.steps.Trying.{row_after, row_then}
-use Rattle.layer_commit.proofs.RowMaps.{equal, get_changes, true_false}
+use Rattle.layer_commit.proofs.RowMaps.{equal, get_changes, get_rows, true_false}
 use Rattle.store_steps.specs.Batches.{Batch, above, after_batch, op_of, txn_of}
 use Rattle.store_keep.specs.declared.loading.Loaded.{Loaded}
 use Rattle.store_keep.specs.declared.recent.Recent.{Recent}
 use Rattle.store_keep.specs.steps.Loads.{IsLoaded, IsSnapshotOf, number_after}
-use Rattle.store_keep.specs.steps.Pieces.{IsLaid, IsLaidOf, IsTaken, Takes}
+use Rattle.store_keep.specs.steps.Pieces.{AreChunks, IsLaid, IsLaidOf, IsTaken, Takes}
 use Rattle.store_keep.specs.steps.Recents.{IsRowAt, Owns, is_gone, row_from}
 use Rattle.store_keep.specs.steps.Records.{IsRead, batch_in, batches_in, changes_in, rows_after, rows_from}
 use Rattle.store_keep.proofs.Recents.{owns_after, row_changed, row_over}
@@ -48,21 +48,49 @@ taken_nothing schema through recent none kept = record {
   own = λ id some. absurd (true_false (sym some ∙ ap is_some (none id)));
 }
 
--- nothing was laid yet
-pub laid_nothing : (schema : Schema) (through : ℕ) → IsLaidOf schema through [] (record { number = through; shape = 0; layers = [] })
-laid_nothing schema through = record {
-  all = λ k d h. absurd (omega (arith, h));
-  rows = refl;
-  laid = record {
-    shape_is = refl;
-    memory = λ k d h. absurd (omega (arith, h));
-    of = λ k d h. absurd (omega (arith, h));
-    newer = λ id row found. no_row (sym (finite.get-empty nat_cmp id) ∙ found);
-  };
-}
-  where
-    no_row : {A : Type 0} {row : DocRow} → None ≡ Some row → A
-    no_row e = cc
+-- ---- chunks alone
+
+all_on : (chunks : List LayerValue) → All (λ layer. layer.disk ≡ true) chunks → filter (λ layer. layer.disk) chunks ≡ chunks
+all_on [] all = refl
+all_on (layer ∷ chunks) all =
+    ap (λ (b : Bool). cond b (layer ∷ filter (λ layer. layer.disk) chunks) (filter (λ layer. layer.disk) chunks)) (All-head (λ (l : LayerValue). l.disk ≡ true) layer chunks all)
+    ∙ ap (λ (ls : List LayerValue). layer ∷ ls) (all_on chunks (All-tail (λ (l : LayerValue). l.disk ≡ true) layer chunks all))
+
+-- the row that is found first is one of them, and its id is there
+found_row : (P : DocRow → Type 0) (rows : List DocRow) (id : ℕ) (row : DocRow) → All P rows → find (λ r. r.doc.id == id) rows ≡ Some row → P row × (list_any (λ r. r.doc.id == id) rows ≡ true)
+found_row P [] id row all e = absurd (cc (e))
+found_row P (r ∷ rows) id row all e =
+    elim (r.doc.id == id) as (λ (b : Bool). cond b (Some r) (find (λ r. r.doc.id == id) rows) ≡ Some row → P row × ((b || list_any (λ r. r.doc.id == id) rows) ≡ true)) [
+      | true ↦ λ (e : Some r ≡ Some row). (let is : r ≡ row = cc e in (subst P is (All-head P r rows all), refl))
+      | false ↦ λ e. found_row P rows id row (All-tail P r rows all) e
+    ] e
+
+old_test : (through born : ℕ) → born ≤ through → not (nat_lt through born) ≡ true
+old_test through born le = ap not (le-ltb through born le)
+
+-- where there are none
+pub no_chunks : (schema : Schema) (through : ℕ) → AreChunks schema through []
+no_chunks schema through = record { disk = λ k d h. absurd (omega (arith, h)); old = λ k d h. absurd (omega (arith, h)); of = λ k d h. absurd (omega (arith, h)) }
+
+pub no_layers : AreLayers []
+no_layers = record { each = λ k d h. absurd (omega (arith, h)); distinct = λ i j d l h. absurd (omega (arith, h)); few_layers = omega arith; few_rows = omega arith }
+
+-- nothing was laid over them yet
+pub laid_nothing : (schema : Schema) (chunks : List LayerValue) (through : ℕ) → AreChunks schema through chunks → IsLaidOf schema chunks through [] (record { number = through; shape = 0; layers = chunks })
+laid_nothing schema chunks through are =
+    let on : filter (λ layer. layer.disk) chunks ≡ chunks = all_on chunks are.disk in
+    record {
+      all = λ k d h. absurd (omega (arith, h));
+      rows = refl;
+      laid = record {
+        shape_is = refl;
+        chunks_are = ap (map (λ (layer : LayerValue). layer.rows)) on;
+        places = λ id row got.
+            let found = found_row (λ (r : DocRow). r.born ≤ through) (all_living chunks) id row are.old (sym (get_rows (all_living chunks) id) ∙ got) in
+            ap (λ (ls : List LayerValue). list_any (λ r. r.doc.id == id) (all_living ls)) on ∙ found.1 ∙ sym (old_test through row.born found.0);
+        of = are.of;
+      };
+    }
 
 -- what a payload was read as
 pub txn_is : (r : Result Txn ℕ) (size : ℕ) (txn : Txn) → placed size r ≡ Ok txn → r ≡ Ok txn
@@ -172,21 +200,21 @@ taken_more schema through front r old new txn taken read is of takes = elim (cas
 ]
 
 -- a piece was laid
-pub laid_more : (schema : Schema) (through : ℕ) (front records : List LogRecord) (recent : Recent) (old new : SnapshotValue) → IsLaidOf schema through front old → IsTaken schema through records recent
-    → ((id : ℕ) → finite.get (live new) id ≡ row_over recent old id) → IsLaid schema through new → IsLaidOf schema through (front ++ records) new
-laid_more schema through front records recent old new before taken rows laid = record {
+pub laid_more : (schema : Schema) (chunks : List LayerValue) (through : ℕ) (front records : List LogRecord) (recent : Recent) (old new : SnapshotValue) → IsLaidOf schema chunks through front old → IsTaken schema through records recent
+    → ((id : ℕ) → finite.get (live new) id ≡ row_over recent old id) → IsLaid schema chunks through new → IsLaidOf schema chunks through (front ++ records) new
+laid_more schema chunks through front records recent old new before taken rows laid = record {
   all = All-append (IsRead schema) front records before.all taken.all;
-  rows = finite.same_map nat_cmp_total finite.nat_cmp-IsAntisymmetric (live new) (rows_after schema through (front ++ records)) (λ id.
+  rows = finite.same_map nat_cmp_total finite.nat_cmp-IsAntisymmetric (live new) (rows_after schema chunks through (front ++ records)) (λ id.
       rows id ∙ taken.rows (live old) id
       ∙ ap (λ (m : Rows). finite.get (rows_from schema through m records) id) before.rows
-      ∙ ap (λ (m : Rows). finite.get m id) (sym (rows-then schema through finite.empty front records)));
+      ∙ ap (λ (m : Rows). finite.get m id) (sym (rows-then schema through (rows_of (all_living chunks)) front records)));
   laid = laid;
 }
 
 -- nothing was read yet
-pub loaded_nothing : (schema : Schema) (through : ℕ) (loaded : Loaded) → loaded.laid ≡ record { number = through; shape = 0; layers = [] } → loaded.through ≡ through → loaded.last ≡ None → IsLoaded schema through [] loaded
-loaded_nothing schema through loaded laid through_is last = record {
-  of = subst (IsLaidOf schema through []) (sym laid) (laid_nothing schema through);
+pub loaded_nothing : (schema : Schema) (chunks : List LayerValue) (through : ℕ) (loaded : Loaded) → AreChunks schema through chunks → loaded.laid ≡ record { number = through; shape = 0; layers = chunks } → loaded.through ≡ through → loaded.last ≡ None → IsLoaded schema chunks through [] loaded
+loaded_nothing schema chunks through loaded are laid through_is last = record {
+  of = subst (IsLaidOf schema chunks through []) (sym laid) (laid_nothing schema chunks through are);
   through_is = through_is;
   last_is = last;
 }
@@ -207,24 +235,25 @@ last_then (r ∷ []) (s ∷ records) = some_last s records (Some r.number)
 last_then (r ∷ s ∷ front) records = last_then (s ∷ front) records
 
 -- a log was read
-pub loaded_more : (schema : Schema) (through : ℕ) (front records : List LogRecord) (old new : Loaded) (last : Option ℕ) → IsLoaded schema through front old → IsLaidOf schema through (front ++ records) new.laid
-    → last ≡ last_number records → new.last ≡ option_or last old.last → new.through ≡ old.through → IsLoaded schema through (front ++ records) new
-loaded_more schema through front records old new last loaded laid is last_is same = record {
+pub loaded_more : (schema : Schema) (chunks : List LayerValue) (through : ℕ) (front records : List LogRecord) (old new : Loaded) (last : Option ℕ) → IsLoaded schema chunks through front old → IsLaidOf schema chunks through (front ++ records) new.laid
+    → last ≡ last_number records → new.last ≡ option_or last old.last → new.through ≡ old.through → IsLoaded schema chunks through (front ++ records) new
+loaded_more schema chunks through front records old new last loaded laid is last_is same = record {
   of = laid;
   through_is = same ∙ loaded.through_is;
   last_is = last_is ∙ ap (λ (o : Option ℕ). option_or o old.last) is ∙ ap (option_or (last_number records)) loaded.last_is ∙ last_then front records;
 }
 
 -- the snapshot of what was taken
-pub snapshot_of : (schema : Schema) (through : ℕ) (records : List LogRecord) (loaded : Loaded) (snapshot : SnapshotValue) → IsLoaded schema through records loaded → snapshot.layers ≡ loaded.laid.layers → snapshot.shape ≡ loaded.laid.shape
-    → snapshot.number ≡ number_after loaded.through loaded.last → IsSnapshotOf schema through records snapshot
-snapshot_of schema through records loaded snapshot is layers shape number =
+pub snapshot_of : (schema : Schema) (chunks : List LayerValue) (through : ℕ) (records : List LogRecord) (loaded : Loaded) (snapshot : SnapshotValue) → IsLoaded schema chunks through records loaded → snapshot.layers ≡ loaded.laid.layers → snapshot.shape ≡ loaded.laid.shape
+    → snapshot.number ≡ number_after loaded.through loaded.last → IsSnapshotOf schema chunks through records snapshot
+snapshot_of schema chunks through records loaded snapshot is layers shape number =
     let same : live snapshot ≡ live loaded.laid = ap (λ (l : List LayerValue). rows_of (all_living l)) layers in
     record {
       number_is = number ∙ ap (λ (n : ℕ). number_after n loaded.last) is.through_is ∙ ap (number_after through) is.last_is;
       shape_is = shape ∙ is.of.laid.shape_is;
       rows_are = same ∙ is.of.rows;
-      memory = subst (All (λ (layer : LayerValue). layer.disk ≡ false)) (sym layers) is.of.laid.memory;
+      chunks_are = ap (λ (l : List LayerValue). map (λ (layer : LayerValue). layer.rows) (filter (λ layer. layer.disk) l)) layers ∙ is.of.laid.chunks_are;
       of = subst (All (λ (layer : LayerValue). AreRowsOf schema layer.rows)) (sym layers) is.of.laid.of;
-      newer = λ id row found. is.of.laid.newer id row (ap (λ m. finite.get m id) (sym same) ∙ found);
+      places = λ id row found.
+          ap (λ (l : List LayerValue). list_any (λ row. row.doc.id == id) (all_living (filter (λ layer. layer.disk) l))) layers ∙ is.of.laid.places id row (ap (λ m. finite.get m id) (sym same) ∙ found);
     }

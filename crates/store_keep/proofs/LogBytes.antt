@@ -23,7 +23,7 @@ use Rattle.store_steps.specs.declared.damage.Damage.{Damage}
 use Rattle.store_keep.specs.declared.fault.StoreFault.{StoreFault}
 use Rattle.store_keep.specs.declared.fault.StoreFault.TheVariants as faults
 use Rattle.store_keep.specs.declared.loading.Loaded.{Loaded}
-use Rattle.doc_types.specs.Snapshots.{SnapshotValue}
+use Rattle.doc_types.specs.Snapshots.{LayerValue, SnapshotValue}
 use Rattle.std.specs.Option.{option_or}
 use Rattle.store_keep.proofs.Loads.{loaded_more}
 use Rattle.store_keep.specs.steps.Loads.{IsLoaded, IsLogRead, TakesLog, bad_record, before_next, kind_of}
@@ -165,11 +165,11 @@ all_short before bytes read items found same = subst AreShort (sym same) (short_
     short_all (r ∷ items) all = All-cons (λ (entry : RecordAt). length entry.payload.now < 2 ^ 32) r items (All-head Fits (read_of r) (map read_of items) all).payload (short_all items (All-tail Fits (read_of r) (map read_of items) all))
 
 -- one of the records holds no transaction
-pub records_wrong : (schema : Schema) (through : ℕ) (front : List LogRecord) (before : Before) (bytes : List ℕ) (read : LogRead) (items : List RecordAt) (file : ℕ) (fault : StoreFault) (new : Loaded) → before ≡ before_next through front → IsReadAs before bytes read
-    → items ≡ read.records.items → RefusesPiece schema file items fault → TakesLog schema through front file bytes (Err fault) new
-records_wrong schema through front before bytes read items file faults.NoMemory new is found same wrong = tt
-records_wrong schema through front before bytes read items file faults.DiskFault new is found same wrong = absurd wrong
-records_wrong schema through front before bytes read items file (faults.Damaged damage) new is found same wrong =
+pub records_wrong : (schema : Schema) (chunks : List LayerValue) (through : ℕ) (front : List LogRecord) (before : Before) (bytes : List ℕ) (read : LogRead) (items : List RecordAt) (file : ℕ) (fault : StoreFault) (new : Loaded) → before ≡ before_next through front → IsReadAs before bytes read
+    → items ≡ read.records.items → RefusesPiece schema file items fault → TakesLog schema chunks through front file bytes (Err fault) new
+records_wrong schema chunks through front before bytes read items file faults.NoMemory new is found same wrong = tt
+records_wrong schema chunks through front before bytes read items file faults.DiskFault new is found same wrong = absurd wrong
+records_wrong schema chunks through front before bytes read items file (faults.Damaged damage) new is found same wrong =
     let batches = batches_in schema (map read_of wrong.front) in
     let bad : IsBadBehind schema before kinds.RecordPayload wrong.entry.place batches bytes =
     bad_there schema before bytes read wrong.front wrong.entry wrong.back found (sym same ∙ wrong.are) wrong.read wrong.left wrong.wrong in
@@ -177,10 +177,10 @@ records_wrong schema through front before bytes read items file (faults.Damaged 
     (ap (λ (e : Damage). e.file) wrong.damage_is, (batches, subst (λ (e : Damage). IsBadBehind schema (before_next through front) e.kind e.place batches bytes) (sym wrong.damage_is) here))
 
 -- what is wrong behind records that were laid
-pub end_wrong : (schema : Schema) (through : ℕ) (front : List LogRecord) (before : Before) (bytes : List ℕ) (read : LogRead) (items : List RecordAt) (kind : LogKind) (file : ℕ) (damage : Damage) (laid : SnapshotValue) → before ≡ before_next through front → IsReadAs before bytes read
-    → items ≡ read.records.items → read.fault ≡ Some kind → IsLaidOf schema through (front ++ map read_of items) laid → damage ≡ bad_record file read.end kind
+pub end_wrong : (schema : Schema) (chunks : List LayerValue) (through : ℕ) (front : List LogRecord) (before : Before) (bytes : List ℕ) (read : LogRead) (items : List RecordAt) (kind : LogKind) (file : ℕ) (damage : Damage) (laid : SnapshotValue) → before ≡ before_next through front → IsReadAs before bytes read
+    → items ≡ read.records.items → read.fault ≡ Some kind → IsLaidOf schema chunks through (front ++ map read_of items) laid → damage ≡ bad_record file read.end kind
     → (damage.file ≡ file) × ((batches : List Batch) × IsBadBehind schema (before_next through front) damage.kind damage.place batches bytes)
-end_wrong schema through front before bytes read items kind file damage laid is found same fault laid_of which =
+end_wrong schema chunks through front before bytes read items kind file damage laid is found same fault laid_of which =
     let good : All (IsRead schema) (map read_of read.records.items) = subst (λ (l : List RecordAt). All (IsRead schema) (map read_of l)) same (back_fits (IsRead schema) front (map read_of items) laid_of.all) in
     let batches = batches_in schema (map read_of read.records.items) in
     let here : IsBadBehind schema (before_next through front) (kind_of kind) read.end batches bytes =
@@ -188,13 +188,13 @@ end_wrong schema through front before bytes read items kind file damage laid is 
     (ap (λ (e : Damage). e.file) which, (batches, subst (λ (e : Damage). IsBadBehind schema (before_next through front) e.kind e.place batches bytes) (sym which) here))
 
 -- a log whose records were laid
-pub end_well : (schema : Schema) (through file : ℕ) (front : List LogRecord) (before : Before) (bytes : List ℕ) (read : LogRead) (items : List RecordAt) (old new : Loaded) → before ≡ before_next through front → IsReadAs before bytes read → items ≡ read.records.items
-    → read.fault ≡ None → IsLoaded schema through front old → IsLaidOf schema through (front ++ map read_of items) new.laid → new.last ≡ option_or read.last old.last → new.through ≡ old.through
-    → TakesLog schema through front file bytes (Ok (record { end = read.end; last = read.last })) new
-end_well schema through file front before bytes read items old new is found same none loaded laid last through_is =
-    let here : IsLaidOf schema through (front ++ map read_of read.records.items) new.laid = subst (λ (l : List RecordAt). IsLaidOf schema through (front ++ map read_of l) new.laid) same laid in
+pub end_well : (schema : Schema) (chunks : List LayerValue) (through file : ℕ) (front : List LogRecord) (before : Before) (bytes : List ℕ) (read : LogRead) (items : List RecordAt) (old new : Loaded) → before ≡ before_next through front → IsReadAs before bytes read → items ≡ read.records.items
+    → read.fault ≡ None → IsLoaded schema chunks through front old → IsLaidOf schema chunks through (front ++ map read_of items) new.laid → new.last ≡ option_or read.last old.last → new.through ≡ old.through
+    → TakesLog schema chunks through front file bytes (Ok (record { end = read.end; last = read.last })) new
+end_well schema chunks through file front before bytes read items old new is found same none loaded laid last through_is =
+    let here : IsLaidOf schema chunks through (front ++ map read_of read.records.items) new.laid = subst (λ (l : List RecordAt). IsLaidOf schema chunks through (front ++ map read_of l) new.laid) same laid in
     let good : All (IsRead schema) (map read_of read.records.items) = back_fits (IsRead schema) front (map read_of read.records.items) here.all in (
       map read_of read.records.items,
       subst (λ (b : Before). IsLogRead schema b (map read_of read.records.items) bytes (record { end = read.end; last = read.last })) is (good_end schema before bytes read found none good),
-      loaded_more schema through front (map read_of read.records.items) old new read.last loaded here found.last last through_is,
+      loaded_more schema chunks through front (map read_of read.records.items) old new read.last loaded here found.last last through_is,
     )

@@ -1,5 +1,5 @@
 -- Layers of which rows died, and a layer behind them: the snapshot once what is recent has a layer.
-use Rattle.std.proofs.Common.{◌≡◌, ◌≢◌, ℕ, suc, ◌<◌, ◌^◌, List, [], ◌∷◌, ◌++◌, Bool, true, false, cond, ◌==◌, ◌||◌, not, Option, Some, None, is_some, refl, sym, ◌∙◌, ap, subst, arith, append-nil, map, length, get_or, All}
+use Rattle.std.proofs.Common.{◌≡◌, ◌≢◌, ℕ, suc, ◌<◌, ◌^◌, List, [], ◌∷◌, ◌++◌, Bool, true, false, cond, ◌==◌, not, Option, Some, None, is_some, refl, sym, ◌∙◌, ap, subst, arith, append-nil, map, length, get_or, All}
 use Rattle.std.specs.FinMap as finite
 use Rattle.std.specs.List.{filter, find}
 use Rattle.std.specs.Option.{option_or}
@@ -9,10 +9,10 @@ use Rattle.std.proofs.lemmas.List.Folds.{find-append}
 use Rattle.std.proofs.lemmas.List.Kept.{AllPairs-cons, AllPairs-filter}
 use Rattle.doc_types.specs.declared.documents.DocRow.{DocRow}
 use Rattle.doc_types.specs.Chunks.{IsContent}
-use Rattle.doc_types.specs.Commits.{Change, Kill}
+use Rattle.doc_types.specs.Commits.{Change}
 use Rattle.doc_types.specs.Rows.{rows_of}
 use Rattle.doc_types.specs.Snapshots.{AreLayers, IsLayer, LayerValue, all_living, living}
-use Rattle.layer_commit.specs.Commits.{is_kept, layer_after, layers_after, layers_of, named}
+use Rattle.layer_commit.specs.Commits.{is_kept, layer_after, layers_after, layers_of, named, removals}
 use Rattle.layer_commit.proofs.DeadRows.{layer_is}
 use Rattle.layer_commit.proofs.Lives.{living_after}
 use Rattle.layer_commit.proofs.RowMaps.{dropped, get_rows, kept, true_false}
@@ -21,28 +21,22 @@ use Rattle.layer_joins.proofs.Upkeep.{living_of}
 
 -- what is left of layers once all rows, or those of some ids, are gone
 abbrev pub left_layers : Bool → List ℕ → List LayerValue → List LayerValue
-left_layers cleared ids layers = cond cleared [] (layers_after (map Kill ids) [] layers)
+left_layers cleared ids layers = layers_after (removals cleared ids) [] layers
 
 -- the ids whose rows are gone
 abbrev pub out : Bool → List ℕ → ℕ → Bool
-out cleared ids id = cleared || named (map Kill ids) id
+out cleared ids id = named (removals cleared ids) id
 
 -- a property of layers that rows' deaths leave is one of those that are left
 pub left_all : (P : LayerValue → Type 0) → ((changes : List Change) (layer : LayerValue) → P layer → P (layer_after changes layer)) → (cleared : Bool) (ids : List ℕ) (layers : List LayerValue) → All P layers → All P (left_layers cleared ids layers)
-left_all P stays true ids layers all = All-nil P
-left_all P stays false ids layers all =
-    All-append P (filter is_kept (map (layer_after (map Kill ids)) layers)) []
-    (All-filter is_kept P (map (layer_after (map Kill ids)) layers) (All-map P (layer_after (map Kill ids)) layers (λ k d h. stays (map Kill ids) (get_or layers k d) (all k d h))))
+left_all P stays cleared ids layers all =
+    All-append P (filter is_kept (map (layer_after (removals cleared ids)) layers)) []
+    (All-filter is_kept P (map (layer_after (removals cleared ids)) layers) (All-map P (layer_after (removals cleared ids)) layers (λ k d h. stays (removals cleared ids) (get_or layers k d) (all k d h))))
     (All-nil P)
-
-left_none : (test : ℕ → Bool) (rows : List DocRow) → filter (λ row. not (true || test row.doc.id)) rows ≡ []
-left_none test [] = refl
-left_none test (row ∷ rows) = left_none test rows
 
 -- the rows of them that live
 left_living : (cleared : Bool) (ids : List ℕ) (layers : List LayerValue) → all_living (left_layers cleared ids layers) ≡ filter (λ row. not (out cleared ids row.doc.id)) (all_living layers)
-left_living true ids layers = sym (left_none (named (map Kill ids)) (all_living layers))
-left_living false ids layers = living_after (named (map Kill ids)) layers [] ∙ append-nil (filter (λ row. not (named (map Kill ids) row.doc.id)) (all_living layers))
+left_living cleared ids layers = living_after (named (removals cleared ids)) layers [] ∙ append-nil (filter (λ row. not (named (removals cleared ids) row.doc.id)) (all_living layers))
 
 pairs_append : (xs ys : List DocRow) → AreApart xs → AreApart ys → (P : DocRow → Type 0) → All P ys → All (λ row. (other : DocRow) → P other → row.doc.id ≢ other.doc.id) xs → AreApart (xs ++ ys)
 pairs_append [] ys px py P all cross = py
@@ -80,6 +74,10 @@ module _ (cleared : Bool) (ids : List ℕ) (layers : List LayerValue) (rows : Li
       flat_map-append living (left_layers cleared ids layers) (layers_of rows)
       ∙ ap (λ l. l ++ all_living (layers_of rows)) (left_living cleared ids layers)
       ∙ ap (λ l. filter (λ row. not (out cleared ids row.doc.id)) (all_living layers) ++ l) (living_of rows)
+
+  -- they are what a commit leaves that removes those rows and puts these
+  pub next_after : next_layers ≡ layers_after (removals cleared ids) rows layers
+  next_after = ap (λ (l : List LayerValue). l ++ layers_of rows) (append-nil (filter is_kept (map (layer_after (removals cleared ids)) layers)))
 
   -- they are layers of a snapshot, where they aren't too many
   pub next_sound : AreLayers layers → IsContent rows → All (λ row. out cleared ids row.doc.id ≡ true) rows → length next_layers < 2 ^ 16 → length (all_living next_layers) < 2 ^ 32 → AreLayers next_layers

@@ -1,15 +1,11 @@
 -- The root that was read, and what is wrong with it.
-use Rattle.std.proofs.Common.{◌≡◌, ◌≢◌, inl, inr, ℕ, ◌+◌, ◌-◌, ◌≤◌, List, [], Bool, true, false, Option, Some, None, Err, refl, sym, ◌∙◌, ap, subst, arith, AllPairs}
+use Rattle.std.proofs.Common.{◌≡◌, ◌≢◌, inl, inr, ℕ, ◌+◌, ◌-◌, ◌≤◌, List, Bool, true, false, Option, Some, None, Err, refl, sym, ◌∙◌, ap, subst, arith}
 use Rattle.std.specs.Arc.{arc_value}
 use Rattle.std.specs.FinMap as finite
-use Rattle.std.specs.List.{AllZip}
 use Rattle.chunk_store.specs.Images.{Image}
-use Rattle.chunk_store.specs.Calls.{OnlyReads}
-use Rattle.chunk_store.specs.declared.disk.Disk.{Ghosts as DiskWords}
 use Rattle.doc_bytes.specs.SchemaText.{schema_text}
-use Rattle.doc_types.specs.declared.documents.DocRow.{DocRow}
 use Rattle.doc_types.specs.declared.schema.Schema.{Schema}
-use Rattle.doc_types.specs.Snapshots.{SnapshotValue, all_living, live}
+use Rattle.doc_types.specs.Snapshots.{LayerValue, SnapshotValue, live}
 use Rattle.gate_log.specs.Logs.{quiet_log}
 use Rattle.gate_log.specs.declared.records.LogRecord.{LogRecord}
 use Rattle.root_slots.specs.Choosing.{IsBadRoot}
@@ -19,11 +15,9 @@ use Rattle.root_slots.specs.declared.fault.RootKind.{RootKind}
 use Rattle.root_slots.specs.declared.root.Holder.{Holder}
 use Rattle.root_slots.specs.declared.root.Holder.TheVariants.{Neither, Zeroth, First}
 use Rattle.root_slots.specs.declared.root.Root.{Root}
-use Rattle.root_slots.specs.declared.state.ChunkEntry.{ChunkEntry}
 use Rattle.root_slots.specs.declared.state.RootState.{RootState}
 use Rattle.root_slots.proofs.Standing.{held_is}
 use Rattle.store_steps.specs.Damage.{IsBadRootState, IsBadSlot, IsRootIn, of_root}
-use Rattle.store_steps.specs.Directory.{IsChunkFile, IsChunkOf, layers_from}
 use Rattle.store_steps.specs.Doubts.{sure_files}
 use Rattle.store_steps.specs.declared.damage.Damage.{Damage}
 use Rattle.store_steps.specs.declared.damage.DamageKind.TheVariants as kinds
@@ -32,9 +26,8 @@ use Rattle.store_keep.specs.declared.fault.StoreFault.{StoreFault}
 use Rattle.store_keep.specs.declared.fault.StoreFault.TheVariants as faults
 use Rattle.store_keep.specs.declared.found.Found.{Found}
 use Rattle.store_keep.specs.declared.opening.Logs.{Logs}
-use Rattle.store_keep.specs.steps.Finds.{ChecksState, IsLoadedAs, IsOpenable, IsRootRead}
+use Rattle.store_keep.specs.steps.Finds.{ChecksState, IsLoadedAs, IsRootRead}
 use Rattle.store_keep.specs.steps.Loads.{IsSnapshotOf}
-use Rattle.store_keep.specs.steps.LogFiles.{ReadsLogs}
 
 below_of : (shut : Bool) (bound : ℕ) (file : Option (List ℕ)) → Stays shut bound None file → IsBelow bound file
 below_of true bound file stays = inl (inr stays)
@@ -49,7 +42,7 @@ stand_in Neither zs fs own x stand = absurd stand
 stand_in Zeroth zs fs own x stand = (stand.1, below_of fs (own.number + 1) (x 1) stand.2)
 stand_in First zs fs own x stand = (stand.1, below_of zs own.number (x 0) stand.2)
 
-root_in : (root : Root) (own : Slot) (x : Image) → RootStands root (Some own) None (slots_of x) → IsRootIn (own_slot root.holder) own x
+pub root_in : (root : Root) (own : Slot) (x : Image) → RootStands root (Some own) None (slots_of x) → IsRootIn (own_slot root.holder) own x
 root_in root own x stands = stand_in root.holder root.zeroth_shut root.first_shut own x stands.slots_are
 
 pub bad_slot : (image : Image) (damage : Damage) (slot place : ℕ) (kind : RootKind) → damage ≡ record { file = slot; place = place; kind = of_root kind } → IsBadRoot slot place kind (slots_of image) → IsBadSlot image damage
@@ -69,31 +62,11 @@ says_root schema root state told may faults.NoMemory read checks = tt
 says_root schema root state told may faults.DiskFault read checks = tt
 says_root schema root state told may (faults.Damaged damage) read checks = λ image is. inr (inl (checks image (record { number = root.number; state = state }) refl (read.opens image is).stands))
 
--- what is said of logs that can't be read
-pub says_logs : {D : Type 0} (words : DiskWords D) (schema : Schema) (root : Root) (state : RootState) (old new : D) (fault : StoreFault) → IsRootRead (words.told old) (words.may_leave old) root (Some state) → IsOpenable schema state → OnlyReads words old new
-    → ReadsLogs schema state (words.told new) (words.may_leave new) (Err fault) → SaysDamage schema (words.told old) fault
-says_logs words schema root state old new faults.NoMemory read good looks bad = tt
-says_logs words schema root state old new faults.DiskFault read good looks bad = tt
-says_logs words schema root state old new (faults.Damaged damage) read good looks bad = λ image is.
-    inr (inr (inr (inl (record {
-      file = own_slot root.holder;
-      root = record { number = root.number; state = state };
-      stands = root_in root (record { number = root.number; state = state }) image (read.opens image is).stands;
-      good = good.text;
-      chunks = [];
-      are = record {
-        files = subst (λ (cs : List ChunkEntry). AllZip (IsChunkFile schema image) cs []) (sym good.none) tt;
-        rows = subst (λ (cs : List ChunkEntry). AllZip (IsChunkOf schema state.through) cs []) (sym good.none) tt;
-      };
-      once = subst (λ (cs : List ChunkEntry). AllPairs (λ (row other : DocRow). row.doc.id ≢ other.doc.id) (all_living (layers_from cs []))) (sym good.none) (λ i j d l h. absurd (omega (arith, h)));
-      bad = bad image (looks.same ∙ is);
-    }))))
-
-pub loaded_as : (schema : Schema) (root : Root) (state : RootState) (logs : Logs) (records : List LogRecord) (found : Found) (snapshot : SnapshotValue) (number : ℕ) → IsSnapshotOf schema state.through records snapshot → arc_value found.snapshot ≡ snapshot → number ≡ snapshot.number → state.through ≤ number
-    → found.files ≡ sure_files root state (quiet_log state.newer logs.end.end logs.end.last) → found.records ≡ number - state.through → found.documents ≡ finite.len (live snapshot) → IsLoadedAs schema root state logs records found
-loaded_as schema root state logs records found snapshot number is same number_is le files many documents = record {
+pub loaded_as : (schema : Schema) (chunks : List LayerValue) (root : Root) (state : RootState) (logs : Logs) (records : List LogRecord) (found : Found) (snapshot : SnapshotValue) (number : ℕ) → IsSnapshotOf schema chunks state.through records snapshot → arc_value found.snapshot ≡ snapshot → number ≡ snapshot.number → state.through ≤ number
+    → found.files ≡ sure_files root state (quiet_log state.newer logs.end.end logs.end.last) → found.records ≡ number - state.through → found.documents ≡ finite.len (live snapshot) → IsLoadedAs schema chunks root state logs records found
+loaded_as schema chunks root state logs records found snapshot number is same number_is le files many documents = record {
   files_are = files;
-  snapshot = subst (λ (s : SnapshotValue). IsSnapshotOf schema state.through records s) (sym same) is;
+  snapshot = subst (λ (s : SnapshotValue). IsSnapshotOf schema chunks state.through records s) (sym same) is;
   reach = omega (arith, le, number_is, is.number_is);
   records_are = many ∙ ap (λ (n : ℕ). n - state.through) (number_is ∙ ap (λ (s : SnapshotValue). s.number) (sym same));
   documents_are = documents ∙ ap (λ (s : SnapshotValue). finite.len (live s)) (sym same);

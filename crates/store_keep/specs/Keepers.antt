@@ -24,6 +24,7 @@ pub record IsSameKeeper {D J : Type 0} (old new : Keeper D J) : Type 0 where
   pub workers : new.kept.line.workers ≡ old.kept.line.workers
   pub records : new.records ≡ old.records
   pub documents : new.documents ≡ old.documents
+  pub chunks : new.chunks ≡ old.chunks
 
 -- What no call changes of a token: of which index it is, and whose.
 pub record IsSameToken (old new : TokenValue) : Type 0 where

@@ -4,6 +4,8 @@ pub mod Faults
 pub mod Keepers
 -- what a commit says, and what it leaves
 pub mod Commits
+-- what the end of a job says, and what it leaves
+pub mod Installs
 -- what a store is that got a name
 pub mod Names
 -- what all tokens are told at the end

@@ -1,5 +1,7 @@
 -- Names: what a store is that got the name of its index.
-use Rattle.std.specs.Prelude.{◌≡◌, ℕ, zero, suc, List, [], ◌∷◌, ◌++◌, None}
+use Rattle.std.specs.Prelude.{◌≡◌, ℕ, zero, suc, List, [], ◌∷◌, ◌++◌, None, length}
+use Rattle.std.specs.Arc.{arc_value}
+use Rattle.step_history.specs.Places.{disk_chunks}
 use Rattle.step_line.specs.Lines.{new_line}
 use Rattle.step_tokens.specs.Tokens.{TokenValue}
 use Rattle.store_keep.specs.declared.keeper.Keeper.{Keeper}
@@ -11,6 +13,7 @@ pub record IsNamed {D J : Type 0} (opened : Opened D) (index workers : ℕ) (kee
   pub disk : keeper.kept.disk ≡ opened.disk
   pub records : keeper.records ≡ opened.records
   pub documents : keeper.documents ≡ opened.documents
+  pub chunks : keeper.chunks ≡ length (disk_chunks (arc_value opened.snapshot))
   pub none : keeper.strayed ≡ None
 
 -- the token of a worker that has seen no step

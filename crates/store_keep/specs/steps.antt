@@ -12,7 +12,11 @@ pub mod Pieces
 pub mod Loads
 -- what was read of their files
 pub mod LogFiles
+-- what was read of chunks
+pub mod Bases
 -- what is found on a disk
 pub mod Finds
 -- how the first files are made
 pub mod Beginnings
+-- the parts of the end of a job
+pub mod Endings

@@ -76,11 +76,11 @@ fn first_of(
     ensures first { IfOk result (λ first. first.0 ≡ first_state schema.now) }
     ensures bytes { IfOk result (λ first. first.1 ≡ first_state schema.now) }
     ensures state { IfOk result (λ first. IsState (first_state schema.now)) }
-    ensures snapshot { IfOk result (λ first. IsSnapshotOf schema.now 0 [] (arc_value first.2)) }
+    ensures snapshot { IfOk result (λ first. IsSnapshotOf schema.now [] 0 [] (arc_value first.2)) }
 {
     let state = state_of(alloc, schema)?;
     let bytes = RootBytes::new(alloc, &state)?;
-    let snapshot = Loaded::new(alloc, 0).into_snapshot();
+    let snapshot = Loaded::over(0, Vec::new(alloc))?.into_snapshot();
     Ok((state, bytes, Arc::new(alloc, snapshot)?))
 }
 

@@ -69,6 +69,7 @@ impl<D: Disk, J: Naming> Keeper<D, J> {
             first: _first,
             records: _records,
             documents: _documents,
+            chunks: _chunks,
             strayed: _strayed,
         } = self;
         let Kept {

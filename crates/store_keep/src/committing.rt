@@ -22,10 +22,11 @@ use step_tokens::{Token, learn};
 
 impl<D: Disk, J: Naming> Kept<D, J> {
     /// Settles what waits, and teaches the token the history.
-    fn ready<R: Wait>(&mut self, rt: &R, token: &mut Token<J>) -> Result<(), Or<Failed>>
+    pub(crate) fn ready<R: Wait>(&mut self, rt: &R, token: &mut Token<J>) -> Result<(), Or<Failed>>
         requires index { token.old.index ≡ self.old.line.index }
         requires kept { Keeps D.Disk J.schema J.base self.old.disk self.old.files self.old.line }
         ensures ends { Readies self.old.line token.old (D.faults self.old.disk) result self.new.line self.new.files.log token.new (D.faults self.new.disk) }
+        ensures files { self.new.files ≡ record self.old.files { log = self.new.files.log } }
         ensures kept { Keeps D.Disk J.schema J.base self.new.disk self.new.files self.new.line }
         ensures crash { LeavesOnly D.Disk self.old.disk self.new.disk (GivesEither (J.schema self.old.line.index) (J.base self.old.line.index) self.old.line.history self.old.line.waiting) }
     {

@@ -24,6 +24,7 @@ pub struct Keeper<D: Disk, J: Naming> {
     pub(crate) first: u64,
     pub(crate) records: u64,
     pub(crate) documents: u32,
+    pub(crate) chunks: u32,
     /// The first contradiction that was answered.
     pub(crate) strayed: Option<Strayed>,
 }
@@ -48,6 +49,7 @@ impl<D: Disk, J: Naming> Keeper<D, J> {
         ensures sound { IfOk result (λ named. IsSound D.Disk J.schema J.base named.0) }
         ensures disk { IfErr result (λ disk. disk ≡ opened.disk) }
     {
+        let chunks = opened.disk_chunks();
         let Opened {
             disk,
             files,
@@ -72,6 +74,7 @@ impl<D: Disk, J: Naming> Keeper<D, J> {
                     first,
                     records,
                     documents,
+                    chunks,
                     strayed: None,
                 };
                 match tokens {
@@ -92,9 +95,9 @@ impl<D: Disk, J: Naming> Keeper<D, J> {
 
     /// How many documents and how many chunks on the disk there were at opening.
     pub fn opened(&self) -> (u32, u32)
-        ensures { result ≡ (self.now.documents, 0) }
+        ensures { result ≡ (self.now.documents, self.now.chunks) }
     {
-        (self.documents, 0)
+        (self.documents, self.chunks)
     }
 }
 

@@ -1,13 +1,12 @@
 //! How a piece of a log gets a layer: what it names dies in the layers that are there, its rows become one more, and these are put
 //! together as after a commit.
-ghost use Rattle.std.specs.Prelude.{◌≡◌, ◌<◌, ◌^◌, ◌++◌, ℕ, List, [], AllPairs, if◌then◌else◌, false, IfOk, length, map};
+ghost use Rattle.std.specs.Prelude.{◌≡◌, ◌<◌, ◌^◌, ◌++◌, ℕ, List, [], AllPairs, false, IfOk, length};
 ghost use Rattle.doc_types.specs.Chunks.{IsContent};
-ghost use Rattle.doc_types.specs.Commits.{Kill};
 ghost use Rattle.doc_types.specs.Schemas.{IsSchema};
-ghost use Rattle.doc_types.specs.Snapshots.{AreLayers, all_living};
+ghost use Rattle.doc_types.specs.Snapshots.{AreLayers, LayerValue, all_living};
 ghost use Rattle.doc_types.specs.declared.schema.Schema.{Schema as AnySchema};
 ghost use Rattle.gate_log.specs.declared.records.LogRecord.{LogRecord};
-ghost use Rattle.layer_commit.specs.Commits.{layers_after, layers_of};
+ghost use Rattle.layer_commit.specs.Commits.{layers_after, layers_of, removals};
 ghost use Rattle.store_keep.specs.steps.Pieces.{IsLaidOf, IsPiece};
 
 use crate::pieces::{MOST_ROWS, Piece};
@@ -28,8 +27,8 @@ pub(crate) fn lay(
     laid: &Snapshot<AnyChunk>,
     piece: Piece,
 ) -> Result<Snapshot<AnyChunk>, NoMemory>
-    requires { (schema : AnySchema) × IsSchema schema × ((through : ℕ) × (front : List LogRecord) × (records : List LogRecord) × IsLaidOf schema through front laid.now × IsPiece schema through records piece) }
-    ensures { IfOk result (λ next. (schema : AnySchema) (through : ℕ) (front records : List LogRecord) → IsLaidOf schema through front laid.now → IsPiece schema through records piece → IsLaidOf schema through (front ++ records) next) }
+    requires { (schema : AnySchema) × IsSchema schema × ((chunks : List LayerValue) × (through : ℕ) × (front : List LogRecord) × (records : List LogRecord) × IsLaidOf schema chunks through front laid.now × IsPiece schema through records piece) }
+    ensures { IfOk result (λ next. (schema : AnySchema) (chunks : List LayerValue) (through : ℕ) (front records : List LogRecord) → IsLaidOf schema chunks through front laid.now → IsPiece schema through records piece → IsLaidOf schema chunks through (front ++ records) next) }
 {
     let Piece {
         cleared,
@@ -65,6 +64,28 @@ fn snapshot_of(
     })
 }
 
+/// A snapshot of layers, unless these or their rows are too many.
+pub(crate) fn snapshot_with(
+    number: u64,
+    layers: Vec<Layer<AnyChunk>>,
+) -> Result<Snapshot<AnyChunk>, NoMemory>
+    requires { length layers.items < 2 ^ 16 → length (all_living layers.items) < 2 ^ 32 → AreLayers layers.items }
+    ensures is { IfOk result (λ next. next ≡ record { number = number; shape = 0; layers = layers.items }) }
+    ensures sound { IfOk result (λ next. AreLayers layers.items) }
+{
+    if layers.len() > MOST_LAYERS {
+        return Err(NoMemory);
+    }
+    if live_count(layers.as_slice()) > MOST_ROWS as u64 {
+        return Err(NoMemory);
+    }
+    Ok(Snapshot {
+        number,
+        shape: 0,
+        layers: Items::new(layers),
+    })
+}
+
 /// What is left of the layers once all of their rows, or those of these ids, are gone.
 fn left_of(
     alloc: Global,
@@ -73,14 +94,10 @@ fn left_of(
     ids: &[u64],
 ) -> Result<Vec<Layer<AnyChunk>>, NoMemory>
     requires { AllPairs (λ id later. id < later) ids.now }
-    ensures left { IfOk result (λ left. left.items ≡ (if cleared then [] else layers_after (map Kill ids.now) [] laid.now.layers)) }
+    ensures left { IfOk result (λ left. left.items ≡ layers_after (removals cleared ids.now) [] laid.now.layers) }
     ensures sound { AreLayers laid.now.layers }
 {
-    let layers = laid.layers.as_slice();
-    if cleared {
-        return Ok(Vec::new(alloc));
-    }
-    kill_rows(alloc, layers, false, ids)
+    kill_rows(alloc, laid.layers.as_slice(), cleared, ids)
 }
 
 /// These layers and one of a chunk in memory, if it has rows.

@@ -8,6 +8,9 @@ mod committing;
 mod entering;
 mod fault;
 mod found;
+mod install_fault;
+mod installing;
+mod job_ends;
 mod keeper;
 mod kept;
 mod laws;
@@ -25,6 +28,8 @@ mod settling;
 
 pub use commit_outcomes::Doubt;
 pub use fault::{CommitFault, Committed, StoreFault};
+pub use install_fault::InstallFault;
+pub use job_ends::{LAST_FILE, LAST_ROOT};
 pub use keeper::Keeper;
 pub use laws::{
     a_crash_between_calls_leaves_the_documents, files_between_calls_are_those_of_the_history,

@@ -1,21 +1,22 @@
-//! The documents of logs. A log is read and indexed in pieces, two at once, which are then laid in their order; so few of its rows are
+//! The documents of chunks and logs: what logs have is laid over the layers of the chunks. A log is read and indexed in pieces, two at once, which are then laid in their order; so few of its rows are
 //! documents at a time: these take five times the bytes that they have in the log, and the memory of those that have their layer serves
 //! for the next ones.
-ghost use Rattle.std.specs.Prelude.{◌≡◌, ◌++◌, ℕ, List, [], OnOk};
+ghost use Rattle.std.specs.Prelude.{◌≡◌, ◌<◌, ◌^◌, ◌++◌, ℕ, List, [], IfOk, OnOk, length};
 ghost use Rattle.doc_types.specs.Schemas.{IsSchema};
+ghost use Rattle.doc_types.specs.Snapshots.{AreLayers, LayerValue, all_living};
 ghost use Rattle.doc_types.specs.declared.schema.Schema.{Schema as AnySchema};
 ghost use Rattle.gate_log.specs.declared.records.LogRecord.{LogRecord};
 ghost use Rattle.store_keep.specs.steps.Loads.{IsLoaded, IsOfBytes, IsSnapshotOf, TakesLog, bad_record, before_next, number_after};
-ghost use Rattle.store_keep.specs.steps.Pieces.{AreShort, IsLaidOf, IsPiece, Lays};
+ghost use Rattle.store_keep.specs.steps.Pieces.{AreChunks, AreShort, IsLaidOf, IsPiece, Lays};
 
 use crate::fault::StoreFault;
-use crate::laying::lay;
+use crate::laying::{lay, snapshot_with};
 use crate::pieces::{Piece, piece_size, read_both};
 use crate::reading::Source;
-use doc_types::{Schema, Snapshot};
+use doc_types::{Layer, Schema, Snapshot};
 use gate_log::{Before, LogKind, RecordAt, read_records};
 use image_chunk::AnyChunk;
-use srch_base::{Items, NoMemory};
+use srch_base::NoMemory;
 use std::alloc::Global;
 use std::thread::Threads;
 use store_steps::{Damage, DamageKind};
@@ -45,29 +46,34 @@ pub(crate) struct LogEnd {
 }
 
 impl Loaded {
-    /// Nothing yet, behind chunks that have all commits through this number.
-    pub(crate) fn new(alloc: Global, through: u64) -> Loaded
-        ensures { (schema : AnySchema) → IsLoaded schema through [] result }
+    /// Nothing yet, over the layers of chunks that have all commits through this number.
+    pub(crate) fn over(through: u64, chunks: Vec<Layer<AnyChunk>>) -> Result<Loaded, NoMemory>
+        requires { length chunks.items < 2 ^ 16 → length (all_living chunks.items) < 2 ^ 32 → AreLayers chunks.items }
+        ensures { IfOk result (λ loaded. (schema : AnySchema) → AreChunks schema through chunks.items → IsLoaded schema chunks.items through [] loaded) }
     {
-        Loaded {
-            laid: Snapshot {
-                number: through,
-                shape: 0,
-                layers: Items::new(Vec::new(alloc)),
-            },
+        let laid = snapshot_with(through, chunks)?;
+        Ok(Loaded {
+            laid,
             through,
             last: None,
-        }
+        })
     }
 
     /// What comes before the next record.
     fn before(&self) -> Before
-        ensures { (schema : AnySchema) (through : ℕ) (front : List LogRecord) → IsLoaded schema through front self.now → result ≡ before_next through front }
+        ensures { (schema : AnySchema) (chunks : List LayerValue) (through : ℕ) (front : List LogRecord) → IsLoaded schema chunks through front self.now → result ≡ before_next through front }
     {
         match self.last {
             Some(last) => Before::Record(last),
             None => Before::Chunks(self.through),
         }
+    }
+
+    /// The number of the last record, if there is one.
+    pub(crate) fn last(&self) -> Option<u64>
+        ensures { result ≡ self.now.last }
+    {
+        self.last
     }
 
     /// Takes the records of a log with these bytes.
@@ -80,9 +86,9 @@ impl Loaded {
         bytes: &[u8],
     ) -> Result<LogEnd, StoreFault>
         requires limits { IsSchema schema.now }
-        requires loaded { (through : ℕ) × (front : List LogRecord) × IsLoaded schema.now through front self.old }
+        requires loaded { (chunks : List LayerValue) × (through : ℕ) × (front : List LogRecord) × IsLoaded schema.now chunks through front self.old }
         ensures bytes { IsOfBytes result }
-        ensures takes { (through : ℕ) (front : List LogRecord) → IsLoaded schema.now through front self.old → TakesLog schema.now through front file bytes.now result self.new }
+        ensures takes { (chunks : List LayerValue) (through : ℕ) (front : List LogRecord) → IsLoaded schema.now chunks through front self.old → TakesLog schema.now chunks through front file bytes.now result self.new }
     {
         let read = read_records(alloc, bytes, self.before())?;
         let piece = (bytes.len() / PIECES).max(LEAST_PIECE);
@@ -106,7 +112,7 @@ impl Loaded {
 
     /// The snapshot of all that was read.
     pub(crate) fn into_snapshot(self) -> Snapshot<AnyChunk>
-        ensures { (schema : AnySchema) (through : ℕ) (front : List LogRecord) → IsLoaded schema through front self → IsSnapshotOf schema through front result }
+        ensures { (schema : AnySchema) (chunks : List LayerValue) (through : ℕ) (front : List LogRecord) → IsLoaded schema chunks through front self → IsSnapshotOf schema chunks through front result }
     {
         let Loaded {
             laid,
@@ -130,8 +136,8 @@ fn lay_records<R: Threads>(
 ) -> Result<(), StoreFault>
     requires limits { IsSchema source.schema.now }
     requires short { AreShort records.now }
-    requires laid { (front : List LogRecord) × IsLaidOf source.schema.now source.through front laid.old }
-    ensures { (front : List LogRecord) → IsLaidOf source.entry.schema.now source.entry.through front laid.old → Lays source.entry.schema.now source.entry.through front source.entry.file records.now result laid.new }
+    requires laid { (chunks : List LayerValue) × (front : List LogRecord) × IsLaidOf source.schema.now chunks source.through front laid.old }
+    ensures { (chunks : List LayerValue) (front : List LogRecord) → IsLaidOf source.entry.schema.now chunks source.entry.through front laid.old → Lays source.entry.schema.now chunks source.entry.through front source.entry.file records.now result laid.new }
 {
     if records.is_empty() {
         return Ok(());
@@ -156,8 +162,8 @@ fn lay_two<R: Threads>(
     requires limits { IsSchema source.schema.now }
     requires first { AreShort first.now }
     requires second { AreShort second.now }
-    requires laid { (front : List LogRecord) × IsLaidOf source.schema.now source.through front laid.old }
-    ensures { (front : List LogRecord) → IsLaidOf source.entry.schema.now source.entry.through front laid.old → Lays source.entry.schema.now source.entry.through front source.entry.file (first.now ++ second.now) result laid.new }
+    requires laid { (chunks : List LayerValue) × (front : List LogRecord) × IsLaidOf source.schema.now chunks source.through front laid.old }
+    ensures { (chunks : List LayerValue) (front : List LogRecord) → IsLaidOf source.entry.schema.now chunks source.entry.through front laid.old → Lays source.entry.schema.now chunks source.entry.through front source.entry.file (first.now ++ second.now) result laid.new }
 {
     let (first, second) = read_both(rt, alloc, source, first, second);
     match first {
@@ -179,8 +185,8 @@ fn lay_both(
     second: Piece,
     laid: &mut Snapshot<AnyChunk>,
 ) -> Result<(), NoMemory>
-    requires { (schema : AnySchema) × IsSchema schema × ((through : ℕ) × (front : List LogRecord) × (one : List LogRecord) × (two : List LogRecord) × IsLaidOf schema through front laid.old × IsPiece schema through one first × IsPiece schema through two second) }
-    ensures { OnOk result ((schema : AnySchema) (through : ℕ) (front one two : List LogRecord) → IsLaidOf schema through front laid.old → IsPiece schema through one first → IsPiece schema through two second → IsLaidOf schema through ((front ++ one) ++ two) laid.new) }
+    requires { (schema : AnySchema) × IsSchema schema × ((chunks : List LayerValue) × (through : ℕ) × (front : List LogRecord) × (one : List LogRecord) × (two : List LogRecord) × IsLaidOf schema chunks through front laid.old × IsPiece schema through one first × IsPiece schema through two second) }
+    ensures { OnOk result ((schema : AnySchema) (chunks : List LayerValue) (through : ℕ) (front one two : List LogRecord) → IsLaidOf schema chunks through front laid.old → IsPiece schema through one first → IsPiece schema through two second → IsLaidOf schema chunks through ((front ++ one) ++ two) laid.new) }
 {
     *laid = lay(alloc, laid, first)?;
     *laid = lay(alloc, laid, second)?;

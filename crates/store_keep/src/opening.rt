@@ -1,12 +1,16 @@
 //! How a store is opened. Each file is synced and then read, so that what was read is what a crash leaves.
-ghost use Rattle.std.specs.Prelude.{◌≡◌, ◌≢◌, ℕ, List, [], Some, Err, MatchBool, IfOk, IfErr, IfSome, OnOk};
+ghost use Rattle.std.specs.Prelude.{◌≡◌, ◌≢◌, ◌<◌, ◌^◌, ℕ, List, [], Some, Err, MatchBool, IfOk, IfErr, IfSome, OnOk, length};
+ghost use Rattle.std.specs.List.{AllByRecursion};
+ghost use Rattle.doc_types.specs.Snapshots.{AreLayers, LayerValue, all_living};
+ghost use Rattle.store_keep.specs.steps.Bases.{ReadsBase};
+ghost use Rattle.store_keep.specs.steps.Pieces.{AreChunks};
 ghost use Rattle.doc_bytes.specs.SchemaText.{schema_text};
 ghost use Rattle.doc_types.specs.Schemas.{IsSchema};
 ghost use Rattle.doc_types.specs.declared.schema.Schema.{Schema as AnySchema};
 ghost use Rattle.root_slots.specs.States.{IsState};
 ghost use Rattle.std.specs.Arc.{arc_value};
 ghost use Rattle.store_steps.specs.Damage.{of_root};
-ghost use Rattle.store_keep.specs.steps.Finds.{ChecksState, Finds, IsLoadedAs, IsRootRead, ReadsSlots};
+ghost use Rattle.store_keep.specs.steps.Finds.{ChecksState, Finds, FindsEarly, IsLoadedAs, IsRootRead, ReadsSlots, last_gate};
 ghost use Rattle.chunk_store.specs.Images.{Told};
 ghost use Rattle.chunk_store.specs.Calls.{Finds as FindsFile, HasOpenCause, IsSynced, OnlyReads};
 ghost use Rattle.gate_log.specs.declared.records.LogRecord.{LogRecord};
@@ -19,12 +23,13 @@ use crate::beginning::{begin, text_of};
 use crate::fault::StoreFault;
 use crate::found::Found;
 use crate::loading::{Loaded, LogEnd};
+use chunk_files::{ChunkFault, read_chunks};
 use chunk_store::{Disk, read_whole};
-use doc_types::{Schema, Snapshot};
+use doc_types::{Layer, Schema, Snapshot};
 use gate_log::GateLog;
 use image_chunk::AnyChunk;
-use root_slots::{Root, RootFault, RootKind, RootState};
-use srch_base::{Failed, NoMemory, OpenFault};
+use root_slots::{ChunkEntry, Root, RootFault, RootKind, RootState};
+use srch_base::{Failed, NoMemory, OpenFault, Or};
 use std::alloc::Global;
 use std::sync::Arc;
 use std::thread::Threads;
@@ -136,7 +141,7 @@ fn bad_root(slot: u8, place: u64, kind: RootKind) -> Damage
     Damage { file, place, kind }
 }
 
-/// Reads the logs of a root.
+/// Reads what a root names: its chunks, and its logs over them.
 fn read_found<D: Disk, R: Threads>(
     rt: &R,
     alloc: Global,
@@ -153,15 +158,61 @@ fn read_found<D: Disk, R: Threads>(
     ensures cause { HasStoreCause (D.faults disk.old) (D.faults disk.new) result }
 {
     match check_columns(alloc, schema, &root, &state) {
-        Ok(()) => match read_logs(rt, alloc, disk, schema, &state) {
-            Ok(logs) => match load(alloc, root, state, logs) {
-                Ok(found) => Ok(found),
-                Err(NoMemory) => Err(StoreFault::NoMemory),
+        Ok(()) => match read_base(rt, alloc, disk, schema, &state) {
+            Ok(chunks) => match read_logs(rt, alloc, disk, schema, &state, chunks) {
+                Ok(logs) => match early_end(&state, &logs) {
+                    Some(damage) => Err(StoreFault::Damaged(damage)),
+                    None => match load(alloc, root, state, logs) {
+                        Ok(found) => Ok(found),
+                        Err(NoMemory) => Err(StoreFault::NoMemory),
+                    },
+                },
+                Err(fault) => Err(fault),
             },
             Err(fault) => Err(fault),
         },
         Err(fault) => Err(fault),
     }
+}
+
+/// The layers of a root's chunks, whose files are synced first.
+fn read_base<D: Disk, R: Threads>(
+    rt: &R,
+    alloc: Global,
+    disk: &mut D,
+    schema: &Schema,
+    state: &RootState,
+) -> Result<Vec<Layer<AnyChunk>>, StoreFault>
+    requires schema { IsSchema schema.now }
+    requires state { IsState state.now }
+    ensures read { ReadsBase schema.now state.now (D.told disk.new) (D.may_leave disk.new) result }
+    ensures looks { OnlyReads D.Disk disk.old disk.new }
+    ensures cause { HasStoreCause (D.faults disk.old) (D.faults disk.new) result }
+{
+    match steady_chunks(disk, state.chunks.as_slice()) {
+        Ok(()) => match read_chunks(rt, alloc, disk, schema, state) {
+            Ok(layers) => Ok(layers),
+            Err(Or::NoMemory) => Err(StoreFault::NoMemory),
+            Err(Or::Fault(ChunkFault::Failed)) => Err(StoreFault::DiskFault),
+            Err(Or::Fault(ChunkFault::Damaged(damage))) => Err(StoreFault::Damaged(damage)),
+        },
+        Err(Failed) => Err(StoreFault::DiskFault),
+    }
+}
+
+/// Makes sure that what is read of chunks is what a crash leaves of them.
+fn steady_chunks<D: Disk>(disk: &mut D, chunks: &[ChunkEntry]) -> Result<(), Failed>
+    ensures steady { OnOk result (AllByRecursion (λ entry. IsSteady entry.file (D.told disk.new) (D.may_leave disk.new)) chunks.now) }
+    ensures looks { OnlyReads D.Disk disk.old disk.new }
+    ensures cause { HasCause (D.faults disk.old) (D.faults disk.new) result }
+{
+    'chunks: for entry in chunks {
+        match steady(disk, entry.file) {
+            Ok(()) => {}
+            Err(Failed) => return Err(Failed),
+        }
+    }
+    Ok(())
 }
 
 /// Whether a root can be taken.
@@ -192,18 +243,14 @@ fn steady<D: Disk>(disk: &mut D, file: u32) -> Result<(), Failed>
     }
 }
 
-/// Whether a root can be taken: its columns are those of the schema. One with chunks isn't opened yet.
+/// Whether a root can be taken: its columns are those of the schema.
 fn check_state(root: &Root, state: &RootState, text: &[u8]) -> Result<(), StoreFault>
     ensures bytes { IsOfBytes result }
     ensures checks { (schema : AnySchema) → text.now ≡ schema_text schema → ChecksState schema root.now state.now result }
 {
     let file = u32::from(root.slot());
     if same_bytes(state.schema_text.as_bytes(), text) {
-        return if state.chunks.is_empty() {
-            Ok(())
-        } else {
-            Err(StoreFault::NoMemory)
-        };
+        return Ok(());
     }
     Err(StoreFault::Damaged(Damage {
         file,
@@ -220,11 +267,11 @@ fn same_bytes(left: &[u8], right: &[u8]) -> bool
 
 /// The documents of a root's logs.
 fn load(alloc: Global, root: Root, state: RootState, logs: Logs) -> Result<Found, NoMemory>
-    ensures { IfOk result (λ found. (schema : AnySchema) (records : List LogRecord) → IsLoaded schema state.through records logs.loaded → IsLoadedAs schema root state logs records found) }
+    ensures { IfOk result (λ found. (schema : AnySchema) (chunks : List LayerValue) (records : List LogRecord) → IsLoaded schema chunks state.through records logs.loaded → IsLoadedAs schema chunks root state logs records found) }
 {
-    let Logs { loaded, end } = logs;
+    let Logs { loaded, end, .. } = logs;
     let snapshot = loaded.into_snapshot();
-    // Logs that end before the chunks do have no room for the next number. No keeper leaves them so.
+    // Logs that end before the chunks do are damaged, and were refused.
     if snapshot.number < state.through {
         return Err(NoMemory);
     }
@@ -239,31 +286,77 @@ fn load(alloc: Global, root: Root, state: RootState, logs: Logs) -> Result<Found
     })
 }
 
+/// Where the logs end, if they have records and end before the chunks do.
+fn early_end(state: &RootState, logs: &Logs) -> Option<Damage>
+    ensures { FindsEarly state.now logs.now result }
+{
+    match logs.loaded.last() {
+        Some(last) => {
+            if last < state.through {
+                return Some(last_gate(state, logs));
+            }
+            None
+        }
+        None => None,
+    }
+}
+
+/// The closed gate behind the last record, as damage: the next record couldn't be numbered.
+fn last_gate(state: &RootState, logs: &Logs) -> Damage
+    ensures { result ≡ last_gate state.now logs.now }
+{
+    let kind = DamageKind::RecordNumber;
+    match logs.end.last {
+        Some(_) => Damage {
+            file: state.newer,
+            place: logs.end.end,
+            kind,
+        },
+        None => Damage {
+            file: state.older,
+            place: logs.older_end,
+            kind,
+        },
+    }
+}
+
 /// What was read of both logs of a root.
 #[derive(Drop)]
 struct Logs {
     loaded: Loaded,
+    /// Where the older one ends, 0 where there is none.
+    older_end: u64,
     /// Where the newer one ends.
     end: LogEnd,
 }
 
-/// Reads both logs of a root.
+/// Reads both logs of a root, over the layers of its chunks.
 fn read_logs<D: Disk, R: Threads>(
     rt: &R,
     alloc: Global,
     disk: &mut D,
     schema: &Schema,
     state: &RootState,
+    chunks: Vec<Layer<AnyChunk>>,
 ) -> Result<Logs, StoreFault>
-    requires { IsSchema schema.now }
-    ensures read { ReadsLogs schema.now state.now (D.told disk.new) (D.may_leave disk.new) result }
+    requires schema { IsSchema schema.now }
+    requires sound { length chunks.items < 2 ^ 16 → length (all_living chunks.items) < 2 ^ 32 → AreLayers chunks.items }
+    requires chunks { AreChunks schema.now state.now.through chunks.items }
+    ensures read { ReadsLogs schema.now chunks.items state.now (D.told disk.new) (D.may_leave disk.new) result }
     ensures looks { OnlyReads D.Disk disk.old disk.new }
     ensures cause { HasStoreCause (D.faults disk.old) (D.faults disk.new) result }
 {
-    let mut loaded = Loaded::new(alloc, state.through);
+    let mut loaded = match Loaded::over(state.through, chunks) {
+        Ok(loaded) => loaded,
+        Err(NoMemory) => return Err(StoreFault::NoMemory),
+    };
     match read_older(rt, alloc, disk, schema, state, &mut loaded) {
-        Ok(()) => match read_log(rt, alloc, disk, schema, state.newer, &mut loaded) {
-            Ok(end) => Ok(Logs { loaded, end }),
+        Ok(older_end) => match read_log(rt, alloc, disk, schema, state.newer, &mut loaded) {
+            Ok(end) => Ok(Logs {
+                loaded,
+                older_end,
+                end,
+            }),
             Err(fault) => Err(fault),
         },
         Err(fault) => Err(fault),
@@ -278,18 +371,18 @@ fn read_older<D: Disk, R: Threads>(
     schema: &Schema,
     state: &RootState,
     loaded: &mut Loaded,
-) -> Result<(), StoreFault>
+) -> Result<u64, StoreFault>
     requires limits { IsSchema schema.now }
-    requires loaded { IsLoaded schema.now state.now.through [] loaded.old }
-    ensures read { ReadsOlder schema.now state.now (D.told disk.new) (D.may_leave disk.new) result loaded.new }
+    requires loaded { (chunks : List LayerValue) × IsLoaded schema.now chunks state.now.through [] loaded.old }
+    ensures read { (chunks : List LayerValue) → IsLoaded schema.now chunks state.now.through [] loaded.old → ReadsOlder schema.now chunks state.now (D.told disk.new) (D.may_leave disk.new) result loaded.new }
     ensures looks { OnlyReads D.Disk disk.old disk.new }
     ensures cause { HasStoreCause (D.faults disk.old) (D.faults disk.new) result }
 {
     if state.older == 0 {
-        return Ok(());
+        return Ok(0);
     }
     match read_log(rt, alloc, disk, schema, state.older, loaded) {
-        Ok(_) => Ok(()),
+        Ok(end) => Ok(end.end),
         Err(fault) => Err(fault),
     }
 }
@@ -304,8 +397,8 @@ fn read_log<D: Disk, R: Threads>(
     loaded: &mut Loaded,
 ) -> Result<LogEnd, StoreFault>
     requires limits { IsSchema schema.now }
-    requires loaded { (through : ℕ) × (front : List LogRecord) × IsLoaded schema.now through front loaded.old }
-    ensures read { (through : ℕ) (front : List LogRecord) → IsLoaded schema.now through front loaded.old → ReadsLog schema.now through front file (D.told disk.new) result loaded.new }
+    requires loaded { (chunks : List LayerValue) × (through : ℕ) × (front : List LogRecord) × IsLoaded schema.now chunks through front loaded.old }
+    ensures read { (chunks : List LayerValue) (through : ℕ) (front : List LogRecord) → IsLoaded schema.now chunks through front loaded.old → ReadsLog schema.now chunks through front file (D.told disk.new) result loaded.new }
     ensures synced { OnOk result (IsSynced file (D.told disk.new) (D.may_leave disk.new)) }
     ensures looks { OnlyReads D.Disk disk.old disk.new }
     ensures cause { HasStoreCause (D.faults disk.old) (D.faults disk.new) result }

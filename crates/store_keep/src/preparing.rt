@@ -139,7 +139,7 @@ impl<D: Disk, J: Naming> Kept<D, J> {
     }
 
     /// Whether the history has a place for one more step. No number of a commit is so great that it hasn't.
-    fn has_place(&self) -> bool
+    pub(crate) fn has_place(&self) -> bool
         ensures place { IsTrue result → length self.now.line.history + 1 < 2 ^ 63 }
         ensures good { IsGood (J.schema self.now.line.index) (J.base self.now.line.index) self.now.line.history }
     {

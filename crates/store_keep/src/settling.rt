@@ -17,6 +17,7 @@ impl<D: Disk, J: Naming> Kept<D, J> {
     pub(crate) fn sync_pending(&mut self) -> Result<(), Failed>
         requires kept { Keeps D.Disk J.schema J.base self.old.disk self.old.files self.old.line }
         ensures line { self.new.line ≡ self.old.line }
+        ensures files { self.new.files ≡ record self.old.files { log = self.new.files.log } }
         ensures none { OnOk result (self.new.files.log.staged ≡ None) }
         ensures kept { Keeps D.Disk J.schema J.base self.new.disk self.new.files self.new.line }
         ensures crash { LeavesOnly D.Disk self.old.disk self.new.disk (GivesEither (J.schema self.old.line.index) (J.base self.old.line.index) self.old.line.history self.old.line.waiting) }
@@ -36,7 +37,7 @@ impl<D: Disk, J: Naming> Kept<D, J> {
         ensures ok { OnOk result (self.new.line ≡ settled self.old.line) }
         ensures err { OnErr result (self.new.line ≡ self.old.line) }
         ensures disk { self.new.disk ≡ self.old.disk }
-        ensures log { self.new.files.log ≡ self.old.files.log }
+        ensures files { self.new.files ≡ self.old.files }
         ensures kept { Keeps D.Disk J.schema J.base self.new.disk self.new.files self.new.line }
     {
         self.line.settle(rt)
@@ -46,6 +47,7 @@ impl<D: Disk, J: Naming> Kept<D, J> {
     pub(crate) fn settle<R: Wait>(&mut self, rt: &R) -> Result<(), Or<Failed>>
         requires kept { Keeps D.Disk J.schema J.base self.old.disk self.old.files self.old.line }
         ensures ends { Settles self.old.line (D.faults self.old.disk) result self.new.line self.new.files.log (D.faults self.new.disk) }
+        ensures files { self.new.files ≡ record self.old.files { log = self.new.files.log } }
         ensures kept { Keeps D.Disk J.schema J.base self.new.disk self.new.files self.new.line }
         ensures crash { LeavesOnly D.Disk self.old.disk self.new.disk (GivesEither (J.schema self.old.line.index) (J.base self.old.line.index) self.old.line.history self.old.line.waiting) }
     {

@@ -1,11 +1,11 @@
 -- What is found on a disk as it is opened.
-use Rattle.std.specs.Prelude.{◌≡◌, ◌-◌, ◌≤◌, List, [], Option, Some, None, Result, Ok, Err}
+use Rattle.std.specs.Prelude.{◌≡◌, ℕ, ◌-◌, ◌≤◌, ◌<◌, List, [], Option, Some, None, Result, Ok, Err}
 use Rattle.std.specs.Arc.{arc_value}
 use Rattle.std.specs.FinMap as finite
 use Rattle.chunk_store.specs.Images.{Image, Told}
 use Rattle.chunk_store.specs.declared.disk.Disk.{Ghosts as DiskWords}
 use Rattle.doc_types.specs.declared.schema.Schema.{Schema}
-use Rattle.doc_types.specs.Snapshots.{live}
+use Rattle.doc_types.specs.Snapshots.{LayerValue, live}
 use Rattle.gate_log.specs.Logs.{last_number, quiet_log}
 use Rattle.gate_log.specs.declared.records.LogRecord.{LogRecord}
 use Rattle.root_slots.specs.Openings.{Opens}
@@ -17,6 +17,8 @@ use Rattle.step_history.specs.History.{AreOf}
 use Rattle.store_steps.specs.Damage.{IsBadRootState, IsBadSlot, IsGoodState}
 use Rattle.store_steps.specs.Doubts.{sure_files}
 use Rattle.store_steps.specs.Kept.{IsKept}
+use Rattle.store_steps.specs.declared.damage.Damage.{Damage}
+use Rattle.store_steps.specs.declared.damage.DamageKind.TheVariants as kinds
 use Rattle.store_keep.specs.Opens.{HidesNothing, IsFoundIn, SaysDamage}
 use Rattle.store_keep.specs.declared.fault.StoreFault.{StoreFault}
 use Rattle.store_keep.specs.declared.fault.StoreFault.TheVariants as faults
@@ -38,22 +40,30 @@ ReadsSlots told may_leave (Err faults.NoMemory) = Unit {0}
 ReadsSlots told may_leave (Err faults.DiskFault) = Unit {0}
 ReadsSlots told may_leave (Err (faults.Damaged damage)) = Told (λ image. IsBadSlot image damage) told
 
--- The root can be taken, and names no chunk: these aren't read yet.
-pub record IsOpenable (schema : Schema) (state : RootState) : Type 0 where
-  pub text : IsGoodState schema state
-  pub none : state.chunks ≡ []
-
 -- whether a state can be taken
 abbrev pub ChecksState : Schema → Root → RootState → Result (Unit {0}) StoreFault → Type 0
-ChecksState schema root state (Ok done) = IsOpenable schema state
+ChecksState schema root state (Ok done) = IsGoodState schema state
 ChecksState schema root state (Err faults.NoMemory) = Unit {0}
 ChecksState schema root state (Err faults.DiskFault) = ⊥
 ChecksState schema root state (Err (faults.Damaged damage)) = (x : Image) (own : Slot) → own.state ≡ state → RootStands root (Some own) None (slots_of x) → IsBadRootState schema x damage
 
+-- the closed gate behind the last record of both logs, as damage
+abbrev pub gate_at : RootState → Logs → Option ℕ → Damage
+gate_at state logs None = record { file = state.older; place = logs.older_end; kind = kinds.RecordNumber }
+gate_at state logs (Some last) = record { file = state.newer; place = logs.end.end; kind = kinds.RecordNumber }
+
+abbrev pub last_gate : RootState → Logs → Damage
+last_gate state logs = gate_at state logs logs.end.last
+
+-- whether the logs have records and end before the chunks do
+abbrev pub FindsEarly : RootState → Logs → Option Damage → Type 0
+FindsEarly state logs (Some damage) = (last : ℕ) × (logs.loaded.last ≡ Some last) × (last < state.through) × (damage ≡ last_gate state logs)
+FindsEarly state logs None = (last : ℕ) → logs.loaded.last ≡ Some last → state.through ≤ last
+
 -- The records of both logs were made a snapshot. The logs end no earlier than the chunks do.
-pub record IsLoadedAs (schema : Schema) (root : Root) (state : RootState) (logs : Logs) (records : List LogRecord) (found : Found) : Type 0 where
+pub record IsLoadedAs (schema : Schema) (chunks : List LayerValue) (root : Root) (state : RootState) (logs : Logs) (records : List LogRecord) (found : Found) : Type 0 where
   pub files_are : found.files ≡ sure_files root state (quiet_log state.newer logs.end.end logs.end.last)
-  pub snapshot : IsSnapshotOf schema state.through records (arc_value found.snapshot)
+  pub snapshot : IsSnapshotOf schema chunks state.through records (arc_value found.snapshot)
   pub reach : state.through ≤ number_after state.through (last_number records)
   pub records_are : found.records ≡ (arc_value found.snapshot).number - state.through
   pub documents_are : found.documents ≡ finite.len (live (arc_value found.snapshot))

@@ -1,10 +1,11 @@
 -- What was read of logs: their records, and the layers of these.
-use Rattle.std.specs.Prelude.{◌≡◌, ◌≢◌, ℕ, ◌<◌, List, ◌∷◌, ◌++◌, Option, Some, None, Result, Ok, Err, All, false, length}
+use Rattle.std.specs.Prelude.{◌≡◌, ◌≢◌, ℕ, List, ◌∷◌, ◌++◌, Option, Some, None, Result, Ok, Err, All, length, map, nat_lt, not}
 use Rattle.std.specs.FinMap as finite
 use Rattle.doc_types.specs.declared.documents.DocRow.{DocRow}
 use Rattle.doc_types.specs.declared.schema.Schema.{Schema}
-use Rattle.doc_types.specs.Snapshots.{SnapshotValue, live}
+use Rattle.doc_types.specs.Snapshots.{LayerValue, SnapshotValue, live}
 use Rattle.step_history.specs.History.{AreOf}
+use Rattle.step_history.specs.Places.{disk_chunks, on_disk}
 use Rattle.gate_log.specs.Logs.{AreRecords, last_number, spelled}
 use Rattle.gate_log.specs.Reading.{Begins, behind}
 use Rattle.gate_log.specs.declared.fault.LogKind.{LogKind}
@@ -24,9 +25,9 @@ use Rattle.store_keep.specs.declared.loading.LogEnd.{LogEnd}
 use Rattle.store_keep.specs.steps.Pieces.{IsLaidOf}
 use Rattle.store_keep.specs.steps.Records.{IsRead, rows_after}
 
--- These records were taken.
-pub record IsLoaded (schema : Schema) (through : ℕ) (records : List LogRecord) (loaded : Loaded) : Type 0 where
-  pub of : IsLaidOf schema through records loaded.laid
+-- These records were taken, over these chunks.
+pub record IsLoaded (schema : Schema) (chunks : List LayerValue) (through : ℕ) (records : List LogRecord) (loaded : Loaded) : Type 0 where
+  pub of : IsLaidOf schema chunks through records loaded.laid
   pub through_is : loaded.through ≡ through
   pub last_is : loaded.last ≡ last_number records
 
@@ -35,14 +36,15 @@ abbrev pub number_after : ℕ → Option ℕ → ℕ
 number_after through None = through
 number_after through (Some last) = last
 
--- The snapshot of what was taken of these records: all of it lies in memory.
-pub record IsSnapshotOf (schema : Schema) (through : ℕ) (records : List LogRecord) (snapshot : SnapshotValue) : Type 0 where
+-- The snapshot of what was taken of these records over these chunks: the chunks are on the disk, and all that they don't have is in
+-- memory.
+pub record IsSnapshotOf (schema : Schema) (chunks : List LayerValue) (through : ℕ) (records : List LogRecord) (snapshot : SnapshotValue) : Type 0 where
   pub number_is : snapshot.number ≡ number_after through (last_number records)
   pub shape_is : snapshot.shape ≡ 0
-  pub rows_are : live snapshot ≡ rows_after schema through records
-  pub memory : All (λ layer. layer.disk ≡ false) snapshot.layers
+  pub rows_are : live snapshot ≡ rows_after schema chunks through records
+  pub chunks_are : disk_chunks snapshot ≡ map (λ layer. layer.rows) chunks
+  pub places : (id : ℕ) (row : DocRow) → finite.get (live snapshot) id ≡ Some row → on_disk snapshot id ≡ not (nat_lt through row.born)
   pub of : AreOf schema snapshot
-  pub newer : (id : ℕ) (row : DocRow) → finite.get (live snapshot) id ≡ Some row → through < row.born
 
 -- what comes before the record behind these
 abbrev pub before_next : ℕ → List LogRecord → Before
@@ -77,8 +79,8 @@ IsOfBytes (Err faults.DiskFault) = ⊥
 IsOfBytes (Err (faults.Damaged damage)) = Unit {0}
 
 -- what taking the bytes of a log comes to, behind these records
-abbrev pub TakesLog : Schema → ℕ → List LogRecord → ℕ → List ℕ → Result LogEnd StoreFault → Loaded → Type 0
-TakesLog schema through front file bytes (Ok found) new = (records : List LogRecord) × IsLogRead schema (before_next through front) records bytes found × IsLoaded schema through (front ++ records) new
-TakesLog schema through front file bytes (Err faults.NoMemory) new = Unit {0}
-TakesLog schema through front file bytes (Err faults.DiskFault) new = ⊥
-TakesLog schema through front file bytes (Err (faults.Damaged damage)) new = (damage.file ≡ file) × ((batches : List Batch) × IsBadBehind schema (before_next through front) damage.kind damage.place batches bytes)
+abbrev pub TakesLog : Schema → List LayerValue → ℕ → List LogRecord → ℕ → List ℕ → Result LogEnd StoreFault → Loaded → Type 0
+TakesLog schema chunks through front file bytes (Ok found) new = (records : List LogRecord) × IsLogRead schema (before_next through front) records bytes found × IsLoaded schema chunks through (front ++ records) new
+TakesLog schema chunks through front file bytes (Err faults.NoMemory) new = Unit {0}
+TakesLog schema chunks through front file bytes (Err faults.DiskFault) new = ⊥
+TakesLog schema chunks through front file bytes (Err (faults.Damaged damage)) new = (damage.file ≡ file) × ((batches : List Batch) × IsBadBehind schema (before_next through front) damage.kind damage.place batches bytes)

@@ -1,9 +1,10 @@
 -- What was read of the files of logs.
-use Rattle.std.specs.Prelude.{◌≡◌, ◌≢◌, ◌⊎◌, ℕ, zero, suc, List, [], ◌++◌, Option, Some, Result, Ok, Err}
+use Rattle.std.specs.Prelude.{◌≡◌, ◌≢◌, ◌⊎◌, ℕ, zero, suc, List, [], ◌++◌, Option, Some, Result, Ok, Err, length}
 use Rattle.chunk_store.specs.Images.{Image, IsThere, Told, contents}
 use Rattle.chunk_store.specs.Calls.{IsSynced}
 use Rattle.doc_types.specs.declared.schema.Schema.{Schema}
-use Rattle.gate_log.specs.Logs.{AreRecords, IsLogOf}
+use Rattle.doc_types.specs.Snapshots.{LayerValue}
+use Rattle.gate_log.specs.Logs.{AreRecords, IsLogOf, spelled}
 use Rattle.gate_log.specs.Reading.{Begins}
 use Rattle.gate_log.specs.declared.reading.Before.TheVariants.{Chunks}
 use Rattle.gate_log.specs.declared.records.LogRecord.{LogRecord}
@@ -21,11 +22,11 @@ abbrev pub IsSteady : ℕ → Option Image → (Image → Type 0) → Type 0
 IsSteady file told may_leave = Told (λ image. IsThere (image file) → (x : Image) → may_leave x → x file ≡ image file) told
 
 -- what reading a log's file comes to, behind these records
-abbrev pub ReadsLog : Schema → ℕ → List LogRecord → ℕ → Option Image → Result LogEnd StoreFault → Loaded → Type 0
-ReadsLog schema through front file told (Ok found) new = (bytes : List ℕ) × Told (λ image. image file ≡ Some bytes) told × TakesLog schema through front file bytes (Ok found) new
-ReadsLog schema through front file told (Err faults.NoMemory) new = Unit {0}
-ReadsLog schema through front file told (Err faults.DiskFault) new = Unit {0}
-ReadsLog schema through front file told (Err (faults.Damaged damage)) new = (damage.file ≡ file) × Told (λ image. IsBadLog schema (before_next through front) damage.kind damage.place (image file)) told
+abbrev pub ReadsLog : Schema → List LayerValue → ℕ → List LogRecord → ℕ → Option Image → Result LogEnd StoreFault → Loaded → Type 0
+ReadsLog schema chunks through front file told (Ok found) new = (bytes : List ℕ) × Told (λ image. image file ≡ Some bytes) told × TakesLog schema chunks through front file bytes (Ok found) new
+ReadsLog schema chunks through front file told (Err faults.NoMemory) new = Unit {0}
+ReadsLog schema chunks through front file told (Err faults.DiskFault) new = Unit {0}
+ReadsLog schema chunks through front file told (Err (faults.Damaged damage)) new = (damage.file ≡ file) × Told (λ image. IsBadLog schema (before_next through front) damage.kind damage.place (image file)) told
 
 -- The older log has these records, where there is one.
 abbrev pub HasOlder : ℕ → List LogRecord → Image → Type 0
@@ -33,25 +34,27 @@ HasOlder zero records image = records ≡ []
 HasOlder (suc file) records image = IsLogOf records (contents (image (suc file)))
 
 -- The records of the older log were taken.
-pub record IsOlderRead (schema : Schema) (through file : ℕ) (told : Option Image) (may_leave : Image → Type 0) (new : Loaded) : Type 0 where
+pub record IsOlderRead (schema : Schema) (chunks : List LayerValue) (through file : ℕ) (told : Option Image) (may_leave : Image → Type 0) (end : ℕ) (new : Loaded) : Type 0 where
   pub records : List LogRecord
   pub records_are : AreRecords records
   pub begins : Begins (Chunks through) records
   pub has : Told (λ image. HasOlder file records image) told
   pub steady : Told (λ image. file ≢ 0 → (x : Image) → may_leave x → x file ≡ image file) told
-  pub loaded : IsLoaded schema through records new
+  pub ends : end ≡ length (spelled records)
+  pub loaded : IsLoaded schema chunks through records new
 
 -- what reading the older log comes to
-abbrev pub ReadsOlder : Schema → RootState → Option Image → (Image → Type 0) → Result (Unit {0}) StoreFault → Loaded → Type 0
-ReadsOlder schema state told may_leave (Ok done) new = IsOlderRead schema state.through state.older told may_leave new
-ReadsOlder schema state told may_leave (Err faults.NoMemory) new = Unit {0}
-ReadsOlder schema state told may_leave (Err faults.DiskFault) new = Unit {0}
-ReadsOlder schema state told may_leave (Err (faults.Damaged damage)) new = Told (λ image. IsBadOlder schema state image damage) told
+abbrev pub ReadsOlder : Schema → List LayerValue → RootState → Option Image → (Image → Type 0) → Result ℕ StoreFault → Loaded → Type 0
+ReadsOlder schema chunks state told may_leave (Ok end) new = IsOlderRead schema chunks state.through state.older told may_leave end new
+ReadsOlder schema chunks state told may_leave (Err faults.NoMemory) new = Unit {0}
+ReadsOlder schema chunks state told may_leave (Err faults.DiskFault) new = Unit {0}
+ReadsOlder schema chunks state told may_leave (Err (faults.Damaged damage)) new = Told (λ image. IsBadOlder schema state image damage) told
 
 -- Both logs of a root were read.
-pub record AreRead (schema : Schema) (state : RootState) (told : Option Image) (may_leave : Image → Type 0) (logs : Logs) : Type 0 where
+pub record AreRead (schema : Schema) (chunks : List LayerValue) (state : RootState) (told : Option Image) (may_leave : Image → Type 0) (logs : Logs) : Type 0 where
   pub older : List LogRecord
   pub older_are : AreRecords older
+  pub older_ends : logs.older_end ≡ length (spelled older)
   pub begins : Begins (Chunks state.through) older
   pub has : Told (λ image. HasOlder state.older older image) told
   pub older_steady : Told (λ image. state.older ≢ 0 → (x : Image) → may_leave x → x state.older ≡ image state.older) told
@@ -60,11 +63,11 @@ pub record AreRead (schema : Schema) (state : RootState) (told : Option Image) (
   pub bytes_are : Told (λ image. image state.newer ≡ Some bytes) told
   pub newer_is : IsLogRead schema (before_next state.through older) newer bytes logs.end
   pub newer_steady : IsSynced state.newer told may_leave
-  pub loaded : IsLoaded schema state.through (older ++ newer) logs.loaded
+  pub loaded : IsLoaded schema chunks state.through (older ++ newer) logs.loaded
 
 -- what reading both logs comes to
-abbrev pub ReadsLogs : Schema → RootState → Option Image → (Image → Type 0) → Result Logs StoreFault → Type 0
-ReadsLogs schema state told may_leave (Ok logs) = AreRead schema state told may_leave logs
-ReadsLogs schema state told may_leave (Err faults.NoMemory) = Unit {0}
-ReadsLogs schema state told may_leave (Err faults.DiskFault) = Unit {0}
-ReadsLogs schema state told may_leave (Err (faults.Damaged damage)) = Told (λ image. IsBadOlder schema state image damage ⊎ IsBadNewer schema state image damage) told
+abbrev pub ReadsLogs : Schema → List LayerValue → RootState → Option Image → (Image → Type 0) → Result Logs StoreFault → Type 0
+ReadsLogs schema chunks state told may_leave (Ok logs) = AreRead schema chunks state told may_leave logs
+ReadsLogs schema chunks state told may_leave (Err faults.NoMemory) = Unit {0}
+ReadsLogs schema chunks state told may_leave (Err faults.DiskFault) = Unit {0}
+ReadsLogs schema chunks state told may_leave (Err (faults.Damaged damage)) = Told (λ image. IsBadOlder schema state image damage ⊎ IsBadNewer schema state image damage) told

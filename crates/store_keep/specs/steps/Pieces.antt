@@ -1,5 +1,5 @@
 -- Pieces of a log: what their records come to over any rows before them, and the layers that they become.
-use Rattle.std.specs.Prelude.{◌≡◌, ℕ, ◌<◌, ◌≤◌, ◌^◌, List, [], ◌∷◌, ◌++◌, Some, false, Result, Ok, Err, All, length, map}
+use Rattle.std.specs.Prelude.{◌≡◌, ℕ, ◌<◌, ◌≤◌, ◌^◌, List, [], ◌∷◌, ◌++◌, Some, true, not, nat_lt, Result, Ok, Err, All, length, map}
 use Rattle.std.specs.BTreeMap.{IsOrdered}
 use Rattle.std.specs.FinMap as finite
 use Rattle.std.specs.List.Sorted.{IsStrictlySortedBy}
@@ -12,7 +12,8 @@ use Rattle.doc_types.specs.declared.transactions.TxnOp.{TxnOp}
 use Rattle.doc_types.specs.Chunks.{IsContent}
 use Rattle.doc_types.specs.Commits.{change_of}
 use Rattle.doc_types.specs.Rows.{Rows}
-use Rattle.doc_types.specs.Snapshots.{SnapshotValue, live}
+use Rattle.doc_types.specs.Documents.{AreRowsOf}
+use Rattle.doc_types.specs.Snapshots.{LayerValue, SnapshotValue, all_living, live}
 use Rattle.gate_log.specs.Reading.{record_of}
 use Rattle.gate_log.specs.declared.reading.RecordAt.{RecordAt}
 use Rattle.gate_log.specs.declared.records.LogRecord.{LogRecord}
@@ -23,6 +24,7 @@ use Rattle.image_chunk.specs.contracts.image_chunk.ImageChunkChunk.TheImpl as wo
 use Rattle.store_keep.specs.declared.pieces.Piece.{Piece}
 use Rattle.store_keep.specs.declared.recent.Recent.{Recent}
 use Rattle.step_history.specs.History.{AreOf}
+use Rattle.step_history.specs.Places.{disk_chunks, on_disk}
 use Rattle.store_keep.specs.steps.Recents.{AreRowsAt, Changes, Owns, row_from}
 use Rattle.store_keep.specs.steps.Records.{IsRead, bad_payload, rows_after, rows_from}
 
@@ -95,20 +97,26 @@ abbrev pub MakesPiece : Schema → ℕ → ℕ → List RecordAt → Result Piec
 MakesPiece schema through file entries (Ok piece) = IsPiece schema through (map record_of entries) piece
 MakesPiece schema through file entries (Err fault) = RefusesPiece schema file entries fault
 
--- Layers in memory, of rows that the chunks don't have.
-pub record IsLaid (schema : Schema) (through : ℕ) (laid : SnapshotValue) : Type 0 where
-  pub shape_is : laid.shape ≡ 0
-  pub memory : All (λ layer. layer.disk ≡ false) laid.layers
-  pub of : AreOf schema laid
-  pub newer : (id : ℕ) (row : DocRow) → finite.get (live laid) id ≡ Some row → through < row.born
+-- The layers of the chunks of a root, with rows of the schema that aren't newer than this commit.
+pub record AreChunks (schema : Schema) (through : ℕ) (chunks : List LayerValue) : Type 0 where
+  pub disk : All (λ layer. layer.disk ≡ true) chunks
+  pub old : All (λ row. row.born ≤ through) (all_living chunks)
+  pub of : All (λ layer. AreRowsOf schema layer.rows) chunks
 
--- These records were read, and the layers have the rows after them, and nothing else.
-pub record IsLaidOf (schema : Schema) (through : ℕ) (records : List LogRecord) (snapshot : SnapshotValue) : Type 0 where
+-- Layers over these chunks: on the disk are theirs, and a row lives there exactly where they have it.
+pub record IsLaid (schema : Schema) (chunks : List LayerValue) (through : ℕ) (laid : SnapshotValue) : Type 0 where
+  pub shape_is : laid.shape ≡ 0
+  pub chunks_are : disk_chunks laid ≡ map (λ layer. layer.rows) chunks
+  pub places : (id : ℕ) (row : DocRow) → finite.get (live laid) id ≡ Some row → on_disk laid id ≡ not (nat_lt through row.born)
+  pub of : AreOf schema laid
+
+-- These records were read, and the layers have the rows after them over those of the chunks, and nothing else.
+pub record IsLaidOf (schema : Schema) (chunks : List LayerValue) (through : ℕ) (records : List LogRecord) (snapshot : SnapshotValue) : Type 0 where
   pub all : All (IsRead schema) records
-  pub rows : live snapshot ≡ rows_after schema through records
-  pub laid : IsLaid schema through snapshot
+  pub rows : live snapshot ≡ rows_after schema chunks through records
+  pub laid : IsLaid schema chunks through snapshot
 
 -- what laying records behind these comes to
-abbrev pub Lays : Schema → ℕ → List LogRecord → ℕ → List RecordAt → Result (Unit {0}) StoreFault → SnapshotValue → Type 0
-Lays schema through front file entries (Ok done) new = IsLaidOf schema through (front ++ map record_of entries) new
-Lays schema through front file entries (Err fault) new = RefusesPiece schema file entries fault
+abbrev pub Lays : Schema → List LayerValue → ℕ → List LogRecord → ℕ → List RecordAt → Result (Unit {0}) StoreFault → SnapshotValue → Type 0
+Lays schema chunks through front file entries (Ok done) new = IsLaidOf schema chunks through (front ++ map record_of entries) new
+Lays schema chunks through front file entries (Err fault) new = RefusesPiece schema file entries fault

@@ -1,12 +1,12 @@
 -- Records of logs: what they were read as, and the rows after them.
 use Rattle.std.specs.Prelude.{◌≡◌, ℕ, List, [], Result, Ok, Err, map}
-use Rattle.std.specs.FinMap as finite
 use Rattle.std.specs.List.{fold}
 use Rattle.doc_bytes.specs.Reading.{txn_at}
 use Rattle.doc_types.specs.declared.schema.Schema.{Schema}
 use Rattle.doc_types.specs.declared.transactions.Txn.{Txn}
 use Rattle.doc_types.specs.Commits.{Change, change_of}
-use Rattle.doc_types.specs.Rows.{Rows}
+use Rattle.doc_types.specs.Rows.{Rows, rows_of}
+use Rattle.doc_types.specs.Snapshots.{LayerValue, all_living}
 use Rattle.gate_log.specs.declared.records.LogRecord.{LogRecord}
 use Rattle.store_steps.specs.Batches.{Batch, IsBatchOf, above, after_batch, record_of}
 use Rattle.store_steps.specs.declared.damage.Damage.{Damage}
@@ -33,9 +33,9 @@ pub record IsRead (schema : Schema) (r : LogRecord) : Type 0 where
 abbrev pub rows_from : Schema → ℕ → Rows → List LogRecord → Rows
 rows_from schema through old records = fold after_batch old (above through (batches_in schema records))
 
--- the rows after these records
-abbrev pub rows_after : Schema → ℕ → List LogRecord → Rows
-rows_after schema through records = rows_from schema through finite.empty records
+-- the rows after these records, over those of chunks
+abbrev pub rows_after : Schema → List LayerValue → ℕ → List LogRecord → Rows
+rows_after schema chunks through records = rows_from schema through (rows_of (all_living chunks)) records
 
 -- the damage of a record that holds no transaction
 abbrev pub bad_payload : ℕ → ℕ → Damage
