@@ -1,7 +1,9 @@
 -- Engines: the indexes of a configuration, each with what stands outside of its engine's lock.
-use Rattle.std.specs.Prelude.{◌≡◌, ℕ, List, map, Some, slice_get}
+use Rattle.std.specs.Prelude.{◌≡◌, ℕ, List, length, map, Some, slice_get}
+use Rattle.std.specs.Arc.{arc_value}
 use Rattle.std.specs.List.{enumerate_from}
 use Rattle.index_conf.specs.declared.conf.IndexConf.{IndexConf}
+use Rattle.step_history.specs.Places.{disk_chunks}
 use Rattle.store_keep.specs.declared.opening.Opened.{Opened}
 use Rattle.snap_share.specs.Engines.{EngineValue}
 
@@ -18,7 +20,7 @@ pub record EnginesValue : Type 0 where
 
 -- the engine of the index at a place, over a store that was opened
 abbrev pub engine_over : {D : Type 0} → ℕ → ℕ → Opened D → EngineValue
-engine_over workers place opened = record { index = place; workers = workers; records = opened.records; documents = opened.documents }
+engine_over workers place opened = record { index = place; workers = workers; records = opened.records; documents = opened.documents; chunks = length (disk_chunks (arc_value opened.snapshot)) }
 
 -- the engines of these indexes over their stores
 abbrev pub engines_over : {D : Type 0} → List IndexConf → List (Opened D) → ℕ → EnginesValue

@@ -4,3 +4,4 @@ pub mod Sharing
 pub mod Ending
 -- an engine may be shared by threads
 pub mod Crossing
+pub mod JobAnswers

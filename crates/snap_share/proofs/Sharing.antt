@@ -23,20 +23,20 @@ use Rattle.store_keep.proofs.Straying.{counts_alike, seen_within}
 use Rattle.snap_share.specs.Answers.{Advances, Answers, IsAcknowledged, IsInDoubt, IsNoteOf, IsOverLimit}
 
 -- a token of the same index and worker, with so many commits
-same_but : (old new : TokenValue) (made : ℕ) → new.index ≡ old.index → new.worker ≡ old.worker → new.made ≡ made → new ≡ record old { seen = new.seen; made = made }
+pub same_but : (old new : TokenValue) (made : ℕ) → new.index ≡ old.index → new.worker ≡ old.worker → new.made ≡ made → new ≡ record old { seen = new.seen; made = made }
 same_but old new made index worker is =
     ap (λ (i : ℕ). record { index = i; worker = new.worker; seen = new.seen; made = new.made }) index
     ∙ ap (λ (w : ℕ). record { index = old.index; worker = w; seen = new.seen; made = new.made }) worker
     ∙ ap (λ (m : ℕ). record { index = old.index; worker = old.worker; seen = new.seen; made = m }) is
 
 -- a token that learnt a history which is no shorter than what it had seen has seen exactly that one
-learnt_is : (old new : TokenValue) (made : ℕ) (steps : List Step) → Learns old new made steps → length old.seen ≤ length steps → new ≡ record old { seen = steps; made = made }
+pub learnt_is : (old new : TokenValue) (made : ℕ) (steps : List Step) → Learns old new made steps → length old.seen ≤ length steps → new ≡ record old { seen = steps; made = made }
 learnt_is old new made steps learns longer =
     let seen : new.seen ≡ steps = ⊎_elim (λ (same : new.seen ≡ old.seen). same ∙ sym (prefix_whole steps old.seen (subst (λ (s : List Step). IsPrefix steps s) same learns.told) longer)) (λ (is : new.seen ≡ steps). is) learns.one in
     same_but old new made learns.index learns.worker learns.made_is
     ∙ ap (λ (s : List Step). record { index = old.index; worker = old.worker; seen = s; made = made }) seen
 
-within : (steps : List Step) (waiting : Option Step) → length steps ≤ length (with_waiting steps waiting)
+pub within : (steps : List Step) (waiting : Option Step) → length steps ≤ length (with_waiting steps waiting)
 within steps None = omega arith
 within steps (Some step) = omega (arith, length-append steps (step ∷ []))
 

@@ -2,6 +2,8 @@
 pub mod Engines
 -- what a commit through an engine says
 pub mod Answers
+-- what the end of a job through an engine says
+pub mod Reshapes
 -- what the end of an engine says
 pub mod Closings
 -- what a token and a note have: a beginning of the history of an index

@@ -5,20 +5,27 @@ ghost use Rattle.doc_types.specs.Schemas.{IsSchema};
 ghost use Rattle.doc_types.specs.Transactions.{IsTxnOf};
 ghost use Rattle.step_line.specs.Lines.{new_line};
 ghost use Rattle.store_keep.specs.Keepers.{IsSound};
+ghost use Rattle.job_chunks.specs.Chunks.{IsNewChunk};
+ghost use Rattle.job_states.specs.States.{HasSeen};
 ghost use Rattle.store_keep.specs.Commits.{strayed_after};
+ghost use Rattle.store_keep.specs.Installs.{strayed_after_job};
 ghost use Rattle.store_keep.specs.Tellings.{AreTokensOf};
 ghost use Rattle.snap_share.specs.Closings.{Closes, WasTold};
 ghost use Rattle.snap_share.specs.Answers.{Answers};
+ghost use Rattle.snap_share.specs.Reshapes.{ReshapeAnswers};
 
 use chunk_store::Disk;
 use commit_outcomes::Strayed;
 use doc_types::Txn;
+use job_chunks::NewChunk;
 use srch_base::Or;
 use std::marker::Model;
 use std::sync::Wait;
 use step_book::Naming;
 use step_tokens::{Note, Token};
-use store_keep::{CommitFault, Committed, Keeper, a_crash_between_calls_leaves_the_documents};
+use store_keep::{
+    CommitFault, Committed, InstallFault, Keeper, a_crash_between_calls_leaves_the_documents,
+};
 
 /// The keeper of an index between calls. Contracts see the number of the index.
 pub(crate) struct Held<D: Disk, J: Naming> {
@@ -50,6 +57,19 @@ fn held_after<J: Naming>(
 {
     match answer {
         Err(CommitFault::Strayed(numbers)) => held.or(Some(*numbers)),
+        _ => held,
+    }
+}
+
+/// The same after the answer of a job.
+fn held_after_job<J: Naming>(
+    held: Option<Strayed>,
+    answer: &Result<Note<J>, InstallFault<J>>,
+) -> Option<Strayed>
+    ensures { result ≡ strayed_after_job held answer.now }
+{
+    match answer {
+        Err(InstallFault::Strayed(numbers)) => held.or(Some(*numbers)),
         _ => held,
     }
 }
@@ -101,6 +121,31 @@ impl<D: Disk, J: Naming> Held<D, J> {
         }
         let result = self.keeper.commit(rt, worker, token, txn);
         self.strayed = held_after(self.strayed, &result);
+        let _after = token.len();
+        result
+    }
+
+    /// Installs the chunk of a job. That the token is of another index, or of no worker here, can't come, and is answered as want of
+    /// memory.
+    #[tactic(auto, using(crate::proofs::Sharing::stays))]
+    pub(crate) fn reshape<R: Wait>(
+        &mut self,
+        rt: &R,
+        token: &mut Token<J>,
+        new: NewChunk,
+    ) -> Result<Note<J>, InstallFault<J>>
+        requires own { 0 < token.old.worker }
+        requires seen { HasSeen (J.base token.old.index) token.old.seen new.from }
+        requires chunk { IsNewChunk (J.schema token.old.index) new }
+        ensures { ReshapeAnswers (J.schema token.old.index) (J.base token.old.index) token.old new result token.new }
+    {
+        // The clauses of a token's length say that what it has seen is good.
+        let _before = token.len();
+        if token.index() != self.index || self.workers < token.worker() {
+            return Err(InstallFault::NoMemory);
+        }
+        let result = self.keeper.install(rt, token, new);
+        self.strayed = held_after_job(self.strayed, &result);
         let _after = token.len();
         result
     }

@@ -5,6 +5,7 @@ mod engine;
 mod held;
 
 pub use engine::Engine;
+pub use job_chunks::NewChunk;
 pub use step_book::Naming;
 pub use step_tokens::{Note, Token, learn, snapshot};
-pub use store_keep::{CommitFault, Committed, Doubt, Opened, StoreFault};
+pub use store_keep::{CommitFault, Committed, Doubt, InstallFault, Opened, StoreFault};

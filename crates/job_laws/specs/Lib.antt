@@ -1,0 +1,2 @@
+-- what the files have once a job has ended
+pub mod Endings

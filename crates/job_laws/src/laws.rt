@@ -1,0 +1,35 @@
+//! The laws.
+ghost use Rattle.std.specs.Prelude.{◌≡◌, ◌++◌, ◌∷◌, [], None, List};
+ghost use Rattle.chunk_store.specs.Images.{Image};
+ghost use Rattle.job_chunks.specs.Chunks.{IsNewChunk};
+ghost use Rattle.step_history.specs.History.{Step, last_snapshot};
+ghost use Rattle.store_steps.specs.Kept.{GivesEither};
+ghost use Rattle.store_keep.specs.Keepers.{IsSound};
+ghost use Rattle.job_laws.specs.Endings.{EndsIn, end_behind};
+
+use chunk_store::Disk;
+use job_chunks::NewChunk;
+use step_book::Naming;
+use store_keep::Keeper;
+
+/// Where the history ends with the end of a job, as it does once `install` has answered a note, the root's own state is the job's: it
+/// has the commits up to that of the snapshot over which the job began, and names the chunks that stayed, and behind them the new
+/// one, if the job made one. FLUSH leaves all chunks, and makes one where a row lived in memory; OPTIMIZE leaves none, and makes one
+/// where a row lived. Whatever a crash leaves has these chunks in the files that the state names, and the new one byte by byte; and
+/// where no state is in doubt, as none is after a root that was replaced, it has this root.
+pub fn a_job_that_ended_stands_in_the_files<D: Disk, J: Naming>(
+    keeper: &Keeper<D, J>,
+    new: &NewChunk,
+)
+    requires sound { IsSound D.Disk J.schema J.base keeper.now }
+    requires none { keeper.now.kept.line.waiting ≡ None }
+    requires chunk { IsNewChunk (J.schema keeper.now.kept.line.index) new.now }
+    ensures { (before : List Step) → keeper.now.kept.line.history ≡ before ++ end_behind (J.base keeper.now.kept.line.index) before new.now ∷ [] → EndsIn D.Disk (J.schema keeper.now.kept.line.index) (last_snapshot (J.base keeper.now.kept.line.index) before) new.now keeper.now.kept.files keeper.now.kept.disk }
+{}
+
+/// In any state between calls, whatever a crash leaves gives the documents of the history, or of the history and the step that waits,
+/// be that a commit or the end of a job.
+pub fn a_step_that_waits_or_not_survives_a_crash<D: Disk, J: Naming>(keeper: &Keeper<D, J>)
+    requires { IsSound D.Disk J.schema J.base keeper.now }
+    ensures { (x : Image) → D.may_leave keeper.now.kept.disk x → GivesEither (J.schema keeper.now.kept.line.index) (J.base keeper.now.kept.line.index) keeper.now.kept.line.history keeper.now.kept.line.waiting x }
+{}
