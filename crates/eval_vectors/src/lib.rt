@@ -19,6 +19,8 @@ mod pages;
 #[cfg(test)]
 mod queries;
 #[cfg(test)]
+mod ranked;
+#[cfg(test)]
 mod rows;
 #[cfg(test)]
 mod sets;

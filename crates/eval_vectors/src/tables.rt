@@ -3,6 +3,7 @@ use crate::conditions::put_condition;
 use crate::facets::put_facet;
 use crate::groups::put_group;
 use crate::pages::put_page;
+use crate::ranked::put_ranked;
 use crate::shown::put_shown;
 use crate::weights::put_case;
 use std::alloc::Global;
@@ -12,6 +13,8 @@ use std::test::Fail;
 pub(crate) enum Trial {
     /// Hits and weights, which come to the weights that rankers give.
     Weights,
+    /// Hits, weights, values and an expression, which come to the weight that it gives.
+    Ranked,
     /// A condition, which comes to the rows of which it holds.
     Condition,
     /// A page of the rows of this name.
@@ -28,6 +31,7 @@ pub(crate) enum Trial {
 fn put_told(alloc: Global, text: &str, trial: &Trial, into: &mut String) -> Option<()> {
     match trial {
         Trial::Weights => put_case(alloc, text, into),
+        Trial::Ranked => put_ranked(alloc, text, into),
         Trial::Condition => put_condition(alloc, text, into),
         Trial::Page(rows) => put_page(alloc, text, rows, into),
         Trial::Groups => put_group(alloc, text, into),

@@ -2,6 +2,7 @@
 ghost use Rattle.std.specs.Prelude.{IsTrue, IsFalse, All, AllPairs};
 ghost use Rattle.rankers.specs.Weight.{AreRanked, Differ, IsRanked};
 
+use crate::ranked::RANKED;
 use crate::tables::{Trial, try_tables};
 use doc_types::{Hit, Hits, MAX_POSITION};
 use rankers::{Ranker, Weights, weight};
@@ -109,7 +110,7 @@ fn has_place(hits: &[Hit], hit: &Hit) -> bool
 }
 
 /// Whether the hits can be ranked by these weights.
-fn are_ranked(hits: &Hits, weights: &Weights) -> bool
+pub(crate) fn are_ranked(hits: &Hits, weights: &Weights) -> bool
     ensures { IsTrue result → AreRanked hits.now weights.now.list }
 {
     let list = hits.list.as_slice();
@@ -173,7 +174,7 @@ fn hit(text: &str) -> Option<Hit> {
 }
 
 /// The hits of a case.
-fn hits_in(alloc: Global, text: &str) -> Option<Items<Hit>> {
+pub(crate) fn hits_in(alloc: Global, text: &str) -> Option<Items<Hit>> {
     let mut list = Vec::new(alloc);
     for word in text.split_whitespace() {
         list.push(hit(word)?).ok()?;
@@ -182,7 +183,7 @@ fn hits_in(alloc: Global, text: &str) -> Option<Items<Hit>> {
 }
 
 /// The weights of the fields of a case.
-fn weights_in(alloc: Global, text: &str) -> Option<Weights> {
+pub(crate) fn weights_in(alloc: Global, text: &str) -> Option<Weights> {
     let mut list = Vec::new(alloc);
     for word in text.split_whitespace() {
         list.push(word.parse::<u32>().ok()?).ok()?;
@@ -206,6 +207,10 @@ pub(crate) fn put_case(alloc: Global, text: &str, into: &mut String) -> Option<(
 fn weights_are_those_worked_out_by_hand(rt: HostRuntime) -> Result<(), Fail> {
     try_tables(
         rt.alloc(),
-        &[(CASES, Trial::Weights), (GREATEST, Trial::Weights)],
+        &[
+            (CASES, Trial::Weights),
+            (GREATEST, Trial::Weights),
+            (RANKED, Trial::Ranked),
+        ],
     )
 }

@@ -1,8 +1,10 @@
-//! Tests by tables of bytes from outside over what is kept: posting lists, transactions and schemas.
+//! Tests by tables of bytes from outside over what is kept: posting lists, transactions, schemas and images of chunks.
 #![tactic(auto)]
 
 #[cfg(test)]
 mod codes;
+#[cfg(test)]
+mod images;
 #[cfg(test)]
 mod payloads;
 #[cfg(test)]

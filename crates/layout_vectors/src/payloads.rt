@@ -5,6 +5,7 @@ ghost use Rattle.doc_types.specs.Schemas.{IsSchema};
 ghost use Rattle.doc_types.specs.Transactions.{IsTxnOf};
 ghost use Rattle.index_conf.specs.Soundness.{IsSound};
 
+use crate::images::put_opened;
 use crate::tables::LONG;
 use crate::telling::put_written;
 use crate::transactions::put_told;
@@ -160,6 +161,7 @@ fn put_of_columns(
         "payload" => put_payload(alloc, schema, bytes, told),
         "insertion" => put_insertion(alloc, schema, bytes, told),
         "fronts" => put_fronts(alloc, schema, bytes, told),
+        "image" => put_opened(alloc, schema, bytes, told),
         "columns" => put_written(are_columns(alloc, schema, bytes), told),
         _ => None,
     }

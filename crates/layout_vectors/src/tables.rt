@@ -170,3 +170,75 @@ pub(crate) const COLUMNS: &str = "
 columns short 6669656c64207469746c650a ⇒ written
 columns kinds 6669656c64207469746c650a6669656c6420626f64790a75696e7420610a626f6f6c20620a626967696e7420630a74696d657374616d7020640a ⇒ written
 ";
+
+/// The image of document 7 with the title `hello world`, as FILES.md draws it: 99 bytes.
+///
+/// ```text
+///  0  header: 1 row, 1 field, no attribute, 2 words; 3 bytes of marks, 12 of the dictionary, 8 of postings
+/// 32  the row: id 7, commit 1, marks at 0
+/// 52  marks: last position 2, no boundary, no span
+/// 55  word table: `hello` at 0, in 1 row, list at 0; 67 `world` at 6, in 1 row, list at 4
+/// 79  dictionary: `hello`; 85 `world`
+/// 91  postings: row 0, 2 bytes, 1 hit, position 1; 95 the same with position 2
+/// ```
+pub(crate) const IMAGE: &str = "\
+53524348554e4b31010000000100000002000000030000000c00000008000000\
+0700000000000000010000000000000000000000\
+020000000000000100000000000000060000000100000004000000\
+0568656c6c6f05776f726c640102010101020102";
+
+/// Images, and where they are damaged first, worked out by hand from the layout: the example with other bytes from a place on, cut, or
+/// with bytes behind its end.
+pub(crate) const IMAGES: &str = "
+the example | changed 99 - ⇒ ok
+no row | image short 53524348554e4b31000000000100000000000000000000000000000000000000 ⇒ ok
+another id | changed 32 08 ⇒ ok
+another commit | changed 40 ff ⇒ ok
+no byte | cut 0 - ⇒ 0: magic
+a part of the magic | cut 7 - ⇒ 0: magic
+no header | cut 8 - ⇒ 8: sizes
+a part of the header | cut 31 - ⇒ 8: sizes
+the header | cut 32 - ⇒ 8: sizes
+one byte less | cut 98 - ⇒ 8: sizes
+one byte more | changed 99 00 ⇒ 8: sizes
+another version | changed 7 32 ⇒ 0: magic
+two rows | changed 8 02 ⇒ 8: sizes
+two fields | changed 12 02 ⇒ 8: sizes
+an attribute | changed 14 01 ⇒ 8: sizes
+three words | changed 16 03 ⇒ 8: sizes
+longer marks | changed 20 04 ⇒ 8: sizes
+a byte of the dictionary counted to marks | changed 20 040000000b ⇒ 52: marks
+other columns | image long 53524348554e4b31000000000100000000000000000000000000000000000000 ⇒ 8: sizes
+marks told elsewhere | changed 48 01 ⇒ 52: marks
+a longer spelling in marks | changed 52 8200 ⇒ 52: marks
+a boundary at no position | changed 53 01 ⇒ 52: marks
+a last position before the last word | changed 52 01 ⇒ 32: cover
+a last position behind the last word | changed 52 03 ⇒ 32: cover
+a word told elsewhere | changed 55 01 ⇒ 55: word table
+in no row | changed 59 00 ⇒ 55: word table
+in more rows than there are | changed 59 02 ⇒ 55: word table
+a list told elsewhere | changed 63 01 ⇒ 55: word table
+the second word told elsewhere | changed 67 05 ⇒ 67: word table
+the second list told elsewhere | changed 75 05 ⇒ 67: word table
+a shorter word | changed 79 04 ⇒ 67: word table
+an empty word | changed 79 00 ⇒ 67: word table
+a word behind the end | changed 85 06 ⇒ 67: word table
+a byte behind the last word | changed 85 04 ⇒ 67: word table
+a longer hit list | changed 92 03 ⇒ 67: word table
+a shorter hit list | changed 92 01 ⇒ 67: word table
+no text | changed 80 ff ⇒ 79: word order
+a word twice | changed 86 68656c6c6f ⇒ 85: word order
+a word before the one before | changed 80 78 ⇒ 85: word order
+no row to go on by | changed 91 00 ⇒ 91: postings
+a row that isn't there | changed 91 02 ⇒ 91: postings
+no hit | changed 93 00 ⇒ 91: postings
+a hit too many | changed 93 02 ⇒ 91: postings
+a hit twice | changed 94 00 ⇒ 91: postings
+the second list, a row that isn't there | changed 95 02 ⇒ 95: postings
+the second list, a shorter hit list | changed 96 01 ⇒ 95: postings
+the second list, a hit list behind the end | changed 96 03 ⇒ 95: postings
+the second list, a hit that is cut | changed 98 83 ⇒ 95: postings
+two words at a position | changed 94 02 ⇒ 32: cover
+two words at the first position | changed 98 01 ⇒ 32: cover
+a word behind the last position | changed 98 03 ⇒ 32: cover
+";

@@ -1,7 +1,8 @@
 //! The loop over the rows of the tables: what each tells is compared with what it says.
 use crate::codes::{put_hits_at, put_number_at};
+use crate::images::{put_changed, put_cut};
 use crate::payloads::{put_damaged, put_of_index};
-use crate::tables::{COLUMNS, DAMAGE, HITS, LONG, NUMBERS, PAYLOADS, SHORT};
+use crate::tables::{COLUMNS, DAMAGE, HITS, IMAGES, LONG, NUMBERS, PAYLOADS, SHORT};
 use std::alloc::Global;
 use std::test::Fail;
 
@@ -22,16 +23,20 @@ insertion short SHORT ⇒ put 7 [] {hello@1 world@2 }; written
 fronts short SHORT ⇒ 0 0 0 0 4 5 5 5 5 5 5 5 5 13 13 13 13 17 18 19 19 19 19 19 24 25 26 26 26 26 26 31 31 31 30 end
 no kind | damage 4 00 ⇒ 5
 columns short 6669656c64207469746c65 ⇒ written
+changed 52 01 ⇒ ok
+changed 52 01 ⇒ 52: marks
+cut 99 - ⇒ 8: sizes
 columns kinds 6669656c64207469746c650a ⇒ written
 ";
 
 /// The tables, and whether their rows are right.
-const TABLES: [(&str, bool); 6] = [
+const TABLES: [(&str, bool); 7] = [
     (NUMBERS, true),
     (HITS, true),
     (PAYLOADS, true),
     (DAMAGE, true),
     (COLUMNS, true),
+    (IMAGES, true),
     (WRONG, false),
 ];
 
@@ -99,6 +104,8 @@ fn tell_bytes(
     match kind {
         "number" => put_number_at(alloc, bytes, word.parse::<usize>().ok()?, told),
         "hits" => put_hits_at(alloc, bytes, word.parse::<usize>().ok()?, told),
+        "changed" => put_changed(alloc, word.parse::<usize>().ok()?, bytes, told),
+        "cut" => put_cut(alloc, word.parse::<usize>().ok()?, told),
         "damage" => put_damaged(alloc, word.parse::<usize>().ok()?, bytes, told),
         _ => put_of_index(alloc, kind, word, bytes, told),
     }

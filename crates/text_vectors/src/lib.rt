@@ -1,9 +1,11 @@
 //! Tests by tables of values from outside over what no run of the program shows of character tables, tables of words, marks,
-//! tokens and the trees of queries, whose crates are proved once without them.
+//! tokens, ranking expressions and the trees of queries, whose crates are proved once without them.
 #![tactic(auto)]
 
 #[cfg(test)]
 mod character_tables;
+#[cfg(test)]
+mod expressions;
 #[cfg(test)]
 mod marks;
 #[cfg(test)]
