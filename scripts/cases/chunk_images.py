@@ -12,6 +12,8 @@ HEADER = 32
 WORD_ENTRY = 12
 LAST_POSITION = 65535
 LONGEST_WORD = 168
+LAST_ZONE = 65535
+MOST_FIELDS = 32
 IN_FIELD = 65536
 SENTENCE, PARAGRAPH = 0, 1
 
@@ -81,14 +83,14 @@ class Taken:
         return self.data[self.at - size : self.at]
 
     def short(self):
-        """A short number."""
+        """A short number, which has 32 bits."""
         value = shift = 0
         while True:
             (byte,) = self.bytes(1)
             value |= (byte & 0x7F) << shift
             shift += 7
             if byte < 0x80:
-                if byte == 0 and shift > 7:
+                if byte == 0 and shift > 7 or value >= 2**32:
                     raise Unreadable
                 return value
 
@@ -164,12 +166,12 @@ def read_field(taken):
 
 
 def read_spans(schema, taken, fields):
-    """The spans of the marks: ascending, each of a field and zone that are there, between two positions of words."""
+    """The spans of the marks: ascending, each of a field that is there, between two positions of words."""
     before = None
     for _ in range(taken.short()):
         field, zone, first, more = (taken.short() for _ in range(4))
         span = Span(field, first, first + more, zone)
-        if field >= schema.fields or zone >= schema.zones or (before and span <= before):
+        if field >= schema.fields or zone > LAST_ZONE or (before and span <= before):
             raise Unreadable
         has = fields[field]
         if first == 0 or span.last > has.last or first in has.gaps or span.last in has.gaps:
@@ -256,6 +258,11 @@ def ascending(taken, count, before):
         yield before
 
 
+def is_hit(hit):
+    """Whether it is of a field and a position that some index may have."""
+    return hit < MOST_FIELDS * IN_FIELD and hit % IN_FIELD > 0
+
+
 def read_list(taken, documents, rows):
     """The list of a word: the hits of each row."""
     found, row = {}, -1
@@ -266,7 +273,7 @@ def read_list(taken, documents, rows):
         if row >= rows or count == 0:
             raise Unreadable
         found[row] = list(ascending(hits, count, 0))
-        if not hits.is_done():
+        if not hits.is_done() or not all(map(is_hit, found[row])):
             raise Unreadable
     return found
 

@@ -11,9 +11,6 @@ NAMED = "one: directories that others begin with"
 TEXTS = ("How it is written", "Indexes", "What the rules are")
 
 DOCUMENTS = r"none|\d+ born \d+ (?:\([^()]*\))+[^;()]*(?:; \d+ born \d+ (?:\([^()]*\))+[^;()]*)*"
-# Whether the program reads the files of chunks. Until it does, it answers out of memory where a root names one, and where logs end
-# below `through`; the page has what they stand for.
-READS_CHUNKS = False
 IN_CHUNKS = r"chunk missing|chunk length|magic|sizes|row order|marks|word table|word order|postings|cover|dead rows|born|id twice"
 DAMAGE = rf"\d+ at \d+: (?:(?:root|log|record) \w+|{IN_CHUNKS})"
 STANDS = rf"empty index|{DAMAGE}|number \d+, through \d+, above \d+(?:, chunks \d+)?: (?:{DOCUMENTS})"

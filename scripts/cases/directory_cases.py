@@ -7,7 +7,7 @@ At the top of the repository: python3 -m scripts.cases.directory_cases [--check]
 import re
 import sys
 
-from scripts.cases.directories import DOCUMENT, READS_CHUNKS, directories, written_out
+from scripts.cases.directories import DOCUMENT, directories, written_out
 from scripts.cases.tables import constant, run
 
 FILE = "crates/directory_vectors/src/directories.rt"
@@ -57,7 +57,7 @@ def hidden(documents):
 def lines_of(directory):
     """The lines of the directories of a row that has documents."""
     found = STANDS.fullmatch(directory.stands)
-    if not found or found[2] and not READS_CHUNKS:
+    if not found:
         return
     above, _, documents = found.groups()
     told = f"{documents.count('; ') + 1} {above}{hidden(documents)}"

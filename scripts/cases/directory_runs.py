@@ -23,13 +23,12 @@ from pathlib import Path
 
 from scripts.cases.case_pages import Step
 from scripts.cases.case_sessions import over_pipes
-from scripts.cases.directories import DOCUMENT, READS_CHUNKS, directories, written_out
+from scripts.cases.directories import DOCUMENT, directories, written_out
 from scripts.cases.runs import finish, lost, options, program_of, side_by_side
 from scripts.cases.shown_documents import Documents, configuration, schema_of
-from scripts.cases.stored import is_unread, stands_for
+from scripts.cases.stored import stands_for
 
 KNOWN = {DOCUMENT: 1304}
-UNREAD = "6 searchd: out of memory\n"
 # The document that is put last, and the number behind which there is none.
 PUT = 77
 LAST_NUMBER = 2**63 - 1
@@ -108,20 +107,19 @@ def run(program, directory, files):
 
 def opened_by(program, directory, files):
     """What is wrong with what the program makes of a directory of these files."""
-    unread = not READS_CHUNKS and is_unread({int(file): data for file, data in files.items()}, directory.stands)
     with tempfile.TemporaryDirectory(prefix="directory_runs.") as folder:
         folder = Path(folder)
         (folder / directory.index).mkdir()
         for name, data in files.items():
             (folder / directory.index / name).write_bytes(data)
         try:
-            if not unread and re.match("number|empty", directory.stands):
+            if re.match("number|empty", directory.stands):
                 return opened(program, folder, directory)
             (folder / "conf").write_text(configuration(directory.index, "a"), encoding="utf8")
             found = check(program, folder)
         except (AssertionError, OSError, ValueError, subprocess.SubprocessError) as why:
             return [f"{directory.place}: {why}"]
-    wanted = UNREAD if unread else f"5 searchd: index {directory.index}: file {directory.stands}\n"
+    wanted = f"5 searchd: index {directory.index}: file {directory.stands}\n"
     return [] if found == wanted else [f"{directory.place}: {found}, wanted {wanted}"]
 
 

@@ -22,7 +22,7 @@ from scripts.cases.drawn_images import changed, drawn
 from scripts.cases.image_page import DOCUMENT, Case, cases
 from scripts.cases.runs import finish, lost, options, program_of, side_by_side
 
-KNOWN = {DOCUMENT: 298}
+KNOWN = {DOCUMENT: 301}
 INDEX = "pieces"
 # The files that the root names, and the last commit that is in the chunk.
 OLDER, CHUNK, NEWER, NEXT = 2, 3, 4, 5

@@ -310,16 +310,3 @@ def stands_for(schema, text, files):
     chunks = f", chunks {len(state.chunks)}" if state.chunks else ""
     found = "; ".join(told(its_id, documents[its_id]) for its_id in sorted(documents))
     return f"number {last}, through {state.through}, above {above}{chunks}: {found or 'none'}"
-
-
-def is_unread(files, stands):
-    """Whether a program that reads no chunks can't say what a directory stands for: its root, of the index's columns, names one, or
-    its logs end below `through`."""
-    try:
-        root = read_root(files)
-    except Wrong:
-        return False
-    if root is None or stands.endswith("root schema"):
-        return False
-    ended = re.fullmatch(r"(\d+) at (\d+): record number", stands)
-    return bool(root[2].chunks) or bool(ended) and files[int(ended[1])][int(ended[2])] != 1
