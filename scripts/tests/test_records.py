@@ -7,7 +7,7 @@ from scripts.cases.directories import Directory, change, cut, digits, directorie
 from scripts.cases.directory_runs import read_otherwise
 from scripts.cases.image_runs import root
 from scripts.cases.log_records import Found, Words, first_document
-from scripts.cases.stored import is_unread, stands_for
+from scripts.cases.stored import stands_for
 
 # the log that docs/FILES.md draws
 LOG = bytes.fromhex(
@@ -103,6 +103,3 @@ class Stored(unittest.TestCase):
         ):
             found = stands_for(schema, text, files)
             self.assertEqual(found, wanted or "number 1, through 1, above 0, chunks 1: 7 born 1 (a ¶ \\u{436})")
-        self.assertTrue(is_unread(named, "3 at 0: chunk length"))
-        self.assertFalse(is_unread(named, "0 at 13: root schema"))
-        self.assertFalse(is_unread({}, "empty index"))
