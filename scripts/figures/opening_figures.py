@@ -15,12 +15,10 @@ being given:
 """
 
 import argparse
-import os
 import re
 import subprocess
 import sys
 import tempfile
-import time
 from pathlib import Path
 
 from scripts.cases.chunk_images import MAGIC, little, places, short
@@ -28,7 +26,7 @@ from scripts.cases.image_runs import CLOSED, root
 from scripts.clients.daemon import COLUMNS, Daemon
 from scripts.figures import hundred_words as documents
 
-INDEX = "goods"
+INDEX = "rt"
 ROW = re.compile(r"\((\d+), '(.*)', '(.*)', (\d+), (\d+), (\d+), (\d+)\)")
 # The files of the folder with chunks: two logs, and chunks from the third on.
 OLDER, NEWER, FIRST = 2, 3, 4
@@ -113,14 +111,22 @@ def write_log(daemon, docs):
     daemon.kill()
 
 
+# A process that is started counts the memory of the one that started it among its own, so a small one starts the program.
+STARTER = """
+import os, subprocess, sys, time
+begun = time.perf_counter()
+process = subprocess.Popen(sys.argv[1:])
+_, _, used = os.wait4(process.pid, 0)
+print(used.ru_utime + used.ru_stime, time.perf_counter() - begun, used.ru_maxrss * 1024)
+"""
+
+
 def opened(command):
     """What `check` says, its seconds of processors and by the clock, and the most bytes of memory."""
-    begun = time.perf_counter()
-    with subprocess.Popen(command, stdout=subprocess.PIPE) as process:
-        said = process.stdout.read().decode().strip()
-        _, status, used = os.wait4(process.pid, 0)
-        process.returncode = os.waitstatus_to_exitcode(status)
-    return said, used.ru_utime + used.ru_stime, time.perf_counter() - begun, used.ru_maxrss * 1024
+    ran = subprocess.run([sys.executable, "-c", STARTER, *command], stdout=subprocess.PIPE, check=True, text=True)
+    said, figures = ran.stdout.strip().split("\n")
+    worked, waited, memory = map(float, figures.split())
+    return said, worked, waited, memory
 
 
 def told(name, command, docs):
