@@ -1,12 +1,12 @@
-//! The script of commits, stopped after each call of the disk with each outcome of a crash, and opened again: it has the documents
-//! after all commits that were acknowledged before, and maybe those of the one on its way. It is stopped again while it is opened.
+//! The script, stopped after each call of the disk with each outcome of a crash, and opened again: it has the documents after all
+//! steps that were acknowledged before, and maybe those of the one on its way. It is stopped again while it is opened.
 ghost use Rattle.doc_types.specs.Schemas.{IsSchema};
 ghost use Rattle.std.specs.Prelude.{◌≡◌};
 ghost use Rattle.directory_vectors.specs.Ready.{plain};
 
 use crate::opening::{gives, is_wanted, reopened};
 use crate::running::run;
-use crate::scripts::{COMMITS, first_txns, left_after, schema};
+use crate::scripts::{SCRIPT, STEPS, first_steps, left_after, schema};
 use chunk_store::MemoryDisk;
 use doc_types::Schema;
 use std::alloc::Global;
@@ -16,7 +16,7 @@ use std::thread::Threads;
 /// How many outcomes of a crash are tried.
 pub(crate) const OUTCOMES: u8 = 4;
 
-/// None where a disk that was opened gives something else after a crash at a moment of opening.
+/// None where a disk that was opened gives something else after a crash at a moment of opening than was said of it.
 fn gives_again<R: Threads + Wait>(
     rt: &R,
     alloc: Global,
@@ -28,9 +28,10 @@ fn gives_again<R: Threads + Wait>(
     requires { IsSchema schema.now }
 {
     is_wanted(wanted, said)?;
+    let found = said.clone().ok()?;
     for calls in 0..=disk.calls() {
         for pick in 0..OUTCOMES {
-            gives(rt, alloc, disk, (calls, pick), schema, wanted, said)?;
+            gives(rt, alloc, disk, (calls, pick), schema, found.as_str(), said)?;
         }
     }
     Some(())
@@ -73,19 +74,19 @@ fn leaves_either<R: Threads + Wait>(
     Some(())
 }
 
-/// The disk after the first commits of the script, of which is said what it tells.
+/// The disk after the first steps of the script, of which is said what it tells.
 fn disk_after<R: Threads + Wait>(
     rt: &R,
     alloc: Global,
-    commits: usize,
+    count: usize,
     schema: &Schema,
     said: &mut String,
 ) -> Option<MemoryDisk>
     requires { schema.now ≡ plain }
 {
-    let txns = first_txns(alloc, commits)?;
+    let steps = first_steps(alloc, SCRIPT, count)?;
     let fresh = MemoryDisk::new(alloc, Vec::new(alloc));
-    Some(run(rt, alloc, fresh, schema, txns.as_slice(), said))
+    Some(run(rt, alloc, fresh, schema, steps.as_slice(), said))
 }
 
 /// None where a crash behind any of the calls of the whole script leaves something else than it may.
@@ -99,21 +100,21 @@ fn leaves_all<R: Threads + Wait>(
     requires { schema.now ≡ plain }
 {
     let mut from = 0;
-    for commits in 0..=COMMITS {
-        let (before, after) = (left_after(commits.saturating_sub(1))?, left_after(commits)?);
-        let to = disk_after(rt, alloc, commits, schema, said)?.calls();
+    for count in 0..=STEPS {
+        let (before, after) = (left_after(count.saturating_sub(1))?, left_after(count)?);
+        let to = disk_after(rt, alloc, count, schema, said)?.calls();
         for calls in from..to {
             leaves_either(rt, alloc, whole, calls, schema, (before, after), said)?;
         }
         from = to;
     }
-    let last = left_after(COMMITS)?;
+    let last = left_after(STEPS)?;
     leaves_either(rt, alloc, whole, from, schema, (last, last), said)
 }
 
 /// None where a crash leaves something else than what was acknowledged; then that is said.
 pub(crate) fn are_left<R: Threads + Wait>(rt: &R, alloc: Global, said: &mut String) -> Option<()> {
     let schema = schema(alloc);
-    let whole = disk_after(rt, alloc, COMMITS, &schema, said)?;
+    let whole = disk_after(rt, alloc, STEPS, &schema, said)?;
     leaves_all(rt, alloc, &whole, &schema, said)
 }

@@ -1,43 +1,51 @@
 //! Each call of the disk fails once, and the script goes on: one call at most says so, and all commits that were made are there,
-//! with one in doubt in its place.
+//! with one in doubt in its place. No job that failed changes documents.
 ghost use Rattle.std.specs.Prelude.{◌≡◌, All};
-ghost use Rattle.directory_vectors.specs.Ready.{plain};
+ghost use Rattle.directory_vectors.specs.Ready.{IsStepOf, plain};
 ghost use Rattle.doc_types.specs.Schemas.{IsSchema};
-ghost use Rattle.doc_types.specs.Transactions.{IsTxnOf};
 
 use crate::crashes::OUTCOMES;
 use crate::opening::gives;
 use crate::running::run;
-use crate::scripts::{COMMITS, first_txns, schema};
+use crate::scripts::{SCRIPT, STEPS, first_steps, schema};
+use crate::step::Step;
 use chunk_store::MemoryDisk;
-use doc_types::{Schema, Txn};
+use doc_types::Schema;
 use std::alloc::Global;
 use std::sync::Wait;
 use std::thread::Threads;
 
 /// How many calls are let fail, one by one; the script has fewer.
-const CALLS: u64 = 60;
+const CALLS: u64 = 240;
 
 /// What the script may tell where a call fails, and what is there then, worked out by hand: a commit that the disk refuses isn't
-/// made, and one in doubt is; so is all where the disk fails once nothing is left to do.
+/// made, and one in doubt is; a job that fails may be begun anew, and one that fails while it replaces the root may be found.
 const TOLD: &str = "
-not opened ⇒ 0 0
-0 0 + + + + + - + - ⇒ 2 6; 6 born 6; 7 born 6
-0 0 ! + + + + - + - ⇒ 2 5; 6 born 5; 7 born 5
-0 0 + ! + + + - + - ⇒ 2 5; 6 born 5; 7 born 5
-0 0 + + ! + + - + - ⇒ 2 5; 6 born 5; 7 born 5
-0 0 + + + ! + - + - ⇒ 2 5; 6 born 5; 7 born 5
-0 0 + + + + ! + + - ⇒ 4 6; 6 born 6; 7 born 6; 8 born 4; 9 born 2
-0 0 + + + + + ! + - ⇒ 2 6; 6 born 6; 7 born 6
-0 0 + + + + + - ! - ⇒ 1 5; 5 born 5
-0 0 + + + + + - + ! ⇒ 2 6; 6 born 6; 7 born 6
-0 0 ? + + + + - + - ⇒ 2 6; 6 born 6; 7 born 6
-0 0 + ? + + + - + - ⇒ 2 6; 6 born 6; 7 born 6
-0 0 + + ? + + - + - ⇒ 2 6; 6 born 6; 7 born 6
-0 0 + + + ? + - + - ⇒ 2 6; 6 born 6; 7 born 6
-0 0 + + + + ? - + - ⇒ 2 6; 6 born 6; 7 born 6
-0 0 + + + + + - ? - ⇒ 2 6; 6 born 6; 7 born 6
-0 0 + + + + + - + - ! ⇒ 2 6; 6 born 6; 7 born 6
+not opened ⇒ 0 0 0
+0 0 0 + + # + + + + # ~ - + # - + # # + ⇒ 1 1 0; 3 born 9
+0 0 0 ! + # + + + + # ~ - + # - + # # + ⇒ 1 1 0; 3 born 8
+0 0 0 + ! # + + + + # ~ - + # - + # # + ⇒ 1 1 0; 3 born 8
+0 0 0 + + ! + + + + # ~ - + # - + # # + ⇒ 1 1 0; 3 born 9
+0 0 0 + + # ! + + + # ~ - + # - + # # + ⇒ 1 1 0; 3 born 8
+0 0 0 + + # + ! + + # ~ - + # - + # # + ⇒ 1 1 0; 3 born 8
+0 0 0 + + # + + ! + # ~ - + # - + # # + ⇒ 1 1 0; 3 born 8
+0 0 0 + + # + + + ! # ~ + + # - + # # + ⇒ 2 1 1; 3 born 9; 8 born 4
+0 0 0 + + # + + + + ! # - + # - + # # + ⇒ 1 1 0; 3 born 9
+0 0 0 + + # + + + + # ~ - ! # - + # # + ⇒ 2 1 1; 3 born 8; 5 born 6
+0 0 0 + + # + + + + # ~ - + ! - + # # + ⇒ 1 1 0; 3 born 9
+0 0 0 + + # + + + + # ~ - + # - ! # # + ⇒ 2 1 1; 3 born 8; 6 born 7
+0 0 0 + + # + + + + # ~ - + # - + ! # + ⇒ 1 1 0; 3 born 9
+0 0 0 + + # + + + + # ~ - + # - + # ! + ⇒ 1 1 2; 3 born 9 | 1 1 0; 3 born 9
+0 0 0 + + # + + + + # ~ - + # - + # # ! ⇒ 0 0 0
+0 0 0 ? + # + + + + # ~ - + # - + # # + ⇒ 1 1 0; 3 born 9
+0 0 0 + ? # + + + + # ~ - + # - + # # + ⇒ 1 1 0; 3 born 9
+0 0 0 + + # ? + + + # ~ - + # - + # # + ⇒ 1 1 0; 3 born 9
+0 0 0 + + # + ? + + # ~ - + # - + # # + ⇒ 1 1 0; 3 born 9
+0 0 0 + + # + + ? + # ~ - + # - + # # + ⇒ 1 1 0; 3 born 9
+0 0 0 + + # + + + ? # ~ - + # - + # # + ⇒ 1 1 0; 3 born 9
+0 0 0 + + # + + + + # ~ - ? # - + # # + ⇒ 1 1 0; 3 born 9
+0 0 0 + + # + + + + # ~ - + # - ? # # + ⇒ 1 1 0; 3 born 9
+0 0 0 + + # + + + + # ~ - + # - + # # ? ⇒ 1 1 0; 3 born 9
 ";
 
 /// What a disk is to give after this was told.
@@ -74,16 +82,16 @@ fn fails_well<R: Threads + Wait>(
     alloc: Global,
     call: u64,
     schema: &Schema,
-    txns: &[Txn],
+    steps: &[Step],
     said: &mut String,
 ) -> Option<()>
     requires schema { IsSchema schema.now }
-    requires of { All (IsTxnOf schema.now) txns.now }
+    requires of { All (IsStepOf schema.now) steps.now }
 {
     let failing = Vec::from_slice(alloc, &[call]).ok()?;
     let fresh = MemoryDisk::new(alloc, failing);
     said.clear();
-    let disk = run(rt, alloc, fresh, schema, txns, said);
+    let disk = run(rt, alloc, fresh, schema, steps, said);
     gives_all(rt, alloc, &disk, schema, said)
 }
 
@@ -92,14 +100,14 @@ fn all_fail_well<R: Threads + Wait>(
     rt: &R,
     alloc: Global,
     schema: &Schema,
-    txns: &[Txn],
+    steps: &[Step],
     said: &mut String,
 ) -> Option<()>
     requires schema { IsSchema schema.now }
-    requires of { All (IsTxnOf schema.now) txns.now }
+    requires of { All (IsStepOf schema.now) steps.now }
 {
     for call in 0..CALLS {
-        fails_well(rt, alloc, call, schema, txns, said)?;
+        fails_well(rt, alloc, call, schema, steps, said)?;
     }
     Some(())
 }
@@ -107,6 +115,6 @@ fn all_fail_well<R: Threads + Wait>(
 /// None where a failing call leaves something else than it may; then that is said.
 pub(crate) fn are_kept<R: Threads + Wait>(rt: &R, alloc: Global, said: &mut String) -> Option<()> {
     let schema = schema(alloc);
-    let txns = first_txns(alloc, COMMITS)?;
-    all_fail_well(rt, alloc, &schema, txns.as_slice(), said)
+    let steps = first_steps(alloc, SCRIPT, STEPS)?;
+    all_fail_well(rt, alloc, &schema, steps.as_slice(), said)
 }

@@ -34,10 +34,12 @@ pub(crate) fn reopened<R: Threads + Wait>(
     Some(run(rt, alloc, left, schema, &[], said))
 }
 
-/// None where something else was said than is wanted; then that follows.
+/// None where something else was said than is wanted, which may be one of several texts with ` | ` between; then that follows.
 pub(crate) fn is_wanted(wanted: &str, said: &mut String) -> Option<()> {
-    if said.as_str() == wanted {
-        return Some(());
+    for text in wanted.split(" | ") {
+        if said.as_str() == text {
+            return Some(());
+        }
     }
     said.push_str(" in place of ").ok()?;
     said.push_str(wanted).ok()?;

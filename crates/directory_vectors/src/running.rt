@@ -1,12 +1,16 @@
-//! A store is opened, transactions are committed, and the disk comes back. What is found and what becomes of each commit is told in
+//! A store is opened, the steps of a script are made, and the disk comes back. What is found and what becomes of each step is told in
 //! one text.
-ghost use Rattle.std.specs.Prelude.{◌≡◌, [], All};
-ghost use Rattle.directory_vectors.specs.Ready.{IsReady};
+ghost use Rattle.std.specs.Prelude.{◌≡◌, [], All, IfSome};
+ghost use Rattle.directory_vectors.specs.Ready.{IsOwn, IsReady, IsStepOf};
+ghost use Rattle.directory_vectors.specs.Seats.{AreSeats};
 ghost use Rattle.doc_types.specs.Schemas.{IsSchema};
 ghost use Rattle.doc_types.specs.Transactions.{IsTxnOf};
-ghost use Rattle.store_keep.specs.Opens.{HidesNothing, IsOpened, base_of};
+ghost use Rattle.store_keep.specs.Opens.{IsOpened, base_of};
 
 use crate::documents::put_snapshot;
+use crate::jobs::{begin, end, seated};
+use crate::seats::Seats;
+use crate::step::Step;
 use chunk_store::{Disk, MemoryDisk};
 use doc_types::{Schema, Snapshot, Txn};
 use image_chunk::AnyChunk;
@@ -37,11 +41,14 @@ fn commit<D: Disk, J: Naming, R: Wait>(
     token: &mut Token<J>,
     txn: &Txn,
 ) -> &'static str
-    requires ready { IsReady D.Disk J.schema J.base keeper.old token.old }
+    requires ready { IsReady D.Disk J.schema J.base keeper.old }
+    requires own { IsOwn token.old }
     requires of { IsTxnOf (J.schema 0) txn.now }
-    ensures { IsReady D.Disk J.schema J.base keeper.new token.new }
+    ensures ready { IsReady D.Disk J.schema J.base keeper.new }
+    ensures own { IsOwn token.new }
 {
-    let answer = keeper.commit(rt, 1, token, txn);
+    let worker = token.worker();
+    let answer = keeper.commit(rt, worker, token, txn);
     word_of(&answer)
 }
 
@@ -54,24 +61,71 @@ fn put_found<J: Naming>(alloc: Global, token: &mut Token<J>, into: &mut String) 
     put_snapshot(alloc, found, into)
 }
 
-/// Tells how many documents and records were found, and the documents; commits the transactions, and settles what waits then; where
-/// the disk fails, once more.
+/// Tells how many documents, records and chunks were found, and the documents.
+fn put_opened<D: Disk, J: Naming>(
+    alloc: Global,
+    keeper: &Keeper<D, J>,
+    token: &mut Token<J>,
+    into: &mut String,
+) -> Option<()>
+    ensures { (token.new.index ≡ token.old.index) × (token.new.worker ≡ token.old.worker) }
+{
+    let (documents, chunks) = keeper.opened();
+    let records = keeper.records();
+    write!(into, "{documents} {records} {chunks}").ok()?;
+    put_found(alloc, token, into)
+}
+
+/// Makes one step, and answers what became of it; that is nothing where a job begins.
+fn make<D: Disk, J: Naming, R: Wait>(
+    rt: &R,
+    alloc: Global,
+    keeper: &mut Keeper<D, J>,
+    seats: &mut Seats<J>,
+    step: &Step,
+) -> Option<&'static str>
+    requires ready { IsReady D.Disk J.schema J.base keeper.old }
+    requires seats { AreSeats (J.schema 0) (J.base 0) seats.old }
+    requires of { IsStepOf (J.schema 0) step.now }
+    ensures ready { IsReady D.Disk J.schema J.base keeper.new }
+    ensures seats { AreSeats (J.schema 0) (J.base 0) seats.new }
+{
+    match step {
+        Step::Commit(txn) => Some(commit(rt, keeper, &mut seats.commits, txn)),
+        Step::Job(job) => {
+            begin(alloc, &mut seats.first, *job)?;
+            Some(end(rt, keeper, &mut seats.first))
+        }
+        Step::Begin { second: false, job } => {
+            begin(alloc, &mut seats.first, *job)?;
+            Some("")
+        }
+        Step::Begin { second: true, job } => {
+            begin(alloc, &mut seats.second, *job)?;
+            Some("")
+        }
+        Step::End { second: false } => Some(end(rt, keeper, &mut seats.first)),
+        Step::End { second: true } => Some(end(rt, keeper, &mut seats.second)),
+    }
+}
+
+/// Tells what was found, makes the steps, and settles what waits then; where the disk fails, once more.
 fn run_ready<D: Disk, J: Naming, R: Wait>(
     rt: &R,
     alloc: Global,
     keeper: &mut Keeper<D, J>,
-    token: &mut Token<J>,
-    txns: &[Txn],
+    seats: &mut Seats<J>,
+    steps: &[Step],
     into: &mut String,
 ) -> Option<()>
-    requires ready { IsReady D.Disk J.schema J.base keeper.old token.old }
-    requires of { All (IsTxnOf (J.schema 0)) txns.now }
+    requires ready { IsReady D.Disk J.schema J.base keeper.old }
+    requires seats { AreSeats (J.schema 0) (J.base 0) seats.old }
+    requires of { All (IsStepOf (J.schema 0)) steps.now }
 {
-    let (documents, records) = (keeper.opened().0, keeper.records());
-    write!(into, "{documents} {records}").ok()?;
-    put_found(alloc, token, into)?;
-    for txn in txns {
-        into.push_str(commit(rt, keeper, token, txn)).ok()?;
+    put_opened(alloc, keeper, &mut seats.commits, into)?;
+    for step in steps {
+        let became = make(rt, alloc, keeper, seats, step)?;
+        into.push_str(became).ok()?;
     }
     if keeper.settle(rt).is_err() {
         into.push_str(" !").ok()?;
@@ -80,13 +134,29 @@ fn run_ready<D: Disk, J: Naming, R: Wait>(
     Some(())
 }
 
-/// Commits transactions over a store that was opened. Where there is no memory, less is told.
+/// Gives the tokens to those who make the steps.
+fn seats_of<J: Naming>(tokens: Vec<Token<J>>) -> Option<Seats<J>>
+    requires { All IsOwn tokens.items }
+    ensures { IfSome result (AreSeats (J.schema 0) (J.base 0)) }
+{
+    let mut tokens = tokens;
+    let commits = tokens.pop()?;
+    let first = seated(tokens.pop()?);
+    let second = seated(tokens.pop()?);
+    Some(Seats {
+        commits,
+        first,
+        second,
+    })
+}
+
+/// Makes the steps over a store that was opened. Where there is no memory, less is told.
 fn run_opened<D: Disk + Drop, J: Naming, R: Wait>(
     rt: &R,
     alloc: Global,
     opened: Opened<D>,
     schema: &Schema,
-    txns: &[Txn],
+    steps: &[Step],
     into: &mut String,
 ) -> D
     requires named { J.schema 0 ≡ schema.now }
@@ -94,12 +164,12 @@ fn run_opened<D: Disk + Drop, J: Naming, R: Wait>(
     requires base { J.base 0 ≡ base_of opened }
     requires schema { IsSchema (J.schema 0) }
     requires opened { IsOpened D.Disk (J.schema 0) opened }
-    requires of { All (IsTxnOf (J.schema 0)) txns.now }
+    requires of { All (IsStepOf (J.schema 0)) steps.now }
 {
-    match Keeper::<D, J>::named(rt, alloc, opened, 0, 1) {
-        Ok((mut keeper, mut tokens)) => {
-            if let Some(token) = tokens.first_mut() {
-                let _ = run_ready(rt, alloc, &mut keeper, token, txns, into);
+    match Keeper::<D, J>::named(rt, alloc, opened, 0, 3) {
+        Ok((mut keeper, tokens)) => {
+            if let Some(mut seats) = seats_of(tokens) {
+                let _ = run_ready(rt, alloc, &mut keeper, &mut seats, steps, into);
             }
             keeper.close(rt)
         }
@@ -107,21 +177,21 @@ fn run_opened<D: Disk + Drop, J: Naming, R: Wait>(
     }
 }
 
-/// Opens the store on a disk, and commits transactions.
+/// Opens the store on a disk, and makes the steps.
 pub(crate) fn run<R: Threads + Wait>(
     rt: &R,
     alloc: Global,
     disk: MemoryDisk,
     schema: &Schema,
-    txns: &[Txn],
+    steps: &[Step],
     into: &mut String,
 ) -> MemoryDisk
     requires fresh { disk.calls.items ≡ [] }
     requires schema { IsSchema schema.now }
-    requires of { All (IsTxnOf schema.now) txns.now }
+    requires of { All (IsStepOf schema.now) steps.now }
 {
     match Opened::open(rt, alloc, disk, schema) {
-        Ok(opened) => run_opened::<MemoryDisk, Brand, R>(rt, alloc, opened, schema, txns, into),
+        Ok(opened) => run_opened::<MemoryDisk, Brand, R>(rt, alloc, opened, schema, steps, into),
         Err((disk, _)) => {
             let _ = into.push_str("not opened");
             disk

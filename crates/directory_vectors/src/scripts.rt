@@ -1,35 +1,57 @@
-//! A script of commits over an index without columns.
+//! Scripts of commits and jobs over an index without columns.
 ghost use Rattle.std.specs.Prelude.{◌≡◌, [], IfSome, All};
-ghost use Rattle.directory_vectors.specs.Ready.{plain};
+ghost use Rattle.directory_vectors.specs.Ready.{IsStepOf, plain};
 ghost use Rattle.doc_types.specs.Transactions.{IsOpOf, IsTxnOf};
 
+use crate::step::Step;
 use doc_types::{Doc, Schema, Txn, TxnOp};
 use srch_base::{Items, Name};
 use std::alloc::Global;
+use step_history::Job;
 
-/// The commits, and what is there when the store is opened after each, worked out by hand: how many documents and commits, and the
-/// documents, each with the number of the commit that put it. `=7` puts an id, `+7` inserts it, `-7` removes it, and `*` removes
-/// all. Two insert an id that is there, so that they are refused.
-const SCRIPT: &str = "no commit ⇒ 0 0
-=7 ⇒ 1 1; 7 born 1
-=8 =9 ⇒ 3 2; 7 born 1; 8 born 2; 9 born 2
--7 ⇒ 2 3; 8 born 2; 9 born 2
-=8 ⇒ 2 4; 8 born 4; 9 born 2
-* =5 ⇒ 1 5; 5 born 5
-+5 ⇒ 1 5; 5 born 5
-=6 =7 -5 ⇒ 2 6; 6 born 6; 7 born 6
-+5 +6 ⇒ 2 6; 6 born 6; 7 born 6
+/// The steps, and what is there when the store is opened after each, worked out by hand: how many documents, commits that no chunk
+/// has, and chunks, and the documents, each with the number of the commit that put it. `=7` puts an id, `+7` inserts it, `-7`
+/// removes it, and `*` removes all. Two insert an id that is there, so that they are refused. `flush` and `optimize` are whole
+/// jobs. `[` begins one, which `]` ends with what was there when it began, and `{` another one, which `}` ends; that one is overtaken.
+pub(crate) const SCRIPT: &str = "no step ⇒ 0 0 0
+=7 ⇒ 1 1 0; 7 born 1
+=8 =9 ⇒ 3 2 0; 7 born 1; 8 born 2; 9 born 2
+flush ⇒ 3 0 1; 7 born 1; 8 born 2; 9 born 2
+-7 ⇒ 2 1 1; 8 born 2; 9 born 2
+=8 ⇒ 2 2 1; 8 born 4; 9 born 2
+[optimize ⇒ 2 2 1; 8 born 4; 9 born 2
+{flush ⇒ 2 2 1; 8 born 4; 9 born 2
+=6 -9 ⇒ 2 3 1; 6 born 5; 8 born 4
+* =5 ⇒ 1 4 1; 5 born 6
+] ⇒ 1 2 1; 5 born 6
+} ⇒ 1 2 1; 5 born 6
++5 ⇒ 1 2 1; 5 born 6
+=6 -5 ⇒ 1 3 1; 6 born 7
+flush ⇒ 1 0 2; 6 born 7
++5 +6 ⇒ 1 0 2; 6 born 7
+-6 ⇒ 0 1 2
+flush ⇒ 0 0 2
+optimize ⇒ 0 0 0
+=3 ⇒ 1 1 0; 3 born 9
 ";
 
-/// How many commits the script has.
-pub(crate) const COMMITS: usize = 8;
+/// How many steps the script has.
+pub(crate) const STEPS: usize = 19;
+
+/// Ten documents, a job that is let fail, one document more, and the job again.
+pub(crate) const TWICE: &str = "no step
+=1 =2 =3 =4 =5 =6 =7 =8 =9 =10
+flush
+=11
+flush
+";
 
 /// The most operations of a commit.
 const MOST: usize = 1_000;
 
-/// What is there after the first commits of the script.
-pub(crate) fn left_after(commits: usize) -> Option<&'static str> {
-    let (_, left) = SCRIPT.lines().nth(commits)?.split_once(" ⇒ ")?;
+/// What is there after the first steps of the script.
+pub(crate) fn left_after(steps: usize) -> Option<&'static str> {
+    let (_, left) = SCRIPT.lines().nth(steps)?.split_once(" ⇒ ")?;
     Some(left)
 }
 
@@ -90,15 +112,36 @@ fn txn(alloc: Global, words: &str) -> Option<Txn>
     })
 }
 
-/// The first transactions of the script.
-pub(crate) fn first_txns(alloc: Global, commits: usize) -> Option<Vec<Txn>>
-    ensures { IfSome result (λ txns. All (IsTxnOf plain) txns.items) }
+/// The step of a line.
+fn step(alloc: Global, words: &str) -> Option<Step>
+    ensures { IfSome result (IsStepOf plain) }
 {
-    let mut txns = Vec::new(alloc);
-    for line in SCRIPT.lines().skip(1).take(commits) {
-        let (words, _) = line.split_once(" ⇒ ")?;
-        let made = txn(alloc, words)?;
-        txns.push(made).ok()?;
+    match words {
+        "flush" => Some(Step::Job(Job::Flush)),
+        "optimize" => Some(Step::Job(Job::Optimize)),
+        "[optimize" => Some(Step::Begin {
+            second: false,
+            job: Job::Optimize,
+        }),
+        "{flush" => Some(Step::Begin {
+            second: true,
+            job: Job::Flush,
+        }),
+        "]" => Some(Step::End { second: false }),
+        "}" => Some(Step::End { second: true }),
+        _ => Some(Step::Commit(txn(alloc, words)?)),
     }
-    Some(txns)
+}
+
+/// The first steps of a script.
+pub(crate) fn first_steps(alloc: Global, script: &str, count: usize) -> Option<Vec<Step>>
+    ensures { IfSome result (λ steps. All (IsStepOf plain) steps.items) }
+{
+    let mut steps = Vec::new(alloc);
+    for line in script.lines().skip(1).take(count) {
+        let (words, _) = line.split_once(" ⇒ ").unwrap_or((line, ""));
+        let made = step(alloc, words)?;
+        steps.push(made).ok()?;
+    }
+    Some(steps)
 }

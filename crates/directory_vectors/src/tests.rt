@@ -1,6 +1,7 @@
 //! The tests. What doesn't hold is answered by none, and said in the text that each function is lent.
 
 use crate::crashes::are_left;
+use crate::doubts::are_all_there;
 use crate::failing::are_kept;
 use crate::opening::are_told;
 use std::test::Fail;
@@ -29,4 +30,10 @@ fn a_crash_leaves_what_was_acknowledged(rt: HostRuntime) -> Result<(), Fail> {
 fn one_call_of_the_disk_fails(rt: HostRuntime) -> Result<(), Fail> {
     let mut said = String::new(rt.alloc());
     held(are_kept(&rt, rt.alloc(), &mut said), &said)
+}
+
+#[test]
+fn a_job_that_failed_loses_nothing(rt: HostRuntime) -> Result<(), Fail> {
+    let mut said = String::new(rt.alloc());
+    held(are_all_there(&rt, rt.alloc(), &mut said), &said)
 }
