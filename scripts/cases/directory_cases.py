@@ -13,7 +13,7 @@ from scripts.cases.tables import constant, run
 FILE = "crates/directory_vectors/src/directories.rt"
 
 HEAD = f"""//! Directories of {DOCUMENT}, as `directory_cases` of scripts/ writes them: edit them there. A line is what the
-//! directory is, ` | `, its files and ` ⇒ ` with how many documents and records are found in it, and what no session shows of the
+//! directory is, ` | `, its files and ` ⇒ ` with how many documents, records and chunks are found in it, and what no session shows of the
 //! documents. A file is its number, `=` and its bytes. `⟨x×n⟩` is x written n times.
 """
 
@@ -23,7 +23,7 @@ TABLES = {
     "SIX_COLUMNS": ("two", "Directories of an index with two fields and four attributes."),
 }
 HIDDEN = re.compile(r"(\d+ born \d+) ((?:\([^()]*\))+)[^\[]*(.*)")
-STANDS = re.compile(r"number .*, above (\d+)(, chunks \d+)?: (?!none)(.*)")
+STANDS = re.compile(r"number .*, above (\d+)(?:, chunks (\d+))?: (?!none)(.*)")
 
 
 def words_of(fields):
@@ -59,8 +59,8 @@ def lines_of(directory):
     found = STANDS.fullmatch(directory.stands)
     if not found:
         return
-    above, _, documents = found.groups()
-    told = f"{documents.count('; ') + 1} {above}{hidden(documents)}"
+    above, chunks, documents = found.groups()
+    told = f"{documents.count('; ') + 1} {above} {chunks or 0}{hidden(documents)}"
     for files in directory.spelled_files():
         written = " ".join(f"{file}={digits}" for file, digits in files.items())
         assert " | " not in directory.about and " ⇒ " not in directory.about + written, directory.about
