@@ -24,5 +24,3 @@ pub mod Passing
 pub mod ByWords
 -- questions that take all documents
 pub mod AllRows
--- the first document without a weight
-pub mod WithoutWeight

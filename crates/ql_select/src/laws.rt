@@ -12,8 +12,6 @@ ghost use Rattle.ql_select.specs.Faults.{faults_of, select_fault};
 ghost use Rattle.ql_select.specs.FirstFaults.{IsFirstFault};
 ghost use Rattle.ql_select.specs.Selections.{RefusesSelection, Selects};
 
-use rank_expr::law;
-use rank_expr::law::{a_text_is_one_expression, an_expression_has_no_fault};
 use query_read::{
     a_query_has_no_fault, a_text_has_one_first_fault, a_text_is_one_query, each_text_has_pieces,
 };
@@ -40,7 +38,4 @@ pub fn a_select_has_one_answer()
     a_text_is_one_query();
     a_query_has_no_fault();
     a_text_has_one_first_fault();
-    a_text_is_one_expression();
-    an_expression_has_no_fault();
-    law::a_text_has_one_first_fault();
 }

@@ -5,17 +5,16 @@ use Rattle.doc_types.specs.Snapshots.{all_living, living}
 use Rattle.op_eval.specs.Matching.{matches}
 use Rattle.doc_search.specs.Searches.{passes}
 use Rattle.doc_search.specs.steps.Gathering.{Gathers, matching_in}
-use Rattle.doc_search.specs.steps.Lacking.{sought_question}
 use Rattle.doc_search.specs.declared.question.Question.{Question}
 use Rattle.doc_search.proofs.Gathering.{all_layers, gathers_none, one_layer}
 use Rattle.doc_search.proofs.searching.search_layers.Goals as goal
 
 pub loop-layer-init : goal.loop-layer-init
-loop-layer-init g c = gathers_none g.S.Sink.Took (sought_question c.args.lacking c.args.question.now) c.args.sink.now (g.met.S.Sink.nothing c.args.sink.now)
+loop-layer-init g c = gathers_none g.S.Sink.Took c.args.question.now c.args.sink.now (g.met.S.Sink.nothing c.args.sink.now)
 
 pub loop-layer-preserved : goal.loop-layer-preserved
 loop-layer-preserved g c =
-    let question = sought_question c.args.lacking c.args.question.now in
+    let question = c.args.question.now in
     let first = c.args.sink.now in
     let before : List DocRow = matching_in question (take c.loop-layer.layer-index c.args.layers.now) in
     subst (λ (found : List DocRow). Gathers g.S.Sink.Took question first found c.collect_layer.new.sink)
@@ -25,7 +24,7 @@ loop-layer-preserved g c =
 
 pub returns : goal.returns
 returns g c =
-    let question = sought_question c.args.lacking c.args.question.now in
+    let question = c.args.question.now in
     let docs = all_living c.args.layers.now in
     let so : Gathers g.S.Sink.Took question c.args.sink.now (filter (matches question.query) docs) c.loop-layer.sink =
     subst (λ (found : List DocRow). Gathers g.S.Sink.Took question c.args.sink.now found c.loop-layer.sink) (all_layers question c.args.layers.now c.loop-layer.layer-index c.loop-layer-test.false) c.loop-layer.invariant in
