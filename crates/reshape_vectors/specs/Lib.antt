@@ -1,2 +1,0 @@
--- what serves proofs and private functions alone
-pub mod steps
