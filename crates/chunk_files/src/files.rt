@@ -1,6 +1,7 @@
 //! All chunks of a root, read in their order.
 ghost use Rattle.std.specs.Prelude.{◌≡◌, ◌<◌, List, [], All, AllPairs, length};
 ghost use Rattle.chunk_store.specs.Calls.{OnlyReads};
+ghost use Rattle.chunk_store.specs.CrashModel.{KeepsAll};
 ghost use Rattle.doc_types.specs.Schemas.{IsSchema};
 ghost use Rattle.doc_types.specs.Snapshots.{IsLayer};
 ghost use Rattle.doc_types.specs.declared.documents.DocRow.{DocRow};
@@ -37,6 +38,7 @@ pub fn read_chunks<D: Disk, R: Threads>(
     requires state { IsState state.now }
     ensures read { ReadsChunks schema.now state.now (D.told disk.new) result }
     ensures looks { OnlyReads D.Disk disk.old disk.new }
+    ensures keeps { KeepsAll D.may_leave disk.old disk.new }
     ensures cause { HasChunkCause (D.faults disk.old) (D.faults disk.new) result }
 {
     let entries = state.chunks.as_slice();
@@ -62,6 +64,7 @@ fn read_files<D: Disk, R: Threads>(
     requires dead { AscendAll entries.now }
     ensures read { ReadsFiles schema.now through entries.now (D.told disk.new) result }
     ensures looks { OnlyReads D.Disk disk.old disk.new }
+    ensures keeps { KeepsAll D.may_leave disk.old disk.new }
     ensures cause { HasChunkCause (D.faults disk.old) (D.faults disk.new) result }
 {
     let mut layers = Vec::new(alloc);

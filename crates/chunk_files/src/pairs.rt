@@ -2,6 +2,7 @@
 //! two are checked at once, one of them in a thread of its own, and no more than two wait to be checked.
 ghost use Rattle.std.specs.Prelude.{◌≡◌, ◌<◌, ◌≤◌, ◌++◌, [], ◌∷◌, AllPairs, IfOk, OnOk, length};
 ghost use Rattle.chunk_store.specs.Calls.{OnlyReads};
+ghost use Rattle.chunk_store.specs.CrashModel.{KeepsAll};
 ghost use Rattle.chunk_store.specs.Images.{Told};
 ghost use Rattle.doc_types.specs.Schemas.{IsSchema};
 ghost use Rattle.chunk_files.specs.Reads.{HasChunkCause};
@@ -36,6 +37,7 @@ pub(crate) fn read_pair<D: Disk, R: Threads>(
     requires few { length pair.now ≤ 2 }
     ensures read { ReadsMore schema.now through pair.now (D.told disk.new) layers.old.items layers.new.items result }
     ensures looks { OnlyReads D.Disk disk.old disk.new }
+    ensures keeps { KeepsAll D.may_leave disk.old disk.new }
     ensures cause { HasChunkCause (D.faults disk.old) (D.faults disk.new) result }
 {
     let first = &pair[0];
@@ -89,6 +91,7 @@ fn read_one<D: Disk>(
     requires dead { AllPairs (λ row later. row < later) entry.now.dead }
     ensures read { ReadsOne schema.now through entry.now (D.told disk.new) result }
     ensures looks { OnlyReads D.Disk disk.old disk.new }
+    ensures keeps { KeepsAll D.may_leave disk.old disk.new }
     ensures cause { HasChunkCause (D.faults disk.old) (D.faults disk.new) result }
 {
     match find(alloc, disk, entry) {
@@ -115,6 +118,7 @@ fn read_two<D: Disk, R: Threads>(
     requires second { AllPairs (λ row later. row < later) second.now.dead }
     ensures read { ReadsTwo schema.now through first.now second.now (D.told disk.new) result }
     ensures looks { OnlyReads D.Disk disk.old disk.new }
+    ensures keeps { KeepsAll D.may_leave disk.old disk.new }
     ensures cause { HasChunkCause (D.faults disk.old) (D.faults disk.new) result }
 {
     match find(alloc, disk, first) {
@@ -157,6 +161,7 @@ fn find<D: Disk>(
     ensures found { IfOk result (λ found. Told (λ image. image entry.now.file ≡ file_of found) (D.told disk.new)) }
     ensures fault { IsCause result }
     ensures looks { OnlyReads D.Disk disk.old disk.new }
+    ensures keeps { KeepsAll D.may_leave disk.old disk.new }
     ensures cause { HasChunkCause (D.faults disk.old) (D.faults disk.new) result }
 {
     match read_whole(alloc, disk, entry.file) {

@@ -2,8 +2,8 @@
 use Rattle.std.proofs.Common.{◌≡◌, ⊎_elim, inl, inr, ℕ, List, ◌++◌, Option, Some, None, length, take, drop, sym, ◌∙◌, ap, arith}
 use Rattle.std.specs.Option.{option_map}
 use Rattle.std.proofs.lemmas.List.{take_all, take_at}
-use Rattle.chunk_store.specs.Images.{Reads, contents}
-use Rattle.chunk_store.specs.CrashModel.{OnlyLooks}
+use Rattle.chunk_store.specs.Images.{Image, Reads, contents}
+use Rattle.chunk_store.specs.CrashModel.{KeepsAll, OnlyLooks}
 use Rattle.chunk_store.specs.Calls.{OnlyReads}
 use Rattle.chunk_store.specs.declared.disk.Disk.{Ghosts as DiskWords}
 
@@ -33,3 +33,10 @@ looks_then words old mid new first second = record {
   now = λ x may. first.now x (second.now x may);
   since = λ t x le may. ⊎_elim (λ before. first.since t x le before) (λ here. inr (first.now x here)) (second.since t x (omega (arith, le, first.later)) may);
 }
+
+-- no call, and two that keep all that a crash may leave
+pub keeps_same : {D : Type 0} (may : D → Image → Type 0) (disk : D) → KeepsAll may disk disk
+keeps_same may disk = record { keeps = λ x left. left }
+
+pub keeps_then : {D : Type 0} (may : D → Image → Type 0) (old mid new : D) → KeepsAll may old mid → KeepsAll may mid new → KeepsAll may old new
+keeps_then may old mid new first second = record { keeps = λ x left. second.keeps x (first.keeps x left) }

@@ -48,3 +48,7 @@ pub record OnlyLooks {D : Type 0} (told : D → Option Image) (clock : D → ℕ
   pub same : told new ≡ told old
   pub now : (x : Image) → may_leave new x → may_leave old x
   pub time : Elapses clock may_leave may_have_left old new
+
+-- Whatever a crash might have left before, it may leave still.
+pub record KeepsAll {D : Type 0} (may_leave : D → Image → Type 0) (old new : D) : Type 0 where
+  pub keeps : (x : Image) → may_leave old x → may_leave new x

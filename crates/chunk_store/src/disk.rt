@@ -2,7 +2,7 @@ ghost use Rattle.std.specs.Prelude.{◌≡◌, ◌<◌, ◌≤◌, ◌^◌, ℕ,
 ghost use Rattle.std.specs.Option.{option_map};
 ghost use Rattle.srch_base.specs.Counts.{HasCause};
 ghost use Rattle.chunk_store.specs.Images.{Image, Told, Changes, contents, Writes, Vanishes, IsThere, Reads};
-ghost use Rattle.chunk_store.specs.CrashModel.{Makes, Moves, OnlyLooks, Tears, MayVanish};
+ghost use Rattle.chunk_store.specs.CrashModel.{KeepsAll, Makes, Moves, OnlyLooks, Tears, MayVanish};
 
 use srch_base::Failed;
 
@@ -30,6 +30,7 @@ pub trait Disk {
     fn len(&mut self, file: u32) -> Result<Option<u64>, Failed>
         ensures value { IfOk result (λ len. Told (λ image. len ≡ option_map length (image file)) (told self.old)) }
         ensures looks { OnlyLooks told clock may_leave may_have_left self.old self.new }
+        ensures keeps { KeepsAll may_leave self.old self.new }
         ensures cause { HasCause (faults self.old) (faults self.new) result };
 
     /// Reads a range that lies inside the file.
@@ -37,6 +38,7 @@ pub trait Disk {
         requires inside { Told (λ image. at + length into.old ≤ length (contents (image file))) (told self.old) }
         ensures value { OnOk result (Told (λ image. Reads (contents (image file)) at into.new) (told self.old)) }
         ensures looks { OnlyLooks told clock may_leave may_have_left self.old self.new }
+        ensures keeps { KeepsAll may_leave self.old self.new }
         ensures cause { HasCause (faults self.old) (faults self.new) result };
 
     /// Writes over what is there, and past the end. A file that isn't there is made. After an error the range may hold any

@@ -3,6 +3,7 @@ ghost use Rattle.std.specs.Prelude.{◌≡◌, ◌+◌, ◌≤◌, ◌<◌, ◌^
 ghost use Rattle.srch_base.specs.Counts.{HasCause};
 ghost use Rattle.chunk_store.specs.Images.{Image, Told};
 ghost use Rattle.chunk_store.specs.Calls.{Crashes, OnlyReads};
+ghost use Rattle.chunk_store.specs.CrashModel.{KeepsAll};
 ghost use Rattle.root_slots.specs.Roots.{own_slot};
 ghost use Rattle.root_slots.specs.States.{IsState};
 ghost use Rattle.root_slots.specs.steps.Chosen.{bytes_of};
@@ -51,6 +52,7 @@ impl Root {
         // Whatever the disk tells, a state that was read keeps the layout.
         ensures state { IfOk result (λ found. IfSome found.1 IsState) }
         ensures looks { OnlyReads D.Disk disk.old disk.new }
+        ensures keeps { KeepsAll D.may_leave disk.old disk.new }
         ensures cause { HasRootCause (D.faults disk.old) (D.faults disk.new) result }
     {
         match read_whole(alloc, disk, 0) {
