@@ -1,5 +1,5 @@
 -- What the files have once a job has ended.
-use Rattle.std.proofs.Common.{◌≡◌, ℕ, List, [], ◌∷◌, ◌++◌, true, map, Option, Some, None, Err, refl, sym, ◌∙◌, ap, subst, arith, length}
+use Rattle.std.proofs.Common.{◌≡◌, ⊎_elim, ℕ, List, [], ◌∷◌, ◌++◌, true, map, Option, Some, None, Ok, Err, refl, sym, ◌∙◌, ap, subst, arith, length}
 use Rattle.std.specs.List.{AllZip}
 use Rattle.std.specs.Option.{is_some}
 use Rattle.std.proofs.lemmas.List.Sorted.{length_permutation}
@@ -30,7 +30,9 @@ use Rattle.store_steps.specs.Grown.{through_at}
 use Rattle.store_steps.specs.Kept.{HasAll, IsKept}
 use Rattle.store_steps.specs.declared.files.Files.{Files}
 use Rattle.store_steps.proofs.Keeping.{has_all}
-use Rattle.job_laws.specs.Endings.{EndsIn, EndsInChunk, HasRoot, end_behind, left_chunks}
+use Rattle.step_line.specs.Lines.{LineValue, settled}
+use Rattle.store_keep.specs.Installs.{end_of}
+use Rattle.job_laws.specs.Endings.{EndsIn, EndsInChunk, HasRoot, WasAnswered, end_behind, left_chunks}
 
 -- ---- no record is staged where nothing waits
 
@@ -89,7 +91,7 @@ module _ {D : Type 0} (words : DiskWords D) (schema : Schema) (base : Base) (ste
       subst (λ (s : RootState). AllZip (IsChunkFile schema x) s.chunks (left_chunks new.job now ++ some_chunk new.rows)) (sym kept.state_is)
       (subst (λ (rows : List (List DocRow)). AllZip (IsChunkFile schema x) kept.dir.state.chunks rows) rows_are (kept.left x may).chunks)
 
-  has_root : files.sure ≡ true → (x : Image) → words.may_leave disk x → HasRoot files.state x
+  pub has_root : files.sure ≡ true → (x : Image) → words.may_leave disk x → HasRoot files.state x
   has_root sure x may =
       let own : Slot = record { number = kept.number; state = kept.dir.state } in
       let stands : RootStands files.root (Some own) None (slots_of x) = subst (λ (d : Option Doubted). RootStands files.root (Some own) (slot_in d) (slots_of x)) (kept.sure sure) (kept.left x may).slots in
@@ -101,5 +103,25 @@ module _ {D : Type 0} (words : DiskWords D) (schema : Schema) (base : Base) (ste
     one = one_for (taken new.job new.from) new.rows (sym (length_permutation (taken new.job new.from) new.rows chunk.moved));
     chunks = in_files;
     bytes = λ x may. in_file schema files.state (left_chunks new.job now) new.rows new.image x chunk.imaged (in_files x may);
-    root = has_root;
   }
+
+-- ---- what a note says
+
+-- What an answer says of the line and of the files.
+pub record IsEnd (base : Base) (before : List Step) (new : NewChunkValue) (next : LineValue) (kept : Files) : Type 0 where
+  pub history : next.history ≡ before ++ end_behind base before new ∷ []
+  pub none : next.waiting ≡ None
+  pub sure : kept.sure ≡ true
+
+pub answered : {J : Type 0} (base : Base) (before : List Step) (new : NewChunkValue) (next : LineValue) (kept : Files) → WasAnswered J base before new next kept → IsEnd base before new next kept
+answered {J} base before new next kept was =
+    ⊎_elim (λ stray. absurd (cc (stray.answer)))
+    (λ rest. ⊎_elim (λ unsettled. ⊎_elim (λ none. absurd (cc (none))) (λ failed. absurd (cc (failed.0))) unsettled.answer)
+    (λ later.
+    let line_is : next ≡ settled (record (settled was.line) { waiting = Some (end_of base (settled was.line) new) }) = later.ends.1 in
+    record {
+      history = ap (λ (l : LineValue). l.history) line_is ∙ ap (λ (xs : List Step). xs ++ end_behind base xs new ∷ []) (sym was.before_is);
+      none = ap (λ (l : LineValue). l.waiting) line_is;
+      sure = later.ends.5;
+    }) rest)
+    was.answer

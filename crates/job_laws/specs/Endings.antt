@@ -1,5 +1,5 @@
 -- Endings: what the files of an index have once a job has ended.
-use Rattle.std.specs.Prelude.{◌≡◌, ℕ, List, [], ◌∷◌, ◌++◌, true, Option, Some, None, length}
+use Rattle.std.specs.Prelude.{◌≡◌, ℕ, List, [], ◌∷◌, ◌++◌, Option, Some, None, Ok, length}
 use Rattle.std.specs.List.{AllZip}
 use Rattle.chunk_store.specs.Images.{Image}
 use Rattle.chunk_store.specs.declared.disk.Disk.{Ghosts as DiskWords}
@@ -11,10 +11,14 @@ use Rattle.reshape_laws.specs.Rebasing.{rebased, some_chunk, taken}
 use Rattle.root_slots.specs.Slots.{IsRoot, slots_of}
 use Rattle.root_slots.specs.declared.state.ChunkEntry.{ChunkEntry}
 use Rattle.root_slots.specs.declared.state.RootState.{RootState}
+use Rattle.step_book.specs.Fronts.{FrontValue}
 use Rattle.step_history.specs.declared.job.Job.{Job}
 use Rattle.step_history.specs.declared.job.Job.TheVariants.{Flush, Optimize}
 use Rattle.step_history.specs.History.{Base, Step, Reshape, chunks_for, last_snapshot}
 use Rattle.step_history.specs.Places.{disk_chunks}
+use Rattle.step_line.specs.Lines.{LineValue, entered}
+use Rattle.step_tokens.specs.Tokens.{TokenValue}
+use Rattle.store_keep.specs.Installs.{Installs}
 use Rattle.store_steps.specs.Directory.{IsChunkFile}
 use Rattle.store_steps.specs.declared.files.Files.{Files}
 
@@ -51,4 +55,20 @@ pub record EndsIn {D : Type 0} (words : DiskWords D) (schema : Schema) (before :
   pub one : length (some_chunk new.rows) ≡ chunks_for (taken new.job new.from)
   pub chunks : (x : Image) → words.may_leave disk x → AllZip (IsChunkFile schema x) files.state.chunks (left_chunks new.job before ++ some_chunk new.rows)
   pub bytes : (x : Image) → words.may_leave disk x → EndsInChunk files.state new.image x
-  pub root : files.sure ≡ true → (x : Image) → words.may_leave disk x → HasRoot files.state x
+
+-- Whatever a crash leaves of the disk has a root of the files' own state.
+abbrev pub KeepsRoot : {D : Type 0} → DiskWords D → Files → D → Type 0
+KeepsRoot words files disk = (x : Image) → words.may_leave disk x → HasRoot files.state x
+
+-- `install` of this chunk answered a note, and left this line and these files, where these steps were there before: those that were
+-- published, and the one that waited.
+pub record WasAnswered (J : Type 0) (base : Base) (before : List Step) (new : NewChunkValue) (next : LineValue) (kept : Files) : Type 0 where
+  pub line : LineValue
+  pub files : Files
+  pub token : TokenValue
+  pub count : ℕ
+  pub note : FrontValue
+  pub after : TokenValue
+  pub now : ℕ
+  pub before_is : before ≡ entered line
+  pub answer : Installs {J = J} base line files token new count (Ok note) next kept after now

@@ -3,4 +3,7 @@
 
 mod laws;
 
-pub use laws::{a_job_that_ended_stands_in_the_files, a_step_that_waits_or_not_survives_a_crash};
+pub use laws::{
+    a_job_that_ended_stands_in_the_files, a_job_that_was_answered_has_its_root,
+    a_step_that_waits_or_not_survives_a_crash,
+};

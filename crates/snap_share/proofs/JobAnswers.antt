@@ -69,20 +69,20 @@ module _ (schema : Schema) (base : Base) (line : LineValue) (token : TokenValue)
       )
 
   -- what is said behind a line in which nothing waits, of a token that has seen all of it
-  ends_so : {J : Type 0} (files : Files) (new : NewChunkValue) (before now : ℕ) (result : Result FrontValue (InstallFault J)) (next : LineValue) (after : TokenValue) → EndsJob {J = J} base line files (record token { seen = line.history }) new before result next after now → IsGood schema base after.seen
+  ends_so : {J : Type 0} (files : Files) (new : NewChunkValue) (before now : ℕ) (result : Result FrontValue (InstallFault J)) (next : LineValue) (kept : Files) (after : TokenValue) → EndsJob {J = J} base line files (record token { seen = line.history }) new before result next kept after now → IsGood schema base after.seen
       → ReshapeAnswers {J = J} schema base token new result after
-  ends_so files new before now (Ok note) next after ends good = ended new note next after ends.1 ends.2 ends.3 good
-  ends_so files new before now (Err faults.NoMemory) next after ends good = moved after ends.token_is good
-  ends_so files new before now (Err (faults.Strayed strayed)) next after ends good = absurd ends
-  ends_so files new before now (Err (faults.Overtaken shape note)) next after ends good = (
+  ends_so files new before now (Ok note) next kept after ends good = ended new note next after ends.1 ends.2 ends.3 good
+  ends_so files new before now (Err faults.NoMemory) next kept after ends good = moved after ends.token_is good
+  ends_so files new before now (Err (faults.Strayed strayed)) next kept after ends good = absurd ends
+  ends_so files new before now (Err (faults.Overtaken shape note)) next kept after ends good = (
     moved after ends.0.token_is good,
     noted after note ends.0.token_is ends.3,
     subst (λ (t : TokenValue). (last_snapshot base t.seen).shape ≡ shape) (sym ends.0.token_is) (sym ends.1),
     ends.2,
   )
-  ends_so files new before now (Err (faults.Full full)) next after ends good = let only = root_only files full ends.2 in (moved after ends.0.token_is good, only.0, only.1)
-  ends_so files new before now (Err faults.DiskFault) next after ends good = moved after ends.0.token_is good
-  ends_so files new before now (Err faults.InDoubt) next after ends good = moved after ends.2 good
+  ends_so files new before now (Err (faults.Full full)) next kept after ends good = let only = root_only files full ends.2 in (moved after ends.0.token_is good, only.0, only.1)
+  ends_so files new before now (Err faults.DiskFault) next kept after ends good = moved after ends.0.token_is good
+  ends_so files new before now (Err faults.InDoubt) next kept after ends good = moved after ends.2 good
 
 stray_so : {J : Type 0} (schema : Schema) (base : Base) (line : LineValue) (token : TokenValue) (new : NewChunkValue) (before : ℕ) (result : Result FrontValue (InstallFault J)) (next : LineValue) (after : TokenValue) (now : ℕ) → IsStrayJob {J = J} base line token before result next after now → ReshapeAnswers {J = J} schema base token new result after
 stray_so {J} schema base line token new before result next after now is =
@@ -96,22 +96,22 @@ unsettled_so {J} schema base line token new before result next after now is good
     (λ failed. subst (λ (r : Result FrontValue (InstallFault J)). ReshapeAnswers {J = J} schema base token new r after) (sym failed.0) moved)
     is.answer
 
-after_so : {J : Type 0} (schema : Schema) (base : Base) (line : LineValue) (files : Files) (token : TokenValue) (new : NewChunkValue) (before : ℕ) (result : Result FrontValue (InstallFault J)) (next : LineValue) (after : TokenValue) (now : ℕ) → token.index ≡ line.index
-    → IsAfterJob {J = J} base line files token new before result next after now → IsGood schema base after.seen → ReshapeAnswers {J = J} schema base token new result after
-after_so {J} schema base line files token new before result next after now of is good =
+after_so : {J : Type 0} (schema : Schema) (base : Base) (line : LineValue) (files : Files) (token : TokenValue) (new : NewChunkValue) (before : ℕ) (result : Result FrontValue (InstallFault J)) (next : LineValue) (kept : Files) (after : TokenValue) (now : ℕ) → token.index ≡ line.index
+    → IsAfterJob {J = J} base line files token new before result next kept after now → IsGood schema base after.seen → ReshapeAnswers {J = J} schema base token new result after
+after_so {J} schema base line files token new before result next kept after now of is good =
     let longer : length token.seen ≤ length (entered line) = let a = seen_within base line token is.none in let b = within line.history line.waiting in omega (arith, a, b) in
     let taught : is.taught ≡ record token { seen = entered line } = learnt_is token is.taught token.made (entered line) is.learns longer in
     let begins : IsPrefix token.seen (entered line) = subst (λ (t : TokenValue). IsPrefix token.seen t.seen) taught is.learns.seen in
-    ends_so schema base (settled line) token of begins (counts_alike base line token is.none) {J = J} files new is.between now result next after
-    (subst (λ (t : TokenValue). EndsJob {J = J} base (settled line) files t new is.between result next after now) taught is.ends)
+    ends_so schema base (settled line) token of begins (counts_alike base line token is.none) {J = J} files new is.between now result next kept after
+    (subst (λ (t : TokenValue). EndsJob {J = J} base (settled line) files t new is.between result next kept after now) taught is.ends)
     good
 
 -- what the end of a job says of its token
-pub reshaped_so : {J : Type 0} (schema : ℕ → Schema) (base : ℕ → Base) (line : LineValue) (files : Files) (token : TokenValue) (new : NewChunkValue) (before : ℕ) (result : Result FrontValue (InstallFault J)) (next : LineValue) (after : TokenValue) (now : ℕ) → token.index ≡ line.index
-    → Installs {J = J} (base line.index) line files token new before result next after now → IsGood (schema line.index) (base line.index) after.seen → ReshapeAnswers {J = J} (schema token.index) (base token.index) token new result after
-reshaped_so {J} schema base line files token new before result next after now of installs good =
+pub reshaped_so : {J : Type 0} (schema : ℕ → Schema) (base : ℕ → Base) (line : LineValue) (files : Files) (token : TokenValue) (new : NewChunkValue) (before : ℕ) (result : Result FrontValue (InstallFault J)) (next : LineValue) (kept : Files) (after : TokenValue) (now : ℕ) → token.index ≡ line.index
+    → Installs {J = J} (base line.index) line files token new before result next kept after now → IsGood (schema line.index) (base line.index) after.seen → ReshapeAnswers {J = J} (schema token.index) (base token.index) token new result after
+reshaped_so {J} schema base line files token new before result next kept after now of installs good =
     subst (λ (i : ℕ). ReshapeAnswers {J = J} (schema i) (base i) token new result after) (sym of)
     (⊎_elim
     (λ stray. stray_so {J = J} (schema line.index) (base line.index) line token new before result next after now stray)
-    (λ rest. ⊎_elim (λ unsettled. unsettled_so {J = J} (schema line.index) (base line.index) line token new before result next after now unsettled good) (λ later. after_so {J = J} (schema line.index) (base line.index) line files token new before result next after now of later good) rest)
+    (λ rest. ⊎_elim (λ unsettled. unsettled_so {J = J} (schema line.index) (base line.index) line token new before result next after now unsettled good) (λ later. after_so {J = J} (schema line.index) (base line.index) line files token new before result next kept after now of later good) rest)
     installs)

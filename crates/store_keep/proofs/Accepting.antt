@@ -53,7 +53,8 @@ use Rattle.store_keep.specs.Keepers.{Keeps}
 use Rattle.store_keep.specs.declared.preparing.Prepared.{Prepared}
 use Rattle.store_keep.specs.steps.Limits.{full_log}
 use Rattle.store_keep.specs.steps.Stages.{Enters, IsPrepared}
-use Rattle.store_keep.proofs.Following.{chunks_stay, disk_follows, last_of, of_after}
+use Rattle.store_reads.proofs.Staying.{chunks_stay}
+use Rattle.store_keep.proofs.Following.{disk_follows, last_of, of_after}
 
 -- an operation is written as the change that it is
 op_again : (op : TxnOp) → op_bytes (op_of (change_of op)) ≡ op_bytes op

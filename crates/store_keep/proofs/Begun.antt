@@ -13,7 +13,8 @@ use Rattle.doc_bytes.specs.SchemaText.{schema_text}
 use Rattle.doc_types.specs.declared.schema.Schema.{Schema}
 use Rattle.doc_types.specs.declared.documents.DocRow.{DocRow}
 use Rattle.doc_types.specs.Rows.{Rows}
-use Rattle.doc_types.specs.Snapshots.{live}
+use Rattle.doc_types.specs.Documents.{AreRowsOf}
+use Rattle.doc_types.specs.Snapshots.{LayerValue, live}
 use Rattle.gate_log.specs.Logs.{IsLogOf, quiet_log}
 use Rattle.gate_log.specs.declared.log.GateLog.{GateLog}
 use Rattle.root_slots.specs.Roots.{Stands as RootStands, Steps, next, replaced}
@@ -30,14 +31,15 @@ use Rattle.store_steps.specs.Grown.{AreBorn}
 use Rattle.store_steps.specs.Kept.{IsImage, IsKept, Says}
 use Rattle.store_steps.specs.declared.files.Files.{Files}
 use Rattle.store_keep.specs.Opens.{HidesNothing, IsBegun, LeavesBegun}
-use Rattle.store_keep.specs.declared.found.Found.{Found}
+use Rattle.store_reads.specs.declared.found.Found.{Found}
 use Rattle.store_keep.specs.steps.Beginnings.{Begins, MayBegin, first_state}
 use Rattle.store_keep.specs.steps.Finds.{Finds, IsFound, IsRootRead}
-use Rattle.store_keep.specs.steps.Loads.{IsSnapshotOf}
-use Rattle.store_keep.specs.steps.Records.{IsRead}
-use Rattle.store_keep.specs.declared.fault.StoreFault.{StoreFault}
-use Rattle.store_keep.specs.declared.fault.StoreFault.TheVariants as faults
-use Rattle.store_keep.proofs.Founds.{dir_of, empty_rows, in_order, numbered, reaches_of, slot_same}
+use Rattle.store_reads.specs.steps.Loads.{IsSnapshotOf}
+use Rattle.store_reads.specs.steps.Records.{IsRead}
+use Rattle.store_reads.specs.declared.fault.StoreFault.{StoreFault}
+use Rattle.store_reads.specs.declared.fault.StoreFault.TheVariants as faults
+use Rattle.store_reads.proofs.Founds.{dir_of, empty_rows, in_order, numbered, reaches_of}
+use Rattle.store_keep.proofs.Founds.{slot_same}
 
 pub state_is : (schema : Schema) (text : List ℕ) (chunks : List ChunkEntry) → text ≡ schema_text schema → chunks ≡ [] → record { schema_text = text; through = 0; next_file = 3; older = 0; newer = 2; chunks = chunks } ≡ first_state schema
 state_is schema text chunks is none =
@@ -57,6 +59,17 @@ first_is_state schema short = record {
 }
 
 -- ---- what stands for the empty index
+
+-- its snapshot
+pub first_snapshot : (schema : Schema) → IsSnapshotOf schema [] 0 [] (record { number = 0; shape = 0; layers = [] })
+first_snapshot schema = record {
+  number_is = refl;
+  shape_is = refl;
+  rows_are = refl;
+  chunks_are = refl;
+  places = λ id row got. absurd (cc (finite.get-empty nat_cmp id, got));
+  of = All-nil (λ (layer : LayerValue). AreRowsOf schema layer.rows);
+}
 
 order : (schema : Schema) → IsInOrder schema (dir_of schema (first_state schema) [] [] [])
 order schema = in_order schema (first_state schema) [] [] [] refl tt (λ i j d l h. absurd (omega (arith, h))) (numbered schema 0 [] tt tt) (All-nil (IsRead schema))

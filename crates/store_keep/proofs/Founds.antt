@@ -1,165 +1,33 @@
--- What was read of a disk is what it stands for, and what it keeps.
-use Rattle.std.proofs.Common.{◌≡◌, ◌≢◌, inl, inr, ℕ, zero, suc, ◌+◌, ◌<◌, ◌≤◌, List, [], ◌∷◌, ◌++◌, Bool, cond, Option, Some, None, refl, sym, ◌∙◌, ap, subst, arith, length, map, All, AllPairs}
+-- What was read of a disk is what it keeps.
+use Rattle.std.proofs.Common.{◌≡◌, ◌≢◌, ℕ, zero, suc, ◌<◌, List, [], ◌∷◌, Option, Some, None, Result, Ok, Err, refl, sym, ◌∙◌, ap, subst, arith, length, length-append, map, not, nat_lt}
 use Rattle.std.specs.Arc.{arc_value}
-use Rattle.std.specs.FinMap as finite
-use Rattle.std.specs.List.{AllZip, fold}
-use Rattle.std.proofs.lemmas.Bool.{cases_lt, lt-ltb, le-ltb}
-use Rattle.std.proofs.lemmas.List.{length-map, map-append}
-use Rattle.chunk_store.specs.Images.{Image, IsThere, contents}
+use Rattle.chunk_store.proofs.WholeFiles.{looks_then}
 use Rattle.chunk_store.specs.Calls.{OnlyReads}
+use Rattle.chunk_store.specs.Images.{Image, IsThere, contents}
 use Rattle.chunk_store.specs.declared.disk.Disk.{Ghosts as DiskWords}
-use Rattle.doc_types.specs.declared.documents.DocRow.{DocRow}
 use Rattle.doc_types.specs.declared.schema.Schema.{Schema}
-use Rattle.doc_bytes.specs.SchemaText.{schema_text}
-use Rattle.doc_types.specs.Rows.{rows_of}
-use Rattle.doc_types.specs.Snapshots.{LayerValue, all_living, live}
-use Rattle.gate_log.specs.Logs.{AreConsecutive, IsLogOf, Stands as LogStands, last_number, quiet_log}
-use Rattle.gate_log.specs.Reading.{Begins, behind}
-use Rattle.gate_log.specs.declared.log.GateLog.{GateLog}
-use Rattle.gate_log.specs.declared.reading.Before.{Before}
-use Rattle.gate_log.specs.declared.reading.Before.TheVariants.{Chunks}
+use Rattle.gate_log.proofs.Standing.{gives_records}
+use Rattle.gate_log.specs.Logs.{IsLogOf, spelled}
 use Rattle.gate_log.specs.declared.records.LogRecord.{LogRecord}
-use Rattle.root_slots.specs.Openings.{Opens}
 use Rattle.root_slots.specs.Slots.{slots_of}
 use Rattle.root_slots.specs.States.{IsState}
 use Rattle.root_slots.specs.declared.root.Root.{Root}
 use Rattle.root_slots.specs.declared.state.RootState.{RootState}
 use Rattle.root_slots.proofs.Standing.{root_leaves}
 use Rattle.step_history.specs.History.{Base}
-use Rattle.step_history.specs.Places.{disk_chunks}
-use Rattle.store_steps.specs.Batches.{AreFrom, Batch, IsBatchOf, above, after_batch, record_of}
-use Rattle.store_steps.specs.Damage.{IsGoodState}
-use Rattle.store_steps.specs.Directory.{AreFiles, Directory, IsChunkOf, IsInOrder, Reaches, directory_number, directory_rows, layers_from, logged, taken}
+use Rattle.store_reads.specs.Reads.{IsDirectory, ReadsDirectory, log_in}
+use Rattle.store_reads.specs.declared.fault.StoreFault.{StoreFault}
+use Rattle.store_reads.specs.declared.fault.StoreFault.TheVariants as faults
+use Rattle.store_reads.specs.declared.found.Found.{Found}
+use Rattle.store_steps.specs.Batches.{Batch, record_of}
+use Rattle.store_steps.specs.Directory.{Directory, IsOlderLog}
 use Rattle.store_steps.specs.Doubts.{sure_files}
-use Rattle.store_steps.specs.Kept.{IsImage, IsKept, Says}
+use Rattle.store_steps.specs.Kept.{IsImage, IsKept}
 use Rattle.store_steps.specs.declared.files.Files.{Files}
-use Rattle.store_steps.proofs.Opening.{Agree, begins, number_from, reached}
+use Rattle.store_steps.proofs.Opening.{Agree, begins}
 use Rattle.store_keep.specs.Opens.{HidesNothing}
-use Rattle.store_keep.specs.declared.found.Found.{Found}
-use Rattle.store_keep.specs.declared.opening.Logs.{Logs}
-use Rattle.store_keep.specs.steps.Bases.{IsBaseRead}
-use Rattle.store_keep.specs.steps.Finds.{IsFound, IsLoadedAs, IsRootRead}
-use Rattle.store_keep.specs.steps.Loads.{number_after}
-use Rattle.store_keep.specs.steps.Records.{IsRead, batch_in, batches_in}
-use Rattle.store_keep.specs.steps.LogFiles.{AreRead, IsSteady}
-use Rattle.store_keep.proofs.Chunked.{as_many, rows_back, steady_files}
-use Rattle.store_keep.proofs.FilesRead.{log_of, older_log}
-use Rattle.store_keep.proofs.LogBytes.{batches_of, front_fits, read_again}
-
--- ---- numbers
-
-pub joined : (before : Before) (xs ys : List LogRecord) → AreConsecutive xs → AreConsecutive ys → Begins (behind before (last_number xs)) ys → AreConsecutive (xs ++ ys)
-joined before [] ys first second begins = second
-joined before (x ∷ []) [] first second begins = tt
-joined before (x ∷ []) (y ∷ ys) first second begins = (begins, second)
-joined before (x ∷ z ∷ xs) ys first second begins = (first.0, joined before (z ∷ xs) ys first.1 second begins)
-
-pub begins_both : (before : Before) (xs ys : List LogRecord) → Begins before xs → Begins (behind before (last_number xs)) ys → Begins before (xs ++ ys)
-begins_both before [] ys first second = second
-begins_both before (x ∷ xs) ys first second = first
-
-from_of : (schema : Schema) (n : ℕ) (r : LogRecord) (records : List LogRecord) → r.number ≡ n → AreConsecutive (r ∷ records) → AreFrom n (batches_in schema (r ∷ records))
-from_of schema n r [] is are = (is, tt)
-from_of schema n r (s ∷ records) is are = (is, from_of schema (n + 1) s records (omega (arith, are.0, is)) are.1)
-
-last_of : (through : ℕ) (r : LogRecord) (records : List LogRecord) → AreConsecutive (r ∷ records) → number_after through (last_number (r ∷ records)) ≡ r.number + length records
-last_of through r [] are = omega arith
-last_of through r (s ∷ records) are = omega (arith, last_of through s records are.1, are.0)
-
--- The batches are numbered from here, up to the last one.
-pub record AreNumbered (schema : Schema) (through : ℕ) (records : List LogRecord) : Type 0 where
-  pub first : ℕ
-  pub low : first ≤ through + 1
-  pub from : AreFrom first (batches_in schema records)
-  pub last : number_after through (last_number records) + 1 ≡ first + length (batches_in schema records)
-
-pub numbered : (schema : Schema) (through : ℕ) (records : List LogRecord) → AreConsecutive records → Begins (Chunks through) records → AreNumbered schema through records
-numbered schema through [] are begins = record { first = through + 1; low = omega arith; from = tt; last = omega arith }
-numbered schema through (r ∷ records) are begins = record {
-  first = r.number;
-  low = begins;
-  from = from_of schema r.number r records refl are;
-  last = omega (arith, last_of through r records are, length-map records (batch_in schema));
-}
-
-count_all : (t k : ℕ) (bs : List Batch) → AreFrom k bs → t < k → length (above t bs) ≡ length bs
-count_all t k [] from lt = refl
-count_all t k (b ∷ bs) from lt =
-    let one : above t (b ∷ bs) ≡ b ∷ above t bs = ap (λ (c : Bool). cond c (b ∷ above t bs) (above t bs)) (lt-ltb t b.number (omega (arith, from.0, lt))) in
-    ap length one ∙ ap suc (count_all t (k + 1) bs from.1 (omega (arith, lt)))
-
-count_from : (t k : ℕ) (bs : List Batch) → AreFrom k bs → k ≤ t + 1 → t < k + length bs → length (above t bs) + (t + 1) ≡ k + length bs
-count_from t k [] from low reach = omega (arith, low, reach)
-count_from t k (b ∷ bs) from low reach = elim (cases_lt t b.number) [
-  | inl lt ↦ omega (arith, count_all t k (b ∷ bs) from (omega (arith, from.0, lt)), from.0, lt, low)
-  | inr le ↦
-      let passed : above t (b ∷ bs) ≡ above t bs = ap (λ (c : Bool). cond c (b ∷ above t bs) (above t bs)) (le-ltb t b.number le) in
-      omega (arith, ap length passed, count_from t (k + 1) bs from.1 (omega (arith, from.0, le)) (omega (arith, reach)))
-]
-
--- ---- the directory
-
-abbrev pub dir_of : Schema → RootState → List (List DocRow) → List LogRecord → List LogRecord → Directory
-dir_of schema state chunks older newer = record { state = state; chunks = chunks; older = batches_in schema older; newer = batches_in schema newer }
-
-pub logged_is : (schema : Schema) (older newer : List LogRecord) → batches_in schema older ++ batches_in schema newer ≡ batches_in schema (older ++ newer)
-logged_is schema older newer = sym (map-append (batch_in schema) older newer)
-
-pub in_order : (schema : Schema) (state : RootState) (chunks : List (List DocRow)) (older newer : List LogRecord) → state.schema_text ≡ schema_text schema → AllZip (IsChunkOf schema state.through) state.chunks chunks → AllPairs (λ row other. row.doc.id ≢ other.doc.id) (all_living (layers_from state.chunks chunks))
-    → AreNumbered schema state.through (older ++ newer) → All (IsRead schema) (older ++ newer) → IsInOrder schema (dir_of schema state chunks older newer)
-in_order schema state chunks older newer text rows once numbers all =
-    let same = logged_is schema older newer in
-    record {
-      text = text;
-      chunks = rows;
-      once = once;
-      numbers = (numbers.first, numbers.low, subst (λ (bs : List Batch). AreFrom numbers.first bs) (sym same) numbers.from);
-      batches = subst (λ (bs : List Batch). All (IsBatchOf schema) bs) (sym same) (batches_of schema (older ++ newer) all);
-    }
-
-pub reaches_of : (schema : Schema) (state : RootState) (chunks : List (List DocRow)) (older newer : List LogRecord) → AreNumbered schema state.through (older ++ newer) → state.through ≤ number_after state.through (last_number (older ++ newer)) → Reaches (dir_of schema state chunks older newer)
-reaches_of schema state chunks older newer numbers reach =
-    let same = logged_is schema older newer in
-    reached (dir_of schema state chunks older newer) numbers.first numbers.low (subst (λ (bs : List Batch). AreFrom numbers.first bs) (sym same) numbers.from) (omega (arith, numbers.last, reach, ap length same))
-
--- the files of a disk after they were synced and read
-pub image_of : (schema : Schema) (layers : List LayerValue) (root : Root) (state : RootState) (told : Option Image) (may : Image → Type 0) (logs : Logs) (image : Image) (base : IsBaseRead schema state told may layers) → Opens root (Some state) (slots_of image) → (read : AreRead schema layers state told may logs) → told ≡ Some image
-    → IsImage schema (dir_of schema state base.read.chunks read.older read.newer) root.number None root (quiet_log state.newer logs.end.end logs.end.last) None image
-image_of schema layers root state told may logs image base opens read is =
-    let all = read.loaded.of.all in
-    let older_again : map record_of (batches_in schema read.older) ≡ read.older = read_again schema read.older (front_fits (IsRead schema) read.older read.newer all) in
-    let newer_again : map record_of (batches_in schema read.newer) ≡ read.newer = read_again schema read.newer read.newer_is.all in
-    let stands : LogStands (quiet_log state.newer logs.end.end logs.end.last) read.newer None (Some read.bytes) = record {
-      records_are = read.newer_is.records_are;
-      end = read.newer_is.end_is;
-      last = read.newer_is.last_is;
-      staged = refl;
-      gate = read.newer_is.gate;
-      rest = read.newer_is.rest;
-      is = read.newer_is.is;
-      closed = λ quiet. read.newer_is.closed;
-      behind = tt;
-    } in
-    let here : LogStands (quiet_log state.newer logs.end.end logs.end.last) read.newer None (image state.newer) =
-    subst (λ (f : Option (List ℕ)). LogStands (quiet_log state.newer logs.end.end logs.end.last) read.newer None f) (sym (read.bytes_are image is)) stands in
-    record {
-      chunks = base.read.files image is;
-      older = older_log schema state.older read.older image older_again (read.has image is);
-      slots = opens.stands;
-      newer = subst (λ (l : List LogRecord). LogStands (quiet_log state.newer logs.end.end logs.end.last) l None (image state.newer)) (sym newer_again) here;
-      other = tt;
-    }
-
--- the root's slot is read as its own state
-pub files_of : {schema : Schema} (root : Root) {log : GateLog} (dir : Directory) (image : Image) → IsImage schema dir root.number None root log None image → AreFiles schema dir root.number image
-files_of root dir image is = record {
-  root = root_leaves root (Some (record { number = root.number; state = dir.state })) None (slots_of image) is.slots;
-  chunks = is.chunks;
-  older = is.older;
-}
-
-pub empty_rows : rows_of [] ≡ finite.empty
-empty_rows = refl
+use Rattle.store_keep.specs.steps.Finds.{AreSteady, Finds, IsFound, IsRootRead, IsSteady}
+use Rattle.store_keep.proofs.Steadied.{chunks_steady, files_then}
 
 pub slot_same : {D : Type 0} (words : DiskWords D) (disk : D) (slot : ℕ) → slot < 2 → HidesNothing words disk → IsSteady slot (words.told disk) (words.may_leave disk) → (image x : Image) → words.told disk ≡ Some image → words.may_leave disk x → x slot ≡ image slot
 slot_same words disk slot lt hides steady image x is left = elim (image slot) as (λ f. image slot ≡ f → x slot ≡ image slot) [
@@ -171,60 +39,76 @@ older_same : (file : ℕ) (image x : Image) → x 0 ≡ image 0 → (file ≢ 0 
 older_same zero image x zeroth other = zeroth
 older_same (suc file) image x zeroth other = other (λ (e : suc file ≡ 0). absurd (omega (arith, e)))
 
-pub found_is : {D : Type 0} (words : DiskWords D) (schema : Schema) (layers : List LayerValue) (root : Root) (state : RootState) (old new : D) (logs : Logs) (found : Found) → IsState state → IsGoodState schema state → IsBaseRead schema state (words.told new) (words.may_leave new) layers → IsRootRead (words.told old) (words.may_leave old) root (Some state) → OnlyReads words old new
-    → (read : AreRead schema layers state (words.told new) (words.may_leave new) logs) → IsLoadedAs schema layers root state logs (read.older ++ read.newer) found → ((x : Image) → words.may_leave new x → (image : Image) × (words.told new ≡ Some image)) → IsFound words schema old new found
-found_is words schema layers root state old new logs found state_is good over slots looks read loads tells =
-    let records = read.older ++ read.newer in
+-- a log's file is there
+log_there : (records : List LogRecord) (file : Option (List ℕ)) → IsLogOf records (contents file) → IsThere file
+log_there records (Some bytes) log = tt
+log_there records None log = absurd (omega (arith, ap length log.is, length-append (spelled records) (log.gate ∷ log.rest)))
+
+older_there : (file : ℕ) (batches : List Batch) (image : Image) → file ≢ 0 → IsOlderLog image file batches → IsThere (image file)
+older_there zero batches image apart log = absurd (apart refl)
+older_there (suc file) batches image apart log = log_there (map record_of batches) (image (suc file)) log
+
+-- a crash leaves the files of the directory as they were read
+agrees : (schema : Schema) (dir : Directory) (number : ℕ) (root : Root) (told : Option Image) (may : Image → Type 0) (image x : Image) → told ≡ Some image → may x → AreSteady dir.state told may → IsImage schema dir number None root (log_in dir) None image → x 0 ≡ image 0 → x 1 ≡ image 1 → Agree dir image x
+agrees schema dir number root told may image x is left steady image_is zeroth first = record {
+  zeroth = zeroth;
+  first = first;
+  chunks = chunks_steady schema told may image x is left dir.state.chunks dir.chunks image_is.chunks steady.chunks;
+  older = older_same dir.state.older image x zeroth (λ apart. steady.older apart image is (older_there dir.state.older dir.older image apart image_is.older) x left);
+  newer = steady.newer image is (log_there (map record_of dir.newer) (image dir.state.newer) (gives_records (log_in dir) (map record_of dir.newer) (image dir.state.newer) refl image_is.newer)) x left;
+}
+
+-- a directory that was read of steady files is found, and kept
+pub found_is : {D : Type 0} (words : DiskWords D) (schema : Schema) (root : Root) (state : RootState) (old new : D) (found : Found) → IsState state → IsRootRead (words.told old) (words.may_leave old) root (Some state) → OnlyReads words old new → AreSteady state (words.told new) (words.may_leave new)
+    → IsDirectory schema root state (words.told new) found → ((x : Image) → words.may_leave new x → (image : Image) × (words.told new ≡ Some image)) → IsFound words schema old new found
+found_is words schema root state old new found state_is slots looks steady read tells =
     let snapshot = arc_value found.snapshot in
-    let dir = dir_of schema state over.read.chunks read.older read.newer in
-    let same : logged dir ≡ batches_in schema records = logged_is schema read.older read.newer in
-    let numbers : AreNumbered schema state.through records = numbered schema state.through records (joined (Chunks state.through) read.older read.newer read.older_are.numbers read.newer_is.records_are.numbers read.newer_is.begins) (begins_both (Chunks state.through) read.older read.newer read.begins read.newer_is.begins) in
-    let order : IsInOrder schema dir = in_order schema state over.read.chunks read.older read.newer good over.read.rows over.read.once numbers read.loaded.of.all in
-    let reaches : Reaches dir = reaches_of schema state over.read.chunks read.older read.newer numbers loads.reach in
-    let newer_again : map record_of (batches_in schema read.newer) ≡ read.newer = read_again schema read.newer read.newer_is.all in
-    let rows : directory_rows dir ≡ live snapshot =
-    ap (λ (ls : List LayerValue). fold after_batch (rows_of (all_living ls)) (taken dir)) (sym over.read.are)
-    ∙ ap (λ (bs : List Batch). fold after_batch (rows_of (all_living layers)) (above state.through bs)) same
-    ∙ sym loads.snapshot.rows_are in
-    let number : directory_number dir ≡ snapshot.number = omega (arith, number_from state.through numbers.first (logged dir) (subst (λ (bs : List Batch). AreFrom numbers.first bs) (sym same) numbers.from) numbers.low (omega (arith, numbers.last, loads.reach, ap length same)), numbers.last, loads.snapshot.number_is, ap length same) in
-    let chunks : dir.chunks ≡ disk_chunks snapshot =
-    sym (rows_back schema state.through state.chunks over.read.chunks over.read.rows) ∙ ap (map (λ (l : LayerValue). l.rows)) (sym over.read.are) ∙ sym loads.snapshot.chunks_are in
-    let says : Says dir snapshot = record { rows = rows; number = number; chunks = chunks } in
-    let log : GateLog = quiet_log state.newer logs.end.end logs.end.last in
-    let files : Files = sure_files root state log in
-    let base : Base = record { opening = snapshot; log = log.end } in
-    let image_is : (image : Image) → words.told new ≡ Some image → IsImage schema dir root.number None root (quiet_log state.newer logs.end.end logs.end.last) None image =
-    λ image is. image_of schema layers root state (words.told new) (words.may_leave new) logs image over (slots.opens image (sym looks.same ∙ is)) read is in
+    let dir = read.dir in
+    let files : Files = sure_files root state (log_in dir) in
+    let base : Base = record { opening = snapshot; log = (log_in dir).end } in
+    let through : state.through ≡ dir.state.through = ap (λ (s : RootState). s.through) (sym read.state_is) in
     record {
       said = λ image is.
-          let now : words.told new ≡ Some image = looks.same ∙ is in
-          let log : IsLogOf read.newer (contents (image state.newer)) = subst (λ (f : Option (List ℕ)). IsLogOf read.newer (contents f)) (sym (read.bytes_are image now)) (log_of read.newer_is) in
+          let here = read.image image (looks.same ∙ is) in
           record {
             found = Some dir;
-            holds = (record { number = root.number; files = files_of root dir image (image_is image now); newer = subst (λ (l : List LogRecord). IsLogOf l (contents (image state.newer))) (sym newer_again) log; in_order = order }, reaches);
-            rows = rows;
-            number = number;
-            places = loads.snapshot.places;
-            chunks = chunks;
-            few = omega (arith, as_many schema state.through state.chunks over.read.chunks over.read.rows, state_is.few);
-            records_are = omega (arith, loads.records_are, count_from state.through numbers.first (batches_in schema records) numbers.from numbers.low (omega (arith, numbers.last, loads.reach)), numbers.last, loads.snapshot.number_is, ap (λ (bs : List Batch). length (above state.through bs)) same);
+            holds = (
+              record {
+                number = root.number;
+                files = record { root = root_leaves root (Some (record { number = root.number; state = dir.state })) None (slots_of image) here.slots; chunks = here.chunks; older = here.older };
+                newer = gives_records (log_in dir) (map record_of dir.newer) (image dir.state.newer) refl here.newer;
+                in_order = read.in_order;
+              },
+              read.reaches,
+            );
+            rows = read.says.rows;
+            number = read.says.number;
+            places = λ id row got. read.places id row got ∙ ap (λ (n : ℕ). not (nat_lt n row.born)) through;
+            chunks = read.says.chunks;
+            few = read.few;
+            records_are = read.records_are;
           };
       kept = λ hides.
-          subst (λ (fs : Files). IsKept words schema (record { opening = snapshot; log = fs.log.end }) [] None new fs) (sym loads.files_are)
-          (begins words schema base new files dir root.number state_is order reaches says refl refl refl refl refl refl (read.newer_is.last_is ∙ ap last_number (sym newer_again)) image_is
+          subst (λ (fs : Files). IsKept words schema (record { opening = snapshot; log = fs.log.end }) [] None new fs) (sym read.files_are)
+          (begins words schema base new files dir root.number (subst IsState (sym read.state_is) state_is) read.in_order read.reaches read.says refl (sym read.state_is) (ap (λ (s : RootState). s.next_file) (sym read.state_is)) refl refl refl refl read.image
           (λ x left.
           let i = tells x left in
-          let told : words.told old ≡ Some i.0 = sym looks.same ∙ i.1 in
-          let zeroth = slot_same words old 0 (omega arith) hides slots.zeroth i.0 x told (looks.now x left) in
-          let agree : Agree dir i.0 x = record {
-            zeroth = zeroth;
-            first = slot_same words old 1 (omega arith) hides slots.first i.0 x told (looks.now x left);
-            chunks = steady_files schema (words.told new) (words.may_leave new) i.0 x i.1 left state.chunks over.read.chunks (over.read.files i.0 i.1) over.steady;
-            older = older_same state.older i.0 x zeroth (λ apart. read.older_steady i.0 i.1 apart x left);
-            newer = read.newer_steady i.0 i.1 x left;
-          } in
-          (i.0, i.1, agree)));
-      of = loads.snapshot.of;
-      shape = loads.snapshot.shape_is;
-      documents_are = loads.documents_are;
+          let told : words.told old ≡ Some i.0 = sym looks.same ∙ i.1 in (
+            i.0,
+            i.1,
+            agrees schema dir root.number root (words.told new) (words.may_leave new) i.0 x i.1 left (subst (λ (s : RootState). AreSteady s (words.told new) (words.may_leave new)) (sym read.state_is) steady) (read.image i.0 i.1)
+                (slot_same words old 0 (omega arith) hides slots.zeroth i.0 x told (looks.now x left)) (slot_same words old 1 (omega arith) hides slots.first i.0 x told (looks.now x left)),
+          )));
+      of = read.of;
+      shape = read.shape;
+      documents_are = read.documents_are;
     }
+
+-- what reading steady files comes to
+pub finds_by : {D : Type 0} (words : DiskWords D) (schema : Schema) (root : Root) (state : RootState) (old mid new : D) (r : Result Found StoreFault) → IsState state → IsRootRead (words.told old) (words.may_leave old) root (Some state) → OnlyReads words old mid → OnlyReads words mid new → AreSteady state (words.told mid) (words.may_leave mid)
+    → ReadsDirectory schema root state (words.told new) r → ((x : Image) → words.may_leave new x → (image : Image) × (words.told new ≡ Some image)) → Finds words schema old new r
+finds_by words schema root state old mid new (Ok found) state_is slots first then steady read tells =
+    found_is words schema root state old new found state_is slots (looks_then words old mid new first then) (files_then words mid new state then steady) read tells
+finds_by words schema root state old mid new (Err faults.NoMemory) state_is slots first then steady read tells = tt
+finds_by words schema root state old mid new (Err faults.DiskFault) state_is slots first then steady read tells = tt
+finds_by words schema root state old mid new (Err (faults.Damaged damage)) state_is slots first then steady read tells = λ image is. read image (then.same ∙ first.same ∙ is)

@@ -7,9 +7,8 @@ use mathlib.Core.List.{IsPrefix}
 use Rattle.doc_types.specs.declared.documents.DocRow.{DocRow}
 use Rattle.doc_types.specs.declared.schema.Schema.{Schema}
 use Rattle.doc_types.specs.Chunks.{IsContent}
-use Rattle.doc_types.specs.Snapshots.{AreLayers, LayerValue, SnapshotValue}
+use Rattle.doc_types.specs.Snapshots.{AreLayers, SnapshotValue}
 use Rattle.chunk_store.specs.declared.disk.Disk.{Ghosts as DiskWords}
-use Rattle.commit_outcomes.specs.declared.outcome.Full.{Full}
 use Rattle.job_chunks.specs.Chunks.{IsImaged, IsNewChunk, NewChunkValue, layer_in}
 use Rattle.job_states.specs.States.{HasSeen, IsRebased, new_entries}
 use Rattle.job_states.proofs.Ends.{goes, moves}
@@ -22,7 +21,6 @@ use Rattle.job_files.specs.Jobs.{names}
 use Rattle.std.specs.List.{list_any}
 use Rattle.step_book.proofs.Prefixes.{prefix_whole}
 use Rattle.step_history.proofs.Steps.{shape_up}
-use Rattle.step_history.specs.declared.job.Job.{Job}
 use Rattle.step_history.specs.History.{Base, IsGood, Reshape, Step, last_snapshot}
 use Rattle.step_line.specs.Lines.{LineValue, MayFollow, entered, settled, with_waiting}
 use Rattle.step_tokens.specs.Tokens.{TokenValue}
@@ -161,17 +159,17 @@ same_entered_job line next token after before now (Err faults.DiskFault) ends = 
 
 -- ---- the end of a job, from its parts
 
-pub job_ended : {J : Type 0} (base : Base) (line mid : LineValue) (files : Files) (token : TokenValue) (new : NewChunkValue) (before between now : ℕ) (r : Result FrontValue (InstallFault J)) (next : LineValue) (after : TokenValue)
-    → mid ≡ record line { waiting = Some (end_of base line new) } → HasRoom base line files new → before ≤ between → FinishesJob {J = J} mid token between r next after now → EndsJob {J = J} base line files token new before r next after now
-job_ended base line mid files token new before between now (Ok note) next after is room le ends = (room, ends.0 ∙ ap settled is, ends.1, ends.2, omega (arith, le, ends.3))
-job_ended base line mid files token new before between now (Err faults.InDoubt) next after is room le ends = (room, ends.0 ∙ is, ends.1, omega (arith, le, ends.2))
-job_ended base line mid files token new before between now (Err faults.NoMemory) next after is room le ends = absurd ends
-job_ended base line mid files token new before between now (Err (faults.Strayed strayed)) next after is room le ends = absurd ends
-job_ended base line mid files token new before between now (Err (faults.Overtaken shape note)) next after is room le ends = absurd ends
-job_ended base line mid files token new before between now (Err (faults.Full full)) next after is room le ends = absurd ends
-job_ended base line mid files token new before between now (Err faults.DiskFault) next after is room le ends = absurd ends
+pub job_ended : {J : Type 0} (base : Base) (line mid : LineValue) (files : Files) (token : TokenValue) (new : NewChunkValue) (before between now : ℕ) (r : Result FrontValue (InstallFault J)) (next : LineValue) (kept : Files) (after : TokenValue)
+    → mid ≡ record line { waiting = Some (end_of base line new) } → HasRoom base line files new → before ≤ between → kept.sure ≡ true → FinishesJob {J = J} mid token between r next after now → EndsJob {J = J} base line files token new before r next kept after now
+job_ended base line mid files token new before between now (Ok note) next kept after is room le sure ends = (room, ends.0 ∙ ap settled is, ends.1, ends.2, omega (arith, le, ends.3), sure)
+job_ended base line mid files token new before between now (Err faults.InDoubt) next kept after is room le sure ends = (room, ends.0 ∙ is, ends.1, omega (arith, le, ends.2), sure)
+job_ended base line mid files token new before between now (Err faults.NoMemory) next kept after is room le sure ends = absurd ends
+job_ended base line mid files token new before between now (Err (faults.Strayed strayed)) next kept after is room le sure ends = absurd ends
+job_ended base line mid files token new before between now (Err (faults.Overtaken shape note)) next kept after is room le sure ends = absurd ends
+job_ended base line mid files token new before between now (Err (faults.Full full)) next kept after is room le sure ends = absurd ends
+job_ended base line mid files token new before between now (Err faults.DiskFault) next kept after is room le sure ends = absurd ends
 
-pub job_refused : {J : Type 0} (base : Base) (line : LineValue) (files : Files) (token : TokenValue) (new : NewChunkValue) (before : ℕ) (fault : InstallFault J) → JobRefused {J = J} base line files new (Some fault) → EndsJob {J = J} base line files token new before (Err fault) line token before
+pub job_refused : {J : Type 0} (base : Base) (line : LineValue) (files : Files) (token : TokenValue) (new : NewChunkValue) (before : ℕ) (fault : InstallFault J) → JobRefused {J = J} base line files new (Some fault) → EndsJob {J = J} base line files token new before (Err fault) line files token before
 job_refused base line files token new before (faults.Overtaken shape note) is = (record { line_is = refl; token_is = refl; later = omega arith }, is.0, is.1, is.2)
 job_refused base line files token new before (faults.Full full) is = (record { line_is = refl; token_is = refl; later = omega arith }, is.0, is.1)
 job_refused base line files token new before faults.NoMemory is = absurd is
@@ -192,33 +190,33 @@ same_room : (base : Base) (line : LineValue) (files : Files) (log : GateLog) (ne
 same_room base line files log new room = record { shape = room.shape; numbers = room.numbers }
 
 -- the log has no part in what is said
-with_files : {J : Type 0} (base : Base) (line : LineValue) (files : Files) (log : GateLog) (token : TokenValue) (new : NewChunkValue) (before now : ℕ) (r : Result FrontValue (InstallFault J)) (next : LineValue) (after : TokenValue)
-    → EndsJob {J = J} base line (record files { log = log }) token new before r next after now → EndsJob {J = J} base line files token new before r next after now
-with_files base line files log token new before now (Ok note) next after ends = (same_room base line files log new ends.0, ends.1, ends.2, ends.3, ends.4)
-with_files base line files log token new before now (Err faults.NoMemory) next after ends = ends
-with_files base line files log token new before now (Err (faults.Strayed strayed)) next after ends = ends
-with_files base line files log token new before now (Err (faults.Overtaken shape note)) next after ends = ends
-with_files base line files log token new before now (Err (faults.Full full)) next after ends = ends
-with_files base line files log token new before now (Err faults.DiskFault) next after ends = ends
-with_files base line files log token new before now (Err faults.InDoubt) next after ends = (same_room base line files log new ends.0, ends.1, ends.2, ends.3)
+with_files : {J : Type 0} (base : Base) (line : LineValue) (files : Files) (log : GateLog) (token : TokenValue) (new : NewChunkValue) (before now : ℕ) (r : Result FrontValue (InstallFault J)) (next : LineValue) (kept : Files) (after : TokenValue)
+    → EndsJob {J = J} base line (record files { log = log }) token new before r next kept after now → EndsJob {J = J} base line files token new before r next kept after now
+with_files base line files log token new before now (Ok note) next kept after ends = (same_room base line files log new ends.0, ends.1, ends.2, ends.3, ends.4, ends.5)
+with_files base line files log token new before now (Err faults.NoMemory) next kept after ends = ends
+with_files base line files log token new before now (Err (faults.Strayed strayed)) next kept after ends = ends
+with_files base line files log token new before now (Err (faults.Overtaken shape note)) next kept after ends = ends
+with_files base line files log token new before now (Err (faults.Full full)) next kept after ends = ends
+with_files base line files log token new before now (Err faults.DiskFault) next kept after ends = ends
+with_files base line files log token new before now (Err faults.InDoubt) next kept after ends = (same_room base line files log new ends.0, ends.1, ends.2, ends.3, ends.4)
 
-pub after_job : {J : Type 0} (base : ℕ → Base) (line mid : LineValue) (files mid_files : Files) (log : GateLog) (token taught : TokenValue) (new : NewChunkValue) (before between now : ℕ) (r : Result FrontValue (InstallFault J)) (next : LineValue) (after : TokenValue)
-    → stray_of (base line.index) line token ≡ None → mid ≡ settled line → mid_files ≡ record files { log = log } → Learns token taught token.made mid.history → before ≤ between → EndsJob {J = J} (base mid.index) mid mid_files taught new between r next after now
-    → Installs {J = J} (base line.index) line files token new before r next after now
-after_job {J} base line mid files mid_files log token taught new before between now r next after none is files_are learns later ends = inr (inr (record {
+pub after_job : {J : Type 0} (base : ℕ → Base) (line mid : LineValue) (files mid_files : Files) (log : GateLog) (token taught : TokenValue) (new : NewChunkValue) (before between now : ℕ) (r : Result FrontValue (InstallFault J)) (next : LineValue) (kept : Files) (after : TokenValue)
+    → stray_of (base line.index) line token ≡ None → mid ≡ settled line → mid_files ≡ record files { log = log } → Learns token taught token.made mid.history → before ≤ between → EndsJob {J = J} (base mid.index) mid mid_files taught new between r next kept after now
+    → Installs {J = J} (base line.index) line files token new before r next kept after now
+after_job {J} base line mid files mid_files log token taught new before between now r next kept after none is files_are learns later ends = inr (inr (record {
   none = none;
   taught = taught;
   between = between;
   later = later;
   learns = subst (λ (l : LineValue). Learns token taught token.made l.history) is learns;
-  ends = with_files {J = J} (base line.index) (settled line) files log taught new between now r next after
-      (subst (λ (f : Files). EndsJob {J = J} (base line.index) (settled line) f taught new between r next after now) files_are
-      (subst (λ (l : LineValue). EndsJob {J = J} (base l.index) l mid_files taught new between r next after now) is ends));
+  ends = with_files {J = J} (base line.index) (settled line) files log taught new between now r next kept after
+      (subst (λ (f : Files). EndsJob {J = J} (base line.index) (settled line) f taught new between r next kept after now) files_are
+      (subst (λ (l : LineValue). EndsJob {J = J} (base l.index) l mid_files taught new between r next kept after now) is ends));
 }))
 
-pub unsettled_job : {J : Type 0} (base : Base) (line : LineValue) (files : Files) (token : TokenValue) (new : NewChunkValue) (before now : ℕ) (next : LineValue) (after : TokenValue) → stray_of base line token ≡ None
-    → next ≡ line → Learns token after token.made next.history → before ≤ now → Rose before now → line.waiting ≢ None → Installs {J = J} base line files token new before (Err faults.DiskFault) next after now
-unsettled_job base line files token new before now next after none is learns later rose waits = inr (inl (record {
+pub unsettled_job : {J : Type 0} (base : Base) (line : LineValue) (files : Files) (token : TokenValue) (new : NewChunkValue) (before now : ℕ) (next : LineValue) (kept : Files) (after : TokenValue) → stray_of base line token ≡ None
+    → next ≡ line → Learns token after token.made next.history → before ≤ now → Rose before now → line.waiting ≢ None → Installs {J = J} base line files token new before (Err faults.DiskFault) next kept after now
+unsettled_job base line files token new before now next kept after none is learns later rose waits = inr (inl (record {
   none = none;
   answer = inr (refl, rose, waits);
   line_is = is;

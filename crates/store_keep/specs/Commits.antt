@@ -29,11 +29,12 @@ use Rattle.store_keep.specs.declared.fault.Committed.{Committed}
 abbrev pub front_of : LineValue → FrontValue
 front_of line = record { index = line.index; steps = line.history }
 
--- what settling says and leaves, by the counts of faults before and after: the disk has no part in it where nothing waits
+-- what settling says and leaves, by the counts of faults before and after: the disk has no part in it where nothing waits, and fails
+-- only where a record is staged, which stays so
 abbrev pub Settles : LineValue → ℕ → Result (Unit {0}) (Or Failed) → LineValue → GateLog → ℕ → Type 0
 Settles old before (Ok done) new log now = (new ≡ settled old) × (log.staged ≡ None) × (before ≤ now)
 Settles old before (Err causes.NoMemory) new log now = (new ≡ old) × (log.staged ≡ None) × (before ≤ now)
-Settles old before (Err (causes.Fault failed)) new log now = (new ≡ old) × (before ≤ now) × Rose before now × (old.waiting ≢ None)
+Settles old before (Err (causes.Fault failed)) new log now = (new ≡ old) × (before ≤ now) × Rose before now × (old.waiting ≢ None) × (log.staged ≢ None)
 
 -- The image gives the documents before a commit that was entered behind these steps, or all that the line has.
 abbrev pub GivesEntered : Schema → Base → List Step → LineValue → Image → Type 0
@@ -63,11 +64,12 @@ Refuses base line ops (faults.Full full note) =
 Refuses base line ops faults.Refused = ⊥
 Refuses base line ops (faults.InDoubt doubt) = ⊥
 
--- what making a commit of this step says and leaves
+-- What making a commit of this step says and leaves. In doubt by the disk is one whose record is staged: its gate couldn't be opened.
+-- In doubt by memory is one whose record isn't, since it is on the disk for good.
 abbrev pub Makes : {J : Type 0} → LineValue → TokenValue → Step → ℕ → ℕ → ℕ → Result (Committed J) (CommitFault J) → LineValue → GateLog → TokenValue → ℕ → Type 0
 Makes line token step number removed before (Ok made) new log after now =
     (new ≡ settled (record line { waiting = Some step })) × (made.note ≡ front_of new) × (made.number ≡ number) × (made.removed ≡ removed) × Learns token after (token.made + 1) new.history × (before ≤ now)
-Makes line token step number removed before (Err (faults.InDoubt doubts.Disk)) new log after now = (new ≡ record line { waiting = Some step }) × (after ≡ record token { made = token.made + 1 }) × (before ≤ now) × Rose before now
+Makes line token step number removed before (Err (faults.InDoubt doubts.Disk)) new log after now = (new ≡ record line { waiting = Some step }) × (after ≡ record token { made = token.made + 1 }) × (before ≤ now) × Rose before now × (log.staged ≢ None)
 Makes line token step number removed before (Err (faults.InDoubt doubts.Memory)) new log after now = (new ≡ record line { waiting = Some step }) × (after ≡ record token { made = token.made + 1 }) × (before ≤ now) × (log.staged ≡ None)
 Makes line token step number removed before (Err faults.Refused) new log after now = (new ≡ line) × (after ≡ token) × (before ≤ now) × Rose before now
 Makes line token step number removed before (Err fault) new log after now = ⊥

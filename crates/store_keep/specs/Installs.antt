@@ -1,5 +1,5 @@
 -- Installs: what the end of a job says, and what it leaves.
-use Rattle.std.specs.Prelude.{◌≡◌, ◌≢◌, ◌⊎◌, ℕ, ◌+◌, ◌≤◌, ◌<◌, List, [], ◌∷◌, ◌++◌, nat_lt, nat_le, if◌then◌else◌, Option, Some, None, Result, Ok, Err}
+use Rattle.std.specs.Prelude.{◌≡◌, ◌≢◌, ◌⊎◌, ℕ, ◌+◌, ◌≤◌, ◌<◌, true, nat_lt, nat_le, if◌then◌else◌, Option, Some, None, Result, Ok, Err}
 use Rattle.std.specs.Option.{option_or}
 use Rattle.srch_base.specs.Counts.{Rose}
 use Rattle.commit_outcomes.specs.declared.outcome.Full.{Full}
@@ -43,16 +43,16 @@ pub record HasRoom (base : Base) (line : LineValue) (files : Files) (new : NewCh
   pub shape : shape_of base line ≡ new.from.shape
   pub numbers : full_root files ≡ None
 
--- what the end of a job says and leaves behind a line in which nothing waits
-abbrev pub EndsJob : {J : Type 0} → Base → LineValue → Files → TokenValue → NewChunkValue → ℕ → Result FrontValue (InstallFault J) → LineValue → TokenValue → ℕ → Type 0
-EndsJob base line files token new before (Ok note) next after now =
-    HasRoom base line files new × (next ≡ settled (record line { waiting = Some (end_of base line new) })) × (note ≡ front_of next) × Learns token after token.made next.history × (before ≤ now)
-EndsJob base line files token new before (Err faults.NoMemory) next after now = IsSame line token before next after now
-EndsJob base line files token new before (Err (faults.Strayed strayed)) next after now = ⊥
-EndsJob base line files token new before (Err (faults.Overtaken shape note)) next after now = IsSame line token before next after now × (shape ≡ shape_of base line) × (new.from.shape < shape) × (note ≡ front_of line)
-EndsJob base line files token new before (Err (faults.Full full)) next after now = IsSame line token before next after now × (shape_of base line ≡ new.from.shape) × (full_root files ≡ Some full)
-EndsJob base line files token new before (Err faults.DiskFault) next after now = IsSame line token before next after now × Rose before now
-EndsJob base line files token new before (Err faults.InDoubt) next after now = HasRoom base line files new × (next ≡ record line { waiting = Some (end_of base line new) }) × (after ≡ token) × (before ≤ now)
+-- what the end of a job says and leaves behind a line in which nothing waits: once the root was replaced, no state is in doubt
+abbrev pub EndsJob : {J : Type 0} → Base → LineValue → Files → TokenValue → NewChunkValue → ℕ → Result FrontValue (InstallFault J) → LineValue → Files → TokenValue → ℕ → Type 0
+EndsJob base line files token new before (Ok note) next kept after now =
+    HasRoom base line files new × (next ≡ settled (record line { waiting = Some (end_of base line new) })) × (note ≡ front_of next) × Learns token after token.made next.history × (before ≤ now) × (kept.sure ≡ true)
+EndsJob base line files token new before (Err faults.NoMemory) next kept after now = IsSame line token before next after now
+EndsJob base line files token new before (Err (faults.Strayed strayed)) next kept after now = ⊥
+EndsJob base line files token new before (Err (faults.Overtaken shape note)) next kept after now = IsSame line token before next after now × (shape ≡ shape_of base line) × (new.from.shape < shape) × (note ≡ front_of line)
+EndsJob base line files token new before (Err (faults.Full full)) next kept after now = IsSame line token before next after now × (shape_of base line ≡ new.from.shape) × (full_root files ≡ Some full)
+EndsJob base line files token new before (Err faults.DiskFault) next kept after now = IsSame line token before next after now × Rose before now
+EndsJob base line files token new before (Err faults.InDoubt) next kept after now = HasRoom base line files new × (next ≡ record line { waiting = Some (end_of base line new) }) × (after ≡ token) × (before ≤ now) × (kept.sure ≡ true)
 
 -- The token contradicts the keeper, and nothing was done.
 pub record IsStrayJob {J : Type 0} (base : Base) (line : LineValue) (token : TokenValue) (before : ℕ) (result : Result FrontValue (InstallFault J)) (next : LineValue) (after : TokenValue) (now : ℕ) : Type 0 where
@@ -70,18 +70,18 @@ pub record IsUnsettledJob {J : Type 0} (base : Base) (line : LineValue) (token :
   pub later : before ≤ now
 
 -- What waited was settled, and then the job ended so.
-pub record IsAfterJob {J : Type 0} (base : Base) (line : LineValue) (files : Files) (token : TokenValue) (new : NewChunkValue) (before : ℕ) (result : Result FrontValue (InstallFault J)) (next : LineValue) (after : TokenValue) (now : ℕ) : Type 0 where
+pub record IsAfterJob {J : Type 0} (base : Base) (line : LineValue) (files : Files) (token : TokenValue) (new : NewChunkValue) (before : ℕ) (result : Result FrontValue (InstallFault J)) (next : LineValue) (kept : Files) (after : TokenValue) (now : ℕ) : Type 0 where
   pub none : stray_of base line token ≡ None
   pub taught : TokenValue
   pub between : ℕ
   pub later : before ≤ between
   pub learns : Learns token taught token.made (entered line)
-  pub ends : EndsJob {J = J} base (settled line) files taught new between result next after now
+  pub ends : EndsJob {J = J} base (settled line) files taught new between result next kept after now
 
 -- what installing a chunk says and leaves
-abbrev pub Installs : {J : Type 0} → Base → LineValue → Files → TokenValue → NewChunkValue → ℕ → Result FrontValue (InstallFault J) → LineValue → TokenValue → ℕ → Type 0
-Installs {J} base line files token new before result next after now =
-    IsStrayJob {J = J} base line token before result next after now ⊎ (IsUnsettledJob {J = J} base line token before result next after now ⊎ IsAfterJob {J = J} base line files token new before result next after now)
+abbrev pub Installs : {J : Type 0} → Base → LineValue → Files → TokenValue → NewChunkValue → ℕ → Result FrontValue (InstallFault J) → LineValue → Files → TokenValue → ℕ → Type 0
+Installs {J} base line files token new before result next kept after now =
+    IsStrayJob {J = J} base line token before result next after now ⊎ (IsUnsettledJob {J = J} base line token before result next after now ⊎ IsAfterJob {J = J} base line files token new before result next kept after now)
 
 -- the contradiction that is held after an answer: the first one
 abbrev pub strayed_after_job : {J : Type 0} → Option Strayed → Result FrontValue (InstallFault J) → Option Strayed

@@ -1,5 +1,5 @@
--- faults of a store
-pub mod Faults
+-- why a store isn't opened
+pub use Rattle.store_reads.specs.declared.fault.StoreFault
 -- what a keeper holds
 pub mod Keepers
 -- what a commit says, and what it leaves

@@ -13,13 +13,9 @@ ghost use Rattle.chunk_store.specs.Images.{Told};
 ghost use Rattle.chunk_store.specs.Calls.{Crashes};
 ghost use Rattle.srch_base.specs.Counts.{HasCause};
 ghost use Rattle.store_keep.specs.Opens.{HasStoreCause, HidesNothing, LeavesBegun};
-ghost use Rattle.store_keep.specs.steps.Loads.{IsSnapshotOf};
+ghost use Rattle.store_reads.specs.steps.Loads.{IsSnapshotOf};
 
-use crate::fault::StoreFault;
-use crate::found::Found;
-use crate::loading::Loaded;
 use chunk_store::Disk;
-use doc_bytes::put_schema;
 use doc_types::{Schema, Snapshot};
 use gate_log::GateLog;
 use image_chunk::AnyChunk;
@@ -27,6 +23,7 @@ use root_slots::{Root, RootBytes, RootState};
 use srch_base::{Failed, Items, NoMemory, Text};
 use std::alloc::Global;
 use std::sync::Arc;
+use store_reads::{Found, StoreFault, text_of};
 use store_steps::Files;
 
 /// The first file of an index that isn't a slot.
@@ -80,8 +77,19 @@ fn first_of(
 {
     let state = state_of(alloc, schema)?;
     let bytes = RootBytes::new(alloc, &state)?;
-    let snapshot = Loaded::over(0, Vec::new(alloc))?.into_snapshot();
+    let snapshot = empty_snapshot(alloc);
     Ok((state, bytes, Arc::new(alloc, snapshot)?))
+}
+
+/// The snapshot of an index without documents.
+fn empty_snapshot(alloc: Global) -> Snapshot<AnyChunk>
+    ensures { result ≡ record { number = 0; shape = 0; layers = [] } }
+{
+    Snapshot {
+        number: 0,
+        shape: 0,
+        layers: Items::new(Vec::new(alloc)),
+    }
 }
 
 /// The first state of an index.
@@ -101,15 +109,6 @@ fn state_of(alloc: Global, schema: &Schema) -> Result<RootState, NoMemory>
         newer: FIRST_LOG,
         chunks: Items::new(Vec::new(alloc)),
     })
-}
-
-/// The text of the columns.
-pub(crate) fn text_of(alloc: Global, schema: &Schema) -> Result<Vec<u8>, NoMemory>
-    ensures { IfOk result (λ text. text.items ≡ schema_text schema.now) }
-{
-    let mut text = Vec::new(alloc);
-    put_schema(schema, &mut text)?;
-    Ok(text)
 }
 
 /// Writes the first log and the first root.

@@ -40,6 +40,7 @@ impl<D: Disk, J: Naming> Kept<D, J> {
         requires sure { self.old.files.sure ≡ true }
         requires kept { Keeps D.Disk J.schema J.base self.old.disk self.old.files self.old.line }
         ensures ends { FinishesJob self.old.line token.old (D.faults self.old.disk) result self.new.line token.new (D.faults self.new.disk) }
+        ensures files { self.new.files ≡ self.old.files }
         ensures kept { Keeps D.Disk J.schema J.base self.new.disk self.new.files self.new.line }
         ensures crash { LeavesOnly D.Disk self.old.disk self.new.disk (GivesEither (J.schema self.old.line.index) (J.base self.old.line.index) self.old.line.history self.old.line.waiting) }
     {
@@ -73,7 +74,7 @@ impl<D: Disk, J: Naming> Kept<D, J> {
         requires room { HasRoom (J.base self.old.line.index) self.old.line self.old.files new.now }
         requires chunk { IsNewChunk (J.schema self.old.line.index) new.now }
         requires prepared { IsEndPrepared (J.schema self.old.line.index) (J.base self.old.line.index) self.old.line new.now prepared }
-        ensures ends { EndsJob (J.base self.old.line.index) self.old.line self.old.files token.old new.now (D.faults self.old.disk) result self.new.line token.new (D.faults self.new.disk) }
+        ensures ends { EndsJob (J.base self.old.line.index) self.old.line self.old.files token.old new.now (D.faults self.old.disk) result self.new.line self.new.files token.new (D.faults self.new.disk) }
         ensures kept { Keeps D.Disk J.schema J.base self.new.disk self.new.files self.new.line }
         ensures crash { LeavesOnly D.Disk self.old.disk self.new.disk (GivesEntered (J.schema self.old.line.index) (J.base self.old.line.index) self.old.line.history self.new.line) }
     {
@@ -106,7 +107,7 @@ impl<D: Disk, J: Naming> Kept<D, J> {
         requires kept { Keeps D.Disk J.schema J.base self.old.disk self.old.files self.old.line }
         requires seen { HasSeen (J.base self.old.line.index) self.old.line.history new.now.from }
         requires chunk { IsNewChunk (J.schema self.old.line.index) new.now }
-        ensures ends { EndsJob (J.base self.old.line.index) self.old.line self.old.files token.old new.now (D.faults self.old.disk) result self.new.line token.new (D.faults self.new.disk) }
+        ensures ends { EndsJob (J.base self.old.line.index) self.old.line self.old.files token.old new.now (D.faults self.old.disk) result self.new.line self.new.files token.new (D.faults self.new.disk) }
         ensures kept { Keeps D.Disk J.schema J.base self.new.disk self.new.files self.new.line }
         ensures crash { LeavesOnly D.Disk self.old.disk self.new.disk (GivesEntered (J.schema self.old.line.index) (J.base self.old.line.index) self.old.line.history self.new.line) }
     {
@@ -133,7 +134,7 @@ impl<D: Disk, J: Naming> Keeper<D, J> {
         requires seen { HasSeen (J.base self.old.kept.line.index) token.old.seen new.from }
         requires chunk { IsNewChunk (J.schema self.old.kept.line.index) new }
         requires sound { IsSound D.Disk J.schema J.base self.old }
-        ensures ends { Installs (J.base self.old.kept.line.index) self.old.kept.line self.old.kept.files token.old new (D.faults self.old.kept.disk) result self.new.kept.line token.new (D.faults self.new.kept.disk) }
+        ensures ends { Installs (J.base self.old.kept.line.index) self.old.kept.line self.old.kept.files token.old new (D.faults self.old.kept.disk) result self.new.kept.line self.new.kept.files token.new (D.faults self.new.kept.disk) }
         ensures strayed { self.new.strayed ≡ strayed_after_job self.old.strayed result }
         ensures same { IsSameKeeper self.old self.new }
         ensures token { IsSameToken token.old token.new }

@@ -7,27 +7,21 @@ mod closing;
 mod committing;
 mod entering;
 mod fault;
-mod found;
 mod install_fault;
 mod installing;
 mod job_ends;
 mod keeper;
 mod kept;
 mod laws;
-mod laying;
-mod loading;
 mod making;
 mod numbers;
 mod opened;
 mod opening;
-mod pieces;
 mod preparing;
-mod reading;
-mod recent;
 mod settling;
 
 pub use commit_outcomes::Doubt;
-pub use fault::{CommitFault, Committed, StoreFault};
+pub use fault::{CommitFault, Committed};
 pub use install_fault::InstallFault;
 pub use job_ends::{LAST_FILE, LAST_ROOT};
 pub use keeper::Keeper;
@@ -35,3 +29,4 @@ pub use laws::{
     a_crash_between_calls_leaves_the_documents, files_between_calls_are_those_of_the_history,
 };
 pub use opening::Opened;
+pub use store_reads::StoreFault;

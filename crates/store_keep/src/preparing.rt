@@ -12,7 +12,6 @@ ghost use Rattle.commit_outcomes.specs.declared.outcome.TheConstants.{MAX_DOCUME
 ghost use Rattle.doc_types.specs.Snapshots.{AreLayers, all_living};
 ghost use Rattle.layer_commit.specs.Commits.{Applies};
 ghost use Rattle.layer_joins.specs.Joins.{AreOfOne, MayMerge};
-ghost use Rattle.layer_joins.specs.Joins.{AreApart};
 ghost use Rattle.step_history.specs.History.{IsGood, last_snapshot};
 ghost use Rattle.step_history.specs.Logs.{log_at};
 ghost use Rattle.store_steps.specs.Refusals.{full_numbers, full_of, is_put, most_log};
@@ -31,12 +30,12 @@ use doc_types::{Snapshot, Txn, TxnOp, txn_bytes};
 use gate_log::Staged;
 use image_chunk::AnyChunk;
 use layer_commit::{Refusal, commit};
-use layer_joins::merge_last;
 use srch_base::{NoMemory, Or};
 use std::alloc::Global;
 use std::sync::Arc;
 use step_book::{Made, Naming};
 use step_line::Pending;
+use store_reads::upkept;
 use store_steps::{LAST_COMMIT, MOST_LOG, MOST_LOG_BY_REMOVALS};
 
 /// A commit that has all its memory: its record, and the step that it makes.
@@ -74,18 +73,6 @@ fn most_log(txn: &Txn) -> u64
     } else {
         MOST_LOG_BY_REMOVALS
     }
-}
-
-/// A snapshot, its last layers put together where that is cheap by now.
-pub(crate) fn upkept(alloc: Global, mut next: Snapshot<AnyChunk>) -> Snapshot<AnyChunk>
-    requires { AreOfOne (all_living next.layers) }
-    ensures merges { MayMerge next result }
-    ensures sound { AreLayers result.layers }
-    ensures apart { AreApart (all_living next.layers) }
-{
-    // The rows stand, whether or not there is memory for upkeep.
-    let _ = merge_last(alloc, &mut next);
-    next
 }
 
 /// The record of a transaction.

@@ -22,6 +22,7 @@ impl<D: Disk, J: Naming> Kept<D, J> {
         ensures kept { Keeps D.Disk J.schema J.base self.new.disk self.new.files self.new.line }
         ensures crash { LeavesOnly D.Disk self.old.disk self.new.disk (GivesEither (J.schema self.old.line.index) (J.base self.old.line.index) self.old.line.history self.old.line.waiting) }
         ensures waits { OnErr result (self.old.line.waiting ≢ None) }
+        ensures staged { OnErr result (self.new.files.log.staged ≢ None) }
         ensures cause { HasCause (D.faults self.old.disk) (D.faults self.new.disk) result }
     {
         if self.files.log.is_staged() {

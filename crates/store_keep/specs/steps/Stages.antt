@@ -57,6 +57,6 @@ Prepares schema base line worker ops (Err fault) = Refuses base line ops fault
 abbrev pub Finishes : {J : Type 0} → LineValue → TokenValue → ℕ → ℕ → ℕ → Result (Committed J) (CommitFault J) → LineValue → GateLog → TokenValue → ℕ → Type 0
 Finishes line token number removed before (Ok made) new log after now =
     (new ≡ settled line) × (made.note ≡ front_of new) × (made.number ≡ number) × (made.removed ≡ removed) × Learns token after token.made new.history × (before ≤ now)
-Finishes line token number removed before (Err (faults.InDoubt doubts.Disk)) new log after now = (new ≡ line) × (after ≡ token) × (before ≤ now) × Rose before now
+Finishes line token number removed before (Err (faults.InDoubt doubts.Disk)) new log after now = (new ≡ line) × (after ≡ token) × (before ≤ now) × Rose before now × (log.staged ≢ None)
 Finishes line token number removed before (Err (faults.InDoubt doubts.Memory)) new log after now = (new ≡ line) × (after ≡ token) × (before ≤ now) × (log.staged ≡ None)
 Finishes line token number removed before (Err fault) new log after now = ⊥

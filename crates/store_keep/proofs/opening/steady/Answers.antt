@@ -1,4 +1,4 @@
-use Rattle.store_keep.proofs.FilesRead.{steady_by}
+use Rattle.store_keep.proofs.Steadied.{steady_by}
 use Rattle.store_keep.proofs.opening.steady.Goals as goal
 
 pub returns-in-Some-clause-steady : goal.returns-in-Some-clause-steady

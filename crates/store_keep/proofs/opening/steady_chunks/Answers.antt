@@ -1,6 +1,6 @@
 use Rattle.std.proofs.Common.{arith, sym}
 use Rattle.chunk_store.proofs.WholeFiles.{looks_then}
-use Rattle.store_keep.proofs.Bases.{steady_more}
+use Rattle.store_keep.proofs.Steadied.{steady_more}
 use Rattle.store_keep.proofs.opening.steady_chunks.Goals as goal
 
 pub chunks-preserved : goal.chunks-preserved

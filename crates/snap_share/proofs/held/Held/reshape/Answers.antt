@@ -22,5 +22,5 @@ returns g c =
     let made = c.install-result in
     let of : c.args.token.now.index ≡ keeper.kept.line.index = sym c.index.ensures ∙ c.if-index-self.false ∙ c.self.invariant.0 in
     let good = subst (λ (i : ℕ). IsGood (g.J.Naming.schema i) (g.J.Naming.base i) made.new.token.seen) (made.ensures.token.index ∙ of) c.len-after.ensures.good in
-    reshaped_so g.J.Naming.schema g.J.Naming.base keeper.kept.line keeper.kept.files c.args.token.now c.args.new (g.D.Disk.faults keeper.kept.disk) made.result made.new.self.kept.line made.new.token (g.D.Disk.faults made.new.self.kept.disk)
+    reshaped_so g.J.Naming.schema g.J.Naming.base keeper.kept.line keeper.kept.files c.args.token.now c.args.new (g.D.Disk.faults keeper.kept.disk) made.result made.new.self.kept.line made.new.self.kept.files made.new.token (g.D.Disk.faults made.new.self.kept.disk)
     of made.ensures.ends good

@@ -1,4 +1,4 @@
-use Rattle.std.proofs.Common.{◌≡◌, ◌≤◌, ◌∙◌, ℕ, ap, length, sym, subst, arith, rules, None, Err}
+use Rattle.std.proofs.Common.{◌≡◌, ◌≤◌, ℕ, ap, length, sym, subst, arith, rules, None, Err}
 use Rattle.srch_base.specs.declared.faults.Failed.{Failed}
 use Rattle.srch_base.specs.declared.faults.Or.{Or}
 use Rattle.srch_base.specs.declared.faults.Or.TheVariants as causes
@@ -55,7 +55,7 @@ returns-in-Ok-clause-ends g c =
     let token = c.args.token.now in
     let mid = c.ready.new.self in
     let none : stray_of (g.J.Naming.base line.index) line token ≡ None = search rules in
-    after_job g.J.Naming.base line mid.line c.args.self.now.kept.files mid.files mid.files.log token c.ready.new.token c.args.new (g.D.Disk.faults c.args.self.now.kept.disk) (g.D.Disk.faults mid.disk) (g.D.Disk.faults c.install_next.new.self.disk) c.install_next.result c.install_next.new.self.line c.install_next.new.token
+    after_job g.J.Naming.base line mid.line c.args.self.now.kept.files mid.files mid.files.log token c.ready.new.token c.args.new (g.D.Disk.faults c.args.self.now.kept.disk) (g.D.Disk.faults mid.disk) (g.D.Disk.faults c.install_next.new.self.disk) c.install_next.result c.install_next.new.self.line c.install_next.new.self.files c.install_next.new.token
     none c.in-Ok.ensures.ends.0 c.ready.ensures.files c.in-Ok.ensures.ends.2 c.in-Ok.ensures.ends.3 c.install_next.ensures.ends
 
 pub returns-clause-ends : goal.returns-clause-ends
@@ -66,4 +66,4 @@ returns-clause-ends g c =
     let is : c.in-Err-Fault.field-0 ≡ causes.Fault (record {}) = search rules in
     let ends : Readies line token (g.D.Disk.faults c.args.self.now.kept.disk) (Err (causes.Fault (record {}))) c.ready.new.self.line c.ready.new.self.files.log c.ready.new.token (g.D.Disk.faults c.ready.new.self.disk) =
     subst (λ (e : Or Failed). Readies line token (g.D.Disk.faults c.args.self.now.kept.disk) (Err e) c.ready.new.self.line c.ready.new.self.files.log c.ready.new.token (g.D.Disk.faults c.ready.new.self.disk)) is c.in-Err-Fault.ensures.ends in
-    unsettled_job (g.J.Naming.base line.index) line c.args.self.now.kept.files token c.args.new (g.D.Disk.faults c.args.self.now.kept.disk) (g.D.Disk.faults c.ready.new.self.disk) c.ready.new.self.line c.ready.new.token none ends.0 ends.1 ends.2 ends.3 ends.4
+    unsettled_job (g.J.Naming.base line.index) line c.args.self.now.kept.files token c.args.new (g.D.Disk.faults c.args.self.now.kept.disk) (g.D.Disk.faults c.ready.new.self.disk) c.ready.new.self.line c.ready.new.self.files c.ready.new.token none ends.0 ends.1 ends.2 ends.3 ends.4

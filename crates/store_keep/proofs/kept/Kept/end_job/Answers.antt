@@ -1,11 +1,10 @@
-use Rattle.std.proofs.Common.{◌≡◌, ◌≤◌, ◌∙◌, ℕ, Option, Some, ap, inl, refl, sym, subst, rules}
-use Rattle.std.specs.Arc.{arc_value}
-use Rattle.doc_types.specs.Snapshots.{SnapshotValue}
+use Rattle.std.proofs.Common.{◌≡◌, ◌≤◌, ◌∙◌, Some, true, ap, inl, sym, subst, rules}
 use Rattle.step_book.specs.Fronts.{FrontValue}
-use Rattle.step_history.specs.History.{Reshape, Step}
+use Rattle.step_history.specs.History.{Step}
 use Rattle.step_line.specs.Lines.{LineValue, MayFollow}
 use Rattle.store_steps.specs.Kept.{Gives}
 use Rattle.store_steps.proofs.Leaving.{leaves_weaker}
+use Rattle.store_steps.specs.declared.files.Files.{Files}
 use Rattle.store_keep.specs.Commits.{GivesEntered, front_of}
 use Rattle.store_keep.specs.Installs.{end_of}
 use Rattle.store_keep.specs.Keepers.{Keeps}
@@ -32,8 +31,9 @@ returns-in-Ok-clause-ends g c =
     let line = c.args.self.now.line in
     let mid : c.put.new.self ≡ record line { waiting = Some (end_of (g.J.Naming.base line.index) line c.args.new.now) } = search rules in
     let later : g.D.Disk.faults c.args.self.now.disk ≤ g.D.Disk.faults c.write_end.new.self.disk = search rules in
-    job_ended (g.J.Naming.base line.index) line c.put.new.self c.args.self.now.files c.args.token.now c.args.new.now (g.D.Disk.faults c.args.self.now.disk) (g.D.Disk.faults c.write_end.new.self.disk) (g.D.Disk.faults c.publish_end.new.self.disk) c.publish_end.result c.publish_end.new.self.line c.publish_end.new.token
-    mid c.requires.room later c.publish_end.ensures.ends
+    let sure : c.publish_end.new.self.files.sure ≡ true = ap (λ (f : Files). f.sure) c.publish_end.ensures.files ∙ c.in-Ok.ensures.sure in
+    job_ended (g.J.Naming.base line.index) line c.put.new.self c.args.self.now.files c.args.token.now c.args.new.now (g.D.Disk.faults c.args.self.now.disk) (g.D.Disk.faults c.write_end.new.self.disk) (g.D.Disk.faults c.publish_end.new.self.disk) c.publish_end.result c.publish_end.new.self.line c.publish_end.new.self.files c.publish_end.new.token
+    mid c.requires.room later sure c.publish_end.ensures.ends
 
 pub returns-in-Ok-clause-crash : goal.returns-in-Ok-clause-crash
 returns-in-Ok-clause-crash g c =

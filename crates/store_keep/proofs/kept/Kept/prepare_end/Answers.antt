@@ -1,10 +1,10 @@
-use Rattle.std.proofs.Common.{◌≡◌, ◌<◌, ◌+◌, ◌^◌, ap, sym, subst, ◌∙◌, arith, rules, length, None, Option}
+use Rattle.std.proofs.Common.{◌≡◌, ◌<◌, ◌+◌, ◌^◌, ap, sym, subst, ◌∙◌, arith, rules, length, Option}
 use Rattle.std.specs.Arc.{arc_value}
 use Rattle.doc_types.specs.declared.documents.DocRow.{DocRow}
 use Rattle.std.specs.Prelude.{List}
 use Rattle.doc_types.specs.Snapshots.{AreLayers, SnapshotValue}
 use Rattle.reshape_laws.specs.Rebasing.{rebased}
-use Rattle.step_history.specs.History.{IsGood, Step, last_snapshot}
+use Rattle.step_history.specs.History.{Step, last_snapshot}
 use Rattle.store_steps.specs.Kept.{IsKept}
 use Rattle.store_keep.specs.Installs.{installed}
 use Rattle.store_keep.proofs.Reshaping.{has_moved, layer_new, layer_rows, may_follow}

@@ -1,4 +1,4 @@
-use Rattle.std.proofs.Common.{◌≡◌, sym, subst}
+use Rattle.std.proofs.Common.{subst}
 use Rattle.step_line.specs.Lines.{LineValue}
 use Rattle.store_steps.specs.Kept.{GivesEither, LeavesOnly}
 use Rattle.store_keep.proofs.Reshaping.{settled_leaves}

@@ -1,4 +1,4 @@
-use Rattle.std.proofs.Common.{◌≡◌, ◌≢◌, ◌<◌, ap, sym, ◌∙◌, arith}
+use Rattle.std.proofs.Common.{◌≡◌, ◌≢◌, ap, sym, ◌∙◌, arith}
 use Rattle.doc_types.specs.Snapshots.{SnapshotValue}
 use Rattle.step_history.specs.History.{last_snapshot}
 use Rattle.store_keep.proofs.Reshaping.{shape_risen}

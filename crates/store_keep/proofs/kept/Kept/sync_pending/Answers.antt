@@ -1,7 +1,7 @@
 use Rattle.std.proofs.Common.{sym, ◌∙◌}
 use Rattle.store_steps.proofs.Keeping.{gives_now, not_opened, opening_leaves, stands_staged, was_opened}
 use Rattle.store_steps.proofs.Leaving.{leaves_still}
-use Rattle.store_keep.proofs.Publishing.{step_waits}
+use Rattle.store_keep.proofs.Publishing.{step_waits, still_staged}
 use Rattle.store_keep.proofs.kept.Kept.sync_pending.Goals as goal
 
 pub open_gate-requires-clause-stands : goal.open_gate-requires-clause-stands
@@ -28,3 +28,6 @@ returns-else-is_staged-clause-crash g c = leaves_still g.D.Disk c.args.self.now.
 
 pub returns-in_err-open_gate-clause-waits : goal.returns-in_err-open_gate-clause-waits
 returns-in_err-open_gate-clause-waits g c = step_waits g.D.Disk _ _ _ _ _ _ c.requires.kept (sym c.is_staged.ensures ∙ c.if-is_staged.true) c.from_residual.result
+
+pub returns-in_err-open_gate-clause-staged : goal.returns-in_err-open_gate-clause-staged
+returns-in_err-open_gate-clause-staged g c = still_staged _ c.open_gate.new.self (sym c.in_err-open_gate.ensures.err) (sym c.is_staged.ensures ∙ c.if-is_staged.true) c.from_residual.result

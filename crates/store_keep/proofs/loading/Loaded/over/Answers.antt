@@ -1,6 +1,0 @@
-use Rattle.std.proofs.Common.{refl}
-use Rattle.store_keep.proofs.Loads.{loaded_nothing}
-use Rattle.store_keep.proofs.loading.Loaded.over.Goals as goal
-
-pub returns : goal.returns
-returns c = λ schema are. loaded_nothing schema c.args.chunks.items c.args.through _ are c.in_ok-laid.ensures.is refl refl

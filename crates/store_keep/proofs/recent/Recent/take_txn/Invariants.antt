@@ -1,5 +1,0 @@
-use Rattle.store_keep.proofs.Recents.{AreLeft}
-use Rattle.store_keep.proofs.recent.Recent.take_txn.Given as goal
-
-abbrev pub invariant-ops : goal.invariant-ops
-invariant-ops l = AreLeft l.number l.fn.txn.ops l.op-iterator.rest.items l.fn.self l.self
