@@ -1,6 +1,6 @@
 -- A statement wants one thing or is refused for one reason, and never both: by cases on the statement, since a SELECT and an
 -- INSERT are read in one way.
-use Rattle.std.proofs.Common.{◌≡◌, ℕ, List, Option, sym, ap, ◌∙◌, inl, inr}
+use Rattle.std.proofs.Common.{◌≡◌, ℕ, List, Option, Some, sym, ap, ◌∙◌, inl, inr}
 use Rattle.index_conf.specs.declared.conf.IndexConf.{IndexConf}
 use Rattle.doc_types.specs.declared.transactions.Txn.{Txn}
 use Rattle.ql_tree.specs.declared.select.Select.{Select}
@@ -13,22 +13,25 @@ use Rattle.ql_insert.specs.Insertions.{Makes, RefusesValues}
 use Rattle.ql_select.specs.declared.selection.Selection.{Selection}
 use Rattle.ql_select.specs.Selections.{RefusesSelection, Selects}
 use Rattle.ql_answers.specs.declared.plan.Plan.{Plan}
-use Rattle.ql_answers.specs.declared.plan.Plan.TheVariants.{Search, Show, Status}
+use Rattle.ql_answers.specs.declared.plan.Plan.TheVariants.{Reshape, Search, Show, Status}
 use Rattle.ql_answers.specs.declared.state.State.{State}
 use Rattle.ql_answers.specs.Indexes.{index_fault}
-use Rattle.ql_answers.specs.Plans.{Refuses, RefusesJob, Wants, autocommit_of}
+use Rattle.ql_answers.specs.Plans.{Refuses, Wants, WantsJob, autocommit_of}
 use Rattle.ql_answers.specs.Showing.{description}
 use Rattle.ql_answers.specs.Transactions.{killing}
+use Rattle.step_history.specs.declared.job.Job.{Job}
+use Rattle.step_history.specs.declared.job.Job.TheVariants.{Flush, Optimize}
 use Rattle.ql_answers.proofs.OneSearch.{not_searched, one_refused_select, one_search}
 use Rattle.ql_answers.proofs.OneServed.{not_served, one_conf, one_place}
 use Rattle.ql_answers.proofs.OneWrite.{not_deleted, not_stored, not_truncated, one_delete, one_refused_delete, one_refused_store, one_refused_truncate, one_store, one_truncate}
 
--- a job on an index has one refusal
-one_job : (confs : List IndexConf) (index : List ℕ) (a b : Refused) → RefusesJob confs index a → RefusesJob confs index b → a ≡ b
-one_job confs index a b (inl fault) (inl fault') = one_value (index_fault confs index) a b fault fault'
-one_job confs index a b (inl fault) (inr (good, says)) = absurd (not_both (index_fault confs index) a good fault)
-one_job confs index a b (inr (good, says)) (inl fault) = absurd (not_both (index_fault confs index) b good fault)
-one_job confs index a b (inr (good, says)) (inr (good', says')) = says ∙ sym says'
+-- a job is wanted of one index
+one_job : (confs : List IndexConf) (index : List ℕ) (job : Job) (a b : Plan) → WantsJob confs index job a → WantsJob confs index job b → a ≡ b
+one_job confs index job a b (p, conf, serves, is) (q, other, serves', is') =
+    is ∙ ap (λ (place : ℕ). Reshape place job) (one_place confs index p q conf other serves serves') ∙ sym is'
+
+no_job : (confs : List IndexConf) (index : List ℕ) (job : Job) (plan : Plan) (refusal : Refused) → WantsJob confs index job plan → index_fault confs index ≡ Some refusal → ⊥
+no_job confs index job plan refusal (place, conf, serves, is) fault = not_served confs index place conf refusal serves fault
 
 module _
     (one_selection : (conf : IndexConf) (select : Select) (a b : Selection) → Selects conf select a → Selects conf select b → a ≡ b)
@@ -52,6 +55,9 @@ module _
   one_plan confs state (statements.SetAutocommit value) a b is is' = one_value (autocommit_of state value) a b is is'
   one_plan confs state (statements.SetNames names) a b is is' = is ∙ sym is'
   one_plan confs state (statements.SetOther scope target value) a b is is' = is ∙ sym is'
+  one_plan confs state (statements.FlushRamchunk index) a b wants wants' = one_job confs index Flush a b wants wants'
+  one_plan confs state (statements.FlushRtindex index) a b wants wants' = one_job confs index Flush a b wants wants'
+  one_plan confs state (statements.OptimizeIndex index) a b wants wants' = one_job confs index Optimize a b wants wants'
   one_plan confs state (statements.TruncateRtindex index) a b wants wants' = one_truncate confs state index a b wants wants'
   one_plan confs state (statements.Describe index) a b (p, conf, serves, is) (q, other, serves', is') =
       is ∙ ap (λ (c : IndexConf). Show (description c.schema)) (one_conf confs index p q conf other serves serves') ∙ sym is'
@@ -62,7 +68,6 @@ module _
   one_plan confs state statements.ShowVariables a b is is' = is ∙ sym is'
   one_plan confs state statements.ShowDatabases a b is is' = is ∙ sym is'
   one_plan confs state statements.ShowMeta a b is is' = is ∙ sym is'
-  one_plan confs state statement a b wants wants' = absurd wants
 
   pub one_refusal : (confs : List IndexConf) (state : State) (statement : Statement) (a b : Refused) → Refuses confs state statement a → Refuses confs state statement b → a ≡ b
   one_refusal confs state (statements.Select select) a b refuses refuses' = one_refused_select one_selection one_selection_fault not_refused_selection confs select a b refuses refuses'
@@ -72,9 +77,9 @@ module _
   one_refusal confs state (statements.TruncateRtindex index) a b refuses refuses' = one_refused_truncate confs state index a b refuses refuses'
   one_refusal confs state (statements.Describe index) a b fault fault' = one_value (index_fault confs index) a b fault fault'
   one_refusal confs state (statements.ShowIndexStatus index) a b fault fault' = one_value (index_fault confs index) a b fault fault'
-  one_refusal confs state (statements.FlushRamchunk index) a b refuses refuses' = one_job confs index a b refuses refuses'
-  one_refusal confs state (statements.FlushRtindex index) a b refuses refuses' = one_job confs index a b refuses refuses'
-  one_refusal confs state (statements.OptimizeIndex index) a b refuses refuses' = one_job confs index a b refuses refuses'
+  one_refusal confs state (statements.FlushRamchunk index) a b fault fault' = one_value (index_fault confs index) a b fault fault'
+  one_refusal confs state (statements.FlushRtindex index) a b fault fault' = one_value (index_fault confs index) a b fault fault'
+  one_refusal confs state (statements.OptimizeIndex index) a b fault fault' = one_value (index_fault confs index) a b fault fault'
   one_refusal confs state statement a b refuses refuses' = absurd refuses
 
   pub never_both : (confs : List IndexConf) (state : State) (statement : Statement) (plan : Plan) (refusal : Refused) → Wants confs state statement plan → Refuses confs state statement refusal → ⊥
@@ -85,7 +90,7 @@ module _
   never_both confs state (statements.TruncateRtindex index) plan refusal wants refuses = not_truncated confs state index plan refusal wants refuses
   never_both confs state (statements.Describe index) plan refusal (place, conf, serves, is) fault = not_served confs index place conf refusal serves fault
   never_both confs state (statements.ShowIndexStatus index) plan refusal (place, conf, serves, is) fault = not_served confs index place conf refusal serves fault
-  never_both confs state (statements.FlushRamchunk index) plan refusal wants refuses = wants
-  never_both confs state (statements.FlushRtindex index) plan refusal wants refuses = wants
-  never_both confs state (statements.OptimizeIndex index) plan refusal wants refuses = wants
+  never_both confs state (statements.FlushRamchunk index) plan refusal wants fault = no_job confs index Flush plan refusal wants fault
+  never_both confs state (statements.FlushRtindex index) plan refusal wants fault = no_job confs index Flush plan refusal wants fault
+  never_both confs state (statements.OptimizeIndex index) plan refusal wants fault = no_job confs index Optimize plan refusal wants fault
   never_both confs state statement plan refusal wants refuses = refuses

@@ -12,15 +12,16 @@ use Rattle.table_search.specs.declared.asked.Asked.{Asked}
 use Rattle.table_search.specs.declared.found.Found.{Found}
 use Rattle.table_search.specs.declared.keywords.WordDocs.{WordDocs}
 use Rattle.ql_answers.specs.declared.plan.Counted.TheVariants as counting
+use Rattle.ql_answers.specs.declared.job_outcome.JobOutcome.{JobOutcome}
 use Rattle.ql_answers.specs.declared.plan.Plan.{Plan}
-use Rattle.ql_answers.specs.declared.plan.Plan.TheVariants.{Agree, Commit, Keep, Put, Search, Show, Status}
+use Rattle.ql_answers.specs.declared.plan.Plan.TheVariants.{Agree, Commit, Keep, Put, Reshape, Search, Show, Status}
 use Rattle.ql_answers.specs.declared.state.State.{State}
 use Rattle.ql_answers.specs.Metas.{max_matches, meta_of}
 use Rattle.ql_answers.specs.Reading.{found_sets}
 use Rattle.commit_outcomes.specs.declared.outcome.CommitOutcome.{CommitOutcome}
 use Rattle.ql_refusals.specs.Refusals.{no_memory}
 use Rattle.ql_answers.specs.Replies.{Fails, Finds, Reply, Shows}
-use Rattle.ql_answers.specs.Sessions.{AreAlike, Committing, Decides, Happened, HasLayers, LookAlike, NoMemory, Nothing, Read, after_plan, disk_count, next_of, reply_to_commit, told_by}
+use Rattle.ql_answers.specs.Sessions.{AreAlike, Committing, Decides, Happened, HasLayers, LookAlike, NoMemory, Nothing, Read, Reshaping, after_plan, disk_count, next_of, reply_to_commit, reply_to_job, told_by}
 use Rattle.ql_answers.specs.Showing.{index_status}
 use Rattle.ql_answers.specs.States.{telling}
 
@@ -44,6 +45,7 @@ without_memory (Status place) reply is = is
 without_memory (Keep place txn affected) reply is = is
 without_memory (Put place txn counted) reply is = is
 without_memory (Commit place turn) reply is = is
+without_memory (Reshape place job) reply is = is
 
 of_nothing : (plan : Plan) (a b : Reply) → Decides plan Nothing a → Decides plan Nothing b → a ≡ b
 of_nothing (Agree turn) a b says says' = says ∙ sym says'
@@ -56,6 +58,10 @@ of_commit (Put place txn counted) outcome other a b same says says' = says ∙ a
 of_commit (Commit place turn) outcome other a b same says says' = says ∙ ap (reply_to_commit counting.Nothing 0) same ∙ sym says'
 of_commit plan outcome other a b same says says' = absurd says
 
+of_job : (plan : Plan) (outcome other : JobOutcome) (a b : Reply) → outcome ≡ other → Decides plan (Reshaping outcome) a → Decides plan (Reshaping other) b → a ≡ b
+of_job (Reshape place job) outcome other a b same says says' = says ∙ ap reply_to_job same ∙ sym says'
+of_job plan outcome other a b same says says' = absurd says
+
 -- a plan sees of a snapshot what it sees of it
 looks_itself : (plan : Plan) (front : SnapshotValue) → LookAlike plan front front
 looks_itself (Status place) front = refl
@@ -67,6 +73,7 @@ alike_itself plan Nothing layers = tt
 alike_itself plan NoMemory layers = tt
 alike_itself plan (Read front) layers = (layers, layers, refl, looks_itself plan front)
 alike_itself plan (Committing outcome) layers = refl
+alike_itself plan (Reshaping outcome) layers = refl
 
 module _ (finds_one : FindsOne) (counts_one : CountsOne) where
   one_for_documents : (plan : Plan) (front other : SnapshotValue) (a b : Reply) → AreLayers front.layers → AreLayers other.layers → live front ≡ live other → LookAlike plan front other
@@ -91,6 +98,7 @@ module _ (finds_one : FindsOne) (counts_one : CountsOne) where
   one_reply plan NoMemory NoMemory a b same says says' = without_memory plan a says ∙ sym (without_memory plan b says')
   one_reply plan (Read front) (Read other) a b (layers, layers', same, looks) says says' = one_for_documents plan front other a b layers layers' same looks says says'
   one_reply plan (Committing outcome) (Committing other) a b same says says' = of_commit plan outcome other a b same says says'
+  one_reply plan (Reshaping outcome) (Reshaping other) a b same says says' = of_job plan outcome other a b same says says'
   one_reply plan happened other a b same says says' = absurd same
 
 -- a plan that reads leaves the transaction as it was
@@ -102,12 +110,14 @@ after_read (Status place) front other state = refl
 after_read (Keep place txn affected) front other state = refl
 after_read (Put place txn counted) front other state = refl
 after_read (Commit place turn) front other state = refl
+after_read (Reshape place job) front other state = refl
 
 one_after : (plan : Plan) (happened other : Happened) (state : State) → AreAlike plan happened other → after_plan plan happened state ≡ after_plan plan other state
 one_after plan Nothing Nothing state same = refl
 one_after plan NoMemory NoMemory state same = refl
 one_after plan (Read front) (Read other) state same = after_read plan front other state
 one_after plan (Committing outcome) (Committing other) state same = ap (λ (o : CommitOutcome). after_plan plan (Committing o) state) same
+one_after plan (Reshaping outcome) (Reshaping other) state same = ap (λ (o : JobOutcome). after_plan plan (Reshaping o) state) same
 one_after plan happened other state same = absurd same
 
 -- what came of a plan leaves the session in one state

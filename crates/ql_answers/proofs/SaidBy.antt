@@ -11,14 +11,16 @@ use Rattle.table_search.specs.Tables.{AreTables}
 use Rattle.table_search.specs.declared.found.Found.{Found}
 use Rattle.ql_select.specs.declared.selection.Selection.{Selection}
 use Rattle.ql_answers.specs.declared.meta.Meta.{Meta}
+use Rattle.ql_answers.specs.declared.job_outcome.JobOutcome.{JobOutcome}
+use Rattle.ql_answers.specs.declared.job_outcome.JobOutcome.TheVariants as job_outcomes
 use Rattle.ql_answers.specs.declared.plan.Counted.{Counted}
 use Rattle.ql_answers.specs.declared.plan.Plan.{Plan}
-use Rattle.ql_answers.specs.declared.plan.Plan.TheVariants.{Agree, Commit, Keep, Put, Search, Show, Status}
+use Rattle.ql_answers.specs.declared.plan.Plan.TheVariants.{Agree, Commit, Keep, Put, Reshape, Search, Show, Status}
 use Rattle.ql_refusals.specs.Refusals.{no_memory}
 use Rattle.ql_answers.specs.Metas.{meta_of}
 use Rattle.ql_answers.specs.Reading.{found_sets}
 use Rattle.ql_answers.specs.Replies.{Reply, Fails, Finds, replied}
-use Rattle.ql_answers.specs.Sessions.{Committing, Decides, Happened, NoMemory, Read, reply_to_commit, told_by}
+use Rattle.ql_answers.specs.Sessions.{Committing, Decides, Happened, NoMemory, Read, Reshaping, reply_to_commit, reply_to_job, told_by}
 use Rattle.ql_answers.specs.steps.Answering.{Says, SaysPlan}
 
 pub says_told : (plan given : Plan) (happened : Happened) (reply : Reply) (status : ℕ) (told : Option Meta) (before after : Written)
@@ -49,6 +51,18 @@ says_commit plan given counted rows (outcomes.InDoubt doubts.Memory) status befo
 says_commit plan given counted rows (outcomes.Strayed numbers) status before after is decides said =
     says_from plan given (Committing (outcomes.Strayed numbers)) (reply_to_commit counted rows (outcomes.Strayed numbers)) status before after is decides said
 
+-- and what is replied to a job tells it nothing
+pub says_job : (plan given : Plan) (outcome : JobOutcome) (status : ℕ) (before after : Written)
+    → plan ≡ given → Decides given (Reshaping outcome) (reply_to_job outcome) → after ≡ replied before status (reply_to_job outcome) → Says plan (Reshaping outcome) status None before after
+says_job plan given job_outcomes.Shaped status before after is decides said = says_from plan given (Reshaping job_outcomes.Shaped) (reply_to_job job_outcomes.Shaped) status before after is decides said
+says_job plan given (job_outcomes.Overtaken shape) status before after is decides said =
+    says_from plan given (Reshaping (job_outcomes.Overtaken shape)) (reply_to_job (job_outcomes.Overtaken shape)) status before after is decides said
+says_job plan given (job_outcomes.Full full) status before after is decides said = says_from plan given (Reshaping (job_outcomes.Full full)) (reply_to_job (job_outcomes.Full full)) status before after is decides said
+says_job plan given job_outcomes.Refused status before after is decides said = says_from plan given (Reshaping job_outcomes.Refused) (reply_to_job job_outcomes.Refused) status before after is decides said
+says_job plan given job_outcomes.InDoubt status before after is decides said = says_from plan given (Reshaping job_outcomes.InDoubt) (reply_to_job job_outcomes.InDoubt) status before after is decides said
+says_job plan given (job_outcomes.Strayed numbers) status before after is decides said =
+    says_from plan given (Reshaping (job_outcomes.Strayed numbers)) (reply_to_job (job_outcomes.Strayed numbers)) status before after is decides said
+
 -- a SELECT is answered by what was found, or memory was refused
 pub says_found : {E : Type 0} (index : ℕ) (selection : Selection) (front : SnapshotValue) (found : Found) (status : ℕ) (before after : Written) (result : Result (Option Meta) E)
     → AreTables selection.asked (all_living front.layers) found → IfOk result (λ told. told ≡ Some (meta_of selection.asked found (all_living front.layers)))
@@ -67,3 +81,4 @@ no_memory_decides (Status place) = refl
 no_memory_decides (Keep place txn affected) = refl
 no_memory_decides (Put place txn counted) = refl
 no_memory_decides (Commit place turn) = refl
+no_memory_decides (Reshape place job) = refl

@@ -4,10 +4,10 @@ use Rattle.std.specs.Prelude.{◌≢◌}
 use Rattle.std.proofs.lemmas.Bool.{false≢true}
 use Rattle.reply_rows.specs.Written.{Written}
 use Rattle.ql_answers.specs.declared.plan.Plan.{Plan}
-use Rattle.ql_answers.specs.declared.plan.Plan.TheVariants.{Agree, Commit, Keep, Put, Search, Show, Status}
+use Rattle.ql_answers.specs.declared.plan.Plan.TheVariants.{Agree, Commit, Keep, Put, Reshape, Search, Show, Status}
 use Rattle.ql_answers.specs.declared.state.State.{State}
 use Rattle.ql_answers.specs.Replies.{Reply, replied}
-use Rattle.ql_answers.specs.Sessions.{CanHave, Committing, Decides, Happened, NoMemory, Nothing, Read, after_plan, next_of, reply_takes_memory, shows_rows, told_by}
+use Rattle.ql_answers.specs.Sessions.{CanHave, Committing, Decides, Happened, NoMemory, Nothing, Read, Reshaping, after_plan, next_of, reply_takes_memory, shows_rows, told_by}
 use Rattle.ql_answers.specs.States.{status_of, telling}
 use Rattle.ql_answers.specs.declared.meta.Meta.{Meta}
 use Rattle.ql_answers.specs.steps.Answering.{Says}
@@ -22,8 +22,10 @@ can_left (Keep place txn affected) Nothing can = can
 can_left (Keep place txn affected) NoMemory can = can
 can_left (Keep place txn affected) (Read front) can = can
 can_left (Keep place txn affected) (Committing outcome) can = can
+can_left (Keep place txn affected) (Reshaping outcome) can = can
 can_left (Put place txn counted) happened can = can
 can_left (Commit place turn) happened can = can
+can_left (Reshape place job) happened can = can
 
 decides_left : (plan : Plan) (happened : Happened) (reply : Reply) → Decides (left_of plan happened) happened reply → Decides plan happened reply
 decides_left (Agree turn) happened reply decides = decides
@@ -34,8 +36,10 @@ decides_left (Keep place txn affected) Nothing reply decides = decides
 decides_left (Keep place txn affected) NoMemory reply decides = decides
 decides_left (Keep place txn affected) (Read front) reply decides = decides
 decides_left (Keep place txn affected) (Committing outcome) reply decides = decides
+decides_left (Keep place txn affected) (Reshaping outcome) reply decides = decides
 decides_left (Put place txn counted) happened reply decides = decides
 decides_left (Commit place turn) happened reply decides = decides
+decides_left (Reshape place job) happened reply decides = decides
 
 -- a plan that shows rows changes nothing
 shows_left : (plan : Plan) (happened : Happened) (state : State) → shows_rows (left_of plan happened) ≡ true
@@ -48,8 +52,10 @@ shows_left (Keep place txn affected) Nothing state shows = absurd (false≢true 
 shows_left (Keep place txn affected) NoMemory state shows = absurd (false≢true shows)
 shows_left (Keep place txn affected) (Read front) state shows = absurd (false≢true shows)
 shows_left (Keep place txn affected) (Committing outcome) state shows = absurd (false≢true shows)
+shows_left (Keep place txn affected) (Reshaping outcome) state shows = absurd (false≢true shows)
 shows_left (Put place txn counted) happened state shows = absurd (false≢true shows)
 shows_left (Commit place turn) happened state shows = absurd (false≢true shows)
+shows_left (Reshape place job) happened state shows = absurd (false≢true shows)
 
 -- what SHOW META tells is no part of a status
 status_told : (told : Option Meta) (state : State) (more : Bool) → status_of (telling told state) more ≡ status_of state more

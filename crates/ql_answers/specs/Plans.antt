@@ -6,11 +6,11 @@ use Rattle.ql_tree.specs.declared.statement.Statement.{Statement}
 use Rattle.ql_tree.specs.declared.statement.Statement.TheVariants as statements
 use Rattle.ql_select.specs.declared.selection.Selection.{Selection}
 use Rattle.ql_answers.specs.declared.plan.Plan.{Plan}
-use Rattle.ql_answers.specs.declared.plan.Plan.TheVariants.{Agree, Show, Search, Status, Put}
+use Rattle.ql_answers.specs.declared.plan.Plan.TheVariants.{Agree, Show, Search, Status, Put, Reshape}
 use Rattle.ql_answers.specs.declared.plan.Counted.TheVariants.{Rows, Removed, Nothing}
 use Rattle.ql_answers.specs.declared.turn.Turn.TheVariants.{Stays, Opens, Ends, Sets}
 use Rattle.ql_answers.specs.Indexes.{index_fault, Serves}
-use Rattle.ql_refusals.specs.Refusals.{Refused, not_offered, transaction_open, value_out_of_range}
+use Rattle.ql_refusals.specs.Refusals.{Refused, transaction_open, value_out_of_range}
 use Rattle.ql_answers.specs.declared.state.State.{State}
 use Rattle.ql_answers.specs.Pending.{PendingValue}
 use Rattle.ql_answers.specs.Reading.{WantsSearch, RefusesSelect}
@@ -18,6 +18,8 @@ use Rattle.ql_answers.specs.Showing.{variable, variables, current_database, data
 use Rattle.ql_answers.specs.States.{is_open}
 use Rattle.ql_answers.specs.Transactions.{clearing, commit_of, killing, write_fault, written}
 use Rattle.ql_answers.specs.Writing.{WantsStore, RefusesStore}
+use Rattle.step_history.specs.declared.job.Job.{Job}
+use Rattle.step_history.specs.declared.job.Job.TheVariants.{Flush, Optimize}
 
 -- SET AUTOCOMMIT wants this, for 0 and 1
 abbrev pub autocommit_of : State → ℕ → Option Plan
@@ -25,7 +27,11 @@ autocommit_of state zero = Some (Agree (Sets false))
 autocommit_of state (suc zero) = Some (commit_of state.pending (Sets true))
 autocommit_of state (suc (suc value)) = None
 
--- What a statement wants. A statement that isn't listed wants nothing: it is refused.
+-- A job is wanted of an index that is there, also where a transaction is open.
+abbrev pub WantsJob : List IndexConf → List ℕ → Job → Plan → Type 0
+WantsJob confs index job plan = (place : ℕ) × (conf : IndexConf) × Serves confs index place conf × (plan ≡ Reshape place job)
+
+-- What a statement wants.
 abbrev pub Wants : List IndexConf → State → Statement → Plan → Type 0
 Wants confs state (statements.Select select) plan =
     (place : ℕ) × (selection : Selection) × WantsSearch confs select place selection × (plan ≡ Search place selection)
@@ -42,6 +48,9 @@ Wants confs state statements.Rollback plan = plan ≡ Agree Ends
 Wants confs state (statements.SetAutocommit value) plan = autocommit_of state value ≡ Some plan
 Wants confs state (statements.SetNames names) plan = plan ≡ Agree Stays
 Wants confs state (statements.SetOther scope target value) plan = plan ≡ Agree Stays
+Wants confs state (statements.FlushRamchunk index) plan = WantsJob confs index Flush plan
+Wants confs state (statements.FlushRtindex index) plan = WantsJob confs index Flush plan
+Wants confs state (statements.OptimizeIndex index) plan = WantsJob confs index Optimize plan
 Wants confs state (statements.TruncateRtindex index) plan =
     (place : ℕ) × (conf : IndexConf) × Serves confs index place conf × (is_open state ≡ false) × (plan ≡ Put place clearing Nothing)
 Wants confs state (statements.Describe index) plan = (place : ℕ) × (conf : IndexConf) × Serves confs index place conf × (plan ≡ Show (description conf.schema))
@@ -51,11 +60,6 @@ Wants confs state statements.ShowWarnings plan = plan ≡ Show warnings
 Wants confs state statements.ShowVariables plan = plan ≡ Show (variables state.autocommit)
 Wants confs state statements.ShowDatabases plan = plan ≡ Show databases
 Wants confs state statements.ShowMeta plan = plan ≡ Show (meta_set state.meta)
-Wants confs state statement plan = ⊥
-
--- A job on an index is refused by its index, or at last as not offered.
-abbrev pub RefusesJob : List IndexConf → List ℕ → Refused → Type 0
-RefusesJob confs index refusal = (index_fault confs index ≡ Some refusal) ⊎ ((index_fault confs index ≡ None) × (refusal ≡ not_offered))
 
 -- A DELETE is refused by its index, or by what is pending and the limits of a transaction.
 abbrev pub RefusesDelete : List IndexConf → State → List ℕ → Txn → Refused → Type 0
@@ -84,9 +88,9 @@ Refuses confs state statements.Rollback refusal = ⊥
 Refuses confs state (statements.SetAutocommit value) refusal = (autocommit_of state value ≡ None) × (refusal ≡ value_out_of_range (codes "autocommit"))
 Refuses confs state (statements.SetNames names) refusal = ⊥
 Refuses confs state (statements.SetOther scope target value) refusal = ⊥
-Refuses confs state (statements.FlushRamchunk index) refusal = RefusesJob confs index refusal
-Refuses confs state (statements.FlushRtindex index) refusal = RefusesJob confs index refusal
-Refuses confs state (statements.OptimizeIndex index) refusal = RefusesJob confs index refusal
+Refuses confs state (statements.FlushRamchunk index) refusal = index_fault confs index ≡ Some refusal
+Refuses confs state (statements.FlushRtindex index) refusal = index_fault confs index ≡ Some refusal
+Refuses confs state (statements.OptimizeIndex index) refusal = index_fault confs index ≡ Some refusal
 Refuses confs state (statements.TruncateRtindex index) refusal = RefusesTruncate confs state index refusal
 Refuses confs state (statements.Describe index) refusal = index_fault confs index ≡ Some refusal
 Refuses confs state (statements.ShowIndexStatus index) refusal = index_fault confs index ≡ Some refusal
@@ -110,7 +114,4 @@ TakesMemory state statements.Rollback = ⊥
 TakesMemory state (statements.SetAutocommit value) = HasPending state.pending
 TakesMemory state (statements.SetNames names) = ⊥
 TakesMemory state (statements.SetOther scope target value) = ⊥
-TakesMemory state (statements.FlushRamchunk index) = ⊥
-TakesMemory state (statements.FlushRtindex index) = ⊥
-TakesMemory state (statements.OptimizeIndex index) = ⊥
 TakesMemory state statement = Unit {0}

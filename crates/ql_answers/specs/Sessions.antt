@@ -17,12 +17,14 @@ use Rattle.ql_answers.specs.declared.event.Need.{Need}
 use Rattle.ql_answers.specs.declared.event.Need.TheVariants as needs
 use Rattle.ql_answers.specs.declared.event.Event.{Event}
 use Rattle.ql_answers.specs.declared.event.Event.TheVariants as events
+use Rattle.ql_answers.specs.declared.job_outcome.JobOutcome.{JobOutcome}
+use Rattle.ql_answers.specs.declared.job_outcome.JobOutcome.TheVariants as job_outcomes
 use Rattle.ql_answers.specs.declared.plan.Plan.{Plan}
 use Rattle.ql_answers.specs.declared.plan.Counted.{Counted}
 use Rattle.ql_answers.specs.declared.plan.Counted.TheVariants as counting
-use Rattle.ql_answers.specs.declared.plan.Plan.TheVariants.{Agree, Show, Search, Status, Keep, Put, Commit}
+use Rattle.ql_answers.specs.declared.plan.Plan.TheVariants.{Agree, Show, Search, Status, Keep, Put, Commit, Reshape}
 use Rattle.ql_answers.specs.Plans.{Wants, Refuses, TakesMemory}
-use Rattle.ql_refusals.specs.Refusals.{Refused, disk_failed, disk_in_doubt, duplicate_id, index_full, memory_in_doubt, no_memory, strayed}
+use Rattle.ql_refusals.specs.Refusals.{Refused, disk_failed, disk_in_doubt, duplicate_id, index_full, job_in_doubt, memory_in_doubt, no_memory, overtaken, strayed}
 use Rattle.doc_search.specs.declared.question.Question.{Question}
 use Rattle.doc_search.specs.Searches.{IsAskedOf}
 use Rattle.table_search.specs.Tables.{AreTables}
@@ -59,6 +61,7 @@ need_of (Status place) = needs.Read place
 need_of (Keep place txn affected) = needs.Nothing
 need_of (Put place txn counted) = needs.Commit place
 need_of (Commit place turn) = needs.Commit place
+need_of (Reshape place job) = needs.Reshape place job
 
 -- the transaction that a plan wants to be committed
 abbrev pub pending_of : State → Plan → Option Txn
@@ -72,6 +75,7 @@ pub data Happened : Type 0 where
   NoMemory : Happened
   Read : (front : SnapshotValue) → Happened
   Committing : (outcome : CommitOutcome) → Happened
+  Reshaping : (outcome : JobOutcome) → Happened
 
 -- The documents, where they were read, have layers as a snapshot has them: no id lives twice.
 abbrev pub HasLayers : Happened → Type 0
@@ -87,13 +91,14 @@ abbrev pub LookAlike : Plan → SnapshotValue → SnapshotValue → Type 0
 LookAlike (Status place) front other = disk_count front ≡ disk_count other
 LookAlike plan front other = Unit {0}
 
--- The same happened to a plan, as far as a client can see: the same documents were read, whatever layers hold them, or a commit had
--- the same outcome.
+-- The same happened to a plan, as far as a client can see: the same documents were read, whatever layers hold them, or a commit
+-- or a job had the same outcome.
 abbrev pub AreAlike : Plan → Happened → Happened → Type 0
 AreAlike plan Nothing Nothing = Unit {0}
 AreAlike plan NoMemory NoMemory = Unit {0}
 AreAlike plan (Read front) (Read other) = AreLayers front.layers × AreLayers other.layers × (live front ≡ live other) × LookAlike plan front other
 AreAlike plan (Committing outcome) (Committing other) = outcome ≡ other
+AreAlike plan (Reshaping outcome) (Reshaping other) = outcome ≡ other
 AreAlike plan happened other = ⊥
 
 -- what a call learns of it
@@ -102,6 +107,7 @@ happened_by events.Nothing = Nothing
 happened_by events.NoMemory = NoMemory
 happened_by (events.Read front) = Read front.now
 happened_by (events.Commit outcome) = Committing outcome
+happened_by (events.Reshape outcome) = Reshaping outcome
 
 -- The question is asked of the index whose rows these are.
 abbrev pub CanSearch : Question → SnapshotValue → Type 0
@@ -117,6 +123,15 @@ reply_to_commit counted rows (outcomes.InDoubt doubts.Disk) = Fails disk_in_doub
 reply_to_commit counted rows (outcomes.InDoubt doubts.Memory) = Fails memory_in_doubt
 reply_to_commit counted rows (outcomes.Strayed numbers) = Fails (strayed numbers)
 
+-- what is replied to a job
+abbrev pub reply_to_job : JobOutcome → Reply
+reply_to_job job_outcomes.Shaped = Done 0
+reply_to_job (job_outcomes.Overtaken shape) = Fails (overtaken shape)
+reply_to_job (job_outcomes.Full full) = Fails (index_full full)
+reply_to_job job_outcomes.Refused = Fails disk_failed
+reply_to_job job_outcomes.InDoubt = Fails job_in_doubt
+reply_to_job (job_outcomes.Strayed numbers) = Fails (strayed numbers)
+
 -- What is replied to a plan by what happened.
 abbrev pub Decides : Plan → Happened → Reply → Type 0
 Decides plan NoMemory reply = reply ≡ Fails no_memory
@@ -129,6 +144,7 @@ Decides (Status place) (Read front) reply = reply ≡ Shows (index_status (finit
 Decides (Keep place txn affected) Nothing reply = reply ≡ Done affected
 Decides (Put place txn counted) (Committing outcome) reply = reply ≡ reply_to_commit counted (length txn.ops) outcome
 Decides (Commit place turn) (Committing outcome) reply = reply ≡ reply_to_commit counting.Nothing 0 outcome
+Decides (Reshape place job) (Reshaping outcome) reply = reply ≡ reply_to_job outcome
 Decides plan happened reply = ⊥
 
 -- what becomes of the transaction after a plan, by what happened
@@ -157,6 +173,7 @@ CanHave (Status place) (Read front) = Unit {0}
 CanHave (Keep place txn affected) Nothing = Unit {0}
 CanHave (Put place txn counted) (Committing outcome) = Unit {0}
 CanHave (Commit place turn) (Committing outcome) = Unit {0}
+CanHave (Reshape place job) (Reshaping outcome) = Unit {0}
 CanHave plan happened = ⊥
 
 -- the reply is a result set, for which memory may be refused

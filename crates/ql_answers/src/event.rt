@@ -1,6 +1,8 @@
 //! What the outside did about a statement.
+use crate::job_outcome::JobOutcome;
 use commit_outcomes::CommitOutcome;
 use doc_types::{HitLists, Snapshot};
+use step_history::Job;
 
 /// What became of what a statement wants, by what was asked of the outside.
 #[derive(Drop)]
@@ -13,6 +15,8 @@ pub enum Event<'a, C: HitLists> {
     Read(&'a Snapshot<C>),
     /// What became of the commit.
     Commit(CommitOutcome),
+    /// What became of the job.
+    Reshape(JobOutcome),
 }
 
 /// What a statement wants of the outside.
@@ -23,4 +27,6 @@ pub enum Need {
     Read(u16),
     /// A commit of `StatementMachine::pending` to the index at this place.
     Commit(u16),
+    /// A job over the index at this place.
+    Reshape(u16, Job),
 }

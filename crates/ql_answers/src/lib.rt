@@ -4,6 +4,7 @@
 mod event;
 mod found;
 mod indexes;
+mod job_outcome;
 mod laws;
 mod meta;
 mod pending;
@@ -20,6 +21,7 @@ mod writing;
 
 pub use event::{Event, Need};
 pub use indexes::Catalog;
+pub use job_outcome::JobOutcome;
 pub use laws::{a_plan_has_one_reply, a_statement_has_one_plan};
 pub use meta::Meta;
 pub use pending::{MAX_OPERATIONS, MAX_TRANSACTION_BYTES, Pending};

@@ -8,6 +8,7 @@ use crate::turn::Turn;
 use doc_types::Txn;
 use ql_select::Selection;
 use reply_rows::ResultSet;
+use step_history::Job;
 
 /// What a statement wants of the outside, with what its reply needs beside that.
 pub enum Plan {
@@ -40,6 +41,11 @@ pub enum Plan {
     Commit {
         index: u16,
         turn: Turn,
+    },
+    /// A job over an index.
+    Reshape {
+        index: u16,
+        job: Job,
     },
 }
 
@@ -76,6 +82,7 @@ impl Drop for Plan {
                 counted: _,
             } => {}
             Plan::Commit { index: _, turn: _ } => {}
+            Plan::Reshape { index: _, job: _ } => {}
         }
     }
 }
@@ -89,6 +96,7 @@ impl Plan {
             Plan::Agree(_) | Plan::Show(_) | Plan::Keep { .. } => Need::Nothing,
             Plan::Search { index, .. } | Plan::Status { index } => Need::Read(*index),
             Plan::Put { index, .. } | Plan::Commit { index, .. } => Need::Commit(*index),
+            Plan::Reshape { index, job } => Need::Reshape(*index, *job),
         }
     }
 }

@@ -11,11 +11,12 @@ use crate::showing::{
 use crate::state::State;
 use crate::turn::Turn;
 use crate::writing::{plan_delete, plan_insert, plan_truncate};
-use ql_refusals::{Refusal, not_offered, value_out_of_range};
+use ql_refusals::{Refusal, value_out_of_range};
 use ql_tree::{Select, Statement};
 use reply_rows::ResultSet;
 use srch_base::{Items, Name, NoMemory, Or};
 use std::alloc::Global;
+use step_history::Job;
 
 /// What a statement wants.
 pub(crate) fn plan<T: Catalog>(
@@ -61,9 +62,10 @@ pub(crate) fn plan<T: Catalog>(
         Statement::ShowWarnings => show(warnings(alloc)),
         Statement::ShowVariables => show(variables(alloc, state.autocommit)),
         Statement::ShowDatabases => show(databases(alloc)),
-        Statement::FlushRamchunk(index)
-        | Statement::FlushRtindex(index)
-        | Statement::OptimizeIndex(index) => plan_job(catalog, index.as_bytes()),
+        Statement::FlushRamchunk(index) | Statement::FlushRtindex(index) => {
+            plan_job(catalog, index.as_bytes(), Job::Flush)
+        }
+        Statement::OptimizeIndex(index) => plan_job(catalog, index.as_bytes(), Job::Optimize),
         Statement::ShowMeta => show(meta(alloc, &state.meta)),
     }
 }
@@ -132,10 +134,10 @@ fn plan_describe<T: Catalog>(alloc: Global, catalog: &T, name: &[u8]) -> Result<
     show(description(alloc, &catalog.conf(index).schema))
 }
 
-/// FLUSH and OPTIMIZE: what they would do comes last of all that can be wrong with them.
-fn plan_job<T: Catalog>(catalog: &T, name: &[u8]) -> Result<Plan, Or<Refusal>>
-    ensures { PlansJob (T.confs catalog.now) name.now result }
+/// FLUSH and OPTIMIZE.
+fn plan_job<T: Catalog>(catalog: &T, name: &[u8], job: Job) -> Result<Plan, Or<Refusal>>
+    ensures { PlansJob (T.confs catalog.now) name.now job result }
 {
-    served(catalog, name)?;
-    Err(Or::Fault(not_offered()))
+    let index = served(catalog, name)?;
+    Ok(Plan::Reshape { index, job })
 }

@@ -10,12 +10,13 @@ ghost use Rattle.ql_answers.specs.declared.plan.Plan.TheVariants.{Search};
 ghost use Rattle.ql_answers.specs.Metas.{max_matches, meta_of};
 ghost use Rattle.ql_answers.specs.Reading.{found_sets};
 ghost use Rattle.ql_answers.specs.Replies.{Shows, replied};
-ghost use Rattle.ql_answers.specs.Sessions.{CanHave, CanSearch, Committing, Nothing, Read, disk_count, happened_by, reply_to_commit};
+ghost use Rattle.ql_answers.specs.Sessions.{CanHave, CanSearch, Committing, Nothing, Read, Reshaping, disk_count, happened_by, reply_to_commit, reply_to_job};
 ghost use Rattle.ql_answers.specs.Showing.{index_status};
 ghost use Rattle.ql_answers.specs.steps.Answering.{Says, SaysPlan};
 
 use crate::event::Event;
 use crate::found::put_found;
+use crate::job_outcome::JobOutcome;
 use crate::meta::Meta;
 use crate::plan::{Counted, Plan, affected};
 use crate::refusing::put_refusal;
@@ -23,7 +24,8 @@ use crate::showing::index_status;
 use commit_outcomes::{CommitOutcome, Doubt};
 use doc_types::{HitLists, Snapshot};
 use ql_refusals::{
-    disk_failed, disk_in_doubt, duplicate_id, index_full, memory_in_doubt, no_memory, strayed,
+    disk_failed, disk_in_doubt, duplicate_id, index_full, job_in_doubt, memory_in_doubt, no_memory,
+    overtaken, strayed,
 };
 use ql_select::Selection;
 use reply_rows::Replies;
@@ -54,6 +56,10 @@ pub(crate) fn say<C: HitLists>(
             say_commit(plan, *outcome, status, replies);
             Ok(None)
         }
+        Event::Reshape(outcome) => {
+            say_job(plan, *outcome, status, replies);
+            Ok(None)
+        }
     }
 }
 
@@ -80,9 +86,11 @@ fn say_nothing(
             replies.put_ok(*affected, status);
             Ok(None)
         }
-        Plan::Search { .. } | Plan::Status { .. } | Plan::Put { .. } | Plan::Commit { .. } => {
-            unreachable!()
-        }
+        Plan::Search { .. }
+        | Plan::Status { .. }
+        | Plan::Put { .. }
+        | Plan::Commit { .. }
+        | Plan::Reshape { .. } => unreachable!(),
     }
 }
 
@@ -107,7 +115,8 @@ fn say_read<C: HitLists>(
         | Plan::Show(_)
         | Plan::Keep { .. }
         | Plan::Put { .. }
-        | Plan::Commit { .. } => unreachable!(),
+        | Plan::Commit { .. }
+        | Plan::Reshape { .. } => unreachable!(),
     }
 }
 
@@ -203,7 +212,8 @@ fn say_commit(plan: &Plan, outcome: CommitOutcome, status: u16, replies: &mut Re
         | Plan::Show(_)
         | Plan::Search { .. }
         | Plan::Status { .. }
-        | Plan::Keep { .. } => unreachable!(),
+        | Plan::Keep { .. }
+        | Plan::Reshape { .. } => unreachable!(),
     }
 }
 
@@ -228,5 +238,37 @@ fn reply_to_commit(
         CommitOutcome::InDoubt(Doubt::Disk) => put_refusal(&disk_in_doubt(), replies),
         CommitOutcome::InDoubt(Doubt::Memory) => put_refusal(&memory_in_doubt(), replies),
         CommitOutcome::Strayed(numbers) => put_refusal(&strayed(numbers), replies),
+    }
+}
+
+fn say_job(plan: &Plan, outcome: JobOutcome, status: u16, replies: &mut Replies)
+    requires can { CanHave plan.now (Reshaping outcome) }
+    requires open { IsOpen replies.old }
+    ensures { Says plan.now (Reshaping outcome) status None replies.old replies.new }
+{
+    match plan {
+        Plan::Reshape { .. } => reply_to_job(outcome, status, replies),
+        Plan::Agree(_)
+        | Plan::Show(_)
+        | Plan::Search { .. }
+        | Plan::Status { .. }
+        | Plan::Keep { .. }
+        | Plan::Put { .. }
+        | Plan::Commit { .. } => unreachable!(),
+    }
+}
+
+/// What is replied to a job.
+fn reply_to_job(outcome: JobOutcome, status: u16, replies: &mut Replies)
+    requires { IsOpen replies.old }
+    ensures { replies.new ≡ replied replies.old status (reply_to_job outcome) }
+{
+    match outcome {
+        JobOutcome::Shaped => replies.put_ok(0, status),
+        JobOutcome::Overtaken { shape } => put_refusal(&overtaken(shape), replies),
+        JobOutcome::Full(full) => put_refusal(&index_full(full), replies),
+        JobOutcome::Refused => put_refusal(&disk_failed(), replies),
+        JobOutcome::InDoubt => put_refusal(&job_in_doubt(), replies),
+        JobOutcome::Strayed(numbers) => put_refusal(&strayed(numbers), replies),
     }
 }

@@ -173,7 +173,11 @@ fn turn<C: HitLists>(
                 state.finish(*turn, *outcome);
             }
         }
-        Plan::Show(_) | Plan::Search { .. } | Plan::Status { .. } | Plan::Put { .. } => {}
+        Plan::Show(_)
+        | Plan::Search { .. }
+        | Plan::Status { .. }
+        | Plan::Put { .. }
+        | Plan::Reshape { .. } => {}
     }
     Ok(())
 }

@@ -54,10 +54,6 @@ bad_token fault = refused (lex_text fault)
 abbrev pub bad_syntax : ParseFault → Refused
 bad_syntax fault = refused (parse_text fault)
 
--- a statement that is well formed and not built yet
-abbrev pub not_offered : Refused
-not_offered = refused (codes "not offered yet")
-
 -- names
 abbrev pub unknown_index : List ℕ → Refused
 unknown_index name = refused (codes "unknown index '" ++ shown name ++ codes "'")
@@ -160,7 +156,11 @@ index_full full = refused (full_text full.what ++ codes " full at " ++ decimal f
 abbrev pub strayed : Strayed → Refused
 strayed numbers = refused (codes "history at " ++ decimal numbers.seen ++ codes " of " ++ decimal numbers.place ++ codes ", commits " ++ decimal numbers.made ++ codes " of " ++ decimal numbers.kept)
 
--- the disk failed, and nothing of the commit takes effect
+-- another job ended before this one: the index has a greater shape now
+abbrev pub overtaken : ℕ → Refused
+overtaken shape = refused (codes "overtaken by shape " ++ decimal shape)
+
+-- the disk failed, and nothing of the commit or job takes effect
 abbrev pub disk_failed : Refused
 disk_failed = record { code = 1105; text = codes "disk fault: nothing was changed" }
 
@@ -171,3 +171,7 @@ disk_in_doubt = record { code = 1105; text = codes "disk fault: commit in doubt"
 -- memory was refused, and the commit, which is on the disk, takes effect later
 abbrev pub memory_in_doubt : Refused
 memory_in_doubt = record { code = 1037; text = codes "out of memory: commit in doubt" }
+
+-- memory was refused, and the job, which is on the disk, takes effect later; it changes no document
+abbrev pub job_in_doubt : Refused
+job_in_doubt = record { code = 1037; text = codes "out of memory: job in doubt" }

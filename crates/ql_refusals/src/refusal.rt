@@ -2,7 +2,7 @@
 //! table. Here are those that come before the store is asked.
 ghost use Rattle.std.specs.Prelude.{◌≡◌, ◌+◌, ◌≤◌, ◌++◌, [], codes, length, decimal};
 ghost use Rattle.query_grammar.specs.FaultTexts.{name_text};
-ghost use Rattle.ql_refusals.specs.Refusals.{bad_query as bad_query_row, bad_syntax as bad_syntax_row, bad_token as bad_token_row, column_is_field as column_is_field_row, column_is_no_field as column_is_no_field_row, column_twice as column_twice_row, group_by_missing as group_by_missing_row, id_missing as id_missing_row, id_out_of_range as id_out_of_range_row, max_matches_out_of_range as max_matches_out_of_range_row, no_memory as no_memory_row, not_offered as not_offered_row, offset_not_below as offset_not_below_row, other_index as other_index_row, ranker_not_offered as ranker_not_offered_row, refused, second_match as second_match_row, shown, state_of, too_many_columns as too_many_columns_row, too_many_facets as too_many_facets_row, too_many_operations as too_many_operations_row, too_many_positions as too_many_positions_row, too_many_sort_keys as too_many_sort_keys_row, transaction_open as transaction_open_row, transaction_too_large as transaction_too_large_row, unknown_column as unknown_column_row, unknown_index as unknown_index_row, unknown_option as unknown_option_row, value_out_of_range as value_out_of_range_row, wrong_kind as wrong_kind_row, wrong_number as wrong_number_row};
+ghost use Rattle.ql_refusals.specs.Refusals.{bad_query as bad_query_row, bad_syntax as bad_syntax_row, bad_token as bad_token_row, column_is_field as column_is_field_row, column_is_no_field as column_is_no_field_row, column_twice as column_twice_row, group_by_missing as group_by_missing_row, id_missing as id_missing_row, id_out_of_range as id_out_of_range_row, max_matches_out_of_range as max_matches_out_of_range_row, no_memory as no_memory_row, offset_not_below as offset_not_below_row, other_index as other_index_row, ranker_not_offered as ranker_not_offered_row, refused, second_match as second_match_row, shown, state_of, too_many_columns as too_many_columns_row, too_many_facets as too_many_facets_row, too_many_operations as too_many_operations_row, too_many_positions as too_many_positions_row, too_many_sort_keys as too_many_sort_keys_row, transaction_open as transaction_open_row, transaction_too_large as transaction_too_large_row, unknown_column as unknown_column_row, unknown_index as unknown_index_row, unknown_option as unknown_option_row, value_out_of_range as value_out_of_range_row, wrong_kind as wrong_kind_row, wrong_number as wrong_number_row};
 
 use arrayvec::ArrayVec;
 use itoa::Buffer;
@@ -187,13 +187,6 @@ pub fn bad_syntax(fault: ParseFault) -> Refusal
         ParseKind::Syntax => Refusal::placed(fault.kind.text(), fault.place),
         ParseKind::TooMany => Refusal::plain(WRONG, fault.kind.text().as_bytes()),
     }
-}
-
-/// The statement is well formed and not built yet.
-pub fn not_offered() -> Refusal
-    ensures { result ≡ not_offered_row }
-{
-    Refusal::plain(WRONG, b"not offered yet")
 }
 
 /// No index has the name.

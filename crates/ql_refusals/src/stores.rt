@@ -1,6 +1,6 @@
-//! Why the store of an index refuses what a statement commits, or doesn't acknowledge it.
+//! Why the store of an index refuses what a statement commits, or a job, or doesn't acknowledge it.
 ghost use Rattle.std.specs.Prelude.{◌≡◌, ◌≤◌, length};
-ghost use Rattle.ql_refusals.specs.Refusals.{disk_failed as disk_failed_row, disk_in_doubt as disk_in_doubt_row, duplicate_id as duplicate_id_row, full_text, index_full as index_full_row, memory_in_doubt as memory_in_doubt_row, strayed as strayed_row};
+ghost use Rattle.ql_refusals.specs.Refusals.{disk_failed as disk_failed_row, disk_in_doubt as disk_in_doubt_row, duplicate_id as duplicate_id_row, full_text, index_full as index_full_row, job_in_doubt as job_in_doubt_row, memory_in_doubt as memory_in_doubt_row, overtaken as overtaken_row, strayed as strayed_row};
 
 use crate::refusal::{DISK, MEMORY, Refusal, WRONG};
 use commit_outcomes::{Full, FullKind, Strayed};
@@ -52,7 +52,14 @@ pub fn strayed(numbers: Strayed) -> Refusal
         .then_number(numbers.kept)
 }
 
-/// The disk failed, and nothing of the commit takes effect.
+/// Another job ended before this one: the index has a greater shape now.
+pub fn overtaken(shape: u64) -> Refusal
+    ensures { result ≡ overtaken_row shape }
+{
+    Refusal::numbered(b"overtaken by shape ", shape)
+}
+
+/// The disk failed, and nothing of the commit or job takes effect.
 pub fn disk_failed() -> Refusal
     ensures { result ≡ disk_failed_row }
 {
@@ -71,4 +78,11 @@ pub fn memory_in_doubt() -> Refusal
     ensures { result ≡ memory_in_doubt_row }
 {
     Refusal::plain(MEMORY, b"out of memory: commit in doubt")
+}
+
+/// Memory was refused, and the job, which is on the disk, takes effect later; it changes no document.
+pub fn job_in_doubt() -> Refusal
+    ensures { result ≡ job_in_doubt_row }
+{
+    Refusal::plain(MEMORY, b"out of memory: job in doubt")
 }

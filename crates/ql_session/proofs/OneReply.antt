@@ -29,6 +29,7 @@ pub never_met : (F : Type 0) (need : Need) (pending : Option Txn) → Meets {F =
 never_met F needs.Nothing pending meets = meets
 never_met F (needs.Read place) pending meets = meets
 never_met F (needs.Commit place) pending meets = meets
+never_met F (needs.Reshape place job) pending meets = meets
 
 two_events : {F : Type 0} (event : Event F) → event ≡ Nothing → event ≡ NoMemory → ⊥
 two_events {F} event nothing memory = let clash : Are {F = F} Nothing NoMemory = sym nothing ∙ memory in cc

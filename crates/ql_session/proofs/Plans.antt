@@ -9,7 +9,7 @@ use Rattle.ql_tree.specs.declared.statement.Statement.TheVariants as statements
 use Rattle.ql_answers.specs.declared.event.Need.TheVariants as needs
 use Rattle.ql_answers.specs.declared.plan.Counted.{Counted}
 use Rattle.ql_answers.specs.declared.plan.Plan.{Plan}
-use Rattle.ql_answers.specs.declared.plan.Plan.TheVariants.{Agree, Keep, Put, Search, Show, Status}
+use Rattle.ql_answers.specs.declared.plan.Plan.TheVariants.{Agree, Keep, Put, Reshape, Search, Show, Status}
 use Rattle.ql_answers.specs.declared.state.State.{State}
 use Rattle.ql_answers.specs.declared.turn.Turn.{Turn}
 use Rattle.ql_answers.specs.declared.turn.Turn.TheVariants.{Ends, Opens, Sets, Stays}
@@ -86,6 +86,9 @@ good confs state statements.Rollback plan wants = agrees confs state statements.
 good confs state (statements.SetAutocommit value) plan wants = by_autocommit confs state value plan wants
 good confs state (statements.SetNames names) plan wants = agrees confs state (statements.SetNames names) plan Stays wants
 good confs state (statements.SetOther scope target value) plan wants = agrees confs state (statements.SetOther scope target value) plan Stays wants
+good confs state (statements.FlushRamchunk index) plan (place, conf, serves, is) = (inr tt, sound_as confs state plan _ is (conf, serves.is))
+good confs state (statements.FlushRtindex index) plan (place, conf, serves, is) = (inr tt, sound_as confs state plan _ is (conf, serves.is))
+good confs state (statements.OptimizeIndex index) plan (place, conf, serves, is) = (inr tt, sound_as confs state plan _ is (conf, serves.is))
 good confs state (statements.TruncateRtindex index) plan (place, conf, serves, closed, is) =
     let can : CanCommit confs place clearing = record { conf = conf; is = serves.is; of = clearing_of conf.schema } in
     (inr tt, sound_as confs state plan _ is can)
@@ -96,7 +99,6 @@ good confs state statements.ShowWarnings plan wants = (inr tt, sound_as confs st
 good confs state statements.ShowVariables plan wants = (inr tt, sound_as confs state plan (Show _) wants tt)
 good confs state statements.ShowDatabases plan wants = (inr tt, sound_as confs state plan (Show _) wants tt)
 good confs state statements.ShowMeta plan wants = (inr tt, sound_as confs state plan (Show _) wants tt)
-good confs state statement plan wants = absurd wants
 
 -- such a statement takes memory where something is asked for
 pub takes_by_need : (confs : List IndexConf) (state : State) (statement : Statement) (plan : Plan) → Wants confs state statement plan → need_of plan ≢ needs.Nothing → TakesMemory state statement

@@ -16,8 +16,9 @@ use Rattle.doc_types.specs.Transactions.{IsTxnOf}
 use Rattle.commit_outcomes.specs.declared.outcome.CommitOutcome.{CommitOutcome}
 use Rattle.ql_answers.specs.declared.event.Need.{Need}
 use Rattle.ql_answers.specs.declared.event.Need.TheVariants as needs
+use Rattle.ql_answers.specs.declared.job_outcome.JobOutcome.{JobOutcome}
 use Rattle.ql_answers.specs.declared.plan.Plan.{Plan}
-use Rattle.ql_answers.specs.declared.plan.Plan.TheVariants.{Agree, Commit as CommitPending, Keep, Put, Search, Show, Status}
+use Rattle.ql_answers.specs.declared.plan.Plan.TheVariants.{Agree, Commit as CommitPending, Keep, Put, Reshape as Work, Search, Show, Status}
 use Rattle.ql_answers.specs.Pending.{PendingValue}
 use Rattle.ql_answers.specs.declared.state.State.{State}
 use Rattle.ql_answers.specs.Plans.{Wants, Refuses, TakesMemory}
@@ -28,7 +29,8 @@ use Rattle.ql_answers.specs.States.{pending_txn, status_of}
 use Rattle.ql_answers.specs.Sessions.{CanHave, Standing, Needs, Happened, Decides, at_plan, need_of, next_of, pending_of, reply_takes_memory}
 use Rattle.ql_answers.specs.Sessions as happenings
 use Rattle.ql_answers.proofs.OneReply.{without_memory}
-use Rattle.ql_session.specs.Events.{Event, Commit, Nothing, NoMemory, Read, StoreWords, Follows}
+use Rattle.step_history.specs.declared.job.Job.{Job}
+use Rattle.ql_session.specs.Events.{Event, Commit, Nothing, NoMemory, Read, Reshape, StoreWords, Follows}
 use Rattle.ql_session.specs.Statements.{Meets, told}
 use Rattle.ql_session.specs.steps.Running.{IsAt, RepliesPlan, Runs, Says}
 use Rattle.ql_session.specs.Fitting.{CanCommit, Fits, FitsPending}
@@ -46,6 +48,7 @@ has_pending confs state (Status at) place sound e = absurd cc
 has_pending confs state (Keep at txn affected) place sound e = absurd cc
 has_pending confs state (Put at txn counted) place sound e = (txn, refl)
 has_pending confs state (CommitPending at turn) place (pending, is, here) e = (record { ops = pending.ops }, ap pending_txn is)
+has_pending confs state (Work at job) place sound e = absurd cc
 
 commit_by : (confs : List IndexConf) (state : State) (plan : Plan) (place : ℕ) (txn : Txn) → need_of plan ≡ needs.Commit place → pending_of state plan ≡ Some txn → IsSoundPlan confs state plan → Fits confs state
     → CanCommit confs place txn
@@ -64,6 +67,7 @@ commit_by confs state (CommitPending at turn) place txn e is (pending, there, in
     let same : whole ≡ txn = same_Some whole txn (sym (ap pending_txn there) ∙ is) in
     let can : CanCommit confs pending.place whole = subst (FitsPending confs) there fits in
     subst (λ (p : ℕ). CanCommit confs p txn) here (subst (λ (t : Txn). CanCommit confs pending.place t) same can)
+commit_by confs state (Work at job) place txn e is sound fits = absurd cc
 
 pub can_commit : (confs : List IndexConf) (state : State) (statement : Statement) (plan : Plan) (place : ℕ) (txn : Txn) → Wants confs state statement plan → need_of plan ≡ needs.Commit place → pending_of state plan ≡ Some txn
     → Fits confs state → CanCommit confs place txn
@@ -77,6 +81,17 @@ small_commit (Status at) place e = absurd cc
 small_commit (Keep at txn affected) place e = absurd cc
 small_commit (Put at txn counted) place e = refl
 small_commit (CommitPending at turn) place e = refl
+small_commit (Work at job) place e = refl
+
+small_job : (plan : Plan) (place : ℕ) (job : Job) → need_of plan ≡ needs.Reshape place job → reply_takes_memory plan ≡ false
+small_job (Agree turn) place job e = refl
+small_job (Show set) place job e = absurd cc
+small_job (Search at selection) place job e = absurd cc
+small_job (Status at) place job e = absurd cc
+small_job (Keep at txn affected) place job e = absurd cc
+small_job (Put at txn counted) place job e = refl
+small_job (CommitPending at turn) place job e = refl
+small_job (Work at its) place job e = refl
 
 -- what can be told to a plan that needs this
 pub can_nothing : (plan : Plan) → need_of plan ≡ needs.Nothing → CanHave plan happenings.Nothing
@@ -87,6 +102,7 @@ can_nothing (Status place) e = absurd cc
 can_nothing (Keep place txn affected) e = tt
 can_nothing (Put place txn counted) e = absurd cc
 can_nothing (CommitPending place turn) e = absurd cc
+can_nothing (Work place job) e = absurd cc
 
 pub can_outcome : (plan : Plan) (place : ℕ) (outcome : CommitOutcome) → need_of plan ≡ needs.Commit place → CanHave plan (happenings.Committing outcome)
 can_outcome (Agree turn) place outcome e = absurd cc
@@ -96,6 +112,17 @@ can_outcome (Status at) place outcome e = absurd cc
 can_outcome (Keep at txn affected) place outcome e = absurd cc
 can_outcome (Put at txn counted) place outcome e = tt
 can_outcome (CommitPending at turn) place outcome e = tt
+can_outcome (Work at job) place outcome e = absurd cc
+
+can_end : (plan : Plan) (place : ℕ) (job : Job) (outcome : JobOutcome) → need_of plan ≡ needs.Reshape place job → CanHave plan (happenings.Reshaping outcome)
+can_end (Agree turn) place job outcome e = absurd cc
+can_end (Show set) place job outcome e = absurd cc
+can_end (Search at selection) place job outcome e = absurd cc
+can_end (Status at) place job outcome e = absurd cc
+can_end (Keep at txn affected) place job outcome e = absurd cc
+can_end (Put at txn counted) place job outcome e = absurd cc
+can_end (CommitPending at turn) place job outcome e = absurd cc
+can_end (Work at its) place job outcome e = tt
 
 pub can_want : (plan : Plan) → CanHave plan happenings.NoMemory
 can_want (Agree turn) = tt
@@ -105,6 +132,7 @@ can_want (Status place) = tt
 can_want (Keep place txn affected) = tt
 can_want (Put place txn counted) = tt
 can_want (CommitPending place turn) = tt
+can_want (Work place job) = tt
 
 -- the index that a plan reads is there
 read_within : (confs : List IndexConf) (state : State) (plan : Plan) (place : ℕ) → need_of plan ≡ needs.Read place → IsSoundPlan confs state plan → place < length confs
@@ -119,6 +147,20 @@ read_within confs state (Status at) place e (conf, is) =
 read_within confs state (Keep at txn affected) place e sound = absurd cc
 read_within confs state (Put at txn counted) place e sound = absurd cc
 read_within confs state (CommitPending at turn) place e sound = absurd cc
+read_within confs state (Work at job) place e sound = absurd cc
+
+-- and so is the index that a job is over
+job_within : (confs : List IndexConf) (state : State) (plan : Plan) (place : ℕ) (job : Job) → need_of plan ≡ needs.Reshape place job → IsSoundPlan confs state plan → place < length confs
+job_within confs state (Agree turn) place job e sound = absurd cc
+job_within confs state (Show set) place job e sound = absurd cc
+job_within confs state (Search at selection) place job e sound = absurd cc
+job_within confs state (Status at) place job e sound = absurd cc
+job_within confs state (Keep at txn affected) place job e sound = absurd cc
+job_within confs state (Put at txn counted) place job e sound = absurd cc
+job_within confs state (CommitPending at turn) place job e sound = absurd cc
+job_within confs state (Work at its) place job e (conf, is) =
+    let here : at ≡ place = cc in
+    subst (λ (p : ℕ). p < length confs) here (slice_get_within confs at conf is)
 
 -- the reply to what was read of an index can be asked for: its rows are of the columns that the question was asked for
 can_read : (confs : List IndexConf) (state : State) (plan : Plan) (place : ℕ) (front : SnapshotValue) (conf : IndexConf) → need_of plan ≡ needs.Read place → IsSoundPlan confs state plan
@@ -135,6 +177,7 @@ can_read confs state (Status at) place front conf e sound here schema rows = tt
 can_read confs state (Keep at txn affected) place front conf e sound here schema rows = absurd cc
 can_read confs state (Put at txn counted) place front conf e sound here schema rows = absurd cc
 can_read confs state (CommitPending at turn) place front conf e sound here schema rows = absurd cc
+can_read confs state (Work at job) place front conf e sound here schema rows = absurd cc
 
 -- ---- what a session at a statement can be told
 at_some : (standing : Standing) (plan : Plan) (happened : Happened) → standing.plan ≡ Some plan → CanHave plan happened → IsSomeAnd standing.plan (λ p. CanHave p happened)
@@ -150,6 +193,10 @@ pub told_outcome : (confs : List IndexConf) (statement : Statement) (standing : 
     → IsSomeAnd standing.plan (λ p. CanHave p (happenings.Committing outcome))
 told_outcome confs statement standing place outcome at = at_some standing at.plan (happenings.Committing outcome) at.at (can_outcome at.plan place outcome at.is)
 
+pub told_end : (confs : List IndexConf) (statement : Statement) (standing : Standing) (place : ℕ) (job : Job) (outcome : JobOutcome) → IsAt confs statement standing (needs.Reshape place job)
+    → IsSomeAnd standing.plan (λ p. CanHave p (happenings.Reshaping outcome))
+told_end confs statement standing place job outcome at = at_some standing at.plan (happenings.Reshaping outcome) at.at (can_end at.plan place job outcome at.is)
+
 pub told_read : (confs : List IndexConf) (statement : Statement) (standing : Standing) (place : ℕ) (front seen : SnapshotValue) → IsAt confs statement standing (needs.Read place) → seen ≡ front
     → (conf : IndexConf) × (slice_get confs place ≡ Some conf) × IsSchema conf.schema × All (λ layer. AreRowsOf conf.schema layer.rows) front.layers
     → IsSomeAnd standing.plan (λ p. CanHave p (happenings.Read seen))
@@ -161,6 +208,9 @@ told_read confs statement standing place front seen at sees (conf, here, schema,
 -- the index that is read is there
 pub reads_within : (confs : List IndexConf) (statement : Statement) (standing : Standing) (place : ℕ) → IsAt confs statement standing (needs.Read place) → place < length confs
 reads_within confs statement standing place at = read_within confs standing.state at.plan place at.is (sound_plan confs standing.state statement at.plan at.wants)
+
+pub jobs_within : (confs : List IndexConf) (statement : Statement) (standing : Standing) (place : ℕ) (job : Job) → IsAt confs statement standing (needs.Reshape place job) → place < length confs
+jobs_within confs statement standing place job at = job_within confs standing.state at.plan place job at.is (sound_plan confs standing.state statement at.plan at.wants)
 
 -- the transaction of a session that is at a commit
 pub pending_at : (confs : List IndexConf) (statement : Statement) (standing : Standing) (place : ℕ) (txn : Txn) → (at : IsAt confs statement standing (needs.Commit place))
@@ -189,6 +239,7 @@ same_after (Status place) state = refl
 same_after (Keep place txn affected) state = refl
 same_after (Put place txn counted) state = refl
 same_after (CommitPending place turn) state = refl
+same_after (Work place job) state = refl
 
 module _ {D F : Type 0} (confs : D → List IndexConf) (words : StoreWords D F) where
   -- a statement whose memory was refused
@@ -260,6 +311,16 @@ module _ {D F : Type 0} (confs : D → List IndexConf) (words : StoreWords D F) 
       (refl, pending_at (confs before) statement standing place txn at pending) in
       runs_by before after standing.state new statement at.plan (Commit place txn.ops outcome front) reply more out longer at.wants meets follows same
       (λ takes. absurd (let clash : true ≡ false = sym takes ∙ small_commit at.plan place at.is in cc)) says put
+
+  pub runs_job : (before after : D) (standing : Standing) (new : State) (statement : Statement) (place : ℕ) (job : Job) (outcome : JobOutcome) (more : Bool) (out longer : Written)
+      → (at : IsAt (confs before) statement standing (needs.Reshape place job)) → (own : F) × (front : F) × Follows confs words before (Reshape place job outcome own front) after → confs after ≡ confs before
+      → RepliesPlan standing (happenings.Reshaping outcome) more new out longer → Runs confs words before standing.state statement more after new out longer
+  runs_job before after standing new statement place job outcome more out longer at (own, front, follows) same replies =
+      let (reply, says, put) = said_of standing at.plan (happenings.Reshaping outcome) more new out longer at.at replies in
+      let meets : Meets (need_of at.plan) (pending_of standing.state at.plan) (Reshape place job outcome own front) =
+      subst (λ (need : Need). Meets need (pending_of standing.state at.plan) (Reshape place job outcome own front)) (sym at.is) (refl, refl) in
+      runs_by before after standing.state new statement at.plan (Reshape place job outcome own front) reply more out longer at.wants meets follows same
+      (λ takes. absurd (let clash : true ≡ false = sym takes ∙ small_job at.plan place job at.is in cc)) says put
 
   -- memory was refused to what a plan needs
   pub runs_without : (before after : D) (standing : Standing) (new : State) (statement : Statement) (need : Need) (more : Bool) (out longer : Written)

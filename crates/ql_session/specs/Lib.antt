@@ -9,4 +9,5 @@ pub mod Session
 -- what clauses cite of lower crates, passed on
 pub use Rattle.serve_line.specs.Machines
 pub use Rattle.serve_line.specs.declared.line.LinkEnd
+pub use Rattle.ql_answers.specs.declared.job_outcome.JobOutcome
 pub mod steps

@@ -20,7 +20,7 @@ use Rattle.ql_answers.specs.Plans.{Wants, Refuses, TakesMemory}
 use Rattle.ql_answers.specs.Sessions.{Decides, Happened, HasLayers, need_of, next_of, pending_of}
 use Rattle.ql_answers.specs.Sessions as happenings
 use Rattle.ql_answers.specs.States.{status_of}
-use Rattle.ql_session.specs.Events.{Event, Configured, Nothing, NoMemory, Read, Commit}
+use Rattle.ql_session.specs.Events.{Event, Configured, Nothing, NoMemory, Read, Commit, Reshape}
 
 -- The text is a packet of these statements.
 abbrev pub States : List ℕ → List Statement → Type 0
@@ -41,6 +41,7 @@ abbrev pub Meets : {F : Type 0} → Need → Option Txn → Event F → Type 0
 Meets needs.Nothing pending Nothing = ⊤
 Meets (needs.Read place) pending (Read at front) = at ≡ place
 Meets (needs.Commit place) pending (Commit at ops outcome front) = (at ≡ place) × (pending ≡ Some (record { ops = ops }))
+Meets (needs.Reshape place job) pending (Reshape at done outcome own front) = (at ≡ place) × (done ≡ job)
 Meets need pending event = ⊥
 
 -- what a session is told of an event, where these are the documents of a front
@@ -50,6 +51,7 @@ told documents Nothing = happenings.Nothing
 told documents NoMemory = happenings.NoMemory
 told documents (Read place front) = happenings.Read (documents front)
 told documents (Commit place ops outcome front) = happenings.Committing outcome
+told documents (Reshape place job outcome own front) = happenings.Reshaping outcome
 
 -- What was read has layers as a snapshot has them, at each of these events.
 abbrev pub HaveLayers : {F : Type 0} → (F → SnapshotValue) → List (Event F) → Type 0

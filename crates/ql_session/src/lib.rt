@@ -17,7 +17,7 @@ pub use laws::{
     a_text_is_read_in_one_way,
 };
 pub use line::serve_link;
-pub use ql_answers::{Catalog, Event, Need};
+pub use ql_answers::{Catalog, Event, JobOutcome, Need};
 pub use ql_refusals::Refusal;
 pub use serve_line::LinkEnd;
 pub use session::{Session, StepEnd};

@@ -14,6 +14,7 @@ use ql_tree::Statement;
 use reply_rows::Replies;
 use srch_base::{NoMemory, Or};
 use std::alloc::Global;
+use step_history::Job;
 
 /// Runs statements one after another, up to the first that is refused.
 pub(crate) fn run_all<T: TableStore>(
@@ -59,6 +60,9 @@ fn run<T: TableStore>(
         Ok(Need::Nothing) => acknowledge(alloc, machine, tables, statement, more, replies),
         Ok(Need::Read(place)) => read(alloc, machine, tables, statement, place, more, replies),
         Ok(Need::Commit(place)) => commit(alloc, machine, tables, statement, place, more, replies),
+        Ok(Need::Reshape(place, job)) => {
+            reshape(alloc, machine, tables, statement, place, job, more, replies)
+        }
         Err(Or::NoMemory) => put_refusal(&no_memory(), replies),
         Err(Or::Fault(refusal)) => put_refusal(&refusal, replies),
     }
@@ -125,6 +129,33 @@ fn commit<T: TableStore>(
     match tables.commit(alloc, place, machine.pending()) {
         Ok(outcome) => {
             let event: Event<'_, T::Chunk> = Event::Commit(outcome);
+            reply(alloc, machine, statement, &event, more, replies)
+        }
+        Err(NoMemory) => {
+            let event: Event<'_, T::Chunk> = Event::NoMemory;
+            reply(alloc, machine, statement, &event, more, replies)
+        }
+    }
+}
+
+/// Does the job that a statement wants, and replies to what came of it.
+fn reshape<T: TableStore>(
+    alloc: Global,
+    machine: &mut StatementMachine,
+    tables: &mut T,
+    statement: &Statement,
+    place: u16,
+    job: Job,
+    more: bool,
+    replies: &mut Replies,
+)
+    requires at { IsAt (T.confs tables.old) statement.now machine.old (Need.Reshape place job) }
+    requires open { IsOpen replies.old }
+    ensures { Runs T.confs T.words tables.old machine.old.state statement.now more tables.new machine.new.state replies.old replies.new }
+{
+    match tables.reshape(alloc, place, job) {
+        Ok(outcome) => {
+            let event: Event<'_, T::Chunk> = Event::Reshape(outcome);
             reply(alloc, machine, statement, &event, more, replies)
         }
         Err(NoMemory) => {

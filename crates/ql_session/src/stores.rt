@@ -5,14 +5,15 @@ ghost use Rattle.doc_types.specs.Documents.{AreRowsOf};
 ghost use Rattle.doc_types.specs.Schemas.{IsSchema};
 ghost use Rattle.doc_types.specs.Transactions.{IsTxnOf};
 ghost use Rattle.index_conf.specs.declared.conf.IndexConf.{IndexConf};
-ghost use Rattle.ql_session.specs.Events.{Commit, Follows, NoMemory as OutOfMemory, Read, StoreWords};
+ghost use Rattle.ql_session.specs.Events.{Commit, Follows, NoMemory as OutOfMemory, Read, Reshape, StoreWords};
 
 use commit_outcomes::CommitOutcome;
 use doc_types::{HitLists, Snapshot, Txn};
-use ql_answers::Catalog;
+use ql_answers::{Catalog, JobOutcome};
 use srch_base::NoMemory;
 use std::alloc::Global;
 use std::sync::Arc;
+use step_history::Job;
 
 /// The indexes of a configuration with their documents, wherever these are held.
 pub trait TableStore: Catalog {
@@ -37,6 +38,13 @@ pub trait TableStore: Catalog {
     fn commit(&mut self, alloc: Global, place: u16, txn: &Txn) -> Result<CommitOutcome, NoMemory>
         requires { (conf : IndexConf) × (slice_get (Self.confs self.old) place ≡ Some conf) × IsTxnOf conf.schema txn.now }
         ensures commits { IfOk result (λ outcome. (front : Front) × Follows Self.confs words self.old (Commit place txn.now.ops outcome front) self.new) }
+        ensures failed { OnErr result (Follows Self.confs words self.old OutOfMemory self.new) }
+        ensures confs { Self.confs self.new ≡ Self.confs self.old };
+
+    /// Does a job over the index at a place, begun over its documents as they are now. After want of memory nothing of it was done.
+    fn reshape(&mut self, alloc: Global, place: u16, job: Job) -> Result<JobOutcome, NoMemory>
+        requires { place < length (Self.confs self.old) }
+        ensures reshapes { IfOk result (λ outcome. (own : Front) × (front : Front) × Follows Self.confs words self.old (Reshape place job outcome own front) self.new) }
         ensures failed { OnErr result (Follows Self.confs words self.old OutOfMemory self.new) }
         ensures confs { Self.confs self.new ≡ Self.confs self.old };
 

@@ -13,6 +13,7 @@ use Rattle.ql_select.specs.declared.selection.Selection.{Selection}
 use Rattle.ql_answers.specs.declared.plan.Counted.{Counted}
 use Rattle.ql_answers.specs.declared.plan.Plan.{Plan}
 use Rattle.ql_answers.specs.declared.plan.Plan.TheVariants.{Show, Search, Status}
+use Rattle.step_history.specs.declared.job.Job.{Job}
 use Rattle.ql_answers.specs.declared.state.State.{State}
 use Rattle.reply_rows.specs.declared.result_set.ResultSet.{ResultSet}
 use Rattle.ql_answers.specs.Indexes.{index_fault, Serves}
@@ -20,7 +21,7 @@ use Rattle.ql_refusals.specs.Refusals.{Refused}
 use Rattle.ql_answers.specs.Reading.{WantsSearch, RefusesSelect}
 use Rattle.ql_answers.specs.Showing.{description}
 use Rattle.ql_answers.specs.Transactions.{write_fault, written}
-use Rattle.ql_answers.specs.Plans.{Wants, Refuses, RefusesJob, TakesMemory}
+use Rattle.ql_answers.specs.Plans.{Wants, WantsJob, Refuses, TakesMemory}
 
 abbrev pub Planned : List IndexConf → State → Statement → Result Plan (Or Refused) → Type 0
 Planned confs state statement (Ok plan) = Wants confs state statement plan
@@ -61,10 +62,10 @@ PlansStatus confs index (Ok plan) = (place : ℕ) × (conf : IndexConf) × Serve
 PlansStatus confs index (Err causes.NoMemory) = ⊥
 PlansStatus confs index (Err (causes.Fault refusal)) = index_fault confs index ≡ Some refusal
 
-abbrev pub PlansJob : List IndexConf → List ℕ → Result Plan (Or Refused) → Type 0
-PlansJob confs index (Ok plan) = ⊥
-PlansJob confs index (Err causes.NoMemory) = ⊥
-PlansJob confs index (Err (causes.Fault refusal)) = RefusesJob confs index refusal
+abbrev pub PlansJob : List IndexConf → List ℕ → Job → Result Plan (Or Refused) → Type 0
+PlansJob confs index job (Ok plan) = WantsJob confs index job plan
+PlansJob confs index job (Err causes.NoMemory) = ⊥
+PlansJob confs index job (Err (causes.Fault refusal)) = index_fault confs index ≡ Some refusal
 
 abbrev pub ShowsOr : {E : Type 0} → Result ResultSet E → Result Plan (Or Refused) → Type 0
 ShowsOr (Ok set) result = result ≡ Ok (Show set)

@@ -6,7 +6,7 @@ use Rattle.ql_answers.specs.Pending.{PendingValue}
 use Rattle.ql_answers.specs.Searches.{IsAskedOf}
 use Rattle.ql_answers.specs.Transactions.{write_fault}
 use Rattle.ql_answers.specs.declared.plan.Plan.{Plan}
-use Rattle.ql_answers.specs.declared.plan.Plan.TheVariants.{Search, Status, Keep, Put, Commit}
+use Rattle.ql_answers.specs.declared.plan.Plan.TheVariants.{Search, Status, Keep, Put, Commit, Reshape}
 use Rattle.ql_answers.specs.declared.state.State.{State}
 use Rattle.ql_session.specs.Fitting.{CanCommit}
 
@@ -18,4 +18,5 @@ IsSoundPlan confs state (Status place) = (conf : IndexConf) × (slice_get confs 
 IsSoundPlan confs state (Keep place txn affected) = CanCommit confs place txn × (write_fault state place txn ≡ None)
 IsSoundPlan confs state (Put place txn counted) = CanCommit confs place txn
 IsSoundPlan confs state (Commit place turn) = (pending : PendingValue) × (state.pending ≡ Some pending) × (place ≡ pending.place)
+IsSoundPlan confs state (Reshape place job) = (conf : IndexConf) × (slice_get confs place ≡ Some conf)
 IsSoundPlan confs state plan = Unit {0}
