@@ -4,6 +4,10 @@ pub mod Places
 pub mod Using
 -- what an engine's answer is to a session
 pub mod Telling
+-- what the end of a job is to a session
+pub mod Jobs
+-- what a job is to a worker's store
+pub mod Working
 -- how engines end
 pub mod Endings
 -- how engines are made

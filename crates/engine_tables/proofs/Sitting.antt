@@ -13,7 +13,7 @@ use Rattle.engine_tables.specs.Engines.{EnginesValue}
 use Rattle.engine_tables.specs.Tokens.{SitsAt, TokensValue}
 use Rattle.engine_tables.specs.Workers.{Grows, GrowAll, HasSeen, documents_of}
 
-long_zip : (xs ys : List TokenValue) → AllZip Grows xs ys → length ys ≡ length xs
+pub long_zip : (xs ys : List TokenValue) → AllZip Grows xs ys → length ys ≡ length xs
 long_zip [] [] zip = refl
 long_zip [] (y ∷ ys) zip = absurd zip
 long_zip (x ∷ xs) [] zip = absurd zip

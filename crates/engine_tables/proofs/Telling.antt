@@ -19,14 +19,14 @@ use Rattle.engine_tables.specs.Tokens.{TokensValue}
 use Rattle.engine_tables.specs.Workers.{CommitsBy, GrowAll, Grows}
 use Rattle.engine_tables.proofs.Using.{IsUsed, grow_at, with_token}
 
-note_of : (token : TokenValue) (note : FrontValue) → IsNoteOf token note → IsNoteOf token (seen_by token)
+pub note_of : (token : TokenValue) (note : FrontValue) → IsNoteOf token note → IsNoteOf token (seen_by token)
 note_of token note is = record { is = refl; counts = is.counts }
 
 made_so : {J : Type 0} (base : Base) (old : TokenValue) (ops : List TxnOp) (made : Committed J) (new : TokenValue) → IsAcknowledged {J = J} base old ops made new → IsMade base old ops made.removed new
 made_so base old ops made new is =
     (made.number, record { earlier = is.earlier; entry = is.entry; snapshot = is.snapshot; last = is.last; before = is.before; becomes = is.becomes; number = is.number; seq = is.seq })
 
-kept : (schema : Schema) (base : Base) (old new : TokenValue) (made : ℕ) → Advances schema base old new made → (new.index ≡ old.index) × (new.worker ≡ old.worker)
+pub kept : (schema : Schema) (base : Base) (old new : TokenValue) (made : ℕ) → Advances schema base old new made → (new.index ≡ old.index) × (new.worker ≡ old.worker)
 kept schema base old new made is = (ap (λ (t : TokenValue). t.index) is.is, ap (λ (t : TokenValue). t.worker) is.is)
 
 as_told : (schema : Schema) (base : Base) (old : TokenValue) (ops : List TxnOp) (new : TokenValue) (outcome its : CommitOutcome) → its ≡ outcome → Tells schema base old ops its new → Tells schema base old ops outcome new

@@ -1,18 +1,28 @@
--- Outcomes: what an engine's answer to a commit is to a session.
-use Rattle.std.specs.Prelude.{◌≡◌, ◌+◌, ℕ, List, Option, Some, None, Result, Ok, Err}
+-- Outcomes: what an engine's answer to a commit, or to a job, is to a session.
+use Rattle.std.specs.Prelude.{◌≡◌, ◌⊎◌, ◌+◌, ◌<◌, ℕ, List, [], ◌∷◌, ◌++◌, Option, Some, None, Result, Ok, Err}
+use mathlib.Core.List.{IsPrefix}
 use Rattle.srch_base.specs.declared.faults.NoMemory.{NoMemory}
 use Rattle.commit_outcomes.specs.declared.outcome.CommitOutcome.{CommitOutcome}
 use Rattle.commit_outcomes.specs.declared.outcome.CommitOutcome.TheVariants as outcomes
+use Rattle.commit_outcomes.specs.declared.outcome.Full.{Full}
+use Rattle.commit_outcomes.specs.declared.outcome.FullKind.TheVariants.{Root}
 use Rattle.commit_outcomes.specs.declared.strayed.Strayed.{Strayed as Numbers}
 use Rattle.doc_types.specs.Commits.{Duplicate, verdict}
-use Rattle.doc_types.specs.Snapshots.{live}
+use Rattle.doc_types.specs.Snapshots.{SnapshotValue, live}
 use Rattle.doc_types.specs.declared.schema.Schema.{Schema}
 use Rattle.doc_types.specs.declared.transactions.TxnOp.{TxnOp}
-use Rattle.step_history.specs.History.{Base, last_snapshot}
+use Rattle.job_chunks.specs.Limits.{HasRoom, Passes}
+use Rattle.ql_answers.specs.declared.job_outcome.JobOutcome.{JobOutcome}
+use Rattle.ql_answers.specs.declared.job_outcome.JobOutcome.TheVariants as job_outcomes
+use Rattle.step_book.specs.Fronts.{FrontValue}
+use Rattle.step_history.specs.History.{Base, Reshape, Step, last_snapshot}
+use Rattle.step_history.specs.declared.job.Job.{Job}
 use Rattle.step_tokens.specs.Tokens.{TokenValue}
 use Rattle.store_keep.specs.declared.fault.CommitFault.{CommitFault}
 use Rattle.store_keep.specs.declared.fault.CommitFault.TheVariants as faults
 use Rattle.store_keep.specs.declared.fault.Committed.{Committed}
+use Rattle.store_keep.specs.declared.install_fault.InstallFault.{InstallFault}
+use Rattle.store_keep.specs.declared.install_fault.InstallFault.TheVariants as install_faults
 use Rattle.snap_share.specs.Answers.{Advances, Contradicts, IsAcknowledged, IsInDoubt, IsNoteOf, IsOverLimit, seen_by}
 
 -- the outcome of a commit that was answered so; none where memory was refused
@@ -47,3 +57,51 @@ Tells schema base old ops (outcomes.Full full) new = Advances schema base old ne
 Tells schema base old ops outcomes.Refused new = Advances schema base old new old.made
 Tells schema base old ops (outcomes.InDoubt doubt) new = Advances schema base old new (old.made + 1) × IsInDoubt base ops new
 Tells schema base old ops (outcomes.Strayed numbers) new = (new ≡ old) × Contradicts base old numbers
+
+-- the outcome of a job whose end was answered so; none where memory was refused
+abbrev pub job_outcome_of : {J : Type 0} → Result FrontValue (InstallFault J) → Result JobOutcome NoMemory
+job_outcome_of (Ok note) = Ok job_outcomes.Shaped
+job_outcome_of (Err install_faults.NoMemory) = Err (record {})
+job_outcome_of (Err (install_faults.Strayed numbers)) = Ok (job_outcomes.Strayed numbers)
+job_outcome_of (Err (install_faults.Overtaken shape note)) = Ok (job_outcomes.Overtaken shape)
+job_outcome_of (Err (install_faults.Full full)) = Ok (job_outcomes.Full full)
+job_outcome_of (Err install_faults.DiskFault) = Ok job_outcomes.Refused
+job_outcome_of (Err install_faults.InDoubt) = Ok job_outcomes.InDoubt
+
+-- the numbers of a job's outcome that is a contradiction
+abbrev pub numbers_of_job : JobOutcome → Option Numbers
+numbers_of_job (job_outcomes.Strayed numbers) = Some numbers
+numbers_of_job job_outcomes.Shaped = None
+numbers_of_job (job_outcomes.Overtaken shape) = None
+numbers_of_job (job_outcomes.Full full) = None
+numbers_of_job job_outcomes.Refused = None
+numbers_of_job job_outcomes.InDoubt = None
+
+-- The job has ended: its end is the last step of what the token has seen, by the number of the snapshot over which the job began,
+-- whatever commits came since. What stands before it begins with all that the token had seen then.
+pub record IsShaped (base : Base) (job : Job) (old new : TokenValue) : Type 0 where
+  pub earlier : List Step
+  pub snapshot : SnapshotValue
+  pub last : new.seen ≡ earlier ++ Reshape job (last_snapshot base old.seen).number snapshot ∷ []
+  pub before : IsPrefix old.seen earlier
+
+-- What the end of a job says by its outcome, and what its token is then, by what that had seen where the job began. A job counts no
+-- commit.
+abbrev pub TellsEnd : Schema → Base → TokenValue → Job → JobOutcome → TokenValue → Type 0
+TellsEnd schema base old job job_outcomes.Shaped new = Advances schema base old new old.made × IsNoteOf new (seen_by new) × IsShaped base job old new
+TellsEnd schema base old job (job_outcomes.Overtaken shape) new =
+    Advances schema base old new old.made × IsNoteOf new (seen_by new) × ((last_snapshot base new.seen).shape ≡ shape) × ((last_snapshot base old.seen).shape < shape)
+TellsEnd schema base old job (job_outcomes.Full full) new = Advances schema base old new old.made × (full.what ≡ Root) × (full.need ≡ 1)
+TellsEnd schema base old job job_outcomes.Refused new = Advances schema base old new old.made
+TellsEnd schema base old job job_outcomes.InDoubt new = Advances schema base old new old.made
+TellsEnd schema base old job (job_outcomes.Strayed numbers) new = (new ≡ old) × Contradicts base old numbers
+
+-- There was no room for the job's chunk beside those that stay, by the snapshot over which it began: its end was never asked for.
+abbrev pub HasNoRoom : Base → TokenValue → Job → JobOutcome → TokenValue → Type 0
+HasNoRoom base old job (job_outcomes.Full full) new = Passes job (last_snapshot base old.seen) full.what full.at full.need × (new ≡ old)
+HasNoRoom base old job outcome new = ⊥
+
+-- What a job says by its outcome that began over all that its token had seen, and what the token is then: there was room for its chunk,
+-- and its end says this; or there was none.
+abbrev pub TellsJob : Schema → Base → TokenValue → Job → JobOutcome → TokenValue → Type 0
+TellsJob schema base old job outcome new = (HasRoom job (last_snapshot base old.seen) × TellsEnd schema base old job outcome new) ⊎ HasNoRoom base old job outcome new

@@ -7,8 +7,8 @@ use Rattle.step_tokens.specs.Tokens.{TokenValue}
 use Rattle.store_keep.specs.Names.{new_token}
 use Rattle.engine_tables.specs.Engines.{EnginesValue}
 
--- Whose they are, a token of each index, in their order, and of each index the first contradiction that a commit of the worker was
--- answered, where one was.
+-- Whose they are, a token of each index, in their order, and of each index the first contradiction that a commit or a job of the
+-- worker was answered, where one was.
 pub record TokensValue : Type 0 where
   pub worker : ℕ
   pub list : List TokenValue

@@ -15,7 +15,9 @@ use Rattle.step_history.specs.History.{Base, IsGood, last_snapshot}
 use Rattle.step_tokens.specs.Tokens.{TokenValue}
 use Rattle.snap_share.specs.Answers.{seen_by}
 use Rattle.ql_session.specs.Events.{StoreWords}
-use Rattle.engine_tables.specs.Outcomes.{Tells, numbers_of}
+use Rattle.ql_answers.specs.declared.job_outcome.JobOutcome.{JobOutcome}
+use Rattle.step_history.specs.declared.job.Job.{Job}
+use Rattle.engine_tables.specs.Outcomes.{Tells, TellsJob, numbers_of, numbers_of_job}
 use Rattle.engine_tables.specs.Tokens.{TokensValue}
 
 -- The indexes as they are configured, and the worker's tokens of them.
@@ -61,6 +63,22 @@ pub record CommitsBy (schema : ℕ → Schema) (base : ℕ → Base) (old : Toke
   pub good : IsGood (schema place) (base place) front.steps
   pub tells : Tells (schema place) (base place) before ops outcome after
 
+-- The worker did this job over the index at this place, begun over its own front, which is all that its token had seen of the index.
+-- The outcome says what became of it over the front that the token has seen then, a good history. The other tokens are as they were.
+-- Where it is the first contradiction that the worker was told of the index, it is kept.
+pub record ReshapesBy (schema : ℕ → Schema) (base : ℕ → Base) (old : TokensValue) (place : ℕ) (job : Job) (outcome : JobOutcome) (own front : FrontValue) (new : TokensValue) : Type 0 where
+  pub before : TokenValue
+  pub after : TokenValue
+  pub at : slice_get old.list place ≡ Some before
+  pub began : own ≡ seen_by before
+  pub had : Option Strayed
+  pub told : slice_get old.told place ≡ Some had
+  pub left : new ≡ record old { list = slice_set old.list place after; told = slice_set old.told place (option_or had (numbers_of_job outcome)) }
+  pub is : front ≡ seen_by after
+  pub of : front.index ≡ place
+  pub good : IsGood (schema place) (base place) front.steps
+  pub tells : TellsJob (schema place) (base place) before job outcome after
+
 -- A worker's engines as a store: a front is a history that its token has seen.
 abbrev pub by_tokens : (ℕ → Schema) → (ℕ → Base) → StoreWords WorkerValue FrontValue
 by_tokens schema base = record {
@@ -68,4 +86,5 @@ by_tokens schema base = record {
   settles = λ old new. (new.confs ≡ old.confs) × GrowAll old.tokens new.tokens;
   has = λ worker. HasSeen schema base worker.tokens;
   commits = λ old place ops outcome front new. (new.confs ≡ old.confs) × CommitsBy schema base old.tokens place ops outcome front new.tokens;
+  reshapes = λ old place job outcome own front new. (new.confs ≡ old.confs) × ReshapesBy schema base old.tokens place job outcome own front new.tokens;
 }

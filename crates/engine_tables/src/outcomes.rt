@@ -1,9 +1,10 @@
-//! What an engine's answer to a commit is to a session.
+//! What an engine's answer to a commit, or to a job, is to a session.
 ghost use Rattle.std.specs.Prelude.{◌≡◌};
-ghost use Rattle.engine_tables.specs.Outcomes.{numbers_of, outcome_of};
+ghost use Rattle.engine_tables.specs.Outcomes.{job_outcome_of, numbers_of, numbers_of_job, outcome_of};
 
 use commit_outcomes::{CommitOutcome, Strayed};
-use snap_share::{CommitFault, Committed};
+use ql_answers::JobOutcome;
+use snap_share::{CommitFault, Committed, InstallFault, Note};
 use srch_base::NoMemory;
 use step_book::Naming;
 
@@ -32,6 +33,33 @@ pub(crate) fn numbers_of(outcome: CommitOutcome) -> Option<Strayed>
 {
     match outcome {
         CommitOutcome::Strayed(numbers) => Some(numbers),
+        _ => None,
+    }
+}
+
+/// The outcome of a job whose end was answered so.
+pub(crate) fn job_outcome_of<J: Naming>(
+    answer: Result<Note<J>, InstallFault<J>>,
+) -> Result<JobOutcome, NoMemory>
+    ensures { result ≡ job_outcome_of answer }
+{
+    match answer {
+        Ok(_note) => Ok(JobOutcome::Shaped),
+        Err(InstallFault::NoMemory) => Err(NoMemory),
+        Err(InstallFault::Strayed(numbers)) => Ok(JobOutcome::Strayed(numbers)),
+        Err(InstallFault::Overtaken { shape, note: _ }) => Ok(JobOutcome::Overtaken { shape }),
+        Err(InstallFault::Full(full)) => Ok(JobOutcome::Full(full)),
+        Err(InstallFault::DiskFault) => Ok(JobOutcome::Refused),
+        Err(InstallFault::InDoubt) => Ok(JobOutcome::InDoubt),
+    }
+}
+
+/// The numbers of a job's outcome that is a contradiction.
+pub(crate) fn numbers_of_job(outcome: JobOutcome) -> Option<Strayed>
+    ensures { result ≡ numbers_of_job outcome }
+{
+    match outcome {
+        JobOutcome::Strayed(numbers) => Some(numbers),
         _ => None,
     }
 }

@@ -1,4 +1,4 @@
-//! A worker's tokens: one of each index. With them it reads, which takes neither a lock nor an engine, and commits.
+//! A worker's tokens: one of each index. With them it reads, which takes neither a lock nor an engine, commits, and does jobs.
 ghost use Rattle.std.specs.Prelude.{◌≡◌, ◌<◌, ◌≤◌, ◌+◌, ◌++◌, ◌∷◌, [], Option, Some, None, length, slice_get, slice_set, option_to_list, IfOk, OnErr, OnOk};
 ghost use Rattle.std.specs.Arc.{arc_value};
 ghost use Rattle.std.specs.Option.{option_or};
@@ -7,23 +7,28 @@ ghost use Rattle.doc_types.specs.Schemas.{IsSchema};
 ghost use Rattle.doc_types.specs.Snapshots.{AreLayers};
 ghost use Rattle.doc_types.specs.Transactions.{IsTxnOf};
 ghost use Rattle.step_book.specs.Fronts.{FrontValue};
-ghost use Rattle.engine_tables.specs.Outcomes.{numbers_of};
-ghost use Rattle.engine_tables.specs.Workers.{CommitsBy, GrowAll, HasSeen, documents_of};
+ghost use Rattle.job_chunks.specs.Chunks.{IsNewChunk};
+ghost use Rattle.job_chunks.specs.Limits.{HasRoom};
+ghost use Rattle.engine_tables.specs.Tokens.{TokensValue as TokensNow};
+ghost use Rattle.engine_tables.specs.Workers.{CommitsBy, GrowAll, HasSeen, ReshapesBy, documents_of};
 ghost use Rattle.engine_tables.specs.steps.Lasts.{last_told, last_token, shortened};
 
-use crate::outcomes::{numbers_of, outcome_of};
+use crate::outcomes::{job_outcome_of, numbers_of, numbers_of_job, outcome_of};
 use chunk_store::Disk;
 use commit_outcomes::{CommitOutcome, Strayed};
 use doc_types::{Snapshot, Txn};
 use image_chunk::AnyChunk;
-use snap_share::{Engine, Token, snapshot};
-use srch_base::NoMemory;
+use ql_answers::JobOutcome;
+use snap_share::{Engine, NewChunk, Token, snapshot};
+use srch_base::{NoMemory, Or};
 use std::alloc::Global;
 use std::marker::Model;
 use std::sync::{Arc, Wait};
 use step_book::Naming;
+use step_history::Job;
 
-/// The tokens of one worker, one of each index, and of each index the first contradiction that one of its commits was answered.
+/// The tokens of one worker, one of each index, and of each index the first contradiction that one of its commits or jobs was
+/// answered.
 #[derive(Drop)]
 pub struct Tokens<J: Naming> {
     pub(crate) worker: u32,
@@ -48,13 +53,13 @@ fn is_sound(snapshot: &Snapshot<AnyChunk>)
     let _layers = &snapshot.layers;
 }
 
-/// Keeps the outcome of a commit to the index at a place, where it is the first contradiction.
-fn keep_first(told: &mut Vec<Option<Strayed>>, place: u16, outcome: CommitOutcome)
+/// Keeps what was told of the index at a place, where it is the first contradiction.
+fn keep_first(told: &mut Vec<Option<Strayed>>, place: u16, numbers: Option<Strayed>)
     requires { place < length told.old.items }
-    ensures { (had : Option Numbers) × (slice_get told.old.items place ≡ Some had) × (told.new.items ≡ slice_set told.old.items place (option_or had (numbers_of outcome))) }
+    ensures { (had : Option Numbers) × (slice_get told.old.items place ≡ Some had) × (told.new.items ≡ slice_set told.old.items place (option_or had numbers)) }
 {
     let first = &mut told[place as usize];
-    *first = first.or(numbers_of(outcome));
+    *first = first.or(numbers);
 }
 
 impl<J: Naming> Tokens<J> {
@@ -107,6 +112,7 @@ impl<J: Naming> Tokens<J> {
         requires { place < length self.old.list }
         ensures found { IfOk result (λ snapshot. (front : FrontValue) × HasSeen J.schema J.base self.new place front × (arc_value snapshot ≡ documents_of J.base front)) }
         ensures grow { GrowAll self.old self.new }
+        ensures alike { length self.new.told ≡ length self.new.list }
     {
         let found = snapshot(&mut self.list[place as usize])?;
         is_sound(&found);
@@ -135,7 +141,58 @@ impl<J: Naming> Tokens<J> {
         // What the token has seen is a good history, whatever was answered.
         let _seen = token.len();
         let outcome = outcome_of(answer)?;
-        keep_first(&mut self.told, place, outcome);
+        keep_first(&mut self.told, place, numbers_of(outcome));
+        Ok(outcome)
+    }
+
+    /// Does a job over the index at a place: its chunk is made of the documents as they are now, while others go on, and then the
+    /// engine ends it. After want of memory nothing of it was done, and the token may have seen more than before. The first
+    /// contradiction that is answered is kept for the end of the engine.
+    pub fn reshape<D: Disk, R: Wait>(
+        &mut self,
+        rt: &R,
+        alloc: Global,
+        engine: &Engine<D, J>,
+        place: u16,
+        job: Job,
+    ) -> Result<JobOutcome, NoMemory>
+        requires at { (place < length self.old.list) × (engine.now.index ≡ place) }
+        requires own { (0 < self.old.worker) × (self.old.worker ≤ engine.now.workers) }
+        requires of { IsSchema (J.schema place) }
+        ensures reshapes { IfOk result (λ outcome. (mid : TokensNow) × (own : FrontValue) × (front : FrontValue) × GrowAll self.old mid × HasSeen J.schema J.base mid place own × ReshapesBy J.schema J.base mid place job outcome own front self.new) }
+        ensures failed { OnErr result (GrowAll self.old self.new) }
+    {
+        let from = self.read(place)?;
+        match NewChunk::build(alloc, &from, job) {
+            Ok(new) => self.end_job(rt, engine, place, new),
+            Err(Or::NoMemory) => Err(NoMemory),
+            Err(Or::Fault(full)) => Ok(JobOutcome::Full(full)),
+        }
+    }
+
+    /// Ends a job with the chunk that it made of all that the token of its index has seen. It waits for the commits of other workers,
+    /// and they for it.
+    fn end_job<D: Disk, R: Wait>(
+        &mut self,
+        rt: &R,
+        engine: &Engine<D, J>,
+        place: u16,
+        new: NewChunk,
+    ) -> Result<JobOutcome, NoMemory>
+        requires at { (place < length self.old.list) × (engine.now.index ≡ place) }
+        requires own { (0 < self.old.worker) × (self.old.worker ≤ engine.now.workers) }
+        requires seen { (own : FrontValue) × HasSeen J.schema J.base self.old place own × (new.from ≡ documents_of J.base own) }
+        requires room { HasRoom new.job new.from }
+        requires chunk { IsNewChunk (J.schema place) new }
+        ensures ends { IfOk result (λ outcome. (own : FrontValue) × (front : FrontValue) × HasSeen J.schema J.base self.old place own × ReshapesBy J.schema J.base self.old place new.job outcome own front self.new) }
+        ensures failed { OnErr result (GrowAll self.old self.new) }
+    {
+        let token = &mut self.list[place as usize];
+        let answer = engine.reshape(rt, token, new);
+        // What the token has seen is a good history, whatever was answered.
+        let _seen = token.len();
+        let outcome = job_outcome_of(answer)?;
+        keep_first(&mut self.told, place, numbers_of_job(outcome));
         Ok(outcome)
     }
 }

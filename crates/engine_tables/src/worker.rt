@@ -9,15 +9,16 @@ use doc_types::{Snapshot, Txn};
 use image_chunk::AnyChunk;
 use index_conf::IndexConf;
 use ql_answers::Catalog;
-use ql_session::TableStore;
+use ql_session::{JobOutcome, TableStore};
 use srch_base::NoMemory;
 use std::alloc::Global;
 use std::marker::Model;
 use std::sync::{Arc, Wait};
 use step_book::Naming;
+use step_history::Job;
 
 /// The engines that all workers share, with one worker's tokens. Contracts see how the indexes are configured, and the tokens. The
-/// handle is what commits wait by: reads need none.
+/// handle is what commits and the ends of jobs wait by: reads need none.
 pub struct WorkerTables<'a, D: Disk, J: Naming, R: Wait> {
     rt: &'a R,
     engines: &'a Engines<D, J>,
@@ -102,5 +103,11 @@ impl<'a, D: Disk, J: Naming, R: Wait> TableStore for WorkerTables<'a, D, J, R> {
         let engines = self.engines;
         self.tokens
             .commit(self.rt, engines.engine(place), place, txn)
+    }
+
+    fn reshape(&mut self, alloc: Global, place: u16, job: Job) -> Result<JobOutcome, NoMemory> {
+        let engines = self.engines;
+        self.tokens
+            .reshape(self.rt, alloc, engines.engine(place), place, job)
     }
 }

@@ -2,7 +2,7 @@
 use Rattle.std.proofs.Common.{◌≡◌, ◌⊎◌, inl, inr, ⊎_elim, ℕ, ◌+◌, ◌≤◌, ◌==◌, ◌&&◌, Bool, true, false, List, [], ◌∷◌, ◌++◌, length, refl, sym, ap, subst, ◌∙◌, arith, append_assoc, length-append}
 use Rattle.std.specs.Prelude.{All}
 use Rattle.std.proofs.lemmas.Bool.{and_right, eq-eqb}
-use Rattle.std.proofs.lemmas.List.Elements.{All-cons, All-nil, All-weaker}
+use Rattle.std.proofs.lemmas.List.Elements.{All-cons, All-nil, All-weaker, filter-append}
 use mathlib.Core.List.{IsPrefix}
 use Rattle.commit_outcomes.specs.declared.outcome.CommitOutcome.{CommitOutcome}
 use Rattle.commit_outcomes.specs.declared.outcome.CommitOutcome.TheVariants as outcomes
@@ -14,12 +14,12 @@ use Rattle.step_book.proofs.Prefixes.{prefix_self, prefix_trans}
 use Rattle.step_history.specs.History.{Base, Step, commits_by, made_by}
 use Rattle.step_tokens.specs.Tokens.{TokenValue}
 use Rattle.snap_share.specs.Answers.{seen_by}
-use Rattle.ql_session.specs.Events.{Event, Configured, Nothing, NoMemory, Read, Commit}
+use Rattle.ql_session.specs.Events.{Event, Configured, Nothing, NoMemory, Read, Commit, Reshape}
 use Rattle.ql_session.specs.Machines.{FollowAll}
-use Rattle.line_workers.specs.Attempts.{OnFront, attempts_on, is_attempt, is_noted}
-use Rattle.line_workers.specs.Histories.{AreEntriesOf, IsDoubtful, IsEntryOf, IsOfHistory}
+use Rattle.line_workers.specs.Attempts.{OnFront, OnLast, attempts_on, is_attempt, is_noted}
+use Rattle.line_workers.specs.Histories.{AreEntriesOf, HasItsEnd, IsDoubtful, IsEntryOf, IsOfHistory}
 use Rattle.line_workers.proofs.Counting.{by_one, by_prefix, made_one, made_up, same_rest}
-use Rattle.line_workers.proofs.Moving.{Goes, HasAll, IsCommit, Moved, Looked, Made, Doubted, follow_cut, follow_then, has_made, same_worker, stays}
+use Rattle.line_workers.proofs.Moving.{Goes, HasAll, IsAmid, IsCommit, Moved, Looked, Made, Doubted, follow_cut, follow_then, has_made, same_worker, stays}
 
 -- what holds of a front holds in other words too
 pub on_front : {F : Type 0} (index : ℕ) (P Q : F → Type 0) → ((front : F) → P front → Q front) → (event : Event F) → OnFront index P event → OnFront index Q event
@@ -28,10 +28,22 @@ on_front index P Q weaker Nothing holds = tt
 on_front index P Q weaker NoMemory holds = tt
 on_front index P Q weaker (Read place front) holds = λ here. weaker front (holds here)
 on_front index P Q weaker (Commit place ops outcome front) holds = λ here. weaker front (holds here)
+on_front index P Q weaker (Reshape place job outcome own front) holds = λ here. (weaker own (holds here).0, weaker front (holds here).1)
+
+pub on_last : {F : Type 0} (index : ℕ) (P Q : F → Type 0) → ((front : F) → P front → Q front) → (event : Event F) → OnLast index P event → OnLast index Q event
+on_last index P Q weaker (Configured confs) holds = tt
+on_last index P Q weaker Nothing holds = tt
+on_last index P Q weaker NoMemory holds = tt
+on_last index P Q weaker (Read place front) holds = λ here. weaker front (holds here)
+on_last index P Q weaker (Commit place ops outcome front) holds = λ here. weaker front (holds here)
+on_last index P Q weaker (Reshape place job outcome own front) holds = λ here. weaker front (holds here)
 
 -- the front of a commit of the index
 at_commit : {F : Type 0} (index : ℕ) (P : F → Type 0) (ops : List TxnOp) (outcome : CommitOutcome) (front : F) (event : Event F) → event ≡ Commit index ops outcome front → P front → OnFront index P event
 at_commit index P ops outcome front event is holds = subst (OnFront index P) (sym is) (λ here. holds)
+
+at_last : {F : Type 0} (index : ℕ) (P : F → Type 0) (ops : List TxnOp) (outcome : CommitOutcome) (front : F) (event : Event F) → event ≡ Commit index ops outcome front → P front → OnLast index P event
+at_last index P ops outcome front event is holds = subst (OnLast index P) (sym is) (λ here. holds)
 
 attempt_skipped : {F : Type 0} (index : ℕ) (event : Event F) (events : List (Event F)) → is_attempt index event ≡ false → attempts_on index (event ∷ events) ≡ attempts_on index events
 attempt_skipped index event events none = rw none refl
@@ -49,11 +61,31 @@ module _ (base : Base) (index : ℕ) where
   abbrev pub Runs : TokenValue → List (Event FrontValue) → TokenValue → Type 0
   Runs = FollowAll (Moved base index)
 
-  -- the front of an event is what the token has seen then
-  pub shown : (old new : TokenValue) (event : Event FrontValue) → Moved base index old event new → OnFront index (λ front. front ≡ seen_by new) event
-  shown old new event (Looked goes none notes shows) = shows
-  shown old new event (Made ops removed is goes made) = at_commit index (λ (front : FrontValue). front ≡ seen_by new) ops (outcomes.Committed removed) (seen_by new) event is refl
-  shown old new event (Doubted ops doubt is goes waits) = at_commit index (λ (front : FrontValue). front ≡ seen_by new) ops (outcomes.InDoubt doubt) (seen_by new) event is refl
+  -- what the token has seen at last is of a moment between
+  at_end : (old new : TokenValue) → IsPrefix old.seen new.seen → IsAmid old new (seen_by new)
+  at_end old new up = record { first = up; rest = prefix_self new.seen }
+
+  -- the fronts of an event are of moments of the token between
+  pub amid : (old new : TokenValue) (event : Event FrontValue) → Moved base index old event new → OnFront index (IsAmid old new) event
+  amid old new event (Looked goes none notes shows) = shows.amid
+  amid old new event (Made ops removed is goes made) = at_commit index (IsAmid old new) ops (outcomes.Committed removed) (seen_by new) event is (at_end old new goes.seen)
+  amid old new event (Doubted ops doubt is goes waits) = at_commit index (IsAmid old new) ops (outcomes.InDoubt doubt) (seen_by new) event is (at_end old new goes.seen)
+
+  -- and the last one is what the token has seen then
+  pub shown : (old new : TokenValue) (event : Event FrontValue) → Moved base index old event new → OnLast index (λ front. front ≡ seen_by new) event
+  shown old new event (Looked goes none notes shows) = shows.last
+  shown old new event (Made ops removed is goes made) = at_last index (λ (front : FrontValue). front ≡ seen_by new) ops (outcomes.Committed removed) (seen_by new) event is refl
+  shown old new event (Doubted ops doubt is goes waits) = at_last index (λ (front : FrontValue). front ≡ seen_by new) ops (outcomes.InDoubt doubt) (seen_by new) event is refl
+
+  -- a job that has ended ended its front
+  end_of : (old new : TokenValue) (event : Event FrontValue) → Moved base index old event new → HasItsEnd base index event
+  end_of old new event (Looked goes none notes shows) = shows.ends
+  end_of old new event (Made ops removed is goes made) = subst (HasItsEnd base index) (sym is) tt
+  end_of old new event (Doubted ops doubt is goes waits) = subst (HasItsEnd base index) (sym is) tt
+
+  pub ends : (old new : TokenValue) (events : List (Event FrontValue)) → Runs old events new → All (HasItsEnd base index) events
+  ends old new [] runs = All-nil (HasItsEnd base index)
+  ends old new (event ∷ events) runs = All-cons (HasItsEnd base index) event events (end_of old runs.0 event runs.1) (ends runs.0 new events runs.2)
 
   -- an event with a note: the token has seen all that it counts
   tells_all : (old new : TokenValue) (event : Event FrontValue) → Moved base index old event new → is_noted index event ≡ true → HasAll new
@@ -97,8 +129,8 @@ module _ (base : Base) (index : ℕ) where
   begun old new [] runs = All-nil (OnFront index (λ (front : FrontValue). IsPrefix front.steps new.seen))
   begun old new (event ∷ events) runs =
       All-cons (OnFront index (λ (front : FrontValue). IsPrefix front.steps new.seen)) event events
-      (on_front index (λ (front : FrontValue). front ≡ seen_by runs.0) (λ (front : FrontValue). IsPrefix front.steps new.seen)
-      (λ front is. subst (λ (f : FrontValue). IsPrefix f.steps new.seen) (sym is) (run_seen runs.0 new events runs.2)) event (shown old runs.0 event runs.1))
+      (on_front index (IsAmid old runs.0) (λ (front : FrontValue). IsPrefix front.steps new.seen)
+      (λ front is. prefix_trans front.steps runs.0.seen new.seen is.rest (run_seen runs.0 new events runs.2)) event (amid old runs.0 event runs.1))
       (begun runs.0 new events runs.2)
 
   -- each front begins with all that the token had seen before
@@ -108,8 +140,7 @@ module _ (base : Base) (index : ℕ) where
       let mid : TokenValue = runs.0 in
       let up = (one_counted old mid event runs.1).seen in
       All-cons (OnFront index (λ (front : FrontValue). IsPrefix old.seen front.steps)) event events
-      (on_front index (λ (front : FrontValue). front ≡ seen_by mid) (λ (front : FrontValue). IsPrefix old.seen front.steps)
-      (λ front is. subst (λ (f : FrontValue). IsPrefix old.seen f.steps) (sym is) up) event (shown old mid event runs.1))
+      (on_front index (IsAmid old mid) (λ (front : FrontValue). IsPrefix old.seen front.steps) (λ front is. is.first) event (amid old mid event runs.1))
       (All-weaker (OnFront index (λ (front : FrontValue). IsPrefix mid.seen front.steps)) (OnFront index (λ (front : FrontValue). IsPrefix old.seen front.steps))
       (λ event. on_front index (λ (front : FrontValue). IsPrefix mid.seen front.steps) (λ (front : FrontValue). IsPrefix old.seen front.steps) (λ front so. prefix_trans old.seen mid.seen front.steps up so) event)
       events (onward mid new events runs.2))
@@ -247,36 +278,67 @@ module _ (base : Base) (index : ℕ) where
       entries_one old mid event events history front rest runs.1 (prefix_trans mid.seen new.seen history (run_seen mid new events runs.2) begins) (low mid new events history runs.2 begins) cut long
       (λ front rest cut long. entries_so mid new events history front rest runs.2 begins (omega (arith, same, fits)) cut long)
 
+  -- A front that the token had seen on its way, between commits, has the entries of those up to then: it is as if it had been read.
+  own_amid : (old before_it at_it : TokenValue) (before : List (Event FrontValue)) (event : Event FrontValue) → old.made ≡ 0 → Runs old before before_it → Goes before_it at_it before_it.made → is_attempt index event ≡ false
+      → made_by at_it.worker at_it.seen ≤ at_it.made → (front : FrontValue) → IsAmid before_it at_it front
+      → AreEntriesOf base old.worker (attempts_on index (before ++ event ∷ [])) (commits_by old.worker front.steps)
+  own_amid old before_it at_it before event zero first goes none few front is =
+      let there : TokenValue = record before_it { seen = front.steps } in
+      let read : Event FrontValue = Read index (seen_by there) in
+      let moved : Moved base index before_it read there = Looked (record { is = refl; seen = is.first }) refl (λ noted. absurd (cc noted))
+      (record { amid = λ here. record { first = is.first; rest = prefix_self front.steps }; last = λ here. refl; ends = tt }) in
+      let whole : Runs old (before ++ read ∷ []) there = follow_then (Moved base index) before (read ∷ []) old before_it there first (there, moved, refl) in
+      let worker : before_it.worker ≡ old.worker = run_worker old before_it before first in
+      let up = made_up old.worker front.steps at_it.seen is.rest in
+      let own : made_by at_it.worker at_it.seen ≡ made_by old.worker at_it.seen = ap (λ (w : ℕ). made_by w at_it.seen) (same_worker before_it at_it before_it.made goes ∙ worker) in
+      let so = entries_so old there (before ++ read ∷ []) front.steps [] (commits_by old.worker front.steps) whole (prefix_self front.steps)
+      (omega (arith, up, own, few, has_made before_it at_it before_it.made goes)) refl (sym zero) in
+      let skipped : attempts_on index (event ∷ []) ≡ [] = attempt_skipped index event [] none in
+      let same : attempts_on index (before ++ read ∷ []) ≡ attempts_on index (before ++ event ∷ []) =
+      filter-append (is_attempt index) before (read ∷ []) ∙ ap (λ (es : List (Event FrontValue)). attempts_on index before ++ es) (sym skipped) ∙ sym (filter-append (is_attempt index) before (event ∷ [])) in
+      subst (λ (es : List (Event FrontValue)). AreEntriesOf base old.worker es (commits_by old.worker front.steps)) same so
+
+  -- and so has one that a commit shows
+  own_last : (old at_it : TokenValue) (before : List (Event FrontValue)) (ops : List TxnOp) (outcome : CommitOutcome) (event : Event FrontValue) → old.made ≡ 0 → event ≡ Commit index ops outcome (seen_by at_it) → Runs old (before ++ event ∷ []) at_it
+      → made_by at_it.worker at_it.seen ≤ at_it.made → OnFront index (λ front. AreEntriesOf base old.worker (attempts_on index (before ++ event ∷ [])) (commits_by old.worker front.steps)) event
+  own_last old at_it before ops outcome event zero is whole few =
+      let worker : at_it.worker ≡ old.worker = run_worker old at_it (before ++ event ∷ []) whole in
+      let same : made_by at_it.worker at_it.seen ≡ made_by old.worker at_it.seen = ap (λ (w : ℕ). made_by w at_it.seen) worker in
+      let so = entries_so old at_it (before ++ event ∷ []) at_it.seen [] (commits_by old.worker at_it.seen) whole (prefix_self at_it.seen) (omega (arith, few, same)) refl (sym zero) in
+      at_commit index (λ (front : FrontValue). AreEntriesOf base old.worker (attempts_on index (before ++ event ∷ [])) (commits_by old.worker front.steps)) ops outcome (seen_by at_it) event is so
+
+  own_by : (old before_it at_it : TokenValue) (before : List (Event FrontValue)) (event : Event FrontValue) → old.made ≡ 0 → Runs old before before_it → Moved base index before_it event at_it → Runs old (before ++ event ∷ []) at_it
+      → made_by at_it.worker at_it.seen ≤ at_it.made → OnFront index (λ front. AreEntriesOf base old.worker (attempts_on index (before ++ event ∷ [])) (commits_by old.worker front.steps)) event
+  own_by old before_it at_it before event zero first (Looked goes none notes shows) whole few =
+      on_front index (IsAmid before_it at_it) (λ (front : FrontValue). AreEntriesOf base old.worker (attempts_on index (before ++ event ∷ [])) (commits_by old.worker front.steps))
+      (own_amid old before_it at_it before event zero first goes none few) event shows.amid
+  own_by old before_it at_it before event zero first (Made ops removed is goes made) whole few = own_last old at_it before ops (outcomes.Committed removed) event zero is whole few
+  own_by old before_it at_it before event zero first (Doubted ops doubt is goes waits) whole few = own_last old at_it before ops (outcomes.InDoubt doubt) event zero is whole few
+
   own_at : (old before_it at_it new : TokenValue) (before : List (Event FrontValue)) (event : Event FrontValue) (later : List (Event FrontValue)) → old.made ≡ 0
       → Runs old before before_it → Moved base index before_it event at_it → Runs at_it later new → made_by new.worker new.seen ≤ new.made
       → OnFront index (λ front. AreEntriesOf base old.worker (attempts_on index (before ++ event ∷ [])) (commits_by old.worker front.steps)) event
   own_at old before_it at_it new before event later zero first moved rest fits =
-      let whole : Runs old (before ++ event ∷ []) at_it = follow_then (Moved base index) before (event ∷ []) old before_it at_it first (at_it, moved, refl) in
-      let worker : at_it.worker ≡ old.worker = run_worker old at_it (before ++ event ∷ []) whole in
-      let few : made_by at_it.worker at_it.seen ≤ at_it.made = bounded at_it new later rest fits in
-      let same : made_by at_it.worker at_it.seen ≡ made_by old.worker at_it.seen = ap (λ (w : ℕ). made_by w at_it.seen) worker in
-      let so = entries_so old at_it (before ++ event ∷ []) at_it.seen [] (commits_by old.worker at_it.seen) whole (prefix_self at_it.seen) (omega (arith, few, same)) refl (sym zero) in
-      on_front index (λ (front : FrontValue). front ≡ seen_by at_it) (λ (front : FrontValue). AreEntriesOf base old.worker (attempts_on index (before ++ event ∷ [])) (commits_by old.worker front.steps))
-      (λ front is. subst (λ (f : FrontValue). AreEntriesOf base old.worker (attempts_on index (before ++ event ∷ [])) (commits_by old.worker f.steps)) (sym is) so)
-      event (shown before_it at_it event moved)
+      own_by old before_it at_it before event zero first moved (follow_then (Moved base index) before (event ∷ []) old before_it at_it first (at_it, moved, refl)) (bounded at_it new later rest fits)
 
   -- from an event with a note on, each front has an entry for each commit up to that event
   noted_at : (old before_it at_it new : TokenValue) (before : List (Event FrontValue)) (event : Event FrontValue) (later : List (Event FrontValue)) → old.made ≡ 0
       → Runs old before before_it → Moved base index before_it event at_it → Runs at_it later new → is_noted index event ≡ true
-      → All (OnFront index (λ front. length (attempts_on index (before ++ event ∷ [])) ≤ made_by old.worker front.steps)) (event ∷ later)
+      → OnLast index (λ front. length (attempts_on index (before ++ event ∷ [])) ≤ made_by old.worker front.steps) event
+      × All (OnFront index (λ front. length (attempts_on index (before ++ event ∷ [])) ≤ made_by old.worker front.steps)) later
   noted_at old before_it at_it new before event later zero first moved rest noted =
       let many : ℕ = length (attempts_on index (before ++ event ∷ [])) in
       let whole : Runs old (before ++ event ∷ []) at_it = follow_then (Moved base index) before (event ∷ []) old before_it at_it first (at_it, moved, refl) in
       let goes = counted old at_it (before ++ event ∷ []) whole in
       let same : made_by at_it.worker at_it.seen ≡ made_by old.worker at_it.seen = ap (λ (w : ℕ). made_by w at_it.seen) (same_worker old at_it (old.made + many) goes) in
-      let all : many ≤ made_by old.worker at_it.seen = omega (arith, same, tells_all before_it at_it event moved noted, has_made old at_it (old.made + many) goes, zero) in
-      All-cons (OnFront index (λ (front : FrontValue). many ≤ made_by old.worker front.steps)) event later
-      (on_front index (λ (front : FrontValue). front ≡ seen_by at_it) (λ (front : FrontValue). many ≤ made_by old.worker front.steps)
-      (λ front is. subst (λ (f : FrontValue). many ≤ made_by old.worker f.steps) (sym is) all) event (shown before_it at_it event moved))
-      (All-weaker (OnFront index (λ (front : FrontValue). IsPrefix at_it.seen front.steps)) (OnFront index (λ (front : FrontValue). many ≤ made_by old.worker front.steps))
-      (λ event. on_front index (λ (front : FrontValue). IsPrefix at_it.seen front.steps) (λ (front : FrontValue). many ≤ made_by old.worker front.steps)
-      (λ front so. omega (arith, all, made_up old.worker at_it.seen front.steps so)) event)
-      later (onward at_it new later rest))
+      let all : many ≤ made_by old.worker at_it.seen = omega (arith, same, tells_all before_it at_it event moved noted, has_made old at_it (old.made + many) goes, zero) in (
+        on_last index (λ (front : FrontValue). front ≡ seen_by at_it) (λ (front : FrontValue). many ≤ made_by old.worker front.steps)
+            (λ front is. subst (λ (f : FrontValue). many ≤ made_by old.worker f.steps) (sym is) all) event (shown before_it at_it event moved),
+        All-weaker (OnFront index (λ (front : FrontValue). IsPrefix at_it.seen front.steps)) (OnFront index (λ (front : FrontValue). many ≤ made_by old.worker front.steps))
+            (λ event. on_front index (λ (front : FrontValue). IsPrefix at_it.seen front.steps) (λ (front : FrontValue). many ≤ made_by old.worker front.steps)
+            (λ front so. omega (arith, all, made_up old.worker at_it.seen front.steps so)) event)
+            later (onward at_it new later rest),
+      )
 
   -- What a worker was shown and told is of a history that begins with all that its token has seen in the end, where the token counts
   -- no fewer commits than the history has entries of the worker.
@@ -296,5 +358,6 @@ module _ (base : Base) (index : ℕ) where
         noted = λ before event later is noted.
             let cut = follow_cut (Moved base index) before (event ∷ later) old new (subst (λ (es : List (Event FrontValue)). Runs old es new) is runs) in
             noted_at old cut.0 cut.2.0 new before event later zero cut.1 cut.2.1 cut.2.2 noted;
+        jobs = ends old new events runs;
         entries = entries_so old new events history [] (commits_by old.worker history) runs begins fits refl (sym zero);
       }

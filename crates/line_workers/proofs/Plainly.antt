@@ -16,7 +16,7 @@ use Rattle.ql_answers.specs.declared.event.Need.TheVariants as needs
 use Rattle.ql_answers.specs.declared.state.State.{State}
 use Rattle.ql_answers.specs.Replies.{Reply}
 use Rattle.ql_answers.specs.Sessions.{Decides, Happened, next_of}
-use Rattle.ql_session.specs.Events.{Event, Configured, Nothing, NoMemory, Read, Commit}
+use Rattle.ql_session.specs.Events.{Event, Configured, Nothing, NoMemory, Read, Commit, Reshape}
 use Rattle.ql_session.specs.Session.{Answers, statement_machine}
 use Rattle.ql_session.specs.Statements.{AnswersText, AreAnswered, Meets, Replies, told}
 
@@ -36,6 +36,7 @@ module _ {F : Type 0} (documents : F → SnapshotValue) where
   over NoMemory = NoMemory
   over (Read place front) = Read place (documents front)
   over (Commit place ops outcome front) = Commit place ops outcome (documents front)
+  over (Reshape place job outcome own front) = Reshape place job outcome (documents own) (documents front)
 
   told_over : (event : Event F) → told documents event ≡ told itself (over event)
   told_over (Configured confs) = refl
@@ -43,6 +44,7 @@ module _ {F : Type 0} (documents : F → SnapshotValue) where
   told_over NoMemory = refl
   told_over (Read place front) = refl
   told_over (Commit place ops outcome front) = refl
+  told_over (Reshape place job outcome own front) = refl
 
   meets_over : (need : Need) (pending : Option Txn) (event : Event F) → Meets need pending event → Meets need pending (over event)
   meets_over needs.Nothing pending (Configured confs) meets = absurd meets
@@ -50,16 +52,25 @@ module _ {F : Type 0} (documents : F → SnapshotValue) where
   meets_over needs.Nothing pending NoMemory meets = absurd meets
   meets_over needs.Nothing pending (Read place front) meets = absurd meets
   meets_over needs.Nothing pending (Commit place ops outcome front) meets = absurd meets
+  meets_over needs.Nothing pending (Reshape place job outcome own front) meets = absurd meets
   meets_over (needs.Read at) pending (Configured confs) meets = absurd meets
   meets_over (needs.Read at) pending Nothing meets = absurd meets
   meets_over (needs.Read at) pending NoMemory meets = absurd meets
   meets_over (needs.Read at) pending (Read place front) meets = meets
   meets_over (needs.Read at) pending (Commit place ops outcome front) meets = absurd meets
+  meets_over (needs.Read at) pending (Reshape place job outcome own front) meets = absurd meets
   meets_over (needs.Commit at) pending (Configured confs) meets = absurd meets
   meets_over (needs.Commit at) pending Nothing meets = absurd meets
   meets_over (needs.Commit at) pending NoMemory meets = absurd meets
   meets_over (needs.Commit at) pending (Read place front) meets = absurd meets
   meets_over (needs.Commit at) pending (Commit place ops outcome front) meets = meets
+  meets_over (needs.Commit at) pending (Reshape place job outcome own front) meets = absurd meets
+  meets_over (needs.Reshape at does) pending (Configured confs) meets = absurd meets
+  meets_over (needs.Reshape at does) pending Nothing meets = absurd meets
+  meets_over (needs.Reshape at does) pending NoMemory meets = absurd meets
+  meets_over (needs.Reshape at does) pending (Read place front) meets = absurd meets
+  meets_over (needs.Reshape at does) pending (Commit place ops outcome front) meets = absurd meets
+  meets_over (needs.Reshape at does) pending (Reshape place job outcome own front) meets = meets
 
   replies_over : (confs : List IndexConf) (old : State) (statement : Statement) (event : Event F) (reply : Reply) (new : State) → Replies documents confs old statement event reply new → Replies itself confs old statement (over event) reply new
   replies_over confs old statement event reply new (inl (refusal, refuses, is, says, stays)) = inl (refusal, refuses, ap over is, says, stays)

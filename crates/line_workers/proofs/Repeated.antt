@@ -33,7 +33,11 @@ use Rattle.ql_answers.specs.Replies.{Fails, Reply, is_refusal, payloads}
 use Rattle.ql_answers.specs.Sessions.{AreAlike, Decides, Happened, LookAlike, disk_count, need_of, next_of, pending_of}
 use Rattle.ql_answers.specs.States.{new_state, status_of}
 use Rattle.ql_session.specs.Events as happened
-use Rattle.ql_session.specs.Events.{Commit, Configured, NoMemory, Nothing, Read}
+use Rattle.ql_session.specs.Events.{Commit, Configured, NoMemory, Nothing, Read, Reshape}
+use Rattle.ql_session.specs.JobOutcome.{JobOutcome}
+use Rattle.ql_session.specs.JobOutcome.TheVariants as job_outcomes
+use Rattle.step_history.specs.declared.job.Job.{Job}
+use Rattle.line_workers.specs.Alone.{IsDone}
 use Rattle.ql_session.specs.Session.{Answers, statement_machine}
 use Rattle.ql_session.specs.Statements.{AnswersText, AreAnswered, Meets, RefusesText, Replies, States, is_more, told}
 use Rattle.line_workers.proofs.Plainly.{itself}
@@ -46,9 +50,10 @@ pub record Plain : Type 0 where
   pub number : ℕ
   pub rows : Rows
 
--- the documents of each index
-abbrev pub Stand : Type 0
-Stand = ℕ → Plain
+-- The documents of each index, and how many chunks are on the disk of those that are still read, in their order.
+pub record Stand : Type 0 where
+  pub of : ℕ → Plain
+  pub chunks : List ℕ
 
 -- The commit was made: its changes over the documents before it.
 pub record Makes (ops : List TxnOp) (removed : ℕ) (old new : Plain) : Type 0 where
@@ -65,14 +70,13 @@ Turns ops outcomes.Refused old new = ⊥
 Turns ops (outcomes.InDoubt doubt) old new = ⊥
 Turns ops (outcomes.Strayed numbers) old new = ⊥
 
--- The front has these documents, in layers as a snapshot has them, and so many chunks on the disk.
-pub record IsShown (plain : Plain) (count : ℕ) (front : SnapshotValue) : Type 0 where
+-- The front has these documents, in layers as a snapshot has them.
+pub record IsShown (plain : Plain) (front : SnapshotValue) : Type 0 where
   pub layers : AreLayers front.layers
   pub rows : live front ≡ plain.rows
-  pub disks : disk_count front ≡ count
 
 abbrev pub Keeps : Stand → Stand → Type 0
-Keeps old new = (p : ℕ) → new p ≡ old p
+Keeps old new = ((p : ℕ) → new.of p ≡ old.of p) × (new.chunks ≡ old.chunks)
 
 -- one verdict has one list of changes
 same_changes : (changes its : List Change) (removed its_removed : ℕ) → Accepted changes removed ≡ Accepted its its_removed → changes ≡ its
@@ -140,6 +144,31 @@ commit_did : (place : ℕ) (pending : Option Txn) (event : Event) → Meets (nee
 commit_did place pending (Commit at ops outcome front) (here, of) = record { ops = ops; outcome = outcome; front = front; is = ap (λ (n : ℕ). Commit n ops outcome front) here; of = of }
 commit_did place pending event meets = absurd meets
 
+-- this job over the index at this place
+record Work (place : ℕ) (job : Job) (event : Event) : Type 0 where
+  pub outcome : JobOutcome
+  pub own : SnapshotValue
+  pub front : SnapshotValue
+  pub is : event ≡ Reshape place job outcome own front
+
+job_did : (place : ℕ) (job : Job) (pending : Option Txn) (event : Event) → Meets (needs.Reshape place job) pending event → Work place job event
+job_did place job pending (Reshape at does outcome own front) (here, same) = record { outcome = outcome; own = own; front = front; is = ap (λ (n : ℕ). Reshape n does outcome own front) here ∙ ap (λ (j : Job). Reshape place j outcome own front) same }
+job_did place job pending event meets = absurd meets
+
+-- jobs that have ended have one outcome
+one_end : (outcome other : JobOutcome) → IsDone outcome → IsDone other → outcome ≡ other
+one_end job_outcomes.Shaped job_outcomes.Shaped done done' = refl
+one_end job_outcomes.Shaped (job_outcomes.Overtaken shape) done done' = absurd done'
+one_end job_outcomes.Shaped (job_outcomes.Full full) done done' = absurd done'
+one_end job_outcomes.Shaped job_outcomes.Refused done done' = absurd done'
+one_end job_outcomes.Shaped job_outcomes.InDoubt done done' = absurd done'
+one_end job_outcomes.Shaped (job_outcomes.Strayed numbers) done done' = absurd done'
+one_end (job_outcomes.Overtaken shape) other done done' = absurd done
+one_end (job_outcomes.Full full) other done done' = absurd done
+one_end job_outcomes.Refused other done done' = absurd done
+one_end job_outcomes.InDoubt other done done' = absurd done
+one_end (job_outcomes.Strayed numbers) other done done' = absurd done
+
 -- one transaction has one list of operations
 same_ops : (pending : Option Txn) (ops its : List TxnOp) → pending ≡ Some (record { ops = ops }) → pending ≡ Some (record { ops = its }) → ops ≡ its
 same_ops pending ops its one two =
@@ -151,21 +180,29 @@ look_alike : (plan : Plan) (front other : SnapshotValue) → disk_count front �
 look_alike (Status place) front other same = same
 look_alike plan front other same = tt
 
-module _ (confs : List IndexConf) (disks : ℕ → ℕ) where
+first_number : (m n : ℕ) (ms ns : List ℕ) → m ∷ ms ≡ n ∷ ns → m ≡ n
+first_number m n ms ns e = cc
+
+other_numbers : (m n : ℕ) (ms ns : List ℕ) → m ∷ ms ≡ n ∷ ns → ms ≡ ns
+other_numbers m n ms ns e = cc
+
+module _ (confs : List IndexConf) where
   -- what an event tells of the documents of the indexes, and leaves
   abbrev pub Leads : Stand → Event → Stand → Type 0
   Leads old (Configured cs) new = (cs ≡ confs) × Keeps old new
   Leads old Nothing new = Keeps old new
   Leads old NoMemory new = ⊥
-  Leads old (Read place front) new = (place < length confs) × IsShown (old place) (disks place) front × Keeps old new
-  Leads old (Commit place ops outcome front) new = (place < length confs) × Turns ops outcome (old place) (new place) × ((p : ℕ) → (place ≡ p → ⊥) → new p ≡ old p)
+  Leads old (Read place front) new = (place < length confs) × IsShown (old.of place) front × (old.chunks ≡ disk_count front ∷ new.chunks) × ((p : ℕ) → new.of p ≡ old.of p)
+  Leads old (Commit place ops outcome front) new =
+      (place < length confs) × Turns ops outcome (old.of place) (new.of place) × ((p : ℕ) → (place ≡ p → ⊥) → new.of p ≡ old.of p) × (new.chunks ≡ old.chunks)
+  Leads old (Reshape place job outcome own front) new = IsDone outcome × Keeps old new
 
-  -- the indexes have the same documents
+  -- the indexes have the same documents, and as many chunks where they are still read
   abbrev pub Alike : Stand → Stand → Type 0
-  Alike a b = (p : ℕ) → p < length confs → a p ≡ b p
+  Alike a b = ((p : ℕ) → p < length confs → a.of p ≡ b.of p) × (a.chunks ≡ b.chunks)
 
   alike_as : (old old' new new' : Stand) → Keeps old new → Keeps old' new' → Alike old old' → Alike new new'
-  alike_as old old' new new' keeps keeps' alike = λ p below. keeps p ∙ alike p below ∙ sym (keeps' p)
+  alike_as old old' new new' keeps keeps' alike = (λ p below. keeps.0 p ∙ alike.0 p below ∙ sym (keeps'.0 p), keeps.1 ∙ alike.1 ∙ sym keeps'.1)
 
   -- The same happened, whatever was wanted, and left the same documents.
   record SameHappened (event other : Event) (new left : Stand) : Type 0 where
@@ -178,24 +215,34 @@ module _ (confs : List IndexConf) (disks : ℕ → ℕ) where
 
   read_alike : (place : ℕ) (front other : SnapshotValue) (old old' new new' : Stand) → Alike old old' → Leads old (Read place front) new → Leads old' (Read place other) new'
       → SameHappened (Read place front) (Read place other) new new'
-  read_alike place front other old old' new new' alike (below, shown, keeps) (below', shown', keeps') = record {
-    alike = λ plan. (
-      shown.layers,
-      shown'.layers,
-      shown.rows ∙ ap (λ (plain : Plain). plain.rows) (alike place below) ∙ sym shown'.rows,
-      look_alike plan front other (shown.disks ∙ sym shown'.disks),
-    );
-    rows = alike_as old old' new new' keeps keeps' alike;
-  }
+  read_alike place front other old old' new new' alike (below, shown, counts, keeps) (below', shown', counts', keeps') =
+      let both : disk_count front ∷ new.chunks ≡ disk_count other ∷ new'.chunks = sym counts ∙ alike.1 ∙ counts' in
+      record {
+        alike = λ plan. (
+          shown.layers,
+          shown'.layers,
+          shown.rows ∙ ap (λ (plain : Plain). plain.rows) (alike.0 place below) ∙ sym shown'.rows,
+          look_alike plan front other (first_number (disk_count front) (disk_count other) new.chunks new'.chunks both),
+        );
+        rows = (λ p inside. keeps p ∙ alike.0 p inside ∙ sym (keeps' p), other_numbers (disk_count front) (disk_count other) new.chunks new'.chunks both);
+      }
 
   commit_alike : (place : ℕ) (ops : List TxnOp) (outcome other : CommitOutcome) (front its : SnapshotValue) (old old' new new' : Stand) → Alike old old' → Leads old (Commit place ops outcome front) new
       → Leads old' (Commit place ops other its) new' → SameHappened (Commit place ops outcome front) (Commit place ops other its) new new'
-  commit_alike place ops outcome other front its old old' new new' alike (below, turns, keeps) (below', turns', keeps') =
-      let both = one_outcome ops outcome other (old place) (new place) (new' place) turns (subst (λ (plain : Plain). Turns ops other plain (new' place)) (sym (alike place below)) turns') in
+  commit_alike place ops outcome other front its old old' new new' alike (below, turns, keeps, counts) (below', turns', keeps', counts') =
+      let both = one_outcome ops outcome other (old.of place) (new.of place) (new'.of place) turns (subst (λ (plain : Plain). Turns ops other plain (new'.of place)) (sym (alike.0 place below)) turns') in
       record {
         alike = λ plan. both.0;
-        rows = λ p inside. ⊎_elim (λ (here : place ≡ p). subst (λ (q : ℕ). new q ≡ new' q) here both.1) (λ (apart : place ≡ p → ⊥). keeps p apart ∙ alike p inside ∙ sym (keeps' p apart)) (cases_eq place p);
+        rows = (
+          λ p inside. ⊎_elim (λ (here : place ≡ p). subst (λ (q : ℕ). new.of q ≡ new'.of q) here both.1) (λ (apart : place ≡ p → ⊥). keeps p apart ∙ alike.0 p inside ∙ sym (keeps' p apart)) (cases_eq place p),
+          counts ∙ alike.1 ∙ sym counts',
+        );
       }
+
+  job_alike : (place : ℕ) (job : Job) (outcome other : JobOutcome) (own front its_own its : SnapshotValue) (old old' new new' : Stand) → Alike old old' → Leads old (Reshape place job outcome own front) new
+      → Leads old' (Reshape place job other its_own its) new' → SameHappened (Reshape place job outcome own front) (Reshape place job other its_own its) new new'
+  job_alike place job outcome other own front its_own its old old' new new' alike (done, keeps) (done', keeps') =
+      record { alike = λ plan. one_end outcome other done done'; rows = alike_as old old' new new' keeps keeps' alike }
 
   met_alike : (need : Need) (pending : Option Txn) (event event' : Event) (old old' new new' : Stand) → Alike old old' → Meets need pending event → Meets need pending event' → Leads old event new
       → Leads old' event' new' → SameHappened event event' new new'
@@ -218,6 +265,11 @@ module _ (confs : List IndexConf) (disks : ℕ → ℕ) where
       let is' : event' ≡ Commit place one.ops two.outcome two.front = two.is ∙ ap (λ (list : List TxnOp). Commit place list two.outcome two.front) ops in
       same_as event event' (Commit place one.ops one.outcome one.front) (Commit place one.ops two.outcome two.front) new new' one.is is'
       (commit_alike place one.ops one.outcome two.outcome one.front two.front old old' new new' alike (subst (λ (e : Event). Leads old e new) one.is follows) (subst (λ (e : Event). Leads old' e new') is' follows'))
+  met_alike (needs.Reshape place job) pending event event' old old' new new' alike meets meets' follows follows' =
+      let one = job_did place job pending event meets in
+      let two = job_did place job pending event' meets' in
+      same_as event event' (Reshape place job one.outcome one.own one.front) (Reshape place job two.outcome two.own two.front) new new' one.is two.is
+      (job_alike place job one.outcome two.outcome one.own one.front two.own two.front old old' new new' alike (subst (λ (e : Event). Leads old e new) one.is follows) (subst (λ (e : Event). Leads old' e new') two.is follows'))
 
   -- an event of nothing leaves the documents
   kept_by_nothing : (event : Event) (old new : Stand) → event ≡ Nothing → Leads old event new → Keeps old new
@@ -228,7 +280,9 @@ module _ (confs : List IndexConf) (disks : ℕ → ℕ) where
 
   -- where nothing happened, the documents are as before
   left_as : (events : List Event) (old left : Stand) → events ≡ [] → FollowAll Leads old events left → Keeps old left
-  left_as events old left none follow = λ p. ap (λ (s : Stand). s p) (subst (λ (list : List Event). FollowAll Leads old list left) none follow)
+  left_as events old left none follow =
+      let same : left ≡ old = subst (λ (list : List Event). FollowAll Leads old list left) none follow in
+      (λ p. ap (λ (s : Stand). s.of p) same, ap (λ (s : Stand). s.chunks) same)
 
   module _
       (one_plan : (confs : List IndexConf) (state : State) (statement : Statement) (a b : Plan) → Wants confs state statement a → Wants confs state statement b → a ≡ b)

@@ -1,7 +1,7 @@
 -- What a worker alone was shown of the documents, by its own commits.
 use Rattle.std.proofs.Common.{◌≡◌, ℕ, suc, ◌+◌, ◌<◌, ◌≤◌, ◌==◌, ◌&&◌, Bool, true, false, List, [], ◌∷◌, ◌++◌, length, Some, slice_get, take, refl, sym, ap, subst, ◌∙◌, arith, append_assoc, append-nil, length-append}
 use Rattle.std.specs.Prelude.{map}
-use Rattle.std.specs.List.{AllByRecursion, filter, fold}
+use Rattle.std.specs.List.{AllByRecursion, filter, flat_map, fold}
 use Rattle.std.proofs.Math.Seq.{take-append_seam}
 use Rattle.std.proofs.lemmas.Bool.{and_left, and_right, eq-eqb, ne_eqb}
 use Rattle.std.proofs.lemmas.List.{length-map}
@@ -18,21 +18,20 @@ use Rattle.doc_types.specs.Rows.{Rows}
 use Rattle.doc_types.specs.Snapshots.{LayerValue, SnapshotValue, live}
 use Rattle.index_conf.specs.declared.conf.IndexConf.{IndexConf}
 use Rattle.ql_answers.specs.Sessions.{disk_count}
-use Rattle.ql_session.specs.Events.{Event, Configured, Nothing, NoMemory, Read, Commit}
+use Rattle.ql_session.specs.Events.{Event, Configured, Nothing, NoMemory, Read, Commit, Reshape}
 use Rattle.ql_session.specs.Machines.{FollowAll}
 use Rattle.step_book.specs.Fronts.{FrontValue}
 use Rattle.step_history.specs.History as steps
 use Rattle.step_history.specs.History.{Base, IsGood, Step, commits, last_snapshot}
 use Rattle.step_history.specs.Places.{disk_chunks, disk_layers}
-use Rattle.step_history.proofs.Between.{since}
 use Rattle.step_history.proofs.Counts.{numbers, rows}
-use Rattle.step_history.proofs.Steps.{front as beginning, shape_up}
+use Rattle.step_history.proofs.Steps.{front as beginning}
 use Rattle.step_tokens.specs.Tokens.{TokenValue}
 use Rattle.snap_share.specs.Answers.{seen_by}
 use Rattle.engine_tables.specs.Outcomes.{Tells}
 use Rattle.engine_tables.specs.Tokens.{TokensValue}
 use Rattle.engine_tables.specs.Workers.{CommitsBy, Grows, HasSeen, WorkerValue, documents_of}
-use Rattle.line_workers.specs.Alone.{IsAlone, IsClear, IsUntroubled, OpenAlike}
+use Rattle.line_workers.specs.Alone.{IsAlone, IsClear, IsUntroubled, OpenAlike, chunks_read}
 use Rattle.line_workers.specs.Attempts.{OnFront, attempts_on, is_attempt, may_stand}
 use Rattle.line_workers.specs.Histories.{AreEntriesOf, IsDoubtful, IsOfHistory, IsOneHistory}
 use Rattle.line_workers.proofs.Counting.{commits_then}
@@ -40,7 +39,7 @@ use Rattle.line_workers.proofs.Moving.{same_confs, same_shape}
 use Rattle.line_workers.proofs.Moving as moving
 use Rattle.line_workers.proofs.Places.{get_last, zip_long}
 use Rattle.line_workers.proofs.Plainly.{over}
-use Rattle.line_workers.proofs.Repeated.{IsShown, Leads, Makes, Plain, Stand, Turns}
+use Rattle.line_workers.proofs.Repeated.{IsShown, Keeps, Leads, Makes, Plain, Stand, Turns}
 use Rattle.line_workers.proofs.Standing.{alone, amid}
 use Rattle.line_workers.proofs.Whole.{many_tokens}
 use Rattle.line_workers.specs.Workers.{first_tokens}
@@ -57,6 +56,7 @@ sure (Commit place ops (outcomes.Full full) front) calm doubtful = doubtful
 sure (Commit place ops outcomes.Refused front) calm doubtful = doubtful
 sure (Commit place ops (outcomes.InDoubt doubt) front) calm doubtful = calm
 sure (Commit place ops (outcomes.Strayed numbers) front) calm doubtful = doubtful
+sure (Reshape place job outcome own front) calm doubtful = doubtful
 
 kept_one : {X : Type 0} (P : X → Type 0) (p : X → Bool) (x : X) (xs : List X) (b : Bool) → p x ≡ b → P x → AllByRecursion P (filter p xs) → AllByRecursion P (filter p (x ∷ xs))
 kept_one P p x xs true is here rest = rw is (here, rest)
@@ -81,15 +81,13 @@ as_many base worker (event ∷ events) (entry ∷ entries) are calm = ap suc (as
 disks_are : (snapshot : SnapshotValue) → disk_count snapshot ≡ length (disk_chunks snapshot)
 disks_are snapshot = sym (length-filter (λ (layer : LayerValue). layer.disk) snapshot.layers) ∙ sym (length-map (disk_layers snapshot) (λ (layer : LayerValue). layer.rows))
 
--- what the indexes stand for at opening
-abbrev pub opened : (ℕ → Base) → Stand
-opened base = λ p. record { number = (base p).opening.number + 0; rows = live (base p).opening }
+-- what the indexes stand for at opening, where they are read at so many chunks
+abbrev pub opened : (ℕ → Base) → List ℕ → Stand
+opened base chunks = record { of = λ p. record { number = (base p).opening.number + 0; rows = live (base p).opening }; chunks = chunks }
 
-module _ (schema : ℕ → Schema) (base : ℕ → Base) (confs : List IndexConf) (disks : ℕ → ℕ) (events : List (Event FrontValue)) (history : ℕ → List Step)
+module _ (schema : ℕ → Schema) (base : ℕ → Base) (confs : List IndexConf) (events : List (Event FrontValue)) (history : ℕ → List Step)
     (calm : AllByRecursion (λ e. IsUntroubled e) events)
-    (one : (index : ℕ) → index < length confs → IsOneHistory (schema index) (base index) index (history index) (events ∷ []))
-    (still : (index : ℕ) → index < length confs → (last_snapshot (base index) (history index)).shape ≡ (base index).opening.shape)
-    (chunks : (index : ℕ) → index < length confs → length (disk_chunks (base index).opening) ≡ disks index) where
+    (one : (index : ℕ) → index < length confs → IsOneHistory (schema index) (base index) index (history index) (events ∷ [])) where
   -- what an index stands for after so many commits
   abbrev plain_of : ℕ → ℕ → Plain
   plain_of p n = record { number = (base p).opening.number + n; rows = after (live (base p).opening) (take n (commits (history p))) }
@@ -98,8 +96,12 @@ module _ (schema : ℕ → Schema) (base : ℕ → Base) (confs : List IndexConf
   abbrev made : ℕ → List (Event FrontValue) → ℕ
   made p before = length (attempts_on p before)
 
-  abbrev pub stand_at : List (Event FrontValue) → Stand
-  stand_at before = λ p. plain_of p (made p before)
+  -- what the indexes stand for after some events and before others
+  abbrev pub stand_at : List (Event FrontValue) → List (Event FrontValue) → Stand
+  stand_at before rest = record { of = λ p. plain_of p (made p before); chunks = flat_map (chunks_read base) rest }
+
+  abbrev doc_at : List (Event FrontValue) → ℕ → Plain
+  doc_at before p = plain_of p (made p before)
 
   nothing_kept : (p : ℕ) (event : Event FrontValue) → is_attempt p event ≡ false → attempts_on p (event ∷ []) ≡ []
   nothing_kept p event none = rw none refl
@@ -116,7 +118,7 @@ module _ (schema : ℕ → Schema) (base : ℕ → Base) (confs : List IndexConf
       ap length (filter-append (is_attempt p) before (event ∷ []) ∙ ap (λ (es : List (Event FrontValue)). attempts_on p before ++ es) (one_kept p event some)) ∙ length-append (attempts_on p before) (event ∷ [])
 
   -- what no commit changes
-  kept : (p : ℕ) (before : List (Event FrontValue)) (event : Event FrontValue) → is_attempt p event ≡ false → stand_at (before ++ event ∷ []) p ≡ stand_at before p
+  kept : (p : ℕ) (before : List (Event FrontValue)) (event : Event FrontValue) → is_attempt p event ≡ false → doc_at (before ++ event ∷ []) p ≡ doc_at before p
   kept p before event none = ap (λ (n : ℕ). plain_of p n) (none_more p before event none)
 
   -- The front is a beginning of the history, and has so many commits.
@@ -143,28 +145,16 @@ module _ (schema : ℕ → Schema) (base : ℕ → Base) (confs : List IndexConf
         taken = sym (take-append_seam (commits front.steps) (commits begins.0)) ∙ ap (λ (es : List Entry). take (length (commits front.steps)) es) cut ∙ ap (λ (n : ℕ). take n (commits (history place))) many;
       }
 
-  still_at : (place : ℕ) → place < length confs → (seen : List Step) → IsPrefix seen (history place) → IsGood (schema place) (base place) seen → (last_snapshot (base place) seen).shape ≡ (base place).opening.shape
-  still_at place below seen begins good =
-      let up : (base place).opening.shape ≤ (last_snapshot (base place) seen).shape = shape_up (schema place) (base place) [] seen good in
-      let whole = shape_up (schema place) (base place) seen begins.0 (subst (λ (s : List Step). IsGood (schema place) (base place) s) (sym begins.1) (one place below).good) in
-      let same : (last_snapshot (base place) (seen ++ begins.0)).shape ≡ (last_snapshot (base place) (history place)).shape = ap (λ (s : List Step). (last_snapshot (base place) s).shape) begins.1 in
-      omega (arith, up, whole, same, still place below)
-
-  disks_at : (place : ℕ) → place < length confs → (seen : List Step) → IsPrefix seen (history place) → IsGood (schema place) (base place) seen → disk_count (last_snapshot (base place) seen) ≡ disks place
-  disks_at place below seen begins good =
-      disks_are (last_snapshot (base place) seen) ∙ ap length (since (schema place) (base place) [] seen good (still_at place below seen begins good)).chunks ∙ chunks place below
-
   rows_at : (place n : ℕ) (front : FrontValue) → Shows place n front → IsGood (schema place) (base place) front.steps → live (last_snapshot (base place) front.steps) ≡ (plain_of place n).rows
   rows_at place n front shown good = rows (schema place) (base place) front.steps good ∙ ap (λ (es : List Entry). after (live (base place).opening) es) shown.taken
 
   read_shown : (place : ℕ) → place < length confs → (before : List (Event FrontValue)) (front : FrontValue) (tokens : TokensValue) → HasSeen schema base tokens place front → Shows place (made place (before ++ Read place front ∷ [])) front
-      → IsShown (stand_at before place) (disks place) (documents_of base front)
+      → IsShown (doc_at before place) (documents_of base front)
   read_shown place below before front tokens has shown =
       let same : documents_of base front ≡ last_snapshot (base place) front.steps = ap (λ (i : ℕ). last_snapshot (base i) front.steps) has.of in
       record {
         layers = has.layers;
         rows = ap live same ∙ rows_at place (made place (before ++ Read place front ∷ [])) front shown has.good ∙ ap (λ (n : ℕ). (plain_of place n).rows) (none_more place before (Read place front) refl);
-        disks = ap disk_count same ∙ disks_at place below front.steps shown.begins has.good;
       }
 
   attempted : (place : ℕ) (ops : List TxnOp) (removed : ℕ) (front : FrontValue) → is_attempt place (Commit place ops (outcomes.Committed removed) front) ≡ true
@@ -172,7 +162,7 @@ module _ (schema : ℕ → Schema) (base : ℕ → Base) (confs : List IndexConf
 
   committed : (place : ℕ) (before : List (Event FrontValue)) (ops : List TxnOp) (removed : ℕ) (front : FrontValue) (was now : TokenValue) → front ≡ seen_by now → IsGood (schema place) (base place) front.steps
       → Tells (schema place) (base place) was ops (outcomes.Committed removed) now → Shows place (made place (before ++ Commit place ops (outcomes.Committed removed) front ∷ [])) front
-      → Makes ops removed (stand_at before place) (stand_at (before ++ Commit place ops (outcomes.Committed removed) front ∷ []) place)
+      → Makes ops removed (doc_at before place) (doc_at (before ++ Commit place ops (outcomes.Committed removed) front ∷ []) place)
   committed place before ops removed front was now is good tells shown =
       let commit = tells.2.1 in
       let event : Event FrontValue = Commit place ops (outcomes.Committed removed) front in
@@ -209,16 +199,16 @@ module _ (schema : ℕ → Schema) (base : ℕ → Base) (confs : List IndexConf
 
   refused : (place : ℕ) (before : List (Event FrontValue)) (ops : List TxnOp) (id : ℕ) (front : FrontValue) (was now : TokenValue) → front ≡ seen_by now → IsGood (schema place) (base place) front.steps
       → Tells (schema place) (base place) was ops (outcomes.Duplicate id) now → Shows place (made place (before ++ Commit place ops (outcomes.Duplicate id) front ∷ [])) front
-      → Turns ops (outcomes.Duplicate id) (stand_at before place) (stand_at (before ++ Commit place ops (outcomes.Duplicate id) front ∷ []) place)
+      → Turns ops (outcomes.Duplicate id) (doc_at before place) (doc_at (before ++ Commit place ops (outcomes.Duplicate id) front ∷ []) place)
   refused place before ops id front was now is good tells shown =
       let event : Event FrontValue = Commit place ops (outcomes.Duplicate id) front in
       let none : is_attempt place event ≡ false = and_right (place == place) false refl in
-      let there : live (last_snapshot (base place) now.seen) ≡ (stand_at before place).rows =
+      let there : live (last_snapshot (base place) now.seen) ≡ (doc_at before place).rows =
       ap (λ (f : FrontValue). live (last_snapshot (base place) f.steps)) (sym is) ∙ rows_at place (made place (before ++ event ∷ [])) front shown good ∙ ap (λ (n : ℕ). (plain_of place n).rows) (none_more place before event none) in
       (ap (λ (r : Rows). verdict ops r) (sym there) ∙ tells.2, kept place before event none)
 
   turns : (place : ℕ) (before : List (Event FrontValue)) (ops : List TxnOp) (outcome : CommitOutcome) (front : FrontValue) (old new : TokensValue) → CommitsBy schema base old place ops outcome front new → IsClear outcome
-      → Shows place (made place (before ++ Commit place ops outcome front ∷ [])) front → Turns ops outcome (stand_at before place) (stand_at (before ++ Commit place ops outcome front ∷ []) place)
+      → Shows place (made place (before ++ Commit place ops outcome front ∷ [])) front → Turns ops outcome (doc_at before place) (doc_at (before ++ Commit place ops outcome front ∷ []) place)
   turns place before ops (outcomes.Committed removed) front old new by clear shown = committed place before ops removed front by.before by.after by.is by.good by.tells shown
   turns place before ops (outcomes.Duplicate id) front old new by clear shown = refused place before ops id front by.before by.after by.is by.good by.tells shown
   turns place before ops (outcomes.Full full) front old new by clear shown = absurd clear
@@ -229,11 +219,15 @@ module _ (schema : ℕ → Schema) (base : ℕ → Base) (confs : List IndexConf
   calm_at : (before : List (Event FrontValue)) (event : Event FrontValue) (later : List (Event FrontValue)) → events ≡ before ++ event ∷ later → IsUntroubled event
   calm_at before event later is = amid (λ e. IsUntroubled e) before event later (subst (λ (es : List (Event FrontValue)). AllByRecursion (λ e. IsUntroubled e) es) is calm)
 
+  -- what an event leaves that changes no documents and reads none
+  keeps : (before : List (Event FrontValue)) (event : Event FrontValue) (later : List (Event FrontValue)) → ((p : ℕ) → is_attempt p event ≡ false) → chunks_read base event ≡ [] → Keeps (stand_at before (event ∷ later)) (stand_at (before ++ event ∷ []) later)
+  keeps before event later none unread = (λ p. kept p before event (none p), ap (λ (ns : List ℕ). ns ++ flat_map (chunks_read base) later) (sym unread))
+
   -- what one event tells of the documents
   leads : (before : List (Event FrontValue)) (event : Event FrontValue) (later : List (Event FrontValue)) (old new : WorkerValue) → events ≡ before ++ event ∷ later → old.confs ≡ confs → length old.tokens.list ≡ length confs
-      → moving.Leads schema base 0 old event new → Leads confs disks (stand_at before) (over (documents_of base) event) (stand_at (before ++ event ∷ []))
-  leads before (Configured cs) later old new is same long follows = (follows.0 ∙ same, λ p. kept p before (Configured cs) refl)
-  leads before Nothing later old new is same long follows = λ p. kept p before Nothing refl
+      → moving.Leads schema base 0 old event new → Leads confs (stand_at before (event ∷ later)) (over (documents_of base) event) (stand_at (before ++ event ∷ []) later)
+  leads before (Configured cs) later old new is same long follows = (follows.0 ∙ same, keeps before (Configured cs) later (λ p. refl) refl)
+  leads before Nothing later old new is same long follows = keeps before Nothing later (λ p. refl) refl
   leads before NoMemory later old new is same long follows = absurd (calm_at before NoMemory later is)
   leads before (Read place front) later old new is same long follows =
       let has : HasSeen schema base new.tokens place front = follows.1 in
@@ -241,6 +235,7 @@ module _ (schema : ℕ → Schema) (base : ℕ → Base) (confs : List IndexConf
       let below : place < length confs = omega (arith, slice_get_within new.tokens.list place has.token has.at, shape.1, long) in (
         below,
         read_shown place below before front new.tokens has (shows place below before (Read place front) later is front (λ P holds. holds refl)),
+        ap (λ (n : ℕ). n ∷ flat_map (chunks_read base) later) (sym (disks_are (documents_of base front))),
         λ p. kept p before (Read place front) refl,
       )
   leads before (Commit place ops outcome front) later old new is same long follows =
@@ -252,30 +247,35 @@ module _ (schema : ℕ → Schema) (base : ℕ → Base) (confs : List IndexConf
         below,
         turns place before ops outcome front mid.tokens new.tokens by (calm_at before event later is) (shows place below before event later is front (λ P holds. holds refl)),
         λ p apart. kept p before event (and_left (place == p) (may_stand outcome) (ne_eqb place p apart)),
+        refl,
       )
+  leads before (Reshape place job outcome own front) later old new is same long follows =
+      let event : Event FrontValue = Reshape place job outcome own front in
+      (calm_at before event later is, keeps before event later (λ p. refl) refl)
 
   -- and what events one after another do
   follow_rows : (before rest : List (Event FrontValue)) (old new : WorkerValue) → events ≡ before ++ rest → old.confs ≡ confs → length old.tokens.list ≡ length confs → FollowAll (moving.Leads schema base 0) old rest new
-      → (left : Stand) × FollowAll (Leads confs disks) (stand_at before) (map (over (documents_of base)) rest) left
-  follow_rows before [] old new is same long follows = (stand_at before, refl)
+      → (left : Stand) × FollowAll (Leads confs) (stand_at before rest) (map (over (documents_of base)) rest) left
+  follow_rows before [] old new is same long follows = (stand_at before [], refl)
   follow_rows before (event ∷ rest) old new is same long (next, here, onward) =
       let shape = same_shape schema base 0 old next (event ∷ []) (next, here, refl) in
       let later = follow_rows (before ++ event ∷ []) rest next new (is ∙ sym (append_assoc before (event ∷ []) rest)) (same_confs schema base 0 old next (event ∷ []) (next, here, refl) ∙ same) (shape.1 ∙ long) onward in
-      (later.0, (stand_at (before ++ event ∷ []), leads before event rest old next is same long here, later.1))
+      (later.0, (stand_at (before ++ event ∷ []) rest, leads before event rest old next is same long here, later.1))
 
   pub all_rows : (old new : WorkerValue) → old.confs ≡ confs → length old.tokens.list ≡ length confs → FollowAll (moving.Leads schema base 0) old events new
-      → (left : Stand) × FollowAll (Leads confs disks) (opened base) (map (over (documents_of base)) events) left
+      → (left : Stand) × FollowAll (Leads confs) (opened base (flat_map (chunks_read base) events)) (map (over (documents_of base)) events) left
   all_rows old new same long follows = follow_rows [] events old new refl same long follows
 
 -- what a worker alone was shown and told of the documents
-pub run_rows : (schema : ℕ → Schema) (base : ℕ → Base) (confs : List IndexConf) (disks : ℕ → ℕ) (connection : ℕ) (read written : List ℕ) → ((index : ℕ) → index < length confs → length (disk_chunks (base index).opening) ≡ disks index)
-    → (run : IsAlone schema base confs connection read written) → (left : Stand) × FollowAll (Leads confs disks) (opened base) (map (over (documents_of base)) run.events) left
-run_rows schema base confs disks connection read written chunks run =
-    all_rows schema base confs disks run.events run.history (recursion_from_All (λ (e : Event FrontValue). IsUntroubled e) run.events run.untroubled) run.one run.shape chunks
-    (record { confs = confs; tokens = first_tokens confs 1 }) (record { confs = confs; tokens = run.left }) refl (many_tokens 1 (length confs)) run.follows
+pub run_rows : (schema : ℕ → Schema) (base : ℕ → Base) (confs : List IndexConf) (connection : ℕ) (chunks : List ℕ) (read written : List ℕ) → (run : IsAlone schema base confs connection chunks read written)
+    → (left : Stand) × FollowAll (Leads confs) (opened base chunks) (map (over (documents_of base)) run.events) left
+run_rows schema base confs connection chunks read written run =
+    let rows = all_rows schema base confs run.events run.history (recursion_from_All (λ (e : Event FrontValue). IsUntroubled e) run.events run.untroubled) run.one
+    (record { confs = confs; tokens = first_tokens confs 1 }) (record { confs = confs; tokens = run.left }) refl (many_tokens 1 (length confs)) run.follows in
+    (rows.0, subst (λ (ns : List ℕ). FollowAll (Leads confs) (opened base ns) (map (over (documents_of base)) run.events) rows.0) run.reads rows.1)
 
 -- the same at opening
-pub open_alike : (base other : ℕ → Base) (p : ℕ) → OpenAlike (base p) (other p) → opened base p ≡ opened other p
+pub open_alike : (base other : ℕ → Base) (p : ℕ) → OpenAlike (base p) (other p) → (opened base []).of p ≡ (opened other []).of p
 open_alike base other p same =
     let as_plain : ℕ → Rows → Plain = λ k r. record { number = k + 0; rows = r } in
     ap (λ (k : ℕ). as_plain k (live (base p).opening)) same.number ∙ ap (λ (r : Rows). as_plain (other p).opening.number r) same.rows

@@ -10,14 +10,14 @@ use Rattle.commit_outcomes.specs.declared.outcome.CommitOutcome.TheVariants as o
 use Rattle.doc_types.specs.declared.schema.Schema.{Schema}
 use Rattle.doc_types.specs.declared.transactions.TxnOp.{TxnOp}
 use Rattle.doc_types.specs.Commits.{Entry}
-use Rattle.ql_session.specs.Events.{Event, Configured, Nothing, NoMemory, Read, Commit}
+use Rattle.ql_session.specs.Events.{Event, Configured, Nothing, NoMemory, Read, Commit, Reshape}
 use Rattle.step_book.specs.Fronts.{FrontValue}
 use Rattle.step_history.specs.History.{Base, Step, commits, commits_by, made_by}
 use Rattle.step_history.proofs.Counts.{seqs}
-use Rattle.line_workers.specs.Attempts.{OnFront, attempts_on, is_noted}
+use Rattle.line_workers.specs.Attempts.{OnFront, OnLast, attempts_on, is_noted}
 use Rattle.line_workers.specs.Histories.{AreEntriesOf, IsAcknowledged, IsAskedFor, IsAttempt, IsDoubtful, IsEntryOf, IsOfHistory, IsOneHistory, entries_numbered}
 use Rattle.line_workers.proofs.Counting.{commits_then}
-use Rattle.line_workers.proofs.Entries.{on_front}
+use Rattle.line_workers.proofs.Entries.{on_front, on_last}
 use Rattle.line_workers.proofs.Places.{get_within, some_is}
 
 -- the entry of a commit, or it is in doubt and the entries end before it
@@ -93,6 +93,7 @@ not_doubtful (Configured confs) acknowledged doubtful = doubtful
 not_doubtful Nothing acknowledged doubtful = doubtful
 not_doubtful NoMemory acknowledged doubtful = doubtful
 not_doubtful (Read place front) acknowledged doubtful = doubtful
+not_doubtful (Reshape place job outcome own front) acknowledged doubtful = doubtful
 
 kept_behind : (p : Entry → Bool) (e : Entry) (entries : List Entry) (entry : Entry) (b : Bool) → p e ≡ b → (j : ℕ) × (slice_get (filter p entries) j ≡ Some entry) → (j : ℕ) × (slice_get (filter p (e ∷ entries)) j ≡ Some entry)
 kept_behind p e entries entry true here later = (suc later.0, rw here later.1)
@@ -162,6 +163,7 @@ on_both index P Q R both Nothing p q = tt
 on_both index P Q R both NoMemory p q = tt
 on_both index P Q R both (Read place front) p q = λ here. both front (p here) (q here)
 on_both index P Q R both (Commit place ops outcome front) p q = λ here. both front (p here) (q here)
+on_both index P Q R both (Reshape place job outcome own front) p q = λ here. (both own (p here).0 (q here).0, both front (p here).1 (q here).1)
 
 pub amid : {X : Type 0} (P : X → Type 0) (before : List X) (x : X) (later : List X) → AllByRecursion P (before ++ x ∷ later) → P x
 amid P [] x later all = all.0
@@ -193,11 +195,15 @@ fewer_kept p (e ∷ entries) = one_kept p e entries (p e) refl (fewer_kept p ent
 
 -- from a commit with a note on, all commits of a worker alone are there
 pub alone_noted : (schema : Schema) (base : Base) (index : ℕ) (history : List Step) (own before : List (Event FrontValue)) (event : Event FrontValue) (later : List (Event FrontValue)) → IsOneHistory schema base index history (own ∷ []) → own ≡ before ++ event ∷ later
-    → is_noted index event ≡ true → All (OnFront index (λ front. length (attempts_on index (before ++ event ∷ [])) ≤ length (commits front.steps))) (event ∷ later)
+    → is_noted index event ≡ true
+    → OnLast index (λ front. length (attempts_on index (before ++ event ∷ [])) ≤ length (commits front.steps)) event × All (OnFront index (λ front. length (attempts_on index (before ++ event ∷ [])) ≤ length (commits front.steps))) later
 alone_noted schema base index history own before event later one is noted =
     let many : ℕ = length (attempts_on index (before ++ event ∷ [])) in
     let of : IsOfHistory base index history 1 own = one.each 0 own refl in
-    All-weaker (OnFront index (λ (front : FrontValue). many ≤ made_by 1 front.steps)) (OnFront index (λ (front : FrontValue). many ≤ length (commits front.steps)))
-    (λ event. on_front index (λ (front : FrontValue). many ≤ made_by 1 front.steps) (λ (front : FrontValue). many ≤ length (commits front.steps))
-    (λ front so. omega (arith, so, fewer_kept (λ (e : Entry). e.worker == 1) (commits front.steps))) event)
-    (event ∷ later) (of.noted before event later is noted)
+    let up : (front : FrontValue) → many ≤ made_by 1 front.steps → many ≤ length (commits front.steps) = λ front so. omega (arith, so, fewer_kept (λ (e : Entry). e.worker == 1) (commits front.steps)) in
+    let noted_so = of.noted before event later is noted in (
+      on_last index (λ (front : FrontValue). many ≤ made_by 1 front.steps) (λ (front : FrontValue). many ≤ length (commits front.steps)) up event noted_so.0,
+      All-weaker (OnFront index (λ (front : FrontValue). many ≤ made_by 1 front.steps)) (OnFront index (λ (front : FrontValue). many ≤ length (commits front.steps)))
+          (λ event. on_front index (λ (front : FrontValue). many ≤ made_by 1 front.steps) (λ (front : FrontValue). many ≤ length (commits front.steps)) up event)
+          later noted_so.1,
+    )

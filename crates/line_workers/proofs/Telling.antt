@@ -8,11 +8,13 @@ use Rattle.doc_types.specs.declared.schema.Schema.{Schema}
 use Rattle.doc_types.specs.declared.transactions.TxnOp.{TxnOp}
 use Rattle.step_book.specs.Fronts.{FrontValue}
 use Rattle.step_history.specs.History.{Base}
-use Rattle.ql_session.specs.Events.{Event, Configured, Nothing, NoMemory, Read, Commit}
+use Rattle.ql_session.specs.Events.{Event, Configured, Nothing, NoMemory, Read, Commit, Reshape}
+use Rattle.ql_session.specs.JobOutcome.{JobOutcome}
+use Rattle.step_history.specs.declared.job.Job.{Job}
 use Rattle.ql_session.specs.Machines.{FollowAll}
-use Rattle.engine_tables.specs.Outcomes.{numbers_of}
+use Rattle.engine_tables.specs.Outcomes.{numbers_of, numbers_of_job}
 use Rattle.engine_tables.specs.Tokens.{TokensValue}
-use Rattle.engine_tables.specs.Workers.{CommitsBy, WorkerValue}
+use Rattle.engine_tables.specs.Workers.{CommitsBy, ReshapesBy, WorkerValue}
 use Rattle.line_workers.specs.Attempts.{stray_in, told_by}
 use Rattle.line_workers.proofs.Moving.{Leads}
 use Rattle.line_workers.proofs.Places.{get_set_other, get_set_same, some_is}
@@ -33,7 +35,31 @@ tells_here index ops outcome front = rw (eq-eqb index index refl) refl
 tells_nothing : (index place : ℕ) (ops : List TxnOp) (outcome : CommitOutcome) (front : FrontValue) → (place ≡ index → ⊥) → stray_in index (Commit place ops outcome front) ≡ None
 tells_nothing index place ops outcome front apart = rw (ne_eqb place index apart) refl
 
+-- and so do jobs
+job_tells_here : (index : ℕ) (job : Job) (outcome : JobOutcome) (own front : FrontValue) → stray_in index (Reshape index job outcome own front) ≡ numbers_of_job outcome
+job_tells_here index job outcome own front = rw (eq-eqb index index refl) refl
+
+job_tells_nothing : (index place : ℕ) (job : Job) (outcome : JobOutcome) (own front : FrontValue) → (place ≡ index → ⊥) → stray_in index (Reshape place job outcome own front) ≡ None
+job_tells_nothing index place job outcome own front apart = rw (ne_eqb place index apart) refl
+
 module _ (schema : ℕ → Schema) (base : ℕ → Base) (index : ℕ) where
+  job_tells : (mid new : WorkerValue) (had : Option Strayed) (place : ℕ) (job : Job) (outcome : JobOutcome) (own front : FrontValue) → slice_get mid.tokens.told index ≡ Some had
+      → ReshapesBy schema base mid.tokens place job outcome own front new.tokens → (place ≡ index) ⊎ (place ≡ index → ⊥) → slice_get new.tokens.told index ≡ Some (option_or had (stray_in index (Reshape place job outcome own front)))
+  job_tells mid new had place job outcome own front at made (inl here) =
+      let kept : made.had ≡ had = some_is made.had had (sym made.told ∙ ap (λ (p : ℕ). slice_get mid.tokens.told p) here ∙ at) in
+      ap (λ (t : TokensValue). slice_get t.told index) made.left
+      ∙ ap (λ (p : ℕ). slice_get (set mid.tokens.told p (option_or made.had (numbers_of_job outcome))) index) here
+      ∙ get_set_same mid.tokens.told index had (option_or made.had (numbers_of_job outcome)) at
+      ∙ ap (λ (h : Option Strayed). Some (option_or h (numbers_of_job outcome))) kept
+      ∙ ap (λ (n : Option Strayed). Some (option_or had n)) (sym (job_tells_here index job outcome own front))
+      ∙ ap (λ (p : ℕ). Some (option_or had (stray_in index (Reshape p job outcome own front)))) (sym here)
+  job_tells mid new had place job outcome own front at made (inr apart) =
+      ap (λ (t : TokensValue). slice_get t.told index) made.left
+      ∙ get_set_other mid.tokens.told place index (option_or made.had (numbers_of_job outcome)) apart
+      ∙ at
+      ∙ ap (λ (h : Option Strayed). Some h) (sym (or_none had))
+      ∙ ap (λ (n : Option Strayed). Some (option_or had n)) (sym (job_tells_nothing index place job outcome own front apart))
+
   commit_tells : (mid new : WorkerValue) (had : Option Strayed) (place : ℕ) (ops : List TxnOp) (outcome : CommitOutcome) (front : FrontValue) → slice_get mid.tokens.told index ≡ Some had
       → CommitsBy schema base mid.tokens place ops outcome front new.tokens → (place ≡ index) ⊎ (place ≡ index → ⊥) → slice_get new.tokens.told index ≡ Some (option_or had (stray_in index (Commit place ops outcome front)))
   commit_tells mid new had place ops outcome front at made (inl here) =
@@ -63,6 +89,8 @@ module _ (schema : ℕ → Schema) (base : ℕ → Base) (index : ℕ) where
   event_tells old new (Read place front) had at follows = stays_told had old.tokens.told new.tokens.told follows.0.1.2 at
   event_tells old new (Commit place ops outcome front) had at follows =
       commit_tells follows.0 new had place ops outcome front (ap (λ (l : List (Option Strayed)). slice_get l index) follows.1.1.2 ∙ at) follows.2.1 (cases_eq place index)
+  event_tells old new (Reshape place job outcome own front) had at follows =
+      job_tells follows.0 new had place job outcome own front (ap (λ (l : List (Option Strayed)). slice_get l index) follows.1.1.2 ∙ at) follows.3.1 (cases_eq place index)
 
   -- what events one after another tell
   pub events_tell : (old new : WorkerValue) (events : List (Event FrontValue)) (had : Option Strayed) → slice_get old.tokens.told index ≡ Some had → FollowAll (Leads schema base index) old events new

@@ -1,18 +1,21 @@
 -- Alone: one line of a worker that no other one commits beside, where nothing failed on the way.
 use Rattle.std.specs.Prelude.{◌≡◌, ⊤, ℕ, ◌<◌, List, [], ◌∷◌, All, length}
+use Rattle.std.specs.List.{flat_map}
 use Rattle.srch_base.specs.Moves.{Meters}
 use Rattle.commit_outcomes.specs.declared.outcome.CommitOutcome.{CommitOutcome}
 use Rattle.commit_outcomes.specs.declared.outcome.CommitOutcome.TheVariants.{Committed, Duplicate}
 use Rattle.doc_types.specs.declared.schema.Schema.{Schema}
 use Rattle.doc_types.specs.Snapshots.{live}
 use Rattle.index_conf.specs.declared.conf.IndexConf.{IndexConf}
-use Rattle.ql_session.specs.Events.{Event, Configured, Nothing, NoMemory, Read, Commit, Follows}
+use Rattle.ql_session.specs.Events.{Event, Configured, Nothing, NoMemory, Read, Commit, Reshape, Follows}
+use Rattle.ql_session.specs.JobOutcome.{JobOutcome}
+use Rattle.ql_session.specs.JobOutcome.TheVariants.{Shaped}
 use Rattle.ql_session.specs.LinkEnd.{LinkEnd}
 use Rattle.ql_session.specs.Machines.{FollowAll}
 use Rattle.ql_session.specs.Session.{IsSession}
 use Rattle.serve_line.specs.Line.{EndsByClient}
 use Rattle.step_book.specs.Fronts.{FrontValue}
-use Rattle.step_history.specs.History.{Base, Step, last_snapshot}
+use Rattle.step_history.specs.History.{Base, Step}
 use Rattle.step_history.specs.Places.{disk_chunks}
 use Rattle.engine_tables.specs.Tokens.{TokensValue}
 use Rattle.engine_tables.specs.Workers.{by_tokens, documents_of}
@@ -25,23 +28,38 @@ IsClear (Committed removed) = ⊤
 IsClear (Duplicate id) = ⊤
 IsClear outcome = ⊥
 
--- Memory was there, and a commit was made or its id was there.
+-- The job has ended: the store refused nothing, and nothing is in doubt.
+abbrev pub IsDone : JobOutcome → Type 0
+IsDone Shaped = ⊤
+IsDone outcome = ⊥
+
+-- Memory was there, a commit was made or its id was there, and a job has ended.
 abbrev pub IsUntroubled : {F : Type 0} → Event F → Type 0
 IsUntroubled (Configured confs) = ⊤
 IsUntroubled Nothing = ⊤
 IsUntroubled NoMemory = ⊥
 IsUntroubled (Read place front) = ⊤
 IsUntroubled (Commit place ops outcome front) = IsClear outcome
+IsUntroubled (Reshape place job outcome own front) = IsDone outcome
 
--- The index began with the same documents by the same commits, and with as many chunks on the disk.
+-- The index began with the same documents by the same commits, whatever layers and chunks held them.
 pub record OpenAlike (a b : Base) : Type 0 where
   pub number : a.opening.number ≡ b.opening.number
   pub rows : live a.opening ≡ live b.opening
-  pub chunks : length (disk_chunks a.opening) ≡ length (disk_chunks b.opening)
+
+-- how many chunks of its index are on the disk where the event reads it
+abbrev pub chunks_read : (ℕ → Base) → Event FrontValue → List ℕ
+chunks_read base (Configured confs) = []
+chunks_read base Nothing = []
+chunks_read base NoMemory = []
+chunks_read base (Read place front) = length (disk_chunks (documents_of base front)) ∷ []
+chunks_read base (Commit place ops outcome front) = []
+chunks_read base (Reshape place job outcome own front) = []
 
 -- The one worker had a line of this connection over the indexes as they were opened, which its client ended: these bytes were read and
--- written. Nothing troubled it. Each index has one history of the line's events, and no job ended in it: the shape is that at opening.
-pub record IsAlone (schema : ℕ → Schema) (base : ℕ → Base) (confs : List IndexConf) (connection : ℕ) (read written : List ℕ) : Type 0 where
+-- written. Nothing troubled it. Each index has one history of the line's events. Where the line read an index, so many chunks were on
+-- the disk.
+pub record IsAlone (schema : ℕ → Schema) (base : ℕ → Base) (confs : List IndexConf) (connection : ℕ) (chunks : List ℕ) (read written : List ℕ) : Type 0 where
   pub before : Meters
   pub now : Meters
   pub end : LinkEnd
@@ -53,4 +71,4 @@ pub record IsAlone (schema : ℕ → Schema) (base : ℕ → Base) (confs : List
   pub client : EndsByClient end
   pub untroubled : All IsUntroubled events
   pub one : (index : ℕ) → index < length confs → IsOneHistory (schema index) (base index) index (history index) (events ∷ [])
-  pub shape : (index : ℕ) → index < length confs → (last_snapshot (base index) (history index)).shape ≡ (base index).opening.shape
+  pub reads : flat_map (chunks_read base) events ≡ chunks

@@ -1,25 +1,37 @@
--- Attempts: what a line's events show of an index, which of them may have changed it, and what they tell of its history.
+-- Attempts: what a line's events show of an index, which of them may have changed its documents, and what they tell of its history.
 use Rattle.std.specs.Prelude.{◌≡◌, ⊤, ℕ, ◌==◌, ◌&&◌, List, [], ◌∷◌, Bool, true, false, if◌then◌else◌, Option, None}
 use Rattle.std.specs.List.{filter, flat_map}
 use Rattle.std.specs.Option.{option_or}
 use Rattle.commit_outcomes.specs.declared.outcome.CommitOutcome.{CommitOutcome}
 use Rattle.commit_outcomes.specs.declared.outcome.CommitOutcome.TheVariants as outcomes
 use Rattle.commit_outcomes.specs.declared.strayed.Strayed.{Strayed}
-use Rattle.ql_session.specs.Events.{Event, Configured, Nothing, NoMemory, Read, Commit}
-use Rattle.engine_tables.specs.Outcomes.{numbers_of}
+use Rattle.ql_session.specs.Events.{Event, Configured, Nothing, NoMemory, Read, Commit, Reshape}
+use Rattle.ql_session.specs.JobOutcome.{JobOutcome}
+use Rattle.ql_session.specs.JobOutcome.TheVariants as job_outcomes
+use Rattle.engine_tables.specs.Outcomes.{numbers_of, numbers_of_job}
 use Rattle.line_workers.specs.Lines.{Service}
 
 -- the events of a worker's lines, one line after another
 abbrev pub events_of : {K F : Type 0} → List (Service K F) → List (Event F)
 events_of services = flat_map (λ service. service.events) services
 
--- The front of the event has P, where it is one of the index at this place.
+-- Each front of the event has P, where it is one of the index at this place: of a job both, that over which it began and the last one.
 abbrev pub OnFront : {F : Type 0} → ℕ → (F → Type 0) → Event F → Type 0
 OnFront index P (Configured confs) = ⊤
 OnFront index P Nothing = ⊤
 OnFront index P NoMemory = ⊤
 OnFront index P (Read place front) = place ≡ index → P front
 OnFront index P (Commit place ops outcome front) = place ≡ index → P front
+OnFront index P (Reshape place job outcome own front) = place ≡ index → P own × P front
+
+-- The last front of the event has P, where it is one of the index at this place.
+abbrev pub OnLast : {F : Type 0} → ℕ → (F → Type 0) → Event F → Type 0
+OnLast index P (Configured confs) = ⊤
+OnLast index P Nothing = ⊤
+OnLast index P NoMemory = ⊤
+OnLast index P (Read place front) = place ≡ index → P front
+OnLast index P (Commit place ops outcome front) = place ≡ index → P front
+OnLast index P (Reshape place job outcome own front) = place ≡ index → P front
 
 -- the commit was made, or it may be made later
 abbrev pub may_stand : CommitOutcome → Bool
@@ -37,6 +49,7 @@ is_attempt index Nothing = false
 is_attempt index NoMemory = false
 is_attempt index (Read place front) = false
 is_attempt index (Commit place ops outcome front) = (place == index) && may_stand outcome
+is_attempt index (Reshape place job outcome own front) = false
 
 -- the commit was answered with a note of all that the worker's token has seen then
 abbrev pub has_note : CommitOutcome → Bool
@@ -47,27 +60,38 @@ has_note outcomes.Refused = false
 has_note (outcomes.InDoubt doubt) = false
 has_note (outcomes.Strayed numbers) = false
 
--- the event is such a commit to the index at this place
+-- the job was answered with such a note
+abbrev pub has_job_note : JobOutcome → Bool
+has_job_note job_outcomes.Shaped = true
+has_job_note (job_outcomes.Overtaken shape) = true
+has_job_note (job_outcomes.Full full) = false
+has_job_note job_outcomes.Refused = false
+has_job_note job_outcomes.InDoubt = false
+has_job_note (job_outcomes.Strayed numbers) = false
+
+-- the event is such a commit to the index at this place, or such a job over it
 abbrev pub is_noted : {F : Type 0} → ℕ → Event F → Bool
 is_noted index (Configured confs) = false
 is_noted index Nothing = false
 is_noted index NoMemory = false
 is_noted index (Read place front) = false
 is_noted index (Commit place ops outcome front) = (place == index) && has_note outcome
+is_noted index (Reshape place job outcome own front) = (place == index) && has_job_note outcome
 
 -- the commits to the index that were acknowledged or are in doubt
 abbrev pub attempts_on : {F : Type 0} → ℕ → List (Event F) → List (Event F)
 attempts_on index events = filter (is_attempt index) events
 
--- the numbers that a commit to the index was told, where what was counted of its history contradicts itself
+-- the numbers that a commit to the index, or a job over it, was told, where what was counted of its history contradicts itself
 abbrev pub stray_in : {F : Type 0} → ℕ → Event F → Option Strayed
 stray_in index (Configured confs) = None
 stray_in index Nothing = None
 stray_in index NoMemory = None
 stray_in index (Read place front) = None
 stray_in index (Commit place ops outcome front) = if place == index then numbers_of outcome else None
+stray_in index (Reshape place job outcome own front) = if place == index then numbers_of_job outcome else None
 
--- those of the first such commit
+-- those of the first such commit or job
 abbrev pub told_by : {F : Type 0} → ℕ → List (Event F) → Option Strayed
 told_by index [] = None
 told_by index (event ∷ events) = option_or (stray_in index event) (told_by index events)

@@ -7,12 +7,14 @@ use Rattle.doc_types.specs.declared.schema.Schema.{Schema}
 use Rattle.doc_types.specs.declared.transactions.TxnOp.{TxnOp}
 use Rattle.doc_types.specs.Commits.{Entry}
 use Rattle.doc_types.specs.Snapshots.{SnapshotValue}
-use Rattle.ql_session.specs.Events.{Event, Commit}
+use Rattle.ql_session.specs.Events.{Event, Commit, Reshape}
+use Rattle.ql_session.specs.JobOutcome.TheVariants.{Shaped}
 use Rattle.step_book.specs.Fronts.{FrontValue}
-use Rattle.step_history.specs.History.{Base, Step, IsGood, commits, commits_by, made_by}
+use Rattle.step_history.specs.History.{Base, Step, IsGood, commits, commits_by, last_snapshot, made_by}
 use Rattle.step_history.specs.History as steps
+use Rattle.step_history.specs.declared.job.Job.{Job}
 use Rattle.store_steps.specs.Answers.{Becomes}
-use Rattle.line_workers.specs.Attempts.{OnFront, attempts_on, is_noted}
+use Rattle.line_workers.specs.Attempts.{OnFront, OnLast, attempts_on, is_noted}
 
 -- The entry ends the front. It is what the worker's operations became over the documents before it, and so many ids that they kill
 -- were there.
@@ -45,16 +47,31 @@ AreEntriesOf base worker [] (entry ∷ entries) = ⊥
 AreEntriesOf base worker (event ∷ events) [] = IsDoubtful event × (events ≡ [])
 AreEntriesOf base worker (event ∷ events) (entry ∷ entries) = IsEntryOf base worker event entry × AreEntriesOf base worker events entries
 
+-- The job's end ends the front: it is of the number of the snapshot over which the job began, which is the last one of its own front.
+-- What stands before it begins with that front, whatever commits came meanwhile.
+pub record IsEndOf (base : Base) (job : Job) (own front : FrontValue) : Type 0 where
+  pub earlier : List Step
+  pub snapshot : SnapshotValue
+  pub last : front.steps ≡ earlier ++ steps.Reshape job (last_snapshot base own.steps).number snapshot ∷ []
+  pub before : IsPrefix own.steps earlier
+
+-- A job over the index that has ended stands in its front.
+abbrev pub HasItsEnd : Base → ℕ → Event FrontValue → Type 0
+HasItsEnd base index (Reshape place job Shaped own front) = place ≡ index → IsEndOf base job own front
+HasItsEnd base index event = ⊤
+
 -- What the lines of a worker were shown and told of an index is of this history. Each front is a beginning of it, and the worker's
 -- entries in that are those of its commits up to then; and the worker's entries in the whole history are those of all its commits.
--- Once a commit is answered with a note, each of the worker's commits up to then has its entry, in this front and in all later ones,
--- also one that was in doubt.
+-- Once a commit or a job is answered with a note, each of the worker's commits up to then has its entry, in the last front of this
+-- event and in all later ones, also one that was in doubt. A job of the worker's stands in the history where it has ended.
 pub record IsOfHistory (base : Base) (index : ℕ) (history : List Step) (worker : ℕ) (events : List (Event FrontValue)) : Type 0 where
   pub begins : All (OnFront index (λ front. IsPrefix front.steps history)) events
   pub own : (before : List (Event FrontValue)) (event : Event FrontValue) (later : List (Event FrontValue)) → events ≡ before ++ event ∷ later
       → OnFront index (λ front. AreEntriesOf base worker (attempts_on index (before ++ event ∷ [])) (commits_by worker front.steps)) event
   pub noted : (before : List (Event FrontValue)) (event : Event FrontValue) (later : List (Event FrontValue)) → events ≡ before ++ event ∷ later → is_noted index event ≡ true
-      → All (OnFront index (λ front. length (attempts_on index (before ++ event ∷ [])) ≤ made_by worker front.steps)) (event ∷ later)
+      → OnLast index (λ front. length (attempts_on index (before ++ event ∷ [])) ≤ made_by worker front.steps) event
+      × All (OnFront index (λ front. length (attempts_on index (before ++ event ∷ [])) ≤ made_by worker front.steps)) later
+  pub jobs : All (HasItsEnd base index) events
   pub entries : AreEntriesOf base worker (attempts_on index events) (commits_by worker history)
 
 -- The one history of an index, by the events of each worker's lines: it is good, all lines saw beginnings of it, and each of its

@@ -14,7 +14,7 @@ use Rattle.step_tokens.specs.Tokens.{TokenValue}
 use Rattle.store_keep.specs.Tellings.{first_stray}
 use Rattle.line_workers.specs.Attempts.{told_by}
 
--- The lines of some worker were told these numbers of the index, by the first of its commits that was told any.
+-- The lines of some worker were told these numbers of the index, by the first of its commits and jobs that was told any.
 pub record IsTold (index : ℕ) (numbers : Strayed) (events : List (List (Event FrontValue))) : Type 0 where
   pub place : ℕ
   pub own : List (Event FrontValue)

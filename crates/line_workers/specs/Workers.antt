@@ -19,7 +19,7 @@ use Rattle.line_workers.specs.declared.seat.Seat.{Seat}
 -- What a worker did with the door of its seat, from the tokens that it had to those that it had left. It served lines over them: so
 -- the fronts of their events rise, and each begins with all that its token had seen. What a token has seen in the end begins with
 -- each front of its index, and the token counts the commits to its index that were acknowledged or are in doubt. Beside it stands the
--- first contradiction that a commit to its index was told.
+-- first contradiction that a commit or a job of its index was told.
 pub record Works {E K J : Type 0} (door : DoorWords E K) (link : LinkWords K) (schema : ℕ → Schema) (base : ℕ → Base) (confs : List IndexConf) (workers sessions : ℕ) (services : List (Service K FrontValue)) (had left : TokensValue) (old new : Seat E J K) : Type 0 where
   pub serves : ServesDoor door link (λ tables. tables.confs) (by_tokens schema base) workers had.worker sessions services old.door new.door new.end
       (record { confs = confs; tokens = had }) (record { confs = confs; tokens = left })

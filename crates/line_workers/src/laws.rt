@@ -7,7 +7,7 @@ ghost use Rattle.ql_session.specs.Events.{Event};
 ghost use Rattle.step_book.specs.Fronts.{FrontValue};
 ghost use Rattle.step_history.specs.History.{Base, Step, commits};
 ghost use Rattle.line_workers.specs.Alone.{IsAlone, OpenAlike};
-ghost use Rattle.line_workers.specs.Attempts.{OnFront, attempts_on, is_noted};
+ghost use Rattle.line_workers.specs.Attempts.{OnFront, OnLast, attempts_on, is_noted};
 ghost use Rattle.line_workers.specs.Histories.{AreEntriesOf, IsAcknowledged, IsAskedFor, IsAttempt, IsEntryOf, IsOneHistory, entries_numbered};
 
 use mysql_wire::{bytes_begin_in_one_way, payload_is_one_response_or_bad};
@@ -29,21 +29,21 @@ pub fn each_entry_was_asked_for()
 {}
 
 /// Where there is one worker, the commits of each front are those of its lines so far, in their order. Only the last one may not be
-/// among them, where it is in doubt; and once a later commit is answered with a note, that one is among them too, from then on.
+/// among them, where it is in doubt; and once a later commit or job is answered with a note, that one is among them too, from then on.
 pub fn a_worker_alone_sees_its_commits()
     ensures own { (schema : Schema) (base : Base) (index : ℕ) (history : List Step) (own before : List (Event FrontValue)) (event : Event FrontValue) (later : List (Event FrontValue)) → IsOneHistory schema base index history (own ∷ [])
         → own ≡ before ++ event ∷ later → OnFront index (λ front. AreEntriesOf base 1 (attempts_on index (before ++ event ∷ [])) (commits front.steps)) event }
     ensures noted { (schema : Schema) (base : Base) (index : ℕ) (history : List Step) (own before : List (Event FrontValue)) (event : Event FrontValue) (later : List (Event FrontValue)) → IsOneHistory schema base index history (own ∷ [])
-        → own ≡ before ++ event ∷ later → is_noted index event ≡ true → All (OnFront index (λ front. length (attempts_on index (before ++ event ∷ [])) ≤ length (commits front.steps))) (event ∷ later) }
+        → own ≡ before ++ event ∷ later → is_noted index event ≡ true → OnLast index (λ front. length (attempts_on index (before ++ event ∷ [])) ≤ length (commits front.steps)) event × All (OnFront index (λ front. length (attempts_on index (before ++ event ∷ [])) ≤ length (commits front.steps))) later }
 {}
 
 /// One worker alone: equal bytes have equal replies. Two lines of one connection over the same documents that read the same bytes wrote
-/// the same bytes, whatever layers and chunks hold these documents, where their clients ended them, memory was there, the store refused
-/// nothing and nothing is in doubt. As many chunks are on the disk at opening, and no job ends meanwhile, since SHOW INDEX STATUS tells
-/// how many there are.
+/// the same bytes, whatever layers and chunks hold these documents and whatever jobs end meanwhile, where their clients ended them,
+/// memory was there, the store refused nothing and nothing is in doubt. Where they read an index, as many chunks are on the disk, since
+/// SHOW INDEX STATUS tells how many there are; no clause counts the jobs that have ended.
 pub fn a_worker_alone_has_one_reply()
-    ensures { (schema : ℕ → Schema) (base other : ℕ → Base) (confs : List IndexConf) (connection : ℕ) (read written replies : List ℕ) → ((index : ℕ) → index < length confs → OpenAlike (base index) (other index))
-        → IsAlone schema base confs connection read written → IsAlone schema other confs connection read replies → written ≡ replies }
+    ensures { (schema : ℕ → Schema) (base other : ℕ → Base) (confs : List IndexConf) (connection : ℕ) (chunks read written replies : List ℕ) → ((index : ℕ) → index < length confs → OpenAlike (base index) (other index))
+        → IsAlone schema base confs connection chunks read written → IsAlone schema other confs connection chunks read replies → written ≡ replies }
 {
     bytes_begin_in_one_way();
     payload_is_one_response_or_bad();

@@ -7,7 +7,7 @@ use Rattle.step_book.specs.Fronts.{FrontValue}
 use Rattle.step_history.specs.History.{Base}
 use Rattle.step_tokens.specs.Tokens.{TokenValue}
 use Rattle.ql_answers.specs.declared.state.State.{State}
-use Rattle.ql_session.specs.Events.{Event, Configured, Nothing, NoMemory, Read, Commit, Follows, StoreWords}
+use Rattle.ql_session.specs.Events.{Event, Configured, Nothing, NoMemory, Read, Commit, Reshape, Follows, StoreWords}
 use Rattle.ql_session.specs.Machines.{FollowAll}
 use Rattle.engine_tables.specs.Engines.{EnginesValue}
 use Rattle.engine_tables.specs.Tokens.{SitsAt, TokensValue}
@@ -60,6 +60,13 @@ module _ (schema : ℕ → Schema) (base : ℕ → Base) where
       let mid = follows.0 in
       let made = follows.2.1 in record {
         confs = follows.2.0 ∙ follows.1.0;
+        worker = ap (λ (t : TokensValue). t.worker) made.left ∙ follows.1.1.0;
+        many = ap (λ (t : TokensValue). length t.list) made.left ∙ length-set mid.tokens.list place made.after ∙ long_zip old.tokens.list mid.tokens.list follows.1.1.1;
+      }
+  one_like old new (Reshape place job outcome own front) follows =
+      let mid = follows.0 in
+      let made = follows.3.1 in record {
+        confs = follows.3.0 ∙ follows.1.0;
         worker = ap (λ (t : TokensValue). t.worker) made.left ∙ follows.1.1.0;
         many = ap (λ (t : TokensValue). length t.list) made.left ∙ length-set mid.tokens.list place made.after ∙ long_zip old.tokens.list mid.tokens.list follows.1.1.1;
       }

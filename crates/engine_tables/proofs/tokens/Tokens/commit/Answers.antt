@@ -1,7 +1,7 @@
-use Rattle.std.proofs.Common.{ℕ, length, length-set, ap, sym, subst, ◌∙◌}
+use Rattle.std.proofs.Common.{ℕ, Option, length, length-set, slice_set, ap, sym, subst, ◌∙◌}
 use Rattle.std.specs.Option.{option_or}
+use Rattle.commit_outcomes.specs.declared.strayed.Strayed.{Strayed}
 use Rattle.snap_share.specs.Answers.{Answers}
-use Rattle.engine_tables.specs.Outcomes.{numbers_of}
 use Rattle.engine_tables.specs.Tokens.{TokensValue}
 use Rattle.engine_tables.proofs.Telling.{commits_so, fails_with, stays_own}
 use Rattle.engine_tables.proofs.Using.{in_order_told, is_used, used_in_order, with_token}
@@ -30,7 +30,7 @@ invariant_of-self-2 g c =
     let own = stays_own (g.J.Naming.schema c.args.place) (g.J.Naming.base c.args.place) c.index_mut-token.result.now c.args.txn.now.ops c.commit-answer.new.token c.commit-answer.result says in
     let used = is_used view c.args.self.now c.self.inside.list.len c.args.place c.index_mut-token.result.now c.commit-answer.new.token c.self.view_is c.self.inside.list.ok.0 c.self.invariant c.requires.at.0 c.index_mut-token.ensures.value own.0 own.1 in
     in_order_told (with_token view c.args.place c.commit-answer.new.token) c.keep_first.new.told.items (used_in_order view c.args.self.now c.args.place c.index_mut-token.result.now c.commit-answer.new.token used)
-    (ap length c.keep_first.ensures.2 ∙ length-set c.self.inside.told.items c.args.place (option_or c.keep_first.ensures.0 (numbers_of c.in_ok-outcome.outcome)))
+    (ap length c.keep_first.ensures.2 ∙ length-set c.self.inside.told.items c.args.place (option_or c.keep_first.ensures.0 c.numbers_of.result))
 
 pub returns-clause-commits : goal.returns-clause-commits
 returns-clause-commits g c =
@@ -39,4 +39,5 @@ returns-clause-commits g c =
     let own = stays_own (g.J.Naming.schema c.args.place) (g.J.Naming.base c.args.place) c.index_mut-token.result.now c.args.txn.now.ops c.commit-answer.new.token c.commit-answer.result says in
     let used = is_used view c.args.self.now c.self.inside.list.len c.args.place c.index_mut-token.result.now c.commit-answer.new.token c.self.view_is c.self.inside.list.ok.0 c.self.invariant c.requires.at.0 c.index_mut-token.ensures.value own.0 own.1 in
     commits_so g.J.Naming.schema g.J.Naming.base view c.args.self.now c.args.place c.index_mut-token.result.now c.commit-answer.new.token c.args.txn.now.ops c.commit-answer.result used says c.in_ok-outcome.outcome (sym c.outcome_of.ensures ∙ c.in_ok-outcome.was) c.len-seen.ensures.good
-    c.keep_first.ensures.0 c.keep_first.ensures.1 c.keep_first.new.told.items c.keep_first.ensures.2
+    c.keep_first.ensures.0 c.keep_first.ensures.1 c.keep_first.new.told.items
+    (c.keep_first.ensures.2 ∙ ap (λ (numbers : Option Strayed). slice_set c.self.inside.told.items c.args.place (option_or c.keep_first.ensures.0 numbers)) c.numbers_of.ensures)

@@ -1,4 +1,4 @@
-use Rattle.std.proofs.Common.{subst}
+use Rattle.std.proofs.Common.{length-set, subst, sym, ◌∙◌}
 use Rattle.std.specs.Arc.{arc_value}
 use Rattle.doc_types.specs.Snapshots.{AreLayers, SnapshotValue}
 use Rattle.engine_tables.specs.Tokens.{TokensValue}
@@ -29,3 +29,9 @@ returns-clause-grow g c =
     let view : TokensValue = record { worker = c.self.inside.worker; list = c.self.inside.list.items; told = c.self.inside.told.items } in
     let used = is_used view c.args.self.now c.self.inside.list.len c.args.place c.index_mut.result.now c.snapshot.new.token c.self.view_is c.self.inside.list.ok.0 c.self.invariant c.requires c.index_mut.ensures.value c.snapshot.ensures.same.0 c.snapshot.ensures.same.1 in
     used_grows view c.args.self.now c.args.place c.index_mut.result.now c.snapshot.new.token used c.snapshot.ensures.same.2 c.snapshot.ensures.seen
+
+pub returns-in_err-found-clause-alike : goal.returns-in_err-found-clause-alike
+returns-in_err-found-clause-alike g c = c.self.invariant.alike ∙ sym (length-set c.self.inside.list.items c.args.place c.snapshot.new.token)
+
+pub returns-clause-alike : goal.returns-clause-alike
+returns-clause-alike g c = c.self.invariant.alike ∙ sym (length-set c.self.inside.list.items c.args.place c.snapshot.new.token)
