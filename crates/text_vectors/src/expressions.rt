@@ -2,6 +2,7 @@
 ghost use Rattle.doc_types.specs.Schemas.{IsSchema};
 ghost use Rattle.index_conf.specs.Soundness.{IsSound};
 
+use crate::expression_texts::{READ, REFUSED};
 use crate::spelling::spell;
 use crate::tables::none_wrong;
 use conf_text::read_conf;
@@ -315,7 +316,9 @@ fn first_by<'t>(alloc: Global, lines: &'t str, conf: &Conf) -> Option<&'t str>
 /// The first line of the texts of which something else is told.
 fn first_wrong(alloc: Global) -> Option<&'static str> {
     match read_conf(alloc, INDEX.as_bytes()) {
-        Ok(conf) => first_by(alloc, TEXTS, &conf),
+        Ok(conf) => [TEXTS, READ, REFUSED]
+            .iter()
+            .find_map(|lines| first_by(alloc, lines, &conf)),
         Err(_) => Some("the configuration"),
     }
 }

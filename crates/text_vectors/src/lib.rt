@@ -5,6 +5,8 @@
 #[cfg(test)]
 mod character_tables;
 #[cfg(test)]
+mod expression_texts;
+#[cfg(test)]
 mod expressions;
 #[cfg(test)]
 mod marks;
