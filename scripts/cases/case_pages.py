@@ -47,6 +47,7 @@ class Step(NamedTuple):
     wanted: str
     by_bytes: bool = False
     by_end: bool = False  # by the bytes at the end of the reply
+    after: str = ""  # the job that was done before it, if one was
 
 
 class Script(NamedTuple):

@@ -15,6 +15,7 @@ from pathlib import Path
 from typing import NamedTuple
 
 from scripts.cases.case_pages import written_out
+from scripts.cases.jobs_between import as_in_memory
 from scripts.clients.daemon import Daemon, Ended, free_port
 from scripts.clients.mysql_client import Client, Lost, handshake
 from scripts.cases.replies import Strange, split, told
@@ -141,6 +142,7 @@ class Served(Daemon):
 def compare(step, take):
     """Takes the reply to a step, and gives what is wrong with it, None where it is as wanted."""
     text, whole = told(take)
+    text = as_in_memory(step, text) if step.after else text
     wanted = written_out(step.wanted)
     if step.by_end:
         whole = whole[-len(wanted) :]

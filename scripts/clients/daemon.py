@@ -107,8 +107,23 @@ class Daemon:
 
 def resident(pid):
     """The bytes of memory that a process has, of those that are in use by it now."""
+    return memory(pid, "VmRSS:")
+
+
+def most(pid):
+    """The most bytes of memory that a process has had, since it began or since `forget_most`."""
+    return memory(pid, "VmHWM:")
+
+
+def forget_most(pid):
+    """From now on the most memory is counted anew."""
+    with open(f"/proc/{pid}/clear_refs", "w", encoding="ascii") as refs:
+        refs.write("5")
+
+
+def memory(pid, kind):
     with open(f"/proc/{pid}/status", encoding="ascii") as lines:
-        return next(int(line.split()[1]) * 1024 for line in lines if line.startswith("VmRSS:"))
+        return next(int(line.split()[1]) * 1024 for line in lines if line.startswith(kind))
 
 
 def processor(pid):

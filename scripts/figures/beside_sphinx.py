@@ -1,6 +1,6 @@
 """Measures SELECTs of many classes beside Sphinx 2.2, over the same documents of 100 words in one run.
 
-    python3 -m scripts.figures.beside_sphinx --program PROGRAM [--sphinx PATH] [--docs N..] [--texts N] [--rounds N] [--flush]
+    python3 -m scripts.figures.beside_sphinx --program PROGRAM [--sphinx PATH] [--docs N..] [--chunks N..] [--texts N] [--rounds N]
 
 starts both over empty folders, loads both with N documents (40,000 if nothing is said; as many as PROGRAM's index takes
 where that is fewer) by INSERTs of 1,000, and sends the texts of each class to one after the other. The table has how many
@@ -8,8 +8,10 @@ documents were found, and where the two found different numbers, in how many of 
 client over loopback sees it, and that of the daemon's processors, which is the one to look at where the machine has other
 work. Each is the mean of a class's texts in the best of three rounds, and beside it stands how many times as long Sphinx
 took. Behind the table stand the geometric means and the classes in which Sphinx was faster. Weights are those of the
-ranker `proximity` on both sides. With --flush Sphinx writes its documents into one chunk on the disk first. Debian's
-package is sphinxsearch. PROGRAM may be Sphinx as well, which shows what the machine's noise is.
+ranker `proximity` on both sides. With --chunks both write their documents into so many chunks on the disk: of several each
+has the same number of documents, which are flushed together; of one, where they don't go into one log, all that were flushed
+are optimised. Each number of chunks is measured by itself, 0 is documents in memory. Debian's package is sphinxsearch. PROGRAM
+may be Sphinx as well, which shows what the machine's noise is.
 """
 
 import argparse
@@ -19,11 +21,13 @@ import subprocess
 import sys
 import tempfile
 import time
+from itertools import product
 from pathlib import Path
 
-from scripts.figures import hundred_words as documents
+from scripts.clients import jobs
 from scripts.clients.daemon import COLUMNS, Daemon, processor, resident
 from scripts.clients.mysql_client import Refused
+from scripts.figures import hundred_words as documents
 
 # the ranks of the words that stand in a text as c1, c2 .. of the most common, f1 .. frequent, m1 .. some, r1 .. rare
 RANKS = {"c": (6, 13), "f": (15, 60), "m": (500, 1500), "r": (15000, 40000)}
@@ -87,49 +91,68 @@ class Side:
         self.daemon.start()
         self.client = self.daemon.client()
 
-    def load(self, count):
-        """Adds documents, and gives how many there are and the seconds that it took; their texts are made before."""
+    def load(self, count, chunks):
+        """Adds documents, in memory or in so many chunks, and gives how many there are and the seconds that it took, without
+        the making of their texts."""
         taken = done = 0
+        ends = [count * number // chunks for number in range(1, chunks + 1)]
         while done < count:
-            numbers = range(done + 1, min(done + 1000, count) + 1)
-            text = documents.insert(numbers)
-            before = time.perf_counter()
-            try:
-                self.client.query(text)
-            except Refused as refused:
-                if " full at " not in refused.text:
-                    raise
-                print(f"no more than {done:,} documents: {refused.text}")
+            numbers = range(done + 1, min([done + 1000, count, *(end for end in ends if end > done)]) + 1)
+            seconds = self.add(documents.insert(numbers), chunks > 0)
+            if seconds is None:
+                print(f"no more than {done:,} documents")
                 break
-            taken += time.perf_counter() - before
+            taken += seconds
             done += len(numbers)
+            if done in ends:
+                taken += jobs.timed(self.client, jobs.FLUSH)
+        if chunks == 1 and self.chunks() > 1:
+            taken += jobs.timed(self.client, jobs.OPTIMIZE)
         return done, taken
 
-    def found(self, text):
-        """How many documents or groups a SELECT finds."""
-        self.client.queries(text)
-        return int(dict(self.client.query("SHOW META").rows)["total_found"])
+    def add(self, text, may_flush):
+        """Adds documents, and gives the seconds that it took, None where the index is full: it is flushed first if that may be."""
+        begun = time.perf_counter()
+        try:
+            self.client.query(text)
+        except Refused as refused:
+            if " full at " not in refused.text:
+                raise
+            if not may_flush:
+                return None
+            jobs.timed(self.client, jobs.FLUSH)
+            self.client.query(text)
+        return time.perf_counter() - begun
 
-    def round(self, texts):
-        """The mean time of a text: until its reply was there, and of the daemon's processors."""
-        pid = self.daemon.process.pid
-        begin, worked, times = time.perf_counter(), processor(pid), 0
-        while times == 0 or processor(pid) - worked < ROUND:
-            for text in texts:
-                self.client.queries(text)
-            times += len(texts)
-        return (time.perf_counter() - begin) / times, (processor(pid) - worked) / times
+    def chunks(self):
+        return jobs.status(self.client, "rt")[1]
+
+
+def found(client, text):
+    """How many documents or groups a SELECT finds."""
+    client.queries(text)
+    return int(dict(client.query("SHOW META").rows)["total_found"])
+
+
+def timed(client, pid, texts):
+    """The mean time of a text: until its reply was there, and of the daemon's processors."""
+    begin, worked, times = time.perf_counter(), processor(pid), 0
+    while times == 0 or processor(pid) - worked < ROUND:
+        for text in texts:
+            client.queries(text)
+        times += len(texts)
+    return (time.perf_counter() - begin) / times, (processor(pid) - worked) / times
 
 
 def measured(sides, count, options):
     """Prints the table; gives of each class how many times as long Sphinx took, in all and on its processors."""
     classes = [(title, texts_of(template, options.texts, count)) for title, template in CLASSES]
-    founds = {title: [[side.found(text) for text in texts] for side in sides] for title, texts in classes}
+    founds = {title: [[found(side.client, text) for text in texts] for side in sides] for title, texts in classes}
     rounds = {title: ([], []) for title, _ in classes}
     for _ in range(options.rounds):
         for title, texts in classes:
             for side, times in zip(sides, rounds[title]):
-                times.append(side.round(texts))
+                times.append(timed(side.client, side.daemon.process.pid, texts))
     print(f"| over {count:,} documents | found | time | Sphinx | ratio | processor | Sphinx | ratio |\n|---|{'---|' * 7}")
     ratios = {}
     for title, both in rounds.items():
@@ -157,21 +180,20 @@ def told(kind, ratios):
     return f"{kind}: geometric mean {mean:.2f}; Sphinx was faster in {len(slower)} of {len(ratios)}: {', '.join(slower) or 'none'}"
 
 
-def beside(count, folder, options):
+def beside(count, chunks, folder, options):
     sides = [
         Side(options.program, folder / "ours", "sphinx" in version(options.program)),
         Side(options.sphinx, folder / "sphinx", True),
     ]
     try:
-        count, *_ = loads = sides[0].load(count)
-        for name, side, (_, taken) in zip(("this program", "Sphinx"), sides, (loads, sides[1].load(count))):
+        count, *_ = loads = sides[0].load(count, chunks)
+        for name, side, (_, taken) in zip(("this program", "Sphinx"), sides, (loads, sides[1].load(count, chunks))):
             memory = resident(side.daemon.process.pid) / 2**20
-            print(f"{name}: {count:,} documents in {taken:.1f} s, {taken / count * 1e6:.0f} µs each; {memory:,.0f} MB")
-        if options.flush:
-            sides[1].client.query("FLUSH RAMCHUNK rt")
+            held = f"{side.chunks()} chunks; {memory:,.0f} MB" if chunks else f"{memory:,.0f} MB"
+            print(f"{name}: {count:,} documents in {taken:.1f} s, {taken / count * 1e6:.0f} µs each; {held}", flush=True)
         ratios = measured(sides, count, options)
         print(told("time", {title: ratio for title, (ratio, _) in ratios.items()}))
-        print(told("processor", {title: ratio for title, (_, ratio) in ratios.items()}))
+        print(told("processor", {title: ratio for title, (_, ratio) in ratios.items()}), flush=True)
     finally:
         for side in sides:
             side.daemon.kill()
@@ -189,11 +211,11 @@ def main():
     words.add_argument("--docs", type=int, nargs="+", default=[40000])
     words.add_argument("--texts", type=int, default=20, help="texts of a class")
     words.add_argument("--rounds", type=int, default=3)
-    words.add_argument("--flush", action="store_true")
+    words.add_argument("--chunks", type=int, nargs="+", default=[0], help="chunks on the disk, 0 for documents in memory")
     options = words.parse_args()
-    for count in options.docs:
+    for count, chunks in product(options.docs, options.chunks):
         with tempfile.TemporaryDirectory() as folder:
-            beside(count, Path(folder), options)
+            beside(count, chunks, Path(folder), options)
 
 
 if __name__ == "__main__":

@@ -16,13 +16,17 @@ def word(draws):
     return f"w{int(VOCABULARY ** draws.random())}"
 
 
+def gid(number):
+    return number * 7919 % 1000
+
+
 def row(number):
     """The values of a document, as an INSERT has them."""
     draws = random.Random(number)
     title = " ".join(word(draws) for _ in range(TITLE))
     content = " ".join(word(draws) for _ in range(CONTENT))
-    gid, in_stock, price = number * 7919 % 1000, draws.randrange(2), draws.randrange(1000000)
-    return f"({number}, '{title}', '{content}', {gid}, {in_stock}, {price}, {1600000000 + number})"
+    in_stock, price = draws.randrange(2), draws.randrange(1000000)
+    return f"({number}, '{title}', '{content}', {gid(number)}, {in_stock}, {price}, {1600000000 + number})"
 
 
 def insert(numbers, index="rt"):

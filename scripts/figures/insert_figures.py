@@ -21,16 +21,10 @@ import tempfile
 import time
 from pathlib import Path
 
+from scripts.clients.daemon import COLUMNS, Daemon, most, processor, resident
 from scripts.figures import hundred_words as documents
-from scripts.clients.daemon import COLUMNS, Daemon, processor, resident
 
 INDEXES = ["one", "two"]
-
-
-def most(pid):
-    """The most bytes of memory that a process has had."""
-    with open(f"/proc/{pid}/status", encoding="ascii") as lines:
-        return next(int(line.split()[1]) * 1024 for line in lines if line.startswith("VmHWM:"))
 
 
 def statements(docs, rows):

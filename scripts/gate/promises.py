@@ -121,7 +121,9 @@ class House:
             current = None
             for line in file.read_text().splitlines():
                 line = line.split("--")[0].rstrip() if line.lstrip().startswith("--") else line.rstrip()
-                if line.startswith("pub use "):
+                if line.startswith("pub use ") and "{" in line:
+                    names.add_import(line)
+                elif line.startswith("pub use "):
                     target = line[len("pub use Rattle."):].strip()
                     self.passed_on[f"{crate}.specs.{target.split('.')[-1]}"] = target
                 elif line.startswith("use "):
@@ -155,8 +157,9 @@ class House:
     def read_sources(self, crate):
         folder = ROOT / "crates" / crate / "src"
         root = next((file for file in (folder / "lib.rt", folder / "main.rt") if file.exists()), None)
-        exported = set()
-        for found in re.finditer(r"pub use ([\w:]+?)(?:::\{([^}]*)\}|::(\w+))?;", root.read_text() if root else ""):
+        top = root.read_text() if root else ""
+        exported = set(re.findall(r"^pub (?:const |unsafe )*(?:fn|trait|struct|enum) (\w+)", top, re.M))
+        for found in re.finditer(r"pub use ([\w:]+?)(?:::\{([^}]*)\}|::(\w+))?;", top):
             items = found.group(2) or found.group(3) or found.group(1)
             exported.update(item.strip().split(" as ")[0] for item in items.split(","))
         for file in sorted(folder.rglob("*.rt")):
@@ -212,7 +215,7 @@ class House:
         while end < len(lines):
             text = lines[end].rstrip()
             clause = re.match(r"^\s+(requires|ensures|measure)\b", text)
-            if text == indent + "{" or (text.endswith("{") and not clause and "{ " not in text):
+            if text in (indent + "{", indent + "{}") or (text.endswith("{") and not clause and "{ " not in text):
                 return end
             if text.endswith(";") and text.count("{") <= text.count("}"):
                 return end + 1

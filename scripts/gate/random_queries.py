@@ -3,12 +3,14 @@
     python3 -m scripts.gate.random_queries --program PROGRAM [--docs 20000] [--queries 20000] [--seed 1]
 
 starts the program over an empty folder and inserts documents with ids in no order, some by one statement each and some
-by many; in between it replaces and deletes some, so that there are several layers with dead rows. Then it asks queries of words, AND,
-OR, NOT, MAYBE, phrases, proximities, quorums, `<<`, NEAR and fields, one in another, some with a condition on an
-attribute, and compares the ids of the first thousand documents, and of how many there are, with a scan in Python. Where there
-are no more than some thousands it also compares a short page, in some order and by weights, with the beginning of the page that
-has all: a row that can't enter a full page isn't weighed. Words are few and drawn as in a natural text, so that most queries
-find something. It ends at the first query that differs.
+by many; in between it replaces and deletes some, so that there are several layers with dead rows. One query in four is asked
+over half of the documents, which are in memory; one over all, of which FLUSH took some now and then, so that there are chunks
+with dead rows as well; one behind a last FLUSH, and one behind OPTIMIZE. Queries are of words, AND, OR, NOT, MAYBE,
+phrases, proximities, quorums, `<<`, NEAR and fields, one in another, some with a condition on an attribute. It compares the ids
+of the first thousand documents, and of how many there are, with a scan in Python. Where there are no more than some thousands
+it also compares a short page, in some order and by weights, with the beginning of the page that has all: a row that can't enter
+a full page isn't weighed. Words are few and drawn as in a natural text, so that most queries find something. It ends at the
+first query that differs.
 """
 
 import argparse
@@ -17,6 +19,7 @@ import sys
 import tempfile
 from pathlib import Path
 
+from scripts.clients import jobs
 from scripts.clients.daemon import Daemon, Ended
 from scripts.clients.mysql_client import Lost, Refused
 from scripts.gate.last_line import ended
@@ -25,6 +28,8 @@ FIELDS = ["title", "content"]
 COLUMNS = ["rt_field = title", "rt_field = content", "rt_attr_uint = gid"]
 VOCABULARY = 1000
 SHOWN = 1000
+# So many states the documents are in, one after the other.
+STATES = 4
 # Pages of up to so many rows are compared with short ones.
 WHOLE = 3000
 ORDERS = ["", " ORDER BY gid ASC", " ORDER BY WEIGHT() ASC", " ORDER BY gid DESC, WEIGHT() DESC"]
@@ -200,10 +205,13 @@ def query(draws, depth=2):
     return Pair(draws) if kind < 0.75 else Word(draws)
 
 
-def fill(client, scan, draws, count):
-    """Inserts so many documents, and replaces and deletes some."""
-    numbers = draws.sample(range(1, 10 * count), count)
+def fill(client, scan, draws, numbers, flushes):
+    """Inserts documents of these ids, and replaces and deletes some; has the index flushed so often on the way."""
+    ends = [len(numbers) * part // (flushes + 1) for part in range(1, flushes + 1)]
     while numbers:
+        while ends and len(numbers) <= ends[-1]:
+            ends.pop()
+            client.query(f"{jobs.FLUSH} rt")
         some = 1 if draws.random() < 0.5 else draws.randrange(2, 60)
         now, numbers = numbers[:some], numbers[some:]
         put(client, scan, draws, "INSERT", now)
@@ -258,12 +266,12 @@ def first_wrong(given):
         daemon.start()
         try:
             client = daemon.client()
-            fill(client, scan, draws, given.docs)
-            while done < given.queries:
-                wrong = ask(client, scan, draws)
-                if wrong:
-                    return done, f"query {done + 1}: {wrong}"
-                done += 1
+            for part, _ in enumerate(states(client, scan, draws, given.docs), 1):
+                while done < given.queries * part // STATES:
+                    wrong = ask(client, scan, draws)
+                    if wrong:
+                        return done, f"query {done + 1}: {wrong}"
+                    done += 1
             client.quit()
         except (Ended, Lost, Refused) as error:
             return done, f"behind query {done}: {error}"
@@ -271,6 +279,18 @@ def first_wrong(given):
             daemon.kill()
     print(f"{done:,} queries over {len(scan.live):,} documents find what a scan finds")
     return done, None
+
+
+def states(client, scan, draws, count):
+    """Puts the documents, and has them in one state after the other: in memory, in chunks and memory, in chunks, in one."""
+    numbers = draws.sample(range(1, 10 * count), count)
+    fill(client, scan, draws, numbers[: count // 2], 0)
+    yield
+    fill(client, scan, draws, numbers[count // 2 :], 5)
+    yield
+    for job in (jobs.FLUSH, jobs.OPTIMIZE):
+        client.query(f"{job} rt")
+        yield
 
 
 def main():

@@ -10,7 +10,7 @@ from scripts.cases.tables import ROOT
 from scripts.gate.last_line import ended
 
 # How many tests there are known to be; each that is lost counts as failed.
-KNOWN = 89
+KNOWN = 98
 
 
 def run(folder, top, known):

@@ -4,10 +4,11 @@ import tempfile
 import unittest
 from pathlib import Path
 
-from scripts.cases.case_pages import Step, blocks, step, texts, written_out
+from scripts.cases.case_pages import Script, Step, blocks, step, texts, written_out
 from scripts.cases.case_sessions import Bytes, Wrong, compare, payload_of, short, taken, told_by_case, whole_packet
 from scripts.cases.command_words import meant, word
 from scripts.cases.evaluation_runs import keywords, quoted, weight
+from scripts.cases.jobs_between import FLUSH, MOST_CHUNKS, OPTIMIZE, as_in_memory, states
 from scripts.cases.replies import Strange
 from scripts.cases.runs import lost
 from scripts.cases.texts import written_words
@@ -96,6 +97,46 @@ class Sessions(unittest.TestCase):
         pieces = [b"ab", b"c", b""]
         self.assertEqual(taken(lambda most: pieces.pop(0), 4), b"abc")
         self.assertEqual(taken(Bytes(b"abcd").take, 3), b"abc")
+
+
+class JobsBetween(unittest.TestCase):
+    INDEXES = "index rt\n{\n}\nindex Other {\n}"
+
+    def script(self, *packets):
+        return Script(self.INDEXES, [Step(f"p:{number}", "p:1", "A", packet, "OK 0") for number, packet in enumerate(packets, 1)])
+
+    def test_where_jobs_stand(self):
+        whole = self.script("INSERT INTO rt (id) VALUES (1)", "SELECT id FROM rt", "SHOW META;", "SELECT 1; COMMIT", "COM_PING", "COM_QUIT")
+        own, *others = states(whole)
+        self.assertEqual(own, whole)
+        for script, job in zip(others, (FLUSH, OPTIMIZE), strict=True):
+            both = f"{job} rt; {job} Other"
+            sent = [both, whole.steps[0].packet, both, *(step.packet for step in whole.steps[1:4]), both, "COM_PING", "COM_QUIT"]
+            self.assertEqual([step.packet for step in script.steps], sent)
+            self.assertEqual({step.case for step in script.steps}, {"p:1"})
+            self.assertEqual([step.wanted for step in script.steps if step.packet == both], ["OK 0; OK 0"] * 3)
+        for packet in ("FLUSH RTINDEX rt", "BEGIN; optimize index rt"):
+            self.assertEqual(states(self.script(packet)), [self.script(packet)])
+
+    def test_chunks_are_never_full(self):
+        flushed = states(self.script(*["COMMIT"] * 40))[1]
+        self.assertEqual([step.packet.count(FLUSH) for step in flushed.steps[:-2:2]].index(0), MOST_CHUNKS - 1)
+
+    def test_what_is_shown_of_chunks(self):
+        shown = "Variable_name, Value | index_type, rt | indexed_documents, {} | disk_chunks, {}"
+        for job, documents, count, is_right in (
+            (FLUSH, 3, 0, False), (FLUSH, 3, 1, True), (FLUSH, 3, 7, True), (FLUSH, 0, 0, True), (FLUSH, 0, 2, True), (FLUSH, 3, 17, False),
+            (OPTIMIZE, 3, 0, False), (OPTIMIZE, 3, 1, True), (OPTIMIZE, 3, 2, False), (OPTIMIZE, 0, 0, True), (OPTIMIZE, 0, 1, False),
+        ):
+            asked = Step("p:1", "p:1", "A", "SHOW INDEX rt STATUS", "", after=job)
+            said = as_in_memory(asked, shown.format(documents, count))
+            self.assertEqual(said == shown.format(documents, 0), is_right, (job, documents, count))
+
+    def test_the_status_of_a_job(self):
+        own, asked = (Step("p:1", "p:1", "A", packet, "", after=FLUSH) for packet in (f"{FLUSH} rt; {FLUSH} b", "COM_PING"))
+        self.assertEqual(as_in_memory(own, "11: OK 0; 3: OK 0"), "OK 0; OK 0")
+        self.assertEqual(as_in_memory(own, "11: OK 0; ERR 1064 42000 no"), "OK 0; ERR 1064 42000 no")
+        self.assertEqual(as_in_memory(asked, "3: OK 0"), "3: OK 0")
 
 
 class Words(unittest.TestCase):

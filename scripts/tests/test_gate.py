@@ -178,12 +178,14 @@ class Promises(InAFolder):
             crates__low__specs__Kinds_antt="pub data Kind : Type 0 where\n  Small : Kind\n  Large : Kind\n",
             crates__low__specs__Signs_antt="◌≪◌ : ℕ → ℕ → Type 0\na ≪ b = ⊤\n",
             crates__high__specs__Lib_antt="pub use Rattle.low.specs.Words\n",
+            crates__high__specs__More_antt="pub use Rattle.low.specs.Words.{IsLetter as IsSign}\n",
         )
         head = "pub struct Held {\n    pub ghost size: ℕ,\n}\n\n"
         for uses, clause, wanted in (
             ("low.specs.Kinds.{Small}", "ensures { result ≡ Small }", "low.specs.Kinds.Kind"),
             ("low.specs.Signs.{◌≪◌}", "ensures { 0 ≪ result }", "low.specs.Signs.◌≪◌"),
             ("high.specs.Words.{IsLetter as letter}", "ensures { letter result }", "low.specs.Words.IsLetter"),
+            ("high.specs.More.{IsSign}", "ensures { IsSign result }", "low.specs.Words.IsLetter"),
             ("low.specs.Words.{IsLetter}", "ensures IsLetter { 0 ≤ result }", None),
         ):
             self.write(crates__high__src__own_rt=f"ghost use Rattle.{uses};\n\npub fn shown() -> u8\n    {clause}\n{{\n    IsLetter\n}}\n")
@@ -193,6 +195,13 @@ class Promises(InAFolder):
         self.write(crates__high__src__own_rt="ghost use Rattle.low.specs.Shown.{Shown};\n" + head.replace("ℕ", "Shown"))
         found = promises.House()
         self.assertEqual(list(map(str, found.reach(found.clauses))), ["low.specs.Shown.Shown"])
+
+    def test_laws_are_counted_one_by_one(self):
+        """Also where the root of a crate has one itself."""
+        law = "pub fn {}()\n    ensures {{ 0 ≡ 0 }}\n{{}}\n\n"
+        self.write(crates__high__src__lib_rt="mod own;\npub use own::{first, second};\n\n" + law.format("third"))
+        self.write(crates__high__src__own_rt=law.format("first") + law.format("second"))
+        self.assertEqual(promises.House().counts({})["high"], (3, 3, 0))
 
     def test_pins(self):
         self.assertEqual(self.promised("--pin"), ([], 0))

@@ -7,6 +7,7 @@ import re
 import shutil
 import tempfile
 import unittest
+from argparse import Namespace
 from pathlib import Path
 from unittest import mock
 
@@ -19,9 +20,10 @@ from scripts.cases.log_records import Found, Words
 from scripts.cases.program_lines import Bytes, page
 from scripts.cases.runs import PRINTED, finish
 from scripts.cases.texts import all_parts
-from scripts.clients.mysql_client import Rows
+from scripts.clients.mysql_client import Refused, Rows
 from scripts.gate import random_queries, selftest_run
-from scripts.gate.kill_rounds import Territory, WORDS, Wrong, documents_in
+from scripts.gate.kill_rounds import documents_in
+from scripts.gate.kill_writers import JOB, REFUSED, WORDS, Territory, Worker, Writer, Wrong
 from scripts.gate.last_line import counts
 from scripts.tests.test_clients import GREETING, WELCOME
 from scripts.tests.test_packets import ERR, OK, stream
@@ -199,6 +201,43 @@ class KillRounds(unittest.TestCase):
         ):
             with self.assertRaises(Wrong):
                 self.settled(known, pending, found)
+
+    def test_what_jobs_may_be_refused_for(self):
+        class Answers:
+            """A client whose statements are refused for these texts, in turn; an empty one is OK."""
+
+            def __init__(self, *texts):
+                self.texts = list(texts)
+
+            def send(self, text):
+                pass
+
+            def reply(self):
+                text = self.texts.pop(0)
+                if text:
+                    raise Refused(1064, "42000", text)
+
+            def query(self, _):
+                self.reply()
+
+        usual = ("overtaken by shape 3", "chunks full at 16 needs 1")
+        unusual = ("log full at 33554292 needs 656", "disk fault: nothing was changed", "not offered yet", "out of memory")
+        options = Namespace(sphinx=False, jobs=1)
+        for text in ("", *usual, *unusual):
+            worker = Worker(random.Random(1), Answers(text), ["i"])
+            worker.ask("FLUSH RAMCHUNK", "i")
+            self.assertEqual((worker.wrong is None, worker.done, worker.refused), (text not in unusual, not text, text in usual), text)
+            writer = Writer(random.Random(1), Answers(text, ""), [Territory("i", 1, 1)], options)
+            if text in unusual:
+                with self.assertRaises(Wrong):
+                    writer.tell("FLUSH RAMCHUNK i", [JOB])
+                continue
+            writer.tell("FLUSH RAMCHUNK i", [JOB])
+            self.assertEqual((writer.pending, writer.jobs, writer.commits, writer.refusals), ([], not text, 0, 0))
+            writer.tell("COMMIT", [{1: self.ONE}])
+            self.assertEqual((writer.place.documents, writer.commits), ({1: self.ONE}, 1))
+        with self.assertRaises(Wrong):
+            Writer(random.Random(1), Answers(""), [Territory("i", 1, 1)], options).tell("INSERT", [REFUSED])
 
     def test_documents_of_an_index(self):
         class Index:
