@@ -14,8 +14,8 @@ use Rattle.srch_base.specs.declared.faults.OpenFault.{OpenFault}
 use Rattle.srch_base.specs.declared.faults.OpenFault.TheVariants as opening
 use Rattle.srch_base.specs.Told.{then_bytes}
 use Rattle.store_keep.specs.Opens.{HasStoreCause, IsFoundIn, IsOpened, SaysDamage}
-use Rattle.store_keep.specs.declared.fault.StoreFault.{StoreFault}
-use Rattle.store_keep.specs.declared.fault.StoreFault.TheVariants as faults
+use Rattle.store_keep.specs.StoreFault.{StoreFault}
+use Rattle.store_keep.specs.StoreFault.TheVariants as faults
 use Rattle.store_keep.specs.declared.opening.Opened.{Opened}
 use Rattle.program_host.specs.Lending.{CountsOpening, Lent, back_of, given_of}
 use Rattle.program_host.specs.Requests.{Requested}

@@ -6,8 +6,8 @@ use Rattle.chunk_store.specs.declared.disk.Disk.{Ghosts as DiskWords}
 use Rattle.doc_types.specs.Snapshots.{live}
 use Rattle.index_conf.specs.declared.conf.IndexConf.{IndexConf}
 use Rattle.step_history.specs.Places.{disk_chunks}
-use Rattle.store_keep.specs.declared.fault.StoreFault.{StoreFault}
-use Rattle.store_keep.specs.declared.fault.StoreFault.TheVariants as faults
+use Rattle.store_keep.specs.StoreFault.{StoreFault}
+use Rattle.store_keep.specs.StoreFault.TheVariants as faults
 use Rattle.store_keep.specs.declared.opening.Opened.{Opened}
 use Rattle.program_host.specs.Lending.{Lent, back_of, given_of}
 use Rattle.program_host.specs.Requests.{Requested}
