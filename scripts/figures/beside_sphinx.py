@@ -8,7 +8,7 @@ documents were found, and where the two found different numbers, in how many of 
 client over loopback sees it, and that of the daemon's processors, which is the one to look at where the machine has other
 work. Each is the mean of a class's texts in the best of three rounds, and beside it stands how many times as long Sphinx
 took. Behind the table stand the geometric means and the classes in which Sphinx was faster. Weights are those of the
-ranker `proximity` on both sides, where a class names no other. With --chunks both write their documents into so many chunks on the disk: of several each
+ranker `proximity` on both sides. With --chunks both write their documents into so many chunks on the disk: of several each
 has the same number of documents, which are flushed together; of one, where they don't go into one log, all that were flushed
 are optimised. Each number of chunks is measured by itself, 0 is documents in memory. Debian's package is sphinxsearch. PROGRAM
 may be Sphinx as well, which shows what the machine's noise is.
@@ -32,14 +32,11 @@ from scripts.figures import hundred_words as documents
 # the ranks of the words that stand in a text as c1, c2 .. of the most common, f1 .. frequent, m1 .. some, r1 .. rare
 RANKS = {"c": (6, 13), "f": (15, 60), "m": (500, 1500), "r": (15000, 40000)}
 RANKED = " OPTION ranker=proximity"
-WEIGHED = " OPTION ranker=expr('sum(lcs*user_weight)*1000+gid')"
 CLASSES = [
     ("a rare word", "SELECT id, WEIGHT() FROM rt WHERE MATCH('{r1}')" + RANKED),
     ("a word that some have", "SELECT id, WEIGHT() FROM rt WHERE MATCH('{m1}')" + RANKED),
     ("a common word", "SELECT id, WEIGHT() FROM rt WHERE MATCH('{c1}')" + RANKED),
     ("the same, not ranked", "SELECT id FROM rt WHERE MATCH('{c1}') OPTION ranker=none"),
-    ("the same by matchany", "SELECT id, WEIGHT() FROM rt WHERE MATCH('{c1}') OPTION ranker=matchany"),
-    ("the same by an expression", "SELECT id, WEIGHT() FROM rt WHERE MATCH('{c1}')" + WEIGHED),
     ("a common word in one field", "SELECT id, WEIGHT() FROM rt WHERE MATCH('@content {c1}')" + RANKED),
     ("two words", "SELECT id, WEIGHT() FROM rt WHERE MATCH('{f1} {f2}')" + RANKED),
     ("three words", "SELECT id, WEIGHT() FROM rt WHERE MATCH('{f1} {f2} {f3}')" + RANKED),

@@ -1,7 +1,6 @@
 //! What is asked of an index.
-use crate::ranking::Ranking;
 use query_tree::Query;
-use rankers::Weights;
+use rankers::{Ranker, Weights};
 use row_select::{Filter, Order, Page};
 use srch_base::Items;
 
@@ -10,7 +9,7 @@ use srch_base::Items;
 pub struct Question {
     /// As the index means it: `op_eval::for_schema` makes it so. One without a root matches every document, with the weight 1.
     pub query: Query,
-    pub ranker: Ranking,
+    pub ranker: Ranker,
     /// One for each field of the index.
     pub weights: Weights,
     /// The conditions on columns: a document is found that passes all of them.

@@ -141,6 +141,4 @@ pub enum OptionValue {
     Text(Text),
     /// `(name = n, ..)`
     List(Items<(Name, u64)>),
-    /// `name(text)`
-    Call { name: Name, text: Text },
 }
