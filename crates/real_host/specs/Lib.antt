@@ -1,2 +1,0 @@
--- the standard streams
-pub mod Streams
