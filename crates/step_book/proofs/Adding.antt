@@ -1,20 +1,21 @@
--- The exchange that adds an entry keeps the rule.
+-- The exchange that adds a step keeps the rule.
 use Rattle.std.proofs.Common.{◌≡◌, ℕ, ◌+◌, ◌<◌, ◌==◌, Bool, true, false, List, [], ◌∷◌, ◌++◌, length, refl, ap, sym, subst, arith, inl, length-append, None}
 use Rattle.std.proofs.lemmas.List.{append-nil}
 use Rattle.std.proofs.lemmas.Bool.Decides.{nat_tests}
 use mathlib.Core.List.{IsPrefix}
 use prog.Atomic.{either}
 use Rattle.logbook.specs.Pages.{Cell, cell, keeps, no_nib, step, Moves, Goes}
+use Rattle.step_history.specs.History.{Step}
 use Rattle.step_book.specs.Rules.{IsKept, Adds}
 use Rattle.step_book.proofs.Prefixes.{prefix_whole}
 
-abbrev pub shown : {E : Type 0} → List E → List E
+abbrev pub shown : List Step → List Step
 shown log = []
 
-abbrev pub moved : {E : Type 0} → List E → List E → ℕ → Type 0
+abbrev pub moved : List Step → List Step → ℕ → Type 0
 moved xs ys n = Unit {0}
 
-pub adds_goes : {E : Type 0} (log v : List E) (e : E) (old : ℕ) → length v ≡ old → IsPrefix v log
+pub adds_goes : (log v : List Step) (e : Step) (old : ℕ) → length v ≡ old → IsPrefix v log
     → (b : Bool) → (length log == old) ≡ b
     → Goes IsKept shown moved 0 (v, (no_nib, None)) (λ n. either (n == old) (old + 1) n) (Adds (step 0 old (old + 1) e) (v, (no_nib, None))) ((length log, true) ∷ (0, true) ∷ []) log
 adds_goes log v e old len pre true is =
@@ -40,8 +41,8 @@ adds_goes log v e old len pre false is =
       rw is tt,
     )
 
--- whatever the line is, the exchange adds the entry to all that was seen, or finds that the line is longer
-pub adds_moves : {E : Type 0} (v : List E) (e : E) (old : ℕ) → length v ≡ old
+-- whatever the line is, the exchange adds the step to all that was seen, or finds that the line is longer
+pub adds_moves : (v : List Step) (e : Step) (old : ℕ) → length v ≡ old
     → Moves IsKept shown moved 0 (v, (no_nib, None)) (λ n. either (n == old) (old + 1) n) (Adds (step 0 old (old + 1) e) (v, (no_nib, None)))
 adds_moves v e old len cs log kept pre away =
     let P : List Cell → Type 0 = λ c. (0 < length c) × ((cell c 0).1 ≡ true) × Goes IsKept shown moved 0 (v, (no_nib, None)) (λ n. either (n == old) (old + 1) n) (Adds (step 0 old (old + 1) e) (v, (no_nib, None))) c log in

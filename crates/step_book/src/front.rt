@@ -16,7 +16,7 @@ use std::marker::{Model, PhantomData};
 #[derive(Drop)]
 pub struct Front<J: Naming> {
     index: u16,
-    past: Past<Mark>,
+    past: Past,
     of: PhantomData<J>,
 }
 
@@ -34,7 +34,7 @@ impl<J: Naming> Model for Front<J> {
 
 impl<J: Naming> Front<J> {
     /// A past of the index, under its name.
-    pub fn named(index: u16, past: Past<Mark>) -> Front<J>
+    pub fn named(index: u16, past: Past) -> Front<J>
         requires book { past.seen.book ≡ J.book index }
         requires good { IsGood (J.schema index) (J.base index) past.seen.log }
         ensures { result ≡ record { index = index; steps = past.seen.log } }
@@ -73,7 +73,7 @@ impl<J: Naming> Front<J> {
     }
 
     /// The same without its name.
-    pub fn past(&self) -> Past<Mark>
+    pub fn past(&self) -> Past
         ensures book { result.seen.book ≡ J.book self.now.index }
         ensures steps { result.seen.log ≡ self.now.steps }
         ensures good { IsGood (J.schema self.now.index) (J.base self.now.index) self.now.steps }

@@ -1,12 +1,10 @@
 //! Tokens. A worker has one for each index: with it it reads, and what it has read or was told of is remembered, so that no later
 //! read gives less. A read is one entry step of `left_right`: it takes neither a lock nor a handle, and waits for nobody.
-ghost use Rattle.std.specs.Prelude.{◌≡◌, ◌⊎◌, ◌+◌, ◌<◌, ◌^◌, [], length, IfOk, IfSome, IfNone, MatchBool};
+ghost use Rattle.std.specs.Prelude.{◌≡◌, ◌⊎◌, ◌+◌, ◌<◌, ◌^◌, [], length, IfOk, IfSome, IfNone};
 ghost use mathlib.Core.List.{IsPrefix};
 ghost use Rattle.std.specs.Arc.{arc_value};
 ghost use Rattle.step_history.specs.History.{IsGood, last_snapshot};
-ghost use Rattle.step_book.specs.Shares.{count_by};
 ghost use Rattle.step_tokens.specs.Shows.{IsShown};
-ghost use Rattle.step_tokens.specs.Tokens.{IsSameBut, faults_of, stops_of};
 
 use crate::note::Note;
 use crate::rule::{Finds, Idle, Rises};
@@ -18,7 +16,7 @@ use srch_base::NoMemory;
 use std::alloc::Global;
 use std::marker::Model;
 use std::sync::Arc;
-use step_book::{Faults, Front, Kind, Naming, Share, Stops};
+use step_book::{Front, Naming};
 
 /// A reading end of an index.
 pub type ReadingEnd<J> = Reader<Shown, Idle, Rises<J>>;
@@ -31,27 +29,14 @@ pub struct Token<J: Naming> {
     worker: u32,
     front: Front<J>,
     made: u64,
-    faults: Taken<J, Faults>,
-    stops: Taken<J, Stops>,
-}
-
-/// A beginning that was taken of a line of calls, and how many entries of it are the token's worker's.
-#[derive(Drop)]
-struct Taken<J: Naming, K: Kind> {
-    share: Share<J, K>,
-    own: u64,
 }
 
 impl<J: Naming> Model for Token<J> {
-    ghost use Rattle.std.specs.Prelude.{◌≡◌};
-    ghost use Rattle.step_book.specs.Shares.{count_by};
     ghost use Rattle.step_tokens.specs.Tokens.{TokenValue};
 
     ghost Value = { TokenValue };
 
-    ghost view = { λ t. record { index = t.front.index; worker = t.worker; seen = t.front.steps; made = t.made; faults = t.faults.share.calls; stops = t.stops.share.calls } };
-
-    ghost invariant = { λ t. (t.faults.share.index ≡ t.front.index) × (t.stops.share.index ≡ t.front.index) × (t.faults.own ≡ count_by t.worker t.faults.share.calls) × (t.stops.own ≡ count_by t.worker t.stops.share.calls) };
+    ghost view = { λ t. record { index = t.front.index; worker = t.worker; seen = t.front.steps; made = t.made } };
 }
 
 /// One entry step: what is published then. The end comes back.
@@ -68,73 +53,16 @@ fn look<J: Naming>(end: ReadingEnd<J>) -> (ReadingEnd<J>, Option<Shown>)
 }
 
 impl<J: Naming> Token<J> {
-    /// A worker's token, which has seen this front, made no commit and met no fault.
-    pub fn new(
-        end: ReadingEnd<J>,
-        worker: u32,
-        front: Front<J>,
-        faults: Share<J, Faults>,
-        stops: Share<J, Stops>,
-    ) -> Token<J>
-        requires faults { faults ≡ record { index = front.index; calls = [] } }
-        requires stops { stops ≡ record { index = front.index; calls = [] } }
-        ensures { result ≡ record { index = front.index; worker = worker; seen = front.steps; made = 0; faults = []; stops = [] } }
+    /// A worker's token, which has seen this front and made no commit.
+    pub fn new(end: ReadingEnd<J>, worker: u32, front: Front<J>) -> Token<J>
+        ensures { result ≡ record { index = front.index; worker = worker; seen = front.steps; made = 0 } }
     {
         Token {
             end: Some(end),
             worker,
             front,
             made: 0,
-            faults: Taken {
-                share: faults,
-                own: 0,
-            },
-            stops: Taken {
-                share: stops,
-                own: 0,
-            },
         }
-    }
-
-    /// How many calls with it answered that the disk failed.
-    pub fn faults(&self) -> u64
-        ensures { result ≡ faults_of self.now }
-    {
-        self.faults.own
-    }
-
-    /// How many calls with it answered a contradiction, or that numbers have ended.
-    pub fn stops(&self) -> u64
-        ensures { result ≡ stops_of self.now }
-    {
-        self.stops.own
-    }
-
-    /// Takes the line of faults as it is now, in which so many are its worker's, and says whether it did. It did not where that has
-    /// fewer calls than the token took before, which can't be of one that is kept under the index's lock.
-    pub fn take_faults(&mut self, share: &Share<J, Faults>, own: u64) -> bool
-        requires index { share.now.index ≡ self.old.index }
-        requires own { own ≡ count_by self.old.worker share.now.calls }
-        ensures { MatchBool result (self.new ≡ record self.old { faults = share.now.calls }) (self.new ≡ self.old) }
-    {
-        if !self.faults.share.follow(share) {
-            return false;
-        }
-        self.faults.own = own;
-        true
-    }
-
-    /// The same of the line of stops.
-    pub fn take_stops(&mut self, share: &Share<J, Stops>, own: u64) -> bool
-        requires index { share.now.index ≡ self.old.index }
-        requires own { own ≡ count_by self.old.worker share.now.calls }
-        ensures { MatchBool result (self.new ≡ record self.old { stops = share.now.calls }) (self.new ≡ self.old) }
-    {
-        if !self.stops.share.follow(share) {
-            return false;
-        }
-        self.stops.own = own;
-        true
     }
 
     /// Of which index it is.
@@ -176,7 +104,7 @@ impl<J: Naming> Token<J> {
 
     /// One entry step. Where nothing is found, or less than was seen, nothing is taken on.
     fn enter(&mut self) -> Option<Shown>
-        ensures same { IsSameBut self.old self.new }
+        ensures same { (self.new.index ≡ self.old.index) × (self.new.worker ≡ self.old.worker) × (self.new.made ≡ self.old.made) }
         ensures some { IfSome result (λ shown. IsShown J.book J.schema J.base shown × (shown.index ≡ self.old.index) × (self.new.seen ≡ shown.steps) × IsPrefix self.old.seen shown.steps) }
         ensures none { IfNone result (self.new.seen ≡ self.old.seen) }
         ensures good { IsGood (J.schema self.new.index) (J.base self.new.index) self.new.seen }
@@ -205,7 +133,7 @@ pub fn snapshot<J: Naming>(
     ensures found { IfOk result (λ snapshot. arc_value snapshot ≡ last_snapshot (J.base token.old.index) token.new.seen) }
     ensures seen { IsPrefix token.old.seen token.new.seen }
     ensures good { IsGood (J.schema token.old.index) (J.base token.old.index) token.new.seen }
-    ensures same { IsSameBut token.old token.new }
+    ensures same { (token.new.index ≡ token.old.index) × (token.new.worker ≡ token.old.worker) × (token.new.made ≡ token.old.made) }
 {
     let shown = token.enter().ok_or(NoMemory)?;
     let snapshot = shown.snapshot()?;
@@ -218,7 +146,7 @@ pub fn learn<J: Naming>(token: &mut Token<J>, note: &Note<J>)
     ensures one { (token.new.seen ≡ token.old.seen) ⊎ (token.new.seen ≡ note.now.steps) }
     ensures seen { IsPrefix token.old.seen token.new.seen }
     ensures told { IsPrefix note.now.steps token.new.seen }
-    ensures same { IsSameBut token.old token.new }
+    ensures same { (token.new.index ≡ token.old.index) × (token.new.worker ≡ token.old.worker) × (token.new.made ≡ token.old.made) }
 {
     let _ = token.front.follow(&note.front);
 }
