@@ -19,8 +19,8 @@ wrong, ends, and leaves the folder. What the system loses with its power isn't t
 Each writer has ids of its own in the index that all share, and an index for itself (`kill_writers`). A document is known by
 its attributes and by 24 words, of which it has some: so as many SELECTs give back the words of all documents. Where an index
 is full for its log the rounds go on over an empty folder. With --sphinx the daemon is Sphinx 2.2, which takes no packet of
-several INSERTs, has other rules inside a transaction, and loses documents that are inserted beside a job: none of these is
-tried on it.
+several INSERTs, has other rules inside a transaction, and was seen to keep fewer documents than it had acknowledged beside a
+job: none of these is tried on it.
 """
 
 import argparse
