@@ -30,7 +30,7 @@ module _ (question : Question) (all : TakesAll question) where
   pub passes : (doc : DocRow) → hold_unweighed question.filters (unweighed doc) ≡ true
   passes doc = ap (λ filters. hold_unweighed filters (unweighed doc)) all.none
 
-  pub weighs : (docs : List DocRow) (doc : DocRow) → IsAskedOfDocs question docs → IsWeighed question doc (Some 1)
+  pub weighs : (docs : List DocRow) (doc : DocRow) → IsAskedOfDocs question docs → IsWeighed question doc (Some (Some 1))
   weighs docs doc asked =
       let none : question.query.keywords ≡ 0 = asked.asked.numbered.count ∙ ap (λ keys. length keys) (no_keys question.query.root question.query.keywords all.root) in
       weighs_one question question.query doc (one_without_keywords question none) refl (fits doc)

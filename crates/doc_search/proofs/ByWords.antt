@@ -22,6 +22,10 @@ use Rattle.op_eval.proofs.KeywordHits.{hits_keyed}
 use Rattle.op_eval.proofs.Standing.{filter_always, places_absent}
 use Rattle.rankers.specs.Limits.{AreOfPositions}
 use Rattle.rankers.specs.Weight.{AreRanked, weight}
+use Rattle.rankers.specs.declared.ranker.Ranker.{Ranker}
+use Rattle.doc_search.specs.Rankings.{weigh}
+use Rattle.doc_search.specs.declared.ranking.Ranking.{Ranking}
+use Rattle.doc_search.specs.declared.ranking.Ranking.TheVariants as rankings
 use Rattle.row_select.specs.Columns.{row_of}
 use Rattle.row_select.specs.Filters.{hold_unweighed, hold_weighed, holds, is_weighed}
 use Rattle.row_select.specs.Sinks.{IsLighter}
@@ -100,18 +104,19 @@ none_weighed (condition ∷ conditions) row none =
 
 pub weighs_up_to : (question : Question) (docs : List DocRow) (number : ℕ) (doc : DocRow) (words most : ℕ) → IsAskedOfDocs question docs → slice_get docs number ≡ Some doc → question.query.keywords ≢ 0 → list_any is_weighed question.filters ≡ false
     → matches question.query doc ≡ true → words ≡ present_in doc (query_keys question.query)
-    → ((hits : Hits) (positions : List ℕ) → hits.keywords ≢ 0 → AreRanked hits question.weights.list → length positions ≤ words → AreOfPositions positions hits.list → weight question.ranker hits question.weights.list ≤ most)
+    → (ranker : Ranker) → question.ranker ≡ rankings.Plain ranker
+    → ((hits : Hits) (positions : List ℕ) → hits.keywords ≢ 0 → AreRanked hits question.weights.list → length positions ≤ words → AreOfPositions positions hits.list → weight ranker hits question.weights.list ≤ most)
     → WeighsUpTo question doc most
-weighs_up_to question docs number doc words most asked here some any fits count limits = record {
+weighs_up_to question docs number doc words most asked here some any fits count ranker plain limits = record {
   fits = fits;
   any = any;
-  least = λ weighed of.
-      let hits : Hits = record { keywords = question.query.keywords; list = of.hits } in
+  least = λ list are.
+      let hits : Hits = record { keywords = question.query.keywords; list = list } in
       let keys = query_keys question.query in
       let limit =
-      limits hits (positions_in doc keys) some (are_ranked asked.schema question doc hits asked.asked (doc_of asked.schema docs number doc asked.rows here) refl of.are)
-      (omega (arith, so_many doc keys, count)) (all_listed doc question.query of.hits of.are) in
-      omega (arith, of.is, limit);
+      limits hits (positions_in doc keys) some (are_ranked asked.schema question doc hits asked.asked (doc_of asked.schema docs number doc asked.rows here) refl are)
+      (omega (arith, so_many doc keys, count)) (all_listed doc question.query list are) in
+      (weight ranker hits question.weights.list, ap (λ (its : Ranking). weigh its hits question.weights.list doc.doc.values) plain, limit);
 }
 
 -- ---- a document that was offered by the most that it can weigh
@@ -120,11 +125,12 @@ module _ {S : Type 0} (Took : S → List Row → S → Type 0) (question : Quest
   pub gathers_up_to : (most : ℕ) (row : Row) (old new : S) → row ≡ row_of most doc → hold_unweighed question.filters (unweighed doc) ≡ true → WeighsUpTo question doc most → ((rows : List Row) (its : Row) → IsLighter its row → Took first rows old → Took first (rows ++ its ∷ []) new)
       → Gathers Took question first before old → Gathers Took question first (before ++ filter (matches question.query) (doc ∷ [])) new
   gathers_up_to most row old new is passing up_to passes so =
-      let weighed : ℕ = weight question.ranker (record { keywords = question.query.keywords; list = hits_of question.query doc }) question.weights.list in
-      let of : IsWeightOf question doc weighed = record { hits = hits_of question.query doc; are = are_its_hits question.query doc; is = refl } in
+      let told = up_to.least (hits_of question.query doc) (are_its_hits question.query doc) in
+      let weighed : ℕ = told.0 in
+      let of : IsWeightOf question doc (Some weighed) = record { hits = hits_of question.query doc; are = are_its_hits question.query doc; is = sym told.1 } in
       let its : Row = record (unweighed doc) { weight = weighed } in
       let lighter : IsLighter its row =
-      subst (IsLighter its) (sym is) (record { id = refl; values = refl; weight = up_to.least weighed of }) in
+      subst (IsLighter its) (sym is) (record { id = refl; values = refl; weight = told.2 }) in
       let gathered =
       gathers_more Took question first before doc its old new so (weighing.row_of question doc its (record { id = refl; values = refl }) of)
       (passes_as Took question first (unweighed doc) its refl refl passing ∙ none_weighed question.filters its up_to.any)

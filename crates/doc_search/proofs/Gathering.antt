@@ -1,6 +1,6 @@
 -- What a search gathers, document by document and layer by layer.
-use Rattle.std.proofs.Common.{◌≡◌, ℕ, ◌+◌, ◌-◌, ◌<◌, ◌≤◌, zero, suc, List, [], ◌∷◌, ◌++◌, Bool, true, false, cond, Some, slice_get, length, take, get_or, refl, sym, ap, subst, ◌∙◌, append_assoc, append-nil, arith}
-use Rattle.std.specs.Prelude.{◌&&◌, ◌==◌}
+use Rattle.std.proofs.Common.{◌≡◌, ℕ, ◌+◌, ◌-◌, ◌<◌, ◌≤◌, zero, suc, List, [], ◌∷◌, ◌++◌, Bool, true, false, cond, Option, Some, slice_get, length, take, get_or, refl, sym, ap, subst, ◌∙◌, append_assoc, append-nil, arith}
+use Rattle.std.specs.Prelude.{◌&&◌, ◌==◌, unwrap_or}
 use Rattle.std.specs.List.{AllZip, filter, list_any}
 use Rattle.std.proofs.lemmas.Bool.{and_left}
 use Rattle.std.proofs.lemmas.List.{take_more, take_all}
@@ -13,17 +13,15 @@ use Rattle.op_eval.specs.Streams.{GoesTo, Stream, ahead}
 use Rattle.op_eval.proofs.NextMatches.{ahead_here, dead_row}
 use Rattle.word_rows.proofs.Opening.{row_there}
 use Rattle.word_rows.proofs.Zipped.{zip_push}
-use Rattle.rankers.specs.Weight.{weight}
 use Rattle.row_select.specs.Filters.{hold_unweighed, hold_weighed}
 use Rattle.row_select.proofs.InTwoParts.{hold_any_weight, hold_in_two}
 use Rattle.row_select.specs.declared.row.Row.{Row}
-use Rattle.doc_search.specs.Searches.{IsRowOf, passes}
+use Rattle.doc_search.specs.Searches.{IsRowOf, passes, weight_of}
 use Rattle.doc_search.specs.declared.question.Question.{Question}
-use Rattle.doc_search.specs.steps.Gathering.{Gathers, IsAmid, IsOnWay, StandsAt, matching_in, unweighed}
+use Rattle.doc_search.specs.steps.Gathering.{Gathers, IsAmid, IsOnWay, IsWeightOf, StandsAt, matching_in, unweighed}
 use Rattle.doc_search.specs.steps.ListedRows.{GoBy, holds_of}
 use Rattle.doc_search.proofs.Numbered.{numbers_beside}
 use Rattle.doc_search.proofs.SomeHits.{are_its_hits, hits_of}
-use Rattle.doc_search.proofs.Weighing.{row_of}
 
 -- the number is one of the document
 abbrev IsNumberOf : List DocRow → ℕ → DocRow → Type 0
@@ -53,20 +51,30 @@ module _ {S : Type 0} (Took : S → List Row → S → Type 0) (question : Quest
     taken = subst (λ rows. Took first rows here) (sym (passing_more so.rows row false failing ∙ append-nil (filter (passes question) so.rows))) so.taken;
   }
 
+  -- a row that doesn't pass, with its weight or without one
+  pub row_failing : (doc : DocRow) (row : Row) → row.id ≡ doc.doc.id → row.values ≡ doc.doc.values → passes question row ≡ false → (weighed : Option ℕ) → IsWeightOf question doc weighed → row.weight ≡ unwrap_or weighed 0 → IsRowOf question doc row
+  row_failing doc row id values failing weighed of is = record {
+    hits = of.hits;
+    are = of.are;
+    id = id;
+    weight = is ∙ ap (λ (weight : Option ℕ). unwrap_or weight 0) of.is;
+    ranked = λ passing. let never : true ≡ false = sym passing ∙ failing in cc;
+    values = values;
+  }
+
   -- ---- a document by its conditions
   -- the document with the weight of its hits
   abbrev weighed_row : DocRow → Row
-  weighed_row doc = record (unweighed doc) { weight = weight question.ranker (record { keywords = question.query.keywords; list = hits_of question.query doc }) question.weights.list }
+  weighed_row doc = record (unweighed doc) { weight = unwrap_or (weight_of question doc (hits_of question.query doc)) 0 }
 
   -- it fails one of the conditions that look at no weight, whether it matches or not
   pub gathers_past : (docs : List DocRow) (doc : DocRow) (here : S) → hold_unweighed question.filters (unweighed doc) ≡ false → Gathers Took question first docs here → Gathers Took question first (docs ++ filter (matches question.query) (doc ∷ [])) here
   gathers_past docs doc here fails so =
       let row : Row = weighed_row doc in
-      let its : IsRowOf question doc row =
-      row_of question doc row (record { id = refl; values = refl }) (record { hits = hits_of question.query doc; are = are_its_hits question.query doc; is = refl }) in
       let failing : passes question row ≡ false =
       hold_in_two question.filters row
       ∙ and_left (hold_unweighed question.filters row) (hold_weighed question.filters row) (hold_any_weight row (unweighed doc) refl refl question.filters ∙ fails) in
+      let its : IsRowOf question doc row = row_failing doc row refl refl failing (weight_of question doc (hits_of question.query doc)) (record { hits = hits_of question.query doc; are = are_its_hits question.query doc; is = refl }) refl in
       elim (matches question.query doc) as (λ b. Gathers Took question first (docs ++ cond b (doc ∷ []) []) here) [
         | true ↦ gathers_same docs doc row here so its failing
         | false ↦ subst (λ gathered. Gathers Took question first gathered here) (sym (append-nil docs)) so

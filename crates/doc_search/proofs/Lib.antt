@@ -24,3 +24,7 @@ pub mod Passing
 pub mod ByWords
 -- questions that take all documents
 pub mod AllRows
+-- the first document without a weight
+pub mod WithoutWeight
+-- a document at which a search ends is one of those that it goes over
+pub mod Stopping

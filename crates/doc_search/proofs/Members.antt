@@ -11,7 +11,7 @@ use Rattle.doc_types.specs.declared.documents.DocRow.{DocRow}
 use Rattle.doc_types.specs.Rows.{rows_of}
 use Rattle.word_rows.proofs.Lists.{pairs_head, pairs_tail}
 
-in_tail : {X : Type 0} (y : X) (ys : List X) (x : X) → Contains ys x → Contains (y ∷ ys) x
+pub in_tail : {X : Type 0} (y : X) (ys : List X) (x : X) → Contains ys x → Contains (y ∷ ys) x
 in_tail y ys x (k, low, is) = (suc k, omega (arith, low), is)
 
 module _ {A B : Type 0} (R : A → B → Type 0) where

@@ -1,6 +1,6 @@
 -- What is found of documents are the same rows whatever the order in which they are listed, and what is shown is one list.
 use Rattle.std.proofs.Common.{◌≡◌, ◌≢◌, ◌↔◌, List, [], ◌∷◌, sym, ap, subst, ◌∙◌}
-use Rattle.std.specs.Prelude.{All, AllPairs, Contains}
+use Rattle.std.specs.Prelude.{All, AllPairs, Contains, unwrap_or}
 use Rattle.std.specs.List.{AllZip, filter}
 use Rattle.std.proofs.lemmas.List.Elements.{All-cons, All-head, All-nil, All-tail}
 use Rattle.std.proofs.lemmas.List.Kept.{AllPairs-cons, AllPairs-filter}
@@ -8,12 +8,11 @@ use Rattle.doc_types.specs.declared.documents.DocRow.{DocRow}
 use Rattle.doc_types.specs.Rows.{rows_of}
 use Rattle.op_eval.specs.Matching.{matches}
 use Rattle.word_rows.proofs.Lists.{pairs_head, pairs_nil, pairs_tail}
-use Rattle.rankers.specs.Weight.{weight}
 use Rattle.row_select.specs.Pages.{IsTop}
 use Rattle.row_select.specs.declared.order.Order.{Order}
 use Rattle.row_select.specs.declared.page.Page.{Page}
 use Rattle.row_select.specs.declared.row.Row.{Row}
-use Rattle.doc_search.specs.Searches.{AreFound, AreShown, IsRowOf, passes}
+use Rattle.doc_search.specs.Searches.{AreFound, AreShown, IsRowOf, passes, weight_of}
 use Rattle.doc_search.specs.declared.question.Question.{Question}
 use Rattle.doc_search.proofs.Members.{DocsApart, beside_first, beside_second, in_both, in_filter, to_filter}
 use Rattle.doc_search.proofs.OneHits.{one_hits}
@@ -29,7 +28,7 @@ module _ (question : Question) where
   one_row doc row other one two =
       let hits : one.hits ≡ two.hits = one_hits one.hits two.hits one.are.ascend two.are.ascend (λ test. one.are.all test ∙ sym (two.are.all test)) in
       let weights : row.weight ≡ other.weight =
-      one.weight ∙ ap (λ list. weight question.ranker (record { keywords = question.query.keywords; list = list }) question.weights.list) hits ∙ sym two.weight in
+      one.weight ∙ ap (λ list. unwrap_or (weight_of question doc list) 0) hits ∙ sym two.weight in
       alike row other (one.id ∙ sym two.id) weights (one.values ∙ sym two.values)
 
   -- rows of documents of which no two have one id

@@ -1,6 +1,6 @@
 -- What the weight of a document asks of its hits, and a row that holds it.
-use Rattle.std.proofs.Common.{◌≡◌, ◌≢◌, ◌<◌, ◌≤◌, ℕ, Bool, true, false, List, Some, None, refl, length, slice_get, sym, ap, subst, ◌∙◌, arith, ⊎_elim}
-use Rattle.std.specs.Prelude.{◌==◌, not, if◌then◌else◌}
+use Rattle.std.proofs.Common.{◌≡◌, ◌≢◌, ◌<◌, ◌≤◌, ℕ, Bool, true, false, List, Option, Some, None, refl, length, slice_get, sym, ap, subst, ◌∙◌, arith, ⊎_elim}
+use Rattle.std.specs.Prelude.{◌==◌, is_some, not, unwrap_or, if◌then◌else◌}
 use Rattle.std.proofs.lemmas.Bool.{eq-eqb, ne_eqb}
 use Rattle.std.proofs.lemmas.List.Elements.{All-weaker}
 use Rattle.std.proofs.lemmas.Option.{get_or_from_slice_get, slice_get_within, slice_get_cases}
@@ -23,11 +23,15 @@ use Rattle.rankers.specs.declared.ranker.Ranker.TheVariants as rankers
 use Rattle.rankers.specs.Fields as fields_of
 use Rattle.rankers.specs.Fields.{AreOfOne}
 use Rattle.rankers.specs.Weight.{AreRanked, IsRanked, weight}
+use Rattle.doc_types.specs.declared.schema.Value.{Value}
+use Rattle.doc_search.specs.Rankings.{weigh}
+use Rattle.doc_search.specs.declared.ranking.Ranking.{Ranking}
+use Rattle.doc_search.specs.declared.ranking.Ranking.TheVariants as rankings
 use Rattle.row_select.specs.declared.row.Row.{Row}
 use Rattle.doc_search.specs.Searches.{IsAskedOf, IsRowOf}
 use Rattle.doc_search.specs.declared.question.Question.{Question}
 use Rattle.doc_search.proofs.SomeHits.{all_ordered, are_its_hits, hits_of}
-use Rattle.doc_search.specs.steps.Gathering.{GivesOne, HasRead, IsAskedOfDocs, IsWeightOf, IsWeighed}
+use Rattle.doc_search.specs.steps.Gathering.{AreValuesFor, GivesOne, HasRead, IsAskedOfDocs, IsWeightOf, IsWeighed}
 
 -- a hit within the limits can be ranked
 is_ranked : (keywords fields : ℕ) (hit : Hit) → IsHitWithin keywords fields hit → IsRanked keywords fields hit
@@ -66,14 +70,14 @@ taken_ranked question old new before hits asked query within takes =
     (λ doc here. subst (λ its. AreHits its doc hits.list) query (takes.tells doc here).2)
 
 -- and weighs what its hits weigh
-pub taken_weighs : (question : Question) (old new : Stream) (before hits : Hits) (weighed : ℕ) (doc : DocRow) → old.query ≡ question.query → Takes old true before hits new → slice_get old.rows old.at ≡ Some doc → weighed ≡ weight question.ranker hits question.weights.list → IsWeighed question doc (Some weighed)
-taken_weighs question old new before hits weighed doc query takes here is =
+pub taken_weighs : (question : Question) (old new : Stream) (before hits : Hits) (weighed : Option ℕ) (values : List Value) (doc : DocRow) → old.query ≡ question.query → Takes old true before hits new → slice_get old.rows old.at ≡ Some doc → AreValuesFor question doc values → weighed ≡ weigh question.ranker hits question.weights.list values → IsWeighed question doc (Some weighed)
+taken_weighs question old new before hits weighed values doc query takes here are_its is =
     let told = takes.tells doc here in (
       ap (λ its. matches its doc) (sym query) ∙ told.0,
       record {
         hits = hits.list;
         are = subst (λ its. AreHits its doc hits.list) query told.2;
-        is = is ∙ ap (λ count. weight question.ranker (record { keywords = count; list = hits.list }) question.weights.list) (told.1 ∙ ap (λ (its : Query). its.keywords) query);
+        is = is ∙ are_its hits question.weights.list ∙ ap (λ count. weigh question.ranker (record { keywords = count; list = hits.list }) question.weights.list doc.doc.values) (told.1 ∙ ap (λ (its : Query). its.keywords) query);
       },
     )
 
@@ -82,36 +86,42 @@ whichever : (b : Bool) (n : ℕ) → (if b then n else n) ≡ n
 whichever true n = refl
 whichever false n = refl
 
-one_weight : (ranker : Ranker) (hits : Hits) (weights : List ℕ) → ranker ≡ rankers.None → weight ranker hits weights ≡ 1
-one_weight ranker hits weights is = ap (λ (its : Ranker). weight its hits weights) is ∙ whichever (hits.keywords == 0) 1
+one_weight : (ranking : Ranking) (hits : Hits) (weights : List ℕ) (values : List Value) → ranking ≡ rankings.Plain rankers.None → weigh ranking hits weights values ≡ Some 1
+one_weight ranking hits weights values is = ap (λ (its : Ranking). weigh its hits weights values) is ∙ ap Some (whichever (hits.keywords == 0) 1)
 
-pub one_by_ranker : (question : Question) → question.ranker ≡ rankers.None → GivesOne question
-one_by_ranker question is = λ hits. one_weight question.ranker (record { keywords = question.query.keywords; list = hits }) question.weights.list is
+pub one_by_ranker : (question : Question) → question.ranker ≡ rankings.Plain rankers.None → GivesOne question
+one_by_ranker question is = λ doc hits. one_weight question.ranker (record { keywords = question.query.keywords; list = hits }) question.weights.list doc.doc.values is
 
 -- and so is each document of a query without a keyword
-no_keywords : (ranker : Ranker) (keywords : ℕ) (hits : List Hit) (weights : List ℕ) → keywords ≡ 0 → weight ranker (record { keywords = keywords; list = hits }) weights ≡ 1
-no_keywords ranker keywords hits weights none = ap (λ (count : ℕ). weight ranker (record { keywords = count; list = hits }) weights) none
+of_none : (ranking : Ranking) (hits : List Hit) (weights : List ℕ) (values : List Value) → weigh ranking (record { keywords = 0; list = hits }) weights values ≡ Some 1
+of_none (rankings.Plain ranker) hits weights values = refl
+of_none (rankings.Expr expr) hits weights values = refl
+of_none (rankings.Lacking expr) hits weights values = refl
+
+no_keywords : (ranking : Ranking) (keywords : ℕ) (hits : List Hit) (weights : List ℕ) (values : List Value) → keywords ≡ 0 → weigh ranking (record { keywords = keywords; list = hits }) weights values ≡ Some 1
+no_keywords ranking keywords hits weights values none = ap (λ (count : ℕ). weigh ranking (record { keywords = count; list = hits }) weights values) none ∙ of_none ranking hits weights values
 
 pub one_without_keywords : (question : Question) → question.query.keywords ≡ 0 → GivesOne question
-one_without_keywords question none = λ hits. no_keywords question.ranker question.query.keywords hits question.weights.list none
+one_without_keywords question none = λ doc hits. no_keywords question.ranker question.query.keywords hits question.weights.list doc.doc.values none
 
-pub weighs_one : (question : Question) (query : Query) (doc : DocRow) → GivesOne question → query ≡ question.query → matches query doc ≡ true → IsWeighed question doc (Some 1)
+pub weighs_one : (question : Question) (query : Query) (doc : DocRow) → GivesOne question → query ≡ question.query → matches query doc ≡ true → IsWeighed question doc (Some (Some 1))
 weighs_one question query doc gives same fits = (
   ap (λ its. matches its doc) (sym same) ∙ fits,
   record {
     hits = hits_of question.query doc;
     are = are_its_hits question.query doc;
-    is = sym (gives (hits_of question.query doc));
+    is = sym (gives doc (hits_of question.query doc));
   },
 )
 
 -- the row of a document that was read, once it has the document's weight
-pub row_of : (question : Question) (doc : DocRow) (row : Row) → HasRead doc row → IsWeightOf question doc row.weight → IsRowOf question doc row
+pub row_of : (question : Question) (doc : DocRow) (row : Row) → HasRead doc row → IsWeightOf question doc (Some row.weight) → IsRowOf question doc row
 row_of question doc row read weighed = record {
   hits = weighed.hits;
   are = weighed.are;
   id = read.id;
-  weight = weighed.is;
+  weight = ap (λ (weight : Option ℕ). unwrap_or weight 0) weighed.is;
+  ranked = λ passing. ap (λ (weight : Option ℕ). is_some weight) (sym weighed.is);
   values = read.values;
 }
 
@@ -122,10 +132,10 @@ pub few_weights : (question : Question) (docs : List DocRow) → IsAskedOfDocs q
 few_weights question docs asked = omega (arith, asked.asked.weights, asked.asked.few_fields)
 
 -- a document that matches weighs what its fields tell
-pub fields_weigh : (question : Question) (docs : List DocRow) (query : Query) (number fields weighed : ℕ) (doc : DocRow) → IsAskedOfDocs question docs → query ≡ question.query → GoesByFields query → slice_get docs number ≡ Some doc → AreFieldsOf (query_finds query doc) fields → fields ≢ 0
-    → ((hits : Hits) (position word : ℕ) → hits.keywords ≢ 0 → AreRanked hits question.weights.list → AreOfOne position word hits.list → fields_of.AreFieldsOf fields hits.list → weighed ≡ weight question.ranker hits question.weights.list)
-    → IsWeighed question doc (Some weighed)
-fields_weigh question docs query number fields weighed doc asked same word here are some is =
+pub fields_weigh : (question : Question) (docs : List DocRow) (query : Query) (number fields weighed : ℕ) (ranker : Ranker) (doc : DocRow) → IsAskedOfDocs question docs → question.ranker ≡ rankings.Plain ranker → query ≡ question.query → GoesByFields query → slice_get docs number ≡ Some doc → AreFieldsOf (query_finds query doc) fields → fields ≢ 0
+    → ((hits : Hits) (position word : ℕ) → hits.keywords ≢ 0 → AreRanked hits question.weights.list → AreOfOne position word hits.list → fields_of.AreFieldsOf fields hits.list → weighed ≡ weight ranker hits question.weights.list)
+    → IsWeighed question doc (Some (Some weighed))
+fields_weigh question docs query number fields weighed ranker doc asked plain same word here are some is =
     let its : AreFieldsOf (query_finds question.query doc) fields = subst (λ (q : Query). AreFieldsOf (query_finds q doc) fields) same are in
     let alone = one_keyword question.query (subst GoesByFields same word) in
     let hits : Hits = record { keywords = question.query.keywords; list = hits_of question.query doc } in
@@ -135,11 +145,12 @@ fields_weigh question docs query number fields weighed doc asked same word here 
         hits = hits_of question.query doc;
         are = ordered;
         is =
-            is hits its.position its.word
+            ap Some (is hits its.position its.word
             (λ none. absurd (omega (arith, none, asked.asked.numbered.count, alone)))
             (are_ranked asked.schema question doc hits asked.asked (doc_of asked.schema docs number doc asked.rows here) refl ordered)
             (all_ordered (λ hit. (hit.query ≡ its.position) × (hit.word ≡ its.word)) (query_finds question.query doc).hits its.one)
-            (λ field. its.each field ∙ sym (ordered.all (λ hit. hit.field == field)));
+            (λ field. its.each field ∙ sym (ordered.all (λ hit. hit.field == field))))
+            ∙ ap (λ (its : Ranking). weigh its hits question.weights.list doc.doc.values) (sym plain);
       },
     )
 

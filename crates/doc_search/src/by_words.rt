@@ -50,8 +50,9 @@ fn most_by_words<C: Chunk>(asked: &ReadyQuestion<'_>, stream: &mut Matches<'_, C
     if question.query.keywords == 0 || asked.conditions.look_at_weight() {
         return None;
     }
+    let ranker = question.ranker.plain()?;
     let words = stream.sure_words()?;
-    most_weight(question.ranker, words, &question.weights)
+    most_weight(ranker, words, &question.weights)
 }
 
 /// The same for a document that weighs so much at most.

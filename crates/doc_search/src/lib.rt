@@ -3,13 +3,17 @@
 
 mod all_rows;
 mod by_words;
+mod lacking;
 mod laws;
 mod listed_rows;
 mod question;
+mod ranking;
 mod ready;
+mod room;
 mod scanning;
 mod searching;
 
-pub use laws::a_search_shows_one_list;
+pub use laws::{a_search_ends_in_one_way, a_search_shows_one_list};
 pub use question::Question;
+pub use ranking::Ranking;
 pub use searching::{search, search_into};

@@ -1,6 +1,7 @@
 //! What is asked of an index.
+use crate::ranking::Ranking;
 use query_tree::Query;
-use rankers::{Ranker, Weights};
+use rankers::Weights;
 use row_select::{Filter, Order, Page};
 use srch_base::Items;
 
@@ -9,7 +10,7 @@ use srch_base::Items;
 pub struct Question {
     /// As the index means it: `op_eval::for_schema` makes it so. One without a root matches every document, with the weight 1.
     pub query: Query,
-    pub ranker: Ranker,
+    pub ranker: Ranking,
     /// One for each field of the index.
     pub weights: Weights,
     /// The conditions on columns: a document is found that passes all of them.

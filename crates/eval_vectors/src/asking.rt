@@ -14,7 +14,7 @@ use crate::sets::index_of;
 use crate::telling::{Call, put_answer};
 use crate::watched::Watched;
 use conf_text::read_conf;
-use doc_search::{Question, search};
+use doc_search::{Question, Ranking, search};
 use doc_types::{Chunk, HitLists, Layer, Snapshot};
 use image_chunk::RamChunk;
 use index_conf::{Conf, IndexConf};
@@ -72,7 +72,7 @@ fn question_of(alloc: Global, text: &str, index: &IndexConf) -> Result<Question,
     let query = query_of(alloc, text, index)?;
     Ok(Question {
         query,
-        ranker: Ranker::Proximity,
+        ranker: Ranking::Plain(Ranker::Proximity),
         weights: Weights {
             list: Items::new(weights),
         },

@@ -1,6 +1,7 @@
 -- What the reader of a text answers: its value, where the text is in the grammar, and else its first fault.
 use Rattle.std.specs.Prelude.{◌≡◌, ◌⊎◌, ◌≤◌, ◌<◌, ℕ, Bool, true, false, List, [], Result, Ok, Err, if◌then◌else◌, length, take, drop}
 use Rattle.std.specs.List.{prefix_len}
+use Rattle.std.specs.Str.{str_to_ascii_lowercase}
 use Rattle.srch_base.specs.declared.faults.Or.{Or}
 use Rattle.srch_base.specs.declared.faults.Or.TheVariants.{NoMemory, Fault}
 use Rattle.doc_types.specs.declared.schema.Schema.{Schema}
@@ -42,10 +43,10 @@ kind_of m = if m.due then kind_due m.sign else kind_else m.sign
 abbrev pub name_at : List ℕ → ℕ → List ℕ
 name_at text place = take MAX_NAME (take (prefix_len is_name_byte (drop place text)) (drop place text))
 
--- is told with the two kinds that are about a name
+-- is told with the two kinds that are about a name, in small letters
 abbrev pub told_name : ExprKind → List ℕ → List ℕ
-told_name kinds.Factor name = name
-told_name kinds.Scope name = name
+told_name kinds.Factor name = str_to_ascii_lowercase name
+told_name kinds.Scope name = str_to_ascii_lowercase name
 told_name _ name = []
 
 abbrev pub fault_of : List ℕ → Mark → ExprFault

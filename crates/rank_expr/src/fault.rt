@@ -31,7 +31,7 @@ pub struct ExprFault {
     /// The first byte of the piece, an offset in the text; the text's length at its end, and 4,096 where it is too long.
     pub place: u32,
     pub kind: ExprKind,
-    /// The name of a factor that isn't known or is out of its scope, as it is written, and no more than its first 64 bytes; empty
+    /// The name of a factor that isn't known or is out of its scope, in small letters, and no more than its first 64 bytes; empty
     /// for the other kinds.
     pub name: Name,
 }

@@ -1,5 +1,6 @@
 //! The reader of a text: its value, or its first fault.
 ghost use Rattle.std.specs.Prelude.{◌≡◌, ◌≤◌, ◌<◌, ◌^◌, ◌++◌, ◌∷◌, List, IfOk, length};
+ghost use Rattle.std.specs.Str.{str_to_ascii_lowercase};
 ghost use Rattle.doc_types.specs.declared.schema.TheConstants.{MAX_ATTRS};
 ghost use Rattle.rank_expr.specs.declared.mark.Mark.{Mark as MarkValue};
 ghost use Rattle.rank_expr.specs.ExprFaults.{ReadsExpr, fault_of, kind_due, kind_of, name_at, told_name};
@@ -71,15 +72,22 @@ fn name_at(text: &[u8], place: usize) -> &[u8]
 }
 
 /// What the kind tells of the name at the place.
-fn told_name(kind: ExprKind, text: &[u8], place: usize) -> &[u8]
+fn told_name(alloc: Global, kind: ExprKind, text: &[u8], place: usize) -> Result<Name, NoMemory>
     requires { place ≤ length text.now }
-    ensures { result.now ≡ told_name kind (name_at text.now place) }
+    ensures { IfOk result (λ name. name ≡ told_name kind (name_at text.now place)) }
 {
     match kind {
-        ExprKind::Factor => name_at(text, place),
-        ExprKind::Scope => name_at(text, place),
-        _ => b"",
+        ExprKind::Factor => small_name(alloc, name_at(text, place)),
+        ExprKind::Scope => small_name(alloc, name_at(text, place)),
+        _ => Ok(Name::from_slice(alloc, b"")?),
     }
+}
+
+/// A name in small letters.
+fn small_name(alloc: Global, name: &[u8]) -> Result<Name, NoMemory>
+    ensures { IfOk result (λ small. small ≡ str_to_ascii_lowercase name.now) }
+{
+    Ok(Name::new(name.to_ascii_lowercase(alloc)?))
 }
 
 /// The fault of a text in which reading stops at the place.
@@ -90,7 +98,7 @@ fn fault_at(alloc: Global, schema: &Schema, text: &[u8], place: u32) -> Result<E
     ensures { IfOk result (λ fault. (front rest : List MarkValue) (stop : MarkValue) → marks_of schema.now text.now ≡ front ++ stop ∷ rest → stop.at ≡ place → fault ≡ fault_of text.now stop) }
 {
     let kind = kind_of(mark_at(schema, text, place));
-    let name = Name::from_slice(alloc, told_name(kind, text, place as usize))?;
+    let name = told_name(alloc, kind, text, place as usize)?;
     Ok(ExprFault { place, kind, name })
 }
 

@@ -1,5 +1,5 @@
 -- What a SELECT finds among documents: its table, its facets, and how much it finds in all. "SELECT syntax" of the manual.
-use Rattle.std.specs.Prelude.{◌≡◌, ℕ, List, length}
+use Rattle.std.specs.Prelude.{◌≡◌, ℕ, List, Result, Ok, Err, length}
 use Rattle.std.specs.List.{AllZip}
 use Rattle.doc_types.specs.declared.documents.DocRow.{DocRow}
 use Rattle.row_select.specs.Pages.{IsTop}
@@ -8,7 +8,9 @@ use Rattle.group_facet.specs.Facets.{IsFacet}
 use Rattle.group_facet.specs.Groups.{AreGroups}
 use Rattle.group_facet.specs.ShownGroups.{AreTop, kept}
 use Rattle.group_facet.specs.declared.grouping.GroupRow.{GroupRow}
-use Rattle.doc_search.specs.Searches.{AreFound}
+use Rattle.srch_base.specs.declared.faults.Or.{Or}
+use Rattle.srch_base.specs.declared.faults.Or.TheVariants.{NoMemory, Fault}
+use Rattle.doc_search.specs.Searches.{AreFound, IsFirstLacking}
 use Rattle.doc_search.specs.declared.question.Question.{Question}
 use Rattle.table_search.specs.declared.asked.Asked.{Asked}
 use Rattle.table_search.specs.declared.asked.GroupTable.{GroupTable}
@@ -37,3 +39,10 @@ pub record AreTables (asked : Asked) (docs : List DocRow) (tables : Found) : Typ
   pub are : AreFound asked.question docs found
   pub table : ShowsTable asked.question asked.table found tables.table tables.total_found
   pub facets : AllZip (IsFacet found) asked.facets tables.facets
+
+-- What is answered to a SELECT: its tables; or the least id of a document that it finds without a weight, on whatever page that is.
+-- Without memory nothing is said.
+abbrev pub TablesOr : Asked → List DocRow → Result Found (Or ℕ) → Type 0
+TablesOr asked docs (Ok tables) = AreTables asked docs tables
+TablesOr asked docs (Err NoMemory) = Unit {0}
+TablesOr asked docs (Err (Fault id)) = IsFirstLacking asked.question docs id

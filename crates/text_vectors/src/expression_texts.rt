@@ -117,10 +117,13 @@ foo( ⇒ factor 0 foo
 max_lcs (1) ⇒ factor 0 max_lcs
 foo bar ⇒ factor 0 foo
 foo+bar ⇒ factor 0 foo
+FOO ⇒ factor 0 foo
+1+⟨Ab × 40⟩( ⇒ factor 2 ⟨ab × 32⟩
 _ ⇒ factor 0 _
 _9a ⇒ factor 0 _9a
 hit_count ⇒ scope 0 hit_count
 word_count ⇒ scope 0 word_count
+USER_WEIGHT ⇒ scope 0 user_weight
 min_hit_pos ⇒ scope 0 min_hit_pos
 1+lcs+1 ⇒ scope 2 lcs
 sum(lcs)*user_weight ⇒ scope 9 user_weight
@@ -128,6 +131,7 @@ min(lcs,1) ⇒ scope 4 lcs
 (lcs) ⇒ scope 1 lcs
 sum(sum(lcs)) ⇒ scope 4 sum
 sum(abs(sum(1))) ⇒ scope 8 sum
+sum(1+Sum(1)) ⇒ scope 6 sum
 sum(sum) ⇒ factor 4 sum
 lcs foo ⇒ scope 0 lcs
 foo lcs ⇒ factor 0 foo

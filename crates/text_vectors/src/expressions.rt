@@ -106,7 +106,7 @@ a/2 ⇒ factor 0 a
 99999999999999999999+a ⇒ number 0
 a+99999999999999999999 ⇒ factor 0 a
 foo ⇒ factor 0 foo
-1+Foo ⇒ factor 2 Foo
+1+Foo ⇒ factor 2 foo
 1 foo ⇒ syntax 2
 foo(1) ⇒ factor 0 foo
 gid(1) ⇒ factor 0 gid
@@ -117,11 +117,11 @@ id ⇒ factor 0 id
 ⟨a × 65⟩ ⇒ factor 0 ⟨a × 64⟩
 ⟨a × 65⟩ ( ⇒ factor 0 ⟨a × 64⟩
 ⟨a × 64⟩ ⇒ factor 0 ⟨a × 64⟩
-Lcs+1 ⇒ scope 0 Lcs
+Lcs+1 ⇒ scope 0 lcs
 1+user_weight ⇒ scope 2 user_weight
 sum(1)+lcs ⇒ scope 7 lcs
 sum(sum(1)) ⇒ scope 4 sum
-sum(abs(Sum (1))) ⇒ scope 8 Sum
+sum(abs(Sum (1))) ⇒ scope 8 sum
 sum(1)+sum(lcs) ⇒ (+ (sum 1) (sum lcs))
 abs(sum((lcs))+lcs) ⇒ scope 15 lcs
 sum(min(lcs,2))*lcs ⇒ scope 16 lcs

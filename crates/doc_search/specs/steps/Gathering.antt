@@ -3,16 +3,18 @@ use Rattle.std.specs.Prelude.{◌≡◌, ◌<◌, ◌≤◌, ℕ, List, [], ◌+
 use Rattle.std.specs.List.{AllZip, filter, list_any}
 use Rattle.doc_types.specs.declared.documents.DocRow.{DocRow}
 use Rattle.doc_types.specs.declared.hits.Hit.{Hit}
+use Rattle.doc_types.specs.declared.hits.Hits.{Hits}
 use Rattle.doc_types.specs.declared.schema.Schema.{Schema}
+use Rattle.doc_types.specs.declared.schema.Value.{Value}
 use Rattle.doc_types.specs.Documents.{AreRowsOf}
 use Rattle.doc_types.specs.Snapshots.{LayerValue, all_living, living}
 use Rattle.op_eval.specs.Hits.{AreHits}
 use Rattle.op_eval.specs.Matching.{matches}
 use Rattle.op_eval.specs.Streams.{Stream, ahead}
-use Rattle.rankers.specs.Weight.{weight}
 use Rattle.row_select.specs.Filters.{is_weighed}
 use Rattle.row_select.specs.declared.row.Row.{Row}
-use Rattle.doc_search.specs.Searches.{IsAskedOf, IsRowOf, passes}
+use Rattle.doc_search.specs.Rankings.{weigh}
+use Rattle.doc_search.specs.Searches.{IsAskedOf, IsRowOf, passes, weight_of}
 use Rattle.doc_search.specs.declared.question.Question.{Question}
 
 -- The question is one of an index with some columns, and the documents are of that index.
@@ -21,11 +23,11 @@ pub record IsAskedOfDocs (question : Question) (docs : List DocRow) : Type 0 whe
   pub asked : IsAskedOf schema question
   pub rows : AreRowsOf schema docs
 
--- The weight is that of the document's hits.
-pub record IsWeightOf (question : Question) (doc : DocRow) (weighed : ℕ) : Type 0 where
+-- The weight is that of the document's hits, or there is none.
+pub record IsWeightOf (question : Question) (doc : DocRow) (weighed : Option ℕ) : Type 0 where
   pub hits : List Hit
   pub are : AreHits question.query doc hits
-  pub is : weighed ≡ weight question.ranker (record { keywords = question.query.keywords; list = hits }) question.weights.list
+  pub is : weighed ≡ weight_of question doc hits
 
 -- The row has the document's id and its values.
 pub record HasRead (doc : DocRow) (row : Row) : Type 0 where
@@ -38,15 +40,15 @@ unweighed doc = record { id = doc.doc.id; weight = 0; values = doc.doc.values }
 
 -- whatever hits a document has, its weight is 1
 abbrev pub GivesOne : Question → Type 0
-GivesOne question = (hits : List Hit) → weight question.ranker (record { keywords = question.query.keywords; list = hits }) question.weights.list ≡ 1
+GivesOne question = (doc : DocRow) (hits : List Hit) → weight_of question doc hits ≡ Some 1
 
 -- the question has neither a word nor a condition
 pub record TakesAll (question : Question) : Type 0 where
   pub root : question.query.root ≡ None
   pub none : question.filters ≡ []
 
--- the document's weight, if it matches
-abbrev pub IsWeighed : Question → DocRow → Option ℕ → Type 0
+-- the document's weight, if it matches, where it has one
+abbrev pub IsWeighed : Question → DocRow → Option (Option ℕ) → Type 0
 IsWeighed question doc None = matches question.query doc ≡ false
 IsWeighed question doc (Some weighed) = (matches question.query doc ≡ true) × IsWeightOf question doc weighed
 
@@ -54,7 +56,12 @@ IsWeighed question doc (Some weighed) = (matches question.query doc ≡ true) ×
 pub record WeighsUpTo (question : Question) (doc : DocRow) (most : ℕ) : Type 0 where
   pub fits : matches question.query doc ≡ true
   pub any : list_any is_weighed question.filters ≡ false
-  pub least : (weighed : ℕ) → IsWeightOf question doc weighed → weighed ≤ most
+  pub least : (hits : List Hit) → AreHits question.query doc hits → (weighed : ℕ) × (weight_of question doc hits ≡ Some weighed) × (weighed ≤ most)
+
+-- The values are those of the document, as far as the ranker looks at them.
+abbrev pub AreValuesFor : Question → DocRow → List Value → Type 0
+AreValuesFor question doc values =
+    (hits : Hits) (weights : List ℕ) → weigh question.ranker hits weights values ≡ weigh question.ranker hits weights doc.doc.values
 
 -- The stream of the question over these documents stands at the one of this number.
 pub record StandsAt (question : Question) (docs : List DocRow) (number : ℕ) (stream : Stream) : Type 0 where

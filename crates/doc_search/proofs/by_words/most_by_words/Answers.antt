@@ -1,4 +1,4 @@
-use Rattle.std.proofs.Common.{◌≢◌, ◌≤◌, ◌∙◌, ℕ, List, length, ap, sym, subst, arith}
+use Rattle.std.proofs.Common.{◌≡◌, ◌≢◌, ◌≤◌, ◌∙◌, ℕ, List, length, ap, sym, subst, arith}
 use Rattle.std.specs.List.{list_any}
 use Rattle.doc_types.specs.declared.hits.Hits.{Hits}
 use Rattle.query_tree.specs.TreeKeys.{query_keys}
@@ -9,6 +9,8 @@ use Rattle.rankers.specs.Limits.{AreOfPositions}
 use Rattle.rankers.specs.Weight.{AreRanked, weight}
 use Rattle.row_select.specs.Filters.{is_weighed}
 use Rattle.doc_search.specs.declared.question.Question.{Question}
+use Rattle.doc_search.specs.declared.ranking.Ranking.TheVariants as rankings
+use Rattle.doc_search.proofs.WithoutWeight.{sought_plain}
 use Rattle.doc_search.proofs.ByWords.{few_words, some_weaker, weighs_up_to}
 use Rattle.doc_search.proofs.by_words.most_by_words.Goals as goal
 
@@ -27,9 +29,11 @@ returns-clause-weighs g c = λ doc here.
     ∙ sym c.look_at_weight.ensures
     ∙ c.if-look_at_weight.false in
     let some = subst (λ (its : Question). its.query.keywords ≢ 0) c.asked.view_is c.if-question-eq0.false in
+    let plain : c.args.asked.now.ranker ≡ rankings.Plain c.in_ok-ranker.ranker =
+    ap (λ (its : Question). its.ranker) (sym c.asked.view_is) ∙ sought_plain c.asked.inside.lacking c.asked.inside.question.now.ranker c.in_ok-ranker.ranker c.in_ok-ranker.ensures in
     some_weaker c.most_weight.result
     (λ most limits.
     weighs_up_to c.args.asked.now c.args.stream.now.rows c.args.stream.now.at doc c.in_ok-words.words most c.requires.asked here some any (ap (λ its. matches its doc) (sym c.requires.query) ∙ sure.0)
-    (sure.1 ∙ ap (λ query. present_in doc (query_keys query)) c.requires.query)
-    (subst (λ (its : Question). (hits : Hits) (positions : List ℕ) → hits.keywords ≢ 0 → AreRanked hits its.weights.list → length positions ≤ c.in_ok-words.words → AreOfPositions positions hits.list → weight its.ranker hits its.weights.list ≤ most) c.asked.view_is limits))
+    (sure.1 ∙ ap (λ query. present_in doc (query_keys query)) c.requires.query) c.in_ok-ranker.ranker plain
+    (subst (λ (its : Question). (hits : Hits) (positions : List ℕ) → hits.keywords ≢ 0 → AreRanked hits its.weights.list → length positions ≤ c.in_ok-words.words → AreOfPositions positions hits.list → weight c.in_ok-ranker.ranker hits its.weights.list ≤ most) c.asked.view_is limits))
     c.most_weight.ensures

@@ -1,13 +1,15 @@
 use Rattle.std.proofs.Common.{◌≡◌, ◌∙◌, ◌<◌, List, ap, arith, length, subst, sym}
 use Rattle.std.specs.Prelude.{AllPairs}
 use Rattle.doc_types.specs.declared.documents.DocRow.{DocRow}
-use Rattle.doc_types.specs.Snapshots.{LayerValue}
+use Rattle.doc_types.specs.Snapshots.{LayerValue, living}
 use Rattle.op_eval.specs.Streams.{Stream}
 use Rattle.doc_search.specs.declared.question.Question.{Question}
 use Rattle.doc_search.specs.steps.Gathering.{IsAskedOfDocs}
 use Rattle.doc_search.specs.steps.ListedRows.{Leaves}
 use Rattle.doc_search.proofs.Gathering.{on_way_first}
 use Rattle.doc_search.proofs.Leading.{led_last, led_on, led_to, led_within}
+use Rattle.doc_search.specs.steps.Lacking.{LacksSome}
+use Rattle.doc_search.proofs.Stopping.{layer_stopped, stopped_with}
 use Rattle.doc_search.proofs.searching.collect_layer.Goals as goal
 
 pub rows-init : goal.rows-init
@@ -70,9 +72,17 @@ rows-preserved g c =
     led_on g.S.Sink.Took c.args.asked.now c.args.layer.now (g.C.Chunk.content c.over-counted.result.chunk.now) docs c.args.sink.now c.rows.sink c.rows.at c.in-Some.number c.rows.stream c.next_row.new.stream c.collect_row.new.stream c.rows.listed c.next_row.new.listed c.collect_row.new.sink
     c.rows.invariant c.in-Some.ensures c.in_ok-collect_row.ensures.goes_on c.in_ok-collect_row.ensures.gathers
 
-pub returns : goal.returns
-returns g c =
+pub returns-clause-gathers : goal.returns-clause-gathers
+returns-clause-gathers g c =
     let docs : g.C.Chunk.content c.over-counted.result.chunk.now ≡ c.args.layer.now.rows =
     ap g.C.Chunk.content (c.over-counted.ensures ∙ c.deref-chunk.ensures) ∙ ap (λ (its : LayerValue). its.rows) c.layer.view_is in
     led_last g.S.Sink.Took c.args.asked.now c.args.layer.now (g.C.Chunk.content c.over-counted.result.chunk.now) docs c.args.sink.now c.rows.sink c.rows.at c.rows.stream c.next_row.new.stream c.rows.listed c.next_row.new.listed
     c.rows.invariant c.in_default.ensures
+
+pub returns-in_err-collect_row-clause-lacks : goal.returns-in_err-collect_row-clause-lacks
+returns-in_err-collect_row-clause-lacks g c =
+    let docs : g.C.Chunk.content c.over-counted.result.chunk.now ≡ c.args.layer.now.rows =
+    ap g.C.Chunk.content (c.over-counted.ensures ∙ c.deref-chunk.ensures) ∙ ap (λ (its : LayerValue). its.rows) c.layer.view_is in
+    stopped_with (LacksSome c.args.asked.now (living c.args.layer.now)) c.in_err-collect_row.field-0.0 c.from_residual-in_err-collect_row.result c.from_residual-in_err-collect_row.ensures.1
+    (layer_stopped g.S.Sink.Took c.args.asked.now c.args.layer.now (g.C.Chunk.content c.over-counted.result.chunk.now) docs c.args.sink.now c.rows.sink (g.met.S.Sink.nothing c.args.sink.now) c.rows.at c.in-Some.number c.rows.stream c.next_row.new.stream c.rows.listed c.next_row.new.listed
+    c.rows.invariant c.in-Some.ensures c.in_err-collect_row.field-0.0 c.in_err-collect_row.ensures.lacks)

@@ -7,7 +7,7 @@ returns-then-not-passes-clause-gathers g c = λ first before doc here so.
     let fails : c.passes.result ≡ false = search rules in
     gathers_past g.S.Sink.Took c.args.asked.now first before doc c.args.sink.now (sym (c.passes.ensures doc here) ∙ fails) so
 
-pub offer-requires-clause-passes : goal.offer-requires-clause-passes
-offer-requires-clause-passes g c = λ doc here.
+pub offer_or_stop-requires-clause-passes : goal.offer_or_stop-requires-clause-passes
+offer_or_stop-requires-clause-passes g c = λ doc here.
     let holding : c.passes.result ≡ true = search rules in
     sym (c.passes.ensures doc here) ∙ holding

@@ -11,7 +11,7 @@ pub returns : goal.returns
 returns g c =
     let asked = c.args.asked.now in
     let table = c.args.table.now in
-    let its = c.in_ok-search_into.ensures in
+    let its = c.in-Ok.ensures in
     let groups = c.in_ok-finish.field-0.items in
     record {
       found = its.0;

@@ -12,7 +12,7 @@ pub returns : goal.returns
 returns g c =
     let asked = c.args.asked.now in
     let question = asked.question in
-    let its = c.in_ok-search_into.ensures in
+    let its = c.in-Ok.ensures in
     let last = c.search_into.new.sink.first in
     let counted : c.search_into.new.sink.second.first.rows ≡ length its.0 = omega (arith, its.2.1.0) in
     let top : IsTop its.0 question.order question.page c.in_ok-finish.field-0.items =
