@@ -24,13 +24,13 @@ from scripts.cases.runs import finish, lost, options, program_of, side_by_side
 
 # The pages, and how many cases each is known to have.
 PAGES = {
-    "statements": 315,
-    "selects": 788,
+    "statements": 316,
+    "selects": 992,
     "transactions": 155,
     "jobs": 35,
     "groups": 68,
     "evaluation": 617,
-    "extended_queries": 1044,
+    "extended_queries": 1045,
 }
 # Pages of which is worked out what is sent and wanted.
 WORKED_OUT = {"evaluation": EvaluationPage, "extended_queries": QueriesPage}

@@ -5,7 +5,8 @@ follow from the hits by the rankers' table in the manual, which stands here once
 the hits don't say is how many keywords a query has: its words are counted by the rules of EXTENDED_QUERIES.md (`keywords`),
 and compared with the words and places that the hits name.
 
-Each query is asked with each ranker, and once with weights of fields, over a set of documents that is there
+Each query is asked with each ranker, once with weights of fields, and with each of some ranking expressions, over a set of
+documents that is there
 
     in one piece         all documents put by one INSERT; then the first document that the query finds is deleted; and then
                          that document is put again
@@ -22,6 +23,14 @@ from scripts.cases.case_pages import FOLDER, Script, Step, blocks, named
 from scripts.cases.tables import text
 
 RANKERS = ("none", "wordcount", "proximity", "matchany", "fieldmask")
+# Expressions, each by what it weighs by: a ranker, or the first hit of each field.
+EXPRESSIONS = {
+    "wordcount": "sum(hit_count*user_weight)",
+    "proximity": "sum(lcs*user_weight)",
+    "matchany": "sum((word_count+(lcs-1)*max_lcs)*user_weight)",
+    "fieldmask": "field_mask",
+    "positions": "sum(min_hit_pos*user_weight)",
+}
 # The weights of the first fields, in the question that has some.
 FIELD_WEIGHTS = (3, 5, 2)
 ABOUT = re.compile(r"Fields (.*?); zones (.*?); `index_sp = ([01])`, `html_strip = ([01])`\.")
@@ -54,6 +63,7 @@ def weight(ranker, count, weights, hits):
             "proximity": longest * weights[field],
             "matchany": (words + (longest - 1) * count * sum(weights)) * weights[field],
             "fieldmask": 2**field,
+            "positions": min(position for _, _, _, position in own) * weights[field],
         }[ranker]
     return total
 
@@ -89,6 +99,8 @@ class Query:
         for ranker in RANKERS:
             yield self.step(f"ranker = {ranker}", ranker, ones, without)
         yield self.step(f"ranker = matchany, field_weights = ({named})", "matchany", weights, without)
+        for ranker, text in EXPRESSIONS.items():
+            yield self.step(f"ranker = expr('{text}'), field_weights = ({named})", ranker, weights, without)
 
     def step(self, options, ranker, weights, without):
         rows = [

@@ -7,11 +7,14 @@ where that is fewer) by INSERTs of 1,000, and sends the texts of each class to o
 documents were found, and where the two found different numbers, in how many of the texts; then the time of a text as a
 client over loopback sees it, and that of the daemon's processors, which is the one to look at where the machine has other
 work. Each is the mean of a class's texts in the best of three rounds, and beside it stands how many times as long Sphinx
-took. Behind the table stand the geometric means and the classes in which Sphinx was faster. Weights are those of the
-ranker `proximity` on both sides. With --chunks both write their documents into so many chunks on the disk: of several each
-has the same number of documents, which are flushed together; of one, where they don't go into one log, all that were flushed
-are optimised. Each number of chunks is measured by itself, 0 is documents in memory. Debian's package is sphinxsearch. PROGRAM
-may be Sphinx as well, which shows what the machine's noise is.
+took. Behind the table stand the geometric means, the classes in which Sphinx was faster, and how many times as long each of
+the two took by an expression as by `matchany`, for the same words. Weights are those of the ranker `proximity` on both sides,
+where a class names no other.
+
+With --chunks both write their documents into so many chunks on the disk: of several each has the same number of documents,
+which are flushed together; of one, where they don't go into one log, all that were flushed are optimised. Each number of
+chunks is measured by itself, 0 is documents in memory. Debian's package is sphinxsearch. PROGRAM may be Sphinx as well, which
+shows what the machine's noise is.
 """
 
 import argparse
@@ -32,11 +35,15 @@ from scripts.figures import hundred_words as documents
 # the ranks of the words that stand in a text as c1, c2 .. of the most common, f1 .. frequent, m1 .. some, r1 .. rare
 RANKS = {"c": (6, 13), "f": (15, 60), "m": (500, 1500), "r": (15000, 40000)}
 RANKED = " OPTION ranker=proximity"
+WEIGHED = " OPTION ranker=expr('sum(lcs*user_weight)*1000+gid')"
+MATCHANY, EXPRESSION = "the same by matchany", "the same by an expression"
 CLASSES = [
     ("a rare word", "SELECT id, WEIGHT() FROM rt WHERE MATCH('{r1}')" + RANKED),
     ("a word that some have", "SELECT id, WEIGHT() FROM rt WHERE MATCH('{m1}')" + RANKED),
     ("a common word", "SELECT id, WEIGHT() FROM rt WHERE MATCH('{c1}')" + RANKED),
     ("the same, not ranked", "SELECT id FROM rt WHERE MATCH('{c1}') OPTION ranker=none"),
+    (MATCHANY, "SELECT id, WEIGHT() FROM rt WHERE MATCH('{c1}') OPTION ranker=matchany"),
+    (EXPRESSION, "SELECT id, WEIGHT() FROM rt WHERE MATCH('{c1}')" + WEIGHED),
     ("a common word in one field", "SELECT id, WEIGHT() FROM rt WHERE MATCH('@content {c1}')" + RANKED),
     ("two words", "SELECT id, WEIGHT() FROM rt WHERE MATCH('{f1} {f2}')" + RANKED),
     ("three words", "SELECT id, WEIGHT() FROM rt WHERE MATCH('{f1} {f2} {f3}')" + RANKED),
@@ -68,8 +75,8 @@ ROUND = 0.05
 
 
 def texts_of(template, number, count):
-    """The texts of a class, the same at each run."""
-    draws, made = random.Random(template), []
+    """The texts of a class, the same at each run, with the same words as other classes of its conditions."""
+    draws, made = random.Random(template.partition(" FROM ")[2].partition(" OPTION ")[0]), []
     for _ in range(number):
         words = {
             f"{group}{place}": f"w{rank}"
@@ -145,7 +152,7 @@ def timed(client, pid, texts):
 
 
 def measured(sides, count, options):
-    """Prints the table; gives of each class how many times as long Sphinx took, in all and on its processors."""
+    """Prints the table; gives of each class what it took on either side, in all and on its processors."""
     classes = [(title, texts_of(template, options.texts, count)) for title, template in CLASSES]
     founds = {title: [[found(side.client, text) for text in texts] for side in sides] for title, texts in classes}
     rounds = {title: ([], []) for title, _ in classes}
@@ -154,13 +161,12 @@ def measured(sides, count, options):
             for side, times in zip(sides, rounds[title]):
                 times.append(timed(side.client, side.daemon.process.pid, texts))
     print(f"| over {count:,} documents | found | time | Sphinx | ratio | processor | Sphinx | ratio |\n|---|{'---|' * 7}")
-    ratios = {}
+    taken = {}
     for title, both in rounds.items():
-        (ours, our_work), (theirs, their_work) = ([min(column) for column in zip(*times)] for times in both)
-        ratios[title] = theirs / ours, their_work / our_work
-        cells = [found_by(*founds[title]), *compared(ours, theirs), *compared(our_work, their_work)]
+        taken[title] = [[min(column) for column in zip(*times)] for times in both]
+        cells = [found_by(*founds[title]), *(cell for pair in zip(*taken[title]) for cell in compared(*pair))]
         print(f"| {title} | {' | '.join(cells)} |")
-    return ratios
+    return taken
 
 
 def found_by(ours, theirs):
@@ -191,9 +197,11 @@ def beside(count, chunks, folder, options):
             memory = resident(side.daemon.process.pid) / 2**20
             held = f"{side.chunks()} chunks; {memory:,.0f} MB" if chunks else f"{memory:,.0f} MB"
             print(f"{name}: {count:,} documents in {taken:.1f} s, {taken / count * 1e6:.0f} µs each; {held}", flush=True)
-        ratios = measured(sides, count, options)
-        print(told("time", {title: ratio for title, (ratio, _) in ratios.items()}))
-        print(told("processor", {title: ratio for title, (_, ratio) in ratios.items()}), flush=True)
+        taken = measured(sides, count, options)
+        for place, kind in enumerate(("time", "processor")):
+            print(told(kind, {title: theirs[place] / ours[place] for title, (ours, theirs) in taken.items()}))
+            here, there = (side[place] / other[place] for side, other in zip(taken[EXPRESSION], taken[MATCHANY]))
+            print(f"{kind}: by an expression {here:.2f} times as long as by matchany, Sphinx {there:.2f}", flush=True)
     finally:
         for side in sides:
             side.daemon.kill()

@@ -39,6 +39,8 @@ select a from rt order by count(*) desc, weight(), id asc, count ⇒ SELECT `a` 
 select a from rt limit 0 ⇒ SELECT `a` FROM `rt` LIMIT 0
 select a from rt limit 1, 18446744073709551615 ⇒ SELECT `a` FROM `rt` LIMIT 1 , 18446744073709551615
 select a from rt option ranker=bm25 ⇒ SELECT `a` FROM `rt` OPTION `ranker` = `bm25`
+select a from rt option ranker=Expr ( 'sum(lcs)' ) ⇒ SELECT `a` FROM `rt` OPTION `ranker` = `expr` ( 'sum(lcs)' )
+select a from rt option `a`=b('c'), d=`e`(''), f=g facet h ⇒ SELECT `a` FROM `rt` OPTION `a` = `b` ( 'c' ) , `d` = `e` ( '' ) , `f` = `g` FACET `h`
 select a from rt option a=1, b='c', c=(d=1), e=(f=2,g=3) ⇒ SELECT `a` FROM `rt` OPTION `a` = 1 , `b` = 'c' , `c` = ( `d` = 1 ) , `e` = ( `f` = 2 , `g` = 3 )
 select a from rt facet a ⇒ SELECT `a` FROM `rt` FACET `a`
 select a from rt facet a order by a facet b limit 1 facet c order by count(*) asc limit 2,3 ⇒ SELECT `a` FROM `rt` FACET `a` ORDER BY `a` FACET `b` LIMIT 1 FACET `c` ORDER BY COUNT ( * ) ASC LIMIT 2 , 3

@@ -1,6 +1,6 @@
 -- A statement wants one thing or is refused for one reason, and never both: by cases on the statement, since a SELECT and an
 -- INSERT are read in one way.
-use Rattle.std.proofs.Common.{◌≡◌, ℕ, List, Option, Some, sym, ap, ◌∙◌, inl, inr}
+use Rattle.std.proofs.Common.{◌≡◌, ℕ, List, Option, Some, sym, ap, ◌∙◌}
 use Rattle.index_conf.specs.declared.conf.IndexConf.{IndexConf}
 use Rattle.doc_types.specs.declared.transactions.Txn.{Txn}
 use Rattle.ql_tree.specs.declared.select.Select.{Select}

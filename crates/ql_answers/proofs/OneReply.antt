@@ -1,5 +1,5 @@
 -- What came of a plan has one reply, and what is replied to a search depends on the documents alone.
-use Rattle.std.proofs.Common.{◌≡◌, ℕ, List, length, refl, sym, ap, ◌∙◌}
+use Rattle.std.proofs.Common.{◌≡◌, ℕ, List, length, inl, inr, refl, sym, ap, ◌∙◌}
 use Rattle.std.specs.FinMap as finite
 use Rattle.std.specs.Prelude.{◌≢◌, AllPairs, min}
 use Rattle.doc_types.specs.declared.documents.DocRow.{DocRow}
@@ -19,7 +19,10 @@ use Rattle.ql_answers.specs.declared.state.State.{State}
 use Rattle.ql_answers.specs.Metas.{max_matches, meta_of}
 use Rattle.ql_answers.specs.Reading.{found_sets}
 use Rattle.commit_outcomes.specs.declared.outcome.CommitOutcome.{CommitOutcome}
-use Rattle.ql_refusals.specs.Refusals.{no_memory}
+use Rattle.doc_search.specs.Searches.{AreFound, IsFirstLacking}
+use Rattle.doc_search.specs.declared.question.Question.{Question}
+use Rattle.row_select.specs.declared.row.Row.{Row}
+use Rattle.ql_refusals.specs.Refusals.{no_memory, rank_out_of_range}
 use Rattle.ql_answers.specs.Replies.{Fails, Finds, Reply, Shows}
 use Rattle.ql_answers.specs.Sessions.{AreAlike, Committing, Decides, Happened, HasLayers, LookAlike, NoMemory, Nothing, Read, Reshaping, after_plan, disk_count, next_of, reply_to_commit, reply_to_job, told_by}
 use Rattle.ql_answers.specs.Showing.{index_status}
@@ -75,10 +78,17 @@ alike_itself plan (Read front) layers = (layers, layers, refl, looks_itself plan
 alike_itself plan (Committing outcome) layers = refl
 alike_itself plan (Reshaping outcome) layers = refl
 
-module _ (finds_one : FindsOne) (counts_one : CountsOne) where
+-- and a document without a weight is the first one of all listings, and of none where each has its weight
+abbrev LacksOne : Type 0
+LacksOne = (question : Question) (docs others : List DocRow) (id other : ℕ) → DocsApart docs → DocsApart others → rows_of docs ≡ rows_of others → IsFirstLacking question docs id → IsFirstLacking question others other → id ≡ other
+
+abbrev NeverBoth : Type 0
+NeverBoth = (question : Question) (docs others : List DocRow) (found : List Row) (id : ℕ) → DocsApart docs → DocsApart others → rows_of docs ≡ rows_of others → AreFound question docs found → IsFirstLacking question others id → ⊥
+
+module _ (finds_one : FindsOne) (counts_one : CountsOne) (lacks_one : LacksOne) (never_both : NeverBoth) where
   one_for_documents : (plan : Plan) (front other : SnapshotValue) (a b : Reply) → AreLayers front.layers → AreLayers other.layers → live front ≡ live other → LookAlike plan front other
       → Decides plan (Read front) a → Decides plan (Read other) b → a ≡ b
-  one_for_documents (Search place selection) front other a b layers layers' same looks (found, are, says) (others, are', says') =
+  one_for_documents (Search place selection) front other a b layers layers' same looks (inl (found, are, says)) (inl (others, are', says')) =
       let asked = selection.asked in
       let docs = all_living front.layers in
       let rest = all_living other.layers in
@@ -87,6 +97,12 @@ module _ (finds_one : FindsOne) (counts_one : CountsOne) where
       says ∙ ap (λ (f : Found). Finds (found_sets selection f) (meta_of asked f docs)) alike
       ∙ ap (λ (w : List WordDocs). Finds (found_sets selection others) (record { total = min others.total_found (max_matches asked); total_found = others.total_found; words = w })) words
       ∙ sym says'
+  one_for_documents (Search place selection) front other a b layers layers' same looks (inl (found, are, says)) (inr (id, lacks, says')) =
+      absurd (never_both selection.asked.question (all_living front.layers) (all_living other.layers) are.found id layers.distinct layers'.distinct same are.are lacks)
+  one_for_documents (Search place selection) front other a b layers layers' same looks (inr (id, lacks, says)) (inl (found, are, says')) =
+      absurd (never_both selection.asked.question (all_living other.layers) (all_living front.layers) are.found id layers'.distinct layers.distinct (sym same) are.are lacks)
+  one_for_documents (Search place selection) front other a b layers layers' same looks (inr (id, lacks, says)) (inr (next, lacks', says')) =
+      says ∙ ap (λ (n : ℕ). Fails (rank_out_of_range n)) (lacks_one selection.asked.question (all_living front.layers) (all_living other.layers) id next layers.distinct layers'.distinct same lacks lacks') ∙ sym says'
   one_for_documents (Status place) front other a b layers layers' same looks says says' =
       says ∙ (ap (λ (rows : Rows). Shows (index_status (finite.len rows) (disk_count front))) same
       ∙ ap (λ (chunks : ℕ). Shows (index_status (finite.len (live other)) chunks)) looks) ∙ sym says'

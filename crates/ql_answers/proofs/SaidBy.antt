@@ -1,5 +1,5 @@
 -- A reply that a plan has is one that it is answered by.
-use Rattle.std.proofs.Common.{◌≡◌, ℕ, Option, None, Some, false, sym, subst, refl, rules}
+use Rattle.std.proofs.Common.{◌≡◌, ◌∙◌, ℕ, Option, None, Some, false, ap, inl, inr, sym, subst, refl, rules}
 use Rattle.std.specs.Prelude.{Result, Ok, Err, IfOk, OnErr, OnOk}
 use Rattle.doc_types.specs.Snapshots.{SnapshotValue, all_living}
 use Rattle.commit_outcomes.specs.declared.outcome.CommitOutcome.{CommitOutcome}
@@ -16,7 +16,8 @@ use Rattle.ql_answers.specs.declared.job_outcome.JobOutcome.TheVariants as job_o
 use Rattle.ql_answers.specs.declared.plan.Counted.{Counted}
 use Rattle.ql_answers.specs.declared.plan.Plan.{Plan}
 use Rattle.ql_answers.specs.declared.plan.Plan.TheVariants.{Agree, Commit, Keep, Put, Reshape, Search, Show, Status}
-use Rattle.ql_refusals.specs.Refusals.{no_memory}
+use Rattle.doc_search.specs.Searches.{IsFirstLacking}
+use Rattle.ql_refusals.specs.Refusals.{Refused, no_memory, rank_out_of_range}
 use Rattle.ql_answers.specs.Metas.{meta_of}
 use Rattle.ql_answers.specs.Reading.{found_sets}
 use Rattle.ql_answers.specs.Replies.{Reply, Fails, Finds, replied}
@@ -69,8 +70,15 @@ pub says_found : {E : Type 0} (index : ℕ) (selection : Selection) (front : Sna
     → OnOk result (after ≡ then_reply before (sets_payloads status (found_sets selection found)) false) → OnErr result (after ≡ before)
     → SaysPlan (Search index selection) (Read front) status result before after
 says_found index selection front found status before after (Ok told) are tells said unsaid =
-    (Finds (found_sets selection found) (meta_of selection.asked found (all_living front.layers)), (found, are, refl), said, tells)
+    (Finds (found_sets selection found) (meta_of selection.asked found (all_living front.layers)), inl (found, are, refl), said, tells)
 says_found index selection front found status before after (Err e) are tells said unsaid = (refl, search rules, unsaid)
+
+-- or it is refused, since a document that it finds has no weight
+pub says_lacking : (index : ℕ) (selection : Selection) (front : SnapshotValue) (id : ℕ) (refusal : Refused) (status : ℕ) (before after : Written)
+    → IsFirstLacking selection.asked.question (all_living front.layers) id → refusal ≡ rank_out_of_range id → after ≡ replied before 0 (Fails refusal)
+    → Says (Search index selection) (Read front) status None before after
+says_lacking index selection front id refusal status before after lacks is said =
+    (Fails (rank_out_of_range id), inr (id, lacks, refl), said ∙ ap (λ (r : Refused). replied before 0 (Fails r)) is, refl)
 
 -- want of memory is told whatever the plan is
 pub no_memory_decides : (plan : Plan) → Decides plan NoMemory (Fails no_memory)

@@ -105,7 +105,8 @@ abbrev pub HasPending : Option PendingValue → Type 0
 HasPending None = ⊥
 HasPending (Some pending) = Unit {0}
 
--- Memory is wanted to find out what the statement wants, or to do it.
+-- Memory is wanted to find out what the statement wants, or to do it: for each that reads, writes or has a job done, and where an open
+-- transaction is committed.
 abbrev pub TakesMemory : State → Statement → Type 0
 TakesMemory state statements.Begin = HasPending state.pending
 TakesMemory state statements.StartTransaction = HasPending state.pending

@@ -1,7 +1,8 @@
 -- Sessions: what is kept between statements, and what is replied to one by what the outside did.
-use Rattle.std.specs.Prelude.{◌≡◌, ◌≢◌, ℕ, List, All, Result, Ok, Err, length, Bool, true, false, Option, Some, None}
+use Rattle.std.specs.Prelude.{◌≡◌, ◌≢◌, ◌⊎◌, ℕ, List, All, Result, Ok, Err, length, Bool, true, false, Option, Some, None}
 use Rattle.std.specs.FinMap as finite
 use Rattle.std.specs.List.{count_by}
+use Rattle.doc_types.specs.declared.documents.DocRow.{DocRow}
 use Rattle.doc_types.specs.declared.schema.Schema.{Schema}
 use Rattle.doc_types.specs.declared.transactions.Txn.{Txn}
 use Rattle.doc_types.specs.Documents.{AreRowsOf}
@@ -24,9 +25,10 @@ use Rattle.ql_answers.specs.declared.plan.Counted.{Counted}
 use Rattle.ql_answers.specs.declared.plan.Counted.TheVariants as counting
 use Rattle.ql_answers.specs.declared.plan.Plan.TheVariants.{Agree, Show, Search, Status, Keep, Put, Commit, Reshape}
 use Rattle.ql_answers.specs.Plans.{Wants, Refuses, TakesMemory}
-use Rattle.ql_refusals.specs.Refusals.{Refused, disk_failed, disk_in_doubt, duplicate_id, index_full, job_in_doubt, memory_in_doubt, no_memory, overtaken, strayed}
+use Rattle.ql_refusals.specs.Refusals.{Refused, disk_failed, disk_in_doubt, duplicate_id, index_full, job_in_doubt, memory_in_doubt, no_memory, overtaken, rank_out_of_range, strayed}
 use Rattle.doc_search.specs.declared.question.Question.{Question}
-use Rattle.doc_search.specs.Searches.{IsAskedOf}
+use Rattle.doc_search.specs.Searches.{IsAskedOf, IsFirstLacking}
+use Rattle.ql_select.specs.declared.selection.Selection.{Selection}
 use Rattle.table_search.specs.Tables.{AreTables}
 use Rattle.table_search.specs.declared.found.Found.{Found}
 use Rattle.ql_answers.specs.Metas.{meta_of}
@@ -132,14 +134,19 @@ reply_to_job job_outcomes.Refused = Fails disk_failed
 reply_to_job job_outcomes.InDoubt = Fails job_in_doubt
 reply_to_job (job_outcomes.Strayed numbers) = Fails (strayed numbers)
 
+-- What is replied to a SELECT by the documents: what it finds; or, on whatever page that is, the first document that it finds without a
+-- weight.
+abbrev pub DecidesSearch : Selection → List DocRow → Reply → Type 0
+DecidesSearch selection docs reply =
+    ((found : Found) × AreTables selection.asked docs found × (reply ≡ Finds (found_sets selection found) (meta_of selection.asked found docs)))
+    ⊎ ((id : ℕ) × IsFirstLacking selection.asked.question docs id × (reply ≡ Fails (rank_out_of_range id)))
+
 -- What is replied to a plan by what happened.
 abbrev pub Decides : Plan → Happened → Reply → Type 0
 Decides plan NoMemory reply = reply ≡ Fails no_memory
 Decides (Agree turn) Nothing reply = reply ≡ Done 0
 Decides (Show set) Nothing reply = reply ≡ Shows set
-Decides (Search place selection) (Read front) reply =
-    (found : Found) × AreTables selection.asked (all_living front.layers) found
-    × (reply ≡ Finds (found_sets selection found) (meta_of selection.asked found (all_living front.layers)))
+Decides (Search place selection) (Read front) reply = DecidesSearch selection (all_living front.layers) reply
 Decides (Status place) (Read front) reply = reply ≡ Shows (index_status (finite.len (live front)) (disk_count front))
 Decides (Keep place txn affected) Nothing reply = reply ≡ Done affected
 Decides (Put place txn counted) (Committing outcome) reply = reply ≡ reply_to_commit counted (length txn.ops) outcome

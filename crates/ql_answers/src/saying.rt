@@ -25,11 +25,11 @@ use commit_outcomes::{CommitOutcome, Doubt};
 use doc_types::{HitLists, Snapshot};
 use ql_refusals::{
     disk_failed, disk_in_doubt, duplicate_id, index_full, job_in_doubt, memory_in_doubt, no_memory,
-    overtaken, strayed,
+    overtaken, rank_out_of_range, strayed,
 };
 use ql_select::Selection;
 use reply_rows::Replies;
-use srch_base::NoMemory;
+use srch_base::{NoMemory, Or};
 use std::alloc::Global;
 use table_search::{Asked, Found, Table, find_tables, word_docs};
 
@@ -120,7 +120,7 @@ fn say_read<C: HitLists>(
     }
 }
 
-/// Replies to a SELECT with what it finds.
+/// Replies to a SELECT with what it finds, or with the refusal of a document that has no weight.
 fn say_search<C: HitLists>(
     alloc: Global,
     selection: &Selection,
@@ -132,8 +132,14 @@ fn say_search<C: HitLists>(
     requires open { IsOpen replies.old }
     ensures { (index : ℕ) → SaysPlan (Search index selection.now) (Read snapshot.now) status result replies.old replies.new }
 {
-    let found = find_tables(alloc, &selection.asked, snapshot)?;
-    say_found(alloc, selection, &found, snapshot, status, replies)
+    match find_tables(alloc, &selection.asked, snapshot) {
+        Ok(found) => say_found(alloc, selection, &found, snapshot, status, replies),
+        Err(Or::NoMemory) => Err(NoMemory),
+        Err(Or::Fault(id)) => {
+            put_refusal(&rank_out_of_range(id), replies);
+            Ok(None)
+        }
+    }
 }
 
 /// Replies to a SELECT with what was found, and gives what SHOW META tells of it.

@@ -33,12 +33,13 @@ pub struct StatementMachine {
 impl Model for StatementMachine {
     ghost use Rattle.std.specs.Coded.{codes};
     ghost use Rattle.query_tree.specs.contracts.query.Node as node;
+    ghost use Rattle.rank_expr.specs.contracts.expr.Expr as expr;
     ghost use Rattle.ql_answers.specs.Sessions.{Standing};
     ghost use Rattle.ql_answers.specs.steps.Turning.{CanKeepAny};
 
     ghost Value = { Standing };
 
-    ghost coded = { Prim.hlevel (codes, node.the_row.coded) };
+    ghost coded = { Prim.hlevel (codes, node.the_row.coded, expr.the_row.coded) };
 
     ghost view = { λ machine. record { state = machine.state; plan = machine.plan } };
 

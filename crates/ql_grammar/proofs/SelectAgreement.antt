@@ -1,5 +1,5 @@
 -- The grammar of SELECT and the values of its texts, line by line.
-use Rattle.std.proofs.Common.{◌≡◌, ℕ, List, [], ◌++◌, Bool, true, false, Option, Some, None, ◌⊎◌, inl, inr, refl, sym, ◌∙◌, ap, subst}
+use Rattle.std.proofs.Common.{◌≡◌, ℕ, List, [], ◌++◌, Bool, true, false, Option, Some, None, ◌⊎◌, inl, inr, refl, sym, ◌∙◌, ap, subst, append-nil}
 use Rattle.ql_lex.specs.declared.token.Sign.TheVariants as signs
 use Rattle.ql_lex.specs.Tokens.{Lexeme}
 use Rattle.ql_grammar.specs.declared.keyword.Keyword.{Keyword}
@@ -25,7 +25,7 @@ use Rattle.ql_grammar.specs.Terminals.{keyword, name, enclosed}
 use Rattle.ql_grammar.specs.steps.Grammar.{weight, count, counted, expr, alias, item, comparison, cond, test, direction, having, limit, field_weight, option_value, option, facet, conds, group, within, having_part, order, options, select}
 use Rattle.token_grammar.specs.Language.{◌⨾◌, ◌∣◌}
 use Rattle.ql_grammar.specs.Parts.{IsKeyword, IsSign, IsName, IsText, IsEnclosed}
-use Rattle.token_grammar.specs.Values.{◌then◌, IsGiven, AreGiven}
+use Rattle.token_grammar.specs.Values.{◌then◌, IsAbsent, IsGiven, AreGiven}
 use Rattle.ql_grammar.specs.Selects.{comparison_sign, IsExpr, IsAlias, IsItem, IsComparison, IsCond, IsWeight, IsCount, IsSort, IsInnerSort, IsGroupSort, IsDirection, IsKeyBy, IsHaving, IsLimit, IsFieldWeight, IsOptionValue, IsOption, IsFacet, AreConds, IsGroup, AreInnerKeys, IsHavingPart, AreKeys, AreOptions, IsSelected}
 use Rattle.ql_grammar.specs.steps.Selecting.{IsCounted}
 use Rattle.ql_grammar.proofs.Agreement.{agree_name, agree_number, agree_sign, agree_keyword}
@@ -274,26 +274,35 @@ agree_limit = agree_as
 agree_field_weight : Agree sphinxql field_weight IsFieldWeight
 agree_field_weight = agree_seq agree_name (agree_after (agree_sign signs.Equal) agree_number)
 
+-- what stands before nothing stands alone
+pub before_nothing : (P : List Lexeme → Type 0) (u : List Lexeme) → (P then IsAbsent) u → P u
+before_nothing P u (a, b, e, p, q) = subst P (sym (e ∙ ap (λ v. a ++ v) q ∙ append-nil a)) p
+
+pub with_nothing : (P : List Lexeme → Type 0) (u : List Lexeme) → P u → (P then IsAbsent) u
+with_nothing P u p = (u, [], sym (append-nil u), p, refl)
+
 agree_option_value : Agree sphinxql option_value IsOptionValue
 agree_option_value = agree_as (agree_named OptionRow.a_name after_a_name all_options by_row) there back
   where
     by_row : (row : OptionRow) → Agree sphinxql (option_part row) (IsOptionPart row)
-    by_row OptionRow.a_name = agree_name
+    by_row OptionRow.a_name = agree_seq agree_name (agree_optional (agree_enclosed agree_text))
     by_row OptionRow.a_number = agree_number
     by_row OptionRow.a_text = agree_text
     by_row OptionRow.a_list = agree_enclosed (agree_listed (agree_sign signs.Comma) agree_field_weight)
 
     there : (x : (row : OptionRow) × OptionParts row) (u : List Lexeme) → IsOptionPart x.0 x.1 u → (y : OptionValue) × IsOptionValue y u
-    there (OptionRow.a_name, keyword) u h = (values.Name keyword, h)
+    there (OptionRow.a_name, (keyword, None)) u h = (values.Name keyword, before_nothing (IsName keyword) u h)
+    there (OptionRow.a_name, (keyword, Some words)) u h = (values.Call keyword words, h)
     there (OptionRow.a_number, n) u h = (values.Number n, h)
     there (OptionRow.a_text, words) u h = (values.Text words, h)
     there (OptionRow.a_list, pairs) u h = (values.List pairs, h)
 
     back : (y : OptionValue) (u : List Lexeme) → IsOptionValue y u → (x : (row : OptionRow) × OptionParts row) × IsOptionPart x.0 x.1 u
-    back (values.Name keyword) u h = ((OptionRow.a_name, keyword), h)
+    back (values.Name keyword) u h = ((OptionRow.a_name, (keyword, None)), with_nothing (IsName keyword) u h)
     back (values.Number n) u h = ((OptionRow.a_number, n), h)
     back (values.Text words) u h = ((OptionRow.a_text, words), h)
     back (values.List pairs) u h = ((OptionRow.a_list, pairs), h)
+    back (values.Call keyword words) u h = ((OptionRow.a_name, (keyword, Some words)), h)
 
 agree_option : Agree sphinxql option IsOption
 agree_option = agree_as (agree_seq agree_name (agree_after (agree_sign signs.Equal) agree_option_value)) (λ x u h. (record { name = x.0; value = x.1 }, h)) (λ y u h. ((y.name, y.value), h))

@@ -10,8 +10,8 @@ use Rattle.ql_grammar.specs.Terminals.{keyword, name, number, text, whole, comma
 use Rattle.ql_grammar.specs.steps.Grammar as grammar
 use Rattle.token_grammar.specs.Language.{Re, ◌⨾◌, listed}
 use Rattle.ql_grammar.specs.Parts.{IsKeyword, IsComma, IsName, IsNumber, IsText, IsWhole, IsEnclosed, AreParens}
-use Rattle.token_grammar.specs.Values.{◌then◌, AreListed}
-use Rattle.ql_grammar.specs.Selects.{IsWeight, IsCount, IsComparison, IsFieldWeight}
+use Rattle.token_grammar.specs.Values.{◌then◌, IsGiven, AreListed}
+use Rattle.ql_grammar.specs.Selects.{IsWeight, IsCount, IsComparison, IsFieldWeight, IsArgument}
 use Rattle.ql_grammar.specs.steps.Selecting.{IsCounted}
 use Rattle.token_grammar.proofs.NamedChoices.{IsListed}
 
@@ -107,19 +107,19 @@ abbrev pub after_a_name : List OptionRow
 after_a_name = OptionRow.a_number ∷ OptionRow.a_text ∷ OptionRow.a_list ∷ []
 
 abbrev pub option_part : OptionRow → Re Class
-option_part OptionRow.a_name = name
+option_part OptionRow.a_name = name ⨾ grammar.argument
 option_part OptionRow.a_number = number
 option_part OptionRow.a_text = text
 option_part OptionRow.a_list = enclosed (listed comma grammar.field_weight)
 
 abbrev pub OptionParts : OptionRow → Type 0
-OptionParts OptionRow.a_name = List ℕ
+OptionParts OptionRow.a_name = List ℕ × Option (List ℕ)
 OptionParts OptionRow.a_number = ℕ
 OptionParts OptionRow.a_text = List ℕ
 OptionParts OptionRow.a_list = List (List ℕ × ℕ)
 
 abbrev pub IsOptionPart : (row : OptionRow) → OptionParts row → List Lexeme → Type 0
-IsOptionPart OptionRow.a_name keyword = IsName keyword
+IsOptionPart OptionRow.a_name x = IsName x.0 then IsGiven IsArgument x.1
 IsOptionPart OptionRow.a_number n = IsNumber n
 IsOptionPart OptionRow.a_text words = IsText words
 IsOptionPart OptionRow.a_list pairs = IsEnclosed (AreListed IsComma IsFieldWeight pairs)

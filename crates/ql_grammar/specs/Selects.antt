@@ -120,12 +120,17 @@ IsLimit limit = IsKeyword keywords.Limit then IsNumber limit.first then IsGiven 
 abbrev pub IsFieldWeight : List ℕ × ℕ → List Lexeme → Type 0
 IsFieldWeight pair = IsName pair.0 then IsSign signs.Equal then IsNumber pair.1
 
--- name | n | text | ( name = n (, name = n)* )
+-- ( text )
+abbrev pub IsArgument : List ℕ → List Lexeme → Type 0
+IsArgument text = IsEnclosed (IsText text)
+
+-- name | n | text | ( name = n (, name = n)* ) | name ( text )
 abbrev pub IsOptionValue : OptionValue → List Lexeme → Type 0
 IsOptionValue (values.Name name) = IsName name
 IsOptionValue (values.Number n) = IsNumber n
 IsOptionValue (values.Text text) = IsText text
 IsOptionValue (values.List pairs) = IsEnclosed (AreListed IsComma IsFieldWeight pairs)
+IsOptionValue (values.Call name text) = IsName name then IsArgument text
 
 -- name = value
 abbrev pub IsOption : SelectOption → List Lexeme → Type 0

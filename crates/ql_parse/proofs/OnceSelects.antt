@@ -37,6 +37,7 @@ use Rattle.token_grammar.proofs.Once.{Once, IsOnce, once_as, once_after, once_se
 use Rattle.token_grammar.proofs.OnceChoices.{once_either, once_listed, once_lists, once_optional, once_or, once_perhaps, once_row, parted_two}
 use Rattle.ql_parse.proofs.OnceParts.{once_comparison, once_enclosed, once_name, once_number, once_parens, once_sign, once_text, once_whole, once_wholes, once_keyword, once_keywords}
 use Rattle.token_grammar.proofs.NamedChoices.{AreParted, once_named, parted_firsts}
+use Rattle.ql_grammar.proofs.SelectAgreement.{with_nothing}
 use Rattle.ql_grammar.proofs.SelectRows.{ExprRow, ExprValue, IsExprPart, after_count, expr_part, all_exprs, TestRow, TestValue, IsTest, AreWholes, after_between, test_part, all_tests, SortRow, SortValue, IsSortPart, after_weight, sort_part, all_sorts, OptionRow, OptionParts, IsOptionPart, after_a_name, option_part, all_options}
 use Rattle.ql_grammar.specs.Alphabet.{sphinxql}
 
@@ -246,37 +247,40 @@ once_limit = once_as
 once_field_weight : Once sphinxql field_weight [] IsFieldWeight
 once_field_weight = once_seq once_name (once_after (once_sign signs.Equal) once_number refl) refl
 
-once_option_value : Once sphinxql option_value [] IsOptionValue
+once_option_value : Once sphinxql option_value opens IsOptionValue
 once_option_value = once_as
-    (once_named OptionRow.a_name after_a_name all_options (parted_firsts sphinxql [] option_part OptionRow.a_name after_a_name refl) by_row)
+    (once_named OptionRow.a_name after_a_name all_options (parted_firsts sphinxql opens option_part OptionRow.a_name after_a_name refl) by_row)
     value back
   where
-    by_row : (row : OptionRow) → Once sphinxql (option_part row) [] (IsOptionPart row)
-    by_row OptionRow.a_name = once_name
-    by_row OptionRow.a_number = once_number
-    by_row OptionRow.a_text = once_text
-    by_row OptionRow.a_list = once_enclosed (once_listed (once_sign signs.Comma) once_field_weight refl refl) refl
+    by_row : (row : OptionRow) → Once sphinxql (option_part row) opens (IsOptionPart row)
+    by_row OptionRow.a_name = once_seq once_name (once_optional (once_enclosed once_text refl) refl) refl
+    by_row OptionRow.a_number = once_wider once_number refl
+    by_row OptionRow.a_text = once_wider once_text refl
+    by_row OptionRow.a_list = once_wider (once_enclosed (once_listed (once_sign signs.Comma) once_field_weight refl refl) refl) refl
 
     value : (row : OptionRow) × OptionParts row → OptionValue
-    value (OptionRow.a_name, keyword) = values.Name keyword
+    value (OptionRow.a_name, (keyword, None)) = values.Name keyword
+    value (OptionRow.a_name, (keyword, Some words)) = values.Call keyword words
     value (OptionRow.a_number, n) = values.Number n
     value (OptionRow.a_text, words) = values.Text words
     value (OptionRow.a_list, pairs) = values.List pairs
 
     back : (y : OptionValue) (u : List Lexeme) → IsOptionValue y u → (x : (row : OptionRow) × OptionParts row) × IsOptionPart x.0 x.1 u × (value x ≡ y)
-    back (values.Name keyword) u h = ((OptionRow.a_name, keyword), h, refl)
+    back (values.Name keyword) u h = ((OptionRow.a_name, (keyword, None)), with_nothing (IsName keyword) u h, refl)
     back (values.Number n) u h = ((OptionRow.a_number, n), h, refl)
     back (values.Text words) u h = ((OptionRow.a_text, words), h, refl)
     back (values.List pairs) u h = ((OptionRow.a_list, pairs), h, refl)
+    back (values.Call keyword words) u h = ((OptionRow.a_name, (keyword, Some words)), h, refl)
 
-once_option : Once sphinxql option [] IsOption
+once_option : Once sphinxql option opens IsOption
 once_option = once_as (once_seq once_name (once_after (once_sign signs.Equal) once_option_value refl) refl) value (λ y u h. ((y.name, y.value), h, refl))
   where
     value : List ℕ × OptionValue → SelectOption
     value x = record { name = x.0; value = x.1 }
 
-once_options : Once sphinxql options (the_keyword keywords.Option ∷ the_sign signs.Comma ∷ []) (AreGiven AreOptions)
-once_options = once_lists AreOptions (once_after (once_keyword keywords.Option) (once_listed (once_sign signs.Comma) once_option refl refl) refl) refl
+once_options : Once sphinxql options (the_keyword keywords.Option ∷ the_sign signs.Comma ∷ opens) (AreGiven AreOptions)
+once_options = once_wider (once_lists AreOptions
+    (once_after (once_keyword keywords.Option) (once_listed (once_sign signs.Comma) once_option refl refl) refl) refl) refl
 
 once_facet : Once sphinxql facet facet_goes_on IsFacet
 once_facet = once_after (once_keyword keywords.Facet) (once_as

@@ -1,18 +1,19 @@
 //! What may follow the conditions of a SELECT: HAVING, LIMIT, OPTION and FACET. Each is none where its keyword isn't next.
 
-ghost use Rattle.std.specs.Prelude.{[], ◌∷◌};
+ghost use Rattle.std.specs.Prelude.{◌≡◌, [], ◌∷◌};
 ghost use Rattle.ql_grammar.specs.Alphabet.{sphinxql};
 ghost use Rattle.ql_lex.specs.declared.token.Sign.TheVariants as signs;
 ghost use Rattle.ql_grammar.specs.declared.keyword.Keyword.TheVariants as keywords;
 ghost use Rattle.ql_grammar.specs.Classes.{the_keyword, the_sign};
 ghost use Rattle.ql_grammar.specs.Terminals.{name, number, text, comma, enclosed, two_keywords};
-ghost use Rattle.ql_grammar.specs.steps.Grammar.{having, having_part, limit, field_weight, option_value, option, options, facet, facet_parts, group_key};
+ghost use Rattle.ql_grammar.specs.steps.Grammar.{having, having_part, limit, field_weight, argument, option_value, option, options, facet, facet_parts, group_key};
 ghost use Rattle.token_grammar.specs.Language.{◌⨾◌, ◌∣◌, listed, optional};
 ghost use Rattle.token_grammar.specs.Language.{one, many};
 ghost use Rattle.token_grammar.specs.Values.{IsGiven, AreGiven, AreInRow};
 ghost use Rattle.token_grammar.specs.Reading.{ReadsPart};
 ghost use Rattle.ql_grammar.specs.steps.GoingOn.{key_goes_on, limit_goes_on, facet_goes_on};
-ghost use Rattle.ql_grammar.specs.Selects.{IsHaving, IsHavingPart, IsSecond, IsLimit, IsFieldWeight, IsOptionValue, IsOption, AreOptions, IsFacetOrder, IsFacet, IsFaceted};
+ghost use Rattle.ql_grammar.specs.steps.Selecting.{named_value};
+ghost use Rattle.ql_grammar.specs.Selects.{IsHaving, IsHavingPart, IsSecond, IsLimit, IsFieldWeight, IsArgument, IsOptionValue, IsOption, AreOptions, IsFacetOrder, IsFacet, IsFaceted};
 
 use crate::comparisons::comparison;
 use crate::cursor::TokenCursor;
@@ -21,7 +22,7 @@ use crate::sorting::{group_key, group_sort};
 use ql_grammar::Keyword;
 use ql_lex::Sign;
 use ql_tree::{FacetPart, Having, LimitPart, OptionValue, SelectOption, SortKey};
-use srch_base::{Items, Name, Or};
+use srch_base::{Items, Name, Or, Text};
 use std::alloc::Global;
 
 fn having_cond(alloc: Global, input: &mut TokenCursor<'_>) -> Result<Having, Or<u32>>
@@ -84,11 +85,42 @@ impl Part for FieldWeight {
     }
 }
 
+/// Reads a text in parentheses, if it is there.
+fn argument(alloc: Global, input: &mut TokenCursor<'_>) -> Result<Option<Text>, Or<u32>>
+    ensures { ReadsPart sphinxql argument (the_sign signs.OpenParen ∷ []) (IsGiven IsArgument) input.old result input.new }
+{
+    if input.takes_sign(Sign::OpenParen) {
+        let text = input.text(alloc)?;
+        input.sign(Sign::CloseParen)?;
+        return Ok(Some(text));
+    }
+    Ok(None)
+}
+
+/// The name alone, or its call.
+fn named_value(name: Name, argument: Option<Text>) -> OptionValue
+    ensures { result ≡ named_value name argument }
+{
+    match argument {
+        None => OptionValue::Name(name),
+        Some(text) => OptionValue::Call { name, text },
+    }
+}
+
+/// Reads a name, and what it is called with.
+fn name_or_call(alloc: Global, input: &mut TokenCursor<'_>) -> Result<OptionValue, Or<u32>>
+    ensures { ReadsPart sphinxql (name ⨾ argument) (the_sign signs.OpenParen ∷ []) IsOptionValue input.old result input.new }
+{
+    let name = input.name(alloc)?;
+    let argument = argument(alloc, input)?;
+    Ok(named_value(name, argument))
+}
+
 fn option_value(alloc: Global, input: &mut TokenCursor<'_>) -> Result<OptionValue, Or<u32>>
-    ensures { ReadsPart sphinxql option_value [] IsOptionValue input.old result input.new }
+    ensures { ReadsPart sphinxql option_value (the_sign signs.OpenParen ∷ []) IsOptionValue input.old result input.new }
 {
     if input.is_name() {
-        return Ok(OptionValue::Name(input.name(alloc)?));
+        return name_or_call(alloc, input);
     }
     if input.is_number() {
         return Ok(OptionValue::Number(input.number()?));
@@ -107,7 +139,7 @@ impl Part for OptionPart {
 
     ghost grammar = { option };
 
-    ghost goes_on = { [] };
+    ghost goes_on = { the_sign signs.OpenParen ∷ [] };
 
     ghost is = { IsOption };
 
@@ -124,7 +156,7 @@ pub(crate) fn options(
     alloc: Global,
     input: &mut TokenCursor<'_>,
 ) -> Result<Items<SelectOption>, Or<u32>>
-    ensures { ReadsPart sphinxql options (the_keyword keywords.Option ∷ comma ∷ []) (AreGiven AreOptions) input.old result input.new }
+    ensures { ReadsPart sphinxql options (the_keyword keywords.Option ∷ comma ∷ the_sign signs.OpenParen ∷ []) (AreGiven AreOptions) input.old result input.new }
 {
     if input.takes_keyword(Keyword::Option) {
         let options = listed::<OptionPart>(alloc, input, Sign::Comma)?;

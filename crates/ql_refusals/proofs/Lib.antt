@@ -4,3 +4,5 @@ pub mod FirstFault
 pub mod FirstOf
 -- what may be there is one value, or isn't there
 pub mod Options
+-- a text that goes on with three parts
+mod ThreeParts

@@ -7,6 +7,9 @@ use Rattle.ql_grammar.specs.FaultTexts.{fault_text as parse_text}
 use Rattle.ql_grammar.specs.declared.fault.ParseFault.{ParseFault}
 use Rattle.query_grammar.specs.FaultTexts.{fault_text as query_text}
 use Rattle.query_grammar.specs.declared.fault.QueryFault.{QueryFault}
+use Rattle.rank_expr.specs.declared.fault.ExprFault.{ExprFault}
+use Rattle.rank_expr.specs.declared.fault.ExprKind.{ExprKind}
+use Rattle.rank_expr.specs.declared.fault.ExprKind.TheVariants as expr_kinds
 use Rattle.commit_outcomes.specs.declared.outcome.Full.{Full}
 use Rattle.commit_outcomes.specs.declared.outcome.FullKind.{FullKind}
 use Rattle.commit_outcomes.specs.declared.outcome.FullKind.TheVariants.{Chunks, Documents, Images, Log, Numbers, Root}
@@ -118,6 +121,24 @@ offset_not_below offset max_matches = refused (codes "offset " ++ decimal offset
 -- the text of MATCH, with the name that isn't known as refusals show it
 abbrev pub bad_query : QueryFault → Refused
 bad_query fault = refused (query_text (record fault { name = shown fault.name }))
+
+-- what is wrong with a ranking expression, with the name that isn't known or stands in the wrong scope
+abbrev pub expr_text : ExprKind → List ℕ → List ℕ
+expr_text expr_kinds.Long name = codes "too long"
+expr_text expr_kinds.Syntax name = codes "syntax error"
+expr_text expr_kinds.Division name = codes "division"
+expr_text expr_kinds.Number name = codes "number too large"
+expr_text expr_kinds.Factor name = codes "unknown factor '" ++ name ++ codes "'"
+expr_text expr_kinds.Scope name = codes "'" ++ name ++ codes "' in the wrong scope"
+expr_text expr_kinds.Nesting name = codes "nesting above 32"
+
+-- the text of a ranker
+abbrev pub bad_expr : ExprFault → Refused
+bad_expr fault = refused (codes "expr: " ++ expr_text fault.kind (shown fault.name) ++ codes " at " ++ decimal fault.place)
+
+-- a document that is found has no weight by it
+abbrev pub rank_out_of_range : ℕ → Refused
+rank_out_of_range id = refused (codes "rank out of range at id " ++ decimal id)
 
 -- the transaction
 abbrev pub too_many_positions : List ℕ → Refused

@@ -2,7 +2,7 @@
 //! table. Here are those that come before the store is asked.
 ghost use Rattle.std.specs.Prelude.{◌≡◌, ◌+◌, ◌≤◌, ◌++◌, [], codes, length, decimal};
 ghost use Rattle.query_grammar.specs.FaultTexts.{name_text};
-ghost use Rattle.ql_refusals.specs.Refusals.{bad_query as bad_query_row, bad_syntax as bad_syntax_row, bad_token as bad_token_row, column_is_field as column_is_field_row, column_is_no_field as column_is_no_field_row, column_twice as column_twice_row, group_by_missing as group_by_missing_row, id_missing as id_missing_row, id_out_of_range as id_out_of_range_row, max_matches_out_of_range as max_matches_out_of_range_row, no_memory as no_memory_row, offset_not_below as offset_not_below_row, other_index as other_index_row, ranker_not_offered as ranker_not_offered_row, refused, second_match as second_match_row, shown, state_of, too_many_columns as too_many_columns_row, too_many_facets as too_many_facets_row, too_many_operations as too_many_operations_row, too_many_positions as too_many_positions_row, too_many_sort_keys as too_many_sort_keys_row, transaction_open as transaction_open_row, transaction_too_large as transaction_too_large_row, unknown_column as unknown_column_row, unknown_index as unknown_index_row, unknown_option as unknown_option_row, value_out_of_range as value_out_of_range_row, wrong_kind as wrong_kind_row, wrong_number as wrong_number_row};
+ghost use Rattle.ql_refusals.specs.Refusals.{bad_expr as bad_expr_row, bad_query as bad_query_row, bad_syntax as bad_syntax_row, bad_token as bad_token_row, column_is_field as column_is_field_row, column_is_no_field as column_is_no_field_row, column_twice as column_twice_row, expr_text, group_by_missing as group_by_missing_row, id_missing as id_missing_row, id_out_of_range as id_out_of_range_row, max_matches_out_of_range as max_matches_out_of_range_row, no_memory as no_memory_row, offset_not_below as offset_not_below_row, other_index as other_index_row, ranker_not_offered as ranker_not_offered_row, rank_out_of_range as rank_out_of_range_row, refused, second_match as second_match_row, shown, state_of, too_many_columns as too_many_columns_row, too_many_facets as too_many_facets_row, too_many_operations as too_many_operations_row, too_many_positions as too_many_positions_row, too_many_sort_keys as too_many_sort_keys_row, transaction_open as transaction_open_row, transaction_too_large as transaction_too_large_row, unknown_column as unknown_column_row, unknown_index as unknown_index_row, unknown_option as unknown_option_row, value_out_of_range as value_out_of_range_row, wrong_kind as wrong_kind_row, wrong_number as wrong_number_row};
 
 use arrayvec::ArrayVec;
 use itoa::Buffer;
@@ -10,6 +10,7 @@ use ql_grammar::{ParseFault, ParseKind};
 use ql_lex::LexFault;
 use query_grammar::QueryFault;
 use query_marks::QueryKind;
+use rank_expr::{ExprFault, ExprKind};
 use srch_base::Or;
 use std::marker::Model;
 
@@ -140,6 +141,26 @@ impl Refusal {
                 self.then(b" '").then(cut(name)).then(b"'")
             }
             _ => self,
+        }
+    }
+
+    /// The text goes on with what is wrong with an expression.
+    fn then_expr(self, kind: ExprKind, name: &[u8]) -> Refusal
+        requires { length self.text ≤ 100 }
+        ensures value { result ≡ record { code = self.code; text = self.text ++ expr_text kind (shown name.now) } }
+        ensures short { length result.text ≤ length self.text + 90 }
+    {
+        match kind {
+            ExprKind::Long => self.then(b"too long"),
+            ExprKind::Syntax => self.then(b"syntax error"),
+            ExprKind::Division => self.then(b"division"),
+            ExprKind::Number => self.then(b"number too large"),
+            ExprKind::Factor => self.then(b"unknown factor '").then(cut(name)).then(b"'"),
+            ExprKind::Scope => self
+                .then(b"'")
+                .then(cut(name))
+                .then(b"' in the wrong scope"),
+            ExprKind::Nesting => self.then(b"nesting above 32"),
         }
     }
 }
@@ -334,6 +355,23 @@ pub fn bad_query(fault: &QueryFault) -> Refusal
         .then_unknown(fault.kind, fault.name.as_bytes())
         .then(b" at ")
         .then_number(u64::from(fault.place))
+}
+
+/// The text of a ranker is no expression.
+pub fn bad_expr(fault: &ExprFault) -> Refusal
+    ensures { result ≡ bad_expr_row fault.now }
+{
+    Refusal::plain(WRONG, b"expr: ")
+        .then_expr(fault.kind, fault.name.as_bytes())
+        .then(b" at ")
+        .then_number(u64::from(fault.place))
+}
+
+/// The ranking expression gives no weight to the document of this id, which is found.
+pub fn rank_out_of_range(id: u64) -> Refusal
+    ensures { result ≡ rank_out_of_range_row id }
+{
+    Refusal::numbered(b"rank out of range at id ", id)
 }
 
 /// A word of the field would stand above the last position.

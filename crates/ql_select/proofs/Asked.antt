@@ -29,5 +29,5 @@ numbered_query conf select selection selects =
 pub selection_is_asked : (conf : IndexConf) (select : Select) (selection : Selection) → IsSchema conf.schema → Selects conf select selection → IsAskedOf conf.schema selection.asked.question
 selection_is_asked conf select selection schema selects =
     subst (λ (s : Selection). IsAskedOf conf.schema s.asked.question) (sym selects.means)
-    (is_asked conf select (names_of conf.schema select) selects.query schema selects.good
+    (is_asked conf select (names_of conf.schema select) selects.query selects.ranking schema selects.good
     (numbers_kept conf.schema selects.query (numbered_query conf select selection selects)))

@@ -137,6 +137,7 @@ value_weights schema (values.List list) e =
 value_weights schema (values.Name name) e = All-nil IsWeight
 value_weights schema (values.Number number) e = All-nil IsWeight
 value_weights schema (values.Text text) e = All-nil IsWeight
+value_weights schema (values.Call name text) e = All-nil IsWeight
 
 option_weights : (schema : Schema) (option : SelectOption) → option.name ≡ field_weights_option → option_fault Kinds schema option ≡ None → All IsWeight (weights_in (Some option.value))
 option_weights schema option same none =

@@ -31,7 +31,7 @@ use Rattle.ql_select.specs.declared.limits.TheConstants.{MAX_COLUMNS, MAX_FACETS
 use Rattle.ql_select.specs.Facets.{is_count}
 use Rattle.ql_select.specs.FirstFaults.{fault_in, first_fault}
 use Rattle.ql_select.specs.Names.{aliased}
-use Rattle.ql_select.specs.Options.{ranker_option, max_matches_option, field_weights_option, is_option, ranker_named, max_matches_of}
+use Rattle.ql_select.specs.Options.{expr_ranker, ranker_option, max_matches_option, field_weights_option, is_option, ranker_named, max_matches_of}
 use Rattle.ql_select.specs.Parts.{limits}
 
 -- ---- names of columns, and their kinds
@@ -134,11 +134,13 @@ target_weight_fault name weight target = Some (column_is_no_field name)
 abbrev pub weight_fault : Schema → List ℕ × ℕ → Option Refused
 weight_fault schema given = target_weight_fault given.0 given.1 (column_named schema given.0)
 
--- what is wrong with the value of `ranker`
+-- what is wrong with the value of `ranker`: `expr` is called with its text, and no other ranker is
 abbrev pub ranker_fault : Pass → OptionValue → Option Refused
-ranker_fault Names (values.Name name) = unless (is_some (ranker_named name)) (ranker_not_offered name)
+ranker_fault Names (values.Name name) = unless (is_some (ranker_named name) || bytes_eq name expr_ranker) (ranker_not_offered name)
+ranker_fault Names (values.Call name text) = unless (bytes_eq name expr_ranker) (ranker_not_offered name)
 ranker_fault Names value = None
-ranker_fault Kinds (values.Name name) = None
+ranker_fault Kinds (values.Name name) = unless (not (bytes_eq name expr_ranker)) (wrong_kind ranker_option)
+ranker_fault Kinds (values.Call name text) = None
 ranker_fault Kinds value = Some (wrong_kind ranker_option)
 
 -- what is wrong with the value of `max_matches`
@@ -154,13 +156,18 @@ field_weights_fault Names schema value = None
 field_weights_fault Kinds schema (values.List list) = first_of (weight_fault schema) list
 field_weights_fault Kinds schema value = Some (wrong_kind field_weights_option)
 
+-- what is wrong with the value of another option: it is no call
+abbrev pub other_fault : Pass → List ℕ → OptionValue → Option Refused
+other_fault Kinds option (values.Call name text) = Some (wrong_kind option)
+other_fault pass option value = None
+
 -- what is wrong with the value of an option
 abbrev pub option_fault : Pass → Schema → SelectOption → Option Refused
 option_fault pass schema option =
     if bytes_eq option.name ranker_option then ranker_fault pass option.value
     else if bytes_eq option.name max_matches_option then max_matches_fault pass option.value
     else if bytes_eq option.name field_weights_option then field_weights_fault pass schema option.value
-    else None
+    else other_fault pass option.name option.value
 
 -- what is wrong with the options: their names, the names in their values, and kinds and ranges
 abbrev pub options_faults : Schema → List SelectOption → List Fault

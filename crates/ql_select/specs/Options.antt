@@ -1,9 +1,15 @@
 -- The options of a SELECT. "SELECT syntax" of the manual.
-use Rattle.std.specs.Prelude.{ℕ, List, [], Bool, ◌||◌, reverse, map, codes, Option, Some, None, unwrap_or, if◌then◌else◌}
+use Rattle.std.specs.Prelude.{◌≡◌, ℕ, List, [], Bool, ◌||◌, reverse, map, codes, Option, Some, None, unwrap_or, if◌then◌else◌}
 use Rattle.std.specs.List.{find}
 use Rattle.std.specs.Option.{option_map}
 use Rattle.std.specs.Str.{bytes_eq}
 use Rattle.doc_types.specs.declared.schema.Schema.{Schema}
+use Rattle.doc_search.specs.declared.ranking.Ranking.{Ranking}
+use Rattle.doc_search.specs.declared.ranking.Ranking.TheVariants as rankings
+use Rattle.rank_expr.specs.ExprFaults.{IsRefused, IsValue}
+use Rattle.rank_expr.specs.declared.expr.RankExpr.{RankExpr}
+use Rattle.rank_expr.specs.declared.fault.ExprFault.{ExprFault}
+use Rattle.ql_refusals.specs.Refusals.{Refused, bad_expr}
 use Rattle.ql_tree.specs.declared.select.OptionValue.{OptionValue}
 use Rattle.ql_tree.specs.declared.select.OptionValue.TheVariants as values
 use Rattle.ql_tree.specs.declared.select.SelectOption.{SelectOption}
@@ -20,6 +26,10 @@ max_matches_option = codes "max_matches"
 
 abbrev pub field_weights_option : List ℕ
 field_weights_option = codes "field_weights"
+
+-- the ranker whose call has an expression as its text
+abbrev pub expr_ranker : List ℕ
+expr_ranker = codes "expr"
 
 -- two that are read and not used
 abbrev pub max_query_time_option : List ℕ
@@ -53,9 +63,22 @@ abbrev pub ranker_in : Option OptionValue → Ranker
 ranker_in (Some (values.Name name)) = unwrap_or (ranker_named name) rankers.Proximity
 ranker_in value = rankers.Proximity
 
--- how documents are weighed
-abbrev pub ranker_of : List SelectOption → Ranker
-ranker_of options = ranker_in (last_value options ranker_option)
+-- How documents are weighed by a value: by the expression that the text of a call is, or by a ranker.
+abbrev pub IsRankingIn : Schema → Option OptionValue → Ranking → Type 0
+IsRankingIn schema (Some (values.Call name text)) ranking = (expr : RankExpr) × IsValue schema text expr × (ranking ≡ rankings.Expr expr)
+IsRankingIn schema value ranking = ranking ≡ rankings.Plain (ranker_in value)
+
+-- The text of a call is no expression.
+abbrev pub RefusesRankingIn : Schema → Option OptionValue → Refused → Type 0
+RefusesRankingIn schema (Some (values.Call name text)) refusal = (fault : ExprFault) × IsRefused schema text fault × (refusal ≡ bad_expr fault)
+RefusesRankingIn schema value refusal = ⊥
+
+-- how the documents of a SELECT are weighed, or why it is refused
+abbrev pub IsRanking : Schema → List SelectOption → Ranking → Type 0
+IsRanking schema options ranking = IsRankingIn schema (last_value options ranker_option) ranking
+
+abbrev pub RefusesRanking : Schema → List SelectOption → Refused → Type 0
+RefusesRanking schema options refusal = RefusesRankingIn schema (last_value options ranker_option) refusal
 
 -- the number that a value is: `DEFAULT_MAX_MATCHES`, if nothing is said
 abbrev pub number_in : Option OptionValue → ℕ

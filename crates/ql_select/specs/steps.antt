@@ -5,4 +5,5 @@ pub mod Naming
 -- what is answered to the text of a MATCH
 pub mod Texts
 -- what a SELECT means, all but its query
+pub mod Rankings
 pub mod Rests

@@ -1,13 +1,15 @@
 //! What is wrong with the options of a SELECT: their names, the names in their values, and kinds and ranges, each from left to
 //! right.
-ghost use Rattle.std.specs.Prelude.{◌≡◌, [], fold};
-ghost use Rattle.ql_refusals.specs.Refusals.{first_of};
+ghost use Rattle.std.specs.Prelude.{◌≡◌, ◌||◌, [], fold, is_some, not};
+ghost use Rattle.std.specs.Str.{bytes_eq};
+ghost use Rattle.ql_refusals.specs.Refusals.{first_of, ranker_not_offered, unless, wrong_kind};
+ghost use Rattle.ql_select.specs.Options.{expr_ranker, ranker_named, ranker_option};
 ghost use Rattle.ql_select.specs.FirstFaults.{sooner};
-ghost use Rattle.ql_select.specs.Faults.{field_weights_fault, is_weighed, max_matches_fault, option_fault, option_name_fault, options_faults, ranker_fault, weight_fault, weight_names_fault};
+ghost use Rattle.ql_select.specs.Faults.{field_weights_fault, is_weighed, max_matches_fault, option_fault, option_name_fault, options_faults, other_fault, ranker_fault, weight_fault, weight_names_fault};
 
 use crate::first_fault::{FaultClass, FirstFault};
 use crate::options::{
-    FIELD_WEIGHTS_OPTION, MAX_MATCHES_OPTION, RANKER_OPTION, is_option, ranker_named,
+    EXPR_RANKER, FIELD_WEIGHTS_OPTION, MAX_MATCHES_OPTION, RANKER_OPTION, is_option, ranker_named,
 };
 use doc_types::Schema;
 use ql_columns::{IndexColumn, column_named, name_fault};
@@ -77,7 +79,7 @@ fn option_fault(pass: Pass, schema: &Schema, option: &SelectOption) -> Option<Re
     } else if name == FIELD_WEIGHTS_OPTION {
         field_weights_fault(pass, schema, &option.value)
     } else {
-        None
+        other_fault(pass, name, &option.value)
     }
 }
 
@@ -85,11 +87,51 @@ fn ranker_fault(pass: Pass, value: &OptionValue) -> Option<Refusal>
     ensures { result ≡ ranker_fault pass value.now }
 {
     match (pass, value) {
-        (Pass::Names, OptionValue::Name(name)) if ranker_named(name.as_bytes()).is_none() => {
-            Some(ranker_not_offered(name.as_bytes()))
-        }
-        (Pass::Names, _) | (Pass::Kinds, OptionValue::Name(_)) => None,
+        (Pass::Names, OptionValue::Name(name)) => ranker_name_fault(name.as_bytes()),
+        (Pass::Names, OptionValue::Call { name, .. }) => called_fault(name.as_bytes()),
+        (Pass::Names, _) | (Pass::Kinds, OptionValue::Call { .. }) => None,
+        (Pass::Kinds, OptionValue::Name(name)) => uncalled_fault(name.as_bytes()),
         (Pass::Kinds, _) => Some(wrong_kind(RANKER_OPTION)),
+    }
+}
+
+/// No ranker has the name.
+fn ranker_name_fault(name: &[u8]) -> Option<Refusal>
+    ensures { result ≡ unless (is_some (ranker_named name.now) || bytes_eq name.now expr_ranker) (ranker_not_offered name.now) }
+{
+    if ranker_named(name).is_some() || name == EXPR_RANKER {
+        return None;
+    }
+    Some(ranker_not_offered(name))
+}
+
+/// No ranker of the name is called with a text.
+fn called_fault(name: &[u8]) -> Option<Refusal>
+    ensures { result ≡ unless (bytes_eq name.now expr_ranker) (ranker_not_offered name.now) }
+{
+    if name == EXPR_RANKER {
+        return None;
+    }
+    Some(ranker_not_offered(name))
+}
+
+/// The ranker of the name wants a text.
+fn uncalled_fault(name: &[u8]) -> Option<Refusal>
+    ensures { result ≡ unless (not (bytes_eq name.now expr_ranker)) (wrong_kind ranker_option) }
+{
+    if name == EXPR_RANKER {
+        return Some(wrong_kind(RANKER_OPTION));
+    }
+    None
+}
+
+/// An option that isn't named here is set by no call.
+fn other_fault(pass: Pass, option: &[u8], value: &OptionValue) -> Option<Refusal>
+    ensures { result ≡ other_fault pass option.now value.now }
+{
+    match (pass, value) {
+        (Pass::Kinds, OptionValue::Call { .. }) => Some(wrong_kind(option)),
+        _ => None,
     }
 }
 

@@ -15,6 +15,8 @@ ghost use Rattle.ql_select.specs.Selections.{RefusesSelection, Selects};
 use query_read::{
     a_query_has_no_fault, a_text_has_one_first_fault, a_text_is_one_query, each_text_has_pieces,
 };
+use rank_expr::law;
+use rank_expr::law::{a_text_is_one_expression, an_expression_has_no_fault};
 
 /// What a SELECT means is a question to the index that it names: a search over rows of its columns answers it.
 pub fn a_selection_is_asked_of_its_index()
@@ -38,4 +40,7 @@ pub fn a_select_has_one_answer()
     a_text_is_one_query();
     a_query_has_no_fault();
     a_text_has_one_first_fault();
+    a_text_is_one_expression();
+    an_expression_has_no_fault();
+    law::a_text_has_one_first_fault();
 }

@@ -1,11 +1,17 @@
 //! The options of a SELECT: `ranker`, `max_matches` and `field_weights`. Of an option that is given twice the last counts.
-ghost use Rattle.std.specs.Prelude.{◌≡◌, ◌≤◌, All, IfOk, option_copied};
-ghost use Rattle.ql_select.specs.Options.{field_weights_option, is_option, last_value, max_matches_of, ranker_named, ranker_of, weight_for, weights_in, weights_of};
+ghost use Rattle.std.specs.Prelude.{◌≡◌, ◌≤◌, ℕ, All, IfOk, List, Some, length, option_copied};
+ghost use Rattle.doc_types.specs.declared.schema.TheConstants.{MAX_ATTRS};
+ghost use Rattle.ql_tree.specs.declared.select.OptionValue.TheVariants as values;
+ghost use Rattle.ql_select.specs.steps.Rankings.{RankingOr};
+ghost use Rattle.ql_select.specs.Options.{field_weights_option, is_option, last_value, max_matches_of, ranker_named, ranker_option, weight_for, weights_in, weights_of};
 
+use doc_search::Ranking;
 use doc_types::Schema;
+use ql_refusals::{Refusal, bad_expr};
 use ql_tree::{OptionValue, SelectOption};
+use rank_expr::read_expr;
 use rankers::{Ranker, Weights};
-use srch_base::{Items, Name, NoMemory};
+use srch_base::{Items, Name, NoMemory, Or};
 use std::alloc::Global;
 
 pub(crate) const RANKER_OPTION: &[u8] = b"ranker";
@@ -18,6 +24,9 @@ pub(crate) const FIELD_WEIGHTS_OPTION: &[u8] = b"field_weights";
 const MAX_QUERY_TIME_OPTION: &[u8] = b"max_query_time";
 
 const COMMENT_OPTION: &[u8] = b"comment";
+
+/// The ranker whose call has an expression as its text.
+pub(crate) const EXPR_RANKER: &[u8] = b"expr";
 
 /// How many rows there are for the page where nothing is said.
 pub const DEFAULT_MAX_MATCHES: u64 = 1000;
@@ -66,13 +75,33 @@ fn last_value<'a>(options: &'a [SelectOption], name: &[u8]) -> Option<&'a Option
     }
 }
 
-/// How documents are weighed: by `proximity`, if nothing is said.
-pub(crate) fn ranker_of(options: &[SelectOption]) -> Ranker
-    ensures { result ≡ ranker_of options.now }
+/// How documents are weighed: by `proximity`, if nothing is said; or why the text of an expression is none.
+pub(crate) fn ranking_of(
+    alloc: Global,
+    schema: &Schema,
+    options: &[SelectOption],
+) -> Result<Ranking, Or<Refusal>>
+    requires { length schema.now.attrs ≤ MAX_ATTRS }
+    ensures { RankingOr schema.now (last_value options.now ranker_option) result }
 {
     match last_value(options, RANKER_OPTION) {
-        Some(OptionValue::Name(name)) => ranker_named(name.as_bytes()).unwrap_or(Ranker::Proximity),
-        _ => Ranker::Proximity,
+        Some(OptionValue::Call { text, .. }) => ranking_by(alloc, schema, text.as_bytes()),
+        Some(OptionValue::Name(name)) => Ok(Ranking::Plain(ranker_named(name.as_bytes()).unwrap_or(
+            Ranker::Proximity,
+        ))),
+        _ => Ok(Ranking::Plain(Ranker::Proximity)),
+    }
+}
+
+/// How documents are weighed by the expression that a text is.
+fn ranking_by(alloc: Global, schema: &Schema, text: &[u8]) -> Result<Ranking, Or<Refusal>>
+    requires { length schema.now.attrs ≤ MAX_ATTRS }
+    ensures { (name : List ℕ) → RankingOr schema.now (Some (values.Call name text.now)) result }
+{
+    match read_expr(alloc, text, schema) {
+        Ok(expr) => Ok(Ranking::Expr(expr)),
+        Err(Or::NoMemory) => Err(Or::NoMemory),
+        Err(Or::Fault(fault)) => Err(Or::Fault(bad_expr(&fault))),
     }
 }
 

@@ -1,20 +1,19 @@
-//! What a SELECT means, all but its query.
+//! What a SELECT means, all but its query and how it is weighed.
 ghost use Rattle.std.specs.Prelude.{◌≡◌};
 ghost use Rattle.ql_select.specs.steps.Rests.{with_query};
 
 use crate::selection::{Selection, Shown};
-use doc_search::Question;
+use doc_search::{Question, Ranking};
 use group_facet::Facet;
 use mysql_wire::Column;
 use query_tree::Query;
-use rankers::{Ranker, Weights};
+use rankers::Weights;
 use row_select::{Filter, Order, Page};
 use srch_base::Items;
 use table_search::{Asked, Table};
 
 /// What a SELECT asks of its index, and what it shows of that, before the text of its MATCH is read.
 pub struct Rest {
-    pub ranker: Ranker,
     pub weights: Weights,
     pub filters: Items<Filter>,
     pub order: Order,
@@ -29,12 +28,11 @@ pub struct Rest {
 }
 
 impl Rest {
-    /// What the SELECT means with this query.
-    pub(crate) fn with_query(self, query: Query) -> Selection
-        ensures { result ≡ with_query query self }
+    /// What the SELECT means with this query, and weighed so.
+    pub(crate) fn with_query(self, query: Query, ranking: Ranking) -> Selection
+        ensures { result ≡ with_query query ranking self }
     {
         let Rest {
-            ranker,
             weights,
             filters,
             order,
@@ -47,7 +45,7 @@ impl Rest {
         } = self;
         let question = Question {
             query,
-            ranker,
+            ranker: ranking,
             weights,
             filters,
             order,
@@ -71,7 +69,6 @@ impl Rest {
 impl Drop for Rest {
     fn drop(self) {
         let Rest {
-            ranker: _,
             weights: _weights,
             filters: _filters,
             order: _order,

@@ -1,10 +1,12 @@
-//! A SELECT from an index, taken as a whole: its names, what they mean together, and last the query that its text is. So nothing
-//! that is made after the query can fail, and no proof has to let go of a query's tree.
+//! A SELECT from an index, taken as a whole: its names, what they mean together, how it is weighed, and last the query that its text
+//! is. So nothing that is made after the query can fail, and no proof has to let go of a query's tree. Why the expression of a ranker is
+//! refused is told after what is wrong with the text.
 ghost use Rattle.std.specs.Prelude.{◌≡◌, ◌<◌, ◌^◌, None, length, IfOk};
 ghost use Rattle.doc_types.specs.Schemas.{IsSchema};
 ghost use Rattle.ql_select.specs.Faults.{select_fault};
 ghost use Rattle.ql_select.specs.Names.{names_of};
 ghost use Rattle.ql_select.specs.Selections.{MeansOr};
+ghost use Rattle.ql_select.specs.steps.Rankings.{AsksOr, RefusesAfter};
 ghost use Rattle.ql_select.specs.steps.Rests.{rest_of};
 ghost use Rattle.ql_select.specs.steps.Texts.{ReadsText};
 
@@ -13,10 +15,11 @@ use crate::grouping::{row_order, table_of};
 use crate::limits::page_of;
 use crate::names::Names;
 use crate::naming::names_of;
-use crate::options::{ranker_of, weights_of};
+use crate::options::{ranking_of, weights_of};
 use crate::rest::Rest;
 use crate::selection::Selection;
 use crate::showing::columns_shown;
+use doc_search::Ranking;
 use index_conf::IndexConf;
 use op_eval::for_schema;
 use ql_refusals::{Refusal, bad_query, wrong_kind};
@@ -35,9 +38,44 @@ pub fn select(alloc: Global, conf: &IndexConf, select: &Select) -> Result<Select
 {
     let names = names_of(alloc, &conf.schema, select)?;
     let rest = rest_of(alloc, conf, select, names)?;
-    let query = query_of(alloc, conf, match_text(select.conds.as_slice()))?;
-    let query = for_schema(alloc, query, &conf.schema)?;
-    Ok(rest.with_query(query))
+    let text = match_text(select.conds.as_slice());
+    match ranking_of(alloc, &conf.schema, select.options.as_slice()) {
+        Ok(ranking) => asked_of(alloc, conf, text, rest, ranking),
+        Err(Or::NoMemory) => Err(Or::NoMemory),
+        Err(Or::Fault(refusal)) => Err(after_text(alloc, conf, text, refusal)),
+    }
+}
+
+/// What a SELECT means with the query of its text.
+fn asked_of(
+    alloc: Global,
+    conf: &IndexConf,
+    text: &[u8],
+    rest: Rest,
+    ranking: Ranking,
+) -> Result<Selection, Or<Refusal>>
+    requires schema { IsSchema conf.now.schema }
+    ensures { AsksOr conf.now text.now rest ranking result }
+{
+    let query = match query_of(alloc, conf, text) {
+        Ok(query) => query,
+        Err(end) => return Err(end),
+    };
+    match for_schema(alloc, query, &conf.schema) {
+        Ok(query) => Ok(rest.with_query(query, ranking)),
+        Err(NoMemory) => Err(Or::NoMemory),
+    }
+}
+
+/// Why a SELECT is refused that is refused so, unless the text of its MATCH is refused before.
+fn after_text(alloc: Global, conf: &IndexConf, text: &[u8], refusal: Refusal) -> Or<Refusal>
+    requires schema { IsSchema conf.now.schema }
+    ensures { RefusesAfter conf.now text.now refusal result }
+{
+    match query_of(alloc, conf, text) {
+        Ok(_query) => Or::Fault(refusal),
+        Err(sooner) => sooner,
+    }
 }
 
 /// The query that a text is.
@@ -76,7 +114,6 @@ fn rest_of(alloc: Global, conf: &IndexConf, select: &Select, names: Names) -> Re
     let table = table_of(alloc, &names, page)?;
     let (filters, facets, facet_columns) = names.into_kept();
     Ok(Rest {
-        ranker: ranker_of(options),
         weights,
         filters,
         order,

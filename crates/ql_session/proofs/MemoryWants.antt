@@ -1,8 +1,7 @@
 -- Where memory for a reply was refused, that is the reply.
-use Rattle.std.proofs.Common.{◌≡◌, ℕ, Bool, refl, ap, inr, ◌∙◌}
+use Rattle.std.proofs.Common.{◌≡◌, Bool, refl, ap, inr, ◌∙◌}
 use Rattle.std.specs.Prelude.{Err}
 use Rattle.reply_rows.specs.Written.{Written}
-use Rattle.ql_answers.specs.declared.state.State.{State}
 use Rattle.ql_answers.specs.Replies.{Fails, replied}
 use Rattle.ql_refusals.specs.Refusals.{Refused, no_memory}
 use Rattle.ql_answers.specs.Sessions.{Happened, Replied, Standing}

@@ -1,5 +1,5 @@
 -- What holds of a plan that a statement wants: it takes memory unless nothing is asked for, and its index is there.
-use Rattle.std.proofs.Common.{◌≡◌, ◌≢◌, ◌⊎◌, inl, inr, ℕ, zero, suc, List, [], ◌∷◌, Bool, true, false, Option, None, Some, length, refl, subst, sym, ap, ◌∙◌}
+use Rattle.std.proofs.Common.{◌≡◌, ◌≢◌, ◌⊎◌, inl, inr, ℕ, zero, suc, List, Bool, true, false, Option, None, Some, refl, subst, sym, ◌∙◌}
 use Rattle.std.proofs.lemmas.Option.{none-some, same_Some}
 use Rattle.index_conf.specs.declared.conf.IndexConf.{IndexConf}
 use Rattle.doc_types.specs.declared.transactions.Txn.{Txn}
@@ -9,14 +9,14 @@ use Rattle.ql_tree.specs.declared.statement.Statement.TheVariants as statements
 use Rattle.ql_answers.specs.declared.event.Need.TheVariants as needs
 use Rattle.ql_answers.specs.declared.plan.Counted.{Counted}
 use Rattle.ql_answers.specs.declared.plan.Plan.{Plan}
-use Rattle.ql_answers.specs.declared.plan.Plan.TheVariants.{Agree, Keep, Put, Reshape, Search, Show, Status}
+use Rattle.ql_answers.specs.declared.plan.Plan.TheVariants.{Agree, Search, Show, Status}
 use Rattle.ql_answers.specs.declared.state.State.{State}
 use Rattle.ql_answers.specs.declared.turn.Turn.{Turn}
 use Rattle.ql_answers.specs.declared.turn.Turn.TheVariants.{Ends, Opens, Sets, Stays}
 use Rattle.ql_answers.specs.Pending.{PendingValue}
 use Rattle.ql_answers.specs.Sessions.{need_of, reply_takes_memory}
 use Rattle.ql_answers.specs.States.{is_alone}
-use Rattle.ql_answers.specs.Transactions.{affected, clearing, commit_of, killing, write_fault, written}
+use Rattle.ql_answers.specs.Transactions.{clearing, commit_of, killing, write_fault, written}
 use Rattle.ql_select.proofs.Asked.{selection_is_asked}
 use Rattle.ql_answers.specs.Plans.{HasPending, Wants, TakesMemory, autocommit_of}
 use Rattle.ql_session.specs.Fitting.{CanCommit}

@@ -19,7 +19,6 @@ use Rattle.ql_answers.specs.declared.event.Need.TheVariants as needs
 use Rattle.ql_answers.specs.declared.job_outcome.JobOutcome.{JobOutcome}
 use Rattle.ql_answers.specs.declared.plan.Plan.{Plan}
 use Rattle.ql_answers.specs.declared.plan.Plan.TheVariants.{Agree, Commit as CommitPending, Keep, Put, Reshape as Work, Search, Show, Status}
-use Rattle.ql_answers.specs.Pending.{PendingValue}
 use Rattle.ql_answers.specs.declared.state.State.{State}
 use Rattle.ql_answers.specs.Plans.{Wants, Refuses, TakesMemory}
 use Rattle.ql_refusals.specs.Refusals.{Refused, no_memory}

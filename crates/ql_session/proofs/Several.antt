@@ -10,7 +10,7 @@ use Rattle.ql_refusals.specs.Refusals.{Refused, no_memory}
 use Rattle.ql_answers.specs.declared.state.State.{State}
 use Rattle.ql_answers.specs.Replies.{Fails, is_refusal, payloads, replied}
 use Rattle.ql_answers.specs.States.{status_of}
-use Rattle.ql_session.specs.Events.{Configured, Event, Follows, NoMemory, StoreWords}
+use Rattle.ql_session.specs.Events.{Configured, Event, NoMemory, StoreWords}
 use Rattle.ql_session.specs.Statements.{AreAnswered, RefusesText, States, is_more}
 use Rattle.ql_session.specs.steps.Running.{RepliesText, Runs, RunsAll}
 

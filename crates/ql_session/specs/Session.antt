@@ -1,17 +1,17 @@
 -- A session: the machine that answers a connection's commands, and a whole session over a connection.
-use Rattle.std.specs.Prelude.{◌≡◌, ◌≢◌, ℕ, List, All, [], ◌∷◌, false, codes}
+use Rattle.std.specs.Prelude.{◌≡◌, ◌≢◌, ℕ, List, [], ◌∷◌, false, codes}
 use Rattle.srch_base.specs.Moves.{Meters}
 use Rattle.mysql_wire.specs.Packets.{packets_from}
 use Rattle.mysql_wire.specs.Replies.{ok_payload, eof_payload, err_payload}
 use Rattle.mysql_wire.specs.Commands.{ClientCommand, Quit as asks_quit, InitDb, Query, Ping, SetOption, Unknown}
-use Rattle.serve_line.specs.Machines.{Machine, Answered, FollowAll}
-use Rattle.serve_line.specs.Line.{IsLine, EndsByClient}
+use Rattle.serve_line.specs.Machines.{Machine, Answered}
+use Rattle.serve_line.specs.Line.{IsLine}
 use Rattle.serve_line.specs.declared.line.LinkEnd.{LinkEnd}
 use Rattle.doc_types.specs.Snapshots.{SnapshotValue}
 use Rattle.index_conf.specs.declared.conf.IndexConf.{IndexConf}
 use Rattle.ql_answers.specs.declared.state.State.{State}
 use Rattle.ql_answers.specs.States.{new_state, status_of}
-use Rattle.ql_session.specs.Events.{Event, NoMemory, StoreWords, Follows}
+use Rattle.ql_session.specs.Events.{Event, StoreWords, Follows}
 use Rattle.ql_session.specs.Statements.{AnswersText}
 use Rattle.ql_session.specs.declared.session.StepEnd.{StepEnd}
 use Rattle.ql_session.specs.declared.session.StepEnd.TheVariants.{Reply, Quit}

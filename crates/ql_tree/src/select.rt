@@ -141,4 +141,6 @@ pub enum OptionValue {
     Text(Text),
     /// `(name = n, ..)`
     List(Items<(Name, u64)>),
+    /// `name(text)`
+    Call { name: Name, text: Text },
 }

@@ -119,6 +119,7 @@ stays_option_value (values.Name bytes) = stays_name bytes
 stays_option_value (values.Number n) = stays_number n
 stays_option_value (values.Text bytes) = stays_text bytes
 stays_option_value (values.List pairs) = stays_enclosed (stays_with_commas stays_field_weight pairs)
+stays_option_value (values.Call bytes argument) = stays_then (stays_name bytes) (stays_enclosed (stays_text argument))
 
 stays_option : (o : SelectOption) → Stays (IsOption o) (option o)
 stays_option o = stays_then (stays_name o.name) (stays_then (stays_sign signs.Equal) (stays_option_value o.value))

@@ -103,6 +103,7 @@ option_value (values.Name bytes) = name bytes ∷ []
 option_value (values.Number n) = number n ∷ []
 option_value (values.Text bytes) = text bytes ∷ []
 option_value (values.List pairs) = in_parentheses (with_commas field_weight pairs)
+option_value (values.Call bytes argument) = name bytes ∷ in_parentheses (text argument ∷ [])
 
 abbrev pub option : SelectOption → List Piece
 option given_option = name given_option.name ∷ sign signs.Equal ∷ option_value given_option.value

@@ -4,8 +4,9 @@
 ghost use Rattle.std.specs.Prelude.{◌≡◌, ◌++◌, ◌∷◌, []};
 ghost use Rattle.ql_grammar.specs.declared.keyword.Keyword.TheVariants as keywords;
 ghost use Rattle.ql_tree.specs.declared.select.Cond.TheVariants as conds;
+ghost use Rattle.ql_tree.specs.declared.select.OptionValue.TheVariants as values;
 ghost use Rattle.ql_write.specs.Pieces.{keyword, name, text, in_parentheses, given, given_all};
-ghost use Rattle.ql_write.specs.Canonical.{negation, cond, direction, ordered, facet_order, where_pieces, group_pieces, within_pieces, option_pieces};
+ghost use Rattle.ql_write.specs.Canonical.{negation, cond, direction, ordered, option_value, facet_order, where_pieces, group_pieces, within_pieces, option_pieces};
 ghost use Rattle.ql_write.specs.steps.Writing.{Appends, head_pieces, groups_pieces, tail_pieces};
 ghost use Rattle.ql_grammar.specs.Selects.{comparison_sign as sign_of};
 
@@ -200,6 +201,21 @@ impl Written for (Name, u64) {
     }
 }
 
+/// `name ( text )`
+fn put_call_of<'x>(name: &'x Name, text: &'x Text, out: &mut Vec<u8>) -> Result<(), NoMemory>
+    ensures { Appends (option_value (values.Call name.now text.now)) out.old.items result out.new.items }
+{
+    put_all(
+        &[
+            Token::Name(name),
+            Token::Sign(Sign::OpenParen),
+            Token::Text(text),
+            Token::Sign(Sign::CloseParen),
+        ],
+        out,
+    )
+}
+
 impl Written for OptionValue {
     ghost use Rattle.ql_write.specs.Canonical.{option_value};
 
@@ -211,6 +227,7 @@ impl Written for OptionValue {
             OptionValue::Number(number) => number.put(out),
             OptionValue::Text(text) => put_one(Token::Text(text), out),
             OptionValue::List(weights) => put_enclosed(weights.as_slice(), out),
+            OptionValue::Call { name, text } => put_call_of(name, text, out),
         }
     }
 }

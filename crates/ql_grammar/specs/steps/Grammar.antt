@@ -93,9 +93,13 @@ limit = keyword keywords.Limit ⨾ number ⨾ optional (one comma ⨾ number)
 abbrev pub field_weight : Re Class
 field_weight = name ⨾ sign signs.Equal ⨾ number
 
--- name | n | text | ( name = n (, name = n)* )
+-- [( text )]
+abbrev pub argument : Re Class
+argument = optional (enclosed text)
+
+-- name [( text )] | n | text | ( name = n (, name = n)* )
 abbrev pub option_value : Re Class
-option_value = name ∣ number ∣ text ∣ enclosed (listed comma field_weight)
+option_value = name ⨾ argument ∣ number ∣ text ∣ enclosed (listed comma field_weight)
 
 -- name = value
 abbrev pub option : Re Class

@@ -3,6 +3,8 @@ use Rattle.std.specs.Prelude.{ℕ, List, Option, Some, None}
 use Rattle.ql_lex.specs.declared.token.Sign.TheVariants as signs
 use Rattle.ql_lex.specs.Tokens.{Lexeme}
 use Rattle.ql_grammar.specs.declared.keyword.Keyword.TheVariants as keywords
+use Rattle.ql_tree.specs.declared.select.OptionValue.{OptionValue}
+use Rattle.ql_tree.specs.declared.select.OptionValue.TheVariants as values
 use Rattle.ql_tree.specs.declared.select.SelectExpr.{SelectExpr}
 use Rattle.ql_tree.specs.declared.select.SelectExpr.TheVariants as exprs
 use Rattle.ql_grammar.specs.Parts.{IsKeyword, IsSign, IsName}
@@ -17,3 +19,8 @@ IsCounted (Some name) = IsKeyword keywords.Distinct then IsName name
 abbrev pub count_expr : Option (List ℕ) → SelectExpr
 count_expr None = exprs.CountAll
 count_expr (Some name) = exprs.CountDistinct name
+
+-- the name alone, or its call with the text
+abbrev pub named_value : List ℕ → Option (List ℕ) → OptionValue
+named_value bytes None = values.Name bytes
+named_value bytes (Some text) = values.Call bytes text

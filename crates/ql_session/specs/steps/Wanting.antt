@@ -1,5 +1,5 @@
 -- What holds of a plan that some statement wants.
-use Rattle.std.specs.Prelude.{◌≡◌, ℕ, List, None, Some, slice_get}
+use Rattle.std.specs.Prelude.{◌≡◌, List, None, Some, slice_get}
 use Rattle.doc_types.specs.Schemas.{IsSchema}
 use Rattle.index_conf.specs.declared.conf.IndexConf.{IndexConf}
 use Rattle.ql_answers.specs.Pending.{PendingValue}

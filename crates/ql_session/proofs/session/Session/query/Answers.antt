@@ -1,4 +1,4 @@
-use Rattle.std.proofs.Common.{◌≡◌, ◌∙◌, ap, rules}
+use Rattle.std.proofs.Common.{◌∙◌, ap, rules}
 use Rattle.ql_answers.specs.Replies.{Fails, replied}
 use Rattle.ql_refusals.specs.Refusals.{Refused}
 use Rattle.ql_session.specs.Statements.{RefusesText}
