@@ -4,7 +4,8 @@
 
 runs `selftest` for some numbers, twice each: a run is to end with status 0 and to print the summary that a scan of the
 generated documents gives, here, apart from the program. The generator is x := (x * 1103515245 + 12345) mod 2^31 with draws
-(x / 65536) mod 32768: four for the words of a title, one for a group. A run is one case.
+(x / 65536) mod 32768: four for the words of a title, one for a group. In the end all documents are in one chunk. A run is one
+case.
 """
 
 import argparse
@@ -33,14 +34,14 @@ def documents(number, count):
 
 
 def summary(number, count):
-    """The lines of the summary: documents, those that have each word, each two words in a row, and the groups."""
+    """The lines of the summary: documents, those that have each word, each two words in a row, the groups, and the chunk."""
     found = list(documents(number, count))
     words = sum(len(set(title)) for title, _ in found)
     pairs = sum(
         len({one for one, two in zip(title, title[1:]) if two == (one + 1) % WORDS}) for title, _ in found
     )
     groups = len({group for _, group in found})
-    return f"documents {len(found)}\nwords {words}\npairs {pairs}\ngroups {groups}\n"
+    return f"documents {len(found)}\nwords {words}\npairs {pairs}\ngroups {groups}\nchunks 1\n"
 
 
 def fault(program, number, count):

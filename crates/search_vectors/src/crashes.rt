@@ -19,23 +19,32 @@ the index after that | check --config one | one ~# |  | - ⇒ 0; asks one, in on
 /// What a crash may make of what wasn't synced.
 const PICKS: &str = "0 1 2 3";
 
-/// These runs by a pick.
-fn crashes_by(alloc: Global, pick: &str) -> Option<String> {
-    CRASHES.replace(alloc, "#", pick).ok()
-}
-
-/// Goes through these runs by a pick.
-fn try_pick<R: Threads + Wait + Sync>(rt: &R, runs: &mut Runs, pick: &str) -> Option<()> {
-    let table = crashes_by(runs.alloc, pick)?;
+/// Goes through the runs of a table by a pick.
+fn by_pick<R: Threads + Wait + Sync>(
+    rt: &R,
+    runs: &mut Runs,
+    table: &str,
+    pick: &str,
+) -> Option<()> {
+    let table = table.replace(runs.alloc, "#", pick).ok()?;
     run_table(rt, runs, table.as_str())
 }
 
-/// Goes through these runs by each pick.
-pub(crate) fn try_picks<R: Threads + Wait + Sync>(rt: &R, runs: &mut Runs) -> Option<()> {
+/// Goes through the runs of a table by each pick.
+pub(crate) fn by_picks<R: Threads + Wait + Sync>(
+    rt: &R,
+    runs: &mut Runs,
+    table: &str,
+) -> Option<()> {
     for pick in PICKS.split(" ") {
-        try_pick(rt, runs, pick)?;
+        by_pick(rt, runs, table, pick)?;
     }
     Some(())
+}
+
+/// Goes through the runs of a session that commits, by each pick.
+pub(crate) fn try_crashes<R: Threads + Wait + Sync>(rt: &R, runs: &mut Runs) -> Option<()> {
+    by_picks(rt, runs, CRASHES)
 }
 
 /// Two insertions, and what is then found.

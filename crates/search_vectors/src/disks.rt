@@ -93,9 +93,9 @@ fn put_file<D: Disk>(alloc: Global, disk: &mut D, file: u32, told: &mut String) 
     }
 }
 
-/// Appends the files of a disk below number 4, as the words of a table spell them.
+/// Appends the files of a disk below number 7, as the words of a table spell them.
 fn put_files<D: Disk>(alloc: Global, disk: &mut D, told: &mut String) -> Option<()> {
-    for file in 0..4 {
+    for file in 0..7 {
         put_file(alloc, disk, file, told)?;
     }
     Some(())

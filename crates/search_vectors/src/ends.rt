@@ -71,8 +71,8 @@ the first one then | check --config one | one ~1 |  | - ⇒ 0; asks one, in one,
 /// Selftests, which ask for nothing. The sums are those of a script that draws the documents and counts words and pairs in them; no line
 /// of it is this program's.
 pub(crate) const SELFTESTS: &str = r#"
-two documents | selftest --number 1 --docs 2 | one |  | none ⇒ 0; asks 0 and 0 back; documents 2; words 8; pairs 0; groups 1;
-no second call is made | selftest --docs 1 --number 0 | one | 2 | none ⇒ 0; asks 0 and 0 back; documents 1; words 4; pairs 0; groups 1;
+two documents | selftest --number 1 --docs 2 | one |  | none ⇒ 0; asks 0 and 0 back; documents 2; words 8; pairs 0; groups 1; chunks 1;
+no second call is made | selftest --docs 1 --number 0 | one | 2 | none ⇒ 0; asks 0 and 0 back; documents 1; words 4; pairs 0; groups 1; chunks 1;
 the print fails | selftest --number 1 --docs 2 | one | 1 | none ⇒ 4; asks 0 and 0 back; ! searchd: host fault;
 both prints | selftest --number 1 --docs 2 | one | 1 2 | none ⇒ 4; asks 0 and 0 back;
 "#;

@@ -12,6 +12,8 @@ mod ends;
 #[cfg(test)]
 mod failing;
 #[cfg(test)]
+mod jobs;
+#[cfg(test)]
 mod lines;
 #[cfg(test)]
 mod runs;

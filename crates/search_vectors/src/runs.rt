@@ -18,10 +18,11 @@ use std::alloc::Global;
 use std::sync::Wait;
 use std::thread::Threads;
 
-/// The files of each host: a path, and the text, each of whose lines ends in `;`. The first three are configurations of indexes that
-/// have their names as their paths, and then two of one index with another column; the others are none.
+/// The files of each host: a path, and the text, each of whose lines ends in `;`. The first four are configurations of indexes that
+/// have their names or `shop` as their paths, and then two of one index with another column; the others are none.
 const FILES: &str = "one: index one {;type = rt;path = one;rt_field = title;};
 rt: index rt {;type = rt;path = rt;rt_field = title;};
+shop: index rt {;type = rt;path = shop;rt_field = title;rt_field = content;rt_attr_uint = gid;rt_attr_bigint = price;};
 both: index one {;type = rt;path = one;rt_field = title;};index two {;type = rt;path = two;rt_field = title;};
 first: index one {;type = rt;path = one;rt_field = body;};index two {;type = rt;path = two;rt_field = title;};
 second: index one {;type = rt;path = one;rt_field = title;};index two {;type = rt;path = two;rt_field = body;};

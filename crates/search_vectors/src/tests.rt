@@ -1,7 +1,8 @@
 //! The tests over the tables of this crate: a test fails with the row that comes to something else.
-use crate::crashes::{try_calls, try_picks};
+use crate::crashes::{try_calls, try_crashes};
 use crate::ends::{DAMAGED, SELFTESTS, STORES, TEXTS, WORDS};
 use crate::failing::{CHECKS, DOORS, LINES};
+use crate::jobs::{JOBS, LAYERS, try_jobs};
 use crate::runs::{Runs, run_table};
 use crate::serving::SERVED;
 use conf_text::ConfKind;
@@ -10,8 +11,8 @@ use std::sync::Wait;
 use std::test::Fail;
 use std::thread::Threads;
 
-const TABLES: [&str; 9] = [
-    WORDS, TEXTS, STORES, DAMAGED, SELFTESTS, CHECKS, DOORS, LINES, SERVED,
+const TABLES: [&str; 11] = [
+    WORDS, TEXTS, STORES, DAMAGED, SELFTESTS, CHECKS, DOORS, LINES, SERVED, LAYERS, JOBS,
 ];
 
 fn tables() -> &'static [&'static str] {
@@ -43,7 +44,13 @@ fn each_row_comes_to_what_it_says(rt: HostRuntime) -> Result<(), Fail> {
 #[test]
 fn what_was_told_stays_after_a_crash(rt: HostRuntime) -> Result<(), Fail> {
     let mut runs = Runs::new(rt.alloc());
-    held(try_picks(&rt, &mut runs), &runs)
+    held(try_crashes(&rt, &mut runs), &runs)
+}
+
+#[test]
+fn what_went_to_the_disk_stays_after_a_crash(rt: HostRuntime) -> Result<(), Fail> {
+    let mut runs = Runs::new(rt.alloc());
+    held(try_jobs(&rt, &mut runs), &runs)
 }
 
 #[test]

@@ -1,7 +1,6 @@
 pub mod Doing
 pub mod Held
 pub mod Lines
-pub mod PathTexts
 pub mod Putting
 pub mod Running
 pub mod ServedIndexes

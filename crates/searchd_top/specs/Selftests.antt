@@ -1,9 +1,9 @@
 -- What a selftest does: it prints its lines, and asks the host for nothing.
-use Rattle.std.specs.Prelude.{◌≡◌, ⊤, ℕ, List, [], Err, codes}
+use Rattle.std.specs.Prelude.{◌≡◌, ⊤, ℕ, List, [], None, Ok, Err, codes}
 use Rattle.srch_base.specs.declared.faults.Or.TheVariants as causes
 use Rattle.chunk_store.specs.contracts.memory_disk.MemoryDiskDisk.TheImpl as memory
 use Rattle.self_test.specs.Documents.{documents_from}
-use Rattle.self_test.specs.Ends.{EndsBy}
+use Rattle.self_test.specs.Ends.{Ends, EndsBy}
 use Rattle.self_test.specs.Summaries.{lines_of, summary_of}
 use Rattle.program_host.specs.declared.status.Status.{Status}
 use Rattle.program_host.specs.declared.status.Status.TheVariants.{Done, Usage, Config, HostFault, Damaged, NoMemory, Strayed}
@@ -14,25 +14,30 @@ use Rattle.searchd_top.specs.Output.{SaysLines}
 unfoldable pub selftest_lines : ℕ → ℕ → List ℕ
 selftest_lines number docs = lines_of (summary_of (documents_from number docs))
 
+-- Its engine ended with a note of the whole history, and its worker had seen as many chunks on the disk as the lines say.
+abbrev pub HasEnded : ℕ → ℕ → Type 0
+HasEnded number docs = Ends memory.ghosts (Ok (summary_of (documents_from number docs)))
+
 -- It ended without its lines: memory was refused, or the end of its engine, which is over a disk in memory, answered that the history of
 -- the index strayed.
 abbrev pub IsUnprinted : Status → Type 0
 IsUnprinted NoMemory = ⊤
-IsUnprinted (Strayed name strayed) = (name ≡ codes "t") × EndsBy memory.ghosts (Err (causes.Fault strayed))
+IsUnprinted (Strayed name strayed) = (name ≡ codes "t") × EndsBy memory.ghosts None (Err (causes.Fault strayed))
 IsUnprinted Done = ⊥
 IsUnprinted Usage = ⊥
 IsUnprinted (Config number kind) = ⊥
 IsUnprinted HostFault = ⊥
 IsUnprinted (Damaged index file place kind) = ⊥
 
--- The lines were printed, as the status says; or the index strayed as its engine ended, and none was.
-abbrev pub SaysSelftest : Status → List ℕ → List ℕ → Count → Type 0
-SaysSelftest (Strayed name strayed) lines output count = IsUnprinted (Strayed name strayed) × (output ≡ []) × IsStill count
-SaysSelftest status lines output count = SaysLines status lines output count
+-- Its engine has ended, and the lines were printed, as the status says; or the index strayed as its engine ended, and none was.
+abbrev pub SaysSelftest : ℕ → ℕ → Status → List ℕ → Count → Type 0
+SaysSelftest number docs (Strayed name strayed) output count = IsUnprinted (Strayed name strayed) × (output ≡ []) × IsStill count
+SaysSelftest number docs NoMemory output count = SaysLines NoMemory (selftest_lines number docs) output count
+SaysSelftest number docs status output count = HasEnded number docs × SaysLines status (selftest_lines number docs) output count
 
 pub record PrintsSelftest {S D : Type 0} (number docs : ℕ) (status : Status) (deeds : Deeds S D) : Type 0 where
   pub requests : deeds.requests ≡ []
   pub stores : deeds.stores ≡ []
   pub doors : deeds.doors ≡ []
   pub faults : IsStill deeds.faults
-  pub says : SaysSelftest status (selftest_lines number docs) deeds.output deeds.print_faults
+  pub says : SaysSelftest number docs status deeds.output deeds.print_faults

@@ -26,8 +26,8 @@ use std::thread::Threads;
 /// `check --config F` opens the store of each index, and once all are open prints a line of each to the output: how many
 /// documents, chunks and records of its log it has. A store without an index is made one without documents.
 ///
-/// `selftest --number S --docs N` writes N documents that S stands for to a session in memory, asks for them, and prints what
-/// was found to the output.
+/// `selftest --number S --docs N` writes N documents that S stands for to a session in memory, half of them to the disk first and all
+/// into one chunk in the end, asks for them, and prints what was found to the output.
 ///
 /// Each store and door that the host gives is handed back.
 pub fn searchd<H: Host, R: Threads + Wait + Sync>(

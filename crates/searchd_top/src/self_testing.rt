@@ -4,7 +4,7 @@ ghost use Rattle.command_line.specs.Modes.{selftest};
 ghost use Rattle.self_test.specs.Ends.{Ends};
 ghost use Rattle.program_host.specs.Statuses.{NamesIndex};
 ghost use Rattle.searchd_top.specs.Runs.{Runs};
-ghost use Rattle.searchd_top.specs.Selftests.{IsUnprinted, selftest_lines};
+ghost use Rattle.searchd_top.specs.Selftests.{HasEnded, IsUnprinted, selftest_lines};
 
 use crate::printing::print_output;
 use chunk_store::{Disk, MemoryDisk};
@@ -48,6 +48,7 @@ fn selftest_lines<R: Threads + Wait>(
     docs: u32,
 ) -> Result<String, Status>
     ensures lines { IfOk result (λ lines. string_bytes lines ≡ selftest_lines number docs) }
+    ensures ended { IfOk result (λ lines. HasEnded number docs) }
     ensures ends { IfErr result IsUnprinted }
     ensures asked { IfErr result (λ status. ¬ (status ≡ Status.Usage)) }
     ensures names { IfErr result NamesIndex }

@@ -1,5 +1,6 @@
 -- An engine for one worker: the names that it is given, and how it ends.
-use Rattle.std.proofs.Common.{◌≡◌, ℕ, zero, suc, List, [], ◌∷◌, ◌++◌, Some, All, Result, Ok, Err, refl, sym, ap, subst, ◌∙◌, arith, length, length-append, slice_get}
+use Rattle.std.proofs.Common.{◌≡◌, ℕ, zero, suc, List, [], ◌∷◌, ◌++◌, Option, Some, None, All, Result, Ok, Err, refl, sym, ap, subst, ◌∙◌, arith, length, length-append, slice_get}
+use Rattle.std.specs.Prelude.{IfOk}
 use Rattle.std.proofs.lemmas.List.Elements.{All-cons, All-nil}
 use Rattle.srch_base.specs.declared.faults.Or.{Or}
 use Rattle.srch_base.specs.declared.faults.Or.TheVariants as causes
@@ -20,7 +21,7 @@ use Rattle.engine_tables.specs.Names.{AreNamed, AreServed, IsRoomFor}
 use Rattle.engine_tables.specs.Tokens.{SitsAt, TokensValue, told_at, tokens_at}
 use Rattle.engine_tables.specs.declared.ended.Ended.{Ended}
 use Rattle.engine_tables.proofs.Makings.{all_end}
-use Rattle.self_test.specs.Ends.{Ends, EndsBy, IsOver, Works, first_tokens}
+use Rattle.self_test.specs.Ends.{Ends, EndsBy, HasChunks, HasFound, IsOver, Works, first_tokens}
 use Rattle.self_test.specs.declared.fault.SelftestFault.{SelftestFault}
 use Rattle.self_test.specs.declared.fault.SelftestFault.TheVariants.{NoMemory, Unexpected, Strayed as HasStrayed}
 use Rattle.self_test.specs.declared.summary.Summary.{Summary}
@@ -111,18 +112,18 @@ module _ {D : Type 0} (words : DiskWords D) where
 
   -- how the one engine ended is what the answer says
   pub ends_so : {J : Type 0} (schema : ℕ → Schema) (base : ℕ → Base) (confs : List IndexConf) (left : TokensValue) (all : List (Ended D J)) (one : Ended D J) (answer : Result Summary SelftestFault) → IsOver words schema base confs
-      → Works schema base confs first_tokens left → HaveEnded words schema base 1 1 (left ∷ []) all → slice_get all 0 ≡ Some one → AnswersEnd one.answer answer → Ends words answer
-  ends_so {J} schema base confs left all one answer over works ended at says = by_answer answer says
+      → Works schema base confs first_tokens left → IfOk answer (λ summary. HasChunks schema base left summary.chunks) → HaveEnded words schema base 1 1 (left ∷ []) all → slice_get all 0 ≡ Some one → AnswersEnd one.answer answer → Ends words answer
+  ends_so {J} schema base confs left all one answer over works has ended at says = by_answer answer has says
     where
       ends : HasEnded words schema base 0 1 (told_at 0 (left ∷ [])) (tokens_at 0 (left ∷ [])) one
       ends = ended.each 0 one at
 
-      ends_by : (end : Result FrontValue (Or Strayed)) → one.answer ≡ end → EndsBy words end
-      ends_by end is = subst (λ (e : Result FrontValue (Or Strayed)). EndsBy words e) is
-          (record { schema = schema; base = base; confs = confs; over = over; left = left; works = works; disk = one.disk; new = ends.0; closes = ends.1 })
+      ends_by : (found : Option ℕ) (end : Result FrontValue (Or Strayed)) → HasFound schema base left found → one.answer ≡ end → EndsBy words found end
+      ends_by found end finds is = subst (λ (e : Result FrontValue (Or Strayed)). EndsBy words found e) is
+          (record { schema = schema; base = base; confs = confs; over = over; left = left; works = works; has = finds; disk = one.disk; new = ends.0; closes = ends.1 })
 
-      by_answer : (answer : Result Summary SelftestFault) → AnswersEnd one.answer answer → Ends words answer
-      by_answer (Ok summary) says = (says.0, ends_by (Ok says.0) says.1)
-      by_answer (Err Unexpected) says = (says.0, ends_by (Ok says.0) says.1)
-      by_answer (Err (HasStrayed strayed)) says = ends_by (Err (causes.Fault strayed)) says
-      by_answer (Err NoMemory) says = tt
+      by_answer : (answer : Result Summary SelftestFault) → IfOk answer (λ summary. HasChunks schema base left summary.chunks) → AnswersEnd one.answer answer → Ends words answer
+      by_answer (Ok summary) has says = (says.0, ends_by (Some summary.chunks) (Ok says.0) has says.1)
+      by_answer (Err Unexpected) has says = (says.0, ends_by None (Ok says.0) tt says.1)
+      by_answer (Err (HasStrayed strayed)) has says = ends_by None (Err (causes.Fault strayed)) tt says
+      by_answer (Err NoMemory) has says = tt

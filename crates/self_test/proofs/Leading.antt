@@ -12,7 +12,8 @@ use Rattle.ql_session.specs.Machines.{FollowAll}
 use Rattle.engine_tables.specs.Engines.{EnginesValue}
 use Rattle.engine_tables.specs.Tokens.{SitsAt, TokensValue}
 use Rattle.engine_tables.specs.Workers.{Grows, WorkerValue, by_tokens}
-use Rattle.self_test.specs.Asking.{Asks, Leads}
+use Rattle.self_test.specs.Asking.{Asks, Leads, LeavesChunks}
+use Rattle.self_test.specs.Ends.{HasChunks}
 
 follow_then : {D E : Type 0} (follows : D → E → D → Type 0) (xs ys : List E) (a b c : D) → FollowAll follows a xs b → FollowAll follows b ys c → FollowAll follows a (xs ++ ys) c
 follow_then {D} follows [] ys a b c first next = subst (λ (d : D). FollowAll follows d ys c) first next
@@ -31,6 +32,14 @@ module _ {D F : Type 0} (confs : D → List IndexConf) (words : StoreWords D F) 
   pub asked_leads : (text reply : List ℕ) (old new : State) (before left : D) → Asks confs words text reply old before new left → Leads confs words before left
   unfolding Asks
   asked_leads text reply old new before left (events, answers, follows) = record { events = events; follows = follows }
+
+  -- memory was refused
+  pub none_leads : (before left : D) → words.settles before left → Leads confs words before left
+  none_leads before left settles = record { events = NoMemory ∷ []; follows = (left, settles, refl) }
+
+  -- an index was read
+  pub read_leads : (place : ℕ) (front : F) (before left : D) → Follows confs words before (Read place front) left → Leads confs words before left
+  read_leads place front before left reads = record { events = Read place front ∷ []; follows = (left, reads, refl) }
 
 long_zip : (xs ys : List TokenValue) → AllZip Grows xs ys → length ys ≡ length xs
 long_zip [] [] zip = refl
@@ -83,3 +92,7 @@ module _ (schema : ℕ → Schema) (base : ℕ → Base) where
   still_sits engines old new sits leads =
       let like = all_like old new leads.events leads.follows in
       record { many = like.many ∙ sits.many; above = omega (arith, like.worker, sits.above); within = omega (arith, like.worker, sits.within) }
+
+  -- the chunks that were seen last are those that its tokens have seen
+  pub has_left : (chunks : ℕ) (old new : WorkerValue) → LeavesChunks (λ (worker : WorkerValue). worker.confs) (by_tokens schema base) chunks old new → HasChunks schema base new.tokens chunks
+  has_left chunks old new leaves = record { front = leaves.sees.front; seen = leaves.sees.reads.1; counted = leaves.sees.counted }

@@ -6,7 +6,8 @@ use Rattle.mysql_wire.specs.Replies.{ok_packet}
 use Rattle.ql_session.specs.Machines.{Answered, FollowAll}
 use Rattle.index_conf.specs.declared.conf.IndexConf.{IndexConf}
 use Rattle.ql_answers.specs.declared.state.State.{State}
-use Rattle.ql_session.specs.Events.{Event, StoreWords, Follows}
+use Rattle.ql_answers.specs.Sessions.{disk_count}
+use Rattle.ql_session.specs.Events.{Event, Read, StoreWords, Follows}
 use Rattle.ql_session.specs.Session.{statement_machine}
 
 -- A text was asked of a session, which replied these bytes; and it led the session and its store to these.
@@ -32,3 +33,15 @@ HasRows confs words text rows old before new left =
 pub record Leads {D F : Type 0} (confs : D → List IndexConf) (words : StoreWords D F) (old new : D) : Type 0 where
   pub events : List (Event F)
   pub follows : FollowAll (Follows confs words) old events new
+
+-- The first index was read, and what was seen of it has so many chunks on the disk.
+pub record SeesChunks {D F : Type 0} (confs : D → List IndexConf) (words : StoreWords D F) (chunks : ℕ) (old new : D) : Type 0 where
+  pub front : F
+  pub reads : Follows confs words old (Read 0 front) new
+  pub counted : disk_count (words.documents front) ≡ chunks
+
+-- What was asked led to a store in which the first index was read last, and so many of its chunks were on the disk.
+pub record LeavesChunks {D F : Type 0} (confs : D → List IndexConf) (words : StoreWords D F) (chunks : ℕ) (old new : D) : Type 0 where
+  pub between : D
+  pub leads : Leads confs words old between
+  pub sees : SeesChunks confs words chunks between new

@@ -1,5 +1,5 @@
 -- What is found in documents: a word in those that have it, a phrase of two words in those where they stand next to each other
--- in this order ("Extended query syntax" of the manual), a group where a document has it.
+-- in this order ("Extended query syntax" of the manual), a group where a document has it; and the chunk that all of them are in.
 use Rattle.std.specs.Prelude.{ℕ, zero, suc, ◌+◌, ◌%◌, ◌==◌, ◌&&◌, ◌||◌, List, [], ◌∷◌, ◌++◌, Bool, false, length, codes, decimal, if◌then◌else◌}
 use Rattle.std.specs.List.{filter, list_any}
 use Rattle.self_test.specs.declared.generator.Document.{Document}
@@ -38,6 +38,10 @@ sum_below (suc n) f = sum_below n f + f n
 abbrev pub counts_of : Count → List Document → ℕ
 counts_of count documents = sum_below (many count) (λ number. count_of count number documents)
 
+-- how many chunks are on the disk once all documents were put into one
+abbrev pub chunks_of : List Document → ℕ
+chunks_of documents = if length documents == 0 then 0 else 1
+
 -- what a selftest says of these documents
 unfoldable pub summary_of : List Document → Summary
 summary_of documents = record {
@@ -45,10 +49,11 @@ summary_of documents = record {
   words = counts_of Words documents;
   pairs = counts_of Pairs documents;
   groups = counts_of Groups documents;
+  chunks = chunks_of documents;
 }
 
--- The four lines of a summary.
+-- The five lines of a summary.
 abbrev pub lines_of : Summary → List ℕ
 lines_of summary =
     codes "documents " ++ decimal summary.documents ++ 10 ∷ codes "words " ++ decimal summary.words ++ 10 ∷ codes "pairs " ++ decimal summary.pairs
-    ++ 10 ∷ codes "groups " ++ decimal summary.groups ++ 10 ∷ []
+    ++ 10 ∷ codes "groups " ++ decimal summary.groups ++ 10 ∷ codes "chunks " ++ decimal summary.chunks ++ 10 ∷ []

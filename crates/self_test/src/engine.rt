@@ -5,7 +5,7 @@ ghost use Rattle.engine_tables.specs.Tokens.{SitsAt};
 ghost use Rattle.engine_tables.specs.declared.ended.Ended.{Ended as AnyEnded};
 ghost use Rattle.store_keep.specs.Opens.{HidesNothing};
 ghost use Rattle.self_test.specs.Documents.{documents_from};
-ghost use Rattle.self_test.specs.Ends.{Ends, IsOver, Works, first_tokens};
+ghost use Rattle.self_test.specs.Ends.{Ends, HasChunks, IsOver, Works, first_tokens};
 ghost use Rattle.self_test.specs.Summaries.{summary_of};
 ghost use Rattle.self_test.specs.steps.Engines.{AnswersEnd, IsReady, IsServable};
 
@@ -165,8 +165,10 @@ fn work<D: Disk, J: Naming, R: Wait>(
     number: u32,
     docs: u32,
 ) -> (Result<Summary, Or<Unexpected>>, Tokens<J>)
-    requires { SitsAt engines.now tokens }
+    requires one { length engines.now.confs ≡ 1 }
+    requires sits { SitsAt engines.now tokens }
     ensures summary { IfOk result.0 (λ summary. summary ≡ summary_of (documents_from number docs)) }
+    ensures chunks { IfOk result.0 (λ summary. HasChunks J.schema J.base result.1 summary.chunks) }
     ensures works { Works J.schema J.base engines.now.confs tokens result.1 }
     ensures sits { SitsAt engines.now result.1 }
 {

@@ -1,7 +1,8 @@
-//! A selftest: the documents are written by statements, 100 a transaction, and then asked for.
-ghost use Rattle.std.specs.Prelude.{◌≡◌, ◌<◌, ◌^◌, IfOk, length};
+//! A selftest: the documents are written by statements, 100 a transaction, and then asked for. Half of them go to the disk before the
+//! others are written, and all of them into one chunk before they are asked for: so what is found has been in both kinds of layers.
+ghost use Rattle.std.specs.Prelude.{◌≡◌, ◌+◌, ◌<◌, ◌^◌, IfOk, length};
 ghost use Rattle.ql_session.specs.Fitting.{Fits};
-ghost use Rattle.self_test.specs.Asking.{Leads};
+ghost use Rattle.self_test.specs.Asking.{Leads, LeavesChunks, SeesChunks};
 ghost use Rattle.self_test.specs.Documents.{documents_from};
 ghost use Rattle.self_test.specs.Summaries.{summary_of};
 
@@ -25,15 +26,17 @@ const AUTOCOMMIT: u16 = 2;
 #[derive(Clone, Copy, Debug, PartialEq, Eq, Drop)]
 pub struct Unexpected;
 
-/// Writes the documents of a number to the index `t` of a store that has none, and asks a session what it finds of them. It is
-/// answered where all that a scan of the documents finds was found.
+/// Writes the documents of a number to the index `t`, the only one of a store, which has none, and asks a session what it finds of
+/// them. It is answered where all that a scan of the documents finds was found.
 pub fn run<T: TableStore>(
     alloc: Global,
     tables: &mut T,
     number: u32,
     docs: u32,
 ) -> Result<Summary, Or<Unexpected>>
+    requires one { length (T.confs tables.old) ≡ 1 }
     ensures is { IfOk result (λ summary. summary ≡ summary_of (documents_from number docs)) }
+    ensures chunks { IfOk result (λ summary. LeavesChunks T.confs T.words summary.chunks tables.old tables.new) }
     ensures confs { T.confs tables.new ≡ T.confs tables.old }
     ensures leads { Leads T.confs T.words tables.old tables.new }
 {
@@ -46,31 +49,35 @@ pub fn run<T: TableStore>(
     }
 }
 
-/// Writes documents, and asks a session what it finds of them.
+/// Writes documents, and asks what is found of them.
 #[tactic(auto, using(crate::proofs::Leading::leads_then))]
 fn found<T: TableStore>(
     alloc: Global,
     tables: &mut T,
     documents: &[Document],
 ) -> Result<Summary, Or<Unexpected>>
-    requires { length documents.now < 2 ^ 32 }
+    requires few { length documents.now < 2 ^ 32 }
+    requires one { length (T.confs tables.old) ≡ 1 }
+    ensures chunks { IfOk result (λ summary. LeavesChunks T.confs T.words summary.chunks tables.old tables.new) }
     ensures confs { T.confs tables.new ≡ T.confs tables.old }
     ensures leads { Leads T.confs T.words tables.old tables.new }
 {
     let mut client = Client::new(alloc)?;
     let mut text = String::new(alloc);
-    write(&mut client, tables, &mut text, documents)?;
+    load(&mut client, tables, &mut text, documents)?;
     Ok(Summary {
         documents: documents.len() as u64,
         words: count(&mut client, tables, &mut text, Count::Words)?,
         pairs: count(&mut client, tables, &mut text, Count::Pairs)?,
         groups: count(&mut client, tables, &mut text, Count::Groups)?,
+        chunks: chunks(tables)?,
     })
 }
 
-/// Writes documents with the ids from 1 on.
+/// Writes documents with the ids from 1 on: the first half of them goes to the disk before the others are written, and in the end all
+/// into one chunk.
 #[tactic(auto, using(crate::proofs::Leading::leads_then))]
-fn write<T: TableStore>(
+fn load<T: TableStore>(
     client: &mut Client,
     tables: &mut T,
     text: &mut String,
@@ -82,24 +89,48 @@ fn write<T: TableStore>(
     ensures confs { T.confs tables.new ≡ T.confs tables.old }
     ensures leads { Leads T.confs T.words tables.old tables.new }
 {
+    let half = documents.len() / 2;
+    let (first, others) = documents.split_at(half);
+    write(client, tables, text, 0, first)?;
+    client.tell(tables, "FLUSH RAMCHUNK t", 0, AUTOCOMMIT)?;
+    write(client, tables, text, half as u32, others)?;
+    client.tell(tables, "OPTIMIZE INDEX t", 0, AUTOCOMMIT)
+}
+
+/// Writes documents with the ids behind this one, and commits them.
+#[tactic(auto, using(crate::proofs::Leading::leads_then))]
+fn write<T: TableStore>(
+    client: &mut Client,
+    tables: &mut T,
+    text: &mut String,
+    before: u32,
+    documents: &[Document],
+) -> Result<(), Or<Unexpected>>
+    requires few { before + length documents.now < 2 ^ 32 }
+    requires fits { Fits (T.confs tables.old) client.old.session }
+    ensures fits { Fits (T.confs tables.new) client.new.session }
+    ensures confs { T.confs tables.new ≡ T.confs tables.old }
+    ensures leads { Leads T.confs T.words tables.old tables.new }
+{
     let last = documents.len() as u32;
-    let mut id = 0;
+    let mut number = 0;
     let mut rest = documents;
     'documents: while let Some((document, more)) = rest.split_first() {
-        id += 1;
-        write_one(client, tables, text, last, id, document)?;
+        number += 1;
+        begin(client, tables, number)?;
+        write_one(client, tables, text, before + number, document)?;
+        commit(client, tables, last, number)?;
         rest = more;
     }
     Ok(())
 }
 
-/// Writes one document. The first one of a transaction begins it, and the last one commits it.
+/// Writes one document in a transaction.
 #[tactic(auto, using(crate::proofs::Leading::leads_then))]
 fn write_one<T: TableStore>(
     client: &mut Client,
     tables: &mut T,
     text: &mut String,
-    last: u32,
     id: u32,
     document: &Document,
 ) -> Result<(), Or<Unexpected>>
@@ -108,20 +139,22 @@ fn write_one<T: TableStore>(
     ensures confs { T.confs tables.new ≡ T.confs tables.old }
     ensures leads { Leads T.confs T.words tables.old tables.new }
 {
-    begin(client, tables, id)?;
     write_insert(text, id, document)?;
-    client.tell(tables, text.as_str(), 1, IN_TRANSACTION)?;
-    commit(client, tables, last, id)
+    client.tell(tables, text.as_str(), 1, IN_TRANSACTION)
 }
 
 /// Begins a transaction before its first document.
-fn begin<T: TableStore>(client: &mut Client, tables: &mut T, id: u32) -> Result<(), Or<Unexpected>>
+fn begin<T: TableStore>(
+    client: &mut Client,
+    tables: &mut T,
+    number: u32,
+) -> Result<(), Or<Unexpected>>
     requires fits { Fits (T.confs tables.old) client.old.session }
     ensures fits { Fits (T.confs tables.new) client.new.session }
     ensures confs { T.confs tables.new ≡ T.confs tables.old }
     ensures leads { Leads T.confs T.words tables.old tables.new }
 {
-    if id % PER_TRANSACTION == 1 {
+    if number % PER_TRANSACTION == 1 {
         client.tell(tables, "BEGIN", 0, IN_TRANSACTION)?;
     }
     Ok(())
@@ -132,14 +165,14 @@ fn commit<T: TableStore>(
     client: &mut Client,
     tables: &mut T,
     last: u32,
-    id: u32,
+    number: u32,
 ) -> Result<(), Or<Unexpected>>
     requires fits { Fits (T.confs tables.old) client.old.session }
     ensures fits { Fits (T.confs tables.new) client.new.session }
     ensures confs { T.confs tables.new ≡ T.confs tables.old }
     ensures leads { Leads T.confs T.words tables.old tables.new }
 {
-    if id % PER_TRANSACTION == 0 || id == last {
+    if number % PER_TRANSACTION == 0 || number == last {
         client.tell(tables, "COMMIT", 0, AUTOCOMMIT)?;
     }
     Ok(())
@@ -164,4 +197,15 @@ fn count<T: TableStore>(
         sum += u64::from(client.count_rows(tables, text.as_str())?);
     }
     Ok(sum)
+}
+
+/// How many chunks of the index are on the disk, by what a read of it sees.
+fn chunks<T: TableStore>(tables: &mut T) -> Result<u64, Or<Unexpected>>
+    requires one { length (T.confs tables.old) ≡ 1 }
+    ensures chunks { IfOk result (λ chunks. SeesChunks T.confs T.words chunks tables.old tables.new) }
+    ensures confs { T.confs tables.new ≡ T.confs tables.old }
+    ensures leads { Leads T.confs T.words tables.old tables.new }
+{
+    let snapshot = tables.front(0)?;
+    Ok(u64::from(snapshot.disk_chunks()))
 }

@@ -1,12 +1,12 @@
 //! What a selftest says of its documents, and a scan that finds it document by document.
 ghost use Rattle.std.specs.Prelude.{◌≡◌, ◌+◌, ◌<◌, ◌≤◌, ◌^◌, ◌==◌, length};
 ghost use Rattle.std.specs.List.{filter, list_any};
-ghost use Rattle.self_test.specs.Summaries.{has_word, has_pair, many, count_of, counts_of, summary_of, lines_of};
+ghost use Rattle.self_test.specs.Summaries.{has_word, has_pair, many, count_of, counts_of, chunks_of, summary_of, lines_of};
 
 use crate::generator::{Document, GROUPS, WORDS};
 use std::fmt;
 
-/// What a selftest says of its documents. It is printed as four lines, each with its LF.
+/// What a selftest says of its documents. It is printed as five lines, each with its LF.
 #[derive(Clone, Copy, PartialEq, Eq)]
 pub struct Summary {
     pub documents: u64,
@@ -16,6 +16,8 @@ pub struct Summary {
     pub pairs: u64,
     /// How many groups have a document.
     pub groups: u64,
+    /// How many chunks are on the disk in the end.
+    pub chunks: u64,
 }
 
 impl fmt::Display for Summary {
@@ -29,10 +31,11 @@ impl fmt::Display for Summary {
             words,
             pairs,
             groups,
+            chunks,
         } = *self;
         write!(
             f,
-            "documents {documents}\nwords {words}\npairs {pairs}\ngroups {groups}\n"
+            "documents {documents}\nwords {words}\npairs {pairs}\ngroups {groups}\nchunks {chunks}\n"
         )
     }
 }
@@ -132,6 +135,13 @@ impl Document {
     }
 }
 
+/// How many chunks are on the disk once all documents were put into one.
+fn chunks_of(documents: &[Document]) -> u64
+    ensures { result ≡ chunks_of documents.now }
+{
+    if documents.is_empty() { 0 } else { 1 }
+}
+
 /// What a scan of the documents finds.
 #[tactic(auto, unfolding(crate::specs::Summaries::summary_of))]
 pub fn scan(documents: &[Document]) -> Summary
@@ -143,5 +153,6 @@ pub fn scan(documents: &[Document]) -> Summary
         words: Count::Words.of_all(documents),
         pairs: Count::Pairs.of_all(documents),
         groups: Count::Groups.of_all(documents),
+        chunks: chunks_of(documents),
     }
 }

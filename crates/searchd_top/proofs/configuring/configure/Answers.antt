@@ -1,7 +1,7 @@
 use Rattle.std.proofs.Common.{ℕ, List, subst}
 use Rattle.conf_text.specs.Confs.{IsConfOf, IsFaultOf}
 use Rattle.searchd_top.proofs.Lines.{fault_read}
-use Rattle.searchd_top.proofs.PathTexts.{paths_are_texts}
+use Rattle.path_texts.proofs.PathTexts.{paths_are_texts}
 use Rattle.searchd_top.proofs.configuring.configure.Goals as goal
 
 pub returns-in-Ok-read_conf-clause-configures : goal.returns-in-Ok-read_conf-clause-configures

@@ -6,7 +6,7 @@ use Rattle.srch_base.specs.declared.faults.Or.{Or}
 use Rattle.step_book.specs.Fronts.{FrontValue}
 use Rattle.engine_tables.specs.Tokens.{SitsAt, TokensValue}
 use Rattle.self_test.specs.Documents.{documents_from}
-use Rattle.self_test.specs.Ends.{Works, first_tokens}
+use Rattle.self_test.specs.Ends.{HasChunks, Works, first_tokens}
 use Rattle.self_test.specs.Summaries.{summary_of}
 use Rattle.self_test.specs.declared.running.Unexpected.{Unexpected}
 use Rattle.self_test.specs.declared.summary.Summary.{Summary}
@@ -14,8 +14,11 @@ use Rattle.self_test.specs.steps.Engines.{AnswersEnd}
 use Rattle.self_test.proofs.Engines.{can_end, ended_one, ends_so, first_last, put_one}
 use Rattle.self_test.proofs.engine.run_over_named.Goals as goal
 
-pub work-found-requires : goal.work-found-requires
-work-found-requires g c =
+pub work-found-requires-clause-one : goal.work-found-requires-clause-one
+work-found-requires-clause-one g c = ap length c.requires.over.is
+
+pub work-found-requires-clause-sits : goal.work-found-requires-clause-sits
+work-found-requires-clause-sits g c =
     subst (λ (t : TokensValue). SitsAt c.args.named.engines t)
     (sym (first_last c.args.named.seats.items c.take_last.new.self.items c.take_last.result first_tokens c.take_last.ensures.items c.requires.seats)) c.requires.sit
 
@@ -38,6 +41,9 @@ returns-clause-ends g c =
     ends_so g.D.Disk schema base engines.confs left c.close.result.items c.end_of.ensures.0 c.answer.result c.requires.over
     (subst (λ (t : TokensValue). Works schema base engines.confs t left)
     (first_last c.args.named.seats.items c.take_last.new.self.items c.take_last.result first_tokens c.take_last.ensures.items c.requires.seats) c.work-found.ensures.works)
+    (IfOk-weaker c.answer.result _ _
+    (λ summary is. subst (λ (found : Result Summary (Or Unexpected)). IfOk found (λ s. HasChunks schema base left s.chunks)) is c.work-found.ensures.chunks)
+    c.answer.ensures.summary)
     (ended_one g.D.Disk schema base _ engines.workers c.put.new.self.seats left c.close.result.items (ap length c.requires.over.is) c.requires.alone
     (put_one engines c.args.named.ending c.put.new.self left c.requires.room c.put.ensures) c.close.ensures)
     c.end_of.ensures.1

@@ -8,7 +8,7 @@ invariant-documents g l = record {
   fits : Fits (g.T.Catalog.confs l.tables) l.client.session;
   confs : g.T.Catalog.confs l.tables ≡ g.T.Catalog.confs l.fn.tables;
   leads : Leads g.T.Catalog.confs g.T.TableStore.words l.fn.tables l.tables;
-  left : l.id + length l.rest ≡ length l.documents;
+  left : l.number + length l.rest ≡ length l.documents;
 }
 
 abbrev pub decreases-documents : goal.decreases-documents
