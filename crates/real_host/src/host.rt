@@ -1,20 +1,20 @@
 //! The host of the program: files, the standard streams, stores over folders, and doors over these streams or over a listener. What a
 //! file holds and where a print goes is trusted; what is proved is the count of faults, what is requested, given and handed back, and
 //! how much of a file is read.
-ghost use Rattle.std.specs.Prelude.{◌≡◌, ◌≤◌, ◌+◌, ◌++◌, [], ◌∷◌, Some, length, map, take, IfOk, IfSome};
+ghost use Rattle.std.specs.Prelude.{◌≡◌, ◌≤◌, ◌+◌, ◌++◌, [], ◌∷◌, Some, length, map, IfOk};
 ghost use Rattle.std.specs.List.{All};
 ghost use Rattle.client_doors.specs.Fresh.{IsFresh};
 
 use crate::folders::make_folder;
 use crate::lent::Lent;
+use crate::streams::Streams;
+use crate::texts::read_text;
 use chunk_store::DirDisk;
 use client_doors::{ClientDoor, listening_doors, standard_door};
 use program_host::{Host, Requests, Stream};
 use srch_base::{Failed, OpenFault};
 use std::alloc::Global;
-use std::fs;
-use std::io::{self, ErrorKind, Read, Stderr, Stdin, Stdout, Write};
-use std::rt::Files;
+use std::io::{self, ErrorKind, Stderr, Stdin, Stdout};
 
 /// The host of the program. It knows no text beforehand and doesn't record what is printed, but it records what is requested.
 #[derive(Drop)]
@@ -23,13 +23,11 @@ pub struct RealHost {
     alloc: Global,
     input: Stdin,
     output: Stdout,
-    errors: Stderr,
+    streams: Streams,
     requests: Requests,
     stores: Lent<DirDisk<HostRuntime>>,
     doors: Lent<ClientDoor>,
     faults: u64,
-    out_faults: u64,
-    error_faults: u64,
 }
 
 impl RealHost {
@@ -51,20 +49,18 @@ impl RealHost {
             alloc,
             input,
             output,
-            errors,
+            streams: Streams::new(output, errors),
             requests: Requests::new(alloc),
             stores: Lent::new(alloc),
             doors: Lent::new(alloc),
             faults: 0,
-            out_faults: 0,
-            error_faults: 0,
         }
     }
 }
 
 impl Host for RealHost {
     ghost use Rattle.std.specs.Prelude.{None, map};
-    ghost use Rattle.program_host.specs.Printing.{of_stream};
+    ghost use Rattle.real_host.specs.Streams.{faults_of};
 
     type Store = DirDisk<HostRuntime>;
 
@@ -84,38 +80,17 @@ impl Host for RealHost {
 
     ghost faults = { λ host. host.faults };
 
-    ghost print_faults = { λ host to. of_stream to host.out_faults host.error_faults };
+    ghost print_faults = { λ host. faults_of host.streams };
 
     ghost requests = { λ host. host.requests };
 
     fn read_text(&mut self, path: &str, limit: u32) -> Result<Vec<u8>, OpenFault> {
         self.requests.add_text(path);
-        match read_file(self.alloc, &self.outside, path, limit) {
-            Ok(bytes) => Ok(bytes),
-            Err(error) if error.kind() == ErrorKind::OutOfMemory => Err(OpenFault::NoMemory),
-            Err(_) => {
-                self.faults = self.faults.saturating_add(1);
-                Err(OpenFault::Failed)
-            }
-        }
+        read_text(&self.outside, self.alloc, path, limit, &mut self.faults)
     }
 
     fn print(&mut self, to: Stream, line: &[u8]) -> Result<(), Failed> {
-        let printed = match to {
-            Stream::Out => self.output.write_all(line),
-            Stream::Err => self.errors.write_all(line),
-        };
-        match (printed, to) {
-            (Ok(()), _) => Ok(()),
-            (Err(_), Stream::Out) => {
-                self.out_faults = self.out_faults.saturating_add(1);
-                Err(Failed)
-            }
-            (Err(_), Stream::Err) => {
-                self.error_faults = self.error_faults.saturating_add(1);
-                Err(Failed)
-            }
-        }
+        self.streams.print(to, line)
     }
 
     /// The store over the folder of this path, which is made where it isn't there. Fails where its parent isn't there, or a store over
@@ -198,25 +173,4 @@ fn open_folder(
         Err(error) if error.kind() == ErrorKind::OutOfMemory => Err(OpenFault::NoMemory),
         Err(_) => Err(OpenFault::Failed),
     }
-}
-
-/// The first `limit + 1` bytes of a file, or all of a shorter one.
-fn read_file<R: Files>(alloc: Global, files: &R, path: &str, limit: u32) -> io::Result<Vec<u8>>
-    ensures { IfOk result (λ bytes. length bytes.items ≤ limit + 1) }
-{
-    let file = fs::open(files, path)?;
-    read_front(alloc, file, limit)
-}
-
-/// The first `limit + 1` bytes that a reader gives, or all of fewer.
-fn read_front<T: Read + Drop>(alloc: Global, reader: T, limit: u32) -> io::Result<Vec<u8>>
-    ensures bound { IfOk result (λ bytes. length bytes.items ≤ limit + 1) }
-    ensures bytes { IfOk result (λ bytes. IfSome (T.remaining reader) (λ all. bytes.items ≡ take (limit + 1) all)) }
-{
-    let most = u64::from(limit) + 1;
-    let mut bytes = Vec::new(alloc);
-    let mut front = reader.take(most);
-    front.read_to_end(&mut bytes)?;
-    bytes.truncate(most as usize);
-    Ok(bytes)
 }

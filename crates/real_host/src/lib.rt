@@ -4,6 +4,14 @@
 mod folders;
 mod host;
 mod lent;
+mod looking;
+mod streams;
+mod texts;
+mod words;
 
 pub use host::RealHost;
 pub use lent::Lent;
+pub use looking::LookDisk;
+pub use streams::Streams;
+pub use texts::read_text;
+pub use words::words_of;

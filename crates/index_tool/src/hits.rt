@@ -1,0 +1,128 @@
+//! The places of a word in a chunk: the dictionary finds the word, and then its posting list alone is read.
+ghost use Rattle.std.specs.Prelude.{◌≡◌, ◌<◌, ℕ, [], OnOk, AllPairs};
+ghost use Rattle.std.specs.List.{flat_map};
+ghost use Rattle.doc_types.specs.Chunks.{first_place};
+ghost use Rattle.doc_types.specs.declared.documents.DocRow.{DocRow};
+ghost use Rattle.index_tool.specs.ToolLines.{hit_line, hit_lines};
+ghost use Rattle.index_tool.specs.steps.Sides.{PrintsLines};
+
+use crate::host::ToolHost;
+use crate::lines::put_hit;
+use crate::printing::{Stop, print_line};
+use doc_types::{Cursor, HitLists, Schema};
+use layer_commit::is_dead;
+use root_slots::ChunkEntry;
+use srch_base::{NoMemory, Steps};
+use std::alloc::Global;
+use std::marker::Brand;
+use std::sync::ledger::{Blank, Ledger};
+
+/// What is looked for in a chunk: a word, in fields with these names, in a file as the root names it.
+#[derive(Clone, Copy)]
+pub(crate) struct Wanted<'a> {
+    pub(crate) schema: &'a Schema,
+    pub(crate) word: &'a [u8],
+    pub(crate) entry: &'a ChunkEntry,
+}
+
+/// Prints a line of each place of a word in the rows of a chunk that aren't dead.
+pub(crate) fn print_hits<H: ToolHost, C: HitLists>(
+    alloc: Global,
+    wanted: Wanted<'_>,
+    chunk: &C,
+    line: &mut Vec<u8>,
+    host: &mut H,
+) -> Result<(), Stop>
+    requires begins { line.old.items ≡ [] }
+    requires dead { AllPairs (λ row later. row < later) wanted.entry.now.dead }
+    ensures prints { PrintsLines H.ToolHost result (hit_lines wanted.entry.schema.now wanted.entry.word.now wanted.entry.entry.now (C.content chunk.now)) host.old host.new }
+    ensures empty { OnOk result (line.new.items ≡ []) }
+{
+    match chunk.start(wanted.word) {
+        Some(cursor) => {
+            print_from::<Brand, H, C>(alloc, wanted, chunk, cursor, Blank::new(1), line, host)
+        }
+        None => Ok(()),
+    }
+}
+
+/// The same from a cursor before all rows that have the word. The steps of opening are counted, as chunks ask it, and not used.
+fn print_from<L: Ledger, H: ToolHost, C: HitLists>(
+    alloc: Global,
+    wanted: Wanted<'_>,
+    chunk: &C,
+    cursor: Cursor,
+    blank: Blank,
+    line: &mut Vec<u8>,
+    host: &mut H,
+) -> Result<(), Stop>
+    requires name { blank.name ≡ L.name }
+    requires parts { blank.parts ≡ L.parts }
+    requires some { 0 < blank.parts }
+    requires begins { line.old.items ≡ [] }
+    requires dead { AllPairs (λ row later. row < later) wanted.entry.now.dead }
+    requires belongs { C.belongs chunk.now cursor }
+    requires first { C.place chunk.now cursor ≡ first_place wanted.word.now (C.content chunk.now) }
+    ensures prints { PrintsLines H.ToolHost result (hit_lines wanted.entry.schema.now wanted.entry.word.now wanted.entry.entry.now (C.content chunk.now)) host.old host.new }
+    ensures empty { OnOk result (line.new.items ≡ []) }
+{
+    let mut steps = Steps::<L>::new(blank);
+    let mut hits = Vec::new(alloc);
+    let mut here = cursor;
+    'rows: while let Some(row) = chunk.row(&here) {
+        if is_dead(wanted.entry.dead.as_slice(), row) {
+            chunk.advance(&mut here);
+            continue;
+        }
+        hits.clear();
+        match chunk.open(&here, &mut hits, &mut steps) {
+            Ok(()) => {}
+            Err(NoMemory) => return Err(Stop::NoMemory),
+        }
+        match print_row(wanted, chunk.id(row), hits.as_slice(), line, host) {
+            Ok(()) => {}
+            Err(stop) => return Err(stop),
+        }
+        chunk.advance(&mut here);
+    }
+    Ok(())
+}
+
+/// Prints a line of each of these places in the row of an id.
+fn print_row<H: ToolHost>(
+    wanted: Wanted<'_>,
+    id: u64,
+    hits: &[(u16, u32)],
+    line: &mut Vec<u8>,
+    host: &mut H,
+) -> Result<(), Stop>
+    requires { line.old.items ≡ [] }
+    ensures prints { (row : DocRow) → row.doc.id ≡ id → PrintsLines H.ToolHost result (flat_map (hit_line wanted.entry.schema.now wanted.entry.entry.now row) hits.now) host.old host.new }
+    ensures empty { OnOk result (line.new.items ≡ []) }
+{
+    'hits: for hit in hits {
+        match print_hit(wanted, id, *hit, line, host) {
+            Ok(()) => {}
+            Err(stop) => return Err(stop),
+        }
+    }
+    Ok(())
+}
+
+/// Prints the line of a place in the row of an id.
+fn print_hit<H: ToolHost>(
+    wanted: Wanted<'_>,
+    id: u64,
+    hit: (u16, u32),
+    line: &mut Vec<u8>,
+    host: &mut H,
+) -> Result<(), Stop>
+    requires { line.old.items ≡ [] }
+    ensures prints { (row : DocRow) → row.doc.id ≡ id → PrintsLines H.ToolHost result (hit_line wanted.entry.schema.now wanted.entry.entry.now row hit) host.old host.new }
+    ensures empty { OnOk result (line.new.items ≡ []) }
+{
+    match put_hit(wanted.schema, wanted.entry, id, hit, line) {
+        Ok(()) => print_line(line, host),
+        Err(NoMemory) => Err(Stop::NoMemory),
+    }
+}

@@ -1,0 +1,2 @@
+-- the standard streams
+pub mod Streams
