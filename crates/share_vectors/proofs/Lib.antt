@@ -1,3 +1,4 @@
 -- the tokens of an engine are those of its users; steps of an index without documents
 pub mod Bare
+pub mod Beginning
 pub mod Users

@@ -1,6 +1,9 @@
 -- Who uses an engine of an index without columns.
 use Rattle.std.specs.Prelude.{◌≡◌, ℕ, ◌<◌, ◌≤◌, [], false}
 use Rattle.doc_types.specs.declared.schema.Schema.{Schema}
+use Rattle.job_chunks.specs.Chunks.{IsNewChunk, NewChunkValue}
+use Rattle.job_states.specs.States.{HasSeen}
+use Rattle.step_history.specs.History.{Base}
 use Rattle.snap_share.specs.Tokens.{TokenValue}
 use Rattle.snap_share.specs.Engines.{EngineValue}
 
@@ -13,3 +16,8 @@ pub record IsUser (schema : ℕ → Schema) (engine : EngineValue) (token : Toke
   pub index : token.index ≡ engine.index
   pub worker : 0 < token.worker
   pub known : token.worker ≤ engine.workers
+
+-- The token has seen where the job began that made the chunk.
+pub record IsJobOf (base : Base) (token : TokenValue) (new : NewChunkValue) : Type 0 where
+  pub seen : HasSeen base token.seen new.from
+  pub chunk : IsNewChunk plain new

@@ -1,5 +1,5 @@
 //! Tests of what no clause says of what threads share: that reads beside a writer give whole snapshots in their order, that each call
-//! of a line can succeed, that commits of an engine succeed and are found by other workers, and that many workers commit at once.
+//! of a line can succeed, that commits of an engine succeed and are found by other workers, that a job ends beside commits, and that many workers commit at once.
 #![tactic(auto)]
 
 #[cfg(test)]
@@ -10,6 +10,8 @@ mod calls;
 mod commits;
 #[cfg(test)]
 mod in_turn;
+#[cfg(test)]
+mod jobs;
 #[cfg(test)]
 mod reading;
 #[cfg(test)]

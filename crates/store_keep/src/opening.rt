@@ -37,7 +37,7 @@ pub struct Opened<D: Disk> {
 impl<D: Disk> Opened<D> {
     /// Opens the store of an index on a disk, which comes back where it can't be opened.
     ///
-    /// A long log is read and indexed by two threads, as far as the system gives them.
+    /// The files of chunks are read two at a time, and a long log is read and indexed by two threads, as far as the system gives them.
     pub fn open<R: Threads>(
         rt: &R,
         alloc: Global,
