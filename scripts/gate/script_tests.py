@@ -10,7 +10,7 @@ from scripts.cases.tables import ROOT
 from scripts.gate.last_line import ended
 
 # How many tests there are known to be; each that is lost counts as failed.
-KNOWN = 98
+KNOWN = 105
 
 
 def run(folder, top, known):

@@ -165,6 +165,7 @@ class Words(unittest.TestCase):
         for ranker, weights, wanted in (
             ("none", [1, 1], 1), ("wordcount", [1, 1], 3), ("wordcount", [3, 5], 11), ("proximity", [1, 1], 3), ("proximity", [3, 5], 11),
             ("matchany", [1, 1], (2 + 1 * 2 * 2) + 1), ("fieldmask", [9, 9], 3),
+            ("positions", [3, 5], 4 * 3 + 9 * 5),
         ):
             self.assertEqual(weight(ranker, 2, weights, hits), wanted, ranker)
         self.assertEqual(quoted("it's \\"), "'it\\'s \\\\'")

@@ -94,4 +94,4 @@ class Selftests(unittest.TestCase):
     def test_documents_and_summary(self):
         # what the generator that the C standard gives as an example draws from 1 on
         self.assertEqual(list(documents(1, 1)), [([16838 % 50, 5758 % 50, 10113 % 50, 17515 % 50], 31051 % 5)])
-        self.assertEqual(summary(1, 1), "documents 1\nwords 4\npairs 0\ngroups 1\n")
+        self.assertEqual(summary(1, 1), "documents 1\nwords 4\npairs 0\ngroups 1\nchunks 1\n")

@@ -1,0 +1,1 @@
+"""What texts and packets say, read by the formats alone, beside the program's own reading of them."""
