@@ -33,7 +33,7 @@ root_only files full is =
     ⊎_elim
     (λ same. (sym (ap (λ (f : Full). f.what) same), sym (ap (λ (f : Full). f.need) same)))
     (λ same. (sym (ap (λ (f : Full). f.what) same), sym (ap (λ (f : Full). f.need) same)))
-    (either (nat_lt LAST_FILE (files.next_file + 2)) (nat_le LAST_ROOT files.root.number) (record { what = limits.Root; at = files.next_file; need = 1 }) (record { what = limits.Root; at = files.root.number; need = 1 }) full is)
+    (either (nat_lt LAST_FILE (files.next_file + 2)) (nat_le LAST_ROOT files.root.number) (record { what = limits.Root; at = files.next_file; need = 1 }) (record { what = limits.Root; at = LAST_ROOT; need = 1 }) full is)
 
 module _ (schema : Schema) (base : Base) (line : LineValue) (token : TokenValue) (of : token.index ≡ line.index) (begins : IsPrefix token.seen line.history) (counts : token.made ≡ made_by token.worker line.history) where
   -- the token, once it has seen the line's history

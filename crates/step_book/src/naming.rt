@@ -13,11 +13,6 @@ pub trait Naming {
     /// The book that keeps the line.
     ghost book: { ℕ → Book };
 
-    /// The books of its faults and of its stops.
-    ghost faults: { ℕ → Book };
-
-    ghost stops: { ℕ → Book };
-
     /// The columns.
     ghost schema: { ℕ → Schema };
 
@@ -29,10 +24,6 @@ impl Naming for Brand {
     ghost use Rattle.step_book.specs.Tellings.{no_base, no_schema};
 
     ghost book = { λ index. record { number = 0; log_name = 0; cells_name = 0 } };
-
-    ghost faults = { λ index. record { number = 0; log_name = 0; cells_name = 0 } };
-
-    ghost stops = { λ index. record { number = 0; log_name = 0; cells_name = 0 } };
 
     ghost schema = { λ index. no_schema };
 

@@ -1,4 +1,2 @@
 pub mod Lasts
 pub mod CommitCounts
-pub mod Ready
-pub mod CallCounts

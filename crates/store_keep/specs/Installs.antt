@@ -32,7 +32,7 @@ shape_of base line = (last_snapshot base line.history).shape
 
 -- the numbers of roots have ended
 abbrev pub full_roots : Files → Option Full
-full_roots files = if nat_le LAST_ROOT files.root.number then Some (record { what = limits.Root; at = files.root.number; need = 1 }) else None
+full_roots files = if nat_le LAST_ROOT files.root.number then Some (record { what = limits.Root; at = LAST_ROOT; need = 1 }) else None
 
 -- the numbers of files have ended, of which a job needs two, or those of roots
 abbrev pub full_root : Files → Option Full

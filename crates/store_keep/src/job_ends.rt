@@ -104,7 +104,7 @@ impl<D: Disk, J: Naming> Kept<D, J> {
             return Some(Full { what, at, need: 1 });
         }
         if self.files.root.full() {
-            let at = self.files.root.number();
+            let at = LAST_ROOT;
             return Some(Full { what, at, need: 1 });
         }
         None
