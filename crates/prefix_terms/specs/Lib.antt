@@ -1,0 +1,2 @@
+-- the words of prefixes, and the query without prefixes
+pub mod Prefixes
