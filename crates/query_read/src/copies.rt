@@ -27,7 +27,6 @@ pub(crate) fn copy_key(alloc: Global, key: &Key) -> Result<Key, NoMemory>
         },
         start: key.start,
         end: key.end,
-        prefix: key.prefix,
     })
 }
 

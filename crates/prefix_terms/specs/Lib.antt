@@ -1,2 +1,0 @@
--- the words of prefixes, and the query without prefixes
-pub mod Prefixes
