@@ -50,6 +50,7 @@ impl MemoryDisk {
         ensures files { (f : ℕ) → image_of result.files f ≡ None }
         ensures calls { result.calls.items ≡ [] }
         ensures failing { result.failing.items ≡ failing.items }
+        ensures count { result.faults ≡ 0 }
     {
         MemoryDisk {
             alloc,
@@ -76,6 +77,7 @@ impl MemoryDisk {
         ensures outcome { IfOk result (λ disk. (f : ℕ) → image_of disk.files f ≡ outcome pick (image_of self.now.start) (reverse (take calls self.now.calls.items)) f) }
         ensures may { IfOk result (λ disk. MayLeave (image_of self.now.start) (reverse (take calls self.now.calls.items)) (image_of disk.files)) }
         ensures fresh { IfOk result (λ disk. (disk.calls.items ≡ []) × (disk.failing.items ≡ [])) }
+        ensures count { IfOk result (λ disk. disk.faults ≡ 0) }
     {
         let count = calls.min(self.calls.len() as u64) as usize;
         let start = left_by(self.alloc, &self.start, &self.calls[..count], pick)?;

@@ -4,3 +4,5 @@ pub mod Tellings
 pub mod Fronts
 -- the rule of the line, and what its step tells
 pub mod Rules
+-- what shares tell of a line of calls
+pub mod Shares

@@ -8,6 +8,12 @@ use Rattle.step_history.specs.History.{Base, Step, Commit, Reshape}
 use Rattle.step_book.specs.declared.made.Told.{Told}
 use Rattle.step_book.specs.declared.made.Told.TheVariants as told
 
+-- What there was at opening: how many calls of the disk had failed, the number of the next file, and that of the root.
+pub record AtOpening : Type 0 where
+  pub faults : ℕ
+  pub file : ℕ
+  pub root : ℕ
+
 -- the entry of a transaction
 abbrev pub entry_of : ℕ → ℕ → ℕ → Txn → Entry
 entry_of worker seq number txn = record { worker = worker; seq = seq; number = number; changes = map change_of txn.ops }
@@ -28,6 +34,9 @@ no_base = record { opening = record { number = 0; shape = 0; layers = [] }; log 
 
 abbrev pub no_schema : Schema
 no_schema = record { name = []; fields = []; attrs = []; zones = []; sp = false }
+
+abbrev pub nothing_opened : AtOpening
+nothing_opened = record { faults = 0; file = 0; root = 0 }
 
 abbrev pub no_step : Step
 no_step = Reshape Flush 0 no_base.opening

@@ -1,22 +1,22 @@
 //! What was seen of an index's history: a beginning of it. A front is what tokens remember, what a published snapshot carries,
 //! and what the writing end adds to. Of any two fronts of one index the shorter begins the longer; so whoever has two may keep
 //! the longer one alone, and a comparison of lengths tells which that is.
-ghost use Rattle.std.specs.Prelude.{◌≡◌, ◌+◌, ◌<◌, ◌^◌, ◌++◌, ◌∷◌, [], length, MatchBool};
+ghost use Rattle.std.specs.Prelude.{◌≡◌, ◌<◌, ◌++◌, ◌∷◌, [], length, MatchBool, IfSome};
 ghost use mathlib.Core.List.{IsPrefix};
 ghost use Rattle.step_history.specs.History.{AreOf, Follows, IsGood, snapshot_of};
 
-use crate::line::{Add, Book, Law, Nothing, Past};
+use crate::held::Held;
+use crate::line::{Add, Book, Past, Take};
 use crate::made::{Made, Mark};
 use crate::naming::Naming;
 use doc_types::Chunk;
-use logbook::Offer;
 use std::marker::{Model, PhantomData};
 
 /// A beginning of the history of an index that was seen. Contracts see the index's number and the steps. It is good.
 #[derive(Drop)]
 pub struct Front<J: Naming> {
     index: u16,
-    past: Past,
+    past: Past<Mark>,
     of: PhantomData<J>,
 }
 
@@ -34,7 +34,7 @@ impl<J: Naming> Model for Front<J> {
 
 impl<J: Naming> Front<J> {
     /// A past of the index, under its name.
-    pub fn named(index: u16, past: Past) -> Front<J>
+    pub fn named(index: u16, past: Past<Mark>) -> Front<J>
         requires book { past.seen.book ≡ J.book index }
         requires good { IsGood (J.schema index) (J.base index) past.seen.log }
         ensures { result ≡ record { index = index; steps = past.seen.log } }
@@ -73,7 +73,7 @@ impl<J: Naming> Front<J> {
     }
 
     /// The same without its name.
-    pub fn past(&self) -> Past
+    pub fn past(&self) -> Past<Mark>
         ensures book { result.seen.book ≡ J.book self.now.index }
         ensures steps { result.seen.log ≡ self.now.steps }
         ensures good { IsGood (J.schema self.now.index) (J.base self.now.index) self.now.steps }
@@ -97,28 +97,55 @@ impl<J: Naming> Front<J> {
         true
     }
 
-    /// Adds a step to all that was seen, and says whether it did. It did not where the line has more steps than this front.
-    pub fn add<C: Chunk>(&mut self, book: &Book<J>, made: &Made<C>) -> bool
-        requires index { book.now.index ≡ self.old.index }
-        requires room { length self.old.steps + 1 < 2 ^ 64 }
-        requires follows { Follows (J.base self.old.index) self.old.steps made.now }
-        requires of { AreOf (J.schema self.old.index) (snapshot_of made.now) }
-        ensures { MatchBool result (self.new ≡ record self.old { steps = self.old.steps ++ made.now ∷ [] }) (self.new ≡ self.old) }
+    /// The right to add the next step, where the line has no more steps than this front. There is none where it has more, or where
+    /// someone else has the right.
+    pub fn turn(&self, book: &Book<J>) -> Option<Turn<J>>
+        requires { book.now.index ≡ self.now.index }
+        ensures { IfSome result (λ turn. turn ≡ self.now) }
     {
-        let mut seen = self.past.seen.again();
-        let mut offer: Offer<Mark, u64, Law, Nothing> = seen.plain::<Nothing, Made<C>, Add>(made);
-        let mut pen = seen.no_pen();
-        let steps = self.past.steps;
-        let found = book
-            .head
-            .compare_exchange::<Add, Nothing>(steps, steps + 1, &mut seen, &mut offer, &mut pen);
-        if found != steps {
-            return false;
+        let held = self.past.hold::<Take>(&book.head);
+        match held {
+            None => None,
+            Some(held) => Some(Turn {
+                index: self.index,
+                held,
+                of: PhantomData,
+            }),
         }
-        self.past = Past {
-            steps: steps + 1,
-            seen,
-        };
-        true
+    }
+}
+
+/// The right to add the next step to the history of an index. Contracts see all of the history, as a front does.
+#[derive(Drop)]
+pub struct Turn<J: Naming> {
+    index: u16,
+    held: Held<Mark>,
+    of: PhantomData<J>,
+}
+
+impl<J: Naming> Model for Turn<J> {
+    ghost use Rattle.std.specs.Prelude.{◌≡◌};
+    ghost use Rattle.step_history.specs.History.{IsGood};
+    ghost use Rattle.step_book.specs.Fronts.{FrontValue};
+
+    ghost Value = { FrontValue };
+
+    ghost view = { λ t. record { index = t.index; steps = t.held.past.seen.log } };
+
+    ghost invariant = { λ t. (t.held.past.seen.book ≡ J.book t.index) × IsGood (J.schema t.index) (J.base t.index) t.held.past.seen.log };
+}
+
+impl<J: Naming> Turn<J> {
+    /// Adds a step. The next one needs a turn of its own.
+    pub fn add<C: Chunk>(self, book: &Book<J>, made: &Made<C>) -> Front<J>
+        requires index { book.now.index ≡ self.index }
+        requires follows { Follows (J.base self.index) self.steps made.now }
+        requires of { AreOf (J.schema self.index) (snapshot_of made.now) }
+        ensures { result ≡ record self { steps = self.steps ++ made.now ∷ [] } }
+    {
+        let Turn { index, held, of: _ } = self;
+        let seen = held.past.again();
+        let past = held.add::<Made<C>, Add>(&book.head, made, &seen);
+        Front::named(index, past)
     }
 }

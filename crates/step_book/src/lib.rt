@@ -3,11 +3,16 @@
 #![tactic(auto)]
 
 mod front;
+mod held;
+mod laws;
 mod line;
 mod made;
 mod naming;
+mod share;
 
-pub use front::Front;
-pub use line::{Book, NewBook, Past};
+pub use front::{Front, Turn};
+pub use laws::shares_fit;
+pub use line::{Book, NewBook, NewLine, Past};
 pub use made::{Made, Mark};
 pub use naming::Naming;
+pub use share::{Faults, Kind, Ledger, Share, ShareTurn, Stops};

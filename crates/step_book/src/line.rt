@@ -1,5 +1,6 @@
-//! The line: a word that all threads may read and that holds the number of steps. Which steps these are stands in proofs, as the
-//! log of a book of `logbook`: what a thread has seen of it begins all that any thread sees later.
+//! The line: a word that all threads may read and that tells the number of entries, and whether someone has the right to add the next
+//! one. Which entries these are stands in proofs, as the log of a book of `logbook`: what a thread has seen of it begins all that any
+//! thread sees later. The history of an index is such a line over its steps.
 ghost use Rattle.std.specs.Prelude.{◌≡◌, [], length};
 ghost use Rattle.step_history.specs.History.{AreOf};
 ghost use Rattle.step_book.specs.Rules.{head_of};
@@ -11,10 +12,10 @@ use doc_types::Chunk;
 use logbook::{Gain, Plain, Play, Rule, Seen, Start, Word};
 use std::marker::PhantomData;
 
-/// The rule of the line: its word is its length.
+/// The rule of the line: its word is twice its length, and one more while the right to add the next entry is taken.
 pub struct Law;
 
-impl Rule<Mark, u64> for Law {
+impl<E> Rule<E, u64> for Law {
     ghost use Rattle.std.specs.Prelude.{[]};
     ghost use base.Fml.{ftrue};
     ghost use Rattle.step_book.specs.Rules.{IsKept};
@@ -35,16 +36,35 @@ impl Rule<Mark, u64> for Law {
 /// Nothing is traded with the line.
 pub struct Nothing;
 
-impl Gain<Mark, u64> for Nothing {
+impl<E> Gain<E, u64> for Nothing {
     ghost use base.Fml.{ftrue};
 
     ghost after = { λ names about answer. ftrue };
 }
 
-/// An exchange that adds a step.
+/// An exchange that takes the right to add the next entry.
+pub struct Take;
+
+impl<E> Play<E, u64> for Take {
+    ghost use Rattle.step_book.specs.Rules.{Takes};
+
+    ghost then = { Takes };
+}
+
+/// Taking that right tells the line nothing: a step or a worker that nobody made stands in its place.
+impl Plain<(), Mark, u64> for Take {
+    ghost use Rattle.std.specs.Prelude.{None};
+    ghost use Rattle.step_book.specs.Tellings.{no_step};
+
+    ghost ask = { λ nothing. no_step };
+
+    ghost state = { λ nothing. None };
+}
+
+/// An exchange that adds an entry.
 pub struct Add;
 
-impl Play<Mark, u64> for Add {
+impl<E> Play<E, u64> for Add {
     ghost use Rattle.step_book.specs.Rules.{Adds};
 
     ghost then = { Adds };
@@ -60,15 +80,15 @@ impl<C: Chunk> Plain<Made<C>, Mark, u64> for Add {
 
 /// A beginning of some line, of which index isn't said.
 #[derive(Drop)]
-pub struct Past {
+pub struct Past<E> {
     pub steps: u64,
-    pub seen: Seen<Mark, u64, Law>,
+    pub seen: Seen<E, u64, Law>,
     ghost counted: { steps ≡ length seen.log },
 }
 
-impl Past {
+impl<E> Past<E> {
     /// The same once more.
-    pub fn again(&self) -> Past
+    pub fn again(&self) -> Past<E>
         ensures { result ≡ self.now }
     {
         Past {
@@ -78,24 +98,40 @@ impl Past {
     }
 }
 
-/// A line without steps, which has no name yet.
+/// A line without entries, which has no name yet.
 #[derive(Drop)]
-pub struct NewBook {
-    head: Word<Mark, u64, Law>,
-    past: Past,
+pub struct NewLine<E> {
+    head: Word<E, u64, Law>,
+    past: Past<E>,
     pub ghost empty: { past.seen.log ≡ [] },
     pub ghost head_is: { head ≡ head_of past.seen.book },
 }
 
-impl NewBook {
-    pub fn new() -> NewBook {
+/// A line without steps.
+pub type NewBook = NewLine<Mark>;
+
+impl<E> NewLine<E> {
+    #[tactic(auto, using(crate::proofs::Adding::opened))]
+    pub fn new() -> NewLine<E> {
         let (seen, mut first, _second) = Seen::open(Start::alone(), 0, 0);
-        NewBook {
+        NewLine {
             head: Word::tracked(0, &mut first),
             past: Past { steps: 0, seen },
         }
     }
 
+    /// Its word, and the beginning of it that has no entries.
+    pub(crate) fn into_parts(self) -> (Word<E, u64, Law>, Past<E>)
+        ensures head { result.0 ≡ head_of self.past.seen.book }
+        ensures past { result.1 ≡ self.past }
+        ensures empty { self.past.seen.log ≡ [] }
+    {
+        let NewLine { head, past } = self;
+        (head, past)
+    }
+}
+
+impl NewLine<Mark> {
     /// The line under the name of an index, and the front of it that has no steps.
     pub fn named<J: Naming>(self, index: u16) -> (Book<J>, Front<J>)
         requires book { self.past.seen.book ≡ J.book index }
@@ -103,7 +139,7 @@ impl NewBook {
         ensures book { result.0.index ≡ index }
         ensures front { result.1 ≡ record { index = index; steps = [] } }
     {
-        let NewBook { head, past } = self;
+        let (head, past) = self.into_parts();
         (
             Book {
                 index,

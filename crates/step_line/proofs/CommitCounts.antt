@@ -19,7 +19,7 @@ at_most worker (Commit entry snapshot ∷ steps) =
     omega (arith, rest, first, one)
 at_most worker (Reshape job through snapshot ∷ steps) = let rest = at_most worker steps in omega (arith, rest)
 
-eq_or_not : (a b : ℕ) → (a ≡ b) ⊎ (¬ (a ≡ b))
+pub eq_or_not : (a b : ℕ) → (a ≡ b) ⊎ (¬ (a ≡ b))
 eq_or_not a b = elim (a == b) as (λ t. (a == b) ≡ t → (a ≡ b) ⊎ (¬ (a ≡ b))) [ true ↦ λ h. inl (grind (arith, nat_tests)) | false ↦ λ h. inr (grind (arith, nat_tests)) ] refl
 
 own_one : (worker k : ℕ) (step : Step) → worker_of step ≡ Some worker → k ≡ worker → made_by k (step ∷ []) ≡ 1

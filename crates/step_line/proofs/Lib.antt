@@ -1,2 +1,4 @@
 pub mod Lasts
 pub mod CommitCounts
+pub mod Ready
+pub mod CallCounts

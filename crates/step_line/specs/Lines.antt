@@ -3,6 +3,7 @@ use Rattle.std.specs.Prelude.{ℕ, ◌+◌, ◌<◌, ◌≤◌, ◌^◌, List, [
 use Rattle.doc_types.specs.declared.schema.Schema.{Schema}
 use Rattle.step_history.specs.History.{Base, Step, Commit, Reshape, AreOf, Follows, IsGood, made_by, snapshot_of}
 use Rattle.step_book.specs.Fronts.{FrontValue}
+use Rattle.step_tokens.specs.Tokens.{TokenValue}
 
 -- Of which index it is, how many workers commit, the published steps, and the step that waits to be published, if one does.
 pub record LineValue : Type 0 where
@@ -14,6 +15,10 @@ pub record LineValue : Type 0 where
 -- a line over a snapshot at opening, of so many workers
 abbrev pub new_line : ℕ → ℕ → LineValue
 new_line index workers = record { index = index; workers = workers; history = []; waiting = None }
+
+-- a token of a worker of an index, which has seen this history and made nothing
+abbrev pub new_token : ℕ → ℕ → List Step → TokenValue
+new_token index worker history = record { index = index; worker = worker; seen = history; made = 0; faults = []; stops = []; entered = None }
 
 -- some steps, and then the one that waits
 abbrev pub with_waiting : List Step → Option Step → List Step

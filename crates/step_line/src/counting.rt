@@ -1,10 +1,10 @@
-//! The counts of the workers' commits.
+//! Counts by workers: of commits, and of calls that were ended.
 ghost use Rattle.std.specs.Prelude.{◌≡◌, ◌+◌, ◌-◌, ◌<◌, ◌≤◌, ◌^◌, length, slice_index_or, slice_set};
 ghost use Rattle.std.specs.Option.{ForSome};
 ghost use Rattle.step_line.specs.steps.Queues.{one_more};
 
-/// Counts one commit more of a worker. The first place is that of worker 1.
-fn count_one(counts: &mut Vec<u64>, worker: u32)
+/// Counts one more of a worker. The first place is that of worker 1.
+pub(crate) fn count_one(counts: &mut Vec<u64>, worker: u32)
     requires among { (0 < worker) × (worker ≤ length counts.old.items) }
     requires room { slice_index_or counts.old.items (worker - 1) 0 + 1 < 2 ^ 64 }
     ensures { counts.new.items ≡ slice_set counts.old.items (worker - 1) (slice_index_or counts.old.items (worker - 1) 0 + 1) }

@@ -1,13 +1,14 @@
 //! The line of an index: what is published of it, and the step that waits. A commit or the end of a job is put here once the disk
-//! has it; publishing it is the one thing that may still find no memory, and is then tried again before anything else is done.
+//! has it, and stands in the index's book from then on: the right to enter it there is ready as long as nothing waits. Publishing it is
+//! the one thing that may still find no memory, and is then tried again before anything else is done.
 ghost use Rattle.std.specs.Prelude.{◌≡◌, ◌<◌, ◌≤◌, [], None, Some, OnErr, OnOk, IfOk};
 ghost use Rattle.std.specs.Arc.{arc_value};
 ghost use Rattle.step_history.specs.History.{last_snapshot};
-ghost use Rattle.step_line.specs.Lines.{IsBy, IsLine, kept_by, new_line, settled};
+ghost use Rattle.step_line.specs.Lines.{IsBy, IsLine, entered, kept_by, new_line, new_token, settled};
 
 use crate::counting::count_step;
-use crate::pending::Pending;
-use crate::showing::{WritingEnd, show_next};
+use crate::pending::{Pending, Waiting};
+use crate::showing::{Next, WritingEnd, show_next};
 use doc_types::Snapshot;
 use image_chunk::AnyChunk;
 use left_right::writer::Writer;
@@ -15,7 +16,7 @@ use srch_base::NoMemory;
 use std::alloc::Global;
 use std::marker::Model;
 use std::sync::{Arc, Wait};
-use step_book::{Book, Front, Naming};
+use step_book::{Book, Faults, Front, Naming, Share, Stops, Turn};
 use step_tokens::{Note, Shown, Token};
 
 /// The published history of an index with its last snapshot, and the step that waits. It isn't let go of: end it by `close`.
@@ -24,7 +25,9 @@ pub struct Line<J: Naming> {
     book: Book<J>,
     front: Front<J>,
     snapshot: Arc<Snapshot<AnyChunk>, Global>,
-    waiting: Option<Pending<J>>,
+    waiting: Option<Waiting<J>>,
+    /// The right to add the next step. It is there where nothing waits.
+    turn: Option<Turn<J>>,
     /// How many commits each worker has made, the one that waits included, from worker 1 on.
     counts: Vec<u64>,
 }
@@ -34,13 +37,13 @@ impl<J: Naming> Model for Line<J> {
     ghost use Rattle.std.specs.Arc.{arc_value};
     ghost use Rattle.step_history.specs.History.{last_snapshot};
     ghost use Rattle.step_line.specs.Lines.{AreBy, LineValue, MayWait, step_in};
-    ghost use Rattle.step_line.specs.steps.Queues.{AreCounts, Waits};
+    ghost use Rattle.step_line.specs.steps.Queues.{AreCounts, IsReady, Waits};
 
     ghost Value = { LineValue };
 
     ghost view = { λ l. record { index = l.front.index; workers = length l.counts.items; history = l.front.steps; waiting = step_in l.waiting } };
 
-    ghost invariant = { λ l. (l.end.desk.shown.value ≡ record { index = l.front.index; snapshot = last_snapshot (J.base l.front.index) l.front.steps; book = J.book l.front.index; steps = l.front.steps }) × (arc_value l.snapshot ≡ last_snapshot (J.base l.front.index) l.front.steps) × (l.book.index ≡ l.front.index) × Waits l.front l.waiting × AreCounts l.counts.items (record { index = l.front.index; workers = length l.counts.items; history = l.front.steps; waiting = step_in l.waiting }) × MayWait (J.schema l.front.index) (J.base l.front.index) (record { index = l.front.index; workers = length l.counts.items; history = l.front.steps; waiting = step_in l.waiting }) × AreBy (record { index = l.front.index; workers = length l.counts.items; history = l.front.steps; waiting = step_in l.waiting }) };
+    ghost invariant = { λ l. (l.end.desk.shown.value ≡ record { index = l.front.index; snapshot = last_snapshot (J.base l.front.index) l.front.steps; book = J.book l.front.index; steps = l.front.steps }) × (arc_value l.snapshot ≡ last_snapshot (J.base l.front.index) l.front.steps) × (l.book.index ≡ l.front.index) × Waits l.front l.waiting × AreCounts l.counts.items (record { index = l.front.index; workers = length l.counts.items; history = l.front.steps; waiting = step_in l.waiting }) × MayWait (J.schema l.front.index) (J.base l.front.index) (record { index = l.front.index; workers = length l.counts.items; history = l.front.steps; waiting = step_in l.waiting }) × AreBy (record { index = l.front.index; workers = length l.counts.items; history = l.front.steps; waiting = step_in l.waiting }) × IsReady l.front l.turn l.waiting };
 }
 
 impl<J: Naming> Line<J> {
@@ -57,6 +60,7 @@ impl<J: Naming> Line<J> {
         requires base { arc_value snapshot ≡ (J.base book.index).opening }
         ensures { IfOk result (λ line. line ≡ new_line book.index workers) }
     {
+        let turn = front.turn(&book).ok_or(NoMemory)?;
         let counts = vec![in alloc; 0; workers as usize]?;
         let first = Shown::new(Arc::try_clone(&snapshot)?, &front);
         let second = first.again()?;
@@ -67,17 +71,27 @@ impl<J: Naming> Line<J> {
             front,
             snapshot,
             waiting: None,
+            turn: Some(turn),
             counts,
         })
     }
 
-    /// A token of a worker, which has seen what is published. There is room for as many tokens as there are workers.
-    pub fn token(&self, worker: u32) -> Result<Token<J>, NoMemory>
-        requires { (0 < worker) × (worker ≤ self.now.workers) }
-        ensures { IfOk result (λ token. token ≡ record { index = self.now.index; worker = worker; seen = self.now.history; made = 0 }) }
+    /// A token of a worker, which has seen what is published, over lines of faults and of stops that have no calls. There is room for as
+    /// many tokens as there are workers.
+    pub fn token(
+        &self,
+        worker: u32,
+        faults: &Share<J, Faults>,
+        stops: &Share<J, Stops>,
+    ) -> Result<Token<J>, NoMemory>
+        requires among { (0 < worker) × (worker ≤ self.now.workers) }
+        requires faults { faults.now ≡ record { index = self.now.index; calls = [] } }
+        requires stops { stops.now ≡ record { index = self.now.index; calls = [] } }
+        ensures { IfOk result (λ token. token ≡ new_token self.now.index worker self.now.history) }
     {
         let end = self.end.factory().reader()?;
-        Ok(Token::new(end, worker, self.front.again()))
+        let front = self.front.again();
+        Ok(Token::new(end, worker, front, faults.again(), stops.again()))
     }
 
     /// The published history.
@@ -94,6 +108,16 @@ impl<J: Naming> Line<J> {
     {
         let _steps = self.front.len();
         Note::of(&self.front)
+    }
+
+    /// The history with the step that waits, where one does.
+    pub fn entered(&self) -> &Front<J>
+        ensures { result.now ≡ record { index = self.now.index; steps = entered self.now } }
+    {
+        match &self.waiting {
+            None => &self.front,
+            Some(waiting) => waiting.entered(),
+        }
     }
 
     /// Its last snapshot.
@@ -127,7 +151,9 @@ impl<J: Naming> Line<J> {
     {
         let worker = pending.worker();
         count_step(&mut self.counts, worker);
-        self.waiting = Some(pending);
+        let turn = self.turn.take();
+        let waiting = pending.enter(&self.book, turn);
+        self.waiting = Some(waiting);
     }
 
     /// Publishes the step that waits, if one does. Otherwise all is as before.
@@ -137,10 +163,15 @@ impl<J: Naming> Line<J> {
     {
         match &mut self.waiting {
             None => {}
-            Some(pending) => {
-                let (next, last) = show_next(&mut self.end, rt, &self.book, pending)?;
-                self.front = next;
-                self.snapshot = last;
+            Some(waiting) => {
+                let Next {
+                    front,
+                    snapshot,
+                    turn,
+                } = show_next(&mut self.end, rt, &self.book, waiting)?;
+                self.front = front;
+                self.snapshot = snapshot;
+                self.turn = Some(turn);
                 self.waiting = None;
             }
         }
@@ -155,6 +186,7 @@ impl<J: Naming> Line<J> {
             front: _front,
             snapshot: _snapshot,
             waiting: _waiting,
+            turn: _turn,
             counts: _counts,
         } = self;
         let _last = end.take(rt);

@@ -11,7 +11,7 @@ use left_right::Absorb;
 use std::alloc::{AllocError, Global};
 use std::marker::Model;
 use std::sync::Arc;
-use step_book::{Front, Naming, Past};
+use step_book::{Front, Mark, Naming, Past};
 
 /// A snapshot of an index, and the steps after which it stands. It is a type without names, as `left_right` wants it; that the
 /// steps are those of the index says the rule of its ends.
@@ -19,7 +19,7 @@ use step_book::{Front, Naming, Past};
 pub struct Shown {
     index: u16,
     snapshot: Arc<Snapshot<AnyChunk>, Global>,
-    past: Past,
+    past: Past<Mark>,
 }
 
 impl Model for Shown {

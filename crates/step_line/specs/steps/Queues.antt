@@ -15,10 +15,15 @@ Waits front (Some pending) = pending.from ≡ front
 abbrev pub longer : FrontValue → Step → FrontValue
 longer front step = record front { steps = front.steps ++ step ∷ [] }
 
--- what was entered is the front with the step
-abbrev pub Enters : FrontValue → Step → Option FrontValue → Type 0
-Enters front step None = Unit {0}
-Enters front step (Some next) = next ≡ longer front step
+-- the right to add the next step is there
+abbrev pub HasTurn : FrontValue → Option FrontValue → Type 0
+HasTurn front None = ⊥
+HasTurn front (Some turn) = turn ≡ front
+
+-- it is where nothing waits
+abbrev pub IsReady : FrontValue → Option FrontValue → Option PendingValue → Type 0
+IsReady front turn None = HasTurn front turn
+IsReady front turn (Some pending) = Unit {0}
 
 -- the counts are those of the workers' commits, from worker 1 on
 abbrev pub AreCounts : List ℕ → LineValue → Type 0
