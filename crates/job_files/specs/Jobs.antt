@@ -1,5 +1,5 @@
 -- Jobs: what the end of a job writes.
-use Rattle.std.specs.Prelude.{◌≡◌, ◌≢◌, ℕ, ◌+◌, List, [], ◌∷◌, ◌++◌, Bool, ◌==◌, Option, Some, None, IfSome, length, map, AllPairs}
+use Rattle.std.specs.Prelude.{◌≡◌, ◌≢◌, ℕ, ◌+◌, ◌≤◌, List, [], ◌∷◌, ◌++◌, Bool, ◌==◌, Option, Some, None, IfSome, length, map, AllPairs}
 use Rattle.std.specs.List.{AllZip, list_any}
 use Rattle.doc_types.specs.declared.documents.DocRow.{DocRow}
 use Rattle.doc_types.specs.declared.schema.Schema.{Schema}
@@ -18,6 +18,7 @@ use Rattle.step_history.specs.History.{Base, Step, Reshape, ReshapeFollows, last
 use Rattle.step_history.specs.Places.{disk_chunks}
 use Rattle.chunk_image.specs.ChunkImage.{IsImageOf}
 use Rattle.store_steps.specs.Directory.{IsChunkOf, layers_from}
+use Rattle.store_steps.specs.declared.files.Files.{Files}
 
 -- the file of the new log: the next one, or the one behind that of the chunk, where there is one
 abbrev pub log_file : ℕ → Option (List ℕ) → ℕ
@@ -88,6 +89,11 @@ Becomes (Some bytes) old new = new ≡ Some bytes
 -- the file is a log without a record
 abbrev pub IsBegun : ℕ → Option (List ℕ) → Option (List ℕ) → Type 0
 IsBegun file old new = LogStands (quiet_log file 0 None) [] None new
+
+-- No more numbers were taken than the end of a job needs: two of files, and one of roots.
+pub record TakesNumbers (old new : Files) : Type 0 where
+  pub file : new.next_file ≤ old.next_file + 2
+  pub root : new.root.number ≤ old.root.number + 1
 
 -- the state names the file
 abbrev pub names : RootState → ℕ → Bool

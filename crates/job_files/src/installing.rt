@@ -6,7 +6,7 @@ ghost use Rattle.chunk_store.specs.Images.{Both, Changes};
 ghost use Rattle.chunk_store.specs.Calls.{Crashes};
 ghost use Rattle.gate_log.specs.Logs.{quiet_log};
 ghost use Rattle.root_slots.specs.Roots.{Steps};
-ghost use Rattle.job_files.specs.Jobs.{Anything, AreWritten, Becomes, IsBegun, IsJob, log_file, names};
+ghost use Rattle.job_files.specs.Jobs.{Anything, AreWritten, Becomes, IsBegun, IsJob, TakesNumbers, log_file, names};
 ghost use Rattle.store_steps.specs.Kept.{Gives, GivesEither, IsKept, LeavesOnly};
 
 use chunk_store::{Disk, remake};
@@ -111,6 +111,8 @@ fn replace_root<D: Disk, J: Naming, C: Chunk>(
     ensures err { OnErr result (IsKept D.Disk (J.schema front.now.index) (J.base front.now.index) front.now.steps None disk.new files.new) }
     ensures sure { OnOk result (files.new.sure ≡ true) }
     ensures rests { files.new.log.staged ≡ None }
+    ensures file { files.new.next_file ≡ files.old.next_file }
+    ensures root { files.new.root.number ≡ files.old.root.number + 1 }
     ensures crash { LeavesOnly D.Disk disk.old disk.new (Gives (J.schema front.now.index) (J.base front.now.index) front.now.steps) }
     ensures cause { HasCause (D.faults disk.old) (D.faults disk.new) result }
 {
@@ -149,6 +151,7 @@ pub fn install<D: Disk, J: Naming, C: Chunk>(
     ensures err { OnErr result (IsKept D.Disk (J.schema front.now.index) (J.base front.now.index) front.now.steps None disk.new files.new) }
     ensures sure { OnOk result (files.new.sure ≡ true) }
     ensures rests { files.new.log.staged ≡ None }
+    ensures numbers { TakesNumbers files.old files.new }
     ensures crash { LeavesOnly D.Disk disk.old disk.new (Gives (J.schema front.now.index) (J.base front.now.index) front.now.steps) }
     ensures cause { HasCause (D.faults disk.old) (D.faults disk.new) result }
 {

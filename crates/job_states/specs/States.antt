@@ -15,7 +15,8 @@ use Rattle.step_history.specs.History.{Base, Step, last_snapshot}
 use Rattle.reshape_laws.specs.Rebasing.{rebased, taken}
 use Rattle.srch_base.specs.Counts.{Rose}
 use Rattle.job_chunks.specs.Chunks.{IsImaged}
-use Rattle.job_files.specs.Jobs.{log_file}
+use Rattle.job_files.specs.Jobs.{TakesNumbers, log_file}
+use Rattle.store_steps.specs.declared.files.Files.{Files}
 use Rattle.job_states.specs.declared.finishing.EndFault.{EndFault}
 use Rattle.job_states.specs.declared.finishing.EndFault.TheVariants as faults
 
@@ -61,6 +62,12 @@ pub record IsRebased (schema : Schema) (job : Job) (from now : SnapshotValue) (c
   pub zones : All HasZones rows
   pub imaged : IsImaged schema rows chunk
   pub is : next ≡ rebased job from.number rows now
+
+-- what the end of a job takes of the numbers of files and roots: none where it was out of memory
+abbrev pub TakesSome : Files → Result (Unit {0}) EndFault → Files → Type 0
+TakesSome old (Ok done) new = TakesNumbers old new
+TakesSome old (Err faults.NoMemory) new = new ≡ old
+TakesSome old (Err faults.Disk) new = TakesNumbers old new
 
 -- The count of faults didn't fall, and it rose where the disk failed.
 abbrev pub HasEndCause : ℕ → ℕ → Result (Unit {0}) EndFault → Type 0

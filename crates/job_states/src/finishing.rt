@@ -3,7 +3,7 @@ ghost use Rattle.std.specs.Prelude.{◌≡◌, ◌<◌, ◌≤◌, ◌+◌, ◌^
 ghost use Rattle.std.specs.Option.{option_copied};
 ghost use Rattle.store_steps.specs.Kept.{Gives, IsKept, LeavesOnly};
 ghost use Rattle.job_chunks.specs.Chunks.{HasFewRows};
-ghost use Rattle.job_states.specs.States.{HasEndCause, HasSeen, IsRebased, new_entries};
+ghost use Rattle.job_states.specs.States.{HasEndCause, HasSeen, IsRebased, TakesSome, new_entries};
 ghost use Rattle.reshape_laws.specs.Rebasing.{staying};
 ghost use Rattle.root_slots.specs.States.{most_chunks};
 ghost use Rattle.step_history.specs.History.{Reshape, last_snapshot};
@@ -55,6 +55,7 @@ pub fn finish<D: Disk, J: Naming, C: Chunk>(
     ensures err { OnErr result (IsKept D.Disk (J.schema front.now.index) (J.base front.now.index) front.now.steps None disk.new files.new) }
     ensures sure { OnOk result (files.new.sure ≡ true) }
     ensures rests { files.new.log.staged ≡ None }
+    ensures numbers { TakesSome files.old result files.new }
     ensures crash { LeavesOnly D.Disk disk.old disk.new (Gives (J.schema front.now.index) (J.base front.now.index) front.now.steps) }
     ensures cause { HasEndCause (D.faults disk.old) (D.faults disk.new) result }
 {

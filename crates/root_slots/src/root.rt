@@ -71,6 +71,13 @@ impl Root {
         self.number >= 1 << 63
     }
 
+    /// The greatest root number used so far.
+    pub fn number(&self) -> u64
+        ensures { result ≡ self.now.number }
+    {
+        self.number
+    }
+
     /// The number of the slot that holds the own state; 0 where there is none.
     pub fn slot(&self) -> u8
         ensures holds { (own : Slot) (doubt : Option Slot) (slots : Slots) → Stands self.now (Some own) doubt slots → HoldsOpen result own slots }
