@@ -115,7 +115,8 @@ pub record IsEnd (base : Base) (before : List Step) (new : NewChunkValue) (next 
 
 pub answered : {J : Type 0} (base : Base) (before : List Step) (new : NewChunkValue) (next : LineValue) (kept : Files) → WasAnswered J base before new next kept → IsEnd base before new next kept
 answered {J} base before new next kept was =
-    ⊎_elim (λ stray. absurd (cc (stray.answer)))
+    ⊎_elim (λ unready. absurd (cc (unready.answer)))
+    (λ charged. ⊎_elim (λ stray. absurd (cc (stray.answer)))
     (λ rest. ⊎_elim (λ unsettled. ⊎_elim (λ none. absurd (cc (none))) (λ failed. absurd (cc (failed.0))) unsettled.answer)
     (λ later.
     let line_is : next ≡ settled (record (settled was.line) { waiting = Some (end_of base (settled was.line) new) }) = later.ends.1 in
@@ -124,4 +125,5 @@ answered {J} base before new next kept was =
       none = ap (λ (l : LineValue). l.waiting) line_is;
       sure = later.ends.5;
     }) rest)
+    charged.installs)
     was.answer

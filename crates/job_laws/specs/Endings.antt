@@ -18,7 +18,7 @@ use Rattle.step_history.specs.History.{Base, Step, Reshape, chunks_for, last_sna
 use Rattle.step_history.specs.Places.{disk_chunks}
 use Rattle.step_line.specs.Lines.{LineValue, entered}
 use Rattle.step_tokens.specs.Tokens.{TokenValue}
-use Rattle.store_keep.specs.Installs.{Installs}
+use Rattle.store_keep.specs.Answers.{AnswersInstall}
 use Rattle.store_steps.specs.Directory.{IsChunkFile}
 use Rattle.store_steps.specs.declared.files.Files.{Files}
 
@@ -71,4 +71,4 @@ pub record WasAnswered (J : Type 0) (base : Base) (before : List Step) (new : Ne
   pub after : TokenValue
   pub now : ℕ
   pub before_is : before ≡ entered line
-  pub answer : Installs {J = J} base line files token new count (Ok note) next kept after now
+  pub answer : AnswersInstall {J = J} base line files token new count (Ok note) next kept after now

@@ -20,7 +20,7 @@ pub fn a_job_that_ended_stands_in_the_files<D: Disk, J: Naming>(
     keeper: &Keeper<D, J>,
     new: &NewChunk,
 )
-    requires sound { IsSound D.Disk J.schema J.base keeper.now }
+    requires sound { IsSound D.Disk J.schema J.base J.opened keeper.now }
     requires none { keeper.now.kept.line.waiting ≡ None }
     requires chunk { IsNewChunk (J.schema keeper.now.kept.line.index) new.now }
     ensures { (before : List Step) → keeper.now.kept.line.history ≡ before ++ end_behind (J.base keeper.now.kept.line.index) before new.now ∷ [] → EndsIn D.Disk (J.schema keeper.now.kept.line.index) (last_snapshot (J.base keeper.now.kept.line.index) before) new.now keeper.now.kept.files keeper.now.kept.disk }
@@ -32,7 +32,7 @@ pub fn a_job_that_was_answered_has_its_root<D: Disk, J: Naming>(
     keeper: &Keeper<D, J>,
     new: &NewChunk,
 )
-    requires sound { IsSound D.Disk J.schema J.base keeper.now }
+    requires sound { IsSound D.Disk J.schema J.base J.opened keeper.now }
     requires chunk { IsNewChunk (J.schema keeper.now.kept.line.index) new.now }
     ensures ends { (before : List Step) → WasAnswered J (J.base keeper.now.kept.line.index) before new.now keeper.now.kept.line keeper.now.kept.files → keeper.now.kept.line.history ≡ before ++ end_behind (J.base keeper.now.kept.line.index) before new.now ∷ [] }
     ensures files { (before : List Step) → WasAnswered J (J.base keeper.now.kept.line.index) before new.now keeper.now.kept.line keeper.now.kept.files → EndsIn D.Disk (J.schema keeper.now.kept.line.index) (last_snapshot (J.base keeper.now.kept.line.index) before) new.now keeper.now.kept.files keeper.now.kept.disk }
@@ -42,6 +42,6 @@ pub fn a_job_that_was_answered_has_its_root<D: Disk, J: Naming>(
 /// In any state between calls, whatever a crash leaves gives the documents of the history, or of the history and the step that waits,
 /// be that a commit or the end of a job.
 pub fn a_step_that_waits_or_not_survives_a_crash<D: Disk, J: Naming>(keeper: &Keeper<D, J>)
-    requires { IsSound D.Disk J.schema J.base keeper.now }
+    requires { IsSound D.Disk J.schema J.base J.opened keeper.now }
     ensures { (x : Image) → D.may_leave keeper.now.kept.disk x → GivesEither (J.schema keeper.now.kept.line.index) (J.base keeper.now.kept.line.index) keeper.now.kept.line.history keeper.now.kept.line.waiting x }
 {}

@@ -24,7 +24,7 @@ same_entered mid new counted after number removed between now log (Ok made) ends
 same_entered mid new counted after number removed between now log (Err (faults.InDoubt doubts.Disk)) ends = ap entered ends.0
 same_entered mid new counted after number removed between now log (Err (faults.InDoubt doubts.Memory)) ends = ap entered ends.0
 same_entered mid new counted after number removed between now log (Err faults.NoMemory) ends = absurd ends
-same_entered mid new counted after number removed between now log (Err (faults.Strayed strayed)) ends = absurd ends
+same_entered mid new counted after number removed between now log (Err (faults.Strayed strayed note)) ends = absurd ends
 same_entered mid new counted after number removed between now log (Err (faults.Duplicate id note)) ends = absurd ends
 same_entered mid new counted after number removed between now log (Err (faults.Full full note)) ends = absurd ends
 same_entered mid new counted after number removed between now log (Err faults.Refused) ends = absurd ends
@@ -52,7 +52,7 @@ made_ends base line token worker ops removed number step before now new log afte
 made_ends base line token worker ops removed number step before now new log after (Err (faults.InDoubt doubts.Memory)) is makes = (removed, number, step, is, makes)
 made_ends base line token worker ops removed number step before now new log after (Err faults.Refused) is makes = (removed, number, step, is, makes)
 made_ends base line token worker ops removed number step before now new log after (Err faults.NoMemory) is makes = absurd makes
-made_ends base line token worker ops removed number step before now new log after (Err (faults.Strayed strayed)) is makes = absurd makes
+made_ends base line token worker ops removed number step before now new log after (Err (faults.Strayed strayed note)) is makes = absurd makes
 made_ends base line token worker ops removed number step before now new log after (Err (faults.Duplicate id note)) is makes = absurd makes
 made_ends base line token worker ops removed number step before now new log after (Err (faults.Full full note)) is makes = absurd makes
 
@@ -60,7 +60,7 @@ made_ends base line token worker ops removed number step before now new log afte
 pub refused_ends : {J : Type 0} (schema : Schema) (base : Base) (line : LineValue) (token : TokenValue) (worker : ℕ) (ops : List TxnOp) (before : ℕ) (log : GateLog) (fault : CommitFault J) → Prepares {J = J} schema base line worker ops (Err fault)
     → Ends {J = J} base line token worker ops before (Err fault) line log token before
 refused_ends schema base line token worker ops before log faults.NoMemory none = record { line_is = refl; token_is = refl; later = omega arith }
-refused_ends schema base line token worker ops before log (faults.Strayed strayed) none = absurd none
+refused_ends schema base line token worker ops before log (faults.Strayed strayed note) none = absurd none
 refused_ends schema base line token worker ops before log (faults.Duplicate id note) is = (record { line_is = refl; token_is = refl; later = omega arith }, is)
 refused_ends schema base line token worker ops before log (faults.Full full note) is = (record { line_is = refl; token_is = refl; later = omega arith }, is)
 refused_ends schema base line token worker ops before log faults.Refused none = absurd none

@@ -25,3 +25,9 @@ pub mod Begun
 -- chunks of a snapshot that are on the disk
 pub mod Counted
 pub mod Reshaping
+-- what is known of counts goes on over a call
+pub mod Carrying
+-- what the answers of commits and jobs say of counts
+pub mod Charged
+-- a stop has its cause
+pub mod Stopped

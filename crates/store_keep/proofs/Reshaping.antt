@@ -152,7 +152,7 @@ pub same_entered_job : {J : Type 0} (line next : LineValue) (token after : Token
 same_entered_job line next token after before now (Ok note) ends = ap entered ends.0
 same_entered_job line next token after before now (Err faults.InDoubt) ends = ap entered ends.0
 same_entered_job line next token after before now (Err faults.NoMemory) ends = absurd ends
-same_entered_job line next token after before now (Err (faults.Strayed strayed)) ends = absurd ends
+same_entered_job line next token after before now (Err (faults.Strayed strayed note)) ends = absurd ends
 same_entered_job line next token after before now (Err (faults.Overtaken shape note)) ends = absurd ends
 same_entered_job line next token after before now (Err (faults.Full full)) ends = absurd ends
 same_entered_job line next token after before now (Err faults.DiskFault) ends = absurd ends
@@ -162,9 +162,10 @@ same_entered_job line next token after before now (Err faults.DiskFault) ends = 
 pub job_ended : {J : Type 0} (base : Base) (line mid : LineValue) (files : Files) (token : TokenValue) (new : NewChunkValue) (before between now : ℕ) (r : Result FrontValue (InstallFault J)) (next : LineValue) (kept : Files) (after : TokenValue)
     → mid ≡ record line { waiting = Some (end_of base line new) } → HasRoom base line files new → before ≤ between → kept.sure ≡ true → FinishesJob {J = J} mid token between r next after now → EndsJob {J = J} base line files token new before r next kept after now
 job_ended base line mid files token new before between now (Ok note) next kept after is room le sure ends = (room, ends.0 ∙ ap settled is, ends.1, ends.2, omega (arith, le, ends.3), sure)
-job_ended base line mid files token new before between now (Err faults.InDoubt) next kept after is room le sure ends = (room, ends.0 ∙ is, ends.1, omega (arith, le, ends.2), sure)
+job_ended base line mid files token new before between now (Err faults.InDoubt) next kept after is room le sure ends =
+    (room, ends.0 ∙ is, ends.1 ∙ ap (λ (l : LineValue). record token { entered = Some (entered l) }) is, omega (arith, le, ends.2), sure)
 job_ended base line mid files token new before between now (Err faults.NoMemory) next kept after is room le sure ends = absurd ends
-job_ended base line mid files token new before between now (Err (faults.Strayed strayed)) next kept after is room le sure ends = absurd ends
+job_ended base line mid files token new before between now (Err (faults.Strayed strayed note)) next kept after is room le sure ends = absurd ends
 job_ended base line mid files token new before between now (Err (faults.Overtaken shape note)) next kept after is room le sure ends = absurd ends
 job_ended base line mid files token new before between now (Err (faults.Full full)) next kept after is room le sure ends = absurd ends
 job_ended base line mid files token new before between now (Err faults.DiskFault) next kept after is room le sure ends = absurd ends
@@ -173,7 +174,7 @@ pub job_refused : {J : Type 0} (base : Base) (line : LineValue) (files : Files) 
 job_refused base line files token new before (faults.Overtaken shape note) is = (record { line_is = refl; token_is = refl; later = omega arith }, is.0, is.1, is.2)
 job_refused base line files token new before (faults.Full full) is = (record { line_is = refl; token_is = refl; later = omega arith }, is.0, is.1)
 job_refused base line files token new before faults.NoMemory is = absurd is
-job_refused base line files token new before (faults.Strayed strayed) is = absurd is
+job_refused base line files token new before (faults.Strayed strayed note) is = absurd is
 job_refused base line files token new before faults.DiskFault is = absurd is
 job_refused base line files token new before faults.InDoubt is = absurd is
 
@@ -194,7 +195,7 @@ with_files : {J : Type 0} (base : Base) (line : LineValue) (files : Files) (log 
     → EndsJob {J = J} base line (record files { log = log }) token new before r next kept after now → EndsJob {J = J} base line files token new before r next kept after now
 with_files base line files log token new before now (Ok note) next kept after ends = (same_room base line files log new ends.0, ends.1, ends.2, ends.3, ends.4, ends.5)
 with_files base line files log token new before now (Err faults.NoMemory) next kept after ends = ends
-with_files base line files log token new before now (Err (faults.Strayed strayed)) next kept after ends = ends
+with_files base line files log token new before now (Err (faults.Strayed strayed note)) next kept after ends = ends
 with_files base line files log token new before now (Err (faults.Overtaken shape note)) next kept after ends = ends
 with_files base line files log token new before now (Err (faults.Full full)) next kept after ends = ends
 with_files base line files log token new before now (Err faults.DiskFault) next kept after ends = ends

@@ -6,7 +6,7 @@ use mathlib.Core.List.{IsPrefix}
 use Rattle.step_book.proofs.Prefixes.{prefix_whole}
 use Rattle.step_history.specs.History.{Base, Step}
 use Rattle.step_line.specs.Lines.{LineValue}
-use Rattle.step_tokens.specs.Tokens.{TokenValue}
+use Rattle.step_tokens.specs.Tokens.{IsSameBut, TokenValue}
 use Rattle.store_steps.specs.Refusals.{stray_of}
 use Rattle.store_keep.specs.Commits.{front_of}
 use Rattle.store_keep.specs.Tellings.{AreOfIndex, AreTokensOf, HasSeenAll, IsTold, first_stray}
@@ -20,12 +20,15 @@ none_second : {X : Type 0} (a b : Option X) → option_or a b ≡ None → b ≡
 none_second None b is = is
 none_second (Some x) b is = absurd (cc (is))
 
-with_seen : (old new : TokenValue) (seen : List Step) → new.index ≡ old.index → new.worker ≡ old.worker → new.made ≡ old.made → new.seen ≡ seen → new ≡ record old { seen = seen }
-with_seen old new seen index worker made is =
-    ap (λ (i : ℕ). record { index = i; worker = new.worker; seen = new.seen; made = new.made }) index
-    ∙ ap (λ (w : ℕ). record { index = old.index; worker = w; seen = new.seen; made = new.made }) worker
-    ∙ ap (λ (m : ℕ). record { index = old.index; worker = old.worker; seen = new.seen; made = m }) made
-    ∙ ap (λ (s : List Step). record { index = old.index; worker = old.worker; seen = s; made = old.made }) is
+with_seen : (old new : TokenValue) (seen : List Step) → IsSameBut old new → new.seen ≡ seen → new ≡ record old { seen = seen }
+with_seen old new seen same is =
+    ap (λ (x : ℕ). record { index = x; worker = new.worker; seen = new.seen; made = new.made; faults = new.faults; stops = new.stops; entered = new.entered }) same.index
+    ∙ ap (λ (x : ℕ). record { index = old.index; worker = x; seen = new.seen; made = new.made; faults = new.faults; stops = new.stops; entered = new.entered }) same.worker
+    ∙ ap (λ (x : ℕ). record { index = old.index; worker = old.worker; seen = new.seen; made = x; faults = new.faults; stops = new.stops; entered = new.entered }) same.made
+    ∙ ap (λ (x : List ℕ). record { index = old.index; worker = old.worker; seen = new.seen; made = old.made; faults = x; stops = new.stops; entered = new.entered }) same.faults
+    ∙ ap (λ (x : List ℕ). record { index = old.index; worker = old.worker; seen = new.seen; made = old.made; faults = old.faults; stops = x; entered = new.entered }) same.stops
+    ∙ ap (λ (x : Option (List Step)). record { index = old.index; worker = old.worker; seen = new.seen; made = old.made; faults = old.faults; stops = old.stops; entered = x }) same.entered
+    ∙ ap (λ (x : List Step). record { index = old.index; worker = old.worker; seen = x; made = old.made; faults = old.faults; stops = old.stops; entered = old.entered }) is
 
 -- tokens of a line are of its index
 pub of_index : (line : LineValue) (tokens : List TokenValue) → AreTokensOf line tokens → AreOfIndex line.index tokens
@@ -37,7 +40,7 @@ has_all : (base : Base) (line : LineValue) (old new : TokenValue) → stray_of b
 has_all base line old new none told =
     let seen : new.seen ≡ line.history = ⊎_elim (λ (same : new.seen ≡ old.seen). same ∙ sym (prefix_whole line.history old.seen (subst (λ (s : List Step). IsPrefix line.history s) same told.told) (seen_within base line old none))) (λ (is : new.seen ≡ line.history). is) told.one in
     record {
-      is = with_seen old new line.history told.index told.worker told.made seen;
+      is = with_seen old new line.history told.same seen;
       before = subst (λ (s : List Step). IsPrefix old.seen s) seen told.before;
       counts = counts_alike base line old none;
     }

@@ -1,5 +1,5 @@
 -- Commits: what each answer says, and what it leaves.
-use Rattle.std.specs.Prelude.{◌≡◌, ◌≢◌, ◌⊎◌, ℕ, ◌+◌, ◌≤◌, List, Option, Some, None, Result, Ok, Err}
+use Rattle.std.specs.Prelude.{◌≡◌, ◌≢◌, ◌⊎◌, ℕ, ◌+◌, ◌≤◌, List, [], ◌∷◌, ◌++◌, Option, Some, None, Result, Ok, Err}
 use Rattle.std.specs.Option.{option_or}
 use mathlib.Core.List.{IsPrefix}
 use Rattle.srch_base.specs.Counts.{Rose}
@@ -50,6 +50,9 @@ pub record Learns (old new : TokenValue) (made : ℕ) (steps : List Step) : Type
   pub index : new.index ≡ old.index
   pub worker : new.worker ≡ old.worker
   pub made_is : new.made ≡ made
+  pub faults_are : new.faults ≡ old.faults
+  pub stops_are : new.stops ≡ old.stops
+  pub entered_is : new.entered ≡ old.entered
   pub one : (new.seen ≡ old.seen) ⊎ (new.seen ≡ steps)
   pub seen : IsPrefix old.seen new.seen
   pub told : IsPrefix steps new.seen
@@ -57,7 +60,7 @@ pub record Learns (old new : TokenValue) (made : ℕ) (steps : List Step) : Type
 -- why a commit behind the line is refused before anything is written
 abbrev pub Refuses : {J : Type 0} → Base → LineValue → List TxnOp → CommitFault J → Type 0
 Refuses base line ops faults.NoMemory = Unit {0}
-Refuses base line ops (faults.Strayed strayed) = ⊥
+Refuses base line ops (faults.Strayed strayed note) = ⊥
 Refuses base line ops (faults.Duplicate id note) = (verdict ops (live (last_snapshot base line.history)) ≡ Duplicate id) × (note ≡ front_of line)
 Refuses base line ops (faults.Full full note) =
     ((changes : List Change) × (removed : ℕ) × (verdict ops (live (last_snapshot base line.history)) ≡ Accepted changes removed) × (full_of base line.history changes ≡ Some full)) × (note ≡ front_of line)
@@ -65,12 +68,12 @@ Refuses base line ops faults.Refused = ⊥
 Refuses base line ops (faults.InDoubt doubt) = ⊥
 
 -- What making a commit of this step says and leaves. In doubt by the disk is one whose record is staged: its gate couldn't be opened.
--- In doubt by memory is one whose record isn't, since it is on the disk for good.
+-- In doubt by memory is one whose record isn't, since it is on the disk for good. The token keeps the steps with the one in doubt.
 abbrev pub Makes : {J : Type 0} → LineValue → TokenValue → Step → ℕ → ℕ → ℕ → Result (Committed J) (CommitFault J) → LineValue → GateLog → TokenValue → ℕ → Type 0
 Makes line token step number removed before (Ok made) new log after now =
     (new ≡ settled (record line { waiting = Some step })) × (made.note ≡ front_of new) × (made.number ≡ number) × (made.removed ≡ removed) × Learns token after (token.made + 1) new.history × (before ≤ now)
-Makes line token step number removed before (Err (faults.InDoubt doubts.Disk)) new log after now = (new ≡ record line { waiting = Some step }) × (after ≡ record token { made = token.made + 1 }) × (before ≤ now) × Rose before now × (log.staged ≢ None)
-Makes line token step number removed before (Err (faults.InDoubt doubts.Memory)) new log after now = (new ≡ record line { waiting = Some step }) × (after ≡ record token { made = token.made + 1 }) × (before ≤ now) × (log.staged ≡ None)
+Makes line token step number removed before (Err (faults.InDoubt doubts.Disk)) new log after now = (new ≡ record line { waiting = Some step }) × (after ≡ record token { made = token.made + 1; entered = Some (line.history ++ step ∷ []) }) × (before ≤ now) × Rose before now × (log.staged ≢ None)
+Makes line token step number removed before (Err (faults.InDoubt doubts.Memory)) new log after now = (new ≡ record line { waiting = Some step }) × (after ≡ record token { made = token.made + 1; entered = Some (line.history ++ step ∷ []) }) × (before ≤ now) × (log.staged ≡ None)
 Makes line token step number removed before (Err faults.Refused) new log after now = (new ≡ line) × (after ≡ token) × (before ≤ now) × Rose before now
 Makes line token step number removed before (Err fault) new log after now = ⊥
 
@@ -96,18 +99,20 @@ pub record IsSame (line : LineValue) (token : TokenValue) (before : ℕ) (new : 
 -- what a commit says and leaves behind a line in which nothing waits
 abbrev pub Ends : {J : Type 0} → Base → LineValue → TokenValue → ℕ → List TxnOp → ℕ → Result (Committed J) (CommitFault J) → LineValue → GateLog → TokenValue → ℕ → Type 0
 Ends base line token worker ops before (Err faults.NoMemory) new log after now = IsSame line token before new after now
-Ends base line token worker ops before (Err (faults.Strayed strayed)) new log after now = ⊥
+Ends base line token worker ops before (Err (faults.Strayed strayed note)) new log after now = ⊥
 Ends {J} base line token worker ops before (Err (faults.Duplicate id note)) new log after now = IsSame line token before new after now × Refuses {J = J} base line ops (faults.Duplicate id note)
 Ends {J} base line token worker ops before (Err (faults.Full full note)) new log after now = IsSame line token before new after now × Refuses {J = J} base line ops (faults.Full full note)
 Ends {J} base line token worker ops before (Err faults.Refused) new log after now = MakesSome {J = J} base line token worker ops before (Err faults.Refused) new log after now
 Ends {J} base line token worker ops before (Err (faults.InDoubt doubt)) new log after now = MakesSome {J = J} base line token worker ops before (Err (faults.InDoubt doubt)) new log after now
 Ends {J} base line token worker ops before (Ok made) new log after now = MakesSome {J = J} base line token worker ops before (Ok made) new log after now
 
--- The token contradicts the keeper, and nothing was done.
+-- The token contradicts the keeper, and nothing was done. The answer has a note of the history that it contradicts.
 pub record IsStray {J : Type 0} (base : Base) (line : LineValue) (token : TokenValue) (before : ℕ) (result : Result (Committed J) (CommitFault J)) (new : LineValue) (after : TokenValue) (now : ℕ) : Type 0 where
   pub numbers : Strayed
   pub strays : stray_of base line token ≡ Some numbers
-  pub answer : result ≡ Err (faults.Strayed numbers)
+  pub note : FrontValue
+  pub note_is : note ≡ front_of line
+  pub answer : result ≡ Err (faults.Strayed numbers note)
   pub same : IsSame line token before new after now
 
 -- What waits couldn't be settled.
@@ -127,7 +132,7 @@ pub record IsAfter {J : Type 0} (base : Base) (line : LineValue) (token : TokenV
   pub learns : Learns token taught token.made (entered line)
   pub ends : Ends base (settled line) taught worker ops between result new log after now
 
--- what a commit says and leaves
+-- what a commit says and leaves, but for how its answer is charged
 abbrev pub Commits : {J : Type 0} → Base → LineValue → TokenValue → ℕ → List TxnOp → ℕ → Result (Committed J) (CommitFault J) → LineValue → GateLog → TokenValue → ℕ → Type 0
 Commits {J} base line token worker ops before result new log after now =
     IsStray {J = J} base line token before result new after now ⊎ (IsUnsettled {J = J} base line token before result new after now ⊎ IsAfter {J = J} base line token worker ops before result new log after now)
@@ -136,7 +141,7 @@ Commits {J} base line token worker ops before result new log after now =
 abbrev pub strayed_after : {J : Type 0} → Option Strayed → Result (Committed J) (CommitFault J) → Option Strayed
 strayed_after held (Ok made) = held
 strayed_after held (Err faults.NoMemory) = held
-strayed_after held (Err (faults.Strayed strayed)) = option_or held (Some strayed)
+strayed_after held (Err (faults.Strayed strayed note)) = option_or held (Some strayed)
 strayed_after held (Err (faults.Duplicate id note)) = held
 strayed_after held (Err (faults.Full full note)) = held
 strayed_after held (Err faults.Refused) = held

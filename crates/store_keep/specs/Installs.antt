@@ -1,5 +1,5 @@
 -- Installs: what the end of a job says, and what it leaves.
-use Rattle.std.specs.Prelude.{◌≡◌, ◌≢◌, ◌⊎◌, ℕ, ◌+◌, ◌≤◌, ◌<◌, true, nat_lt, nat_le, if◌then◌else◌, Option, Some, None, Result, Ok, Err}
+use Rattle.std.specs.Prelude.{◌≡◌, ◌≢◌, ◌⊎◌, ℕ, ◌+◌, ◌≤◌, ◌<◌, true, nat_lt, nat_le, if◌then◌else◌, [], ◌∷◌, ◌++◌, Option, Some, None, Result, Ok, Err}
 use Rattle.std.specs.Option.{option_or}
 use Rattle.srch_base.specs.Counts.{Rose}
 use Rattle.commit_outcomes.specs.declared.outcome.Full.{Full}
@@ -32,7 +32,7 @@ shape_of base line = (last_snapshot base line.history).shape
 
 -- the numbers of roots have ended
 abbrev pub full_roots : Files → Option Full
-full_roots files = if nat_le LAST_ROOT files.root.number then Some (record { what = limits.Root; at = LAST_ROOT; need = 1 }) else None
+full_roots files = if nat_le LAST_ROOT files.root.number then Some (record { what = limits.Root; at = files.root.number; need = 1 }) else None
 
 -- the numbers of files have ended, of which a job needs two, or those of roots
 abbrev pub full_root : Files → Option Full
@@ -43,22 +43,25 @@ pub record HasRoom (base : Base) (line : LineValue) (files : Files) (new : NewCh
   pub shape : shape_of base line ≡ new.from.shape
   pub numbers : full_root files ≡ None
 
--- what the end of a job says and leaves behind a line in which nothing waits: once the root was replaced, no state is in doubt
+-- what the end of a job says and leaves behind a line in which nothing waits: once the root was replaced, no state is in doubt.
+-- Where the job is in doubt, the token keeps the steps with it.
 abbrev pub EndsJob : {J : Type 0} → Base → LineValue → Files → TokenValue → NewChunkValue → ℕ → Result FrontValue (InstallFault J) → LineValue → Files → TokenValue → ℕ → Type 0
 EndsJob base line files token new before (Ok note) next kept after now =
     HasRoom base line files new × (next ≡ settled (record line { waiting = Some (end_of base line new) })) × (note ≡ front_of next) × Learns token after token.made next.history × (before ≤ now) × (kept.sure ≡ true)
 EndsJob base line files token new before (Err faults.NoMemory) next kept after now = IsSame line token before next after now
-EndsJob base line files token new before (Err (faults.Strayed strayed)) next kept after now = ⊥
+EndsJob base line files token new before (Err (faults.Strayed strayed note)) next kept after now = ⊥
 EndsJob base line files token new before (Err (faults.Overtaken shape note)) next kept after now = IsSame line token before next after now × (shape ≡ shape_of base line) × (new.from.shape < shape) × (note ≡ front_of line)
 EndsJob base line files token new before (Err (faults.Full full)) next kept after now = IsSame line token before next after now × (shape_of base line ≡ new.from.shape) × (full_root files ≡ Some full)
 EndsJob base line files token new before (Err faults.DiskFault) next kept after now = IsSame line token before next after now × Rose before now
-EndsJob base line files token new before (Err faults.InDoubt) next kept after now = HasRoom base line files new × (next ≡ record line { waiting = Some (end_of base line new) }) × (after ≡ token) × (before ≤ now) × (kept.sure ≡ true)
+EndsJob base line files token new before (Err faults.InDoubt) next kept after now = HasRoom base line files new × (next ≡ record line { waiting = Some (end_of base line new) }) × (after ≡ record token { entered = Some (line.history ++ end_of base line new ∷ []) }) × (before ≤ now) × (kept.sure ≡ true)
 
--- The token contradicts the keeper, and nothing was done.
+-- The token contradicts the keeper, and nothing was done. The answer has a note of the history that it contradicts.
 pub record IsStrayJob {J : Type 0} (base : Base) (line : LineValue) (token : TokenValue) (before : ℕ) (result : Result FrontValue (InstallFault J)) (next : LineValue) (after : TokenValue) (now : ℕ) : Type 0 where
   pub numbers : Strayed
   pub strays : stray_of base line token ≡ Some numbers
-  pub answer : result ≡ Err (faults.Strayed numbers)
+  pub note : FrontValue
+  pub note_is : note ≡ front_of line
+  pub answer : result ≡ Err (faults.Strayed numbers note)
   pub same : IsSame line token before next after now
 
 -- What waits couldn't be settled.
@@ -78,7 +81,7 @@ pub record IsAfterJob {J : Type 0} (base : Base) (line : LineValue) (files : Fil
   pub learns : Learns token taught token.made (entered line)
   pub ends : EndsJob {J = J} base (settled line) files taught new between result next kept after now
 
--- what installing a chunk says and leaves
+-- what installing a chunk says and leaves, but for how its answer is charged
 abbrev pub Installs : {J : Type 0} → Base → LineValue → Files → TokenValue → NewChunkValue → ℕ → Result FrontValue (InstallFault J) → LineValue → Files → TokenValue → ℕ → Type 0
 Installs {J} base line files token new before result next kept after now =
     IsStrayJob {J = J} base line token before result next after now ⊎ (IsUnsettledJob {J = J} base line token before result next after now ⊎ IsAfterJob {J = J} base line files token new before result next kept after now)
@@ -87,7 +90,7 @@ Installs {J} base line files token new before result next kept after now =
 abbrev pub strayed_after_job : {J : Type 0} → Option Strayed → Result FrontValue (InstallFault J) → Option Strayed
 strayed_after_job held (Ok note) = held
 strayed_after_job held (Err faults.NoMemory) = held
-strayed_after_job held (Err (faults.Strayed strayed)) = option_or held (Some strayed)
+strayed_after_job held (Err (faults.Strayed strayed note)) = option_or held (Some strayed)
 strayed_after_job held (Err (faults.Overtaken shape note)) = held
 strayed_after_job held (Err (faults.Full full)) = held
 strayed_after_job held (Err faults.DiskFault) = held

@@ -6,6 +6,10 @@ pub mod Keepers
 pub mod Commits
 -- what the end of a job says, and what it leaves
 pub mod Installs
+-- what the public calls say of both
+pub mod Answers
+-- how an answer is charged, and what backs such charges
+pub mod Charges
 -- what a store is that got a name
 pub mod Names
 -- what all tokens are told at the end

@@ -7,6 +7,7 @@ use Rattle.chunk_store.specs.declared.disk.Disk.{Ghosts as DiskWords}
 use Rattle.doc_types.specs.declared.schema.Schema.{Schema}
 use Rattle.doc_types.specs.Snapshots.{live}
 use Rattle.root_slots.specs.Slots.{IsRoot, slots_of}
+use Rattle.step_book.specs.Tellings.{AtOpening}
 use Rattle.step_history.specs.History.{AreOf, Base}
 use Rattle.store_reads.specs.declared.fault.StoreFault.{StoreFault}
 use Rattle.store_steps.specs.Directory.{StandsFor}
@@ -22,6 +23,10 @@ pub record HidesNothing {D : Type 0} (words : DiskWords D) (disk : D) : Type 0 w
 -- where the history of a store begins: its snapshot, and the end of its log
 abbrev pub base_of : {D : Type 0} → Opened D → Base
 base_of opened = record { opening = arc_value opened.snapshot; log = opened.files.log.end }
+
+-- what its disk had counted then: its faults, and the numbers of files and of roots
+abbrev pub opening_of : {D : Type 0} → DiskWords D → Opened D → AtOpening
+opening_of words opened = record { faults = words.faults opened.disk; file = opened.files.next_file; root = opened.files.root.number }
 
 -- The disk of a store that was opened keeps its snapshot, and no step.
 pub record IsOpened {D : Type 0} (words : DiskWords D) (schema : Schema) (opened : Opened D) : Type 0 where

@@ -9,7 +9,7 @@ use Rattle.commit_outcomes.specs.declared.strayed.Strayed.{Strayed}
 use Rattle.step_book.specs.Fronts.{FrontValue}
 use Rattle.step_history.specs.History.{Base}
 use Rattle.step_line.specs.Lines.{LineValue, kept_by}
-use Rattle.step_tokens.specs.Tokens.{TokenValue}
+use Rattle.step_tokens.specs.Tokens.{IsSameBut, TokenValue}
 use Rattle.store_steps.specs.Refusals.{stray_of}
 use Rattle.store_keep.specs.Commits.{front_of}
 
@@ -33,9 +33,7 @@ pub record IsTold (note : FrontValue) (old new : TokenValue) : Type 0 where
   pub one : (new.seen ≡ old.seen) ⊎ (new.seen ≡ note.steps)
   pub before : IsPrefix old.seen new.seen
   pub told : IsPrefix note.steps new.seen
-  pub index : new.index ≡ old.index
-  pub worker : new.worker ≡ old.worker
-  pub made : new.made ≡ old.made
+  pub same : IsSameBut old new
 
 -- The token has seen exactly the history of the line, which begins with all that it had seen, and counts its worker's commits as the
 -- keeper does, the one that waits included.

@@ -8,3 +8,5 @@ pub mod Finds
 pub mod Beginnings
 -- the parts of the end of a job
 pub mod Endings
+-- what is to be known before a call is charged
+pub mod Charging

@@ -3,6 +3,7 @@ ghost use Rattle.std.specs.Prelude.{◌≡◌};
 ghost use Rattle.std.specs.List.{AllZip};
 ghost use Rattle.step_history.specs.History.{place_of};
 ghost use Rattle.step_line.specs.Lines.{IsLine};
+ghost use Rattle.store_keep.specs.Commits.{front_of};
 ghost use Rattle.store_keep.specs.Tellings.{AreOfIndex, AreTokensOf, IsTold, TellsAll, first_stray};
 
 use crate::keeper::Keeper;
@@ -11,7 +12,8 @@ use chunk_store::Disk;
 use commit_outcomes::Strayed;
 use srch_base::Or;
 use std::sync::Wait;
-use step_book::Naming;
+use step_book::{Faults, Naming, Stops};
+use step_line::Tally;
 use step_tokens::{Note, Token, learn};
 
 /// Tells each token a history.
@@ -27,7 +29,7 @@ fn tell_all<J: Naming>(tokens: &mut [Token<J>], note: &Note<J>)
 
 impl<D: Disk, J: Naming> Keeper<D, J> {
     /// The numbers of the first token that contradicts this keeper.
-    fn first_stray(&self, tokens: &[Token<J>]) -> Option<Strayed>
+    pub fn first_stray(&self, tokens: &[Token<J>]) -> Option<Strayed>
         requires tokens { AreTokensOf self.now.kept.line tokens.now }
         requires first { self.now.first ≡ place_of (J.base self.now.kept.line.index).opening }
         ensures { result ≡ first_stray (J.base self.now.kept.line.index) self.now.kept.line tokens.now }
@@ -60,6 +62,28 @@ impl<D: Disk, J: Naming> Keeper<D, J> {
         Ok(note)
     }
 
+    /// A note of the whole history.
+    pub fn note(&self) -> Note<J>
+        ensures note { result ≡ front_of self.now.kept.line }
+        ensures line { IsLine (J.schema self.now.kept.line.index) (J.base self.now.kept.line.index) self.now.kept.line }
+    {
+        self.kept.line.note()
+    }
+
+    /// The calls that were charged as faults.
+    pub fn faults(&self) -> &Tally<J, Faults>
+        ensures { result.now ≡ self.now.faults }
+    {
+        &self.faults
+    }
+
+    /// The calls that were charged as stops.
+    pub fn stops(&self) -> &Tally<J, Stops>
+        ensures { result.now ≡ self.now.stops }
+    {
+        &self.stops
+    }
+
     /// Gives the disk back. It waits for those who still read, and readers find nothing more.
     pub fn close<R: Wait>(self, rt: &R) -> D
         ensures { result ≡ self.kept.disk }
@@ -71,6 +95,8 @@ impl<D: Disk, J: Naming> Keeper<D, J> {
             documents: _documents,
             chunks: _chunks,
             strayed: _strayed,
+            faults: _faults,
+            stops: _stops,
         } = self;
         let Kept {
             alloc: _alloc,

@@ -59,8 +59,8 @@ impl<D: Disk, J: Naming> Keeper<D, J> {
         None
     }
 
-    /// Commits a transaction of a worker with its token. What waits is settled first.
-    pub fn commit<R: Wait>(
+    /// Commits a transaction of a worker with its token, but for charging the answer. What waits is settled first.
+    pub(crate) fn commit_by<R: Wait>(
         &mut self,
         rt: &R,
         worker: u32,
@@ -71,17 +71,20 @@ impl<D: Disk, J: Naming> Keeper<D, J> {
         requires own { token.old.worker ≡ worker }
         requires worker { (0 < worker) × (worker ≤ self.old.kept.line.workers) }
         requires of { IsSchema (J.schema self.old.kept.line.index) × IsTxnOf (J.schema self.old.kept.line.index) txn.now }
-        requires sound { IsSound D.Disk J.schema J.base self.old }
+        requires first { self.old.first ≡ place_of (J.base self.old.kept.line.index).opening }
+        requires kept { Keeps D.Disk J.schema J.base self.old.kept.disk self.old.kept.files self.old.kept.line }
         ensures ends { Commits (J.base self.old.kept.line.index) self.old.kept.line token.old worker txn.now.ops (D.faults self.old.kept.disk) result self.new.kept.line self.new.kept.files.log token.new (D.faults self.new.kept.disk) }
         ensures strayed { self.new.strayed ≡ strayed_after self.old.strayed result }
         ensures same { IsSameKeeper self.old self.new }
+        ensures rest { self.new ≡ record self.old { kept = self.new.kept; strayed = self.new.strayed } }
         ensures token { IsSameToken token.old token.new }
-        ensures sound { IsSound D.Disk J.schema J.base self.new }
+        ensures files { self.new.kept.files ≡ record self.old.kept.files { log = self.new.kept.files.log } }
+        ensures kept { Keeps D.Disk J.schema J.base self.new.kept.disk self.new.kept.files self.new.kept.line }
         ensures crash { LeavesOnly D.Disk self.old.kept.disk self.new.kept.disk (GivesAny (J.schema self.old.kept.line.index) (J.base self.old.kept.line.index) self.old.kept.line self.new.kept.line) }
     {
         if let Some(strayed) = self.stray(token) {
             self.strayed = self.strayed.or(Some(strayed));
-            return Err(CommitFault::Strayed(strayed));
+            return Err(CommitFault::Strayed(strayed, self.kept.line.note()));
         }
         match self.kept.ready(rt, token) {
             Ok(()) => self.kept.commit_next(rt, worker, token, txn),
@@ -92,11 +95,11 @@ impl<D: Disk, J: Naming> Keeper<D, J> {
 
     /// Settles the step that waits: after it nothing does. Otherwise it still waits.
     pub fn settle<R: Wait>(&mut self, rt: &R) -> Result<(), Or<Failed>>
-        requires sound { IsSound D.Disk J.schema J.base self.old }
+        requires sound { IsSound D.Disk J.schema J.base J.opened self.old }
         ensures ends { Settles self.old.kept.line (D.faults self.old.kept.disk) result self.new.kept.line self.new.kept.files.log (D.faults self.new.kept.disk) }
         ensures strayed { self.new.strayed ≡ self.old.strayed }
         ensures same { IsSameKeeper self.old self.new }
-        ensures sound { IsSound D.Disk J.schema J.base self.new }
+        ensures sound { IsSound D.Disk J.schema J.base J.opened self.new }
         ensures crash { LeavesOnly D.Disk self.old.kept.disk self.new.kept.disk (GivesEither (J.schema self.old.kept.line.index) (J.base self.old.kept.line.index) self.old.kept.line.history self.old.kept.line.waiting) }
     {
         self.kept.settle(rt)

@@ -27,6 +27,7 @@ impl<D: Disk, J: Naming> Kept<D, J> {
         requires by { IsBy self.old.line.workers pending.step }
         requires enters { Enters (J.schema self.old.line.index) (J.base self.old.line.index) self.old.line.history pending.step staged.now }
         requires kept { Keeps D.Disk J.schema J.base self.old.disk self.old.files self.old.line }
+        ensures files { self.new.files ≡ record self.old.files { log = self.new.files.log } }
         ensures ok { OnOk result (self.new.line ≡ record self.old.line { waiting = Some pending.step }) }
         ensures err { OnErr result (self.new.line ≡ self.old.line) }
         ensures rests { OnErr result (self.new.files.log.staged ≡ None) }

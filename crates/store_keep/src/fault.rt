@@ -19,7 +19,8 @@ pub struct Committed<J: Naming> {
 #[derive(Drop)]
 pub enum CommitFault<J: Naming> {
     NoMemory,
-    Strayed(Strayed),
+    /// The token contradicts the history of the note.
+    Strayed(Strayed, Note<J>),
     /// The id of an insertion was there.
     Duplicate { id: u64, note: Note<J> },
     /// A limit would be passed.

@@ -8,7 +8,8 @@ use step_tokens::Note;
 #[derive(Drop)]
 pub enum InstallFault<J: Naming> {
     NoMemory,
-    Strayed(Strayed),
+    /// The token contradicts the history of the note.
+    Strayed(Strayed, Note<J>),
     /// Another job ended since this one began: the history has a greater shape by now.
     Overtaken { shape: u64, note: Note<J> },
     /// The numbers of files or of roots have ended.

@@ -4,10 +4,13 @@ ghost use Rattle.std.specs.Prelude.{◌≡◌, ◌<◌, ◌≤◌, ◌^◌, None
 ghost use Rattle.std.specs.Arc.{arc_value};
 ghost use Rattle.job_chunks.specs.Chunks.{IsNewChunk};
 ghost use Rattle.job_states.specs.States.{HasSeen};
+ghost use Rattle.step_history.specs.History.{place_of};
+ghost use Rattle.step_line.specs.Lines.{entered};
 ghost use Rattle.store_steps.specs.Kept.{GivesEither, LeavesOnly};
 ghost use Rattle.store_keep.specs.Commits.{GivesAny, GivesEntered};
 ghost use Rattle.store_keep.specs.Installs.{EndsJob, HasRoom, Installs, end_of, strayed_after_job};
-ghost use Rattle.store_keep.specs.Keepers.{IsSameKeeper, IsSameToken, IsSound, Keeps};
+ghost use Rattle.store_keep.specs.Keepers.{IsSameKeeper, IsSameToken, Keeps};
+ghost use Rattle.store_keep.specs.steps.Charging.{TakesFew};
 ghost use Rattle.store_keep.specs.steps.Endings.{FinishesJob, IsEndPrepared};
 
 use crate::install_fault::InstallFault;
@@ -53,6 +56,7 @@ impl<D: Disk, J: Naming> Kept<D, J> {
             }
             Err(NoMemory) => {
                 self.remove_all(&Some(made), old);
+                token.leave(self.line.entered());
                 Err(InstallFault::InDoubt)
             }
         }
@@ -75,6 +79,7 @@ impl<D: Disk, J: Naming> Kept<D, J> {
         requires chunk { IsNewChunk (J.schema self.old.line.index) new.now }
         requires prepared { IsEndPrepared (J.schema self.old.line.index) (J.base self.old.line.index) self.old.line new.now prepared }
         ensures ends { EndsJob (J.base self.old.line.index) self.old.line self.old.files token.old new.now (D.faults self.old.disk) result self.new.line self.new.files token.new (D.faults self.new.disk) }
+        ensures numbers { TakesFew (entered self.old.line) (D.faults self.old.disk) self.old.files (entered self.new.line) (D.faults self.new.disk) self.new.files }
         ensures kept { Keeps D.Disk J.schema J.base self.new.disk self.new.files self.new.line }
         ensures crash { LeavesOnly D.Disk self.old.disk self.new.disk (GivesEntered (J.schema self.old.line.index) (J.base self.old.line.index) self.old.line.history self.new.line) }
     {
@@ -108,6 +113,7 @@ impl<D: Disk, J: Naming> Kept<D, J> {
         requires seen { HasSeen (J.base self.old.line.index) self.old.line.history new.now.from }
         requires chunk { IsNewChunk (J.schema self.old.line.index) new.now }
         ensures ends { EndsJob (J.base self.old.line.index) self.old.line self.old.files token.old new.now (D.faults self.old.disk) result self.new.line self.new.files token.new (D.faults self.new.disk) }
+        ensures numbers { TakesFew (entered self.old.line) (D.faults self.old.disk) self.old.files (entered self.new.line) (D.faults self.new.disk) self.new.files }
         ensures kept { Keeps D.Disk J.schema J.base self.new.disk self.new.files self.new.line }
         ensures crash { LeavesOnly D.Disk self.old.disk self.new.disk (GivesEntered (J.schema self.old.line.index) (J.base self.old.line.index) self.old.line.history self.new.line) }
     {
@@ -122,8 +128,9 @@ impl<D: Disk, J: Naming> Kept<D, J> {
 }
 
 impl<D: Disk, J: Naming> Keeper<D, J> {
-    /// Installs the chunk of a job, which was built from a snapshot that the token has seen. What waits is settled first.
-    pub fn install<R: Wait>(
+    /// Installs the chunk of a job, which was built from a snapshot that the token has seen, but for charging the answer. What waits is
+    /// settled first.
+    pub(crate) fn install_by<R: Wait>(
         &mut self,
         rt: &R,
         token: &mut Token<J>,
@@ -133,17 +140,20 @@ impl<D: Disk, J: Naming> Keeper<D, J> {
         requires worker { (0 < token.old.worker) × (token.old.worker ≤ self.old.kept.line.workers) }
         requires seen { HasSeen (J.base self.old.kept.line.index) token.old.seen new.from }
         requires chunk { IsNewChunk (J.schema self.old.kept.line.index) new }
-        requires sound { IsSound D.Disk J.schema J.base self.old }
+        requires first { self.old.first ≡ place_of (J.base self.old.kept.line.index).opening }
+        requires kept { Keeps D.Disk J.schema J.base self.old.kept.disk self.old.kept.files self.old.kept.line }
         ensures ends { Installs (J.base self.old.kept.line.index) self.old.kept.line self.old.kept.files token.old new (D.faults self.old.kept.disk) result self.new.kept.line self.new.kept.files token.new (D.faults self.new.kept.disk) }
         ensures strayed { self.new.strayed ≡ strayed_after_job self.old.strayed result }
         ensures same { IsSameKeeper self.old self.new }
+        ensures rest { self.new ≡ record self.old { kept = self.new.kept; strayed = self.new.strayed } }
         ensures token { IsSameToken token.old token.new }
-        ensures sound { IsSound D.Disk J.schema J.base self.new }
+        ensures numbers { TakesFew (entered self.old.kept.line) (D.faults self.old.kept.disk) self.old.kept.files (entered self.new.kept.line) (D.faults self.new.kept.disk) self.new.kept.files }
+        ensures kept { Keeps D.Disk J.schema J.base self.new.kept.disk self.new.kept.files self.new.kept.line }
         ensures crash { LeavesOnly D.Disk self.old.kept.disk self.new.kept.disk (GivesAny (J.schema self.old.kept.line.index) (J.base self.old.kept.line.index) self.old.kept.line self.new.kept.line) }
     {
         if let Some(strayed) = self.stray(token) {
             self.strayed = self.strayed.or(Some(strayed));
-            return Err(InstallFault::Strayed(strayed));
+            return Err(InstallFault::Strayed(strayed, self.kept.line.note()));
         }
         match self.kept.ready(rt, token) {
             Ok(()) => self.kept.install_next(rt, token, &new),

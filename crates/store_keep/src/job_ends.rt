@@ -6,7 +6,7 @@ ghost use Rattle.std.specs.List.{list_any};
 ghost use Rattle.doc_types.specs.Chunks.{IsContent};
 ghost use Rattle.job_chunks.specs.Chunks.{IsNewChunk, layer_in};
 ghost use Rattle.job_files.specs.Jobs.{names};
-ghost use Rattle.job_states.specs.States.{HasEndCause, HasSeen};
+ghost use Rattle.job_states.specs.States.{HasEndCause, HasSeen, TakesSome};
 ghost use Rattle.reshape.specs.Builds.{IsNew, new_rows};
 ghost use Rattle.reshape_laws.specs.Rebasing.{HasMoved, rebased};
 ghost use Rattle.step_history.specs.History.{last_snapshot};
@@ -104,7 +104,7 @@ impl<D: Disk, J: Naming> Kept<D, J> {
             return Some(Full { what, at, need: 1 });
         }
         if self.files.root.full() {
-            let at = LAST_ROOT;
+            let at = self.files.root.number();
             return Some(Full { what, at, need: 1 });
         }
         None
@@ -173,6 +173,7 @@ impl<D: Disk, J: Naming> Kept<D, J> {
         ensures err { OnErr result (Keeps D.Disk J.schema J.base self.new.disk self.new.files self.new.line) }
         ensures sure { OnOk result (self.new.files.sure ≡ true) }
         ensures rests { self.new.files.log.staged ≡ None }
+        ensures numbers { TakesSome self.old.files result self.new.files }
         ensures crash { LeavesOnly D.Disk self.old.disk self.new.disk (Gives (J.schema self.old.line.index) (J.base self.old.line.index) self.old.line.history) }
         ensures cause { HasEndCause (D.faults self.old.disk) (D.faults self.new.disk) result }
     {

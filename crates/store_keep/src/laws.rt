@@ -17,7 +17,7 @@ use step_book::Naming;
 /// Whatever a crash leaves between two calls gives the published documents, or these and the step that waits; and once no record is
 /// staged, as after a commit that was made or that found no memory to be published, it gives all of them.
 pub fn a_crash_between_calls_leaves_the_documents<D: Disk, J: Naming>(keeper: &Keeper<D, J>)
-    requires { IsSound D.Disk J.schema J.base keeper.now }
+    requires { IsSound D.Disk J.schema J.base J.opened keeper.now }
     ensures either { (x : Image) → D.may_leave keeper.now.kept.disk x → GivesEither (J.schema keeper.now.kept.line.index) (J.base keeper.now.kept.line.index) keeper.now.kept.line.history keeper.now.kept.line.waiting x }
     ensures all { keeper.now.kept.files.log.staged ≡ None → (x : Image) → D.may_leave keeper.now.kept.disk x → Gives (J.schema keeper.now.kept.line.index) (J.base keeper.now.kept.line.index) (entered keeper.now.kept.line) x }
 {}
@@ -25,7 +25,7 @@ pub fn a_crash_between_calls_leaves_the_documents<D: Disk, J: Naming>(keeper: &K
 /// The files that the root's own state names are images of the chunks on the disk, in order: those of the last snapshot, or of the
 /// step that waits. Where nothing waits, and no record is staged, the log ends where the history's does.
 pub fn files_between_calls_are_those_of_the_history<D: Disk, J: Naming>(keeper: &Keeper<D, J>)
-    requires { IsSound D.Disk J.schema J.base keeper.now }
+    requires { IsSound D.Disk J.schema J.base J.opened keeper.now }
     ensures chunks { Told (λ image. AllZip (IsChunkFile (J.schema keeper.now.kept.line.index) image) keeper.now.kept.files.state.chunks (disk_chunks (last_snapshot (J.base keeper.now.kept.line.index) (entered keeper.now.kept.line)))) (D.told keeper.now.kept.disk) }
     ensures end { keeper.now.kept.line.waiting ≡ None → keeper.now.kept.files.log.staged ≡ None → keeper.now.kept.files.log.end ≡ log_at (J.base keeper.now.kept.line.index) keeper.now.kept.line.history }
 {}

@@ -3,6 +3,8 @@
 #![tactic(auto)]
 
 mod beginning;
+mod charge;
+mod charging;
 mod closing;
 mod committing;
 mod entering;
@@ -20,6 +22,7 @@ mod opening;
 mod preparing;
 mod settling;
 
+pub use charge::Charge;
 pub use commit_outcomes::Doubt;
 pub use fault::{CommitFault, Committed};
 pub use install_fault::InstallFault;

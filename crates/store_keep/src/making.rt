@@ -31,6 +31,7 @@ impl<D: Disk, J: Naming> Kept<D, J> {
         requires token { token.old.index ≡ self.old.line.index }
         requires kept { Keeps D.Disk J.schema J.base self.old.disk self.old.files self.old.line }
         ensures ends { Finishes self.old.line token.old number removed (D.faults self.old.disk) result self.new.line self.new.files.log token.new (D.faults self.new.disk) }
+        ensures files { self.new.files ≡ record self.old.files { log = self.new.files.log } }
         ensures kept { Keeps D.Disk J.schema J.base self.new.disk self.new.files self.new.line }
         ensures crash { LeavesOnly D.Disk self.old.disk self.new.disk (GivesEither (J.schema self.old.line.index) (J.base self.old.line.index) self.old.line.history self.old.line.waiting) }
     {
@@ -44,8 +45,14 @@ impl<D: Disk, J: Naming> Kept<D, J> {
                     removed,
                 })
             }
-            Err(Or::NoMemory) => Err(CommitFault::InDoubt(Doubt::Memory)),
-            Err(Or::Fault(Failed)) => Err(CommitFault::InDoubt(Doubt::Disk)),
+            Err(Or::NoMemory) => {
+                token.leave(self.line.entered());
+                Err(CommitFault::InDoubt(Doubt::Memory))
+            }
+            Err(Or::Fault(Failed)) => {
+                token.leave(self.line.entered());
+                Err(CommitFault::InDoubt(Doubt::Disk))
+            }
         }
     }
 
@@ -65,6 +72,7 @@ impl<D: Disk, J: Naming> Kept<D, J> {
         requires enters { Enters (J.schema self.old.line.index) (J.base self.old.line.index) self.old.line.history prepared.pending.step prepared.staged }
         requires kept { Keeps D.Disk J.schema J.base self.old.disk self.old.files self.old.line }
         ensures ends { Makes self.old.line token.old prepared.pending.step prepared.number prepared.removed (D.faults self.old.disk) result self.new.line self.new.files.log token.new (D.faults self.new.disk) }
+        ensures files { self.new.files ≡ record self.old.files { log = self.new.files.log } }
         ensures kept { Keeps D.Disk J.schema J.base self.new.disk self.new.files self.new.line }
         ensures crash { LeavesOnly D.Disk self.old.disk self.new.disk (GivesEntered (J.schema self.old.line.index) (J.base self.old.line.index) self.old.line.history self.new.line) }
     {
@@ -99,6 +107,7 @@ impl<D: Disk, J: Naming> Kept<D, J> {
         requires of { IsSchema (J.schema self.old.line.index) × IsTxnOf (J.schema self.old.line.index) txn.now }
         requires kept { Keeps D.Disk J.schema J.base self.old.disk self.old.files self.old.line }
         ensures ends { Ends (J.base self.old.line.index) self.old.line token.old worker txn.now.ops (D.faults self.old.disk) result self.new.line self.new.files.log token.new (D.faults self.new.disk) }
+        ensures files { self.new.files ≡ record self.old.files { log = self.new.files.log } }
         ensures kept { Keeps D.Disk J.schema J.base self.new.disk self.new.files self.new.line }
         ensures crash { LeavesOnly D.Disk self.old.disk self.new.disk (GivesEntered (J.schema self.old.line.index) (J.base self.old.line.index) self.old.line.history self.new.line) }
     {

@@ -42,6 +42,8 @@ impl<D: Disk> Opened<D> {
             disk,
             files: _files,
             book: _book,
+            faults: _faults,
+            stops: _stops,
             snapshot: _snapshot,
             records: _records,
             documents: _documents,

@@ -19,16 +19,18 @@ use srch_base::Failed;
 use std::alloc::Global;
 use std::sync::Arc;
 use std::thread::Threads;
-use step_book::NewBook;
+use step_book::{NewBook, NewLine};
 use store_reads::{Found, StoreFault, read_directory, read_root};
 use store_steps::Files;
 
-/// A store that was opened and has no name yet.
+/// A store that was opened and has no name yet, with the three lines of its index: of steps, of faults and of stops.
 #[derive(Drop)]
 pub struct Opened<D: Disk> {
     pub(crate) disk: D,
     pub(crate) files: Files,
     pub(crate) book: NewBook,
+    pub(crate) faults: NewLine<u32>,
+    pub(crate) stops: NewLine<u32>,
     pub(crate) snapshot: Arc<Snapshot<AnyChunk>, Global>,
     pub(crate) records: u64,
     pub(crate) documents: u32,
@@ -64,6 +66,8 @@ impl<D: Disk> Opened<D> {
                     disk,
                     files,
                     book: NewBook::new(),
+                    faults: NewLine::new(),
+                    stops: NewLine::new(),
                     snapshot,
                     records,
                     documents,

@@ -1,5 +1,5 @@
 -- Stages of a commit: what each of its parts says.
-use Rattle.std.specs.Prelude.{◌≡◌, ◌≢◌, ℕ, ◌+◌, ◌≤◌, ◌<◌, ◌^◌, List, None, Result, Ok, Err, length}
+use Rattle.std.specs.Prelude.{◌≡◌, ◌≢◌, ℕ, ◌+◌, ◌≤◌, ◌<◌, ◌^◌, List, Some, None, Result, Ok, Err, length}
 use Rattle.srch_base.specs.Counts.{Rose}
 use Rattle.srch_base.specs.declared.faults.Failed.{Failed}
 use Rattle.srch_base.specs.declared.faults.Or.{Or}
@@ -13,7 +13,7 @@ use Rattle.gate_log.specs.declared.log.GateLog.{GateLog}
 use Rattle.gate_log.specs.declared.records.LogRecord.{LogRecord}
 use Rattle.step_history.specs.History.{Base, Step, Commit, CommitFollows}
 use Rattle.step_history.specs.Logs.{log_at}
-use Rattle.step_line.specs.Lines.{LineValue, settled}
+use Rattle.step_line.specs.Lines.{LineValue, entered, settled}
 use Rattle.step_tokens.specs.Tokens.{TokenValue}
 use Rattle.store_steps.specs.Answers.{Becomes}
 use Rattle.store_steps.specs.Batches.{IsBatchOf, batch_of, record_of}
@@ -57,6 +57,6 @@ Prepares schema base line worker ops (Err fault) = Refuses base line ops fault
 abbrev pub Finishes : {J : Type 0} → LineValue → TokenValue → ℕ → ℕ → ℕ → Result (Committed J) (CommitFault J) → LineValue → GateLog → TokenValue → ℕ → Type 0
 Finishes line token number removed before (Ok made) new log after now =
     (new ≡ settled line) × (made.note ≡ front_of new) × (made.number ≡ number) × (made.removed ≡ removed) × Learns token after token.made new.history × (before ≤ now)
-Finishes line token number removed before (Err (faults.InDoubt doubts.Disk)) new log after now = (new ≡ line) × (after ≡ token) × (before ≤ now) × Rose before now × (log.staged ≢ None)
-Finishes line token number removed before (Err (faults.InDoubt doubts.Memory)) new log after now = (new ≡ line) × (after ≡ token) × (before ≤ now) × (log.staged ≡ None)
+Finishes line token number removed before (Err (faults.InDoubt doubts.Disk)) new log after now = (new ≡ line) × (after ≡ record token { entered = Some (entered line) }) × (before ≤ now) × Rose before now × (log.staged ≢ None)
+Finishes line token number removed before (Err (faults.InDoubt doubts.Memory)) new log after now = (new ≡ line) × (after ≡ record token { entered = Some (entered line) }) × (before ≤ now) × (log.staged ≡ None)
 Finishes line token number removed before (Err fault) new log after now = ⊥

@@ -1,24 +1,59 @@
+use Rattle.std.proofs.Common.{◌≡◌, ◌≢◌, ◌∙◌, ℕ, None, inl, ap, sym, subst}
+use Rattle.step_line.specs.Lines.{entered}
+use Rattle.step_line.specs.Tallies.{TallyValue}
 use Rattle.store_steps.proofs.Keeping.{gives_now}
 use Rattle.store_steps.proofs.Leaving.{leaves_still}
-use Rattle.store_steps.specs.Kept.{GivesEither}
-use Rattle.store_keep.proofs.Straying.{commit_leaves, ready_leaves}
+use Rattle.store_steps.specs.Kept.{GivesEither, LeavesOnly}
+use Rattle.store_steps.specs.declared.files.Files.{Files}
+use Rattle.store_keep.specs.Charges.{IsBacked}
+use Rattle.store_keep.specs.Commits.{GivesAny}
+use Rattle.store_keep.specs.Keepers.{IsSound}
+use Rattle.store_keep.specs.declared.keeper.Keeper.{Keeper}
+use Rattle.store_keep.proofs.Carrying.{few_still, may_charge, sound_after}
+use Rattle.store_keep.proofs.Charged.{commits_moves, commits_rose}
+use Rattle.store_keep.proofs.Stopped.{holds_still, stops_commit}
+use Rattle.store_keep.proofs.Straying.{ready_leaves}
 use Rattle.store_keep.proofs.keeper.Keeper.commit.Goals as goal
 
-pub returns-in-Some-clause-crash : goal.returns-in-Some-clause-crash
-returns-in-Some-clause-crash g c =
-    let line = c.args.self.now.kept.line in
-    ready_leaves g.D.Disk (g.J.Naming.schema line.index) (g.J.Naming.base line.index) c.args.self.now.kept.disk c.args.self.now.kept.disk line line
-    (leaves_still g.D.Disk c.args.self.now.kept.disk {P = GivesEither (g.J.Naming.schema line.index) (g.J.Naming.base line.index) line.history line.waiting} (g.met.D.Disk.only_now c.args.self.now.kept.disk)
-    (gives_now g.D.Disk (g.J.Naming.schema line.index) (g.J.Naming.base line.index) line.history line.waiting c.args.self.now.kept.disk c.args.self.now.kept.files c.requires.sound.kept))
+pub charge-requires-clause-may : goal.charge-requires-clause-may
+charge-requires-clause-may g c =
+    let ready = c.make_ready.new.self in
+    let next = c.commit_by-answer.new.self in
+    let r = c.commit_by-answer.result in
+    let base = g.J.Naming.base ready.kept.line.index in
+    let opened = g.J.Naming.opened in
+    let before = g.D.Disk.faults ready.kept.disk in
+    let now = g.D.Disk.faults next.kept.disk in
+    let ends = c.commit_by-answer.ensures.ends in
+    let moves = commits_moves base ready.kept.line c.args.token.now c.args.worker c.args.txn.now.ops before now next.kept.line next.kept.files.log c.commit_by-answer.new.token r ends in
+    let same : ready.kept.line.index ≡ next.kept.line.index = sym moves.index in
+    let tally : ready.faults ≡ next.faults = sym (ap (λ (k : Keeper g.row.D.Denot g.row.J.Denot). k.faults) c.commit_by-answer.ensures.rest) in
+    let backed : IsBacked (opened next.kept.line.index) before next.faults.calls = subst (λ (i : ℕ). IsBacked (opened i) before next.faults.calls) same (subst (λ (t : TallyValue). IsBacked (opened ready.kept.line.index) before t.calls) tally c.make_ready.ensures.sound.backed) in
+    may_charge c.charge_of.result (opened next.kept.line.index) next.kept.line.history before now next.strayed next.faults.calls backed moves.later
+    (λ fault. commits_rose base ready.kept.line c.args.token.now c.args.worker c.args.txn.now.ops before now next.kept.line next.kept.files.log c.commit_by-answer.new.token r ends (sym c.charge_of.ensures ∙ fault))
+    (λ stop. inl (λ none. stops_commit base ready.kept.line c.args.token.now c.args.worker c.args.txn.now.ops before now next.kept.line next.kept.files.log c.commit_by-answer.new.token ready.strayed r ends (sym c.charge_of.ensures ∙ stop) (sym c.commit_by-answer.ensures.strayed ∙ none)))
 
-pub returns-in-Ok-clause-crash : goal.returns-in-Ok-clause-crash
-returns-in-Ok-clause-crash g c =
-    commit_leaves g.D.Disk g.J.Naming.schema g.J.Naming.base c.args.self.now.kept.disk c.ready.new.self.disk c.commit_next.new.self.disk c.args.self.now.kept.line c.ready.new.self.line c.commit_next.new.self.line c.in-Ok.ensures.ends.0 c.ready.ensures.crash c.commit_next.ensures.crash
+pub charge-requires-clause-sound : goal.charge-requires-clause-sound
+charge-requires-clause-sound g c =
+    let ready = c.make_ready.new.self in
+    let next = c.commit_by-answer.new.self in
+    let r = c.commit_by-answer.result in
+    let base = g.J.Naming.base ready.kept.line.index in
+    let opened = g.J.Naming.opened in
+    let before = g.D.Disk.faults ready.kept.disk in
+    let now = g.D.Disk.faults next.kept.disk in
+    let ends = c.commit_by-answer.ensures.ends in
+    let moves = commits_moves base ready.kept.line c.args.token.now c.args.worker c.args.txn.now.ops before now next.kept.line next.kept.files.log c.commit_by-answer.new.token r ends in
+    let holds : (ready.strayed ≢ None) → next.strayed ≢ None = λ some none. holds_still ready.strayed r some (sym c.commit_by-answer.ensures.strayed ∙ none) in
+    subst (λ (k : Keeper g.row.D.Denot g.row.J.Denot). IsSound g.D.Disk g.J.Naming.schema g.J.Naming.base opened k) (sym c.commit_by-answer.ensures.rest)
+    (sound_after g.D.Disk g.J.Naming.schema g.J.Naming.base opened ready next.kept next.strayed c.make_ready.ensures.sound c.commit_by-answer.ensures.kept moves (few_still (entered ready.kept.line) (entered next.kept.line) before now ready.kept.files next.kept.files (ap (λ (f : Files). f.next_file) c.commit_by-answer.ensures.files) (ap (λ (f : Files). f.root.number) c.commit_by-answer.ensures.files) moves.all moves.later) holds)
 
-pub returns-in-Err-NoMemory-clause-crash : goal.returns-in-Err-NoMemory-clause-crash
-returns-in-Err-NoMemory-clause-crash g c =
-    ready_leaves g.D.Disk (g.J.Naming.schema c.args.self.now.kept.line.index) (g.J.Naming.base c.args.self.now.kept.line.index) c.args.self.now.kept.disk c.ready.new.self.disk c.args.self.now.kept.line c.ready.new.self.line c.ready.ensures.crash
-
-pub returns-in-Err-Fault-clause-crash : goal.returns-in-Err-Fault-clause-crash
-returns-in-Err-Fault-clause-crash g c =
-    ready_leaves g.D.Disk (g.J.Naming.schema c.args.self.now.kept.line.index) (g.J.Naming.base c.args.self.now.kept.line.index) c.args.self.now.kept.disk c.ready.new.self.disk c.args.self.now.kept.line c.ready.new.self.line c.ready.ensures.crash
+pub returns-in-Err-clause-crash : goal.returns-in-Err-clause-crash
+returns-in-Err-clause-crash g c =
+    let k = c.args.self.now.kept in
+    let schema = g.J.Naming.schema k.line.index in
+    let base = g.J.Naming.base k.line.index in
+    subst (λ (x : Keeper g.row.D.Denot g.row.J.Denot). LeavesOnly g.D.Disk k.disk x.kept.disk (GivesAny schema base k.line x.kept.line)) (sym c.make_ready.ensures.same)
+    (ready_leaves g.D.Disk schema base k.disk k.disk k.line k.line
+    (leaves_still g.D.Disk k.disk {P = GivesEither schema base k.line.history k.line.waiting} (g.met.D.Disk.only_now k.disk)
+    (gives_now g.D.Disk schema base k.line.history k.line.waiting k.disk k.files c.requires.sound.kept)))

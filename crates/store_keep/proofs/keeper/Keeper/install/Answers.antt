@@ -1,69 +1,60 @@
-use Rattle.std.proofs.Common.{◌≡◌, ◌≤◌, ℕ, ap, length, sym, subst, arith, rules, None, Err}
-use Rattle.srch_base.specs.declared.faults.Failed.{Failed}
-use Rattle.srch_base.specs.declared.faults.Or.{Or}
-use Rattle.srch_base.specs.declared.faults.Or.TheVariants as causes
-use Rattle.store_keep.specs.steps.Stages.{Readies}
-use Rattle.job_chunks.specs.Chunks.{IsNewChunk}
-use Rattle.job_states.specs.States.{HasSeen}
-use Rattle.step_line.specs.Lines.{LineValue, entered}
+use Rattle.std.proofs.Common.{◌≡◌, ◌≢◌, ◌∙◌, ℕ, None, inl, inr, ⊎_elim, ap, sym, subst}
+use Rattle.step_line.specs.Tallies.{TallyValue}
 use Rattle.store_steps.proofs.Keeping.{gives_now}
 use Rattle.store_steps.proofs.Leaving.{leaves_still}
-use Rattle.store_steps.specs.Kept.{GivesEither}
-use Rattle.store_steps.specs.Refusals.{stray_of}
-use Rattle.store_keep.proofs.Reshaping.{after_job, seen_behind, unsettled_job, within_entered}
-use Rattle.store_keep.proofs.Straying.{commit_leaves, ready_leaves, seen_within}
+use Rattle.store_steps.specs.Kept.{GivesEither, LeavesOnly}
+use Rattle.store_keep.specs.Charges.{HasEnded, IsBacked}
+use Rattle.store_keep.specs.Commits.{GivesAny}
+use Rattle.store_keep.specs.Keepers.{IsSound}
+use Rattle.store_keep.specs.declared.keeper.Keeper.{Keeper}
+use Rattle.store_keep.proofs.Carrying.{may_charge, sound_after}
+use Rattle.store_keep.proofs.Charged.{installs_moves, installs_rose}
+use Rattle.store_keep.proofs.Stopped.{holds_still_job, stops_job}
+use Rattle.store_keep.proofs.Straying.{ready_leaves}
 use Rattle.store_keep.proofs.keeper.Keeper.install.Goals as goal
 
-pub install_next-requires-clause-seen : goal.install_next-requires-clause-seen
-install_next-requires-clause-seen g c =
-    let line = c.args.self.now.kept.line in
-    let next = c.ready.new.self.line in
-    let token = c.args.token.now in
-    let base = g.J.Naming.base line.index in
-    let index : line.index ≡ next.index = sym (ap (λ (l : LineValue). l.index) c.in-Ok.ensures.ends.0) in
-    let history : next.history ≡ entered line = ap (λ (l : LineValue). l.history) c.in-Ok.ensures.ends.0 in
-    let none : stray_of base line token ≡ None = search rules in
-    let within : length token.seen ≤ length next.history = omega (arith, seen_within base line token none, within_entered line, ap length history) in
-    subst (λ (i : ℕ). HasSeen (g.J.Naming.base i) next.history c.args.new.from) index (seen_behind base c.args.new.from token c.ready.new.token token.made next.history c.in-Ok.ensures.ends.2 within c.requires.seen)
+pub charge-requires-clause-may : goal.charge-requires-clause-may
+charge-requires-clause-may g c =
+    let ready = c.make_ready.new.self in
+    let next = c.install_by-answer.new.self in
+    let r = c.install_by-answer.result in
+    let base = g.J.Naming.base ready.kept.line.index in
+    let opened = g.J.Naming.opened in
+    let before = g.D.Disk.faults ready.kept.disk in
+    let now = g.D.Disk.faults next.kept.disk in
+    let ends = c.install_by-answer.ensures.ends in
+    let moves = installs_moves base ready.kept.line ready.kept.files c.args.token.now c.args.new before now next.kept.line next.kept.files c.install_by-answer.new.token r ends in
+    let same : ready.kept.line.index ≡ next.kept.line.index = sym moves.index in
+    let tally : ready.faults ≡ next.faults = sym (ap (λ (k : Keeper g.row.D.Denot g.row.J.Denot). k.faults) c.install_by-answer.ensures.rest) in
+    let backed : IsBacked (opened next.kept.line.index) before next.faults.calls = subst (λ (i : ℕ). IsBacked (opened i) before next.faults.calls) same (subst (λ (t : TallyValue). IsBacked (opened ready.kept.line.index) before t.calls) tally c.make_ready.ensures.sound.backed) in
+    may_charge c.charge_of_job.result (opened next.kept.line.index) next.kept.line.history before now next.strayed next.faults.calls backed moves.later
+    (λ fault. installs_rose base ready.kept.line ready.kept.files c.args.token.now c.args.new before now next.kept.line next.kept.files c.install_by-answer.new.token r ends (sym c.charge_of_job.ensures ∙ fault))
+    (λ stop.
+    ⊎_elim (λ some. inl (λ none. some (sym c.install_by-answer.ensures.strayed ∙ none)))
+    (λ ended. inr (subst (λ (i : ℕ). HasEnded (opened i) next.kept.line.history now) same ended))
+    (stops_job base ready.kept.line ready.kept.files c.args.token.now c.args.new before now next.kept.line next.kept.files c.install_by-answer.new.token ready.strayed (opened ready.kept.line.index) r ends c.make_ready.ensures.sound.numbers (sym c.charge_of_job.ensures ∙ stop)))
 
-pub install_next-requires-clause-chunk : goal.install_next-requires-clause-chunk
-install_next-requires-clause-chunk g c =
-    subst (λ (i : ℕ). IsNewChunk (g.J.Naming.schema i) c.args.new) (sym (ap (λ (l : LineValue). l.index) c.in-Ok.ensures.ends.0)) c.requires.chunk
+pub charge-requires-clause-sound : goal.charge-requires-clause-sound
+charge-requires-clause-sound g c =
+    let ready = c.make_ready.new.self in
+    let next = c.install_by-answer.new.self in
+    let r = c.install_by-answer.result in
+    let base = g.J.Naming.base ready.kept.line.index in
+    let opened = g.J.Naming.opened in
+    let before = g.D.Disk.faults ready.kept.disk in
+    let now = g.D.Disk.faults next.kept.disk in
+    let ends = c.install_by-answer.ensures.ends in
+    let moves = installs_moves base ready.kept.line ready.kept.files c.args.token.now c.args.new before now next.kept.line next.kept.files c.install_by-answer.new.token r ends in
+    let holds : (ready.strayed ≢ None) → next.strayed ≢ None = λ some none. holds_still_job ready.strayed r some (sym c.install_by-answer.ensures.strayed ∙ none) in
+    subst (λ (k : Keeper g.row.D.Denot g.row.J.Denot). IsSound g.D.Disk g.J.Naming.schema g.J.Naming.base opened k) (sym c.install_by-answer.ensures.rest)
+    (sound_after g.D.Disk g.J.Naming.schema g.J.Naming.base opened ready next.kept next.strayed c.make_ready.ensures.sound c.install_by-answer.ensures.kept moves c.install_by-answer.ensures.numbers holds)
 
-pub returns-in-Some-clause-crash : goal.returns-in-Some-clause-crash
-returns-in-Some-clause-crash g c =
-    let line = c.args.self.now.kept.line in
-    ready_leaves g.D.Disk (g.J.Naming.schema line.index) (g.J.Naming.base line.index) c.args.self.now.kept.disk c.args.self.now.kept.disk line line
-    (leaves_still g.D.Disk c.args.self.now.kept.disk {P = GivesEither (g.J.Naming.schema line.index) (g.J.Naming.base line.index) line.history line.waiting} (g.met.D.Disk.only_now c.args.self.now.kept.disk)
-    (gives_now g.D.Disk (g.J.Naming.schema line.index) (g.J.Naming.base line.index) line.history line.waiting c.args.self.now.kept.disk c.args.self.now.kept.files c.requires.sound.kept))
-
-pub returns-in-Ok-clause-crash : goal.returns-in-Ok-clause-crash
-returns-in-Ok-clause-crash g c =
-    commit_leaves g.D.Disk g.J.Naming.schema g.J.Naming.base c.args.self.now.kept.disk c.ready.new.self.disk c.install_next.new.self.disk c.args.self.now.kept.line c.ready.new.self.line c.install_next.new.self.line c.in-Ok.ensures.ends.0 c.ready.ensures.crash c.install_next.ensures.crash
-
-pub returns-in-Err-NoMemory-clause-crash : goal.returns-in-Err-NoMemory-clause-crash
-returns-in-Err-NoMemory-clause-crash g c =
-    ready_leaves g.D.Disk (g.J.Naming.schema c.args.self.now.kept.line.index) (g.J.Naming.base c.args.self.now.kept.line.index) c.args.self.now.kept.disk c.ready.new.self.disk c.args.self.now.kept.line c.ready.new.self.line c.ready.ensures.crash
-
-pub returns-clause-crash : goal.returns-clause-crash
-returns-clause-crash g c =
-    ready_leaves g.D.Disk (g.J.Naming.schema c.args.self.now.kept.line.index) (g.J.Naming.base c.args.self.now.kept.line.index) c.args.self.now.kept.disk c.ready.new.self.disk c.args.self.now.kept.line c.ready.new.self.line c.ready.ensures.crash
-
-pub returns-in-Ok-clause-ends : goal.returns-in-Ok-clause-ends
-returns-in-Ok-clause-ends g c =
-    let line = c.args.self.now.kept.line in
-    let token = c.args.token.now in
-    let mid = c.ready.new.self in
-    let none : stray_of (g.J.Naming.base line.index) line token ≡ None = search rules in
-    after_job g.J.Naming.base line mid.line c.args.self.now.kept.files mid.files mid.files.log token c.ready.new.token c.args.new (g.D.Disk.faults c.args.self.now.kept.disk) (g.D.Disk.faults mid.disk) (g.D.Disk.faults c.install_next.new.self.disk) c.install_next.result c.install_next.new.self.line c.install_next.new.self.files c.install_next.new.token
-    none c.in-Ok.ensures.ends.0 c.ready.ensures.files c.in-Ok.ensures.ends.2 c.in-Ok.ensures.ends.3 c.install_next.ensures.ends
-
-pub returns-clause-ends : goal.returns-clause-ends
-returns-clause-ends g c =
-    let line = c.args.self.now.kept.line in
-    let token = c.args.token.now in
-    let none : stray_of (g.J.Naming.base line.index) line token ≡ None = search rules in
-    let is : c.in-Err-Fault.field-0 ≡ causes.Fault (record {}) = search rules in
-    let ends : Readies line token (g.D.Disk.faults c.args.self.now.kept.disk) (Err (causes.Fault (record {}))) c.ready.new.self.line c.ready.new.self.files.log c.ready.new.token (g.D.Disk.faults c.ready.new.self.disk) =
-    subst (λ (e : Or Failed). Readies line token (g.D.Disk.faults c.args.self.now.kept.disk) (Err e) c.ready.new.self.line c.ready.new.self.files.log c.ready.new.token (g.D.Disk.faults c.ready.new.self.disk)) is c.in-Err-Fault.ensures.ends in
-    unsettled_job (g.J.Naming.base line.index) line c.args.self.now.kept.files token c.args.new (g.D.Disk.faults c.args.self.now.kept.disk) (g.D.Disk.faults c.ready.new.self.disk) c.ready.new.self.line c.ready.new.self.files c.ready.new.token none ends.0 ends.1 ends.2 ends.3 ends.4
+pub returns-in-Err-clause-crash : goal.returns-in-Err-clause-crash
+returns-in-Err-clause-crash g c =
+    let k = c.args.self.now.kept in
+    let schema = g.J.Naming.schema k.line.index in
+    let base = g.J.Naming.base k.line.index in
+    subst (λ (x : Keeper g.row.D.Denot g.row.J.Denot). LeavesOnly g.D.Disk k.disk x.kept.disk (GivesAny schema base k.line x.kept.line)) (sym c.make_ready.ensures.same)
+    (ready_leaves g.D.Disk schema base k.disk k.disk k.line k.line
+    (leaves_still g.D.Disk k.disk {P = GivesEither schema base k.line.history k.line.waiting} (g.met.D.Disk.only_now k.disk)
+    (gives_now g.D.Disk schema base k.line.history k.line.waiting k.disk k.files c.requires.sound.kept)))
