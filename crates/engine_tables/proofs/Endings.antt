@@ -1,22 +1,24 @@
 -- How engines end: the last tokens of all workers are taken, and what each end leaves stands at the place of its index.
-use Rattle.std.proofs.Common.{◌≡◌, ⊎_elim, ℕ, ◌+◌, ◌-◌, ◌<◌, ◌≤◌, List, [], ◌∷◌, ◌++◌, All, Option, Some, None, length, map, slice_get, refl, ap, sym, subst, ◌∙◌, arith, length-append, length-take}
+use Rattle.std.proofs.Common.{◌≡◌, ⊎_elim, ℕ, ◌+◌, ◌-◌, ◌<◌, ◌≤◌, List, [], ◌∷◌, ◌++◌, All, Option, Some, None, Result, length, map, slice_get, refl, ap, sym, subst, ◌∙◌, arith, length-append, length-take}
 use Rattle.std.proofs.lemmas.List.{length-map, map-append}
 use Rattle.std.proofs.lemmas.List.Elements.{All-cons, All-head, All-nil, All-tail}
 use Rattle.std.proofs.lemmas.Option.{slice_get_within}
 use Rattle.std.specs.List.{flat_map}
 use Rattle.std.specs.Option.{option_to_list}
+use Rattle.srch_base.specs.declared.faults.Or.{Or}
 use Rattle.chunk_store.specs.declared.disk.Disk.{Ghosts as DiskWords}
 use Rattle.commit_outcomes.specs.declared.strayed.Strayed.{Strayed}
 use Rattle.doc_types.specs.declared.schema.Schema.{Schema}
+use Rattle.step_book.specs.Fronts.{FrontValue}
+use Rattle.step_book.specs.Tellings.{AtOpening}
 use Rattle.step_history.specs.History.{Base}
 use Rattle.step_line.specs.Lines.{new_line}
 use Rattle.step_tokens.specs.Tokens.{TokenValue}
 use Rattle.store_keep.specs.Tellings.{AreTokensOf}
 use Rattle.snap_share.specs.Closings.{Closes}
-use Rattle.snap_share.specs.Engines.{EngineValue}
 use Rattle.engine_tables.specs.Endings.{EndingValue, HasEnded, HaveEnded}
 use Rattle.engine_tables.specs.Engines.{ArePlaced, EnginesValue, TableValue}
-use Rattle.engine_tables.specs.Tokens.{AreOf, SitsAt, TokensValue, told_at, told_of, tokens_at}
+use Rattle.engine_tables.specs.Tokens.{AreOf, SeatsDiffer, SitsAt, TokensValue, told_at, told_of, tokens_at}
 use Rattle.engine_tables.specs.declared.ended.Ended.{Ended}
 use Rattle.engine_tables.specs.steps.Lasts.{last_told, last_token, shortened}
 use Rattle.engine_tables.proofs.Looking.{engines_in}
@@ -75,28 +77,28 @@ pub tokens_more : (index workers : ℕ) (xs ys : List TokenValue) → AreTokensO
 tokens_more index workers [] ys of more = more
 tokens_more index workers (x ∷ xs) ys of more = (of.0, of.1, of.2, tokens_more index workers xs ys of.3 more)
 
-module _ {D J : Type 0} (words : DiskWords D) (schema : ℕ → Schema) (base : ℕ → Base) (workers : ℕ) where
+module _ {D J : Type 0} (words : DiskWords D) (schema : ℕ → Schema) (base : ℕ → Base) (opened : ℕ → AtOpening) (workers : ℕ) where
   -- none has ended
-  pub none_ended : (seats : List TokensValue) → HaveEnded {J = J} words schema base 0 workers seats []
+  pub none_ended : (seats : List TokensValue) → HaveEnded {J = J} words schema base opened 0 workers seats []
   none_ended seats = record { many = refl; each = λ place ended at. absurd (cc (at)) }
 
   -- the earlier ones ended, with what was left of the tokens, and then the last one
   pub last_ended : (last : ℕ) (seats : List TokensValue) (all : List (Ended D J)) (ended : Ended D J) → All (AreOf (last + 1) workers) seats
-      → HaveEnded words schema base last workers (map shortened seats) all
-      → HasEnded words schema base last workers (told_at last seats) (tokens_at last seats) ended
-      → HaveEnded words schema base (last + 1) workers seats (all ++ ended ∷ [])
+      → HaveEnded words schema base opened last workers (map shortened seats) all
+      → HasEnded words schema base opened last workers (told_at last seats) (tokens_at last seats) ended
+      → HaveEnded words schema base opened (last + 1) workers seats (all ++ ended ∷ [])
   last_ended last seats all ended of have has = record {
     many = omega (arith, length-append all (ended ∷ []), have.many);
     each = λ place its at.
         ⊎_elim
         (λ (same : (place ≡ length all) × (its ≡ ended)).
         let here : place ≡ last = same.0 ∙ have.many in
-        subst (λ (e : Ended D J). HasEnded words schema base place workers (told_at place seats) (tokens_at place seats) e) (sym same.1)
-        (subst (λ (k : ℕ). HasEnded words schema base k workers (told_at k seats) (tokens_at k seats) ended) (sym here) has))
+        subst (λ (e : Ended D J). HasEnded words schema base opened place workers (told_at place seats) (tokens_at place seats) e) (sym same.1)
+        (subst (λ (k : ℕ). HasEnded words schema base opened k workers (told_at k seats) (tokens_at k seats) ended) (sym here) has))
         (λ (earlier : slice_get all place ≡ Some its).
         let before : place < last = omega (arith, slice_get_within all place its earlier, have.many) in
-        subst (λ (told : List Strayed). HasEnded words schema base place workers told (tokens_at place seats) its) (told_stay place last workers seats before of)
-        (subst (λ (tokens : List TokenValue). HasEnded words schema base place workers (told_at place (map shortened seats)) tokens its) (earlier_stay place last workers seats before of) (have.each place its earlier)))
+        subst (λ (told : List Strayed). HasEnded words schema base opened place workers told (tokens_at place seats) its) (told_stay place last workers seats before of)
+        (subst (λ (tokens : List TokenValue). HasEnded words schema base opened place workers (told_at place (map shortened seats)) tokens its) (earlier_stay place last workers seats before of) (have.each place its earlier)))
         (get_more_cases all ended its place at);
   }
 
@@ -114,29 +116,40 @@ is_last workers tables front last is placed =
     let here = all.each (length front) last.engine (get_end (map (λ (t : TableValue). t.engine) front) last.engine (length front) (sym (length-map front (λ (t : TableValue). t.engine)))) in
     record { index = here.0; own = here.1; before = placed_before workers (map (λ (t : TableValue). t.engine) front) last.engine all; many = omega (arith, ap length is, length-append front (last ∷ [])) }
 
+-- an engine's end, by what it was given
+pub closed_as : {D : Type 0} (J : Type 0) (words : DiskWords D) (schema : ℕ → Schema) (base : ℕ → Base) (opened : ℕ → AtOpening) (index place own workers : ℕ) (given told : List Strayed) (lent tokens : List TokenValue) (disk : D) (note : FrontValue) (answer : Result (Unit {0}) (Or Strayed)) (new : List TokenValue)
+    → index ≡ place → own ≡ workers → given ≡ told → lent ≡ tokens → Closes words schema base opened index own given lent disk note answer new → HasEnded {J = J} words schema base opened place workers told tokens (record { disk = disk; note = Some note; answer = answer })
+closed_as J words schema base opened index place own workers given told lent tokens disk note answer new index_is own_is given_is lent_is closes = (
+  note,
+  refl,
+  new,
+  subst (λ (i : ℕ). Closes words schema base opened i workers told tokens disk note answer new) index_is
+      (subst (λ (w : ℕ). Closes words schema base opened index w told tokens disk note answer new) own_is
+      (subst (λ (n : List Strayed). Closes words schema base opened index own n tokens disk note answer new) given_is
+      (subst (λ (ts : List TokenValue). Closes words schema base opened index own given ts disk note answer new) lent_is closes))),
+)
+
 -- the earlier engines have ended, and then the last one
-pub end_one : {D J : Type 0} (words : DiskWords D) (schema : ℕ → Schema) (base : ℕ → Base) (workers count last : ℕ) (seats left : List TokensValue) (before all : List (Ended D J)) (ended : Ended D J) (told : List Strayed) (tokens new : List TokenValue) (engine : EngineValue)
+pub end_one : {D J : Type 0} (words : DiskWords D) (schema : ℕ → Schema) (base : ℕ → Base) (opened : ℕ → AtOpening) (workers count last place : ℕ) (seats left : List TokensValue) (before all : List (Ended D J)) (ended : Ended D J) (told : List Strayed) (tokens : List TokenValue)
     → count ≡ last + 1
     → All (AreOf count workers) seats
     → left ≡ map shortened seats
     → told ≡ flat_map last_told seats
     → tokens ≡ flat_map last_token seats
-    → engine.index ≡ last
-    → engine.workers ≡ workers
-    → HaveEnded words schema base last workers left before
-    → Closes words schema base engine.index engine.workers told tokens ended.disk ended.answer new
+    → place ≡ last
+    → HaveEnded words schema base opened last workers left before
+    → HasEnded words schema base opened place workers told tokens ended
     → all ≡ before ++ ended ∷ []
-    → HaveEnded words schema base count workers seats all
-end_one {D} {J} words schema base workers count last seats left before all ended told tokens new engine count_is of left_is told_is tokens_are index own have closes all_is =
+    → HaveEnded words schema base opened count workers seats all
+end_one {D} {J} words schema base opened workers count last place seats left before all ended told tokens count_is of left_is told_is tokens_are place_is have has all_is =
     let of' : All (AreOf (last + 1) workers) seats = subst (λ (n : ℕ). All (AreOf n workers) seats) count_is of in
-    let closed : Closes words schema base last workers (told_at last seats) (tokens_at last seats) ended.disk ended.answer new =
-    subst (λ (ns : List Strayed). Closes words schema base last workers ns (tokens_at last seats) ended.disk ended.answer new) (told_is ∙ told_are last workers seats of')
-    (subst (λ (ts : List TokenValue). Closes words schema base last workers told ts ended.disk ended.answer new) (tokens_are ∙ lasts_are last workers seats of')
-    (subst (λ (w : ℕ). Closes words schema base last w told tokens ended.disk ended.answer new) own
-    (subst (λ (i : ℕ). Closes words schema base i engine.workers told tokens ended.disk ended.answer new) index closes))) in
-    let whole : HaveEnded words schema base (last + 1) workers seats (before ++ ended ∷ []) =
-    last_ended {D = D} {J = J} words schema base workers last seats before ended of' (subst (λ (s : List TokensValue). HaveEnded words schema base last workers s before) left_is have) (new, closed) in
-    subst (λ (n : ℕ). HaveEnded words schema base n workers seats all) (sym count_is) (subst (λ (es : List (Ended D J)). HaveEnded words schema base (last + 1) workers seats es) (sym all_is) whole)
+    let here : HasEnded words schema base opened last workers (told_at last seats) (tokens_at last seats) ended =
+    subst (λ (ns : List Strayed). HasEnded words schema base opened last workers ns (tokens_at last seats) ended) (told_is ∙ told_are last workers seats of')
+    (subst (λ (ts : List TokenValue). HasEnded words schema base opened last workers told ts ended) (tokens_are ∙ lasts_are last workers seats of')
+    (subst (λ (i : ℕ). HasEnded words schema base opened i workers told tokens ended) place_is has)) in
+    let whole : HaveEnded words schema base opened (last + 1) workers seats (before ++ ended ∷ []) =
+    last_ended {D = D} {J = J} words schema base opened workers last seats before ended of' (subst (λ (s : List TokensValue). HaveEnded words schema base opened last workers s before) left_is have) here in
+    subst (λ (n : ℕ). HaveEnded words schema base opened n workers seats all) (sym count_is) (subst (λ (es : List (Ended D J)). HaveEnded words schema base opened (last + 1) workers seats es) (sym all_is) whole)
 
 -- tokens of engines that end are of their indexes and workers
 pub all_sit : (tables : List TableValue) (workers : ℕ) (engines : EnginesValue) (inside : List TokensValue) (indexes most : ℕ) (ending : EndingValue) → engines_in tables workers ≡ engines → record { indexes = indexes; workers = most; seats = inside } ≡ ending → All (SitsAt engines) ending.seats → All (AreOf (length tables) workers) inside
@@ -144,3 +157,7 @@ all_sit tables workers engines inside indexes most ending is ending_is sit =
     let here : All (SitsAt engines) inside = subst (λ (e : EndingValue). All (SitsAt engines) e.seats) (sym ending_is) sit in
     let of : All (AreOf (length (map (λ (t : TableValue). t.conf) tables)) workers) inside = subst (λ (v : EnginesValue). All (SitsAt v) inside) (sym is) here in
     subst (λ (n : ℕ). All (AreOf n workers) inside) (length-map tables (λ (t : TableValue). t.conf)) of
+
+-- and no two of them of one worker
+pub all_differ : (inside : List TokensValue) (indexes most : ℕ) (ending : EndingValue) → record { indexes = indexes; workers = most; seats = inside } ≡ ending → SeatsDiffer ending.seats → SeatsDiffer inside
+all_differ inside indexes most ending is differ = subst (λ (e : EndingValue). SeatsDiffer e.seats) (sym is) differ

@@ -6,6 +6,8 @@ use Rattle.srch_base.specs.declared.faults.NoMemory.{NoMemory}
 use Rattle.srch_base.specs.declared.faults.Or.{Or}
 use Rattle.srch_base.specs.declared.faults.Or.TheVariants as causes
 use Rattle.commit_outcomes.specs.declared.outcome.Full.{Full}
+use Rattle.commit_outcomes.specs.declared.outcome.FullKind.{FullKind}
+use Rattle.commit_outcomes.specs.declared.outcome.FullKind.TheVariants as kinds
 use Rattle.commit_outcomes.specs.declared.strayed.Strayed.{Strayed}
 use Rattle.doc_types.specs.declared.schema.Schema.{Schema}
 use Rattle.doc_types.specs.Snapshots.{SnapshotValue}
@@ -19,16 +21,21 @@ use Rattle.step_book.proofs.Prefixes.{prefix_trans}
 use Rattle.step_history.specs.History.{AreOf, Base, IsGood, Reshape, last_snapshot}
 use Rattle.step_history.specs.declared.job.Job.{Job}
 use Rattle.step_tokens.specs.Tokens.{TokenValue}
+use Rattle.store_keep.specs.Charges.{charge_of_job, charge_of_limit}
+use Rattle.store_keep.specs.declared.charge.Charge.{Charge}
+use Rattle.store_keep.specs.declared.charge.Charge.TheVariants as charges
 use Rattle.store_keep.specs.declared.install_fault.InstallFault.{InstallFault}
 use Rattle.store_keep.specs.declared.install_fault.InstallFault.TheVariants as faults
 use Rattle.snap_share.specs.Answers.{seen_by}
-use Rattle.snap_share.specs.Reshapes.{IsReshaped, ReshapeAnswers}
-use Rattle.engine_tables.specs.Outcomes.{IsShaped, TellsEnd, job_outcome_of, numbers_of_job}
+use Rattle.snap_share.specs.Counts.{Shares}
+use Rattle.snap_share.specs.Reshapes.{IsJobInDoubt, IsReshaped, ReshapeAnswers}
+use Rattle.snap_share.proofs.Sharing.{shares_stay}
+use Rattle.engine_tables.specs.Outcomes.{IsShaped, IsUnended, TellsEnd, charge_by_job, job_outcome_of, numbers_of_job}
 use Rattle.engine_tables.specs.Tokens.{AreInOrder, TokensValue}
 use Rattle.engine_tables.specs.Workers.{GrowAll, Grows, HasSeen, ReshapesBy, documents_of}
 use Rattle.store_keep.proofs.Following.{last_of}
 use Rattle.engine_tables.proofs.Sitting.{long_zip}
-use Rattle.engine_tables.proofs.Telling.{kept, note_of}
+use Rattle.engine_tables.proofs.Telling.{grows_so, kept, note_of}
 use Rattle.engine_tables.proofs.Using.{IsUsed, grow_at, is_used, with_token}
 
 -- a token that grew, and grew again
@@ -50,7 +57,7 @@ zip_then (x ∷ xs) (y ∷ ys) (z ∷ zs) first next = (grows_then x y z first.0
 pub grow_then : (a b c : TokensValue) → GrowAll a b → GrowAll b c → GrowAll a c
 grow_then a b c first next = (next.0 ∙ first.0, zip_then a.list b.list c.list first.1 next.1, next.2 ∙ first.2)
 
--- want of memory after tokens grew leaves them grown
+-- out of memory after tokens grew, they are grown
 pub fails_then : (a b c : TokensValue) (result : Result JobOutcome NoMemory) → GrowAll a b → OnErr result (GrowAll b c) → OnErr result (GrowAll a c)
 fails_then a b c (Ok outcome) first next = tt
 fails_then a b c (Err none) first next = grow_then a b c first next
@@ -73,41 +80,72 @@ shaped_so base old new after from is = record {
   before = is.before;
 }
 
+unended_so : (base : Base) (old : TokenValue) (new : NewChunkValue) (after : TokenValue) → new.from ≡ last_snapshot base old.seen → IsJobInDoubt new after → IsUnended base new.job old after
+unended_so base old new after from is = record {
+  snapshot = is.snapshot;
+  entered = subst (λ (s : SnapshotValue). after.entered ≡ Some (after.seen ++ Reshape new.job s.number is.snapshot ∷ [])) from is.entered;
+}
+
+abbrev said : JobOutcome → Result JobOutcome NoMemory
+said outcome = Ok outcome
+
+outcome_is : (a b : JobOutcome) → said a ≡ said b → a ≡ b
+outcome_is a b is = cc (is)
+
+-- an answer is charged as its outcome
+charged_alike : {J : Type 0} (answer : Result FrontValue (InstallFault J)) (outcome : JobOutcome) → job_outcome_of {J = J} answer ≡ Ok outcome → charge_of_job {J = J} answer ≡ charge_by_job outcome
+charged_alike (Ok note) outcome is = ap charge_by_job (outcome_is outcomes.Shaped outcome is)
+charged_alike (Err faults.NoMemory) outcome is = absurd (cc (is))
+charged_alike (Err (faults.Strayed numbers note)) outcome is = ap charge_by_job (outcome_is (outcomes.Strayed numbers) outcome is)
+charged_alike (Err (faults.Overtaken shape note)) outcome is = ap charge_by_job (outcome_is (outcomes.Overtaken shape) outcome is)
+charged_alike (Err (faults.Full full)) outcome is = ap charge_by_job (outcome_is (outcomes.Full full) outcome is)
+charged_alike (Err faults.DiskFault) outcome is = ap charge_by_job (outcome_is outcomes.Refused outcome is)
+charged_alike (Err faults.InDoubt) outcome is = ap charge_by_job (outcome_is outcomes.InDoubt outcome is)
+
+-- no chunk that finds no room is a stop
+free_limit : (job : Job) (from : SnapshotValue) (what : FullKind) (at need : ℕ) → Passes job from what at need → charge_of_limit what ≡ charges.Free
+free_limit job from kinds.Log at need passes = absurd passes
+free_limit job from kinds.Documents at need passes = absurd passes
+free_limit job from kinds.Chunks at need passes = refl
+free_limit job from kinds.Images at need passes = refl
+free_limit job from kinds.Numbers at need passes = absurd passes
+free_limit job from kinds.Root at need passes = absurd passes
+
 as_told : (schema : Schema) (base : Base) (old : TokenValue) (job : Job) (new : TokenValue) (outcome its : JobOutcome) → its ≡ outcome → TellsEnd schema base old job its new → TellsEnd schema base old job outcome new
 as_told schema base old job new outcome its same tells = subst (λ (o : JobOutcome). TellsEnd schema base old job o new) same tells
 
 -- no answer changes whose the token is
 pub job_stays_own : {J : Type 0} (schema : Schema) (base : Base) (old : TokenValue) (new : NewChunkValue) (after : TokenValue) (answer : Result FrontValue (InstallFault J)) → ReshapeAnswers {J = J} schema base old new answer after
     → (after.index ≡ old.index) × (after.worker ≡ old.worker)
-job_stays_own schema base old new after (Ok note) says = kept schema base old after old.made says.0
-job_stays_own schema base old new after (Err faults.NoMemory) says = kept schema base old after old.made says
-job_stays_own schema base old new after (Err (faults.Strayed numbers)) says = (ap (λ (t : TokenValue). t.index) says.0, ap (λ (t : TokenValue). t.worker) says.0)
-job_stays_own schema base old new after (Err (faults.Overtaken shape note)) says = kept schema base old after old.made says.0
-job_stays_own schema base old new after (Err (faults.Full full)) says = kept schema base old after old.made says.0
-job_stays_own schema base old new after (Err faults.DiskFault) says = kept schema base old after old.made says
-job_stays_own schema base old new after (Err faults.InDoubt) says = kept schema base old after old.made says
+job_stays_own schema base old new after (Ok note) says = kept schema base old after old.made old.entered says.0
+job_stays_own schema base old new after (Err faults.NoMemory) says = kept schema base old after old.made old.entered says
+job_stays_own schema base old new after (Err (faults.Strayed numbers note)) says = (ap (λ (t : TokenValue). t.index) says.0, ap (λ (t : TokenValue). t.worker) says.0)
+job_stays_own schema base old new after (Err (faults.Overtaken shape note)) says = kept schema base old after old.made old.entered says.0
+job_stays_own schema base old new after (Err (faults.Full full)) says = kept schema base old after old.made old.entered says.0
+job_stays_own schema base old new after (Err faults.DiskFault) says = kept schema base old after old.made old.entered says
+job_stays_own schema base old new after (Err faults.InDoubt) says = kept schema base old after old.made after.entered says.0
 
 module _ {J : Type 0} (schema : Schema) (base : Base) (old : TokenValue) (new : NewChunkValue) (after : TokenValue) (from : new.from ≡ last_snapshot base old.seen) where
   -- an answer with an outcome says what the outcome does
   tells_so : (answer : Result FrontValue (InstallFault J)) (outcome : JobOutcome) → ReshapeAnswers {J = J} schema base old new answer after → job_outcome_of {J = J} answer ≡ Ok outcome → TellsEnd schema base old new.job outcome after
   tells_so (Ok note) outcome says is = as_told schema base old new.job after outcome outcomes.Shaped (cc (is)) (says.0, note_of after note says.1, shaped_so base old new after from says.2)
   tells_so (Err faults.NoMemory) outcome says is = absurd (cc (is))
-  tells_so (Err (faults.Strayed numbers)) outcome says is = as_told schema base old new.job after outcome (outcomes.Strayed numbers) (cc (is)) says
+  tells_so (Err (faults.Strayed numbers note)) outcome says is = as_told schema base old new.job after outcome (outcomes.Strayed numbers) (cc (is)) (says.0, (note, says.1))
   tells_so (Err (faults.Overtaken shape note)) outcome says is =
       as_told schema base old new.job after outcome (outcomes.Overtaken shape) (cc (is)) (says.0, note_of after note says.1, says.2, subst (λ (s : SnapshotValue). s.shape < shape) from says.3)
   tells_so (Err (faults.Full full)) outcome says is = as_told schema base old new.job after outcome (outcomes.Full full) (cc (is)) says
   tells_so (Err faults.DiskFault) outcome says is = as_told schema base old new.job after outcome outcomes.Refused (cc (is)) says
-  tells_so (Err faults.InDoubt) outcome says is = as_told schema base old new.job after outcome outcomes.InDoubt (cc (is)) says
+  tells_so (Err faults.InDoubt) outcome says is = as_told schema base old new.job after outcome outcomes.InDoubt (cc (is)) (says.0, unended_so base old new after from says.1)
 
   -- an answer without one leaves the token with what it had seen, or more
-  grown_so : (answer : Result FrontValue (InstallFault J)) (none : NoMemory) → ReshapeAnswers {J = J} schema base old new answer after → job_outcome_of {J = J} answer ≡ Err none → Grows old after
-  grown_so (Ok note) none says is = absurd (cc (is))
-  grown_so (Err faults.NoMemory) none says is = record { is = says.is; seen = says.seen }
-  grown_so (Err (faults.Strayed numbers)) none says is = absurd (cc (is))
-  grown_so (Err (faults.Overtaken shape note)) none says is = absurd (cc (is))
-  grown_so (Err (faults.Full full)) none says is = absurd (cc (is))
-  grown_so (Err faults.DiskFault) none says is = absurd (cc (is))
-  grown_so (Err faults.InDoubt) none says is = absurd (cc (is))
+  grown_so : (answer : Result FrontValue (InstallFault J)) (none : NoMemory) → ReshapeAnswers {J = J} schema base old new answer after → Shares (charge_of_job {J = J} answer) old after → job_outcome_of {J = J} answer ≡ Err none → Grows old after
+  grown_so (Ok note) none says shares is = absurd (cc (is))
+  grown_so (Err faults.NoMemory) none says shares is = grows_so schema base old after says shares
+  grown_so (Err (faults.Strayed numbers note)) none says shares is = absurd (cc (is))
+  grown_so (Err (faults.Overtaken shape note)) none says shares is = absurd (cc (is))
+  grown_so (Err (faults.Full full)) none says shares is = absurd (cc (is))
+  grown_so (Err faults.DiskFault) none says shares is = absurd (cc (is))
+  grown_so (Err faults.InDoubt) none says shares is = absurd (cc (is))
 
 -- what the token at a place has seen, by what is seen of the index
 pub from_seen : (schema : ℕ → Schema) (base : ℕ → Base) (tokens : TokensValue) (place : ℕ) (own : FrontValue) (token : TokenValue) (from : SnapshotValue) → HasSeen schema base tokens place own → slice_get tokens.list place ≡ Some token
@@ -149,16 +187,17 @@ pub record EndsBy {J : Type 0} (schema : ℕ → Schema) (base : ℕ → Base) (
   pub began : own ≡ seen_by before
   pub from : new.from ≡ last_snapshot (base place) before.seen
   pub says : ReshapeAnswers {J = J} (schema place) (base place) before new answer after
+  pub shares : Shares (charge_of_job {J = J} answer) before after
 
 pub ends_by : {J : Type 0} (schema : ℕ → Schema) (base : ℕ → Base) (view old : TokensValue) (n place index : ℕ) (before after : TokenValue) (new : NewChunkValue) (answer : Result FrontValue (InstallFault J)) → view ≡ old → n ≡ length view.list → AreInOrder view
-    → place < length old.list → before ≡ slice_index_or view.list place before → index ≡ place → ReshapeAnswers {J = J} (schema index) (base index) before new answer after
+    → place < length old.list → before ≡ slice_index_or view.list place before → index ≡ place → ReshapeAnswers {J = J} (schema index) (base index) before new answer after → Shares (charge_of_job {J = J} answer) before after
     → (seen : (own : FrontValue) × HasSeen schema base old place own × (new.from ≡ documents_of base own)) → EndsBy {J = J} schema base view old place before after new answer seen.0
-ends_by {J} schema base view old n place index before after new answer is long order within read here says (own, has, from) =
+ends_by {J} schema base view old n place index before after new answer is long order within read here says shares (own, has, from) =
     let told = subst (λ (i : ℕ). ReshapeAnswers {J = J} (schema i) (base i) before new answer after) here says in
     let stays = job_stays_own {J = J} (schema place) (base place) before new after answer told in
     let used = is_used view old n place before after is long order within read stays.0 stays.1 in
     let began = began_so schema base view old place before after used (own, has) new.from from in
-    record { used = used; began = began.0; from = began.1; says = told }
+    record { used = used; began = began.0; from = began.1; says = told; shares = shares }
 
 -- the token that is about to be used has seen where the job began
 pub had_seen : (schema : ℕ → Schema) (base : ℕ → Base) (view old : TokensValue) (n place index : ℕ) (before : TokenValue) (new : NewChunkValue) → view ≡ old → n ≡ length view.list → AreInOrder view
@@ -190,6 +229,7 @@ module _ {J : Type 0} (schema : ℕ → Schema) (base : ℕ → Base) (view old 
         of = index;
         good = subst (λ (i : ℕ). IsGood (schema i) (base i) after.seen) index good;
         tells = inl (subst (λ (s : SnapshotValue). HasRoom new.job s) by.from room, tells_so {J = J} (schema place) (base place) before new after by.from answer outcome by.says is);
+        shares = subst (λ (charge : Charge). Shares charge before after) (charged_alike {J = J} answer outcome is) by.shares;
       }
 
   pub job_fails : (result : Result JobOutcome NoMemory) (none : NoMemory) → job_outcome_of {J = J} answer ≡ Err none → OnErr result (GrowAll old (with_token view place after))
@@ -197,7 +237,7 @@ module _ {J : Type 0} (schema : ℕ → Schema) (base : ℕ → Base) (view old 
   job_fails (Err other) none is =
       let used = by.used in
       subst (λ (o : TokensValue). GrowAll o (with_token view place after)) used.view_is
-      (grow_at view place before after used.at (grown_so {J = J} (schema place) (base place) before new after by.from answer none by.says is))
+      (grow_at view place before after used.at (grown_so {J = J} (schema place) (base place) before new after by.from answer none by.says by.shares is))
 
 -- there is no room, by an answer that says so
 pub full_by : (job : Job) (from : SnapshotValue) (error : Or Full) (full : Full) → error ≡ causes.Fault full → Builds job from (Err error) → Passes job from full.what full.at full.need
@@ -220,4 +260,5 @@ no_room schema base tokens place job full own from had has told is passes =
       of = has.of;
       good = has.good;
       tells = inr (subst (λ (s : SnapshotValue). Passes job s full.what full.at full.need) here.1 passes, refl);
+      shares = subst (λ (charge : Charge). Shares charge has.token has.token) (sym (free_limit job from full.what full.at full.need passes)) (shares_stay has.token);
     }

@@ -18,5 +18,7 @@ pub mod Composing
 pub mod Looking
 -- a worker's store between its calls
 pub mod Sitting
+-- the workers' numbers
+pub mod Numbering
 -- how tokens are dealt to workers
 pub mod Dealing

@@ -10,8 +10,9 @@ use Rattle.doc_types.specs.declared.schema.Schema.{Schema}
 use Rattle.doc_types.specs.Schemas.{AreZones, IsSchema}
 use Rattle.logbook.specs.Pages.{Book}
 use Rattle.index_conf.specs.declared.conf.IndexConf.{IndexConf}
+use Rattle.step_book.specs.Tellings.{AtOpening}
 use Rattle.step_history.specs.History.{Base}
-use Rattle.store_keep.specs.Names.{new_token}
+use Rattle.step_line.specs.Lines.{new_token}
 use Rattle.store_keep.specs.declared.opening.Opened.{Opened}
 use Rattle.snap_share.specs.Engines.{EngineValue}
 use Rattle.engine_tables.specs.Engines.{ArePlaced, engine_over}
@@ -39,17 +40,20 @@ pub all_end : {A : Type 0} (P : A → Type 0) (xs : List A) (y : A) → All P (x
 all_end P xs y all = subst P (get_or-append_seam xs y [] y) (all (length xs) y (omega (arith, length-append xs (y ∷ []))))
 
 -- stores with their names
-module _ {D : Type 0} (words : DiskWords D) (book : ℕ → Book) (schema : ℕ → Schema) (base : ℕ → Base) (confs : List IndexConf) (stores : List (Opened D)) (conf : IndexConf) (store : Opened D) where
-  pub as_long : AreNamed words book schema base (confs ++ conf ∷ []) (stores ++ store ∷ []) → length stores ≡ length confs
+module _ {D : Type 0} (words : DiskWords D) (book faults stops : ℕ → Book) (schema : ℕ → Schema) (base : ℕ → Base) (opened : ℕ → AtOpening) (confs : List IndexConf) (stores : List (Opened D)) (conf : IndexConf) (store : Opened D) where
+  pub as_long : AreNamed words book faults stops schema base opened (confs ++ conf ∷ []) (stores ++ store ∷ []) → length stores ≡ length confs
   as_long named = omega (arith, named.many, length-append stores (store ∷ []), length-append confs (conf ∷ []))
 
-  pub named_before : AreNamed words book schema base (confs ++ conf ∷ []) (stores ++ store ∷ []) → AreNamed words book schema base confs stores
+  pub named_before : AreNamed words book faults stops schema base opened (confs ++ conf ∷ []) (stores ++ store ∷ []) → AreNamed words book faults stops schema base opened confs stores
   named_before named = record {
     many = as_long named;
     columns = λ place its at. named.columns place its (get_more confs conf its place at);
     books = λ place its at. named.books place its (get_more stores store its place at);
+    fault_books = λ place its at. named.fault_books place its (get_more stores store its place at);
+    stop_books = λ place its at. named.stop_books place its (get_more stores store its place at);
     bases = λ place its at. named.bases place its (get_more stores store its place at);
-    opened = λ place its at. named.opened place its (get_more stores store its place at);
+    openings = λ place its at. named.openings place its (get_more stores store its place at);
+    are_opened = λ place its at. named.are_opened place its (get_more stores store its place at);
   }
 
   pub served_before : AreServed (confs ++ conf ∷ []) → AreServed confs
@@ -59,7 +63,7 @@ module _ {D : Type 0} (words : DiskWords D) (book : ℕ → Book) (schema : ℕ 
     zones = all_front (λ (c : IndexConf). c.rules.zones ≡ c.schema.zones) confs conf served.zones;
   }
 
-  pub named_last : AreNamed words book schema base (confs ++ conf ∷ []) (stores ++ store ∷ []) → AreServed (confs ++ conf ∷ []) → IsNamedAt words book schema base (length confs) conf store
+  pub named_last : AreNamed words book faults stops schema base opened (confs ++ conf ∷ []) (stores ++ store ∷ []) → AreServed (confs ++ conf ∷ []) → IsNamedAt words book faults stops schema base opened (length confs) conf store
   named_last named served =
       let here : slice_get (confs ++ conf ∷ []) (length confs) ≡ Some conf = get_end confs conf (length confs) refl in
       let there : slice_get (stores ++ store ∷ []) (length confs) ≡ Some store = get_end stores store (length confs) (sym (as_long named)) in
@@ -69,8 +73,11 @@ module _ {D : Type 0} (words : DiskWords D) (book : ℕ → Book) (schema : ℕ 
         served = is_schema;
         zones = subst AreZones (sym (all_end (λ (c : IndexConf). c.rules.zones ≡ c.schema.zones) confs conf served.zones)) is_schema.zones;
         book_is = named.books (length confs) store there;
+        faults_are = named.fault_books (length confs) store there;
+        stops_are = named.stop_books (length confs) store there;
         base_is = named.bases (length confs) store there;
-        opened = named.opened (length confs) store there;
+        opened_is = named.openings (length confs) store there;
+        is_opened = named.are_opened (length confs) store there;
       }
 
 -- engines over stores
@@ -117,9 +124,9 @@ placed_before workers engines engine placed = record { each = λ k its at. place
 
 pub length_new : (worker indexes : ℕ) → length (new_tokens worker indexes) ≡ indexes
 length_new worker zero = refl
-length_new worker (suc indexes) = omega (arith, length-append (new_tokens worker indexes) (new_token indexes worker ∷ []), length_new worker indexes)
+length_new worker (suc indexes) = omega (arith, length-append (new_tokens worker indexes) (new_token indexes worker [] ∷ []), length_new worker indexes)
 
-pub new_more : (worker indexes : ℕ) → new_tokens worker (indexes + 1) ≡ new_tokens worker indexes ++ new_token indexes worker ∷ []
+pub new_more : (worker indexes : ℕ) → new_tokens worker (indexes + 1) ≡ new_tokens worker indexes ++ new_token indexes worker [] ∷ []
 new_more worker indexes = rw (add-one indexes) refl
 
 pub none_more : (indexes : ℕ) → none_told (indexes + 1) ≡ none_told indexes ++ None ∷ []

@@ -6,8 +6,8 @@ use Rattle.commit_outcomes.specs.declared.strayed.Strayed.{Strayed}
 use Rattle.doc_types.specs.declared.schema.Schema.{Schema}
 use Rattle.doc_types.specs.Snapshots.{AreLayers, SnapshotValue}
 use Rattle.step_book.specs.Fronts.{FrontValue}
-use Rattle.step_history.specs.History.{Base, IsGood, last_snapshot}
-use Rattle.step_tokens.specs.Tokens.{TokenValue}
+use Rattle.step_history.specs.History.{Base, IsGood, Step, last_snapshot}
+use Rattle.step_tokens.specs.Tokens.{IsSameBut, TokenValue}
 use Rattle.snap_share.specs.Answers.{seen_by}
 use Rattle.engine_tables.specs.Tokens.{AreInOrder, TokensValue}
 use Rattle.engine_tables.specs.Workers.{Grows, GrowAll, HasSeen, documents_of}
@@ -18,12 +18,15 @@ use Rattle.engine_tables.proofs.Places.{get_set_cases, get_set_same, zip_set}
 abbrev pub with_token : TokensValue → ℕ → TokenValue → TokensValue
 with_token old place token = record old { list = slice_set old.list place token }
 
--- a token of the same index and worker, for as many commits
-pub same_but : (old new : TokenValue) → new.index ≡ old.index → new.worker ≡ old.worker → new.made ≡ old.made → new ≡ record old { seen = new.seen }
-same_but old new index worker made =
-    ap (λ (i : ℕ). record { index = i; worker = new.worker; seen = new.seen; made = new.made }) index
-    ∙ ap (λ (w : ℕ). record { index = old.index; worker = w; seen = new.seen; made = new.made }) worker
-    ∙ ap (λ (m : ℕ). record { index = old.index; worker = old.worker; seen = new.seen; made = m }) made
+-- a token of which all but what it has seen is as before
+pub same_but : (old new : TokenValue) → IsSameBut old new → new ≡ record old { seen = new.seen }
+same_but old new same =
+    ap (λ (i : ℕ). record new { index = i }) same.index
+    ∙ ap (λ (w : ℕ). record new { index = old.index; worker = w }) same.worker
+    ∙ ap (λ (m : ℕ). record new { index = old.index; worker = old.worker; made = m }) same.made
+    ∙ ap (λ (f : List ℕ). record new { index = old.index; worker = old.worker; made = old.made; faults = f }) same.faults
+    ∙ ap (λ (s : List ℕ). record old { seen = new.seen; stops = s; entered = new.entered }) same.stops
+    ∙ ap (λ (e : Option (List Step)). record old { seen = new.seen; entered = e }) same.entered
 
 -- a token that was used stays in its place
 pub in_order_still : (old : TokensValue) (place : ℕ) (before after : TokenValue) → AreInOrder old → slice_get old.list place ≡ Some before → after.index ≡ before.index → after.worker ≡ before.worker → AreInOrder (with_token old place after)
@@ -83,10 +86,10 @@ module _ (view old : TokensValue) (place : ℕ) (before after : TokenValue) (use
   pub used_index : before.index ≡ place
   used_index = (used.order.each place before used.at).0
 
-  pub used_grows : after.made ≡ before.made → IsPrefix before.seen after.seen → GrowAll old (with_token view place after)
-  used_grows made seen =
+  pub used_grows : IsSameBut before after → IsPrefix before.seen after.seen → GrowAll old (with_token view place after)
+  used_grows same seen =
       subst (λ (o : TokensValue). GrowAll o (with_token view place after)) used.view_is
-      (grow_at view place before after used.at (record { is = same_but before after used.index used.worker made; seen = seen }))
+      (grow_at view place before after used.at (record { is = same_but before after same; seen = seen }))
 
   -- what was shown is the last snapshot of what is seen then
   pub used_shows : (schema : ℕ → Schema) (base : ℕ → Base) (shown : SnapshotValue) → shown ≡ last_snapshot (base before.index) after.seen → IsGood (schema before.index) (base before.index) after.seen → AreLayers shown.layers

@@ -1,10 +1,10 @@
 -- Tokens: a worker's tokens of all indexes.
-use Rattle.std.specs.Prelude.{◌≡◌, ◌<◌, ◌≤◌, ℕ, zero, suc, List, [], ◌∷◌, ◌++◌, length, Option, Some, None, slice_get}
-use Rattle.std.specs.List.{flat_map}
+use Rattle.std.specs.Prelude.{◌≡◌, ◌<◌, ◌≤◌, ◌==◌, ℕ, zero, suc, List, [], ◌∷◌, ◌++◌, length, map, Option, Some, None, slice_get}
+use Rattle.std.specs.List.{IsDistinct, flat_map}
 use Rattle.std.specs.Option.{option_to_list}
 use Rattle.commit_outcomes.specs.declared.strayed.Strayed.{Strayed}
+use Rattle.step_line.specs.Lines.{new_token}
 use Rattle.step_tokens.specs.Tokens.{TokenValue}
-use Rattle.store_keep.specs.Names.{new_token}
 use Rattle.engine_tables.specs.Engines.{EnginesValue}
 
 -- Whose they are, a token of each index, in their order, and of each index the first contradiction that a commit or a job of the
@@ -29,10 +29,14 @@ pub record AreOf (indexes workers : ℕ) (tokens : TokensValue) : Type 0 where
 abbrev pub SitsAt : EnginesValue → TokensValue → Type 0
 SitsAt engines = AreOf (length engines.confs) engines.workers
 
+-- No two of these are of one worker.
+pub record SeatsDiffer (seats : List TokensValue) : Type 0 where
+  pub apart : IsDistinct (λ (one other : ℕ). one == other) (map (λ seat. seat.worker) seats)
+
 -- a worker's tokens of so many indexes, which have seen no step
 abbrev pub new_tokens : ℕ → ℕ → List TokenValue
 new_tokens worker zero = []
-new_tokens worker (suc indexes) = new_tokens worker indexes ++ new_token indexes worker ∷ []
+new_tokens worker (suc indexes) = new_tokens worker indexes ++ new_token indexes worker [] ∷ []
 
 -- no contradiction was told of any of so many indexes
 abbrev pub none_told : ℕ → List (Option Strayed)

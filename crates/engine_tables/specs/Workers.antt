@@ -14,10 +14,11 @@ use Rattle.step_book.specs.Fronts.{FrontValue}
 use Rattle.step_history.specs.History.{Base, IsGood, last_snapshot}
 use Rattle.step_tokens.specs.Tokens.{TokenValue}
 use Rattle.snap_share.specs.Answers.{seen_by}
+use Rattle.snap_share.specs.Counts.{Shares}
 use Rattle.ql_session.specs.Events.{StoreWords}
 use Rattle.ql_answers.specs.declared.job_outcome.JobOutcome.{JobOutcome}
 use Rattle.step_history.specs.declared.job.Job.{Job}
-use Rattle.engine_tables.specs.Outcomes.{Tells, TellsJob, numbers_of, numbers_of_job}
+use Rattle.engine_tables.specs.Outcomes.{Tells, TellsJob, charge_by, charge_by_job, numbers_of, numbers_of_job}
 use Rattle.engine_tables.specs.Tokens.{TokensValue}
 
 -- The indexes as they are configured, and the worker's tokens of them.
@@ -48,8 +49,8 @@ pub record HasSeen (schema : ℕ → Schema) (base : ℕ → Base) (tokens : Tok
   pub layers : AreLayers (documents_of base front).layers
 
 -- These operations were to be committed to the index at this place by the worker's token of it. The outcome says what became of them
--- over the front, which is what the token has seen then, a good history. The other tokens are as they were. Where it is the first
--- contradiction that the worker was told of the index, it is kept.
+-- over the front, which is what the token has seen then, a good history; the token counts a fault or a stop where the outcome is one. The
+-- other tokens are as they were. Where it is the first contradiction that the worker was told of the index, it is kept.
 pub record CommitsBy (schema : ℕ → Schema) (base : ℕ → Base) (old : TokensValue) (place : ℕ) (ops : List TxnOp) (outcome : CommitOutcome) (front : FrontValue) (new : TokensValue) : Type 0 where
   pub before : TokenValue
   pub after : TokenValue
@@ -62,10 +63,12 @@ pub record CommitsBy (schema : ℕ → Schema) (base : ℕ → Base) (old : Toke
   pub of : front.index ≡ place
   pub good : IsGood (schema place) (base place) front.steps
   pub tells : Tells (schema place) (base place) before ops outcome after
+  pub shares : Shares (charge_by outcome) before after
 
 -- The worker did this job over the index at this place, begun over its own front, which is all that its token had seen of the index.
--- The outcome says what became of it over the front that the token has seen then, a good history. The other tokens are as they were.
--- Where it is the first contradiction that the worker was told of the index, it is kept.
+-- The outcome says what became of it over the front that the token has seen then, a good history; the token counts a fault or a stop
+-- where the outcome is one. The other tokens are as they were. Where it is the first contradiction that the worker was told of the
+-- index, it is kept.
 pub record ReshapesBy (schema : ℕ → Schema) (base : ℕ → Base) (old : TokensValue) (place : ℕ) (job : Job) (outcome : JobOutcome) (own front : FrontValue) (new : TokensValue) : Type 0 where
   pub before : TokenValue
   pub after : TokenValue
@@ -78,6 +81,7 @@ pub record ReshapesBy (schema : ℕ → Schema) (base : ℕ → Base) (old : Tok
   pub of : front.index ≡ place
   pub good : IsGood (schema place) (base place) front.steps
   pub tells : TellsJob (schema place) (base place) before job outcome after
+  pub shares : Shares (charge_by_job outcome) before after
 
 -- A worker's engines as a store: a front is a history that its token has seen.
 abbrev pub by_tokens : (ℕ → Schema) → (ℕ → Base) → StoreWords WorkerValue FrontValue

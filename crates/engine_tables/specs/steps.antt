@@ -6,3 +6,5 @@ pub mod Rooms
 pub mod Lasts
 -- how engines are made one after the other
 pub mod Makings
+-- the tokens of all workers
+pub mod Seats

@@ -8,6 +8,8 @@ use step_book::Naming;
 /// What the end of an engine gives back.
 pub struct Ended<D: Disk, J: Naming> {
     pub disk: D,
-    /// A note of the whole history, or why there is none.
-    pub answer: Result<Note<J>, Or<Strayed>>,
+    /// A note of the whole history, where there was an engine.
+    pub note: Option<Note<J>>,
+    /// Whether all its tokens have seen this history, or why not.
+    pub answer: Result<(), Or<Strayed>>,
 }

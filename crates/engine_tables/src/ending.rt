@@ -5,9 +5,11 @@ ghost use Rattle.std.specs.List.{flat_map};
 ghost use Rattle.std.specs.Option.{option_to_list};
 ghost use Rattle.step_line.specs.Lines.{new_line};
 ghost use Rattle.store_keep.specs.Tellings.{AreTokensOf};
-ghost use Rattle.engine_tables.specs.Endings.{CanEnd, HaveEnded};
+ghost use Rattle.snap_share.specs.Closings.{WorkersDiffer};
+ghost use Rattle.engine_tables.specs.Endings.{CanEnd, HasEnded, HaveEnded};
 ghost use Rattle.engine_tables.specs.Engines.{ArePlaced};
 ghost use Rattle.engine_tables.specs.steps.Lasts.{last_told, last_token, shortened};
+ghost use Rattle.engine_tables.specs.steps.Seats.{AreSeats};
 ghost use Rattle.engine_tables.specs.Tokens.{AreOf};
 
 use crate::table::Table;
@@ -99,6 +101,7 @@ fn take_column<J: Naming>(
     ensures column { column.new.items ≡ column.old.items ++ flat_map last_token seats.old }
     ensures seats { seats.new ≡ map shortened seats.old }
     ensures tokens { AreTokensOf (new_line place workers) column.new.items }
+    ensures owners { map (λ token. token.worker) column.new.items ≡ map (λ token. token.worker) column.old.items ++ map (λ seat. seat.worker) seats.old }
     ensures room { vec_capacity column.new ≡ vec_capacity column.old }
     ensures told { told.new.items ≡ told.old.items ++ flat_map last_told seats.old }
     ensures told_room { vec_capacity told.new ≡ vec_capacity told.old }
@@ -108,6 +111,33 @@ fn take_column<J: Naming>(
         column.push_reserved(token);
         push_some(told, one);
         take_column(place, workers, others, column, told);
+    }
+}
+
+/// Ends the engine of the index at a place with the tokens of all workers, and what they were told of it, both of which it lets go.
+fn end_one<D: Disk, J: Naming, R: Wait>(
+    rt: &R,
+    place: usize,
+    workers: u32,
+    table: Table<D, J>,
+    column: &mut Vec<Token<J>>,
+    told: &mut Vec<Strayed>,
+) -> Ended<D, J>
+    requires engine { (table.engine.index ≡ place) × (table.engine.workers ≡ workers) }
+    requires tokens { AreTokensOf (new_line place workers) column.old.items }
+    requires differ { WorkersDiffer column.old.items }
+    ensures ended { HasEnded D.Disk J.schema J.base J.opened place workers told.old.items column.old.items result }
+    ensures column { (column.new.items ≡ []) × (vec_capacity column.new ≡ vec_capacity column.old) }
+    ensures told { (told.new.items ≡ []) × (vec_capacity told.new ≡ vec_capacity told.old) }
+{
+    let engine = table.into_engine();
+    let (disk, note, answer) = engine.close(rt, column.as_mut_slice(), told.as_slice());
+    column.clear();
+    told.clear();
+    Ended {
+        disk,
+        note: Some(note),
+        answer,
     }
 }
 
@@ -122,11 +152,11 @@ pub(crate) fn end_all<D: Disk, J: Naming, R: Wait>(
     ended: Vec<Ended<D, J>>,
 ) -> Vec<Ended<D, J>>
     requires placed { ArePlaced workers (map (λ table. table.engine) tables.items) }
-    requires seats { All (AreOf (length tables.items) workers) seats.items }
+    requires seats { AreSeats (length tables.items) workers seats.items }
     requires column { (column.items ≡ []) × (length seats.items ≤ vec_capacity column) }
     requires told { (told.items ≡ []) × (length seats.items ≤ vec_capacity told) }
     requires room { (ended.items ≡ []) × (length tables.items ≤ vec_capacity ended) }
-    ensures ended { HaveEnded D.Disk J.schema J.base (length tables.items) workers seats.items result.items }
+    ensures ended { HaveEnded D.Disk J.schema J.base J.opened (length tables.items) workers seats.items result.items }
     ensures room { vec_capacity result ≡ vec_capacity ended }
 {
     match tables.pop() {
@@ -135,30 +165,22 @@ pub(crate) fn end_all<D: Disk, J: Naming, R: Wait>(
             ended
         }
         Some(table) => {
-            take_column(
-                tables.len(),
-                workers,
-                seats.as_mut_slice(),
-                &mut column,
-                &mut told,
-            );
-            let engine = table.into_engine();
-            let (disk, answer) = engine.close(rt, column.as_mut_slice(), told.as_slice());
-            column.clear();
-            told.clear();
+            let place = tables.len();
+            take_column(place, workers, seats.as_mut_slice(), &mut column, &mut told);
+            let one = end_one(rt, place, workers, table, &mut column, &mut told);
             let mut ended = end_all(rt, tables, workers, seats, column, told, ended);
-            ended.push_reserved(Ended { disk, answer });
+            ended.push_reserved(one);
             ended
         }
     }
 }
 
 impl<D: Disk, J: Naming> Engines<D, J> {
-    /// Ends all engines with the tokens of their workers, which have ended: of each there is its disk, and a note of the whole history
-    /// or why there is none, in the order of the configuration. It waits for those who still read.
+    /// Ends all engines with the tokens of their workers, which have ended: of each there is its disk, a note of the whole history, and
+    /// what its end answered, in the order of the configuration. It waits for those who still read.
     pub fn close<R: Wait>(self, rt: &R, ending: Ending<D, J>) -> Vec<Ended<D, J>>
         requires { CanEnd self ending }
-        ensures { HaveEnded D.Disk J.schema J.base (length self.confs) self.workers ending.seats result.items }
+        ensures { HaveEnded D.Disk J.schema J.base J.opened (length self.confs) self.workers ending.seats result.items }
     {
         let Engines { tables, workers } = self;
         let Ending {

@@ -1,11 +1,10 @@
 //! How engines are made one after the other, each with a token for each worker.
 ghost use Rattle.std.specs.Prelude.{◌≡◌, ◌<◌, ◌≤◌, ◌+◌, ◌++◌, ◌∷◌, [], IfErr, IfOk, OnErr, OnOk, length, map, vec_capacity};
 ghost use Rattle.store_keep.specs.Names.{first_tokens};
-ghost use Rattle.engine_tables.specs.Endings.{HaveEnded};
 ghost use Rattle.engine_tables.specs.Engines.{ArePlaced};
 ghost use Rattle.engine_tables.specs.Names.{IsRoomFor};
 ghost use Rattle.engine_tables.specs.Tokens.{new_seats};
-ghost use Rattle.engine_tables.specs.steps.Makings.{CanBeMade, CanGoOn, IsNamedAt, Makes, MakesOne};
+ghost use Rattle.engine_tables.specs.steps.Makings.{CanBeMade, CanGoOn, HaveAllEnded, IsNamedAt, Makes, MakesOne};
 
 use crate::ending::end_all;
 use crate::table::Table;
@@ -45,7 +44,7 @@ pub(crate) fn seats_for<J: Naming>(alloc: Global, workers: u32) -> Result<Vec<To
     Ok(seats)
 }
 
-/// Gives each worker its token of the next index.
+/// Gives each worker its token of the next index. Out of memory, all tokens come back.
 fn deal<J: Naming>(
     place: u16,
     seats: &mut [Tokens<J>],
@@ -53,14 +52,28 @@ fn deal<J: Naming>(
 ) -> Result<(), NoMemory>
     requires seats { seats.old ≡ new_seats place (length seats.old) }
     requires tokens { tokens.old.items ≡ first_tokens place (length seats.old) }
-    ensures { OnOk result (seats.new ≡ new_seats (place + 1) (length seats.old)) }
+    ensures ok { OnOk result (seats.new ≡ new_seats (place + 1) (length seats.old)) }
+    ensures err { OnErr result ((seats.new ≡ seats.old) × (tokens.new.items ≡ tokens.old.items)) }
+    ensures room { OnErr result (vec_capacity tokens.new ≡ vec_capacity tokens.old) }
 {
     match seats.split_last_mut() {
         None => Ok(()),
         Some((seat, others)) => {
             let token = tokens.take_last();
-            seat.push(token)?;
-            deal(place, others, tokens)
+            match seat.push(token) {
+                Ok(()) => match deal(place, others, tokens) {
+                    Ok(()) => Ok(()),
+                    Err(NoMemory) => {
+                        let (token, _told) = seat.take_last();
+                        tokens.push_reserved(token);
+                        Err(NoMemory)
+                    }
+                },
+                Err(token) => {
+                    tokens.push_reserved(token);
+                    Err(NoMemory)
+                }
+            }
         }
     }
 }
@@ -70,22 +83,52 @@ fn stop<D: Disk, J: Naming, R: Wait>(
     rt: &R,
     tables: Vec<Table<D, J>>,
     workers: u32,
+    seats: Vec<Tokens<J>>,
     ending: Ending<D, J>,
 ) -> Vec<Ended<D, J>>
     requires placed { ArePlaced workers (map (λ table. table.engine) tables.items) }
+    requires seats { seats.items ≡ new_seats (length tables.items) workers }
     requires room { IsRoomFor (length tables.items) workers ending }
-    ensures ended { HaveEnded D.Disk J.schema J.base (length tables.items) workers [] result.items }
+    ensures ended { HaveAllEnded D.Disk J.schema J.base J.opened (length tables.items) workers result.items }
     ensures room { ending.indexes ≤ vec_capacity result }
 {
     let Ending {
         indexes: _indexes,
         workers: _workers,
-        seats,
+        seats: _none,
         column,
         told,
         ended,
     } = ending;
     end_all(rt, tables, workers, seats, column, told, ended)
+}
+
+/// Ends engines that nobody has worked with, and one more behind them, whose tokens weren't dealt.
+fn stop_with<D: Disk, J: Naming, R: Wait>(
+    rt: &R,
+    tables: Vec<Table<D, J>>,
+    workers: u32,
+    seats: Vec<Tokens<J>>,
+    ending: Ending<D, J>,
+    engine: Engine<D, J>,
+    mut tokens: Vec<Token<J>>,
+) -> Vec<Ended<D, J>>
+    requires placed { ArePlaced workers (map (λ table. table.engine) tables.items) }
+    requires seats { seats.items ≡ new_seats (length tables.items) workers }
+    requires room { IsRoomFor (length tables.items + 1) workers ending }
+    requires engine { (engine.index ≡ length tables.items) × (engine.workers ≡ workers) }
+    requires tokens { tokens.items ≡ first_tokens engine.index workers }
+    ensures ended { HaveAllEnded D.Disk J.schema J.base J.opened (length tables.items + 1) workers result.items }
+    ensures room { ending.indexes ≤ vec_capacity result }
+{
+    let mut ended = stop(rt, tables, workers, seats, ending);
+    let (disk, note, answer) = engine.close(rt, tokens.as_mut_slice(), &[]);
+    ended.push_reserved(Ended {
+        disk,
+        note: Some(note),
+        answer,
+    });
+    ended
 }
 
 /// Makes the engine of one index more.
@@ -96,9 +139,9 @@ fn make_one<D: Disk, J: Naming, R: Wait>(
     conf: IndexConf,
     store: Opened<D>,
 ) -> Making<D, J>
-    requires named { IsNamedAt D.Disk J.book J.schema J.base (length made.tables.items) conf store }
+    requires named { IsNamedAt D.Disk J.book J.faults J.stops J.schema J.base J.opened (length made.tables.items) conf store }
     requires made { CanGoOn made }
-    ensures { MakesOne D.Disk J.schema J.base made conf store result }
+    ensures { MakesOne D.Disk J.schema J.base J.opened made conf store result }
 {
     let Made {
         mut tables,
@@ -108,22 +151,25 @@ fn make_one<D: Disk, J: Naming, R: Wait>(
     } = made;
     let place = tables.len() as u16;
     match Engine::named(rt, alloc, store, place, workers) {
-        Ok((engine, mut tokens)) => {
-            tables.push_reserved(Table::new(conf, engine));
-            match deal(place, seats.as_mut_slice(), &mut tokens) {
-                Ok(()) => Making::Going(Made {
+        Ok((engine, mut tokens)) => match deal(place, seats.as_mut_slice(), &mut tokens) {
+            Ok(()) => {
+                tables.push_reserved(Table::new(conf, engine));
+                Making::Going(Made {
                     tables,
                     workers,
                     seats,
                     ending,
-                }),
-                Err(NoMemory) => Making::Stopped(stop(rt, tables, workers, ending)),
+                })
             }
-        }
+            Err(NoMemory) => {
+                Making::Stopped(stop_with(rt, tables, workers, seats, ending, engine, tokens))
+            }
+        },
         Err(disk) => {
-            let mut ended = stop(rt, tables, workers, ending);
+            let mut ended = stop(rt, tables, workers, seats, ending);
             ended.push_reserved(Ended {
                 disk,
+                note: None,
                 answer: Err(Or::NoMemory),
             });
             Making::Stopped(ended)
@@ -139,8 +185,8 @@ pub(crate) fn make_all<D: Disk, J: Naming, R: Wait>(
     mut confs: Vec<IndexConf>,
     mut stores: Vec<Opened<D>>,
 ) -> Making<D, J>
-    requires { CanBeMade D.Disk J.book J.schema J.base confs.items stores.items none }
-    ensures { Makes D.Disk J.schema J.base confs.items stores.items none result }
+    requires { CanBeMade D.Disk J.book J.faults J.stops J.schema J.base J.opened confs.items stores.items none }
+    ensures { Makes D.Disk J.schema J.base J.opened confs.items stores.items none result }
 {
     match confs.pop() {
         None => {
@@ -154,6 +200,7 @@ pub(crate) fn make_all<D: Disk, J: Naming, R: Wait>(
                 Making::Stopped(mut ended) => {
                     ended.push_reserved(Ended {
                         disk: store.into_disk(),
+                        note: None,
                         answer: Err(Or::NoMemory),
                     });
                     Making::Stopped(ended)
@@ -182,6 +229,7 @@ pub(crate) fn give_back<D: Disk, J: Naming>(
             let mut ended = give_back(stores, ended);
             ended.push_reserved(Ended {
                 disk: store.into_disk(),
+                note: None,
                 answer: Err(Or::NoMemory),
             });
             ended

@@ -1,5 +1,5 @@
-//! How stores that were opened become engines under one naming type. Where want of memory stops it half-way, the engines that were
-//! made end again, so that all disks come back.
+//! How stores that were opened become engines under one naming type. Where memory is refused half-way, the engines that were made end
+//! again with the tokens that they gave, so that all disks come back.
 ghost use Rattle.std.specs.Prelude.{◌≡◌, ◌<◌, All, IfErr, IfOk, length};
 ghost use Rattle.engine_tables.specs.Endings.{ComeBack};
 ghost use Rattle.engine_tables.specs.Engines.{engines_over};
@@ -54,8 +54,8 @@ fn none<D: Disk, J: Naming>(
 }
 
 impl<D: Disk, J: Naming> Engines<D, J> {
-    /// The engines of these indexes over their stores, with tokens for each worker, from worker 1 on. For want of memory all disks come
-    /// back, in their order.
+    /// The engines of these indexes over their stores, with tokens for each worker, from worker 1 on. Out of memory, all disks come back,
+    /// in their order.
     pub fn named<R: Wait>(
         rt: &R,
         alloc: Global,
@@ -64,7 +64,7 @@ impl<D: Disk, J: Naming> Engines<D, J> {
         workers: u32,
         ending: Ending<D, J>,
     ) -> Result<Named<D, J>, Vec<Ended<D, J>>>
-        requires named { AreNamed D.Disk J.book J.schema J.base confs.items stores.items }
+        requires named { AreNamed D.Disk J.book J.faults J.stops J.schema J.base J.opened confs.items stores.items }
         requires served { AreServed confs.items }
         requires workers { 0 < workers }
         requires room { IsRoomFor (length confs.items) workers ending }
@@ -72,7 +72,7 @@ impl<D: Disk, J: Naming> Engines<D, J> {
         ensures seats { IfOk result (λ named. named.seats.items ≡ new_seats (length confs.items) workers) }
         ensures sit { IfOk result (λ named. All (SitsAt named.engines) named.seats.items) }
         ensures ending { IfOk result (λ named. named.ending ≡ ending) }
-        ensures disks { IfErr result (λ all. ComeBack D.Disk J.schema J.base workers stores.items all.items) }
+        ensures disks { IfErr result (λ all. ComeBack D.Disk J.schema J.base J.opened workers stores.items all.items) }
     {
         match none(alloc, confs.len(), workers, ending) {
             Ok(none) => match make_all(rt, alloc, none, confs, stores) {

@@ -19,7 +19,7 @@ pub(crate) fn outcome_of<J: Naming>(
             removed: made.removed,
         }),
         Err(CommitFault::NoMemory) => Err(NoMemory),
-        Err(CommitFault::Strayed(numbers)) => Ok(CommitOutcome::Strayed(numbers)),
+        Err(CommitFault::Strayed(numbers, _note)) => Ok(CommitOutcome::Strayed(numbers)),
         Err(CommitFault::Duplicate { id, note: _ }) => Ok(CommitOutcome::Duplicate { id }),
         Err(CommitFault::Full { full, note: _ }) => Ok(CommitOutcome::Full(full)),
         Err(CommitFault::Refused) => Ok(CommitOutcome::Refused),
@@ -46,7 +46,7 @@ pub(crate) fn job_outcome_of<J: Naming>(
     match answer {
         Ok(_note) => Ok(JobOutcome::Shaped),
         Err(InstallFault::NoMemory) => Err(NoMemory),
-        Err(InstallFault::Strayed(numbers)) => Ok(JobOutcome::Strayed(numbers)),
+        Err(InstallFault::Strayed(numbers, _note)) => Ok(JobOutcome::Strayed(numbers)),
         Err(InstallFault::Overtaken { shape, note: _ }) => Ok(JobOutcome::Overtaken { shape }),
         Err(InstallFault::Full(full)) => Ok(JobOutcome::Full(full)),
         Err(InstallFault::DiskFault) => Ok(JobOutcome::Refused),

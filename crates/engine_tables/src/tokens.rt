@@ -1,5 +1,5 @@
 //! A worker's tokens: one of each index. With them it reads, which takes neither a lock nor an engine, commits, and does jobs.
-ghost use Rattle.std.specs.Prelude.{◌≡◌, ◌<◌, ◌≤◌, ◌+◌, ◌++◌, ◌∷◌, [], Option, Some, None, length, slice_get, slice_set, option_to_list, IfOk, OnErr, OnOk};
+ghost use Rattle.std.specs.Prelude.{◌≡◌, ◌<◌, ◌≤◌, ◌+◌, ◌++◌, ◌∷◌, [], Option, Some, None, length, slice_get, slice_set, option_to_list, IfErr, IfOk, OnErr, OnOk};
 ghost use Rattle.std.specs.Arc.{arc_value};
 ghost use Rattle.std.specs.Option.{option_or};
 ghost use Rattle.commit_outcomes.specs.declared.strayed.Strayed.{Strayed as Numbers};
@@ -74,14 +74,20 @@ impl<J: Naming> Tokens<J> {
         }
     }
 
-    /// Puts the worker's token of the next index behind those that are there.
-    pub(crate) fn push(&mut self, token: Token<J>) -> Result<(), NoMemory>
+    /// Puts the worker's token of the next index behind those that are there. Out of memory, it comes back.
+    pub(crate) fn push(&mut self, token: Token<J>) -> Result<(), Token<J>>
         requires next { token.index ≡ length self.old.list }
         requires own { token.worker ≡ self.old.worker }
-        ensures { OnOk result (self.new ≡ record self.old { list = self.old.list ++ token ∷ []; told = self.old.told ++ None ∷ [] }) }
+        ensures ok { OnOk result (self.new ≡ record self.old { list = self.old.list ++ token ∷ []; told = self.old.told ++ None ∷ [] }) }
+        ensures err { IfErr result (λ back. (back ≡ token) × (self.new ≡ self.old)) }
     {
-        self.told.reserve(1)?;
-        self.list.push(token)?;
+        if self.list.reserve(1).is_err() {
+            return Err(token);
+        }
+        if self.told.reserve(1).is_err() {
+            return Err(token);
+        }
+        self.list.push_reserved(token);
         self.told.push_reserved(None);
         Ok(())
     }
@@ -107,7 +113,7 @@ impl<J: Naming> Tokens<J> {
     }
 
     /// The documents of the index at a place, by one entry step of its token: they are those of a history that begins with all that
-    /// the token had seen. For want of memory the token may have seen more than before.
+    /// the token had seen. Out of memory, the token may have seen more than before.
     pub fn read(&mut self, place: u16) -> Result<Arc<Snapshot<AnyChunk>, Global>, NoMemory>
         requires { place < length self.old.list }
         ensures found { IfOk result (λ snapshot. (front : FrontValue) × HasSeen J.schema J.base self.new place front × (arc_value snapshot ≡ documents_of J.base front)) }
@@ -119,8 +125,8 @@ impl<J: Naming> Tokens<J> {
         Ok(found)
     }
 
-    /// Commits a transaction through the engine of an index, with the token of it. It waits for the commits of other workers. After
-    /// want of memory nothing of it was done, and the token may have seen more than before. The first contradiction that is answered
+    /// Commits a transaction through the engine of an index, with the token of it. It waits for the commits of other workers. Out of
+    /// memory, nothing of it was done, and the token may have seen more than before. The first contradiction that is answered
     /// is kept for the end of the engine.
     pub fn commit<D: Disk, R: Wait>(
         &mut self,
@@ -146,7 +152,7 @@ impl<J: Naming> Tokens<J> {
     }
 
     /// Does a job over the index at a place: its chunk is made of the documents as they are now, while others go on, and then the
-    /// engine ends it. After want of memory nothing of it was done, and the token may have seen more than before. The first
+    /// engine ends it. Out of memory, nothing of it was done, and the token may have seen more than before. The first
     /// contradiction that is answered is kept for the end of the engine.
     pub fn reshape<D: Disk, R: Wait>(
         &mut self,

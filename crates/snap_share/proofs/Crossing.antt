@@ -15,6 +15,7 @@ use Rattle.chunk_store.specs.declared.disk.Disk.{Ghosts as DiskWords}
 use Rattle.step_book.specs.declared.naming.Naming.{Ghosts as Names}
 use Rattle.step_book.specs.contracts.made.Made as made
 use Rattle.step_book.proofs.front.Front.TheSendSync as fronts
+use Rattle.step_book.proofs.front.Turn.TheSendSync as turns
 use Rattle.step_book.proofs.line.Book.TheSendSync as books
 use Rattle.step_tokens.specs.contracts.rule.Idle as idle
 use Rattle.step_tokens.specs.contracts.rule.Rises as rises
@@ -25,12 +26,13 @@ use Rattle.step_tokens.proofs.shown.Shown.TheSendSync as showns
 use Rattle.step_line.specs.contracts.line.Line as line
 use Rattle.step_line.specs.contracts.line.Line.TheInside as line_inside
 use Rattle.step_line.specs.contracts.pending.Pending as pending
-use Rattle.store_steps.proofs.files.Files.TheSendSync as known
+use Rattle.step_line.specs.contracts.pending.Waiting as waiting
+use Rattle.step_line.proofs.tally.Tally.TheSendSync as tallies
 use Rattle.store_keep.specs.contracts.keeper.Keeper as keeper
 use Rattle.snap_share.specs.contracts.engine.Engine as engine
 use Rattle.snap_share.specs.contracts.held.Held as held
 
-ruleset parts = (books.the_send, books.the_field_send, fronts.the_send, snapshots.the_send, snapshots.the_sync, chunks.the_send, chunks.the_sync)
+ruleset parts = (books.the_send, books.the_field_send, fronts.the_send, turns.the_send, snapshots.the_send, snapshots.the_sync, chunks.the_send, chunks.the_sync)
 
 made_send : IsSend (made.the_row chunk.the_row chunk_words.ghosts)
 made_send = search (sendable, crosses) depth 20
@@ -45,8 +47,11 @@ module _ (N : RattleType) (g : Names N.Denot) where
     pending_send : IsSend (pending.the_row N g)
     pending_send = search (sendable, crosses, parts, made_send) depth 20
 
+    waiting_send : IsSend (waiting.the_row N g)
+    waiting_send = let p = pending_send in search (sendable, crosses, parts) depth 20
+
     line_inside_send : IsSend (line_inside.the_field N g).row
-    line_inside_send = let p = pending_send in struct_send (shape (line_inside.the_type N g)) (
+    line_inside_send = let w = waiting_send in struct_send (shape (line_inside.the_type N g)) (
       writing_send,
       (
         search (sendable, crosses, parts) depth 20,
@@ -56,7 +61,10 @@ module _ (N : RattleType) (g : Names N.Denot) where
             search (sendable, crosses, parts) depth 20,
             (
               search (sendable, crosses, parts) depth 20,
-              (search (sendable, crosses, parts) depth 20, tt),
+              (
+                search (sendable, crosses, parts) depth 20,
+                (search (sendable, crosses, parts) depth 20, tt),
+              ),
             ),
           ),
         ),
@@ -68,7 +76,7 @@ module _ (N : RattleType) (g : Names N.Denot) where
 
     module _ (D : RattleType) (d : IsSend D) (w : DiskWords D.Denot) where
       keeper_send : IsSend (keeper.the_field D N g).row
-      keeper_send = let v = line_send in search (sendable, crosses, known.the_send) depth 60 fits 40000
+      keeper_send = let v = line_send in search (sendable, crosses, tallies.the_send) depth 60 fits 40000
 
       held_send : IsSend (held.the_row D N w g)
       held_send = let v = keeper_send in search (sendable, crosses) depth 20

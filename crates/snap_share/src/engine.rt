@@ -8,9 +8,11 @@ ghost use Rattle.step_line.specs.Lines.{new_line};
 ghost use Rattle.job_chunks.specs.Chunks.{IsNewChunk};
 ghost use Rattle.job_states.specs.States.{HasSeen};
 ghost use Rattle.store_keep.specs.Names.{first_tokens};
-ghost use Rattle.store_keep.specs.Opens.{IsOpened, base_of};
+ghost use Rattle.store_keep.specs.Charges.{charge_of, charge_of_job};
+ghost use Rattle.store_keep.specs.Opens.{IsOpened, base_of, opening_of};
 ghost use Rattle.store_keep.specs.Tellings.{AreTokensOf};
-ghost use Rattle.snap_share.specs.Closings.{Closes};
+ghost use Rattle.snap_share.specs.Closings.{Closes, WorkersDiffer};
+ghost use Rattle.snap_share.specs.Counts.{Shares};
 ghost use Rattle.snap_share.specs.Answers.{Answers};
 ghost use Rattle.snap_share.specs.Reshapes.{ReshapeAnswers};
 
@@ -47,8 +49,8 @@ impl<D: Disk, J: Naming> Model for Engine<D, J> {
 }
 
 impl<D: Disk, J: Naming> Engine<D, J> {
-    /// The engine of a store that was opened, under the name of its index, with a token for each worker. For want of memory its
-    /// disk comes back.
+    /// The engine of a store that was opened, under the names of its index, with a token for each worker. Out of memory, its disk
+    /// comes back.
     pub fn named<R: Wait>(
         rt: &R,
         alloc: Global,
@@ -58,7 +60,10 @@ impl<D: Disk, J: Naming> Engine<D, J> {
     ) -> Result<(Engine<D, J>, Vec<Token<J>>), D>
         requires workers { 0 < workers }
         requires book { opened.book.past.seen.book ≡ J.book index }
+        requires faults { opened.faults.past.seen.book ≡ J.faults index }
+        requires stops { opened.stops.past.seen.book ≡ J.stops index }
         requires base { J.base index ≡ base_of opened }
+        requires counted { J.opened index ≡ opening_of D.Disk opened }
         requires opened { IsOpened D.Disk (J.schema index) opened }
         ensures engine { IfOk result (λ named. named.0 ≡ record { index = index; workers = workers; records = opened.records; documents = opened.documents; chunks = length (disk_chunks (arc_value opened.snapshot)) }) }
         ensures tokens { IfOk result (λ named. named.1.items ≡ first_tokens index workers) }
@@ -107,7 +112,8 @@ impl<D: Disk, J: Naming> Engine<D, J> {
         requires index { token.old.index ≡ self.now.index }
         requires own { (token.old.worker ≡ worker) × (0 < worker) × (worker ≤ self.now.workers) }
         requires of { IsSchema (J.schema self.now.index) × IsTxnOf (J.schema self.now.index) txn.now }
-        ensures { Answers (J.schema self.now.index) (J.base self.now.index) token.old txn.now.ops result token.new }
+        ensures answers { Answers (J.schema self.now.index) (J.base self.now.index) token.old txn.now.ops result token.new }
+        ensures shares { Shares (charge_of result) token.old token.new }
     {
         let mut held = self.keeper.lock(rt);
         let result = held.commit(rt, worker, token, txn);
@@ -127,7 +133,8 @@ impl<D: Disk, J: Naming> Engine<D, J> {
         requires own { (0 < token.old.worker) × (token.old.worker ≤ self.now.workers) }
         requires seen { HasSeen (J.base self.now.index) token.old.seen new.from }
         requires chunk { IsNewChunk (J.schema self.now.index) new }
-        ensures { ReshapeAnswers (J.schema self.now.index) (J.base self.now.index) token.old new result token.new }
+        ensures answers { ReshapeAnswers (J.schema self.now.index) (J.base self.now.index) token.old new result token.new }
+        ensures shares { Shares (charge_of_job result) token.old token.new }
     {
         let mut held = self.keeper.lock(rt);
         let result = held.reshape(rt, token, new);
@@ -135,17 +142,18 @@ impl<D: Disk, J: Naming> Engine<D, J> {
         result
     }
 
-    /// Ends the engine once its workers have ended: a note of the whole history, which each of its tokens learns, and the disk. It
-    /// waits for those who still read. `told` has the first contradiction that a commit told each worker, where one did: there is no
-    /// note then, and the first of all is answered again.
+    /// Ends the engine once its workers have ended: the disk, and a note of the whole history, which each of its tokens learns. It
+    /// waits for those who still read. `told` has the first contradiction that a call told each worker, where one did: the first of
+    /// all is answered again.
     pub fn close<R: Wait>(
         self,
         rt: &R,
         tokens: &mut [Token<J>],
         told: &[Strayed],
-    ) -> (D, Result<Note<J>, Or<Strayed>>)
-        requires { AreTokensOf (new_line self.index self.workers) tokens.old }
-        ensures { Closes D.Disk J.schema J.base self.index self.workers told.now tokens.old result.0 result.1 tokens.new }
+    ) -> (D, Note<J>, Result<(), Or<Strayed>>)
+        requires of { AreTokensOf (new_line self.index self.workers) tokens.old }
+        requires differ { WorkersDiffer tokens.old }
+        ensures { Closes D.Disk J.schema J.base J.opened self.index self.workers told.now tokens.old result.0 result.1 result.2 tokens.new }
     {
         let Engine {
             index,

@@ -4,16 +4,19 @@ ghost use Rattle.std.specs.Bool.{Decides};
 ghost use Rattle.doc_types.specs.Schemas.{IsSchema};
 ghost use Rattle.doc_types.specs.Transactions.{IsTxnOf};
 ghost use Rattle.step_line.specs.Lines.{new_line};
+ghost use Rattle.store_keep.specs.Charges.{charge_of, charge_of_job};
 ghost use Rattle.store_keep.specs.Keepers.{IsSound};
 ghost use Rattle.job_chunks.specs.Chunks.{IsNewChunk};
 ghost use Rattle.job_states.specs.States.{HasSeen};
 ghost use Rattle.store_keep.specs.Commits.{strayed_after};
 ghost use Rattle.store_keep.specs.Installs.{strayed_after_job};
 ghost use Rattle.store_keep.specs.Tellings.{AreTokensOf};
-ghost use Rattle.snap_share.specs.Closings.{Closes, WasTold};
+ghost use Rattle.snap_share.specs.Closings.{Closes, WorkersDiffer};
 ghost use Rattle.snap_share.specs.Answers.{Answers};
+ghost use Rattle.snap_share.specs.Counts.{Shares};
 ghost use Rattle.snap_share.specs.Reshapes.{ReshapeAnswers};
 
+use crate::telling::{all_took_of, answer_of, meet_all};
 use chunk_store::Disk;
 use commit_outcomes::Strayed;
 use doc_types::Txn;
@@ -45,7 +48,7 @@ impl<D: Disk, J: Naming> Model for Held<D, J> {
 
     ghost view = { λ held. held.index };
 
-    ghost invariant = { λ held. (held.index ≡ held.keeper.kept.line.index) × (held.workers ≡ held.keeper.kept.line.workers) × IsSound D.Disk (λ index. J.schema index) (λ index. J.base index) held.keeper × (held.strayed ≡ held.keeper.strayed) };
+    ghost invariant = { λ held. (held.index ≡ held.keeper.kept.line.index) × (held.workers ≡ held.keeper.kept.line.workers) × IsSound D.Disk (λ index. J.schema index) (λ index. J.base index) (λ index. J.opened index) held.keeper × (held.strayed ≡ held.keeper.strayed) };
 }
 
 /// The contradiction that is held after an answer: the first one.
@@ -56,7 +59,7 @@ fn held_after<J: Naming>(
     ensures { result ≡ strayed_after held answer.now }
 {
     match answer {
-        Err(CommitFault::Strayed(numbers)) => held.or(Some(*numbers)),
+        Err(CommitFault::Strayed(numbers, _note)) => held.or(Some(*numbers)),
         _ => held,
     }
 }
@@ -69,18 +72,8 @@ fn held_after_job<J: Naming>(
     ensures { result ≡ strayed_after_job held answer.now }
 {
     match answer {
-        Err(InstallFault::Strayed(numbers)) => held.or(Some(*numbers)),
+        Err(InstallFault::Strayed(numbers, _note)) => held.or(Some(*numbers)),
         _ => held,
-    }
-}
-
-/// Whether what a keeper holds is what workers were told.
-fn was_told(told: &[Strayed], held: Option<Strayed>) -> bool
-    ensures { Decides result (WasTold told.now held) }
-{
-    match held {
-        Some(numbers) => told.contains(&numbers),
-        None => told.is_empty(),
     }
 }
 
@@ -89,7 +82,7 @@ impl<D: Disk, J: Naming> Held<D, J> {
     pub(crate) fn new(keeper: Keeper<D, J>, index: u16, workers: u32) -> Held<D, J>
         requires index { index ≡ keeper.kept.line.index }
         requires workers { workers ≡ keeper.kept.line.workers }
-        requires sound { IsSound D.Disk J.schema J.base keeper }
+        requires sound { IsSound D.Disk J.schema J.base J.opened keeper }
         requires none { keeper.strayed ≡ None }
     {
         Held {
@@ -101,7 +94,7 @@ impl<D: Disk, J: Naming> Held<D, J> {
     }
 
     /// Commits a transaction of a worker. That the token is of another index, or of no worker here, can't come, and is answered as
-    /// want of memory.
+    /// out of memory.
     #[tactic(auto, using(crate::proofs::Sharing::stays))]
     pub(crate) fn commit<R: Wait>(
         &mut self,
@@ -112,7 +105,8 @@ impl<D: Disk, J: Naming> Held<D, J> {
     ) -> Result<Committed<J>, CommitFault<J>>
         requires own { (token.old.worker ≡ worker) × (0 < worker) }
         requires of { IsSchema (J.schema token.old.index) × IsTxnOf (J.schema token.old.index) txn.now }
-        ensures { Answers (J.schema token.old.index) (J.base token.old.index) token.old txn.now.ops result token.new }
+        ensures answers { Answers (J.schema token.old.index) (J.base token.old.index) token.old txn.now.ops result token.new }
+        ensures shares { Shares (charge_of result) token.old token.new }
     {
         // The clauses of a token's length say that what it has seen is good.
         let _before = token.len();
@@ -125,7 +119,7 @@ impl<D: Disk, J: Naming> Held<D, J> {
         result
     }
 
-    /// Installs the chunk of a job. That the token is of another index, or of no worker here, can't come, and is answered as want of
+    /// Installs the chunk of a job. That the token is of another index, or of no worker here, can't come, and is answered as out of
     /// memory.
     #[tactic(auto, using(crate::proofs::Sharing::stays))]
     pub(crate) fn reshape<R: Wait>(
@@ -137,7 +131,8 @@ impl<D: Disk, J: Naming> Held<D, J> {
         requires own { 0 < token.old.worker }
         requires seen { HasSeen (J.base token.old.index) token.old.seen new.from }
         requires chunk { IsNewChunk (J.schema token.old.index) new }
-        ensures { ReshapeAnswers (J.schema token.old.index) (J.base token.old.index) token.old new result token.new }
+        ensures answers { ReshapeAnswers (J.schema token.old.index) (J.base token.old.index) token.old new result token.new }
+        ensures shares { Shares (charge_of_job result) token.old token.new }
     {
         // The clauses of a token's length say that what it has seen is good.
         let _before = token.len();
@@ -150,9 +145,8 @@ impl<D: Disk, J: Naming> Held<D, J> {
         result
     }
 
-    /// Tells all tokens the whole history, and gives the disk back. That it is the keeper of another index, or that what it holds
-    /// isn't what workers were told, can't come, and is answered as want of memory.
-    #[tactic(auto, using(crate::proofs::Ending::of_line))]
+    /// Tells all tokens the whole history, and gives the disk back. That it is the keeper of another index, or that a token took more
+    /// of its lines of calls than there is, can't come. No answer would be true then, so it waits for ever.
     pub(crate) fn close<R: Wait>(
         self,
         rt: &R,
@@ -160,9 +154,10 @@ impl<D: Disk, J: Naming> Held<D, J> {
         workers: u32,
         tokens: &mut [Token<J>],
         told: &[Strayed],
-    ) -> (D, Result<Note<J>, Or<Strayed>>)
-        requires { AreTokensOf (new_line index workers) tokens.old }
-        ensures { Closes D.Disk J.schema J.base index workers told.now tokens.old result.0 result.1 tokens.new }
+    ) -> (D, Note<J>, Result<(), Or<Strayed>>)
+        requires of { AreTokensOf (new_line index workers) tokens.old }
+        requires differ { WorkersDiffer tokens.old }
+        ensures { Closes D.Disk J.schema J.base J.opened index workers told.now tokens.old result.0 result.1 result.2 tokens.new }
     {
         let Held {
             keeper,
@@ -171,10 +166,17 @@ impl<D: Disk, J: Naming> Held<D, J> {
             strayed,
         } = self;
         a_crash_between_calls_leaves_the_documents(&keeper);
-        if own != index || known != workers || !was_told(told, strayed) {
-            return (keeper.close(rt), Err(Or::NoMemory));
+        if own != index || known != workers {
+            for _ in rt.forever() {}
+            unreachable!()
         }
-        let answer = keeper.newest(tokens);
-        (keeper.close(rt), answer)
+        if !all_took_of(tokens, keeper.faults().share(), keeper.stops().share()) {
+            for _ in rt.forever() {}
+            unreachable!()
+        }
+        let answer = answer_of(strayed, told, keeper.first_stray(tokens));
+        let note = keeper.note();
+        meet_all(tokens, &note);
+        (keeper.close(rt), note, answer)
     }
 }

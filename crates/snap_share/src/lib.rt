@@ -3,9 +3,10 @@
 
 mod engine;
 mod held;
+mod telling;
 
 pub use engine::Engine;
 pub use job_chunks::NewChunk;
 pub use step_book::Naming;
 pub use step_tokens::{Note, Token, learn, snapshot};
-pub use store_keep::{CommitFault, Committed, Doubt, InstallFault, Opened, StoreFault};
+pub use store_keep::{Charge, CommitFault, Committed, Doubt, InstallFault, Opened, StoreFault};

@@ -2,11 +2,14 @@ use Rattle.std.proofs.Common.{◌≤◌, arith, ap, length, vec_capacity}
 use Rattle.std.proofs.lemmas.List.{length-map}
 use Rattle.engine_tables.specs.Endings.{EndingValue}
 use Rattle.engine_tables.specs.Engines.{EnginesValue, TableValue}
-use Rattle.engine_tables.proofs.Endings.{all_sit}
+use Rattle.engine_tables.proofs.Endings.{all_differ, all_sit}
 use Rattle.engine_tables.proofs.engines.Engines.close.Goals as goal
 
 pub end_all-requires-clause-seats : goal.end_all-requires-clause-seats
-end_all-requires-clause-seats g c = all_sit c.self.inside.tables.items c.self.inside.workers c.args.self c.ending.inside.seats.items c.ending.inside.indexes c.ending.inside.workers c.args.ending c.self.view_is c.ending.view_is c.requires.sit
+end_all-requires-clause-seats g c = record {
+  of = all_sit c.self.inside.tables.items c.self.inside.workers c.args.self c.ending.inside.seats.items c.ending.inside.indexes c.ending.inside.workers c.args.ending c.self.view_is c.ending.view_is c.requires.sit;
+  differ = all_differ c.ending.inside.seats.items c.ending.inside.indexes c.ending.inside.workers c.args.ending c.ending.view_is c.requires.differ;
+}
 
 pub end_all-requires-clause-room : goal.end_all-requires-clause-room
 end_all-requires-clause-room g c =

@@ -20,4 +20,4 @@ pub returns-in-Going-clause-sit : goal.returns-in-Going-clause-sit
 returns-in-Going-clause-sit g c = all_sit c.args.confs.items c.args.stores.items c.in-Ok.none c.in-Going.made c.in-Going.ensures
 
 pub returns-in-Err-clause-disks : goal.returns-in-Err-clause-disks
-returns-in-Err-clause-disks g c = disks_back g.D.Disk g.J.Naming.schema g.J.Naming.base c.args.workers c.args.stores.items c.give_back.result.items c.give_back.ensures.disks
+returns-in-Err-clause-disks g c = disks_back g.D.Disk g.J.Naming.schema g.J.Naming.base g.J.Naming.opened c.args.workers c.args.stores.items c.give_back.result.items c.give_back.ensures.disks

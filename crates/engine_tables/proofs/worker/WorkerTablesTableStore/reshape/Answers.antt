@@ -1,4 +1,3 @@
-use Rattle.std.proofs.Common.{refl}
 use Rattle.std.proofs.lemmas.Result.{IfOk-weaker}
 use Rattle.engine_tables.proofs.Working.{worked_store}
 use Rattle.engine_tables.proofs.worker.WorkerTablesTableStore.reshape.Goals as goal

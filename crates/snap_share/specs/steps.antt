@@ -1,0 +1,2 @@
+-- what a token took of lines of calls
+pub mod Takings
