@@ -113,8 +113,8 @@ module _ (base : Base) (index : ℕ) where
       let rest = counted runs.0 new events runs.2 in
       let made : runs.0.made ≡ old.made + length (attempts_on index (event ∷ [])) = has_made old runs.0 (old.made + length (attempts_on index (event ∷ []))) first in
       record {
-        is = rest.is ∙ ap (λ (t : TokenValue). record t { seen = new.seen; made = runs.0.made + length (attempts_on index events) }) first.is
-            ∙ ap (λ (n : ℕ). record old { seen = new.seen; made = n }) (omega (arith, made, count_at event events (is_attempt index event) refl));
+        is = rest.is ∙ ap (λ (t : TokenValue). record t { seen = new.seen; made = runs.0.made + length (attempts_on index events); faults = new.faults; stops = new.stops; entered = new.entered }) first.is
+            ∙ ap (λ (n : ℕ). record old { seen = new.seen; made = n; faults = new.faults; stops = new.stops; entered = new.entered }) (omega (arith, made, count_at event events (is_attempt index event) refl));
         seen = prefix_trans old.seen runs.0.seen new.seen first.seen rest.seen;
       }
 

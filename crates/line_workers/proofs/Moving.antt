@@ -1,5 +1,5 @@
 -- What the events of a worker's lines do to its token of one index.
-use Rattle.std.proofs.Common.{◌≡◌, ◌⊎◌, inl, inr, ℕ, ◌+◌, ◌==◌, ◌&&◌, Bool, true, false, List, [], ◌∷◌, ◌++◌, length, length-set, set, Some, slice_get, refl, sym, ap, subst, ◌∙◌}
+use Rattle.std.proofs.Common.{◌≡◌, ◌⊎◌, inl, inr, ℕ, ◌+◌, ◌==◌, ◌&&◌, Bool, true, false, List, [], ◌∷◌, ◌++◌, length, length-set, set, Option, Some, slice_get, refl, sym, ap, subst, ◌∙◌}
 use Rattle.std.proofs.lemmas.Bool.{and_left, and_right, cases_eq, ne_eqb}
 use mathlib.Core.List.{IsPrefix}
 use Rattle.srch_base.specs.declared.link.Link.{Ghosts as LinkWords}
@@ -17,7 +17,7 @@ use Rattle.step_history.specs.History.{Base, Step, made_by}
 use Rattle.step_history.specs.History as history
 use Rattle.step_tokens.specs.Tokens.{TokenValue}
 use Rattle.store_steps.specs.Answers.{Becomes}
-use Rattle.snap_share.specs.Answers.{Advances, seen_by}
+use Rattle.snap_share.specs.Answers.{Advances, Stays, seen_by}
 use Rattle.ql_session.specs.Events.{Event, Configured, Nothing, NoMemory, Read, Commit, Reshape, Follows, StoreWords}
 use Rattle.ql_session.specs.JobOutcome.{JobOutcome}
 use Rattle.ql_session.specs.JobOutcome.TheVariants as job_outcomes
@@ -31,9 +31,9 @@ use Rattle.line_workers.specs.Histories.{HasItsEnd}
 use Rattle.line_workers.specs.Lines.{Service, ServesLines}
 use Rattle.line_workers.proofs.Places.{get_set_other, get_set_same, some_is, zip_at, zip_long}
 
--- The token has seen what it had seen, or more, and counts so many commits.
+-- The token has seen what it had seen, or more, and counts so many commits. What shares it has, and what it left in doubt, is open.
 pub record Goes (old new : TokenValue) (made : ℕ) : Type 0 where
-  pub is : new ≡ record old { seen = new.seen; made = made }
+  pub is : new ≡ record old { seen = new.seen; made = made; faults = new.faults; stops = new.stops; entered = new.entered }
   pub seen : IsPrefix old.seen new.seen
 
 -- As many entries of what the token has seen are its worker's as the token counts.
@@ -71,18 +71,29 @@ pub data Moved (base : Base) (index : ℕ) (old : TokenValue) (event : Event Fro
 -- it went on, and then once more
 pub go_then : (a b c : TokenValue) (made : ℕ) → Goes a b a.made → Goes b c made → Goes a c made
 go_then a b c made first next = record {
-  is = next.is ∙ ap (λ (t : TokenValue). record t { seen = c.seen; made = made }) first.is;
+  is = next.is ∙ ap (λ (t : TokenValue). record t { seen = c.seen; made = made; faults = c.faults; stops = c.stops; entered = c.entered }) first.is;
   seen = prefix_trans a.seen b.seen c.seen first.seen next.seen;
 }
 
 pub stays : (token : TokenValue) → Goes token token token.made
 stays token = record { is = refl; seen = prefix_self token.seen }
 
-grown : (old new : TokenValue) → Grows old new → Goes old new old.made
-grown old new grows = record { is = grows.is; seen = grows.seen }
+-- all but the index and the worker is of this token
+abbrev Carries : TokenValue → ℕ → TokenValue → Type 0
+Carries old made new = new ≡ record old { seen = new.seen; made = made; faults = new.faults; stops = new.stops; entered = new.entered }
 
-advanced : (schema : Schema) (base : Base) (old new : TokenValue) (made : ℕ) → Advances schema base old new made → Goes old new made
-advanced schema base old new made advances = record { is = advances.is; seen = advances.seen }
+grown : (old new : TokenValue) → Grows old new → Goes old new old.made
+grown old new grows = record { is = subst (Carries old old.made) (sym grows.is) refl; seen = grows.seen }
+
+pub advanced : (schema : Schema) (base : Base) (old new : TokenValue) (made : ℕ) (entered : Option (List Step)) → Advances schema base old new made entered → Goes old new made
+advanced schema base old new made entered advances = record { is = subst (Carries old made) (sym advances.is) refl; seen = advances.seen }
+
+-- nothing changed but shares
+pub kept_still : (old new : TokenValue) → Stays old new → Goes old new old.made
+kept_still old new still = record {
+  is = subst (Carries old old.made) (sym still) refl;
+  seen = subst (IsPrefix old.seen) (sym (ap (λ (t : TokenValue). t.seen) still)) (prefix_self old.seen);
+}
 
 pub same_worker : (a b : TokenValue) (made : ℕ) → Goes a b made → b.worker ≡ a.worker
 same_worker a b made goes = ap (λ (t : TokenValue). t.worker) goes.is
@@ -130,7 +141,7 @@ looked base index old mid new ops outcome none tells first next =
 told_here : (schema : Schema) (base : Base) (index : ℕ) (old mid new : TokenValue) (ops : List TxnOp) (outcome : CommitOutcome) → Goes old mid old.made → Tells schema base mid ops outcome new
     → Moved base index old (Commit index ops outcome (seen_by new)) new
 told_here schema base index old mid new ops (outcomes.Committed removed) first tells =
-    Made ops removed refl (one_made old mid new first (advanced schema base mid new (mid.made + 1) tells.0)) (commit_after base old mid new ops removed first (record {
+    Made ops removed refl (one_made old mid new first (advanced schema base mid new (mid.made + 1) _ tells.0)) (commit_after base old mid new ops removed first (record {
       earlier = tells.2.1.earlier;
       entry = tells.2.1.entry;
       snapshot = tells.2.1.snapshot;
@@ -139,12 +150,12 @@ told_here schema base index old mid new ops (outcomes.Committed removed) first t
       becomes = tells.2.1.becomes;
       counts = tells.1.counts;
     }))
-told_here schema base index old mid new ops (outcomes.InDoubt doubt) first tells = Doubted ops doubt refl (one_made old mid new first (advanced schema base mid new (mid.made + 1) tells.0)) tells.1.counts
-told_here schema base index old mid new ops (outcomes.Duplicate id) first tells = looked base index old mid new ops (outcomes.Duplicate id) refl (λ noted. tells.1.counts) first (advanced schema base mid new mid.made tells.0)
-told_here schema base index old mid new ops (outcomes.Full full) first tells = looked base index old mid new ops (outcomes.Full full) refl (λ noted. tells.1.counts) first (advanced schema base mid new mid.made tells.0)
-told_here schema base index old mid new ops outcomes.Refused first tells = looked base index old mid new ops outcomes.Refused refl (λ noted. absurd (cc noted)) first (advanced schema base mid new mid.made tells)
+told_here schema base index old mid new ops (outcomes.InDoubt doubt) first tells = Doubted ops doubt refl (one_made old mid new first (advanced schema base mid new (mid.made + 1) _ tells.0)) tells.1.counts
+told_here schema base index old mid new ops (outcomes.Duplicate id) first tells = looked base index old mid new ops (outcomes.Duplicate id) refl (λ noted. tells.1.counts) first (advanced schema base mid new mid.made _ tells.0)
+told_here schema base index old mid new ops (outcomes.Full full) first tells = looked base index old mid new ops (outcomes.Full full) refl (λ noted. tells.1.counts) first (advanced schema base mid new mid.made _ tells.0)
+told_here schema base index old mid new ops outcomes.Refused first tells = looked base index old mid new ops outcomes.Refused refl (λ noted. absurd (cc noted)) first (advanced schema base mid new mid.made _ tells)
 told_here schema base index old mid new ops (outcomes.Strayed numbers) first tells =
-    looked base index old mid new ops (outcomes.Strayed numbers) refl (λ noted. absurd (cc noted)) first (subst (λ (t : TokenValue). Goes mid t mid.made) (sym tells.0) (stays mid))
+    looked base index old mid new ops (outcomes.Strayed numbers) refl (λ noted. absurd (cc noted)) first (kept_still mid new tells.0)
 
 -- the token of the index once an event has passed
 pub record IsMoved (base : Base) (index : ℕ) (old : TokenValue) (event : Event FrontValue) (after : List TokenValue) : Type 0 where
@@ -170,7 +181,7 @@ commit_elsewhere base index place old mid after mids ops outcome front first at 
 }
 
 -- what a job says: it went on and counted no commit, with a note all that it counts is there, and its end is where it has ended
-record IsWorked (base : Base) (index : ℕ) (job : Job) (outcome : JobOutcome) (old new : TokenValue) : Type 0 where
+pub record IsWorked (base : Base) (index : ℕ) (job : Job) (outcome : JobOutcome) (old new : TokenValue) : Type 0 where
   pub goes : Goes old new old.made
   pub noted : has_job_note outcome ≡ true → HasAll new
   pub ends : HasItsEnd base index (Reshape index job outcome (seen_by old) (seen_by new))
@@ -180,15 +191,15 @@ stays_made old new same = subst (λ (t : TokenValue). Goes old t old.made) (sym 
 
 ended : (schema : Schema) (base : Base) (index : ℕ) (job : Job) (outcome : JobOutcome) (old new : TokenValue) → TellsEnd schema base old job outcome new → IsWorked base index job outcome old new
 ended schema base index job job_outcomes.Shaped old new tells = record {
-  goes = advanced schema base old new old.made tells.0;
+  goes = advanced schema base old new old.made _ tells.0;
   noted = λ noted. tells.1.counts;
   ends = λ here. record { earlier = tells.2.earlier; snapshot = tells.2.snapshot; last = tells.2.last; before = tells.2.before };
 }
-ended schema base index job (job_outcomes.Overtaken shape) old new tells = record { goes = advanced schema base old new old.made tells.0; noted = λ noted. tells.1.counts; ends = tt }
-ended schema base index job (job_outcomes.Full full) old new tells = record { goes = advanced schema base old new old.made tells.0; noted = λ noted. absurd (cc noted); ends = tt }
-ended schema base index job job_outcomes.Refused old new tells = record { goes = advanced schema base old new old.made tells; noted = λ noted. absurd (cc noted); ends = tt }
-ended schema base index job job_outcomes.InDoubt old new tells = record { goes = advanced schema base old new old.made tells; noted = λ noted. absurd (cc noted); ends = tt }
-ended schema base index job (job_outcomes.Strayed numbers) old new tells = record { goes = stays_made old new tells.0; noted = λ noted. absurd (cc noted); ends = tt }
+ended schema base index job (job_outcomes.Overtaken shape) old new tells = record { goes = advanced schema base old new old.made _ tells.0; noted = λ noted. tells.1.counts; ends = tt }
+ended schema base index job (job_outcomes.Full full) old new tells = record { goes = advanced schema base old new old.made _ tells.0; noted = λ noted. absurd (cc noted); ends = tt }
+ended schema base index job job_outcomes.Refused old new tells = record { goes = advanced schema base old new old.made _ tells; noted = λ noted. absurd (cc noted); ends = tt }
+ended schema base index job job_outcomes.InDoubt old new tells = record { goes = advanced schema base old new old.made _ tells.0; noted = λ noted. absurd (cc noted); ends = tt }
+ended schema base index job (job_outcomes.Strayed numbers) old new tells = record { goes = kept_still old new tells.0; noted = λ noted. absurd (cc noted); ends = tt }
 
 -- and where there was no room, nothing came of it
 never_asked : (base : Base) (index : ℕ) (job : Job) (outcome : JobOutcome) (old new : TokenValue) → HasNoRoom base old job outcome new → IsWorked base index job outcome old new
@@ -199,7 +210,7 @@ never_asked base index job job_outcomes.Refused old new none = absurd none
 never_asked base index job job_outcomes.InDoubt old new none = absurd none
 never_asked base index job (job_outcomes.Strayed numbers) old new none = absurd none
 
-worked : (schema : Schema) (base : Base) (index : ℕ) (job : Job) (outcome : JobOutcome) (old new : TokenValue) → TellsJob schema base old job outcome new → IsWorked base index job outcome old new
+pub worked : (schema : Schema) (base : Base) (index : ℕ) (job : Job) (outcome : JobOutcome) (old new : TokenValue) → TellsJob schema base old job outcome new → IsWorked base index job outcome old new
 worked schema base index job outcome old new (inl tells) = ended schema base index job outcome old new tells.1
 worked schema base index job outcome old new (inr none) = never_asked base index job outcome old new none
 
@@ -209,7 +220,7 @@ job_here : (schema : Schema) (base : Base) (index : ℕ) (old mid new : TokenVal
 job_here schema base index old mid new job outcome first tells =
     let is = worked schema base index job outcome mid new tells in
     let up = prefix_trans old.seen mid.seen new.seen first.seen is.goes.seen in
-    Looked (none_made old mid new first is.goes) refl (λ noted. is.noted (second_true (index == index) (has_job_note outcome) noted))
+    Looked (none_made old mid new first is.goes) (and_right (index == index) false refl) (λ noted. is.noted (second_true (index == index) (has_job_note outcome) noted))
     (record { amid = λ here. (record { first = first.seen; rest = is.goes.seen }, record { first = up; rest = prefix_self new.seen }); last = λ here. refl; ends = is.ends })
 
 -- a job that has ended, of another index
@@ -226,7 +237,7 @@ job_elsewhere : (base : Base) (index place : ℕ) (old mid after : TokenValue) (
 job_elsewhere base index place old mid after mids job outcome own front first at apart = record {
   new = mid;
   at = get_set_other mids place index after apart ∙ at;
-  moved = Looked first refl (λ noted. absurd (let none = and_left (place == index) (has_job_note outcome) (ne_eqb place index apart) in cc (none, noted)))
+  moved = Looked first (and_right (place == index) false refl) (λ noted. absurd (let none = and_left (place == index) (has_job_note outcome) (ne_eqb place index apart) in cc (none, noted)))
       (record { amid = λ here. absurd (apart here); last = λ here. absurd (apart here); ends = no_end base index place job outcome own front apart });
 }
 

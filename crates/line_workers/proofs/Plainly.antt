@@ -160,3 +160,9 @@ module _ {F : Type 0} (documents : F → SnapshotValue) where
     happened = ap (λ (es : List (Event F)). map over es) ends.happened ∙ map_then over (flat_map (λ (t : Turn (Event F)). t.events) ends.turns) ends.at.events
         ∙ ap (λ (es : List (Event SnapshotValue)). es ++ map over ends.at.events) (sym (events_over ends.turns));
   }
+
+  -- its turns are those over fronts
+  pub line_turns : (before now : Meters) (end : LinkEnd) (old : Phase State) (held read written : List ℕ) (events : List (Event F)) (client : EndsByClient end) (ends : Ends (statement_machine documents) before now end old held read written events)
+      → (line_over before now end old held read written events client ends).turns ≡ map turn_over ends.turns
+  unfolding line_over
+  line_turns before now end old held read written events client ends = refl

@@ -17,11 +17,12 @@ use Rattle.snap_share.specs.Closings.{Closes}
 use Rattle.store_keep.specs.Tellings.{first_stray}
 use Rattle.step_book.specs.Fronts.{FrontValue}
 use Rattle.step_book.proofs.Prefixes.{prefix_get}
+use Rattle.step_book.specs.Tellings.{AtOpening}
 use Rattle.step_history.specs.History.{Base}
 use Rattle.step_line.specs.Lines.{LineValue}
 use Rattle.step_tokens.specs.Tokens.{TokenValue}
 use Rattle.ql_session.specs.Events.{Event}
-use Rattle.engine_tables.specs.Endings.{HasEnded, HaveEnded}
+use Rattle.engine_tables.specs.Endings.{HaveEnded}
 use Rattle.engine_tables.specs.Tokens.{TokensValue, none_told, told_at, told_of, tokens_at}
 use Rattle.engine_tables.specs.declared.ended.Ended.{Ended}
 use Rattle.line_workers.specs.Attempts.{events_of, told_by}
@@ -111,23 +112,24 @@ module _ {E K J : Type 0} (door : DoorWords E K) (link : LinkWords K) (schema : 
       ∙ ap (λ (rest : List Strayed). option_to_list (told_by index (events_of s)) ++ rest) (all_told (worker + 1) services lefts olds news work.1)
 
 -- what the end of the index rests on
-rests_so : {D K : Type 0} (disk : DiskWords D) (schema : ℕ → Schema) (base : ℕ → Base) (index workers : ℕ) (services : List (List (Service K FrontValue))) (tokens new : List TokenValue) (told : List Strayed) (left : D) (answer : Result FrontValue (Or Strayed)) → told ≡ tells index services
-    → Closes disk schema base index workers told tokens left answer new → RestsOn disk (schema index) (base index) index workers tokens (map events_of services) left answer
-rests_so disk schema base index workers services tokens new told left (Ok note) are closes = none_tells index services (sym are ∙ closes.4)
-rests_so disk schema base index workers services tokens new told left (Err (causes.Fault numbers)) are closes =
+rests_so : {D K : Type 0} (disk : DiskWords D) (schema : ℕ → Schema) (base : ℕ → Base) (opened : ℕ → AtOpening) (index workers : ℕ) (services : List (List (Service K FrontValue))) (tokens new : List TokenValue) (told : List Strayed) (left : D) (noted : Option FrontValue) (note : FrontValue)
+    (answer : Result (Unit {0}) (Or Strayed)) → told ≡ tells index services → noted ≡ Some note → Closes disk schema base opened index workers told tokens left note answer new
+    → RestsOn disk (schema index) (base index) index workers tokens (map events_of services) left noted answer
+rests_so disk schema base opened index workers services tokens new told left noted note (Ok done) are is closes = none_tells index services (sym are ∙ closes.2.0)
+rests_so disk schema base opened index workers services tokens new told left noted note (Err (causes.Fault numbers)) are is closes =
     let line : LineValue = closes.0 in
     ⊎_elim
     (λ (has : Contains told numbers). inl (some_tells index numbers services (subst (λ (ns : List Strayed). Contains ns numbers) are has)))
-    (λ (found : (told ≡ []) × (first_stray (base index) line tokens ≡ Some numbers)). inr (none_tells index services (sym are ∙ found.0), record { line = line; kept = closes.1; first = found.1 }))
+    (λ (found : first_stray (base index) line tokens ≡ Some numbers). inr (record { line = line; kept = closes.1.left; told = is ∙ ap (λ (n : FrontValue). Some n) closes.1.note_is; first = found }))
     closes.2
-rests_so disk schema base index workers services tokens new told left (Err causes.NoMemory) are closes = tt
+rests_so disk schema base opened index workers services tokens new told left noted note (Err causes.NoMemory) are is closes = tt
 
 -- So does each index, once all have worked and each engine has ended with their tokens.
-pub all_rest : {D E K J : Type 0} (disk : DiskWords D) (door : DoorWords E K) (link : LinkWords K) (schema : ℕ → Schema) (base : ℕ → Base) (confs : List IndexConf) (workers sessions : ℕ) (services : List (List (Service K FrontValue))) (lefts : List TokensValue) (olds news : List (Seat E J K)) (ends : List (Ended D J))
-    → AllWork door link schema base confs workers sessions 1 services lefts olds news → HaveEnded disk schema base (length confs) workers lefts ends → (index : ℕ) (end : Ended D J) → slice_get ends index ≡ Some end
-    → RestsOn disk (schema index) (base index) index workers (tokens_at index lefts) (map events_of services) end.disk end.answer
-all_rest {D} {E} {K} {J} disk door link schema base confs workers sessions services lefts olds news ends work ended index end at =
-    let has : HasEnded disk schema base index workers (told_at index lefts) (tokens_at index lefts) end = ended.each index end at in
+pub all_rest : {D E K J : Type 0} (disk : DiskWords D) (door : DoorWords E K) (link : LinkWords K) (schema : ℕ → Schema) (base : ℕ → Base) (opened : ℕ → AtOpening) (confs : List IndexConf) (workers sessions : ℕ) (services : List (List (Service K FrontValue))) (lefts : List TokensValue)
+    (olds news : List (Seat E J K)) (ends : List (Ended D J)) → AllWork door link schema base confs workers sessions 1 services lefts olds news → HaveEnded disk schema base opened (length confs) workers lefts ends → (index : ℕ) (end : Ended D J) → slice_get ends index ≡ Some end
+    → RestsOn disk (schema index) (base index) index workers (tokens_at index lefts) (map events_of services) end.disk end.note end.answer
+all_rest {D} {E} {K} {J} disk door link schema base opened confs workers sessions services lefts olds news ends work ended index end at =
+    let (note, is, new, closes) = ended.each index end at in
     let below : index < length confs = omega (arith, slice_get_within ends index end at, ended.many) in
-    rests_so disk schema base index workers services (tokens_at index lefts) has.0 (told_at index lefts) end.disk end.answer
-    (all_told {E = E} {K = K} {J = J} door link schema base confs workers sessions index below 1 services lefts olds news work) has.1
+    rests_so disk schema base opened index workers services (tokens_at index lefts) new (told_at index lefts) end.disk end.note note end.answer
+    (all_told {E = E} {K = K} {J = J} door link schema base confs workers sessions index below 1 services lefts olds news work) is closes

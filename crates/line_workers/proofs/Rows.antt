@@ -1,5 +1,5 @@
 -- What a worker alone was shown of the documents, by its own commits.
-use Rattle.std.proofs.Common.{◌≡◌, ℕ, suc, ◌+◌, ◌<◌, ◌≤◌, ◌==◌, ◌&&◌, Bool, true, false, List, [], ◌∷◌, ◌++◌, length, Some, slice_get, take, refl, sym, ap, subst, ◌∙◌, arith, append_assoc, append-nil, length-append}
+use Rattle.std.proofs.Common.{◌≡◌, ℕ, suc, ◌+◌, ◌<◌, ◌==◌, ◌&&◌, Bool, true, false, List, [], ◌∷◌, ◌++◌, length, Some, slice_get, take, refl, sym, ap, subst, ◌∙◌, arith, append_assoc, append-nil, length-append}
 use Rattle.std.specs.Prelude.{map}
 use Rattle.std.specs.List.{AllByRecursion, filter, flat_map, fold}
 use Rattle.std.proofs.Math.Seq.{take-append_seam}
@@ -39,7 +39,8 @@ use Rattle.line_workers.proofs.Moving.{same_confs, same_shape}
 use Rattle.line_workers.proofs.Moving as moving
 use Rattle.line_workers.proofs.Places.{get_last, zip_long}
 use Rattle.line_workers.proofs.Plainly.{over}
-use Rattle.line_workers.proofs.Repeated.{IsShown, Keeps, Leads, Makes, Plain, Stand, Turns}
+use Rattle.line_workers.proofs.Repeated.{IsShown, Keeps, Leads, Makes, Turns}
+use Rattle.line_workers.proofs.Stands.{Plain, Stand}
 use Rattle.line_workers.proofs.Standing.{alone, amid}
 use Rattle.line_workers.proofs.Whole.{many_tokens}
 use Rattle.line_workers.specs.Workers.{first_tokens}
@@ -251,7 +252,7 @@ module _ (schema : ℕ → Schema) (base : ℕ → Base) (confs : List IndexConf
       )
   leads before (Reshape place job outcome own front) later old new is same long follows =
       let event : Event FrontValue = Reshape place job outcome own front in
-      (calm_at before event later is, keeps before event later (λ p. refl) refl)
+      (calm_at before event later is, keeps before event later (λ p. and_right (place == p) false refl) refl)
 
   -- and what events one after another do
   follow_rows : (before rest : List (Event FrontValue)) (old new : WorkerValue) → events ≡ before ++ rest → old.confs ≡ confs → length old.tokens.list ≡ length confs → FollowAll (moving.Leads schema base 0) old rest new

@@ -1,9 +1,9 @@
 -- Seats before the workers begin, once they have ended, and once their tokens were collected.
-use Rattle.std.proofs.Common.{◌≡◌, ⊎_elim, ℕ, zero, suc, ◌+◌, ◌≤◌, ◌<◌, List, [], ◌∷◌, ◌++◌, length, map, Option, Some, get_or, slice_get, refl, sym, ap, subst, ◌∙◌, arith, length-append}
+use Rattle.std.proofs.Common.{◌≡◌, ⊎_elim, ℕ, zero, suc, ◌+◌, ◌≤◌, ◌<◌, ◌==◌, false, List, [], ◌∷◌, ◌++◌, length, map, Option, Some, get_or, slice_get, refl, sym, ap, subst, ◌∙◌, arith, length-append}
 use Rattle.std.specs.Prelude.{All}
-use Rattle.std.specs.List.{AllByRecursion, AllZip}
+use Rattle.std.specs.List.{AllByRecursion, AllZip, IsDistinct}
 use Rattle.std.specs.Option.{option_map, option_to_list}
-use Rattle.std.proofs.lemmas.Bool.{cases_lt}
+use Rattle.std.proofs.lemmas.Bool.{cases_lt, ne_eqb}
 use Rattle.std.proofs.lemmas.List.{length-map}
 use Rattle.std.proofs.lemmas.List.Elements.{All-from_recursion}
 use Rattle.std.proofs.lemmas.Option.{get_or_from_slice_get, slice_get-get_or, slice_get-map, slice_get_within}
@@ -13,10 +13,11 @@ use Rattle.chunk_store.specs.declared.disk.Disk.{Ghosts as DiskWords}
 use Rattle.doc_types.specs.declared.schema.Schema.{Schema}
 use Rattle.step_book.specs.Fronts.{FrontValue}
 use Rattle.step_book.proofs.Prefixes.{prefix_get}
+use Rattle.step_book.specs.Tellings.{AtOpening}
 use Rattle.step_history.specs.History.{Base}
 use Rattle.engine_tables.specs.Endings.{HaveEnded}
 use Rattle.engine_tables.specs.Engines.{EnginesValue}
-use Rattle.engine_tables.specs.Tokens.{SitsAt, TokensValue, new_seat, new_seats, tokens_at}
+use Rattle.engine_tables.specs.Tokens.{SeatsDiffer, SitsAt, TokensValue, new_seat, new_seats, tokens_at}
 use Rattle.engine_tables.specs.Workers.{by_tokens}
 use Rattle.engine_tables.specs.declared.ended.Ended.{Ended}
 use Rattle.line_workers.specs.Lines.{Service, ServesDoor}
@@ -29,6 +30,8 @@ use Rattle.line_workers.specs.declared.seat.Seat.{Seat}
 use Rattle.line_workers.specs.declared.serving.SeatEnd.{SeatEnd}
 use Rattle.line_workers.specs.steps.Working.{CanWork, HasWorked, IsSameSeat, collected}
 use Rattle.line_workers.proofs.Places.{get_last, some_is}
+use Rattle.line_workers.proofs.Doubting.{all_settle}
+use Rattle.line_workers.proofs.Fitting.{all_fit, all_stop}
 use Rattle.line_workers.proofs.Resting.{all_rest}
 use Rattle.line_workers.proofs.Whole.{many_tokens, one_history}
 
@@ -61,6 +64,21 @@ all_by_places P xs each = λ k d below. each k (get_or xs k d) (slice_get-get_or
 
 place_of_all : {X : Type 0} (P : X → Type 0) (xs : List X) (place : ℕ) (x : X) → All P xs → slice_get xs place ≡ Some x → P x
 place_of_all {X} P xs place x all at = subst (λ (y : X). P y) (get_or_from_slice_get xs place x x at) (all place x (slice_get_within xs place x at))
+
+-- so many numbers from this one on
+up_from : ℕ → ℕ → List ℕ
+up_from first zero = []
+up_from first (suc count) = first ∷ up_from (first + 1) count
+
+all_above : (low first count : ℕ) → low < first → AllByRecursion (λ (n : ℕ). (low == n) ≡ false) (up_from first count)
+unfolding up_from
+all_above low first zero less = tt
+all_above low first (suc count) less = (ne_eqb low first (λ same. absurd (omega (arith, less, same))), all_above low (first + 1) count (omega (arith, less)))
+
+up_differ : (first count : ℕ) → IsDistinct (λ (one other : ℕ). one == other) (up_from first count)
+unfolding up_from IsDistinct
+up_differ first zero = tt
+up_differ first (suc count) = (all_above first (first + 1) count (omega arith), up_differ (first + 1) count)
 
 module _ {E K J : Type 0} (door : DoorWords E K) (link : LinkWords K) (schema : ℕ → Schema) (base : ℕ → Base) (engines : EnginesValue) (sessions : ℕ) where
   pub all_seated : (seats : List (Seat E J K)) → AreReady door engines sessions seats → length seats ≡ engines.workers
@@ -117,6 +135,26 @@ module _ {E K J : Type 0} (door : DoorWords E K) (link : LinkWords K) (schema : 
   pub sit_all : (olds mids : List (Seat E J K)) → AllZip Worked olds mids → All (SitsAt engines) (collected mids)
   sit_all olds mids all = subst (λ (ls : List TokensValue). All (SitsAt engines) ls) (sym (collects olds mids all)) (All-from_recursion (SitsAt engines) (lefts_of olds mids all) (sit_left olds mids all))
 
+  -- each is another worker's: they are numbered in their order
+  numbered : (worker : ℕ) (olds mids : List (Seat E J K)) (all : AllZip Worked olds mids) → ((place : ℕ) (seat : Seat E J K) → slice_get olds place ≡ Some seat → seat.tokens ≡ Some (first_tokens engines.confs (worker + place)))
+      → map (λ (t : TokensValue). t.worker) (lefts_of olds mids all) ≡ up_from worker (length olds)
+  unfolding lefts_of up_from
+  numbered worker [] [] all first = refl
+  numbered worker [] (mid ∷ mids) all first = absurd all
+  numbered worker (old ∷ olds) [] all first = absurd all
+  numbered worker (old ∷ olds) (mid ∷ mids) all first =
+      let had : all.0.had ≡ first_tokens engines.confs (worker + 0) = some_is all.0.had (first_tokens engines.confs (worker + 0)) (sym all.0.is ∙ first 0 old refl) in
+      let own : all.0.left.worker ≡ worker = all.0.own ∙ ap (λ (t : TokensValue). t.worker) had ∙ omega arith in
+      ap (λ (w : ℕ). w ∷ map (λ (t : TokensValue). t.worker) (lefts_of olds mids all.1)) own
+      ∙ ap (λ (ws : List ℕ). worker ∷ ws) (numbered (worker + 1) olds mids all.1 (λ place seat at. subst (λ (w : ℕ). seat.tokens ≡ Some (first_tokens engines.confs w)) (omega arith) (first (suc place) seat at)))
+
+  pub differ_all : (olds mids : List (Seat E J K)) → AreReady door engines sessions olds → AllZip Worked olds mids → SeatsDiffer (collected mids)
+  differ_all olds mids ready all =
+      subst SeatsDiffer (sym (collects olds mids all)) (record {
+        apart = subst (λ (ws : List ℕ). IsDistinct (λ (one other : ℕ). one == other) ws)
+            (sym (numbered 1 olds mids all (λ place seat at. subst (λ (w : ℕ). seat.tokens ≡ Some (first_tokens engines.confs w)) (omega arith) (begins_with olds ready place seat at)))) (up_differ 1 (length olds));
+      })
+
   -- a worker that began with its first tokens, once these were taken away
   works_first : (worker : ℕ) (old mid new : Seat E J K) (worked : Worked old mid) → IsSameSeat mid new → old.tokens ≡ Some (first_tokens engines.confs worker)
       → Works door link schema base engines.confs engines.workers sessions worked.services (first_tokens engines.confs worker) worked.left old new
@@ -146,21 +184,24 @@ module _ {E K J : Type 0} (door : DoorWords E K) (link : LinkWords K) (schema : 
   )
 
   -- All workers have worked, their tokens were collected, and each engine has ended with them.
-  pub served_so : {D : Type 0} (disk : DiskWords D) (olds mids news : List (Seat E J K)) (ends : List (Ended D J)) → AreReady door engines sessions olds → AllZip Worked olds mids → AllZip IsSameSeat mids news
-      → HaveEnded disk schema base (length engines.confs) engines.workers (collected mids) ends → IsServed disk door link schema base engines.confs sessions olds news ends
-  served_so disk olds mids news ends ready all same ended =
+  pub served_so : {D : Type 0} (disk : DiskWords D) (opened : ℕ → AtOpening) (olds mids news : List (Seat E J K)) (ends : List (Ended D J)) → AreReady door engines sessions olds → AllZip Worked olds mids → AllZip IsSameSeat mids news
+      → HaveEnded disk schema base opened (length engines.confs) engines.workers (collected mids) ends → IsServed disk door link schema base opened engines.confs sessions olds news ends
+  served_so disk opened olds mids news ends ready all same ended =
       let many : length olds ≡ engines.workers = all_seated olds ready in
       let lefts : List TokensValue = lefts_of olds mids all in
       let works : AllWork door link schema base engines.confs engines.workers sessions 1 (services_of olds mids all) lefts olds news =
       all_work 1 olds mids news all same (λ place seat at. subst (λ (w : ℕ). seat.tokens ≡ Some (first_tokens engines.confs w)) (omega arith) (begins_with olds ready place seat at)) in
-      let over : HaveEnded disk schema base (length engines.confs) engines.workers lefts ends = subst (λ (ls : List TokensValue). HaveEnded disk schema base (length engines.confs) engines.workers ls ends) (collects olds mids all) ended in
+      let over : HaveEnded disk schema base opened (length engines.confs) engines.workers lefts ends = subst (λ (ls : List TokensValue). HaveEnded disk schema base opened (length engines.confs) engines.workers ls ends) (collects olds mids all) ended in
       record {
         services = services_of olds mids all;
         left = lefts;
         works = subst (λ (n : ℕ). AllWork door link schema base engines.confs n sessions 1 (services_of olds mids all) lefts olds news) (sym many) works;
-        ended = subst (λ (n : ℕ). HaveEnded disk schema base (length engines.confs) n lefts ends) (sym many) over;
-        histories = λ index end note at answered. one_history J door link schema base engines.confs engines.workers sessions disk (services_of olds mids all) lefts olds news ends many works over index end note at answered;
+        ended = subst (λ (n : ℕ). HaveEnded disk schema base opened (length engines.confs) n lefts ends) (sym many) over;
+        histories = λ index end note at told unstrayed. one_history J door link schema base engines.confs engines.workers sessions disk opened (services_of olds mids all) lefts olds news ends many works over index end note at told unstrayed;
         strays = λ index end at.
-            subst (λ (n : ℕ). RestsOn disk (schema index) (base index) index n (tokens_at index lefts) (map events_of (services_of olds mids all)) end.disk end.answer) (sym many)
-            (all_rest disk door link schema base engines.confs engines.workers sessions (services_of olds mids all) lefts olds news ends works over index end at);
+            subst (λ (n : ℕ). RestsOn disk (schema index) (base index) index n (tokens_at index lefts) (map events_of (services_of olds mids all)) end.disk end.note end.answer) (sym many)
+            (all_rest disk door link schema base opened engines.confs engines.workers sessions (services_of olds mids all) lefts olds news ends works over index end at);
+        settled = λ index end note place own at told own_at. all_settle disk door link schema base opened engines.confs engines.workers sessions (services_of olds mids all) lefts olds news ends works over index end note place own at told own_at;
+        faults = λ index end at. all_fit disk door link schema base opened engines.confs engines.workers sessions (services_of olds mids all) lefts olds news ends works over index end at;
+        stops = λ index end note at told answered. all_stop disk door link schema base opened engines.confs engines.workers sessions (services_of olds mids all) lefts olds news ends works over index end note at told answered;
       }

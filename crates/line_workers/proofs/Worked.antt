@@ -40,6 +40,7 @@ module _ {E K J : Type 0} (door : DoorWords E K) (link : LinkWords K) (schema : 
         is = is;
         leaves = leaves;
         sits = record { many = shape.1 ∙ sits.many; above = omega (arith, shape.0, sits.above); within = omega (arith, shape.0, sits.within) };
+        own = shape.0;
         services = services;
         works = works_so door link schema base engines.confs engines.workers sessions services had after.tokens old new
             (subst (λ (a : WorkerValue). Serves engines.workers had.worker services old new start a) ends here);

@@ -1,19 +1,24 @@
 -- Alone: one line of a worker that no other one commits beside, where nothing failed on the way.
-use Rattle.std.specs.Prelude.{◌≡◌, ⊤, ℕ, ◌<◌, List, [], ◌∷◌, All, length}
-use Rattle.std.specs.List.{flat_map}
+use Rattle.std.specs.Prelude.{◌≡◌, ⊤, ℕ, ◌<◌, ◌-◌, List, [], ◌∷◌, Bool, true, false, All, length, take}
+use Rattle.std.specs.List.{flat_map, list_any}
 use Rattle.srch_base.specs.Moves.{Meters}
 use Rattle.commit_outcomes.specs.declared.outcome.CommitOutcome.{CommitOutcome}
 use Rattle.commit_outcomes.specs.declared.outcome.CommitOutcome.TheVariants.{Committed, Duplicate}
 use Rattle.doc_types.specs.declared.schema.Schema.{Schema}
 use Rattle.doc_types.specs.Snapshots.{live}
 use Rattle.index_conf.specs.declared.conf.IndexConf.{IndexConf}
+use Rattle.mysql_wire.specs.Commands.{Query, command_of}
+use Rattle.mysql_wire.specs.Packets.{packet}
+use Rattle.ql_tree.specs.declared.statement.Statement.{Statement}
+use Rattle.ql_tree.specs.declared.statement.Statement.TheVariants.{ShowIndexStatus}
 use Rattle.ql_session.specs.Events.{Event, Configured, Nothing, NoMemory, Read, Commit, Reshape, Follows}
 use Rattle.ql_session.specs.JobOutcome.{JobOutcome}
 use Rattle.ql_session.specs.JobOutcome.TheVariants.{Shaped}
 use Rattle.ql_session.specs.LinkEnd.{LinkEnd}
 use Rattle.ql_session.specs.Machines.{FollowAll}
 use Rattle.ql_session.specs.Session.{IsSession}
-use Rattle.serve_line.specs.Line.{EndsByClient}
+use Rattle.ql_session.specs.Statements.{States}
+use Rattle.serve_line.specs.Line.{EndsByClient, Turn}
 use Rattle.step_book.specs.Fronts.{FrontValue}
 use Rattle.step_history.specs.History.{Base, Step}
 use Rattle.step_history.specs.Places.{disk_chunks}
@@ -72,3 +77,20 @@ pub record IsAlone (schema : ℕ → Schema) (base : ℕ → Base) (confs : List
   pub untroubled : All IsUntroubled events
   pub one : (index : ℕ) → index < length confs → IsOneHistory (schema index) (base index) index (history index) (events ∷ [])
   pub reads : flat_map (chunks_read base) events ≡ chunks
+
+-- the statement is SHOW INDEX STATUS
+abbrev pub is_status : Statement → Bool
+is_status (ShowIndexStatus index) = true
+is_status statement = false
+
+-- Of the statements of a text none is SHOW INDEX STATUS that was answered: so many were as there are events after the first one.
+abbrev pub AnswersNoStatus : {F : Type 0} → List ℕ → List (Event F) → Type 0
+AnswersNoStatus text events = (statements : List Statement) → States text statements → list_any is_status (take (length events - 1) statements) ≡ false
+
+-- no SHOW INDEX STATUS was answered in the turn
+abbrev pub HasNoStatus : {F : Type 0} → Turn (Event F) → Type 0
+HasNoStatus turn = (payload text : List ℕ) → turn.read ≡ packet 0 payload → command_of payload ≡ Query text → AnswersNoStatus text turn.events
+
+-- No SHOW INDEX STATUS was answered in the line: nothing of it tells how many chunks are on the disk.
+abbrev pub IsWithoutStatus : {schema : ℕ → Schema} {base : ℕ → Base} {confs : List IndexConf} {connection : ℕ} {chunks read written : List ℕ} → IsAlone schema base confs connection chunks read written → Type 0
+IsWithoutStatus line = All HasNoStatus line.session.turns

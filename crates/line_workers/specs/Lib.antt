@@ -8,6 +8,10 @@ pub mod Seats
 pub mod Workers
 -- the one history of an index, by what the lines were shown and told
 pub mod Histories
+-- what becomes of calls that were left in doubt
+pub mod Doubts
+-- how many faults and stops there are, by what the disk of an index counts
+pub mod Faults
 -- what it rests on that the history of an index strayed
 pub mod Strayings
 -- one line of a worker alone, where nothing failed on the way

@@ -3,7 +3,7 @@ ghost use Rattle.std.specs.Prelude.{◌≡◌, ◌<◌, ◌≤◌, ◌+◌, ◌*
 ghost use Rattle.std.specs.List.{AllZip};
 ghost use Rattle.engine_tables.specs.Endings.{HaveEnded};
 ghost use Rattle.engine_tables.specs.Names.{IsRoomFor};
-ghost use Rattle.engine_tables.specs.Tokens.{SitsAt};
+ghost use Rattle.engine_tables.specs.Tokens.{SeatsDiffer, SitsAt};
 ghost use Rattle.line_workers.specs.Seats.{AreReady};
 ghost use Rattle.line_workers.specs.Served.{IsServed};
 ghost use Rattle.line_workers.specs.steps.Working.{CanWork, HasWorked, IsSameSeat, collected};
@@ -93,7 +93,8 @@ fn end_engines<D: Disk, E: Door, J: Naming, R: Wait>(
     requires room { IsRoomFor (length engines.confs) engines.workers ending }
     requires many { length seats.old ≤ engines.workers }
     requires sit { All (SitsAt engines) (collected seats.old) }
-    ensures ended { HaveEnded D.Disk J.schema J.base (length engines.confs) engines.workers (collected seats.old) result.items }
+    requires differ { SeatsDiffer (collected seats.old) }
+    ensures ended { HaveEnded D.Disk J.schema J.base J.opened (length engines.confs) engines.workers (collected seats.old) result.items }
     ensures seats { AllZip IsSameSeat seats.old seats.new }
 {
     collect(seats, &mut ending);
@@ -117,7 +118,7 @@ where
     E::Line: Send,
     requires ready { AreReady E.Door engines sessions seats.old }
     requires room { IsRoomFor (length engines.confs) engines.workers ending }
-    ensures { IsServed D.Disk E.Door E.Line.Link J.schema J.base engines.confs sessions seats.old seats.new result.items }
+    ensures { IsServed D.Disk E.Door E.Line.Link J.schema J.base J.opened engines.confs sessions seats.old seats.new result.items }
 {
     work_all(rt, alloc, &engines, sessions, seats);
     end_engines(rt, engines, ending, seats)
@@ -134,7 +135,7 @@ pub fn serve_in_turn<D: Disk, E: Door, J: Naming, R: Wait>(
 ) -> Vec<Ended<D, J>>
     requires ready { AreReady E.Door engines sessions seats.old }
     requires room { IsRoomFor (length engines.confs) engines.workers ending }
-    ensures { IsServed D.Disk E.Door E.Line.Link J.schema J.base engines.confs sessions seats.old seats.new result.items }
+    ensures { IsServed D.Disk E.Door E.Line.Link J.schema J.base J.opened engines.confs sessions seats.old seats.new result.items }
 {
     work_in_turn(rt, alloc, &engines, sessions, seats);
     end_engines(rt, engines, ending, seats)

@@ -6,7 +6,7 @@ ghost use Rattle.index_conf.specs.declared.conf.IndexConf.{IndexConf};
 ghost use Rattle.ql_session.specs.Events.{Event};
 ghost use Rattle.step_book.specs.Fronts.{FrontValue};
 ghost use Rattle.step_history.specs.History.{Base, Step, commits};
-ghost use Rattle.line_workers.specs.Alone.{IsAlone, OpenAlike};
+ghost use Rattle.line_workers.specs.Alone.{IsAlone, IsWithoutStatus, OpenAlike};
 ghost use Rattle.line_workers.specs.Attempts.{OnFront, OnLast, attempts_on, is_noted};
 ghost use Rattle.line_workers.specs.Histories.{AreEntriesOf, IsAcknowledged, IsAskedFor, IsAttempt, IsEntryOf, IsOneHistory, entries_numbered};
 
@@ -39,10 +39,12 @@ pub fn a_worker_alone_sees_its_commits()
 
 /// One worker alone: equal bytes have equal replies. Two lines of one connection over the same documents that read the same bytes wrote
 /// the same bytes, whatever layers and chunks hold these documents and whatever jobs end meanwhile, where their clients ended them,
-/// memory was there, the store refused nothing and nothing is in doubt. Where they read an index, as many chunks are on the disk, since
-/// SHOW INDEX STATUS tells how many there are; no clause counts the jobs that have ended.
+/// memory was there, the store refused nothing and nothing is in doubt. SHOW INDEX STATUS alone tells how many chunks are on the disk,
+/// and no clause counts the jobs that have ended: so where it was answered, as many chunks have to be there whenever an index is read.
 pub fn a_worker_alone_has_one_reply()
-    ensures { (schema : ℕ → Schema) (base other : ℕ → Base) (confs : List IndexConf) (connection : ℕ) (chunks read written replies : List ℕ) → ((index : ℕ) → index < length confs → OpenAlike (base index) (other index))
+    ensures plain { (schema : ℕ → Schema) (base other : ℕ → Base) (confs : List IndexConf) (connection : ℕ) (chunks others read written replies : List ℕ) → ((index : ℕ) → index < length confs → OpenAlike (base index) (other index))
+        → (one : IsAlone schema base confs connection chunks read written) → (two : IsAlone schema other confs connection others read replies) → IsWithoutStatus one → IsWithoutStatus two → written ≡ replies }
+    ensures counted { (schema : ℕ → Schema) (base other : ℕ → Base) (confs : List IndexConf) (connection : ℕ) (chunks read written replies : List ℕ) → ((index : ℕ) → index < length confs → OpenAlike (base index) (other index))
         → IsAlone schema base confs connection chunks read written → IsAlone schema other confs connection chunks read replies → written ≡ replies }
 {
     bytes_begin_in_one_way();

@@ -14,9 +14,9 @@ use Rattle.index_conf.specs.declared.conf.Conf.{Conf}
 use Rattle.index_conf.specs.declared.conf.IndexConf.{IndexConf}
 use Rattle.line_workers.specs.Lines.{Service}
 use Rattle.line_workers.specs.Workers.{AllWork}
-use Rattle.served_stores.specs.Serving.{AnyEnded, AnySeat, HasNone, HasServed, Serves, end_of, outcome_of, some_failed, told}
+use Rattle.served_stores.specs.Serving.{AnyEnded, AnySeat, HasNone, HasServed, Serves, end_of, outcome_of, some_failed}
 use Rattle.served_stores.specs.Stores.{AreStores}
-use Rattle.served_stores.specs.steps.Picks.{base_at, schema_at}
+use Rattle.served_stores.specs.steps.Picks.{base_at, opening_at, schema_at}
 use Rattle.served_stores.proofs.Nameless.{unserved_back, unserved_of}
 use Rattle.served_stores.proofs.Naming.{names_of}
 use Rattle.served_stores.specs.declared.ends.IndexEnd.{IndexEnd}
@@ -99,9 +99,9 @@ seats_left door link schema base confs workers sessions worker (s ∷ services) 
 seats_left door link schema base confs workers sessions worker (s ∷ services) (l ∷ lefts) (o ∷ olds) [] work = absurd work
 seats_left door link schema base confs workers sessions worker (s ∷ services) (l ∷ lefts) (o ∷ olds) (n ∷ news) work = ap suc (seats_left door link schema base confs workers sessions (worker + 1) services lefts olds news work.1)
 
-ends_answers : {S : Type 0} (ended : List (AnyEnded S)) → map (λ (end : IndexEnd S). end.answer) (map end_of ended) ≡ map (λ (end : AnyEnded S). told end.answer) ended
+ends_answers : {S : Type 0} (ended : List (AnyEnded S)) → map (λ (end : IndexEnd S). end.answer) (map end_of ended) ≡ map (λ (end : AnyEnded S). end.answer) ended
 ends_answers [] = refl
-ends_answers (end ∷ ended) = ap (λ (list : Answers). told end.answer ∷ list) (ends_answers ended)
+ends_answers (end ∷ ended) = ap (λ (list : Answers). end.answer ∷ list) (ends_answers ended)
 
 ends_disks : {S : Type 0} (ended : List (AnyEnded S)) → map (λ (end : IndexEnd S). end.disk) (map end_of ended) ≡ map (λ (end : AnyEnded S). end.disk) ended
 ends_disks [] = refl
@@ -146,6 +146,10 @@ short_names indexes names served are =
     let short : All (λ (index : IndexConf). IsShort index.schema.name) indexes = λ k index within. (served.schemas k index within).name.short in
     subst (All IsShort) (sym are) (All-map IsShort (λ (index : IndexConf). index.schema.name) indexes short)
 
+-- and as many as there are indexes
+pub names_long : (indexes : List IndexConf) (names : List (List ℕ)) → AreNames indexes names → length names ≡ length indexes
+names_long indexes names are = ap length are ∙ length-map indexes (λ (index : IndexConf). index.schema.name)
+
 -- ---- stores in hand
 
 module _ {H S D K : Type 0} (host : HostWords H S D K) (store : DiskWords S) (door : DoorWords D K) (link : LinkWords K) (indexes : List IndexConf) (plan : Plan) (opened : List (Opened S)) where
@@ -156,12 +160,13 @@ module _ {H S D K : Type 0} (host : HostWords H S D K) (store : DiskWords S) (do
   idle_so status deeds back none says = record {
     schema = schema_at indexes;
     base = base_at opened;
+    openings = opening_at store opened;
     names = names_of store indexes opened;
     ended = map unserved_of opened;
     many = inl none;
     same = ap (λ (doors : List (Lent D)). back_of doors) none ∙ sym (ap (λ (doors : List (Lent D)). given_of doors) none);
     disks = unserved_disks opened ∙ sym back;
-    back = unserved_back store (schema_at indexes) (base_at opened) (length deeds.doors) opened;
+    back = unserved_back store (schema_at indexes) (base_at opened) (opening_at store opened) (length deeds.doors) opened;
     says = says;
   }
 
@@ -215,7 +220,7 @@ module _ {H S D K : Type 0} (host : HostWords H S D K) (store : DiskWords S) (do
   pub doors_long : (given : List D) (served : Served S D) → Serves store door link indexes opened plan.sessions given served → length served.doors.items ≡ length given
   doors_long given served serves = ⊎_elim worked (λ has. ap length has.same) serves.comes
     where
-      worked : HasServed store door link serves.schema serves.base indexes plan.sessions given served → length served.doors.items ≡ length given
+      worked : HasServed store door link serves.schema serves.base serves.opened indexes plan.sessions given served → length served.doors.items ≡ length given
       worked has =
           ap length (sym has.stood) ∙ length-map has.left (λ (seat : AnySeat D K). seat.door)
           ∙ seats_left door link serves.schema serves.base indexes (length has.seats) plan.sessions 1 has.is.services has.is.left has.seats has.left has.is.works
@@ -253,11 +258,12 @@ module _ {H S D K : Type 0} (host : HostWords H S D K) (store : DiskWords S) (do
       its_outcome : (outcome : Outcome) → served.outcome ≡ outcome → SaysOutcome names (map (λ (end : IndexEnd S). end.answer) served.ends.items) outcome status
       its_outcome outcome is = subst (λ (o : Outcome). SaysOutcome names (map (λ (end : IndexEnd S). end.answer) served.ends.items) o status) is hands.says
 
-      worked : HasServed store door link serves.schema serves.base indexes plan.sessions given served → (deeds : Deeds S D) → back_of deeds.stores ≡ map (λ (end : IndexEnd S). end.disk) served.ends.items → deeds.doors ≡ lents given served.doors.items
+      worked : HasServed store door link serves.schema serves.base serves.opened indexes plan.sessions given served → (deeds : Deeds S D) → back_of deeds.stores ≡ map (λ (end : IndexEnd S). end.disk) served.ends.items → deeds.doors ≡ lents given served.doors.items
           → deeds.requests ≡ all_requests → deeds.faults ≡ record { before = host.faults old; now = host.faults new } → HaveWorked store door link indexes plan all_requests opened status deeds
       worked has deeds back doors asked faults = record {
         schema = serves.schema;
         base = serves.base;
+        openings = serves.opened;
         names = serves.of;
         seats = has.seats;
         left = has.left;
@@ -274,7 +280,7 @@ module _ {H S D K : Type 0} (host : HostWords H S D K) (store : DiskWords S) (do
         faults = ap (λ (c : Count). c.now) faults ∙ hands.count ∙ still ∙ sym (ap (λ (c : Count). c.before) faults);
       }
 
-      none : HasNone store serves.schema serves.base opened given served → (deeds : Deeds S D) → back_of deeds.stores ≡ map (λ (end : IndexEnd S). end.disk) served.ends.items → deeds.doors ≡ lents given served.doors.items
+      none : HasNone store serves.schema serves.base serves.opened opened given served → (deeds : Deeds S D) → back_of deeds.stores ≡ map (λ (end : IndexEnd S). end.disk) served.ends.items → deeds.doors ≡ lents given served.doors.items
           → deeds.requests ≡ all_requests → deeds.faults ≡ record { before = host.faults old; now = host.faults new } → AreIdle store indexes plan all_requests opened status deeds
       none has deeds back doors asked faults =
           let counted : length deeds.doors ≡ length given =
@@ -283,13 +289,14 @@ module _ {H S D K : Type 0} (host : HostWords H S D K) (store : DiskWords S) (do
           record {
             schema = serves.schema;
             base = serves.base;
+            openings = serves.opened;
             names = serves.of;
             ended = has.ended;
             many = inr (counted ∙ workers);
             same = ap (λ (list : List (Lent D)). back_of list) doors ∙ lents_back given served.doors.items same ∙ has.same
                 ∙ sym (ap (λ (list : List (Lent D)). given_of list) doors ∙ lents_given given served.doors.items same);
             disks = sym (ends_disks has.ended) ∙ ap (λ (list : List (IndexEnd S)). map (λ (end : IndexEnd S). end.disk) list) has.ends ∙ sym back;
-            back = subst (λ (n : ℕ). ComeBack store serves.schema serves.base n opened has.ended) (sym counted) has.back;
+            back = subst (λ (n : ℕ). ComeBack store serves.schema serves.base serves.opened n opened has.ended) (sym counted) has.back;
             says = subst (λ (s : Status). SaysIdle all_requests s deeds) (sym is) (
               (length all_requests, asked ∙ sym (take_whole all_requests)),
               ap (λ (c : Count). c.now) faults ∙ hands.count ∙ still ∙ sym (ap (λ (c : Count). c.before) faults),

@@ -14,9 +14,9 @@ use Rattle.searchd_top.specs.Output.{SaysLines}
 unfoldable pub selftest_lines : ℕ → ℕ → List ℕ
 selftest_lines number docs = lines_of (summary_of (documents_from number docs))
 
--- Its engine ended with a note of the whole history, and its worker had seen as many chunks on the disk as the lines say.
+-- Its engine ended with a note of the whole history, by what the conversation left that found the numbers of the lines.
 abbrev pub HasEnded : ℕ → ℕ → Type 0
-HasEnded number docs = Ends memory.ghosts (Ok (summary_of (documents_from number docs)))
+HasEnded number docs = Ends memory.ghosts (documents_from number docs) (Ok (summary_of (documents_from number docs)))
 
 -- It ended without its lines: memory was refused, or the end of its engine, which is over a disk in memory, answered that the history of
 -- the index strayed.

@@ -7,12 +7,13 @@ use Rattle.doc_types.specs.declared.schema.Schema.{Schema}
 use Rattle.engine_tables.specs.Endings.{ComeBack}
 use Rattle.index_conf.specs.declared.conf.IndexConf.{IndexConf}
 use Rattle.line_workers.specs.Served.{IsServed}
-use Rattle.served_stores.specs.Serving.{AnyEnded, AnySeat, some_failed, told}
+use Rattle.served_stores.specs.Serving.{AnyEnded, AnySeat, some_failed}
 use Rattle.served_stores.specs.Stores.{AreNamesOf}
 use Rattle.srch_base.specs.declared.door.Door.{Ghosts as DoorWords}
 use Rattle.srch_base.specs.declared.faults.Or.{Or}
 use Rattle.srch_base.specs.declared.faults.Or.TheVariants as causes
 use Rattle.srch_base.specs.declared.link.Link.{Ghosts as LinkWords}
+use Rattle.step_book.specs.Tellings.{AtOpening}
 use Rattle.step_history.specs.History.{Base}
 use Rattle.store_keep.specs.declared.opening.Opened.{Opened}
 use Rattle.program_host.specs.Lending.{back_of, given_of}
@@ -25,12 +26,12 @@ use Rattle.searchd_top.specs.Openings.{AreOpenedFrom}
 use Rattle.searchd_top.specs.Plans.{Plan}
 use Rattle.searchd_top.specs.Requests.{store_requests}
 
--- an end for want of memory decides where nothing else does
+-- an end out of memory decides where nothing else does
 abbrev pub unless_decided : Status → Status
 unless_decided Done = NoMemory
 unless_decided status = status
 
--- The status by how the indexes ended: the first one whose history strayed decides, and then want of memory.
+-- The status by how the indexes ended: the first one whose history strayed decides, and then out of memory.
 abbrev pub status_of_ends : List IndexConf → List (Result (Unit {0}) (Or AnyStrayed)) → Status
 status_of_ends (index ∷ indexes) (Ok done ∷ ends) = status_of_ends indexes ends
 status_of_ends (index ∷ indexes) (Err (causes.Fault strayed) ∷ ends) = Strayed index.schema.name strayed
@@ -43,11 +44,13 @@ status_after true status = HostFault
 status_after false status = status
 
 -- The workers served the lines of these doors over the stores that were opened, and then each index ended. All that lines were shown and
--- told is of the one history of each index, which begins with the documents that its files stood for.
+-- told is of the one history of each index, which begins with the documents that its files stood for; and what faults and stops they
+-- were answered fits what the disk of each index counted since then, and its numbers of files and of roots.
 pub record HaveWorked {S D K : Type 0} (store : DiskWords S) (door : DoorWords D K) (link : LinkWords K) (indexes : List IndexConf) (plan : Plan) (requests : List Request) (opened : List (Opened S)) (status : Status) (deeds : Deeds S D) : Type 0 where
   pub schema : ℕ → Schema
   pub base : ℕ → Base
-  pub names : AreNamesOf indexes opened schema base
+  pub openings : ℕ → AtOpening
+  pub names : AreNamesOf store indexes opened schema base openings
   pub seats : List (AnySeat D K)
   pub left : List (AnySeat D K)
   pub ended : List (AnyEnded S)
@@ -55,8 +58,8 @@ pub record HaveWorked {S D K : Type 0} (store : DiskWords S) (door : DoorWords D
   pub sat : map (λ seat. seat.door) seats ≡ given_of deeds.doors
   pub stood : map (λ seat. seat.door) left ≡ back_of deeds.doors
   pub disks : map (λ end. end.disk) ended ≡ back_of deeds.stores
-  pub served : IsServed store door link schema base indexes plan.sessions seats left ended
-  pub says : status ≡ status_after (some_failed left) (status_of_ends indexes (map (λ end. told end.answer) ended))
+  pub served : IsServed store door link schema base openings indexes plan.sessions seats left ended
+  pub says : status ≡ status_after (some_failed left) (status_of_ends indexes (map (λ end. end.answer) ended))
   pub asked : deeds.requests ≡ requests
   pub faults : IsStill deeds.faults
 
@@ -71,16 +74,17 @@ SaysIdle requests (Damaged name file place kind) deeds = ⊥
 SaysIdle requests (Strayed name strayed) deeds = ⊥
 
 -- No worker began. The doors, all or none, came back as they were, and each store as it was opened, or as the end of its engine left
--- it, which no worker had a token of then.
+-- it, with the tokens that it gave.
 pub record AreIdle {S D : Type 0} (store : DiskWords S) (indexes : List IndexConf) (plan : Plan) (requests : List Request) (opened : List (Opened S)) (status : Status) (deeds : Deeds S D) : Type 0 where
   pub schema : ℕ → Schema
   pub base : ℕ → Base
-  pub names : AreNamesOf indexes opened schema base
+  pub openings : ℕ → AtOpening
+  pub names : AreNamesOf store indexes opened schema base openings
   pub ended : List (AnyEnded S)
   pub many : (deeds.doors ≡ []) ⊎ (length deeds.doors ≡ plan.workers)
   pub same : back_of deeds.doors ≡ given_of deeds.doors
   pub disks : map (λ end. end.disk) ended ≡ back_of deeds.stores
-  pub back : ComeBack store schema base (length deeds.doors) opened ended
+  pub back : ComeBack store schema base openings (length deeds.doors) opened ended
   pub says : SaysIdle requests status deeds
 
 -- The stores of all indexes were opened.

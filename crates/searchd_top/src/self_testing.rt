@@ -1,7 +1,8 @@
 //! A selftest: documents in an index in memory are asked for, and what was found is printed once the index has ended.
-ghost use Rattle.std.specs.Prelude.{◌≡◌, Err, Some, IfErr, IfOk, string_bytes};
+ghost use Rattle.std.specs.Prelude.{◌≡◌, List, Err, Some, IfErr, IfOk, string_bytes};
 ghost use Rattle.command_line.specs.Modes.{selftest};
 ghost use Rattle.self_test.specs.Ends.{Ends};
+ghost use Rattle.self_test.specs.declared.generator.Document.{Document};
 ghost use Rattle.program_host.specs.Statuses.{NamesIndex};
 ghost use Rattle.searchd_top.specs.Runs.{Runs};
 ghost use Rattle.searchd_top.specs.Selftests.{HasEnded, IsUnprinted, selftest_lines};
@@ -65,7 +66,7 @@ fn selftest_lines<R: Threads + Wait>(
 /// The status of a selftest that has no lines. A reply that isn't the one that it has to be is answered as want of memory: no other
 /// refusal can come.
 fn status_of(alloc: Global, fault: SelftestFault) -> Status
-    requires { Ends ⟦<MemoryDisk as Disk>⟧ (Err fault) }
+    requires { (documents : List Document) × Ends ⟦<MemoryDisk as Disk>⟧ documents (Err fault) }
     ensures ends { IsUnprinted result }
     ensures asked { ¬ (result ≡ Status.Usage) }
     ensures names { NamesIndex result }

@@ -205,7 +205,7 @@ fn hand_all_back<H: Host>(
     status
 }
 
-/// What the run ends with by how indexes ended, the last one first: the first one whose history strayed decides, then want of memory,
+/// What the run ends with by how indexes ended, the last one first: the first one whose history strayed decides, then out of memory,
 /// then what those behind them lead to.
 fn after_ends<S: Disk>(mut names: Vec<Name>, ends: &[IndexEnd<S>], later: Status) -> Status
     requires many { length names.items ≡ length ends.now }

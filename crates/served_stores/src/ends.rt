@@ -32,12 +32,15 @@ pub(crate) fn without_notes<D: Disk, J: Naming>(
             ended.destroy_empty();
             room
         }
-        Some(Ended { disk, answer }) => {
-            let mut ends = without_notes(ended, room);
-            ends.push_reserved(IndexEnd {
+        Some(
+            Ended {
                 disk,
-                answer: answer.map(|_note| ()),
-            });
+                note: _note,
+                answer,
+            },
+        ) => {
+            let mut ends = without_notes(ended, room);
+            ends.push_reserved(IndexEnd { disk, answer });
             ends
         }
     }

@@ -70,7 +70,7 @@ where
     requires numbers { length doors.items * sessions < 2 ^ 32 }
     requires seats { (seats.items ≡ []) × (length doors.items ≤ vec_capacity seats) }
     requires room { (room.items ≡ []) × (length named.engines.confs ≤ vec_capacity room) }
-    ensures { HasServed D.Disk E.Door E.Line.Link J.schema J.base named.engines.confs sessions doors.items result }
+    ensures { HasServed D.Disk E.Door E.Line.Link J.schema J.base J.opened named.engines.confs sessions doors.items result }
 {
     let Named {
         engines,
@@ -119,13 +119,13 @@ fn serve_named<D: Disk + Send, E: Door + Send, J: Naming + Send + Sync, R: Threa
 ) -> Served<D, E>
 where
     E::Line: Send,
-    requires named { AreNamed D.Disk J.book J.schema J.base confs.items stores.items }
+    requires named { AreNamed D.Disk J.book J.faults J.stops J.schema J.base J.opened confs.items stores.items }
     requires served { AreServed confs.items }
     requires doors { All (λ door. length (E.returned door) ≤ length (E.given door)) doors.items }
     requires some { (0 < length doors.items) × (length doors.items < 2 ^ 32) }
     requires numbers { length doors.items * sessions < 2 ^ 32 }
     requires room { (room.items ≡ []) × (length confs.items ≤ vec_capacity room) }
-    ensures { HasServed D.Disk E.Door E.Line.Link J.schema J.base confs.items sessions doors.items result ⊎ HasNone D.Disk J.schema J.base stores.items doors.items result }
+    ensures { HasServed D.Disk E.Door E.Line.Link J.schema J.base J.opened confs.items sessions doors.items result ⊎ HasNone D.Disk J.schema J.base J.opened stores.items doors.items result }
 {
     let workers = doors.len() as u32;
     match seats_for(alloc, stores.len(), doors.len()) {

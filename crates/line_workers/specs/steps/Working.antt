@@ -27,6 +27,7 @@ pub record HasWorked {E K J : Type 0} (door : DoorWords E K) (link : LinkWords K
   pub is : old.tokens ≡ Some had
   pub leaves : new.tokens ≡ Some left
   pub sits : SitsAt engines left
+  pub own : left.worker ≡ had.worker
   pub services : List (Service K FrontValue)
   pub works : Works door link schema base engines.confs engines.workers sessions services had left old new
 

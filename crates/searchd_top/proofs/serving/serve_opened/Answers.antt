@@ -3,8 +3,19 @@ use Rattle.index_conf.specs.declared.conf.IndexConf.{IndexConf}
 use Rattle.program_host.specs.declared.status.Status.{Status}
 use Rattle.searchd_top.specs.Plans.{Plan}
 use Rattle.searchd_top.specs.steps.Servings.{AreNames, ServesOpened, plan_of}
-use Rattle.searchd_top.proofs.ServedIndexes.{doors_long, ends_long, serves_all, serves_no_room, serves_refused, short_names}
+use Rattle.searchd_top.proofs.ServedIndexes.{doors_long, ends_long, names_long, serves_all, serves_no_room, serves_refused, short_names}
 use Rattle.searchd_top.proofs.serving.serve_opened.Goals as goal
+
+pub hand_all_back-requires-clause-many : goal.hand_all_back-requires-clause-many
+hand_all_back-requires-clause-many g c κs within =
+    let plan : Plan = plan_of (option_copied c.args.listen) c.args.workers c.args.sessions in
+    let names : AreNames c.args.indexes.items c.in-Ok.names.items = subst (λ (indexes : List IndexConf). AreNames indexes c.in-Ok.names.items) c.deref.ensures.value c.in-Ok.ensures.names in
+    omega (
+      arith,
+      names_long c.args.indexes.items c.in-Ok.names.items names,
+      c.requires.opened.many,
+      ends_long g.H.Host g.H.Store.Disk g.H.Entry.Door g.H.Entry.Line.Link c.args.indexes.items plan c.args.opened.items c.in-Ok-doors.given.items c.serve_stores-served.result c.requires.opened.many c.serve_stores-served.ensures,
+    )
 
 pub hand_all_back-requires-clause-short : goal.hand_all_back-requires-clause-short
 hand_all_back-requires-clause-short g c κs within =

@@ -28,7 +28,7 @@ pub returns : goal.returns
 returns g c =
     let served : Served g.row.D.Denot g.row.E.Denot = record { doors = c.stand_up-failed.new.doors; ends = c.without_notes.result; outcome = c.outcome_of.result } in
     let long : length c.serve_all-ended.new.seats ≡ c.sit_down.new.seats.len = omega (arith, c.serve_all-ended.auto.seats, c.as_mut_slice.ensures.len) in
-    has_served g.D.Disk g.E.Door g.E.Line.Link g.J.Naming.schema g.J.Naming.base c.args.named.engines.confs c.args.sessions
+    has_served g.D.Disk g.E.Door g.E.Line.Link g.J.Naming.schema g.J.Naming.base g.J.Naming.opened c.args.named.engines.confs c.args.sessions
     c.as_mut_slice.result.now c.serve_all-ended.new.seats (with_items c.sit_down.new.seats c.serve_all-ended.new.seats).items c.serve_all-ended.result.items c.args.doors.items served
     (ap (map (λ seat. seat.door)) c.as_mut_slice.ensures.value ∙ c.sit_down.ensures.doors) (with_items_is c.sit_down.new.seats c.serve_all-ended.new.seats long)
     c.serve_all-ended.ensures c.stand_up-failed.ensures.doors c.without_notes.ensures.ends (c.outcome_of.ensures ∙ ap outcome_of c.stand_up-failed.ensures.failed)
