@@ -2,6 +2,7 @@
 use Rattle.std.proofs.Common.{◌≡◌, ℕ, zero, suc, List, [], ◌∷◌, ◌++◌, Option, Some, None, All, Result, Ok, Err, refl, sym, ap, subst, ◌∙◌, arith, length, length-append, slice_get}
 use Rattle.std.specs.Prelude.{IfOk}
 use Rattle.std.proofs.lemmas.List.Elements.{All-cons, All-nil}
+use Rattle.std.specs.List.{IsDistinct}
 use Rattle.srch_base.specs.declared.faults.Or.{Or}
 use Rattle.srch_base.specs.declared.faults.Or.TheVariants as causes
 use Rattle.chunk_store.specs.declared.disk.Disk.{Ghosts as DiskWords}
@@ -11,17 +12,20 @@ use Rattle.doc_types.specs.declared.schema.Schema.{Schema}
 use Rattle.index_conf.specs.Soundness.{IsSound}
 use Rattle.index_conf.specs.declared.conf.Conf.{Conf}
 use Rattle.index_conf.specs.declared.conf.IndexConf.{IndexConf}
-use Rattle.step_book.specs.Fronts.{FrontValue}
+use Rattle.step_book.specs.Tellings.{AtOpening}
 use Rattle.step_history.specs.History.{Base}
-use Rattle.store_keep.specs.Opens.{IsOpened, base_of}
+use Rattle.store_keep.specs.Opens.{IsOpened, base_of, opening_of}
 use Rattle.store_keep.specs.declared.opening.Opened.{Opened}
 use Rattle.engine_tables.specs.Endings.{CanEnd, EndingValue, HasEnded, HaveEnded}
 use Rattle.engine_tables.specs.Engines.{EnginesValue}
 use Rattle.engine_tables.specs.Names.{AreNamed, AreServed, IsRoomFor}
-use Rattle.engine_tables.specs.Tokens.{SitsAt, TokensValue, told_at, tokens_at}
+use Rattle.engine_tables.specs.Tokens.{SeatsDiffer, SitsAt, TokensValue, told_at, tokens_at}
+use Rattle.engine_tables.specs.Workers.{WorkerValue, by_tokens}
 use Rattle.engine_tables.specs.declared.ended.Ended.{Ended}
 use Rattle.engine_tables.proofs.Makings.{all_end}
-use Rattle.self_test.specs.Ends.{Ends, EndsBy, HasChunks, HasFound, IsOver, Works, first_tokens}
+use Rattle.self_test.specs.Conversations.{Converses}
+use Rattle.self_test.specs.Ends.{Ends, EndsBy, Finds, Found, HasFound, IsOver, Works, first_tokens}
+use Rattle.self_test.specs.declared.generator.Document.{Document}
 use Rattle.self_test.specs.declared.fault.SelftestFault.{SelftestFault}
 use Rattle.self_test.specs.declared.fault.SelftestFault.TheVariants.{NoMemory, Unexpected, Strayed as HasStrayed}
 use Rattle.self_test.specs.declared.summary.Summary.{Summary}
@@ -54,6 +58,21 @@ first_last seats front last first is one =
     let there : slice_get seats 0 ≡ Some first = ap (λ (list : List TokensValue). slice_get list 0) one in
     cc (here, there)
 
+-- what a worker with these tokens found is what its conversation found, which left others
+pub found_by : (schema : ℕ → Schema) (base : ℕ → Base) (confs : List IndexConf) (documents : List Document) (summary : Summary) (first left : TokensValue) (old new : WorkerValue)
+    → old ≡ record { confs = confs; tokens = first } → new.confs ≡ confs → new.tokens ≡ left → Converses (λ (worker : WorkerValue). worker.confs) (by_tokens schema base) documents summary old new
+    → Finds schema base confs documents summary first left
+found_by schema base confs documents summary first left old new begun same leaves converses =
+    let ended : new ≡ record { confs = confs; tokens = left } =
+    ap (λ (list : List IndexConf). record { confs = list; tokens = new.tokens }) same ∙ ap (λ (tokens : TokensValue). record { confs = confs; tokens = tokens }) leaves in
+    subst (λ (w : WorkerValue). Converses (λ (worker : WorkerValue). worker.confs) (by_tokens schema base) documents summary w (record { confs = confs; tokens = left })) begun
+    (subst (λ (w : WorkerValue). Converses (λ (worker : WorkerValue). worker.confs) (by_tokens schema base) documents summary old w) ended converses)
+
+-- the tokens of one worker
+one_differs : (left : TokensValue) → SeatsDiffer (left ∷ [])
+unfolding IsDistinct
+one_differs left = record { apart = (tt, tt) }
+
 module _ (engines : EnginesValue) (old new : EndingValue) (left : TokensValue) where
   abbrev pub IsPut : Type 0
   IsPut = new ≡ record old { seats = old.seats ++ left ∷ [] }
@@ -67,18 +86,23 @@ module _ (engines : EnginesValue) (old new : EndingValue) (left : TokensValue) w
   can_end one room sits put = record {
     room = omega (arith, one, room.indexes_fit, ap (λ (ending : EndingValue). ending.indexes) put);
     sit = subst (All (SitsAt engines)) (sym (put_one room put)) (All-cons (SitsAt engines) left [] sits (All-nil (SitsAt engines)));
+    differ = subst SeatsDiffer (sym (put_one room put)) (one_differs left);
   }
 
 module _ {D : Type 0} (words : DiskWords D) where
   -- one store has its own book, columns and beginning for names
   pub named_one : (index : IndexConf) (store : Opened D) → IsReady words index store
-      → AreNamed words (λ place. store.book.past.seen.book) (λ place. index.schema) (λ place. base_of store) (index ∷ []) (store ∷ [])
+      → AreNamed words (λ place. store.book.past.seen.book) (λ place. store.faults.past.seen.book) (λ place. store.stops.past.seen.book) (λ place. index.schema) (λ place. base_of store) (λ place. opening_of words store)
+      (index ∷ []) (store ∷ [])
   named_one index store ready = record {
     many = refl;
     columns = columns;
     books = books;
+    fault_books = fault_books;
+    stop_books = stop_books;
     bases = bases;
-    opened = opened;
+    openings = openings;
+    are_opened = are_opened;
   }
     where
       columns : (place : ℕ) (conf : IndexConf) → slice_get (index ∷ []) place ≡ Some conf → index.schema ≡ conf.schema
@@ -89,41 +113,62 @@ module _ {D : Type 0} (words : DiskWords D) where
       books zero other at = cc at
       books (suc place) other at = absurd (cc at)
 
+      fault_books : (place : ℕ) (other : Opened D) → slice_get (store ∷ []) place ≡ Some other → other.faults.past.seen.book ≡ store.faults.past.seen.book
+      fault_books zero other at = cc at
+      fault_books (suc place) other at = absurd (cc at)
+
+      stop_books : (place : ℕ) (other : Opened D) → slice_get (store ∷ []) place ≡ Some other → other.stops.past.seen.book ≡ store.stops.past.seen.book
+      stop_books zero other at = cc at
+      stop_books (suc place) other at = absurd (cc at)
+
+      openings : (place : ℕ) (other : Opened D) → slice_get (store ∷ []) place ≡ Some other → opening_of words store ≡ opening_of words other
+      openings zero other at = let same : store ≡ other = cc at in ap (λ (o : Opened D). opening_of words o) same
+      openings (suc place) other at = absurd (cc at)
+
       bases : (place : ℕ) (other : Opened D) → slice_get (store ∷ []) place ≡ Some other → base_of store ≡ base_of other
       bases zero other at = let same : store ≡ other = cc at in ap base_of same
       bases (suc place) other at = absurd (cc at)
 
-      opened : (place : ℕ) (other : Opened D) → slice_get (store ∷ []) place ≡ Some other → IsOpened words index.schema other
-      opened zero other at = let same : store ≡ other = cc at in subst (λ (o : Opened D). IsOpened words index.schema o) same ready.opened
-      opened (suc place) other at = absurd (cc at)
+      are_opened : (place : ℕ) (other : Opened D) → slice_get (store ∷ []) place ≡ Some other → IsOpened words index.schema other
+      are_opened zero other at = let same : store ≡ other = cc at in subst (λ (o : Opened D). IsOpened words index.schema o) same ready.opened
+      are_opened (suc place) other at = absurd (cc at)
 
   -- one store that has names is the one of their index
-  pub over_one : (book : ℕ → _) (schema : ℕ → Schema) (base : ℕ → Base) (index : IndexConf) (store : Opened D) (confs : List IndexConf) → confs ≡ index ∷ [] → AreNamed words book schema base (index ∷ []) (store ∷ [])
-      → IsOver words schema base confs
-  over_one book schema base index store confs is named =
-      record { index = index; store = store; is = is; columns = named.columns 0 index refl; begins = named.bases 0 store refl; opened = named.opened 0 store refl }
+  pub over_one : (book faults stops : ℕ → _) (schema : ℕ → Schema) (base : ℕ → Base) (opened : ℕ → AtOpening) (index : IndexConf) (store : Opened D) (confs : List IndexConf) → confs ≡ index ∷ []
+      → AreNamed words book faults stops schema base opened (index ∷ []) (store ∷ []) → IsOver words schema base opened confs
+  over_one book faults stops schema base opened index store confs is named = record {
+    index = index;
+    store = store;
+    is = is;
+    columns = named.columns 0 index refl;
+    begins = named.bases 0 store refl;
+    counted = named.openings 0 store refl;
+    is_opened = named.are_opened 0 store refl;
+  }
 
   -- one engine ended with these tokens
-  pub ended_one : {J : Type 0} (schema : ℕ → Schema) (base : ℕ → Base) (indexes workers : ℕ) (seats : List TokensValue) (left : TokensValue) (all : List (Ended D J)) → indexes ≡ 1 → workers ≡ 1 → seats ≡ left ∷ []
-      → HaveEnded words schema base indexes workers seats all → HaveEnded words schema base 1 1 (left ∷ []) all
-  ended_one schema base indexes workers seats left all one alone put ended =
-      subst (λ (list : List TokensValue). HaveEnded words schema base 1 1 list all) put
-      (subst (λ (n : ℕ). HaveEnded words schema base 1 n seats all) alone (subst (λ (n : ℕ). HaveEnded words schema base n workers seats all) one ended))
+  pub ended_one : {J : Type 0} (schema : ℕ → Schema) (base : ℕ → Base) (opened : ℕ → AtOpening) (indexes workers : ℕ) (seats : List TokensValue) (left : TokensValue) (all : List (Ended D J)) → indexes ≡ 1 → workers ≡ 1 → seats ≡ left ∷ []
+      → HaveEnded words schema base opened indexes workers seats all → HaveEnded words schema base opened 1 1 (left ∷ []) all
+  ended_one schema base opened indexes workers seats left all one alone put ended =
+      subst (λ (list : List TokensValue). HaveEnded words schema base opened 1 1 list all) put
+      (subst (λ (n : ℕ). HaveEnded words schema base opened 1 n seats all) alone (subst (λ (n : ℕ). HaveEnded words schema base opened n workers seats all) one ended))
 
   -- how the one engine ended is what the answer says
-  pub ends_so : {J : Type 0} (schema : ℕ → Schema) (base : ℕ → Base) (confs : List IndexConf) (left : TokensValue) (all : List (Ended D J)) (one : Ended D J) (answer : Result Summary SelftestFault) → IsOver words schema base confs
-      → Works schema base confs first_tokens left → IfOk answer (λ summary. HasChunks schema base left summary.chunks) → HaveEnded words schema base 1 1 (left ∷ []) all → slice_get all 0 ≡ Some one → AnswersEnd one.answer answer → Ends words answer
-  ends_so {J} schema base confs left all one answer over works has ended at says = by_answer answer has says
+  pub ends_so : {J : Type 0} (schema : ℕ → Schema) (base : ℕ → Base) (opened : ℕ → AtOpening) (confs : List IndexConf) (documents : List Document) (left : TokensValue) (all : List (Ended D J)) (one : Ended D J) (answer : Result Summary SelftestFault)
+      → IsOver words schema base opened confs → Works schema base confs first_tokens left → IfOk answer (λ summary. Finds schema base confs documents summary first_tokens left) → HaveEnded words schema base opened 1 1 (left ∷ []) all
+      → slice_get all 0 ≡ Some one → AnswersEnd one.answer answer → Ends words documents answer
+  ends_so {J} schema base opened confs documents left all one answer over works finds ended at says = by_answer answer finds says
     where
-      ends : HasEnded words schema base 0 1 (told_at 0 (left ∷ [])) (tokens_at 0 (left ∷ [])) one
+      ends : HasEnded words schema base opened 0 1 (told_at 0 (left ∷ [])) (tokens_at 0 (left ∷ [])) one
       ends = ended.each 0 one at
 
-      ends_by : (found : Option ℕ) (end : Result FrontValue (Or Strayed)) → HasFound schema base left found → one.answer ≡ end → EndsBy words found end
-      ends_by found end finds is = subst (λ (e : Result FrontValue (Or Strayed)). EndsBy words found e) is
-          (record { schema = schema; base = base; confs = confs; over = over; left = left; works = works; has = finds; disk = one.disk; new = ends.0; closes = ends.1 })
+      ends_by : (found : Option Found) (end : Result (Unit {0}) (Or Strayed)) → HasFound schema base confs found left → one.answer ≡ end → HasEnded words schema base opened 0 1 (told_at 0 (left ∷ [])) (tokens_at 0 (left ∷ [])) one
+          → EndsBy words found end
+      ends_by found end has is (note, noted, new, closes) = subst (λ (e : Result (Unit {0}) (Or Strayed)). EndsBy words found e) is
+          (record { schema = schema; base = base; opened = opened; confs = confs; over = over; left = left; works = works; has = has; disk = one.disk; note = note; new = new; closes = closes })
 
-      by_answer : (answer : Result Summary SelftestFault) → IfOk answer (λ summary. HasChunks schema base left summary.chunks) → AnswersEnd one.answer answer → Ends words answer
-      by_answer (Ok summary) has says = (says.0, ends_by (Some summary.chunks) (Ok says.0) has says.1)
-      by_answer (Err Unexpected) has says = (says.0, ends_by None (Ok says.0) tt says.1)
-      by_answer (Err (HasStrayed strayed)) has says = ends_by None (Err (causes.Fault strayed)) tt says
-      by_answer (Err NoMemory) has says = tt
+      by_answer : (answer : Result Summary SelftestFault) → IfOk answer (λ summary. Finds schema base confs documents summary first_tokens left) → AnswersEnd one.answer answer → Ends words documents answer
+      by_answer (Ok summary) finds says = ends_by (Some (record { documents = documents; summary = summary })) (Ok tt) finds says ends
+      by_answer (Err Unexpected) finds says = ends_by None (Ok tt) tt says ends
+      by_answer (Err (HasStrayed strayed)) finds says = ends_by None (Err (causes.Fault strayed)) tt says ends
+      by_answer (Err NoMemory) finds says = tt

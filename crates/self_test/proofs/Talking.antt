@@ -1,4 +1,4 @@
--- Texts that are done one after another, a query's answer, and packets one by one.
+-- A query's answer, and packets one by one.
 use Rattle.std.proofs.Common.{◌≡◌, ℕ, ◌+◌, ◌%◌, List, [], ◌∷◌, ◌++◌, length, arith, sym, ap, ◌∙◌, append-nil, append_assoc, length-append}
 use Rattle.std.specs.Prelude.{◌≤◌, take}
 use Rattle.std.specs.Int.{w32, to_le_bytes}

@@ -7,15 +7,17 @@ use Rattle.commit_outcomes.specs.declared.strayed.Strayed.{Strayed}
 use Rattle.doc_types.specs.declared.schema.Schema.{Schema}
 use Rattle.index_conf.specs.declared.conf.IndexConf.{IndexConf}
 use Rattle.step_book.specs.Fronts.{FrontValue}
+use Rattle.step_book.specs.Tellings.{AtOpening}
 use Rattle.step_history.specs.History.{Base}
 use Rattle.step_tokens.specs.Tokens.{TokenValue}
-use Rattle.store_keep.specs.Opens.{IsOpened, base_of}
+use Rattle.store_keep.specs.Opens.{IsOpened, base_of, opening_of}
 use Rattle.store_keep.specs.declared.opening.Opened.{Opened}
 use Rattle.snap_share.specs.Closings.{Closes}
 use Rattle.engine_tables.specs.Tokens.{TokensValue, new_seat, told_at, tokens_at}
-use Rattle.engine_tables.specs.Workers.{HasSeen, by_tokens, documents_of}
-use Rattle.ql_answers.specs.Sessions.{disk_count}
+use Rattle.engine_tables.specs.Workers.{by_tokens}
 use Rattle.self_test.specs.Asking.{Leads}
+use Rattle.self_test.specs.Conversations.{Converses}
+use Rattle.self_test.specs.declared.generator.Document.{Document}
 use Rattle.self_test.specs.declared.fault.SelftestFault.{SelftestFault}
 use Rattle.self_test.specs.declared.fault.SelftestFault.TheVariants.{NoMemory, Unexpected, Strayed as HasStrayed}
 use Rattle.self_test.specs.declared.summary.Summary.{Summary}
@@ -28,43 +30,53 @@ first_tokens = new_seat 1 1
 abbrev pub Works : (ℕ → Schema) → (ℕ → Base) → List IndexConf → TokensValue → TokensValue → Type 0
 Works schema base confs first left = Leads (λ worker. worker.confs) (by_tokens schema base) (record { confs = confs; tokens = first }) (record { confs = confs; tokens = left })
 
--- What the worker of these tokens has seen of the index has so many chunks on the disk.
-pub record HasChunks (schema : ℕ → Schema) (base : ℕ → Base) (tokens : TokensValue) (chunks : ℕ) : Type 0 where
-  pub front : FrontValue
-  pub seen : HasSeen schema base tokens 0 front
-  pub counted : disk_count (documents_of base front) ≡ chunks
+-- The one worker of engines of these indexes, with these tokens, was led by a conversation about these documents to such other ones, by
+-- which it found this.
+abbrev pub Finds : (ℕ → Schema) → (ℕ → Base) → List IndexConf → List Document → Summary → TokensValue → TokensValue → Type 0
+Finds schema base confs documents summary first left =
+    Converses (λ worker. worker.confs) (by_tokens schema base) documents summary (record { confs = confs; tokens = first }) (record { confs = confs; tokens = left })
 
--- so it is where a number of chunks was found
-abbrev pub HasFound : (ℕ → Schema) → (ℕ → Base) → TokensValue → Option ℕ → Type 0
-HasFound schema base tokens None = Unit {0}
-HasFound schema base tokens (Some chunks) = HasChunks schema base tokens chunks
+-- A summary that was found, and of which documents.
+pub record Found : Type 0 where
+  pub documents : List Document
+  pub summary : Summary
 
--- There is one index, whose store was opened: it has the columns that are configured, and its history begins where the store stood.
-pub record IsOver {D : Type 0} (words : DiskWords D) (schema : ℕ → Schema) (base : ℕ → Base) (confs : List IndexConf) : Type 0 where
+-- Where a summary was found, the worker's conversation from its first tokens on found it.
+abbrev pub HasFound : (ℕ → Schema) → (ℕ → Base) → List IndexConf → Option Found → TokensValue → Type 0
+HasFound schema base confs None left = Unit {0}
+HasFound schema base confs (Some found) left = Finds schema base confs found.documents found.summary first_tokens left
+
+-- There is one index, whose store was opened: it has the columns that are configured, its history begins where the store stood, and what
+-- its disk had counted is what it counted then.
+pub record IsOver {D : Type 0} (words : DiskWords D) (schema : ℕ → Schema) (base : ℕ → Base) (opened : ℕ → AtOpening) (confs : List IndexConf) : Type 0 where
   pub index : IndexConf
   pub store : Opened D
   pub is : confs ≡ index ∷ []
   pub columns : schema 0 ≡ index.schema
   pub begins : base 0 ≡ base_of store
-  pub opened : IsOpened words (schema 0) store
+  pub counted : opened 0 ≡ opening_of words store
+  pub is_opened : IsOpened words (schema 0) store
 
--- The engine of such an index ended with this answer, by the token that the selftest left and what was told beside it. What that token
--- had seen is where the number of chunks comes from, if one was found.
-pub record EndsBy {D : Type 0} (words : DiskWords D) (found : Option ℕ) (answer : Result FrontValue (Or Strayed)) : Type 0 where
+-- The engine of such an index ended with this answer and a note of its history, by the tokens that the selftest left and what was told
+-- beside them. A summary that was found is what the conversation found that left these tokens.
+pub record EndsBy {D : Type 0} (words : DiskWords D) (found : Option Found) (answer : Result (Unit {0}) (Or Strayed)) : Type 0 where
   pub schema : ℕ → Schema
   pub base : ℕ → Base
+  pub opened : ℕ → AtOpening
   pub confs : List IndexConf
-  pub over : IsOver words schema base confs
+  pub over : IsOver words schema base opened confs
   pub left : TokensValue
   pub works : Works schema base confs first_tokens left
-  pub has : HasFound schema base left found
+  pub has : HasFound schema base confs found left
   pub disk : D
+  pub note : FrontValue
   pub new : List TokenValue
-  pub closes : Closes words schema base 0 1 (told_at 0 (left ∷ [])) (tokens_at 0 (left ∷ [])) disk answer new
+  pub closes : Closes words schema base opened 0 1 (told_at 0 (left ∷ [])) (tokens_at 0 (left ∷ [])) disk note answer new
 
--- The end told the whole history, or answered that it strayed. Want of memory is free.
-abbrev pub Ends : {D : Type 0} → DiskWords D → Result Summary SelftestFault → Type 0
-Ends words (Ok summary) = (note : FrontValue) × EndsBy words (Some summary.chunks) (Ok note)
-Ends words (Err Unexpected) = (note : FrontValue) × EndsBy words None (Ok note)
-Ends words (Err (HasStrayed strayed)) = EndsBy words None (Err (causes.Fault strayed))
-Ends words (Err NoMemory) = Unit {0}
+-- Where there is a summary, its token had seen the whole history as the end says; or the end answered that the history strayed. Out of
+-- memory is free.
+abbrev pub Ends : {D : Type 0} → DiskWords D → List Document → Result Summary SelftestFault → Type 0
+Ends words documents (Ok summary) = EndsBy words (Some (record { documents = documents; summary = summary })) (Ok tt)
+Ends words documents (Err Unexpected) = EndsBy words None (Ok tt)
+Ends words documents (Err (HasStrayed strayed)) = EndsBy words None (Err (causes.Fault strayed))
+Ends words documents (Err NoMemory) = Unit {0}

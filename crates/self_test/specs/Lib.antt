@@ -6,6 +6,8 @@ pub mod Texts
 pub mod Summaries
 -- what a session is asked, and what it replies
 pub mod Asking
+-- the conversation of a selftest
+pub mod Conversations
 -- how the engine ends that a selftest ran over
 pub mod Ends
 -- what serves proofs alone

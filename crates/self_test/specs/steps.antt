@@ -1,2 +1,4 @@
 -- how an engine is made for a selftest, and what its end says
 pub mod Engines
+-- the canonical texts, letter by letter
+pub mod Letters

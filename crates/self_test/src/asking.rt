@@ -1,8 +1,9 @@
 //! A client of a session: it sends texts, and looks at what is replied.
 ghost use Rattle.std.specs.Prelude.{◌≡◌, ◌++◌, ℕ, List, IfOk, IsTrue, OnOk};
 ghost use Rattle.mysql_wire.specs.Packets.{packet};
+ghost use Rattle.mysql_wire.specs.Replies.{ok_packet};
 ghost use Rattle.ql_session.specs.Fitting.{Fits};
-ghost use Rattle.self_test.specs.Asking.{ArePackets, Asks, HasRows, IsDone, Leads};
+ghost use Rattle.self_test.specs.Asking.{ArePackets, Asks, HasRows, Leads};
 
 use crate::Unexpected;
 use mysql_wire::{Command, Framer, Next, ok_packet};
@@ -54,7 +55,7 @@ impl Client {
             .step(self.alloc, tables, query, &mut self.replies);
     }
 
-    /// Asks a text that is to be answered OK, with so many rows affected and this status.
+    /// Tells a text that is to be answered OK, with so many rows affected and this status.
     pub(crate) fn tell<T: TableStore>(
         &mut self,
         tables: &mut T,
@@ -63,7 +64,7 @@ impl Client {
         status: u16,
     ) -> Result<(), Or<Unexpected>>
         requires fits { Fits (T.confs tables.old) self.old.session }
-        ensures asks { OnOk result (IsDone T.confs T.words text.now self.old.session tables.old self.new.session tables.new) }
+        ensures asks { OnOk result (Asks T.confs T.words text.now (ok_packet 1 affected status) self.old.session tables.old self.new.session tables.new) }
         ensures fits { Fits (T.confs tables.new) self.new.session }
         ensures confs { T.confs tables.new ≡ T.confs tables.old }
         ensures leads { Leads T.confs T.words tables.old tables.new }

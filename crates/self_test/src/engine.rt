@@ -5,7 +5,7 @@ ghost use Rattle.engine_tables.specs.Tokens.{SitsAt};
 ghost use Rattle.engine_tables.specs.declared.ended.Ended.{Ended as AnyEnded};
 ghost use Rattle.store_keep.specs.Opens.{HidesNothing};
 ghost use Rattle.self_test.specs.Documents.{documents_from};
-ghost use Rattle.self_test.specs.Ends.{Ends, HasChunks, IsOver, Works, first_tokens};
+ghost use Rattle.self_test.specs.Ends.{Ends, Finds, IsOver, Works, first_tokens};
 ghost use Rattle.self_test.specs.Summaries.{summary_of};
 ghost use Rattle.self_test.specs.steps.Engines.{AnswersEnd, IsReady, IsServable};
 
@@ -16,7 +16,6 @@ use commit_outcomes::Strayed;
 use conf_text::read_conf;
 use engine_tables::{Ended, Ending, Engines, Named, Tokens, WorkerTables};
 use index_conf::IndexConf;
-use snap_share::Note;
 use srch_base::{NoMemory, Or};
 use std::alloc::Global;
 use std::marker::Brand;
@@ -34,7 +33,7 @@ pub fn run_over_engine<R: Threads + Wait>(
     docs: u32,
 ) -> Result<Summary, SelftestFault>
     ensures summary { IfOk result (λ summary. summary ≡ summary_of (documents_from number docs)) }
-    ensures ends { Ends ⟦<MemoryDisk as Disk>⟧ result }
+    ensures ends { Ends ⟦<MemoryDisk as Disk>⟧ (documents_from number docs) result }
 {
     let disk = MemoryDisk::new(alloc, Vec::new(alloc));
     match open_index(rt, alloc, disk) {
@@ -112,9 +111,9 @@ fn run_over_store<D: Disk + Drop, J: Naming, R: Wait>(
     docs: u32,
 ) -> Result<Summary, SelftestFault>
     requires ready { IsServable index }
-    requires named { AreNamed D.Disk J.book J.schema J.base (index ∷ []) (store ∷ []) }
+    requires named { AreNamed D.Disk J.book J.faults J.stops J.schema J.base J.opened (index ∷ []) (store ∷ []) }
     ensures summary { IfOk result (λ summary. summary ≡ summary_of (documents_from number docs)) }
-    ensures ends { Ends D.Disk result }
+    ensures ends { Ends D.Disk (documents_from number docs) result }
 {
     match parts(alloc, index, store) {
         Ok((indexes, stores, ending)) => {
@@ -138,13 +137,13 @@ fn run_over_named<D: Disk + Drop, J: Naming, R: Wait>(
     number: u32,
     docs: u32,
 ) -> Result<Summary, SelftestFault>
-    requires over { IsOver D.Disk J.schema J.base named.engines.confs }
+    requires over { IsOver D.Disk J.schema J.base J.opened named.engines.confs }
     requires alone { named.engines.workers ≡ 1 }
     requires seats { named.seats.items ≡ first_tokens ∷ [] }
     requires sit { SitsAt named.engines first_tokens }
     requires room { IsRoomFor 1 1 named.ending }
     ensures summary { IfOk result (λ summary. summary ≡ summary_of (documents_from number docs)) }
-    ensures ends { Ends D.Disk result }
+    ensures ends { Ends D.Disk (documents_from number docs) result }
 {
     let Named {
         engines,
@@ -168,7 +167,7 @@ fn work<D: Disk, J: Naming, R: Wait>(
     requires one { length engines.now.confs ≡ 1 }
     requires sits { SitsAt engines.now tokens }
     ensures summary { IfOk result.0 (λ summary. summary ≡ summary_of (documents_from number docs)) }
-    ensures chunks { IfOk result.0 (λ summary. HasChunks J.schema J.base result.1 summary.chunks) }
+    ensures finds { IfOk result.0 (λ summary. Finds J.schema J.base engines.now.confs (documents_from number docs) summary tokens result.1) }
     ensures works { Works J.schema J.base engines.now.confs tokens result.1 }
     ensures sits { SitsAt engines.now result.1 }
 {
@@ -178,12 +177,13 @@ fn work<D: Disk, J: Naming, R: Wait>(
 }
 
 /// How the one engine ended.
-fn end_of<D: Disk + Drop, J: Naming>(mut ended: Vec<Ended<D, J>>) -> Result<Note<J>, Or<Strayed>>
+fn end_of<D: Disk + Drop, J: Naming>(mut ended: Vec<Ended<D, J>>) -> Result<(), Or<Strayed>>
     requires { length ended.items ≡ 1 }
     ensures { (one : AnyEnded D J) × (slice_get ended.items 0 ≡ Some one) × (result ≡ one.answer) }
 {
     let Ended {
         disk: _disk,
+        note: _note,
         answer,
     } = ended.take_last();
     ended.destroy_empty();
@@ -191,15 +191,15 @@ fn end_of<D: Disk + Drop, J: Naming>(mut ended: Vec<Ended<D, J>>) -> Result<Note
 }
 
 /// What is answered, by what was found and how the engine ended.
-fn answer<J: Naming>(
+fn answer(
     found: Result<Summary, Or<Unexpected>>,
-    end: Result<Note<J>, Or<Strayed>>,
+    end: Result<(), Or<Strayed>>,
 ) -> Result<Summary, SelftestFault>
     ensures summary { IfOk result (λ summary. found ≡ Ok summary) }
     ensures ends { AnswersEnd end result }
 {
     match end {
-        Ok(_note) => match found {
+        Ok(()) => match found {
             Ok(summary) => Ok(summary),
             Err(Or::Fault(Unexpected)) => Err(SelftestFault::Unexpected),
             Err(Or::NoMemory) => Err(SelftestFault::NoMemory),

@@ -1,8 +1,9 @@
 //! A selftest: the documents are written by statements, 100 a transaction, and then asked for. Half of them go to the disk before the
 //! others are written, and all of them into one chunk before they are asked for: so what is found has been in both kinds of layers.
-ghost use Rattle.std.specs.Prelude.{◌≡◌, ◌+◌, ◌<◌, ◌^◌, IfOk, length};
+ghost use Rattle.std.specs.Prelude.{◌≡◌, ◌+◌, ◌<◌, ◌≤◌, ◌^◌, [], ◌∷◌, IfOk, OnOk, length};
 ghost use Rattle.ql_session.specs.Fitting.{Fits};
-ghost use Rattle.self_test.specs.Asking.{Leads, LeavesChunks, SeesChunks};
+ghost use Rattle.self_test.specs.Asking.{AreDone, Leads, SeesChunks};
+ghost use Rattle.self_test.specs.Conversations.{Converses, Counts, before_document, behind_document, insert, loading, transactions};
 ghost use Rattle.self_test.specs.Documents.{documents_from};
 ghost use Rattle.self_test.specs.Summaries.{summary_of};
 
@@ -36,7 +37,7 @@ pub fn run<T: TableStore>(
 ) -> Result<Summary, Or<Unexpected>>
     requires one { length (T.confs tables.old) ≡ 1 }
     ensures is { IfOk result (λ summary. summary ≡ summary_of (documents_from number docs)) }
-    ensures chunks { IfOk result (λ summary. LeavesChunks T.confs T.words summary.chunks tables.old tables.new) }
+    ensures converses { IfOk result (λ summary. Converses T.confs T.words (documents_from number docs) summary tables.old tables.new) }
     ensures confs { T.confs tables.new ≡ T.confs tables.old }
     ensures leads { Leads T.confs T.words tables.old tables.new }
 {
@@ -58,7 +59,7 @@ fn found<T: TableStore>(
 ) -> Result<Summary, Or<Unexpected>>
     requires few { length documents.now < 2 ^ 32 }
     requires one { length (T.confs tables.old) ≡ 1 }
-    ensures chunks { IfOk result (λ summary. LeavesChunks T.confs T.words summary.chunks tables.old tables.new) }
+    ensures converses { IfOk result (λ summary. Converses T.confs T.words documents.now summary tables.old tables.new) }
     ensures confs { T.confs tables.new ≡ T.confs tables.old }
     ensures leads { Leads T.confs T.words tables.old tables.new }
 {
@@ -85,6 +86,7 @@ fn load<T: TableStore>(
 ) -> Result<(), Or<Unexpected>>
     requires few { length documents.now < 2 ^ 32 }
     requires fits { Fits (T.confs tables.old) client.old.session }
+    ensures done { OnOk result (AreDone T.confs T.words (loading documents.now) client.old.session tables.old client.new.session tables.new) }
     ensures fits { Fits (T.confs tables.new) client.new.session }
     ensures confs { T.confs tables.new ≡ T.confs tables.old }
     ensures leads { Leads T.confs T.words tables.old tables.new }
@@ -92,9 +94,9 @@ fn load<T: TableStore>(
     let half = documents.len() / 2;
     let (first, others) = documents.split_at(half);
     write(client, tables, text, 0, first)?;
-    client.tell(tables, "FLUSH RAMCHUNK t", 0, AUTOCOMMIT)?;
+    client.tell(tables, "FLUSH RAMCHUNK `t`", 0, AUTOCOMMIT)?;
     write(client, tables, text, half as u32, others)?;
-    client.tell(tables, "OPTIMIZE INDEX t", 0, AUTOCOMMIT)
+    client.tell(tables, "OPTIMIZE INDEX `t`", 0, AUTOCOMMIT)
 }
 
 /// Writes documents with the ids behind this one, and commits them.
@@ -108,6 +110,7 @@ fn write<T: TableStore>(
 ) -> Result<(), Or<Unexpected>>
     requires few { before + length documents.now < 2 ^ 32 }
     requires fits { Fits (T.confs tables.old) client.old.session }
+    ensures done { OnOk result (AreDone T.confs T.words (transactions before documents.now) client.old.session tables.old client.new.session tables.new) }
     ensures fits { Fits (T.confs tables.new) client.new.session }
     ensures confs { T.confs tables.new ≡ T.confs tables.old }
     ensures leads { Leads T.confs T.words tables.old tables.new }
@@ -116,8 +119,8 @@ fn write<T: TableStore>(
     let mut number = 0;
     let mut rest = documents;
     'documents: while let Some((document, more)) = rest.split_first() {
-        number += 1;
         begin(client, tables, number)?;
+        number += 1;
         write_one(client, tables, text, before + number, document)?;
         commit(client, tables, last, number)?;
         rest = more;
@@ -135,6 +138,7 @@ fn write_one<T: TableStore>(
     document: &Document,
 ) -> Result<(), Or<Unexpected>>
     requires fits { Fits (T.confs tables.old) client.old.session }
+    ensures done { OnOk result (AreDone T.confs T.words (insert id document.now ∷ []) client.old.session tables.old client.new.session tables.new) }
     ensures fits { Fits (T.confs tables.new) client.new.session }
     ensures confs { T.confs tables.new ≡ T.confs tables.old }
     ensures leads { Leads T.confs T.words tables.old tables.new }
@@ -143,24 +147,27 @@ fn write_one<T: TableStore>(
     client.tell(tables, text.as_str(), 1, IN_TRANSACTION)
 }
 
-/// Begins a transaction before its first document.
+/// Begins a transaction before its first document, behind so many others.
+#[tactic(auto, using(crate::proofs::Letters::begin_is, crate::proofs::Conversing::told_done))]
 fn begin<T: TableStore>(
     client: &mut Client,
     tables: &mut T,
     number: u32,
 ) -> Result<(), Or<Unexpected>>
     requires fits { Fits (T.confs tables.old) client.old.session }
+    ensures done { OnOk result (AreDone T.confs T.words (before_document number) client.old.session tables.old client.new.session tables.new) }
     ensures fits { Fits (T.confs tables.new) client.new.session }
     ensures confs { T.confs tables.new ≡ T.confs tables.old }
     ensures leads { Leads T.confs T.words tables.old tables.new }
 {
-    if number % PER_TRANSACTION == 1 {
+    if number % PER_TRANSACTION == 0 {
         client.tell(tables, "BEGIN", 0, IN_TRANSACTION)?;
     }
     Ok(())
 }
 
 /// Commits a transaction after its last document.
+#[tactic(auto, using(crate::proofs::Letters::commit_is, crate::proofs::Conversing::told_done))]
 fn commit<T: TableStore>(
     client: &mut Client,
     tables: &mut T,
@@ -168,6 +175,7 @@ fn commit<T: TableStore>(
     number: u32,
 ) -> Result<(), Or<Unexpected>>
     requires fits { Fits (T.confs tables.old) client.old.session }
+    ensures done { OnOk result (AreDone T.confs T.words (behind_document last number) client.old.session tables.old client.new.session tables.new) }
     ensures fits { Fits (T.confs tables.new) client.new.session }
     ensures confs { T.confs tables.new ≡ T.confs tables.old }
     ensures leads { Leads T.confs T.words tables.old tables.new }
@@ -187,6 +195,7 @@ fn count<T: TableStore>(
     count: Count,
 ) -> Result<u64, Or<Unexpected>>
     requires fits { Fits (T.confs tables.old) client.old.session }
+    ensures counts { IfOk result (λ sum. Counts T.confs T.words count sum client.old.session tables.old client.new.session tables.new) }
     ensures fits { Fits (T.confs tables.new) client.new.session }
     ensures confs { T.confs tables.new ≡ T.confs tables.old }
     ensures leads { Leads T.confs T.words tables.old tables.new }

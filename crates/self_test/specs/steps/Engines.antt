@@ -6,7 +6,6 @@ use Rattle.chunk_store.specs.declared.disk.Disk.{Ghosts as DiskWords}
 use Rattle.commit_outcomes.specs.declared.strayed.Strayed.{Strayed}
 use Rattle.doc_types.specs.Schemas.{IsSchema}
 use Rattle.index_conf.specs.declared.conf.IndexConf.{IndexConf}
-use Rattle.step_book.specs.Fronts.{FrontValue}
 use Rattle.store_keep.specs.Opens.{IsOpened}
 use Rattle.store_keep.specs.declared.opening.Opened.{Opened}
 use Rattle.self_test.specs.declared.fault.SelftestFault.{SelftestFault}
@@ -24,8 +23,8 @@ pub record IsReady {D : Type 0} (words : DiskWords D) (index : IndexConf) (store
   pub opened : IsOpened words index.schema store
 
 -- what an answer says of how the engine ended
-abbrev pub AnswersEnd : Result FrontValue (Or Strayed) → Result Summary SelftestFault → Type 0
-AnswersEnd end (Ok summary) = (note : FrontValue) × (end ≡ Ok note)
-AnswersEnd end (Err Unexpected) = (note : FrontValue) × (end ≡ Ok note)
+abbrev pub AnswersEnd : Result (Unit {0}) (Or Strayed) → Result Summary SelftestFault → Type 0
+AnswersEnd end (Ok summary) = end ≡ Ok tt
+AnswersEnd end (Err Unexpected) = end ≡ Ok tt
 AnswersEnd end (Err (HasStrayed strayed)) = end ≡ Err (causes.Fault strayed)
 AnswersEnd end (Err NoMemory) = Unit {0}

@@ -3,10 +3,9 @@ use Rattle.std.specs.Prelude.{IfOk}
 use Rattle.std.proofs.lemmas.Result.{IfOk-weaker}
 use Rattle.commit_outcomes.specs.declared.strayed.Strayed.{Strayed}
 use Rattle.srch_base.specs.declared.faults.Or.{Or}
-use Rattle.step_book.specs.Fronts.{FrontValue}
 use Rattle.engine_tables.specs.Tokens.{SitsAt, TokensValue}
 use Rattle.self_test.specs.Documents.{documents_from}
-use Rattle.self_test.specs.Ends.{HasChunks, Works, first_tokens}
+use Rattle.self_test.specs.Ends.{Finds, Works, first_tokens}
 use Rattle.self_test.specs.Summaries.{summary_of}
 use Rattle.self_test.specs.declared.running.Unexpected.{Unexpected}
 use Rattle.self_test.specs.declared.summary.Summary.{Summary}
@@ -36,15 +35,17 @@ pub returns-clause-ends : goal.returns-clause-ends
 returns-clause-ends g c =
     let schema = g.J.Naming.schema in
     let base = g.J.Naming.base in
+    let opened = g.J.Naming.opened in
     let engines = c.args.named.engines in
     let left : TokensValue = c.work-found.result.1 in
-    ends_so g.D.Disk schema base engines.confs left c.close.result.items c.end_of.ensures.0 c.answer.result c.requires.over
-    (subst (λ (t : TokensValue). Works schema base engines.confs t left)
-    (first_last c.args.named.seats.items c.take_last.new.self.items c.take_last.result first_tokens c.take_last.ensures.items c.requires.seats) c.work-found.ensures.works)
+    let seated : c.take_last.result ≡ first_tokens = first_last c.args.named.seats.items c.take_last.new.self.items c.take_last.result first_tokens c.take_last.ensures.items c.requires.seats in
+    ends_so g.D.Disk schema base opened engines.confs (documents_from c.args.number c.args.docs) left c.close.result.items c.end_of.ensures.0 c.answer.result c.requires.over
+    (subst (λ (t : TokensValue). Works schema base engines.confs t left) seated c.work-found.ensures.works)
     (IfOk-weaker c.answer.result _ _
-    (λ summary is. subst (λ (found : Result Summary (Or Unexpected)). IfOk found (λ s. HasChunks schema base left s.chunks)) is c.work-found.ensures.chunks)
+    (λ summary is. subst (λ (t : TokensValue). Finds schema base engines.confs (documents_from c.args.number c.args.docs) summary t left) seated
+    (subst (λ (found : Result Summary (Or Unexpected)). IfOk found (λ s. Finds schema base engines.confs (documents_from c.args.number c.args.docs) s c.take_last.result left)) is c.work-found.ensures.finds))
     c.answer.ensures.summary)
-    (ended_one g.D.Disk schema base _ engines.workers c.put.new.self.seats left c.close.result.items (ap length c.requires.over.is) c.requires.alone
+    (ended_one g.D.Disk schema base opened _ engines.workers c.put.new.self.seats left c.close.result.items (ap length c.requires.over.is) c.requires.alone
     (put_one engines c.args.named.ending c.put.new.self left c.requires.room c.put.ensures) c.close.ensures)
     c.end_of.ensures.1
-    (subst (λ (end : Result FrontValue (Or Strayed)). AnswersEnd end c.answer.result) c.end_of.ensures.2 c.answer.ensures.ends)
+    (subst (λ (end : Result (Unit {0}) (Or Strayed)). AnswersEnd end c.answer.result) c.end_of.ensures.2 c.answer.ensures.ends)

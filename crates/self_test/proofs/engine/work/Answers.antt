@@ -1,9 +1,10 @@
-use Rattle.std.proofs.Common.{ap, length, sym, subst, ◌∙◌}
+use Rattle.std.proofs.Common.{◌≡◌, ap, length, sym, subst, ◌∙◌}
 use Rattle.std.proofs.lemmas.Result.{IfOk-weaker}
 use Rattle.engine_tables.specs.Tokens.{SitsAt, TokensValue}
 use Rattle.engine_tables.specs.Workers.{WorkerValue}
-use Rattle.self_test.specs.Ends.{HasChunks}
-use Rattle.self_test.proofs.Leading.{has_left, still_sits}
+use Rattle.self_test.specs.Documents.{documents_from}
+use Rattle.self_test.proofs.Seats.{still_sits}
+use Rattle.self_test.proofs.Engines.{found_by}
 use Rattle.self_test.proofs.engine.work.Goals as goal
 
 pub run-found-requires : goal.run-found-requires
@@ -15,11 +16,9 @@ returns-clause-sits g c =
     subst (λ (t : TokensValue). SitsAt c.args.engines.now t) (sym c.into_tokens.ensures)
     (still_sits g.J.Naming.schema g.J.Naming.base c.args.engines.now c.over-tables.result c.run-found.new.tables begun c.run-found.ensures.leads)
 
-pub returns-clause-chunks : goal.returns-clause-chunks
-returns-clause-chunks g c =
-    let schema = g.J.Naming.schema in
-    let base = g.J.Naming.base in
+pub returns-clause-finds : goal.returns-clause-finds
+returns-clause-finds g c =
     IfOk-weaker c.run-found.result _ _
-    (λ summary leaves. subst (λ (t : TokensValue). HasChunks schema base t summary.chunks) (sym c.into_tokens.ensures)
-    (has_left schema base summary.chunks c.over-tables.result c.run-found.new.tables leaves))
-    c.run-found.ensures.chunks
+    (λ summary converses. found_by g.J.Naming.schema g.J.Naming.base c.args.engines.now.confs (documents_from c.args.number c.args.docs) summary c.args.tokens c.into_tokens.result c.over-tables.result c.run-found.new.tables
+    c.over-tables.ensures (c.run-found.ensures.confs ∙ ap (λ (w : WorkerValue). w.confs) c.over-tables.ensures) (sym c.into_tokens.ensures) converses)
+    c.run-found.ensures.converses
