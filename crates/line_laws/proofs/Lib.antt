@@ -1,0 +1,4 @@
+pub mod Packets
+pub mod Answered
+pub mod Plain
+pub mod Coding
