@@ -4,6 +4,7 @@ ghost use Rattle.std.specs.Prelude.{◌≤◌, length, IfOk};
 
 use std::io::{self, ErrorKind, Read, Stdin, Stdout, Write};
 use std::net::{TcpListener, TcpStream};
+use std::thread;
 use std::time::Duration;
 
 /// How long a client over TCP may keep a read or a write waiting, in seconds; after that the call fails.
@@ -11,6 +12,12 @@ pub const PATIENCE_SECONDS: u64 = 600;
 
 /// How long a client over TCP that has sent nothing yet may keep a read waiting, in seconds. It is MySQL's default `connect_timeout`.
 pub const GREETING_SECONDS: u64 = 10;
+
+/// How long a door waits before it tries again to take a connection for which the system had no room, in milliseconds.
+pub const PAUSE_MILLISECONDS: u64 = 100;
+
+/// The errors by which Linux says that a table of files or the memory for sockets is full: `ENFILE`, `EMFILE` and `ENOBUFS` of accept(2).
+const FULL: [i32; 3] = [23, 24, 105];
 
 /// The way to a client and back.
 #[derive(Drop)]
@@ -22,12 +29,17 @@ pub enum ClientStream {
 
 impl ClientStream {
     /// The next client of a listener. One that has gone away again before it could be served is passed over, and so is a fault of the
-    /// network on the way to it, which the system tells where it takes a connection.
-    pub(crate) fn accept(listener: &TcpListener) -> io::Result<ClientStream> {
+    /// network on the way to it, which the system tells where it takes a connection. Where the system has no room for a further one, in
+    /// its tables of files or in memory, the client waits at the listener until it has.
+    pub(crate) fn accept(listener: &TcpListener, clock: &HostRuntime) -> io::Result<ClientStream> {
         'clients: for _ in 0..u64::MAX {
             let (stream, _peer) = match listener.accept() {
                 Ok(accepted) => accepted,
                 Err(error) if is_of_one_client(error.kind()) => continue 'clients,
+                Err(error) if is_want_of_room(&error) => {
+                    thread::sleep(clock, Duration::from_millis(PAUSE_MILLISECONDS));
+                    continue 'clients;
+                }
                 Err(error) => return Err(error),
             };
             if prepare(&stream).is_ok() {
@@ -58,6 +70,14 @@ fn is_of_one_client(kind: ErrorKind) -> bool {
         | ErrorKind::NetworkUnreachable
         | ErrorKind::TimedOut => true,
         _ => false,
+    }
+}
+
+/// Whether a failure to take a connection ends by itself: once others have gone, or memory is there again.
+fn is_want_of_room(error: &io::Error) -> bool {
+    match error.raw_os_error() {
+        Some(code) => FULL.contains(&code) || error.kind() == ErrorKind::OutOfMemory,
+        None => false,
     }
 }
 

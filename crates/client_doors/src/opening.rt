@@ -5,26 +5,27 @@ ghost use Rattle.client_doors.specs.Fresh.{IsFresh};
 use crate::client_door::{ClientDoor, Source};
 use std::alloc::Global;
 use std::io::{self, Stdin, Stdout};
-use std::net::{Net, TcpListener, TcpStream};
+use std::net::TcpListener;
 use std::sync::Arc;
 
 /// The door over the standard streams.
-pub fn standard_door(alloc: Global, input: Stdin, output: Stdout) -> ClientDoor
+pub fn standard_door(input: Stdin, output: Stdout) -> ClientDoor
     ensures { IsFresh result }
 {
-    ClientDoor::new(alloc, Source::Standard { input, output })
+    ClientDoor::new(Source::Standard { input, output })
 }
 
 /// A door over a listener that others share.
-fn shared_door(alloc: Global, listener: &Arc<TcpListener, Global>) -> io::Result<ClientDoor>
+fn shared_door(clock: HostRuntime, listener: &Arc<TcpListener, Global>) -> io::Result<ClientDoor>
     ensures { IfOk result IsFresh }
 {
-    let shared = Arc::try_clone(listener)?;
-    Ok(ClientDoor::new(alloc, Source::Listener(shared)))
+    let listener = Arc::try_clone(listener)?;
+    Ok(ClientDoor::new(Source::Listener { listener, clock }))
 }
 
 /// So many doors over a listener.
 fn shared_doors(
+    clock: HostRuntime,
     alloc: Global,
     listener: &Arc<TcpListener, Global>,
     n: u32,
@@ -33,20 +34,20 @@ fn shared_doors(
 {
     let mut doors = Vec::new(alloc);
     for _ in 0..n {
-        doors.push(shared_door(alloc, listener)?)?;
+        doors.push(shared_door(clock, listener)?)?;
     }
     Ok(doors)
 }
 
 /// So many doors over one listener at an address.
-pub fn listening_doors<R: Net<Listener = TcpListener, Stream = TcpStream>>(
-    rt: &R,
+pub fn listening_doors(
+    rt: HostRuntime,
     alloc: Global,
     listen: &str,
     n: u32,
 ) -> io::Result<Vec<ClientDoor>>
     ensures { IfOk result (λ doors. (length doors.items ≡ n) × All IsFresh doors.items) }
 {
-    let listener = Arc::new(alloc, TcpListener::bind(rt, listen)?)?;
-    shared_doors(alloc, &listener, n)
+    let listener = Arc::new(alloc, TcpListener::bind(&rt, listen)?)?;
+    shared_doors(rt, alloc, &listener, n)
 }

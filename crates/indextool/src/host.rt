@@ -1,10 +1,12 @@
 //! The host of the tool: files, the standard streams, and folders that are looked at alone. What a file holds and where a print goes is
 //! trusted; what is proved is the count of faults, what is requested, given and handed back, and how much of a file is read.
-ghost use Rattle.std.specs.Prelude.{◌≡◌, ◌≤◌, ◌+◌, ◌++◌, [], ◌∷◌, Some, length, map};
+ghost use Rattle.std.specs.Prelude.{◌≡◌, ◌≤◌, ◌+◌, ◌++◌, [], ◌∷◌, Some, length};
+ghost use Rattle.client_doors.specs.Lending.{things_back, things_given};
 
+use client_doors::Lent;
 use index_tool::{ToolHost, ToolStream};
 use program_host::Requests;
-use real_host::{Lent, LookDisk, Streams, read_text};
+use real_host::{LookDisk, Streams, read_text};
 use srch_base::{Failed, OpenFault};
 use std::alloc::Global;
 use std::io::{Stderr, Stdout};
@@ -27,8 +29,8 @@ impl RealToolHost {
         output: Stdout,
         errors: Stderr,
     ) -> RealToolHost
-        ensures gave { result.stores.gave.items ≡ [] }
-        ensures took { result.stores.back.items ≡ [] }
+        ensures gave { things_given result.stores ≡ [] }
+        ensures took { things_back result.stores ≡ [] }
         ensures requests { result.requests ≡ Some [] }
     {
         RealToolHost {
@@ -36,14 +38,14 @@ impl RealToolHost {
             alloc,
             streams: Streams::new(output, errors),
             requests: Requests::new(alloc),
-            stores: Lent::new(alloc),
+            stores: Lent::new(),
             faults: 0,
         }
     }
 }
 
 impl ToolHost for RealToolHost {
-    ghost use Rattle.std.specs.Prelude.{None, map};
+    ghost use Rattle.std.specs.Prelude.{None};
     ghost use Rattle.real_host.specs.Streams.{faults_of};
 
     type Store = LookDisk<HostRuntime>;
@@ -52,9 +54,9 @@ impl ToolHost for RealToolHost {
 
     ghost printed = { λ _ _. None };
 
-    ghost stores_given = { λ host. map (λ store. store.value) host.stores.gave.items };
+    ghost stores_given = { λ host. things_given host.stores };
 
-    ghost stores_back = { λ host. map (λ store. store.value) host.stores.back.items };
+    ghost stores_back = { λ host. things_back host.stores };
 
     ghost faults = { λ host. host.faults };
 
@@ -76,7 +78,7 @@ impl ToolHost for RealToolHost {
         self.requests.add_store(path);
         match LookDisk::open(self.outside, self.alloc, path) {
             Ok(store) => {
-                self.stores.give_one(&store)?;
+                self.stores.give_one(&store);
                 Ok(store)
             }
             Err(OpenFault::NoMemory) => Err(OpenFault::NoMemory),
@@ -88,9 +90,9 @@ impl ToolHost for RealToolHost {
     }
 
     fn give_back(&mut self, store: LookDisk<HostRuntime>)
-        requires { length (map (λ store. store.value) self.old.stores.back.items) + 1 ≤ length (map (λ store. store.value) self.old.stores.gave.items) }
-        ensures took { map (λ store. store.value) self.new.stores.back.items ≡ map (λ store. store.value) self.old.stores.back.items ++ store ∷ [] }
-        ensures gave { self.new.stores.gave.items ≡ self.old.stores.gave.items }
+        requires { length (things_back self.old.stores) + 1 ≤ length (things_given self.old.stores) }
+        ensures took { things_back self.new.stores ≡ things_back self.old.stores ++ store ∷ [] }
+        ensures gave { things_given self.new.stores ≡ things_given self.old.stores }
         ensures rest { self.new ≡ record self.old { stores = self.new.stores } }
     {
         self.stores.take_one_back(&store);

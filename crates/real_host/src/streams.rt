@@ -5,7 +5,7 @@ ghost use Rattle.real_host.specs.Streams.{faults_of};
 
 use program_host::Stream;
 use srch_base::Failed;
-use std::io::{Stderr, Stdout, Write};
+use std::io::{self, Stderr, Stdout, Write};
 
 /// The standard streams that are printed to.
 #[derive(Drop)]
@@ -14,6 +14,7 @@ pub struct Streams {
     errors: Stderr,
     out_faults: u64,
     error_faults: u64,
+    refusal: Option<io::Error>,
 }
 
 impl Streams {
@@ -24,7 +25,13 @@ impl Streams {
             errors,
             out_faults: 0,
             error_faults: 0,
+            refusal: None,
         }
+    }
+
+    /// Why printing failed last, none where it hasn't.
+    pub fn refusal(&self) -> Option<io::Error> {
+        self.refusal
     }
 
     /// Prints a line to one of them.
@@ -37,12 +44,14 @@ impl Streams {
         };
         match (printed, to) {
             (Ok(()), _) => Ok(()),
-            (Err(_), Stream::Out) => {
+            (Err(error), Stream::Out) => {
                 self.out_faults = self.out_faults.saturating_add(1);
+                self.refusal = Some(error);
                 Err(Failed)
             }
-            (Err(_), Stream::Err) => {
+            (Err(error), Stream::Err) => {
                 self.error_faults = self.error_faults.saturating_add(1);
+                self.refusal = Some(error);
                 Err(Failed)
             }
         }

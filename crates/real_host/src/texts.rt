@@ -30,7 +30,12 @@ pub fn read_text<R: Files>(
 }
 
 /// The first `limit + 1` bytes of a file, or all of a shorter one.
-fn read_file<R: Files>(alloc: Global, files: &R, path: &str, limit: u32) -> io::Result<Vec<u8>>
+pub(crate) fn read_file<R: Files>(
+    alloc: Global,
+    files: &R,
+    path: &str,
+    limit: u32,
+) -> io::Result<Vec<u8>>
     ensures { IfOk result (λ bytes. length bytes.items ≤ limit + 1) }
 {
     let file = fs::open(files, path)?;

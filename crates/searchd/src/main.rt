@@ -18,7 +18,19 @@ fn main(rt: HostRuntime) -> ExitCode {
         Ok(words) => searchd(&rt, alloc, words.as_slice(), &mut host),
         Err(NoMemory) => without_memory(&mut host),
     };
+    if let Status::HostFault = status {
+        say_why(&rt, &host);
+    }
     ExitCode::from(status.code())
+}
+
+/// Says behind the line of a host fault why the host failed, for the operator. A print that fails changes nothing.
+fn say_why(rt: &HostRuntime, host: &RealHost) {
+    if let Some(cause) = host.cause() {
+        match eprintln!(rt; "searchd: {cause}") {
+            Ok(()) | Err(_) => {}
+        }
+    }
 }
 
 /// Says that the words couldn't be held.
