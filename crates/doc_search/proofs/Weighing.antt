@@ -20,9 +20,8 @@ use Rattle.op_eval.proofs.NumberedHits.{can_be_weighed}
 use Rattle.word_rows.proofs.Opening.{row_there}
 use Rattle.rankers.specs.declared.ranker.Ranker.{Ranker}
 use Rattle.rankers.specs.declared.ranker.Ranker.TheVariants as rankers
-use Rattle.rankers.specs.Fields as fields_of
-use Rattle.rankers.specs.Fields.{AreOfOne}
-use Rattle.rankers.specs.Weight.{AreRanked, IsRanked, weight}
+use Rattle.rankers.specs.Weight.{AreRanked, IsRanked}
+use Rattle.rank_expr.specs.ByFields.{AreAlone, AreFew}
 use Rattle.doc_types.specs.declared.schema.Value.{Value}
 use Rattle.doc_search.specs.Rankings.{weigh}
 use Rattle.doc_search.specs.declared.ranking.Ranking.{Ranking}
@@ -31,6 +30,8 @@ use Rattle.row_select.specs.declared.row.Row.{Row}
 use Rattle.doc_search.specs.Searches.{IsAskedOf, IsRowOf}
 use Rattle.doc_search.specs.declared.question.Question.{Question}
 use Rattle.doc_search.proofs.SomeHits.{all_ordered, are_its_hits, hits_of}
+use Rattle.doc_search.specs.steps.ByFields.{LooksAtFields}
+use Rattle.doc_search.specs.steps.Lacking.{sought}
 use Rattle.doc_search.specs.steps.Gathering.{AreValuesFor, GivesOne, HasRead, IsAskedOfDocs, IsWeightOf, IsWeighed}
 
 -- a hit within the limits can be ranked
@@ -127,15 +128,38 @@ row_of question doc row read weighed = record {
 
 -- ---- by the fields that have hits
 
--- there is a weight for each field, and fields are few
-pub few_weights : (question : Question) (docs : List DocRow) → IsAskedOfDocs question docs → length question.weights.list ≤ 32
-few_weights question docs asked = omega (arith, asked.asked.weights, asked.asked.few_fields)
+-- one of hits alone always gives a weight
+pub sought_plain : (lacking : Bool) (ranker : Ranker) → sought lacking (rankings.Plain ranker) ≡ rankings.Plain ranker
+sought_plain true ranker = refl
+sought_plain false ranker = refl
+
+-- a ranker that is asked whether a document has a weight looks at what it looks at else
+pub sought_looks : (lacking : Bool) (ranking : Ranking) → LooksAtFields ranking → LooksAtFields (sought lacking ranking)
+sought_looks true (rankings.Plain ranker) looks = looks
+sought_looks true (rankings.Expr expr) looks = looks
+sought_looks true (rankings.Lacking expr) looks = looks
+sought_looks false ranking looks = looks
+
+pub looks_unsought : (lacking : Bool) (ranking : Ranking) → LooksAtFields (sought lacking ranking) → LooksAtFields ranking
+looks_unsought true (rankings.Plain ranker) looks = looks
+looks_unsought true (rankings.Expr expr) looks = looks
+looks_unsought true (rankings.Lacking expr) looks = looks
+looks_unsought false ranking looks = looks
+
+-- keywords and fields are few
+pub are_few : (question : Question) (docs : List DocRow) → IsAskedOfDocs question docs → AreFew question.query.keywords question.weights.list
+are_few question docs asked = record {
+  keywords = omega (arith, asked.asked.numbered.count, asked.asked.numbered.few);
+  fields = omega (arith, asked.asked.weights, asked.asked.few_fields);
+  each_weight = asked.asked.each_weight;
+}
 
 -- a document that matches weighs what its fields tell
-pub fields_weigh : (question : Question) (docs : List DocRow) (query : Query) (number fields weighed : ℕ) (ranker : Ranker) (doc : DocRow) → IsAskedOfDocs question docs → question.ranker ≡ rankings.Plain ranker → query ≡ question.query → GoesByFields query → slice_get docs number ≡ Some doc → AreFieldsOf (query_finds query doc) fields → fields ≢ 0
-    → ((hits : Hits) (position word : ℕ) → hits.keywords ≢ 0 → AreRanked hits question.weights.list → AreOfOne position word hits.list → fields_of.AreFieldsOf fields hits.list → weighed ≡ weight ranker hits question.weights.list)
-    → IsWeighed question doc (Some (Some weighed))
-fields_weigh question docs query number fields weighed ranker doc asked plain same word here are some is =
+pub fields_weigh : (question : Question) (docs : List DocRow) (query : Query) (number fields : ℕ) (weighed : Option ℕ) (values : List Value) (doc : DocRow) → IsAskedOfDocs question docs → query ≡ question.query → GoesByFields query → slice_get docs number ≡ Some doc → AreFieldsOf (query_finds query doc) fields → fields ≢ 0
+    → AreValuesFor question doc values
+    → ((hits : Hits) → AreAlone question.query.keywords fields question.weights.list hits → weighed ≡ weigh question.ranker hits question.weights.list values)
+    → IsWeighed question doc (Some weighed)
+fields_weigh question docs query number fields weighed values doc asked same word here are some are_its is =
     let its : AreFieldsOf (query_finds question.query doc) fields = subst (λ (q : Query). AreFieldsOf (query_finds q doc) fields) same are in
     let alone = one_keyword question.query (subst GoesByFields same word) in
     let hits : Hits = record { keywords = question.query.keywords; list = hits_of question.query doc } in
@@ -145,12 +169,16 @@ fields_weigh question docs query number fields weighed ranker doc asked plain sa
         hits = hits_of question.query doc;
         are = ordered;
         is =
-            ap Some (is hits its.position its.word
-            (λ none. absurd (omega (arith, none, asked.asked.numbered.count, alone)))
-            (are_ranked asked.schema question doc hits asked.asked (doc_of asked.schema docs number doc asked.rows here) refl ordered)
-            (all_ordered (λ hit. (hit.query ≡ its.position) × (hit.word ≡ its.word)) (query_finds question.query doc).hits its.one)
-            (λ field. its.each field ∙ sym (ordered.all (λ hit. hit.field == field))))
-            ∙ ap (λ (its : Ranking). weigh its hits question.weights.list doc.doc.values) (sym plain);
+            is hits (record {
+              query = its.position;
+              word = its.word;
+              keywords = refl;
+              some = λ none. absurd (omega (arith, none, asked.asked.numbered.count, alone));
+              ranked = are_ranked asked.schema question doc hits asked.asked (doc_of asked.schema docs number doc asked.rows here) refl ordered;
+              one = all_ordered (λ hit. (hit.query ≡ its.position) × (hit.word ≡ its.word)) (query_finds question.query doc).hits its.one;
+              are = λ field. its.each field ∙ sym (ordered.all (λ hit. hit.field == field));
+            })
+            ∙ are_its hits question.weights.list;
       },
     )
 

@@ -1,3 +1,5 @@
 pub mod Gathering
 pub mod Lacking
+-- rankers that look at fields alone
+pub mod ByFields
 pub mod ListedRows

@@ -1,17 +1,18 @@
 //! How documents are weighed. A ranker has one seam: what it may look at of a document, which is its hits, the weights of the fields
 //! and the values of its attributes, is handed to it by one call. So another ranker is another value, and no other way through a search.
-ghost use Rattle.std.specs.Prelude.{◌≡◌, ◌≢◌, IfSome, List, ℕ, Bool, false};
+ghost use Rattle.std.specs.Prelude.{◌≡◌, IfSome, List, ℕ, Bool, true, false};
 ghost use Rattle.doc_types.specs.declared.hits.Hits.{Hits as HitsValue};
 ghost use Rattle.doc_types.specs.declared.schema.Value.{Value as AttrValue};
-ghost use Rattle.rankers.specs.declared.ranker.Ranker.TheVariants as rankers;
+ghost use Rattle.rank_expr.specs.ByFields.{AreAlone, AreFew};
 ghost use Rattle.rankers.specs.Weight.{AreRanked};
 ghost use Rattle.doc_search.specs.Rankings.{presence, weigh};
 ghost use Rattle.doc_search.specs.declared.ranking.Ranking.TheVariants as rankings;
+ghost use Rattle.doc_search.specs.steps.ByFields.{LooksAtFields};
 ghost use Rattle.doc_search.specs.steps.Lacking.{sought};
 
 use doc_types::{Hits, Value};
-use rank_expr::{RankExpr, rank};
-use rankers::{Ranker, Weights, weight};
+use rank_expr::{RankExpr, goes_by_fields, rank, rank_by_fields};
+use rankers::{Ranker, Weights, weight, weight_of_fields};
 
 /// How documents are weighed.
 pub enum Ranking {
@@ -80,14 +81,46 @@ impl Ranking {
         }
     }
 
-    /// That ranker, where it counts no hits.
-    pub(crate) fn by_fields(&self) -> Option<Ranker>
-        ensures { IfSome result (λ ranker. (self.now ≡ rankings.Plain ranker) × (ranker ≢ rankers.WordCount)) }
+    /// Whether it weighs documents with hits of one keyword by the fields that have one.
+    pub(crate) fn looks_at_fields(&self) -> bool
+        ensures { result ≡ true → LooksAtFields self.now }
     {
         match self {
-            Ranking::Plain(Ranker::WordCount) => None,
-            Ranking::Plain(ranker) => Some(*ranker),
-            Ranking::Expr(_) | Ranking::Lacking(_) => None,
+            Ranking::Plain(Ranker::WordCount) => false,
+            Ranking::Plain(_) => true,
+            Ranking::Expr(expr) => goes_by_fields(expr),
+            Ranking::Lacking(expr) => goes_by_fields(expr),
+        }
+    }
+
+    /// The weight of a document, or whether it has one, by the fields that have hits, as bits, where all hits are of one keyword of so
+    /// many.
+    pub(crate) fn weigh_by_fields(
+        &self,
+        lacking: bool,
+        keywords: u16,
+        fields: u32,
+        weights: &Weights,
+        values: &[Value],
+    ) -> Option<u64>
+        requires few { AreFew keywords weights.now.list }
+        requires looks { LooksAtFields self.now }
+        ensures { (hits : HitsValue) → AreAlone keywords fields weights.now.list hits → result ≡ weigh (sought lacking self.now) hits weights.now.list values.now }
+    {
+        match self {
+            Ranking::Plain(ranker) => Some(weight_of_fields(*ranker, fields, weights)),
+            Ranking::Expr(expr) => {
+                let found = rank_by_fields(expr, keywords, fields, weights, values);
+                if lacking {
+                    Some(presence(found))
+                } else {
+                    found
+                }
+            }
+            Ranking::Lacking(expr) => {
+                let found = rank_by_fields(expr, keywords, fields, weights, values);
+                Some(presence(found))
+            }
         }
     }
 }

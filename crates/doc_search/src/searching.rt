@@ -5,7 +5,7 @@
 //! are asked of the document where it stands in the chunk, and so is all that the sink looks at: of a document that is found no
 //! column is read that isn't asked for, and who keeps it makes the copy. Of rows that conditions on the id rule out none is looked
 //! at. Nothing is kept of a document but what the sink takes, and one list of hits serves for all of them.
-ghost use Rattle.std.specs.Prelude.{◌≡◌, ◌≢◌, ◌+◌, ◌<◌, ◌≤◌, ◌++◌, ◌∷◌, [], List, IfOk, OnOk, All, AllPairs, Some, true, length, slice_get};
+ghost use Rattle.std.specs.Prelude.{◌≡◌, ◌+◌, ◌<◌, ◌≤◌, ◌++◌, ◌∷◌, [], List, IfOk, OnOk, All, AllPairs, Some, true, length, slice_get};
 ghost use Rattle.std.specs.List.{filter};
 ghost use Rattle.doc_types.specs.declared.documents.DocRow.{DocRow};
 ghost use Rattle.doc_types.specs.declared.schema.Schema.{Schema};
@@ -13,13 +13,12 @@ ghost use Rattle.doc_types.specs.Documents.{AreRowsOf};
 ghost use Rattle.doc_types.specs.Snapshots.{all_living, living};
 ghost use Rattle.op_eval.specs.Fields.{GoesByFields};
 ghost use Rattle.op_eval.specs.Matching.{matches};
-ghost use Rattle.rankers.specs.declared.ranker.Ranker.TheVariants as rankers;
 ghost use Rattle.row_select.specs.Pages.{IsTop};
 ghost use Rattle.row_select.specs.Filters.{hold_unweighed};
 ghost use Rattle.row_select.specs.declared.row.Row.{Row as RowValue};
 ghost use Rattle.doc_search.specs.Searches.{AreFound, FindsOr, IsAskedOf};
-ghost use Rattle.doc_search.specs.declared.ranking.Ranking.TheVariants as rankings;
 ghost use Rattle.doc_search.specs.declared.question.Question.{Question as QuestionValue};
+ghost use Rattle.doc_search.specs.steps.ByFields.{LooksAtFields};
 ghost use Rattle.doc_search.specs.steps.ListedRows.{GoesPast, Leaves};
 ghost use Rattle.doc_search.specs.steps.Gathering.{Gathers, GivesOne, IsAskedOfDocs, IsWeighed, StandsAt, unweighed};
 ghost use Rattle.doc_search.specs.Searches.{LacksWeight};
@@ -36,7 +35,7 @@ use crate::room::{Room, read_values};
 use crate::scanning::{next_passing, passes};
 use doc_types::{Chunk, Counted, CountedLists, HitLists, Layer, Snapshot};
 use op_eval::Matches;
-use rankers::{Ranker, weight_of_fields};
+use rankers::Ranker;
 use row_select::{ChunkRow, Collector, Row, Sink};
 use srch_base::{NoMemory, Or, Steps};
 use std::alloc::Global;
@@ -252,40 +251,39 @@ fn weight_of<C: CountedLists>(
     if gives_one(asked) {
         return weight_alike(stream, steps);
     }
-    match asked.question.ranker.by_fields() {
-        Some(ranker) => {
-            if stream.goes_by_fields() {
-                Ok(weight_by_fields(asked, ranker, stream, steps))
-            } else {
-                weight_ranked(asked, chunk, number, stream, room, steps)
-            }
+    if asked.looks_at_fields() {
+        if stream.goes_by_fields() {
+            return weight_by_fields(asked, chunk, number, stream, room, steps);
         }
-        None => weight_ranked(asked, chunk, number, stream, room, steps),
     }
+    weight_ranked(asked, chunk, number, stream, room, steps)
 }
 
-/// The same by the fields that have hits, for a query that they decide and a ranker that doesn't count hits.
+/// The same by the fields that have hits, for a query that they decide and a ranker that looks at no more of hits.
 fn weight_by_fields<C: CountedLists>(
     asked: &ReadyQuestion<'_>,
-    ranker: Ranker,
+    chunk: &C,
+    number: u32,
     stream: &mut Matches<'_, C>,
+    room: &mut Room,
     steps: &mut Steps<C::Book>,
-) -> Option<Option<u64>>
+) -> Result<Option<Option<u64>>, NoMemory>
     requires asked { IsAskedOfDocs asked.now stream.old.rows }
     requires query { stream.old.query ≡ asked.now.query }
+    requires rows { stream.old.rows ≡ C.content chunk.now }
+    requires at { stream.old.at ≡ number }
     requires within { stream.old.at < length stream.old.rows }
     requires word { GoesByFields stream.old.query }
-    requires ranker { asked.now.ranker ≡ rankings.Plain ranker }
-    requires fields { ranker ≢ rankers.WordCount }
-    ensures goes_on { stream.new ≡ record stream.old { at = stream.old.at + 1 } }
-    ensures weighed { (doc : DocRow) → slice_get stream.old.rows stream.old.at ≡ Some doc → IsWeighed asked.now doc result }
+    requires looks { LooksAtFields asked.now.ranker }
+    ensures goes_on { OnOk result (stream.new ≡ record stream.old { at = stream.old.at + 1 }) }
+    ensures weighed { (doc : DocRow) → slice_get stream.old.rows stream.old.at ≡ Some doc → IfOk result (IsWeighed asked.now doc) }
 {
-    let question = asked.question;
     let fields = stream.take_fields(steps);
     if fields == 0 {
-        return None;
+        return Ok(None);
     }
-    Some(Some(weight_of_fields(ranker, fields, &question.weights)))
+    read_values(asked, chunk, number, &mut room.values)?;
+    Ok(Some(asked.weigh_by_fields(fields, room.values.as_slice())))
 }
 
 /// Whether each document that matches weighs 1, whatever hits it has: by the ranker that looks at none, or since the query has no

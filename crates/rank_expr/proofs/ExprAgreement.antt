@@ -1,6 +1,6 @@
 -- The grammar stands twice, as expressions over classes of marks and as a relation of values: at each depth the texts of the one are
 -- those that have a value by the other, and marks stand for one value at most.
-use Rattle.std.proofs.Common.{◌≡◌, ℕ, zero, suc, List, [], ◌∷◌, ◌++◌, Bool, true, false, Option, Some, None, ◌⊎◌, inl, inr, refl, sym, subst}
+use Rattle.std.proofs.Common.{◌≡◌, ℕ, zero, suc, List, [], ◌++◌, Bool, true, false, Option, ◌⊎◌, inl, inr, refl, sym, subst}
 use Rattle.std.specs.Prelude.{if◌then◌else◌}
 use Rattle.token_grammar.specs.Language.{Re, one, nullable, ◌⨾◌, ◌∣◌}
 use Rattle.token_grammar.specs.Values.{◌then◌, IsGiven, AreInRow}
@@ -11,7 +11,6 @@ use Rattle.token_grammar.proofs.OnceChoices.{once_either, once_optional, once_ro
 use Rattle.rank_expr.specs.declared.expr.Expr.{Expr}
 use Rattle.rank_expr.specs.declared.expr.Expr.TheVariants as exprs
 use Rattle.rank_expr.specs.declared.expr.PairOp.{PairOp}
-use Rattle.rank_expr.specs.declared.mark.Leaf.{Leaf}
 use Rattle.rank_expr.specs.declared.mark.Mark.{Mark}
 use Rattle.rank_expr.specs.declared.mark.Sign.{Sign}
 use Rattle.rank_expr.specs.declared.mark.Sign.TheVariants as signs
@@ -19,7 +18,7 @@ use Rattle.rank_expr.specs.declared.mark.Single.{Single}
 use Rattle.rank_expr.specs.declared.class.Class.{Class}
 use Rattle.rank_expr.specs.declared.class.Class.TheVariants as classes
 use Rattle.rank_expr.specs.Grammar.{Is, leaf_expr, IsLeaf, multiplied, IsProduct, IsAdding, added, IsTotal, compared, IsExpr, IsNegative, IsGroup, single, IsSingle, IsDouble, IsTriple, IsNested, IsOperand, IsText}
-use Rattle.rank_expr.specs.steps.Classes.{class_of, fits}
+use Rattle.rank_expr.specs.steps.Classes.{class_of}
 use Rattle.rank_expr.specs.steps.MarkAlphabet.{expr_marks}
 use Rattle.rank_expr.specs.steps.ExprGrammar.{product_of, total_of, expr_of, negative_of, group_of, single_of, double_of, triple_of, nested_of, operand, text_of, product_goes_on, total_goes_on, expr_goes_on}
 use Rattle.rank_expr.proofs.MarkSigns.{IsOf, sign_is, class_fits}

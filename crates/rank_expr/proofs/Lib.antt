@@ -24,3 +24,5 @@ pub mod MarkPlaces
 pub mod Ranges
 -- the values of parts
 pub mod PartValues
+-- what an expression looks at, and hits of one keyword
+pub mod ByFields

@@ -3,10 +3,9 @@ use Rattle.std.proofs.Common.{arith, ◌≡◌, ◌+◌, ◌-◌, ◌<◌, ◌�
 use Rattle.std.specs.Prelude.{if◌then◌else◌}
 use Rattle.doc_types.specs.declared.schema.Schema.{Schema}
 use Rattle.rank_expr.specs.declared.mark.Mark.{Mark}
-use Rattle.rank_expr.specs.declared.mark.Sign.TheVariants as signs
 use Rattle.rank_expr.specs.Pieces.{is_blank, piece_of}
 use Rattle.rank_expr.specs.Marks.{is_due_after, level_after, mark_of, marks_from, marks_of}
-use Rattle.rank_expr.specs.steps.Classes.{IsAtEnd, IsBeforeEnd}
+use Rattle.rank_expr.specs.steps.Classes.{IsAtEnd}
 
 -- each place is within these bounds
 abbrev pub Between : ℕ → ℕ → List Mark → Type 0

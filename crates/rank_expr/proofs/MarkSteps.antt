@@ -1,13 +1,12 @@
 -- The marks of a text, one after the other: past its blanks, and past its first piece.
-use Rattle.std.proofs.Common.{arith, ◌≡◌, ◌+◌, ◌-◌, ◌<◌, ◌≤◌, ℕ, zero, suc, List, [], ◌∷◌, Bool, true, false, Option, Some, None, length, take, drop, refl, sym, ◌∙◌, ap, subst, add-zero, length-drop}
-use Rattle.std.specs.Prelude.{if◌then◌else◌, slice_index, nat_lt, ◌==◌, ◌||◌}
-use Rattle.std.specs.Char.{is_ascii_digit}
+use Rattle.std.proofs.Common.{arith, ◌≡◌, ◌+◌, ◌-◌, ◌<◌, ◌≤◌, ℕ, zero, suc, List, [], ◌∷◌, Bool, true, false, length, drop, refl, sym, ◌∙◌, ap, subst, add-zero, length-drop}
+use Rattle.std.specs.Prelude.{slice_index}
 use Rattle.std.specs.List.{prefix_len}
 use Rattle.std.proofs.lemmas.List.Sums.{prefix_len-le-length}
 use Rattle.doc_types.specs.declared.schema.Schema.{Schema}
 use Rattle.rank_expr.specs.declared.mark.Mark.{Mark}
 use Rattle.rank_expr.specs.declared.mark.Sign.TheVariants as signs
-use Rattle.rank_expr.specs.Pieces.{is_blank, Piece, piece_of}
+use Rattle.rank_expr.specs.Pieces.{is_blank, piece_of}
 use Rattle.rank_expr.specs.Marks.{is_due_after, level_after, mark_of, marks_from}
 
 module _ (schema : Schema) (due : Bool) (level : ℕ) where

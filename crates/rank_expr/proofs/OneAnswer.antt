@@ -1,5 +1,5 @@
 -- A text is one expression or has one first fault, and not both.
-use Rattle.std.proofs.Common.{arith, ◌≡◌, ◌≤◌, ◌<◌, ℕ, List, inl, inr, sym, ◌∙◌, ap}
+use Rattle.std.proofs.Common.{arith, ◌≡◌, ℕ, List, inl, inr, sym, ◌∙◌, ap}
 use Rattle.token_grammar.proofs.Stops.{value_no_stop, one_stop}
 use Rattle.doc_types.specs.declared.schema.Schema.{Schema}
 use Rattle.rank_expr.specs.declared.expr.Expr.{Expr}

@@ -1,7 +1,7 @@
 -- What the cursor makes of a piece.
-use Rattle.std.proofs.Common.{arith, ◌≡◌, ◌+◌, ◌-◌, ◌<◌, ◌≤◌, ℕ, List, [], ◌∷◌, Bool, true, false, length, drop, refl, sym, ◌∙◌, ap, subst, length-drop, nat_eq}
+use Rattle.std.proofs.Common.{arith, ◌≡◌, ◌+◌, ◌-◌, ◌<◌, ◌≤◌, ℕ, List, [], ◌∷◌, Bool, true, false, length, drop, sym, ◌∙◌, ap, length-drop}
 use Rattle.std.specs.Prelude.{if◌then◌else◌, slice_index, nat_lt, ◌==◌}
-use Rattle.std.proofs.lemmas.Bool.{eqb-true, eqb-false, cases_lt}
+use Rattle.std.proofs.lemmas.Bool.{eqb-true}
 use Rattle.doc_types.specs.declared.schema.Schema.{Schema}
 use Rattle.rank_expr.specs.declared.mark.Mark.{Mark}
 use Rattle.rank_expr.specs.declared.mark.Sign.{Sign}

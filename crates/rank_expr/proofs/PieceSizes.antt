@@ -1,5 +1,5 @@
 -- A piece has a byte at least, lies in its text, and isn't the end.
-use Rattle.std.proofs.Common.{arith, ◌≡◌, ◌+◌, ◌<◌, ◌≤◌, ℕ, List, [], ◌∷◌, Bool, true, false, Option, Some, None, inl, inr, length, take, drop, get_or, refl, sym, ◌∙◌, ap, subst, length-drop}
+use Rattle.std.proofs.Common.{arith, ◌≡◌, ◌+◌, ◌<◌, ◌≤◌, ℕ, List, [], ◌∷◌, Bool, true, false, Option, Some, None, inl, inr, length, take, drop, refl, subst, length-drop}
 use Rattle.std.specs.Prelude.{if◌then◌else◌, slice_index, nat_lt, ◌==◌, ◌||◌, ◌^◌}
 use Rattle.std.specs.Char.{is_ascii_digit}
 use Rattle.std.specs.Int.{is_in_range}

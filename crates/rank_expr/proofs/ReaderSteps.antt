@@ -1,13 +1,13 @@
 -- What the readers make of the marks before them.
-use Rattle.std.proofs.Common.{◌≡◌, ◌⊎◌, ℕ, zero, suc, List, [], ◌∷◌, ◌++◌, Bool, true, false, Option, Some, None, inl, inr, refl, sym, ◌∙◌, ap, subst}
+use Rattle.std.proofs.Common.{◌≡◌, ℕ, zero, suc, List, [], ◌∷◌, ◌++◌, Bool, true, false, Some, None, inl, inr, refl, sym, ◌∙◌, ap, subst}
 use Rattle.std.specs.Prelude.{Result, Ok, Err}
 use Rattle.srch_base.specs.declared.faults.Or.{Or}
 use Rattle.srch_base.specs.declared.faults.Or.TheVariants.{NoMemory, Fault}
-use Rattle.token_grammar.specs.Language.{Re, one, many, optional, ◌⨾◌, ◌∣◌}
+use Rattle.token_grammar.specs.Language.{Re, one, optional, ◌⨾◌, ◌∣◌}
 use Rattle.token_grammar.specs.Firsts.{may_follow}
-use Rattle.token_grammar.specs.Values.{◌then◌, IsOne, IsGiven, AreInRow}
+use Rattle.token_grammar.specs.Values.{◌then◌, IsOne, IsGiven}
 use Rattle.token_grammar.specs.Reading.{first_place, TakesPart, FailsPart, ReadsPart, IsNextOf, TakesIf}
-use Rattle.token_grammar.proofs.Rows.{plain_seq, plain_first, plain_next, takes_seq, fails_first, fails_next, takes_as, fails_at, fails_there, now_there, takes_next}
+use Rattle.token_grammar.proofs.Rows.{plain_seq, plain_first, plain_next, takes_seq, fails_first, fails_next, takes_as, fails_at, now_there, takes_next}
 use Rattle.token_grammar.proofs.Choices.{takes_if, fails_if, takes_second, fails_second, fails_else, reads_if, reads_else, optional_if, optional_fails, optional_else}
 use Rattle.token_grammar.proofs.Stops.{stop_of, value_of}
 use Rattle.rank_expr.specs.declared.class.Class.{Class}
@@ -26,7 +26,7 @@ use Rattle.rank_expr.specs.steps.Classes.{class_of, same_class, fits, is_end, Is
 use Rattle.rank_expr.specs.steps.MarkAlphabet.{expr_marks}
 use Rattle.rank_expr.specs.steps.ExprGrammar.{product_of, total_of, expr_of, negative_of, group_of, single_of, double_of, triple_of, nested_of, operand, text_of, product_goes_on, total_goes_on, expr_goes_on}
 use Rattle.rank_expr.specs.steps.Joining.{Makes, IsFollowed, AreBoth, ReadsWhole}
-use Rattle.rank_expr.proofs.MarkSigns.{IsOf, sign_is, next_other, next_is, next_not, takes_sign, takes_as_sign}
+use Rattle.rank_expr.proofs.MarkSigns.{IsOf, next_other, next_is, next_not, takes_sign, takes_as_sign}
 use Rattle.rank_expr.proofs.ExprAgreement.{agree_text}
 use Rattle.rank_expr.proofs.RowSteps.{TakesFrom, from_first, from_more, from_fails, from_done, joined_fails, over_else, over_either}
 

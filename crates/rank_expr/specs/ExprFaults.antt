@@ -1,5 +1,5 @@
 -- What the reader of a text answers: its value, where the text is in the grammar, and else its first fault.
-use Rattle.std.specs.Prelude.{◌≡◌, ◌⊎◌, ◌≤◌, ◌<◌, ℕ, Bool, true, false, List, [], Result, Ok, Err, if◌then◌else◌, length, take, drop}
+use Rattle.std.specs.Prelude.{◌≡◌, ◌⊎◌, ◌≤◌, ◌<◌, ℕ, List, [], Result, Ok, Err, if◌then◌else◌, length, take, drop}
 use Rattle.std.specs.List.{prefix_len}
 use Rattle.std.specs.Str.{str_to_ascii_lowercase}
 use Rattle.srch_base.specs.declared.faults.Or.{Or}

@@ -8,5 +8,7 @@ pub mod Grammar
 pub mod ExprFaults
 -- the weight that an expression gives a document
 pub mod ExpressionWeight
+-- expressions that look at which fields have a hit, and at no more of hits
+pub mod ByFields
 -- what serves proofs and private functions alone
 pub mod steps

@@ -61,7 +61,7 @@ fn factors_kept(hits: &Hits, field: u16, memo: &mut [Option<Factors>]) -> Factor
 }
 
 /// The weight of the field.
-fn weight_at(weights: &[u32], field: u16) -> u32
+pub(crate) fn weight_at(weights: &[u32], field: u16) -> u32
     ensures { result ≡ slice_index weights.now field }
 {
     let place = field as usize;
@@ -114,7 +114,7 @@ fn field_value(
 }
 
 /// The sum of all weights.
-fn sum_of(weights: &[u32]) -> u64
+pub(crate) fn sum_of(weights: &[u32]) -> u64
     requires { length weights.now ≤ 32 }
     ensures { result ≡ sum weights.now }
 {
@@ -152,7 +152,7 @@ fn whole_value(factor: DocFactor, hits: &Hits, weights: &Weights) -> Option<i128
 }
 
 /// The value of an attribute.
-fn attr_value(values: &[Value], attr: u16) -> Option<i128>
+pub(crate) fn attr_value(values: &[Value], attr: u16) -> Option<i128>
     ensures { result ≡ attr_value (slice_get values.now attr) }
 {
     match values.get(attr as usize) {

@@ -25,7 +25,7 @@ returns-clause-weighs g c = λ doc here.
     let sure = c.in_ok-words.ensures.sure doc here in
     let any =
     ap (λ (its : Question). list_any is_weighed its.filters) (sym c.asked.view_is)
-    ∙ ap (list_any is_weighed) (sym c.asked.invariant)
+    ∙ ap (list_any is_weighed) (sym c.asked.invariant.0)
     ∙ sym c.look_at_weight.ensures
     ∙ c.if-look_at_weight.false in
     let some = subst (λ (its : Question). its.query.keywords ≢ 0) c.asked.view_is c.if-question-eq0.false in

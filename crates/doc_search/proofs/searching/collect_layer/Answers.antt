@@ -23,7 +23,7 @@ rows-init g c =
       stands = ap (λ (it : Stream). it.at) c.in_ok-stream.ensures;
       within = omega arith;
       leaves = subst (λ (rows : List DocRow). Leaves c.args.asked.now rows 0 c.over-listed.result) docs
-          (c.over-listed.ensures c.args.asked.now (c.asked.invariant ∙ ap (λ (its : Question). its.filters) c.asked.view_is));
+          (c.over-listed.ensures c.args.asked.now (c.asked.invariant.0 ∙ ap (λ (its : Question). its.filters) c.asked.view_is));
     }
 
 pub next_row-requires-clause-docs : goal.next_row-requires-clause-docs

@@ -16,7 +16,7 @@ returns-in_ok-offer g c = λ first before doc here weighed so.
     (passes_as g.S.Sink.Took c.args.asked.now first (unweighed doc) row refl refl (c.requires.passes doc here)
     ∙ ap (hold_weighed c.args.asked.now.filters) (sym is)
     ∙ ap (λ (its : Question). hold_weighed its.filters c.new-row.result) (sym c.asked.view_is)
-    ∙ ap (λ filters. hold_weighed filters c.new-row.result) (sym c.asked.invariant)
+    ∙ ap (λ filters. hold_weighed filters c.new-row.result) (sym c.asked.invariant.0)
     ∙ sym c.hold_weighed.ensures
     ∙ c.if-hold_weighed.true)
     (λ rows took. subst (λ offered. g.S.Sink.Took first (rows ++ offered ∷ []) c.offer.new.self) is (c.in_ok-offer.ensures first rows took))
@@ -30,6 +30,6 @@ returns-else-hold_weighed g c = λ first before doc here weighed so.
     (passes_as g.S.Sink.Took c.args.asked.now first (unweighed doc) row refl refl (c.requires.passes doc here)
     ∙ ap (hold_weighed c.args.asked.now.filters) (sym is)
     ∙ ap (λ (its : Question). hold_weighed its.filters c.new-row.result) (sym c.asked.view_is)
-    ∙ ap (λ filters. hold_weighed filters c.new-row.result) (sym c.asked.invariant)
+    ∙ ap (λ filters. hold_weighed filters c.new-row.result) (sym c.asked.invariant.0)
     ∙ sym c.hold_weighed.ensures
     ∙ c.if-hold_weighed.false)

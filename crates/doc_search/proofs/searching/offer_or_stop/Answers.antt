@@ -15,7 +15,7 @@ returns-else-hold_weighed-clause-gathers g c = λ first before doc here weighed 
     passes_as g.S.Sink.Took c.args.asked.now first (unweighed doc) row refl refl (c.requires.passes doc here)
     ∙ ap (hold_weighed c.args.asked.now.filters) (sym is)
     ∙ ap (λ (its : Question). hold_weighed its.filters c.new-row.result) (sym c.asked.view_is)
-    ∙ ap (λ filters. hold_weighed filters c.new-row.result) (sym c.asked.invariant)
+    ∙ ap (λ filters. hold_weighed filters c.new-row.result) (sym c.asked.invariant.0)
     ∙ sym c.hold_weighed.ensures
     ∙ c.if-hold_weighed.false in
     let none : IsWeightOf c.args.asked.now doc None = subst (λ (weight : Option ℕ). IsWeightOf c.args.asked.now doc weight) c.in-None.is weighed.1 in
@@ -34,7 +34,7 @@ returns-then-hold_weighed-clause-lacks g c = λ doc here weighed.
       passing = passes_as g.S.Sink.Took c.args.asked.now c.args.sink.now (unweighed doc) row refl refl (c.requires.passes doc here)
           ∙ ap (hold_weighed c.args.asked.now.filters) (sym is)
           ∙ ap (λ (its : Question). hold_weighed its.filters c.new-row.result) (sym c.asked.view_is)
-          ∙ ap (λ filters. hold_weighed filters c.new-row.result) (sym c.asked.invariant)
+          ∙ ap (λ filters. hold_weighed filters c.new-row.result) (sym c.asked.invariant.0)
           ∙ sym c.hold_weighed.ensures
           ∙ c.if-hold_weighed.true;
       none = sym none.is;

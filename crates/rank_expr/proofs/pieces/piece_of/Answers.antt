@@ -1,4 +1,4 @@
-use Rattle.std.proofs.Common.{◌≡◌, ◌≤◌, true, ℕ, arith, take, subst, sym}
+use Rattle.std.proofs.Common.{◌≡◌, true, ℕ, arith, take, subst, sym}
 use Rattle.std.specs.Char.{is_ascii_digit}
 use Rattle.std.specs.List.{list_all}
 use Rattle.std.proofs.lemmas.List.Sums.{prefix_len-le-length}

@@ -1,4 +1,4 @@
-use Rattle.std.proofs.Common.{◌≡◌, ◌<◌, ◌≤◌, ℕ, arith, ap}
+use Rattle.std.proofs.Common.{◌<◌, ◌≤◌, arith, ap}
 use Rattle.token_grammar.specs.Reading.{first_place}
 use Rattle.rank_expr.specs.steps.MarkAlphabet.{expr_marks}
 use Rattle.rank_expr.proofs.MarkPlaces.{all_ahead, one_passed, mark_here, mark_last}

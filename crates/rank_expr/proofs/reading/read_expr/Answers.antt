@@ -1,8 +1,7 @@
-use Rattle.std.proofs.Common.{◌≡◌, ◌≤◌, ◌∙◌, ℕ, List, arith, length, inr, sym, subst}
-use Rattle.std.specs.Prelude.{Result, Err}
+use Rattle.std.proofs.Common.{◌∙◌, ℕ, List, arith, inr, sym, subst}
+use Rattle.std.specs.Prelude.{Err}
 use Rattle.srch_base.specs.declared.faults.Or.{Or}
 use Rattle.token_grammar.specs.Values.{IsStop}
-use Rattle.rank_expr.specs.declared.expr.Expr.{Expr}
 use Rattle.rank_expr.specs.declared.mark.Mark.{Mark}
 use Rattle.rank_expr.specs.Grammar.{IsText}
 use Rattle.rank_expr.specs.steps.Joining.{ReadsWhole}

@@ -1,4 +1,4 @@
-use Rattle.std.proofs.Common.{◌≡◌, ◌≤◌, ◌+◌, ◌<◌, ◌^◌, ◌∙◌, ℕ, List, false, arith, length, drop, length-drop, sym, ap, subst}
+use Rattle.std.proofs.Common.{◌+◌, ◌^◌, ◌∙◌, arith, drop, sym, ap}
 use Rattle.std.proofs.lemmas.List.Sums.{prefix_len-le-length}
 use Rattle.rank_expr.specs.Pieces.{is_blank}
 use Rattle.rank_expr.specs.Marks.{marks_from}

@@ -1,4 +1,4 @@
-use Rattle.std.proofs.Common.{◌≡◌, ◌+◌, ◌≤◌, ◌<◌, ◌^◌, ℕ, arith, length, sym}
+use Rattle.std.proofs.Common.{◌^◌, arith, sym}
 use Rattle.rank_expr.proofs.MarkSteps.{no_mark}
 use Rattle.rank_expr.proofs.PieceRead.{some_text, no_text, size_fits, rest_fits, piece_read}
 use Rattle.rank_expr.proofs.cursor.MarkCursor.read_piece.Goals as goal

@@ -1,4 +1,4 @@
-use Rattle.std.proofs.Common.{◌≡◌, ◌∙◌, Bool, true, refl, ap, sym, subst, nat_eq}
+use Rattle.std.proofs.Common.{◌≡◌, Bool, true, sym, subst, nat_eq}
 use Rattle.std.proofs.lemmas.Bool.{eq-eqb}
 use Rattle.token_grammar.specs.Reading.{TakesIf}
 use Rattle.token_grammar.specs.Values.{IsOne}
