@@ -1,5 +1,5 @@
 -- A line, or lines, of each element of a list.
-use Rattle.std.proofs.Common.{◌≡◌, ℕ, ◌+◌, ◌<◌, ◌≤◌, List, [], ◌∷◌, ◌++◌, Result, Ok, Err, sym, ◌∙◌, ap, subst, length, get_or, take, drop, append-nil}
+use Rattle.std.proofs.Common.{◌≡◌, ℕ, ◌+◌, ◌<◌, ◌≤◌, List, [], ◌∷◌, ◌++◌, Ok, Err, sym, ◌∙◌, ap, subst, length, get_or, take, drop, append-nil}
 use Rattle.std.specs.List.{flat_map}
 use Rattle.std.proofs.Math.ListN.{take-append-drop}
 use Rattle.std.proofs.Math.Seq.{take_all}
@@ -7,12 +7,8 @@ use Rattle.std.proofs.lemmas.List.{take_more}
 use Rattle.std.proofs.lemmas.List.Concat.{flat_map-append}
 use Rattle.index_tool.specs.declared.host.ToolHost.{Ghosts as HostWords}
 use Rattle.index_tool.specs.declared.printing.Stop.{Stop}
-use Rattle.index_tool.specs.steps.Sides.{PrintsLines}
-use Rattle.index_tool.proofs.Printed.{lines_stop, lines_then}
-
--- a line that was put into the empty buffer, and then printed
-pub one_line : {H S T : Type 0} (host : HostWords H S) (r : Result T Stop) (bytes buffer : List ℕ) (old new : H) → buffer ≡ [] ++ bytes → PrintsLines host r buffer old new → PrintsLines host r bytes old new
-one_line host r bytes buffer old new is prints = subst (λ (l : List ℕ). PrintsLines host r l old new) is prints
+use Rattle.index_tool.specs.steps.Sides.{BuffersLines}
+use Rattle.index_tool.proofs.Printed.{buffer_stop, buffer_then}
 
 module _ {X : Type 0} (f : X → List ℕ) (xs : List X) where
   more : (n : ℕ) (d : X) → n < length xs → flat_map f (take (n + 1) xs) ≡ flat_map f (take n xs) ++ f (get_or xs n d)
@@ -24,21 +20,21 @@ module _ {X : Type 0} (f : X → List ℕ) (xs : List X) where
   whole n = ap (flat_map f) (sym (take-append-drop n xs)) ∙ flat_map-append f (take n xs) (drop n xs)
 
   -- lines up to an element, and those of this one
-  pub each_more : {H S T : Type 0} (host : HostWords H S) (done : T) (n : ℕ) (d : X) (old mid new : H) → n < length xs → PrintsLines {T = T} host (Ok done) (flat_map f (take n xs)) old mid → PrintsLines {T = T} host (Ok done) (f (get_or xs n d)) mid new
-      → PrintsLines {T = T} host (Ok done) (flat_map f (take (n + 1) xs)) old new
+  pub each_more : {H S T : Type 0} (host : HostWords H S) (done : T) (n : ℕ) (d : X) (old mid new : List ℕ × H) → n < length xs → BuffersLines {T = T} host (Ok done) (flat_map f (take n xs)) old mid → BuffersLines {T = T} host (Ok done) (f (get_or xs n d)) mid new
+      → BuffersLines {T = T} host (Ok done) (flat_map f (take (n + 1) xs)) old new
   each_more {H} {S} {T} host done n d old mid new low first then =
-      subst (λ (l : List ℕ). PrintsLines {T = T} host (Ok done) l old new) (sym (more n d low))
-      (lines_then host done (Ok done) (flat_map f (take n xs)) (f (get_or xs n d)) old mid new first then)
+      subst (λ (l : List ℕ). BuffersLines {T = T} host (Ok done) l old new) (sym (more n d low))
+      (buffer_then host done (Ok done) (flat_map f (take n xs)) (f (get_or xs n d)) old mid new first then)
 
-  -- those of this one weren't all printed
-  pub each_stop : {H S T : Type 0} (host : HostWords H S) (done : T) (stop : Stop) (n : ℕ) (d : X) (old mid new : H) → n < length xs → PrintsLines {T = T} host (Ok done) (flat_map f (take n xs)) old mid → PrintsLines {T = T} host (Err stop) (f (get_or xs n d)) mid new
-      → PrintsLines {T = T} host (Err stop) (flat_map f xs) old new
+  -- those of this one didn't all go on
+  pub each_stop : {H S T : Type 0} (host : HostWords H S) (done : T) (stop : Stop) (n : ℕ) (d : X) (old mid new : List ℕ × H) → n < length xs → BuffersLines {T = T} host (Ok done) (flat_map f (take n xs)) old mid → BuffersLines {T = T} host (Err stop) (f (get_or xs n d)) mid new
+      → BuffersLines {T = T} host (Err stop) (flat_map f xs) old new
   each_stop {H} {S} {T} host done stop n d old mid new low first then =
       let all : flat_map f xs ≡ (flat_map f (take n xs) ++ f (get_or xs n d)) ++ flat_map f (drop (n + 1) xs) = whole (n + 1) ∙ ap (λ (l : List ℕ). l ++ flat_map f (drop (n + 1) xs)) (more n d low) in
-      subst (λ (l : List ℕ). PrintsLines {T = T} host (Err stop) l old new) (sym all)
-      (lines_stop host T T stop (flat_map f (take n xs) ++ f (get_or xs n d)) (flat_map f (drop (n + 1) xs)) old new
-      (lines_then host {U = T} done (Err stop) (flat_map f (take n xs)) (f (get_or xs n d)) old mid new first then))
+      subst (λ (l : List ℕ). BuffersLines {T = T} host (Err stop) l old new) (sym all)
+      (buffer_stop host T T stop (flat_map f (take n xs) ++ f (get_or xs n d)) (flat_map f (drop (n + 1) xs)) old new
+      (buffer_then host {U = T} done (Err stop) (flat_map f (take n xs)) (f (get_or xs n d)) old mid new first then))
 
   -- all were
-  pub each_all : {H S T : Type 0} (host : HostWords H S) (done : T) (n : ℕ) (old new : H) → length xs ≤ n → PrintsLines {T = T} host (Ok done) (flat_map f (take n xs)) old new → PrintsLines {T = T} host (Ok done) (flat_map f xs) old new
-  each_all {H} {S} {T} host done n old new past prints = subst (λ (l : List ℕ). PrintsLines {T = T} host (Ok done) l old new) (ap (flat_map f) (take_all n xs past)) prints
+  pub each_all : {H S T : Type 0} (host : HostWords H S) (done : T) (n : ℕ) (old new : List ℕ × H) → length xs ≤ n → BuffersLines {T = T} host (Ok done) (flat_map f (take n xs)) old new → BuffersLines {T = T} host (Ok done) (flat_map f xs) old new
+  each_all {H} {S} {T} host done n old new past prints = subst (λ (l : List ℕ). BuffersLines {T = T} host (Ok done) l old new) (ap (flat_map f) (take_all n xs past)) prints

@@ -16,8 +16,8 @@ use Rattle.index_tool.specs.ToolLines.{hit_line, hit_lines}
 use Rattle.index_tool.specs.declared.host.ToolHost.{Ghosts as HostWords}
 use Rattle.index_tool.specs.declared.printing.Stop.{Stop}
 use Rattle.index_tool.specs.declared.printing.Stop.TheVariants as stops
-use Rattle.index_tool.specs.steps.Sides.{PrintsLines}
-use Rattle.index_tool.proofs.Printed.{lines_none, lines_stop, lines_then, lines_wanting}
+use Rattle.index_tool.specs.steps.Sides.{BuffersLines}
+use Rattle.index_tool.proofs.Printed.{buffer_none, buffer_stop, buffer_then, buffer_wanting}
 
 -- ---- a row without the word has no places
 
@@ -101,11 +101,11 @@ module _ (schema : Schema) (word : List ℕ) (entry : ChunkEntry) (rows : List D
 
   -- ---- on the way over the rows that have the word
 
-  -- the lines of the rows that went by were printed, and those of the rows ahead are what is left of all
-  pub record IsAmid {H S : Type 0} (host : HostWords H S) (ahead : List ℕ) (old now : H) : Type 0 where
+  -- the lines of the rows that went by were put, and those of the rows ahead are what is left of all
+  pub record IsAmid {H S : Type 0} (host : HostWords H S) (ahead : List ℕ) (old now : List ℕ × H) : Type 0 where
     pub gone : List ℕ
     pub are : gone ++ flat_map row_lines ahead ≡ hit_lines schema word entry rows
-    pub prints : PrintsLines {T = Unit {0}} host (Ok tt) gone old now
+    pub prints : BuffersLines {T = Unit {0}} host (Ok tt) gone old now
 
   first_ahead : (ahead : List ℕ) (row : ℕ) → slice_get ahead 0 ≡ Some row → flat_map row_lines ahead ≡ row_lines row ++ flat_map row_lines (drop 1 ahead)
   first_ahead [] row is = absurd cc
@@ -113,11 +113,11 @@ module _ (schema : Schema) (word : List ℕ) (entry : ChunkEntry) (rows : List D
       let same : Some next ≡ Some row = is in
       let here : next ≡ row = cc in ap (λ (n : ℕ). row_lines n ++ flat_map row_lines ahead) here
 
-  pub amid_first : {H S : Type 0} (host : HostWords H S) (h : H) → IsAmid host (rows_with word rows) h h
-  amid_first host h = record { gone = []; are = sym by_rows; prints = lines_none host (tt {0}) h }
+  pub amid_first : {H S : Type 0} (host : HostWords H S) (h : List ℕ × H) → IsAmid host (rows_with word rows) h h
+  amid_first host h = record { gone = []; are = sym by_rows; prints = buffer_none host (tt {0}) h }
 
   -- a dead row goes by
-  pub amid_dead : {H S : Type 0} (host : HostWords H S) (ahead : List ℕ) (row : ℕ) (old now : H) → slice_get ahead 0 ≡ Some row → out row ≡ true → IsAmid host ahead old now → IsAmid host (drop 1 ahead) old now
+  pub amid_dead : {H S : Type 0} (host : HostWords H S) (ahead : List ℕ) (row : ℕ) (old now : List ℕ × H) → slice_get ahead 0 ≡ Some row → out row ≡ true → IsAmid host ahead old now → IsAmid host (drop 1 ahead) old now
   amid_dead host ahead row old now next dead amid =
       let none : row_lines row ≡ [] = ap (λ (b : Bool). cond b [] (option_map_or lines_in (slice_get rows row) [])) dead in
       record {
@@ -132,35 +132,35 @@ module _ (schema : Schema) (word : List ℕ) (entry : ChunkEntry) (rows : List D
       append_assoc gone (lines_in its) (flat_map row_lines (drop 1 ahead))
       ∙ ap (λ (l : List ℕ). gone ++ l) (sym (first_ahead ahead row next ∙ ap (λ (l : List ℕ). l ++ flat_map row_lines (drop 1 ahead)) (row_is (row, its) false alive there))) ∙ are
 
-  -- the lines of a row that lives are printed
-  pub amid_live : {H S T : Type 0} (host : HostWords H S) (done : T) (ahead : List ℕ) (row : ℕ) (its : DocRow) (old mid new : H) → slice_get ahead 0 ≡ Some row → out row ≡ false → slice_get rows row ≡ Some its → PrintsLines {T = T} host (Ok done) (lines_in its) mid new
+  -- the lines of a row that lives are put
+  pub amid_live : {H S T : Type 0} (host : HostWords H S) (done : T) (ahead : List ℕ) (row : ℕ) (its : DocRow) (old mid new : List ℕ × H) → slice_get ahead 0 ≡ Some row → out row ≡ false → slice_get rows row ≡ Some its → BuffersLines {T = T} host (Ok done) (lines_in its) mid new
       → IsAmid host ahead old mid → IsAmid host (drop 1 ahead) old new
   amid_live {H} {S} {T} host done ahead row its old mid new next alive there prints amid = record {
     gone = amid.gone ++ lines_in its;
     are = all_is amid.gone ahead row its next alive there amid.are;
-    prints = lines_then host {T = Unit {0}} {U = Unit {0}} tt (Ok tt) amid.gone (lines_in its) old mid new amid.prints prints;
+    prints = buffer_then host {T = Unit {0}} {U = Unit {0}} tt (Ok tt) amid.gone (lines_in its) old mid new amid.prints prints;
   }
 
-  -- they weren't all printed
-  pub amid_stop : {H S : Type 0} (T : Type 0) (host : HostWords H S) (stop : Stop) (ahead : List ℕ) (row : ℕ) (its : DocRow) (old mid new : H) → slice_get ahead 0 ≡ Some row → out row ≡ false → slice_get rows row ≡ Some its → PrintsLines {T = T} host (Err stop) (lines_in its) mid new
-      → IsAmid host ahead old mid → PrintsLines {T = T} host (Err stop) (hit_lines schema word entry rows) old new
+  -- they didn't all go on
+  pub amid_stop : {H S : Type 0} (T : Type 0) (host : HostWords H S) (stop : Stop) (ahead : List ℕ) (row : ℕ) (its : DocRow) (old mid new : List ℕ × H) → slice_get ahead 0 ≡ Some row → out row ≡ false → slice_get rows row ≡ Some its → BuffersLines {T = T} host (Err stop) (lines_in its) mid new
+      → IsAmid host ahead old mid → BuffersLines {T = T} host (Err stop) (hit_lines schema word entry rows) old new
   amid_stop {H} {S} T host stop ahead row its old mid new next alive there prints amid =
-      subst (λ (l : List ℕ). PrintsLines {T = T} host (Err stop) l old new) (all_is amid.gone ahead row its next alive there amid.are)
-      (lines_stop host T T stop (amid.gone ++ lines_in its) (flat_map row_lines (drop 1 ahead)) old new (lines_then host {T = Unit {0}} {U = T} tt (Err stop) amid.gone (lines_in its) old mid new amid.prints prints))
+      subst (λ (l : List ℕ). BuffersLines {T = T} host (Err stop) l old new) (all_is amid.gone ahead row its next alive there amid.are)
+      (buffer_stop host T T stop (amid.gone ++ lines_in its) (flat_map row_lines (drop 1 ahead)) old new (buffer_then host {T = Unit {0}} {U = T} tt (Err stop) amid.gone (lines_in its) old mid new amid.prints prints))
 
   -- memory was wanting
-  pub amid_wanting : {H S : Type 0} (T : Type 0) (host : HostWords H S) (ahead : List ℕ) (old now : H) → IsAmid host ahead old now → PrintsLines {T = T} host (Err stops.NoMemory) (hit_lines schema word entry rows) old now
+  pub amid_wanting : {H S : Type 0} (T : Type 0) (host : HostWords H S) (ahead : List ℕ) (old now : List ℕ × H) → IsAmid host ahead old now → BuffersLines {T = T} host (Err stops.NoMemory) (hit_lines schema word entry rows) old now
   amid_wanting {H} {S} T host ahead old now amid =
-      subst (λ (l : List ℕ). PrintsLines {T = T} host (Err stops.NoMemory) l old now) amid.are
-      (lines_then host {T = Unit {0}} {U = T} tt (Err stops.NoMemory) amid.gone (flat_map row_lines ahead) old now now amid.prints (lines_wanting host T (flat_map row_lines ahead) now))
+      subst (λ (l : List ℕ). BuffersLines {T = T} host (Err stops.NoMemory) l old now) amid.are
+      (buffer_then host {T = Unit {0}} {U = T} tt (Err stops.NoMemory) amid.gone (flat_map row_lines ahead) old now now amid.prints (buffer_wanting host T (flat_map row_lines ahead) now))
 
   -- no row is left
-  pub amid_all : {H S T : Type 0} (host : HostWords H S) (done : T) (ahead : List ℕ) (old now : H) → ahead ≡ [] → IsAmid host ahead old now → PrintsLines {T = T} host (Ok done) (hit_lines schema word entry rows) old now
+  pub amid_all : {H S T : Type 0} (host : HostWords H S) (done : T) (ahead : List ℕ) (old now : List ℕ × H) → ahead ≡ [] → IsAmid host ahead old now → BuffersLines {T = T} host (Ok done) (hit_lines schema word entry rows) old now
   amid_all {H} {S} {T} host done ahead old now none amid =
-      subst (λ (l : List ℕ). PrintsLines {T = T} host (Ok done) l old now) (sym (append-nil amid.gone) ∙ ap (λ (l : List ℕ). amid.gone ++ flat_map row_lines l) (sym none) ∙ amid.are) amid.prints
+      subst (λ (l : List ℕ). BuffersLines {T = T} host (Ok done) l old now) (sym (append-nil amid.gone) ∙ ap (λ (l : List ℕ). amid.gone ++ flat_map row_lines l) (sym none) ∙ amid.are) amid.prints
 
   -- no row has the word
-  pub no_lines : {H S T : Type 0} (host : HostWords H S) (done : T) (h : H) → rows_with word rows ≡ [] → PrintsLines {T = T} host (Ok done) (hit_lines schema word entry rows) h h
+  pub no_lines : {H S T : Type 0} (host : HostWords H S) (done : T) (h : List ℕ × H) → rows_with word rows ≡ [] → BuffersLines {T = T} host (Ok done) (hit_lines schema word entry rows) h h
   no_lines {H} {S} {T} host done h none = amid_all host done (rows_with word rows) h h none (amid_first host h)
 
 -- ---- the row at which a cursor stands

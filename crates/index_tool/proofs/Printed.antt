@@ -11,7 +11,7 @@ use Rattle.program_host.specs.declared.host.Stream.TheVariants.{Out, Err as Erro
 use Rattle.index_tool.specs.declared.host.ToolHost.{Ghosts as HostWords}
 use Rattle.index_tool.specs.declared.printing.Stop.{Stop}
 use Rattle.index_tool.specs.declared.printing.Stop.TheVariants as stops
-use Rattle.index_tool.specs.steps.Sides.{KeepsLent, PrintsLines, Puts}
+use Rattle.index_tool.specs.steps.Sides.{BuffersLines, KeepsLent, PrintsLines, Puts}
 
 told_then : (told : Option (List ℕ)) (a b : List ℕ) → then_bytes (then_bytes told a) b ≡ then_bytes told (a ++ b)
 told_then None a b = refl
@@ -94,3 +94,62 @@ module _ {H S : Type 0} (host : HostWords H S) where
       → PrintsLines {T = U} host (Err stops.HostFault) bytes old new
   line_failed T U e bytes old new prints counts lent =
       (prints.0, prints.1, record { prints = prints.2.out; errors = prints.2.errors ∙ sym (told_nothing (host.printed old Errors)); error_count = counts.2; lent = lent }, counts.1)
+
+  -- ---- lines in a buffer
+
+  abbrev At : Type 0
+  At = List ℕ × H
+
+  pub buffer_none : {T : Type 0} (done : T) (at : At) → BuffersLines {T = T} host (Ok done) [] at at
+  buffer_none done at = ([], append-nil at.0, puts_nothing at.1, refl)
+
+  pub buffer_wanting : (T : Type 0) (lines : List ℕ) (at : At) → BuffersLines {T = T} host (Err stops.NoMemory) lines at at
+  buffer_wanting T lines at = lines_wanting T (at.0 ++ lines) at.1
+
+  -- lines, and further ones
+  pub buffer_then : {T U : Type 0} (done : T) (r : Result U Stop) (a b : List ℕ) (old mid new : At) → BuffersLines {T = T} host (Ok done) a old mid → BuffersLines host r b mid new → BuffersLines host r (a ++ b) old new
+  buffer_then done (Ok value) a b old mid new first second =
+      let both = lines_then done (Ok value) first.0 second.0 old.1 mid.1 new.1 (first.2, first.3) (second.2, second.3) in (
+        first.0 ++ second.0,
+        sym (append_assoc old.0 a b)
+            ∙ ap (λ (l : List ℕ). l ++ b) first.1
+            ∙ append_assoc first.0 mid.0 b
+            ∙ ap (λ (l : List ℕ). first.0 ++ l) second.1
+            ∙ sym (append_assoc first.0 second.0 new.0),
+        both.0,
+        both.1,
+      )
+  buffer_then {T} {U} done (Err stop) a b old mid new first second =
+      let all : first.0 ++ (mid.0 ++ b) ≡ old.0 ++ (a ++ b) =
+      sym (append_assoc first.0 mid.0 b) ∙ ap (λ (l : List ℕ). l ++ b) (sym first.1) ∙ append_assoc old.0 a b in
+      subst (λ (l : List ℕ). PrintsLines {T = U} host (Err stop) l old.1 new.1) all
+      (lines_then {T = T} {U = U} done (Err stop) first.0 (mid.0 ++ b) old.1 mid.1 new.1 (first.2, first.3) second)
+
+  -- lines that didn't all go on
+  pub buffer_stop : (T U : Type 0) (stop : Stop) (a b : List ℕ) (old new : At) → BuffersLines {T = T} host (Err stop) a old new → BuffersLines {T = U} host (Err stop) (a ++ b) old new
+  buffer_stop T U stop a b old new is =
+      subst (λ (l : List ℕ). PrintsLines {T = U} host (Err stop) l old.1 new.1) (append_assoc old.0 a b)
+      (lines_stop T U stop (old.0 ++ a) b old.1 new.1 is)
+
+  -- all that the buffer has was printed
+  pub buffer_printed : {T : Type 0} (r : Result T Stop) (old new : At) → PrintsLines host r old.0 old.1 new.1 → new.0 ≡ [] → BuffersLines host r [] old new
+  buffer_printed (Ok done) old new prints none = (old.0, ap (λ (l : List ℕ). old.0 ++ l) (sym none), prints.0, prints.1)
+  buffer_printed {T} (Err stop) old new prints none =
+      subst (λ (l : List ℕ). PrintsLines {T = T} host (Err stop) l old.1 new.1) (sym (append-nil old.0)) prints
+
+  -- a line that was put into it first
+  pub buffer_put : {T : Type 0} (r : Result T Stop) (bytes old mid : List ℕ) (h : H) (new : At) → mid ≡ old ++ bytes → BuffersLines host r [] (mid, h) new → BuffersLines host r bytes (old, h) new
+  buffer_put (Ok done) bytes old mid h new is rest = (rest.0, sym is ∙ sym (append-nil mid) ∙ rest.1, rest.2, rest.3)
+  buffer_put {T} (Err stop) bytes old mid h new is rest =
+      subst (λ (l : List ℕ). PrintsLines {T = T} host (Err stop) l h new.1) (append-nil mid ∙ is) rest
+
+  -- from an empty buffer on, and then what it has is printed
+  pub buffer_rest : {T U : Type 0} (done : T) (r : Result U Stop) (lines : List ℕ) (old mid : At) (new : H) → old.0 ≡ [] → BuffersLines {T = T} host (Ok done) lines old mid → PrintsLines host r mid.0 mid.1 new → PrintsLines host r lines old.1 new
+  buffer_rest done r lines old mid new none buffered prints =
+      subst (λ (l : List ℕ). PrintsLines host r l old.1 new) (sym buffered.1 ∙ ap (λ (l : List ℕ). l ++ lines) none)
+      (lines_then done r buffered.0 mid.0 old.1 mid.1 new (buffered.2, buffered.3) prints)
+
+  pub buffer_stopped : (T U : Type 0) (stop : Stop) (lines : List ℕ) (old new : At) → old.0 ≡ [] → BuffersLines {T = T} host (Err stop) lines old new → PrintsLines {T = U} host (Err stop) lines old.1 new.1
+  buffer_stopped T U stop lines old new none is =
+      subst (λ (l : List ℕ). PrintsLines {T = U} host (Err stop) l old.1 new.1) (append-nil (old.0 ++ lines) ∙ ap (λ (l : List ℕ). l ++ lines) none)
+      (lines_stop T U stop (old.0 ++ lines) [] old.1 new.1 is)

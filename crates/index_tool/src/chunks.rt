@@ -4,12 +4,12 @@ ghost use Rattle.std.specs.List.{AllZip};
 ghost use Rattle.doc_types.specs.Chunks.{AreWordsOf};
 ghost use Rattle.index_tool.specs.ToolLines.{chunk_line, each_chunk, word_line, word_lines};
 ghost use Rattle.index_tool.specs.steps.Shown.{lines_of, rows_on_disk};
-ghost use Rattle.index_tool.specs.steps.Sides.{PrintsLines};
+ghost use Rattle.index_tool.specs.steps.Sides.{BuffersLines, PrintsLines};
 
 use crate::hits::{Wanted, print_hits};
 use crate::host::ToolHost;
 use crate::lines::{put_chunk, put_word};
-use crate::printing::{Stop, print_line};
+use crate::printing::{Stop, print_full, print_line, print_rest};
 use doc_types::{Chunk, HitLists, Layer, Schema};
 use root_slots::ChunkEntry;
 use srch_base::NoMemory;
@@ -130,8 +130,23 @@ fn print_words<H: ToolHost, C: Chunk>(
     ensures prints { PrintsLines H.ToolHost result (word_lines entry.now (C.content chunk.now) (C.words_of chunk.now)) host.old host.new }
     ensures empty { OnOk result (line.new.items ≡ []) }
 {
+    match buffer_words(entry, chunk, line, host) {
+        Ok(()) => print_rest(line, host),
+        Err(stop) => Err(stop),
+    }
+}
+
+/// Puts these lines into the buffer, which is printed whenever it is full.
+fn buffer_words<H: ToolHost, C: Chunk>(
+    entry: &ChunkEntry,
+    chunk: &C,
+    line: &mut Vec<u8>,
+    host: &mut H,
+) -> Result<(), Stop>
+    ensures { BuffersLines H.ToolHost result (word_lines entry.now (C.content chunk.now) (C.words_of chunk.now)) (line.old.items, host.old) (line.new.items, host.new) }
+{
     'numbers: for number in 0..chunk.words() {
-        match print_word(entry, chunk, chunk.word_at(number), line, host) {
+        match buffer_word(entry, chunk, chunk.word_at(number), line, host) {
             Ok(()) => {}
             Err(stop) => return Err(stop),
         }
@@ -139,20 +154,18 @@ fn print_words<H: ToolHost, C: Chunk>(
     Ok(())
 }
 
-/// Prints the line of a word of a chunk.
-fn print_word<H: ToolHost, C: Chunk>(
+/// Puts the line of a word of a chunk into the buffer.
+fn buffer_word<H: ToolHost, C: Chunk>(
     entry: &ChunkEntry,
     chunk: &C,
     word: &[u8],
     line: &mut Vec<u8>,
     host: &mut H,
 ) -> Result<(), Stop>
-    requires { line.old.items ≡ [] }
-    ensures prints { PrintsLines H.ToolHost result (word_line entry.now (C.content chunk.now) word.now) host.old host.new }
-    ensures empty { OnOk result (line.new.items ≡ []) }
+    ensures { BuffersLines H.ToolHost result (word_line entry.now (C.content chunk.now) word.now) (line.old.items, host.old) (line.new.items, host.new) }
 {
     match put_word(entry, chunk, word, line) {
-        Ok(()) => print_line(line, host),
+        Ok(()) => print_full(line, host),
         Err(NoMemory) => Err(Stop::NoMemory),
     }
 }

@@ -4,11 +4,11 @@ ghost use Rattle.std.specs.List.{flat_map};
 ghost use Rattle.doc_types.specs.Chunks.{first_place};
 ghost use Rattle.doc_types.specs.declared.documents.DocRow.{DocRow};
 ghost use Rattle.index_tool.specs.ToolLines.{hit_line, hit_lines};
-ghost use Rattle.index_tool.specs.steps.Sides.{PrintsLines};
+ghost use Rattle.index_tool.specs.steps.Sides.{BuffersLines, PrintsLines};
 
 use crate::host::ToolHost;
 use crate::lines::put_hit;
-use crate::printing::{Stop, print_line};
+use crate::printing::{Stop, print_full, print_rest};
 use doc_types::{Cursor, HitLists, Schema};
 use layer_commit::is_dead;
 use root_slots::ChunkEntry;
@@ -40,14 +40,19 @@ pub(crate) fn print_hits<H: ToolHost, C: HitLists>(
 {
     match chunk.start(wanted.word) {
         Some(cursor) => {
-            print_from::<Brand, H, C>(alloc, wanted, chunk, cursor, Blank::new(1), line, host)
+            let blank = Blank::new(1);
+            match buffer_from::<Brand, H, C>(alloc, wanted, chunk, cursor, blank, line, host) {
+                Ok(()) => print_rest(line, host),
+                Err(stop) => Err(stop),
+            }
         }
         None => Ok(()),
     }
 }
 
-/// The same from a cursor before all rows that have the word. The steps of opening are counted, as chunks ask it, and not used.
-fn print_from<L: Ledger, H: ToolHost, C: HitLists>(
+/// Puts these lines into the buffer, which is printed whenever it is full, from a cursor before all rows that have the word. The steps
+/// of opening are counted, as chunks ask it, and not used.
+fn buffer_from<L: Ledger, H: ToolHost, C: HitLists>(
     alloc: Global,
     wanted: Wanted<'_>,
     chunk: &C,
@@ -59,12 +64,10 @@ fn print_from<L: Ledger, H: ToolHost, C: HitLists>(
     requires name { blank.name ≡ L.name }
     requires parts { blank.parts ≡ L.parts }
     requires some { 0 < blank.parts }
-    requires begins { line.old.items ≡ [] }
     requires dead { AllPairs (λ row later. row < later) wanted.entry.now.dead }
     requires belongs { C.belongs chunk.now cursor }
     requires first { C.place chunk.now cursor ≡ first_place wanted.word.now (C.content chunk.now) }
-    ensures prints { PrintsLines H.ToolHost result (hit_lines wanted.entry.schema.now wanted.entry.word.now wanted.entry.entry.now (C.content chunk.now)) host.old host.new }
-    ensures empty { OnOk result (line.new.items ≡ []) }
+    ensures { BuffersLines H.ToolHost result (hit_lines wanted.entry.schema.now wanted.entry.word.now wanted.entry.entry.now (C.content chunk.now)) (line.old.items, host.old) (line.new.items, host.new) }
 {
     let mut steps = Steps::<L>::new(blank);
     let mut hits = Vec::new(alloc);
@@ -79,7 +82,7 @@ fn print_from<L: Ledger, H: ToolHost, C: HitLists>(
             Ok(()) => {}
             Err(NoMemory) => return Err(Stop::NoMemory),
         }
-        match print_row(wanted, chunk.id(row), hits.as_slice(), line, host) {
+        match buffer_row(wanted, chunk.id(row), hits.as_slice(), line, host) {
             Ok(()) => {}
             Err(stop) => return Err(stop),
         }
@@ -88,20 +91,18 @@ fn print_from<L: Ledger, H: ToolHost, C: HitLists>(
     Ok(())
 }
 
-/// Prints a line of each of these places in the row of an id.
-fn print_row<H: ToolHost>(
+/// Puts a line of each of these places in the row of an id into the buffer.
+fn buffer_row<H: ToolHost>(
     wanted: Wanted<'_>,
     id: u64,
     hits: &[(u16, u32)],
     line: &mut Vec<u8>,
     host: &mut H,
 ) -> Result<(), Stop>
-    requires { line.old.items ≡ [] }
-    ensures prints { (row : DocRow) → row.doc.id ≡ id → PrintsLines H.ToolHost result (flat_map (hit_line wanted.entry.schema.now wanted.entry.entry.now row) hits.now) host.old host.new }
-    ensures empty { OnOk result (line.new.items ≡ []) }
+    ensures { (row : DocRow) → row.doc.id ≡ id → BuffersLines H.ToolHost result (flat_map (hit_line wanted.entry.schema.now wanted.entry.entry.now row) hits.now) (line.old.items, host.old) (line.new.items, host.new) }
 {
     'hits: for hit in hits {
-        match print_hit(wanted, id, *hit, line, host) {
+        match buffer_hit(wanted, id, *hit, line, host) {
             Ok(()) => {}
             Err(stop) => return Err(stop),
         }
@@ -109,20 +110,18 @@ fn print_row<H: ToolHost>(
     Ok(())
 }
 
-/// Prints the line of a place in the row of an id.
-fn print_hit<H: ToolHost>(
+/// Puts the line of a place in the row of an id into the buffer.
+fn buffer_hit<H: ToolHost>(
     wanted: Wanted<'_>,
     id: u64,
     hit: (u16, u32),
     line: &mut Vec<u8>,
     host: &mut H,
 ) -> Result<(), Stop>
-    requires { line.old.items ≡ [] }
-    ensures prints { (row : DocRow) → row.doc.id ≡ id → PrintsLines H.ToolHost result (hit_line wanted.entry.schema.now wanted.entry.entry.now row hit) host.old host.new }
-    ensures empty { OnOk result (line.new.items ≡ []) }
+    ensures { (row : DocRow) → row.doc.id ≡ id → BuffersLines H.ToolHost result (hit_line wanted.entry.schema.now wanted.entry.entry.now row hit) (line.old.items, host.old) (line.new.items, host.new) }
 {
     match put_hit(wanted.schema, wanted.entry, id, hit, line) {
-        Ok(()) => print_line(line, host),
+        Ok(()) => print_full(line, host),
         Err(NoMemory) => Err(Stop::NoMemory),
     }
 }

@@ -50,7 +50,7 @@ pub trait ToolHost {
         ensures takes_stores { stores_back self.new ≡ stores_back self.old }
         ensures prints { printed self.new ≡ printed self.old };
 
-    /// Prints a line. `line` has its LF at its end.
+    /// Prints lines, one or more. Each has its LF at its end.
     fn print(&mut self, to: Stream, line: &[u8]) -> Result<(), Failed>
         ensures prints { PrintsLine result to line.now (printed self.old) (printed self.new) }
         ensures cause { CountsPrint result to (print_faults self.old) (print_faults self.new) }

@@ -1,11 +1,14 @@
-//! Lines to the output, one at a time: each is put into a buffer that is used again, so printing takes no memory that grows with what
-//! is printed.
-ghost use Rattle.std.specs.Prelude.{◌≡◌, []};
-ghost use Rattle.index_tool.specs.steps.Sides.{PrintsLines};
+//! Lines to the output. Each is put into a buffer that is used again, and what that has is printed when it is full and at a chunk's end:
+//! so many lines go by one print, and printing takes no memory that grows with what is printed.
+ghost use Rattle.std.specs.Prelude.{◌≡◌, [], OnOk};
+ghost use Rattle.index_tool.specs.steps.Sides.{BuffersLines, PrintsLines};
 
 use crate::host::ToolHost;
 use program_host::Stream;
 use srch_base::{Failed, NoMemory};
+
+/// From so many bytes on the buffer is full.
+const FULL: usize = 4_096;
 
 /// Why not all lines are printed.
 #[derive(Clone, Copy, PartialEq, Eq, Drop)]
@@ -35,4 +38,25 @@ pub(crate) fn print_line<H: ToolHost>(line: &mut Vec<u8>, host: &mut H) -> Resul
         Ok(()) => Ok(()),
         Err(Failed) => Err(Stop::HostFault),
     }
+}
+
+/// Prints what a buffer has if it is full.
+pub(crate) fn print_full<H: ToolHost>(line: &mut Vec<u8>, host: &mut H) -> Result<(), Stop>
+    ensures { BuffersLines H.ToolHost result [] (line.old.items, host.old) (line.new.items, host.new) }
+{
+    if line.len() < FULL {
+        return Ok(());
+    }
+    print_line(line, host)
+}
+
+/// Prints what a buffer has, if it has anything.
+pub(crate) fn print_rest<H: ToolHost>(line: &mut Vec<u8>, host: &mut H) -> Result<(), Stop>
+    ensures prints { PrintsLines H.ToolHost result line.old.items host.old host.new }
+    ensures empty { OnOk result (line.new.items ≡ []) }
+{
+    if line.is_empty() {
+        return Ok(());
+    }
+    print_line(line, host)
 }

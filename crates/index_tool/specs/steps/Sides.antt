@@ -61,6 +61,12 @@ PrintsLines host (Ok done) lines old new = Puts host lines old new × (host.prin
 PrintsLines host (Err stops.HostFault) lines old new = (front : List ℕ) × StartsWith lines front × Puts host front old new × Rose (host.print_faults old Out) (host.print_faults new Out)
 PrintsLines host (Err stops.NoMemory) lines old new = (front : List ℕ) × StartsWith lines front × Puts host front old new × (host.print_faults new Out ≡ host.print_faults old Out)
 
+-- Lines were put into a buffer, the front of which was printed when it was full; where a print failed or memory was wanting, what was
+-- printed is a prefix of what the buffer had and of the lines. A state is what the buffer has, and the host.
+abbrev pub BuffersLines : {H S T : Type 0} → HostWords H S → Result T Stop → List ℕ → List ℕ × H → List ℕ × H → Type 0
+BuffersLines host (Ok done) lines old new = (out : List ℕ) × (old.0 ++ lines ≡ out ++ new.0) × Puts host out old.1 new.1 × (host.print_faults new.1 Out ≡ host.print_faults old.1 Out)
+BuffersLines {H} {S} {T} host (Err stop) lines old new = PrintsLines {T = T} host (Err stop) (old.0 ++ lines) old.1 new.1
+
 -- A text was read as a configuration, or the run ends with a status.
 abbrev pub Configures : Option (List ℕ) → Result Conf ToolStatus → ℕ → ℕ → Type 0
 Configures told (Ok conf) before now = (bytes : List ℕ) × AreReadOf told MAX_CONF_BYTES bytes × IsConfOf bytes conf × All (λ index. IsSchema index.schema) conf.indexes × All (λ index. IsUtf8 index.path) conf.indexes × (now ≡ before)

@@ -1,13 +1,12 @@
-use Rattle.std.proofs.Common.{◌≡◌, [], length}
+use Rattle.std.proofs.Common.{◌≡◌, length}
 use Rattle.index_tool.proofs.HitRows.{IsAmid}
-use Rattle.index_tool.proofs.hits.print_from.Given as goal
+use Rattle.index_tool.proofs.hits.buffer_from.Given as goal
 
 abbrev pub invariant-rows : goal.invariant-rows
 invariant-rows g l = record {
-  empty : l.line.items ≡ [];
   belongs : g.C.Chunk.belongs l.chunk l.here;
   word : (g.C.Chunk.place l.chunk l.here).word ≡ l.wanted.word.now;
-  amid : IsAmid l.wanted.schema.now l.wanted.word.now l.wanted.entry.now (g.C.Chunk.content l.chunk) g.H.ToolHost (g.C.Chunk.place l.chunk l.here).ahead l.initial.host l.host;
+  amid : IsAmid l.wanted.schema.now l.wanted.word.now l.wanted.entry.now (g.C.Chunk.content l.chunk) g.H.ToolHost (g.C.Chunk.place l.chunk l.here).ahead (l.initial.line.items, l.initial.host) (l.line.items, l.host);
 }
 
 abbrev pub decreases-rows : goal.decreases-rows
