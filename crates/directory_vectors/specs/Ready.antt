@@ -6,6 +6,7 @@ use Rattle.doc_types.specs.Schemas.{IsSchema}
 use Rattle.doc_types.specs.Transactions.{IsTxnOf}
 use Rattle.job_chunks.specs.Chunks.{IsNewChunk, NewChunkValue}
 use Rattle.job_states.specs.States.{HasSeen}
+use Rattle.step_book.specs.Tellings.{AtOpening}
 use Rattle.step_history.specs.History.{Base}
 use Rattle.step_tokens.specs.Tokens.{TokenValue}
 use Rattle.store_keep.specs.Keepers.{IsSound}
@@ -28,8 +29,8 @@ IsStepOf schema (steps.Job job) = Unit {0}
 IsStepOf schema (steps.Begin second job) = Unit {0}
 IsStepOf schema (steps.End second) = Unit {0}
 
-pub record IsReady {D J : Type 0} (words : DiskWords D) (schema : ℕ → Schema) (base : ℕ → Base) (keeper : Keeper D J) : Type 0 where
-  pub sound : IsSound words schema base keeper
+pub record IsReady {D J : Type 0} (words : DiskWords D) (schema : ℕ → Schema) (base : ℕ → Base) (opened : ℕ → AtOpening) (keeper : Keeper D J) : Type 0 where
+  pub sound : IsSound words schema base opened keeper
   pub columns : IsSchema (schema 0)
   pub index : keeper.kept.line.index ≡ 0
   pub among : keeper.kept.line.workers ≡ workers

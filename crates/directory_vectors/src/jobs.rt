@@ -57,9 +57,9 @@ pub(crate) fn end<D: Disk, J: Naming, R: Wait>(
     keeper: &mut Keeper<D, J>,
     seat: &mut Seat<J>,
 ) -> &'static str
-    requires ready { IsReady D.Disk J.schema J.base keeper.old }
+    requires ready { IsReady D.Disk J.schema J.base J.opened keeper.old }
     requires seat { IsSeat (J.schema 0) (J.base 0) seat.old.token seat.old.chunk }
-    ensures ready { IsReady D.Disk J.schema J.base keeper.new }
+    ensures ready { IsReady D.Disk J.schema J.base J.opened keeper.new }
     ensures seat { IsSeat (J.schema 0) (J.base 0) seat.new.token seat.new.chunk }
 {
     match seat.chunk.take() {

@@ -15,6 +15,8 @@ mod failing;
 #[cfg(test)]
 mod jobs;
 #[cfg(test)]
+mod leftovers;
+#[cfg(test)]
 mod opening;
 #[cfg(test)]
 mod running;

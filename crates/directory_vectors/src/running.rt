@@ -5,7 +5,7 @@ ghost use Rattle.directory_vectors.specs.Ready.{IsOwn, IsReady, IsStepOf};
 ghost use Rattle.directory_vectors.specs.Seats.{AreSeats};
 ghost use Rattle.doc_types.specs.Schemas.{IsSchema};
 ghost use Rattle.doc_types.specs.Transactions.{IsTxnOf};
-ghost use Rattle.store_keep.specs.Opens.{IsOpened, base_of};
+ghost use Rattle.store_keep.specs.Opens.{IsOpened, base_of, opening_of};
 
 use crate::documents::put_snapshot;
 use crate::jobs::{begin, end, seated};
@@ -41,10 +41,10 @@ fn commit<D: Disk, J: Naming, R: Wait>(
     token: &mut Token<J>,
     txn: &Txn,
 ) -> &'static str
-    requires ready { IsReady D.Disk J.schema J.base keeper.old }
+    requires ready { IsReady D.Disk J.schema J.base J.opened keeper.old }
     requires own { IsOwn token.old }
     requires of { IsTxnOf (J.schema 0) txn.now }
-    ensures ready { IsReady D.Disk J.schema J.base keeper.new }
+    ensures ready { IsReady D.Disk J.schema J.base J.opened keeper.new }
     ensures own { IsOwn token.new }
 {
     let worker = token.worker();
@@ -84,10 +84,10 @@ fn make<D: Disk, J: Naming, R: Wait>(
     seats: &mut Seats<J>,
     step: &Step,
 ) -> Option<&'static str>
-    requires ready { IsReady D.Disk J.schema J.base keeper.old }
+    requires ready { IsReady D.Disk J.schema J.base J.opened keeper.old }
     requires seats { AreSeats (J.schema 0) (J.base 0) seats.old }
     requires of { IsStepOf (J.schema 0) step.now }
-    ensures ready { IsReady D.Disk J.schema J.base keeper.new }
+    ensures ready { IsReady D.Disk J.schema J.base J.opened keeper.new }
     ensures seats { AreSeats (J.schema 0) (J.base 0) seats.new }
 {
     match step {
@@ -118,7 +118,7 @@ fn run_ready<D: Disk, J: Naming, R: Wait>(
     steps: &[Step],
     into: &mut String,
 ) -> Option<()>
-    requires ready { IsReady D.Disk J.schema J.base keeper.old }
+    requires ready { IsReady D.Disk J.schema J.base J.opened keeper.old }
     requires seats { AreSeats (J.schema 0) (J.base 0) seats.old }
     requires of { All (IsStepOf (J.schema 0)) steps.now }
 {
@@ -134,15 +134,24 @@ fn run_ready<D: Disk, J: Naming, R: Wait>(
     Some(())
 }
 
+/// One of the workers' tokens.
+fn take_one<J: Naming>(tokens: &mut Vec<Token<J>>) -> Option<Token<J>>
+    requires { All IsOwn tokens.old.items }
+    ensures own { IfSome result IsOwn }
+    ensures left { All IsOwn tokens.new.items }
+{
+    tokens.pop()
+}
+
 /// Gives the tokens to those who make the steps.
 fn seats_of<J: Naming>(tokens: Vec<Token<J>>) -> Option<Seats<J>>
     requires { All IsOwn tokens.items }
     ensures { IfSome result (AreSeats (J.schema 0) (J.base 0)) }
 {
     let mut tokens = tokens;
-    let commits = tokens.pop()?;
-    let first = seated(tokens.pop()?);
-    let second = seated(tokens.pop()?);
+    let commits = take_one(&mut tokens)?;
+    let first = seated(take_one(&mut tokens)?);
+    let second = seated(take_one(&mut tokens)?);
     Some(Seats {
         commits,
         first,
@@ -161,7 +170,10 @@ fn run_opened<D: Disk + Drop, J: Naming, R: Wait>(
 ) -> D
     requires named { J.schema 0 ≡ schema.now }
     requires book { opened.book.past.seen.book ≡ J.book 0 }
+    requires faults { opened.faults.past.seen.book ≡ J.faults 0 }
+    requires stops { opened.stops.past.seen.book ≡ J.stops 0 }
     requires base { J.base 0 ≡ base_of opened }
+    requires counted { J.opened 0 ≡ opening_of D.Disk opened }
     requires schema { IsSchema (J.schema 0) }
     requires opened { IsOpened D.Disk (J.schema 0) opened }
     requires of { All (IsStepOf (J.schema 0)) steps.now }

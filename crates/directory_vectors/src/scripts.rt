@@ -46,6 +46,12 @@ flush
 flush
 ";
 
+/// All but one of these documents are removed, and a job is made.
+pub(crate) const REST: &str = "no step
+-2 -3 -4 -5 -6 -7 -8 -9 -10
+flush
+";
+
 /// The most operations of a commit.
 const MOST: usize = 1_000;
 

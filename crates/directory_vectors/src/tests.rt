@@ -3,6 +3,7 @@
 use crate::crashes::are_left;
 use crate::doubts::are_all_there;
 use crate::failing::are_kept;
+use crate::leftovers::are_replaced;
 use crate::opening::are_told;
 use std::test::Fail;
 
@@ -36,4 +37,10 @@ fn one_call_of_the_disk_fails(rt: HostRuntime) -> Result<(), Fail> {
 fn a_job_that_failed_loses_nothing(rt: HostRuntime) -> Result<(), Fail> {
     let mut said = String::new(rt.alloc());
     held(are_all_there(&rt, rt.alloc(), &mut said), &said)
+}
+
+#[test]
+fn a_chunk_that_was_left_is_replaced(rt: HostRuntime) -> Result<(), Fail> {
+    let mut said = String::new(rt.alloc());
+    held(are_replaced(&rt, rt.alloc(), &mut said), &said)
 }

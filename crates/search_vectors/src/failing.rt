@@ -28,10 +28,24 @@ a part of a packet | session --config rt | rt |  | RESP; 0x0100 => hello 1; acce
 a response of zeros | session --config rt | rt |  | 0x200000010000000000000000000000000000000000000000000000000000000000000000 => hello 1; bad handshake at 0 ⇒ 0; asks rt, in rt, 1, 1 and 1 back;
 a packet that is too long | session --config rt | rt |  | RESP; 0x01008000 => hello 1; accepted; packet above 8388608 bytes ⇒ 0; asks rt, in rt, 1, 1 and 1 back;
 a packet out of order | session --config rt | rt |  | RESP; 0x010000010e => hello 1; accepted; packet out of order ⇒ 0; asks rt, in rt, 1, 1 and 1 back;
-call 1 of the line fails | session --config rt | rt |  | !1; RESP; INSERT INTO rt (id,title) VALUES (1,'hello'); SELECT id FROM rt WHERE MATCH('hello'); QUIT =>  ⇒ 0; asks rt, in rt, 1, 1 and 1 back;
-call 2 of the line fails | session --config rt | rt |  | !2; RESP; INSERT INTO rt (id,title) VALUES (1,'hello'); SELECT id FROM rt WHERE MATCH('hello'); QUIT => hello 1 ⇒ 0; asks rt, in rt, 1, 1 and 1 back;
-call 3 of the line fails | session --config rt | rt |  | !3; RESP; INSERT INTO rt (id,title) VALUES (1,'hello'); SELECT id FROM rt WHERE MATCH('hello'); QUIT => hello 1 ⇒ 0; asks rt, in rt, 1, 1 and 1 back;
-call 4 of the line fails | session --config rt | rt |  | !4; RESP; INSERT INTO rt (id,title) VALUES (1,'hello'); SELECT id FROM rt WHERE MATCH('hello'); QUIT => hello 1; accepted ⇒ 0; asks rt, in rt, 1, 1 and 1 back;
-call 5 of the line fails | session --config rt | rt |  | !5; RESP; INSERT INTO rt (id,title) VALUES (1,'hello'); SELECT id FROM rt WHERE MATCH('hello'); QUIT => hello 1; accepted; ok 1 2 ⇒ 0; asks rt, in rt, 1, 1 and 1 back;
-call 6 of the line fails | session --config rt | rt |  | !6; RESP; INSERT INTO rt (id,title) VALUES (1,'hello'); SELECT id FROM rt WHERE MATCH('hello'); QUIT => hello 1; accepted; ok 1 2; ids 2: 1 ⇒ 0; asks rt, in rt, 1, 1 and 1 back;
+call 1 of the line fails | session --config rt | rt |  | !1; RESP; INSERT INTO rt (id,title) VALUES (1,'hello'); SELECT id FROM rt WHERE MATCH('hello'); QUIT => a write fails ⇒ 0; asks rt, in rt, 1, 1 and 1 back;
+call 2 of the line fails | session --config rt | rt |  | !2; RESP; INSERT INTO rt (id,title) VALUES (1,'hello'); SELECT id FROM rt WHERE MATCH('hello'); QUIT => hello 1; a read fails ⇒ 0; asks rt, in rt, 1, 1 and 1 back;
+call 3 of the line fails | session --config rt | rt |  | !3; RESP; INSERT INTO rt (id,title) VALUES (1,'hello'); SELECT id FROM rt WHERE MATCH('hello'); QUIT => hello 1; a write fails ⇒ 0; asks rt, in rt, 1, 1 and 1 back;
+call 4 of the line fails | session --config rt | rt |  | !4; RESP; INSERT INTO rt (id,title) VALUES (1,'hello'); SELECT id FROM rt WHERE MATCH('hello'); QUIT => hello 1; accepted; a write fails ⇒ 0; asks rt, in rt, 1, 1 and 1 back;
+call 5 of the line fails | session --config rt | rt |  | !5; RESP; INSERT INTO rt (id,title) VALUES (1,'hello'); SELECT id FROM rt WHERE MATCH('hello'); QUIT => hello 1; accepted; ok 1 2; a write fails ⇒ 0; asks rt, in rt, 1, 1 and 1 back;
+a sixth call isn't made | session --config rt | rt |  | !6; RESP; INSERT INTO rt (id,title) VALUES (1,'hello'); SELECT id FROM rt WHERE MATCH('hello'); QUIT => hello 1; accepted; ok 1 2; ids 2: 1 ⇒ 0; asks rt, in rt, 1, 1 and 1 back;
+"#;
+
+/// The same session, whose packets come one by one: each is given by a read of its own, once all before it were answered. So its calls
+/// are a write and a read in turn, and each of them fails.
+pub(crate) const PACKETS: &str = r#"
+all calls go well | session --config rt | rt |  | one by one; RESP; INSERT INTO rt (id,title) VALUES (1,'hello'); SELECT id FROM rt WHERE MATCH('hello'); QUIT => hello 1; accepted; ok 1 2; ids 2: 1 ⇒ 0; asks rt, in rt, 1, 1 and 1 back;
+call 1 of the line fails | session --config rt | rt |  | one by one; !1; RESP; INSERT INTO rt (id,title) VALUES (1,'hello'); SELECT id FROM rt WHERE MATCH('hello'); QUIT => a write fails ⇒ 0; asks rt, in rt, 1, 1 and 1 back;
+call 2 of the line fails | session --config rt | rt |  | one by one; !2; RESP; INSERT INTO rt (id,title) VALUES (1,'hello'); SELECT id FROM rt WHERE MATCH('hello'); QUIT => hello 1; a read fails ⇒ 0; asks rt, in rt, 1, 1 and 1 back;
+call 3 of the line fails | session --config rt | rt |  | one by one; !3; RESP; INSERT INTO rt (id,title) VALUES (1,'hello'); SELECT id FROM rt WHERE MATCH('hello'); QUIT => hello 1; a write fails ⇒ 0; asks rt, in rt, 1, 1 and 1 back;
+call 4 of the line fails | session --config rt | rt |  | one by one; !4; RESP; INSERT INTO rt (id,title) VALUES (1,'hello'); SELECT id FROM rt WHERE MATCH('hello'); QUIT => hello 1; accepted; a read fails ⇒ 0; asks rt, in rt, 1, 1 and 1 back;
+call 5 of the line fails | session --config rt | rt |  | one by one; !5; RESP; INSERT INTO rt (id,title) VALUES (1,'hello'); SELECT id FROM rt WHERE MATCH('hello'); QUIT => hello 1; accepted; a write fails ⇒ 0; asks rt, in rt, 1, 1 and 1 back;
+call 6 of the line fails | session --config rt | rt |  | one by one; !6; RESP; INSERT INTO rt (id,title) VALUES (1,'hello'); SELECT id FROM rt WHERE MATCH('hello'); QUIT => hello 1; accepted; ok 1 2; a read fails ⇒ 0; asks rt, in rt, 1, 1 and 1 back;
+call 7 of the line fails | session --config rt | rt |  | one by one; !7; RESP; INSERT INTO rt (id,title) VALUES (1,'hello'); SELECT id FROM rt WHERE MATCH('hello'); QUIT => hello 1; accepted; ok 1 2; a write fails ⇒ 0; asks rt, in rt, 1, 1 and 1 back;
+call 8 of the line fails | session --config rt | rt |  | one by one; !8; RESP; INSERT INTO rt (id,title) VALUES (1,'hello'); SELECT id FROM rt WHERE MATCH('hello'); QUIT => hello 1; accepted; ok 1 2; ids 2: 1; a read fails ⇒ 0; asks rt, in rt, 1, 1 and 1 back;
 "#;

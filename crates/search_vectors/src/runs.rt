@@ -10,8 +10,8 @@ use crate::table_door::TableDoor;
 use crate::table_host::TableHost;
 use crate::told::put_told;
 use chunk_store::MemoryDisk;
+use client_doors::Lent;
 use program_host::MemoryHost;
-use real_host::Lent;
 use searchd_top::searchd;
 use srch_base::{ListDoor, Text};
 use std::alloc::Global;
@@ -136,7 +136,7 @@ fn host_of(alloc: Global, row: &Row<'_>, before: Option<&MemoryDisk>) -> Option<
         alloc,
         base,
         doors,
-        lent: Lent::new(alloc),
+        lent: Lent::new(),
         back: Vec::new(alloc),
     })
 }

@@ -25,7 +25,7 @@ a line after another | serve --listen a --workers 1 --sessions 2 --config rt | r
 the index then | check --config rt | rt ~1 |  | - ⇒ 0; asks rt, in rt, 1 and 0 back; rt: 1 documents, 0 disk chunks, 1 log records;
 after one out of order | serve --listen a --workers 1 --sessions 2 --config rt | rt |  | RESP; 0x010000010e => hello 1; accepted; packet out of order + RESP; SELECT id FROM rt; QUIT => hello 2; accepted; ids 2: ⇒ 0; asks rt, in rt, 1 at a, 1 and 1 back;
 the index then | check --config rt | rt ~1 |  | - ⇒ 0; asks rt, in rt, 1 and 0 back; rt: 0 documents, 0 disk chunks, 0 log records;
-after one that fails | serve --listen a --workers 1 --sessions 2 --config rt | rt |  | !1; RESP; QUIT =>  + RESP; SELECT id FROM rt; QUIT => hello 2; accepted; ids 2: ⇒ 0; asks rt, in rt, 1 at a, 1 and 1 back;
+after one that fails | serve --listen a --workers 1 --sessions 2 --config rt | rt |  | !1; RESP; QUIT => a write fails + RESP; SELECT id FROM rt; QUIT => hello 2; accepted; ids 2: ⇒ 0; asks rt, in rt, 1 at a, 1 and 1 back;
 the index then | check --config rt | rt ~1 |  | - ⇒ 0; asks rt, in rt, 1 and 0 back; rt: 0 documents, 0 disk chunks, 0 log records;
 the second of three doors fails | serve --config rt --listen a --workers 3 --sessions 1 | rt |  | - / fails / - ⇒ 4; asks rt, in rt, 3 at a, 1 and 3 back; ! searchd: host fault;
 a line sees the commits of the other one | serve --config rt --listen a --workers 2 --sessions 1 | rt |  | @0 RESP; @3 SELECT id FROM rt; @4 INSERT INTO rt VALUES (1,'hello'); @5 SELECT id FROM rt WHERE MATCH('hello'); @6 QUIT => hello 1; accepted; ids 2: 1; err 1064 42000 duplicate id 1; ids 2: 1 / @1 RESP; @2 INSERT INTO rt VALUES (1,'hello'); @6 QUIT => hello 2; accepted; ok 1 2 ⇒ 0; asks rt, in rt, 2 at a, 1 and 2 back;

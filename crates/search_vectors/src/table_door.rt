@@ -1,8 +1,9 @@
 //! The door of a row: it gives lines over memory that may take turns, and may fail at its first call.
-ghost use Rattle.std.specs.Prelude.{◌≡◌};
+ghost use Rattle.std.specs.Prelude.{◌≡◌, ◌≤◌, length};
+ghost use Rattle.client_doors.specs.Lending.{things_back, things_given};
 
 use crate::turns::TurnLink;
-use real_host::Lent;
+use client_doors::Lent;
 use srch_base::{Door, Failed};
 
 /// A door that gives some lines, the last one first, or fails at its first call.
@@ -18,6 +19,7 @@ pub(crate) struct TableDoor {
     /// Whether the last call said that there is no further line.
     pub(crate) ended: bool,
     pub(crate) faults: u64,
+    ghost within: { length (things_back lent) ≤ length (things_given lent) },
 }
 
 // Not derived: so letting go of a door is a call, and no caller's proof takes apart what it holds.
@@ -35,13 +37,13 @@ impl Drop for TableDoor {
 }
 
 impl Door for TableDoor {
-    ghost use Rattle.std.specs.Prelude.{map};
+    ghost use Rattle.client_doors.specs.Lending.{things_back, things_given};
 
     type Line = TurnLink;
 
-    ghost given = { λ d. map (λ line. line.value) d.lent.gave.items };
+    ghost given = { λ d. things_given d.lent };
 
-    ghost returned = { λ d. map (λ line. line.value) d.lent.back.items };
+    ghost returned = { λ d. things_back d.lent };
 
     ghost ended = { λ d. d.ended };
 
@@ -60,10 +62,7 @@ impl Door for TableDoor {
             self.ended = true;
             return Ok(None);
         };
-        if self.lent.give_one(&line).is_err() {
-            self.faults = self.faults.saturating_add(1);
-            return Err(Failed);
-        }
+        self.lent.give_one(&line);
         Ok(Some(line))
     }
 

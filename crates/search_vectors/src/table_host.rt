@@ -1,10 +1,11 @@
 //! The host of a row: a host over memory whose doors are those of the row.
-ghost use Rattle.std.specs.Prelude.{◌≡◌, ◌≤◌, ◌+◌, ◌++◌, length, map};
+ghost use Rattle.std.specs.Prelude.{◌≡◌, ◌≤◌, ◌+◌, ◌++◌, length};
+ghost use Rattle.client_doors.specs.Lending.{things_back, things_given};
 
 use crate::table_door::TableDoor;
 use chunk_store::MemoryDisk;
+use client_doors::Lent;
 use program_host::{Host, MemoryHost, Stream};
-use real_host::Lent;
 use srch_base::{Failed, OpenFault};
 use std::alloc::Global;
 use std::mem;
@@ -19,6 +20,7 @@ pub(crate) struct TableHost {
     pub(crate) lent: Lent<TableDoor>,
     /// The doors that came back.
     pub(crate) back: Vec<TableDoor>,
+    ghost within: { length (things_back lent) ≤ length (things_given lent) },
 }
 
 // Not derived: so letting go of a host is a call, and no caller's proof takes apart what it holds.
@@ -35,7 +37,6 @@ impl Drop for TableHost {
 }
 
 impl Host for TableHost {
-    ghost use Rattle.std.specs.Prelude.{map};
     ghost use Rattle.program_host.specs.HostMemory.{text_of, printed_of, print_faults_of};
 
     type Store = MemoryDisk;
@@ -50,9 +51,9 @@ impl Host for TableHost {
 
     ghost stores_back = { λ h. h.base.stores_back };
 
-    ghost doors_given = { λ h. map (λ door. door.value) h.lent.gave.items };
+    ghost doors_given = { λ h. things_given h.lent };
 
-    ghost doors_back = { λ h. map (λ door. door.value) h.lent.back.items };
+    ghost doors_back = { λ h. things_back h.lent };
 
     ghost faults = { λ h. h.base.faults };
 
@@ -81,15 +82,15 @@ impl Host for TableHost {
         if self.doors.len() != n as usize {
             return Err(OpenFault::NoMemory);
         }
-        self.lent.give(self.doors.as_slice())?;
+        self.lent.give(self.doors.as_slice());
         Ok(mem::replace(&mut self.doors, Vec::new(self.alloc)))
     }
 
     fn give_doors(&mut self, mut doors: Vec<TableDoor>)
-        requires { length (map (λ door. door.value) self.old.lent.back.items) + length doors.items ≤ length (map (λ door. door.value) self.old.lent.gave.items) }
-        ensures took { map (λ door. door.value) self.new.lent.back.items ≡ map (λ door. door.value) self.old.lent.back.items ++ doors.items }
-        ensures gave { self.new.lent.gave.items ≡ self.old.lent.gave.items }
-        ensures rest { self.new ≡ record self.old { lent = self.new.lent; back = self.new.back } }
+        requires { length (things_back self.old.lent) + length doors.items ≤ length (things_given self.old.lent) }
+        ensures took { things_back self.new.lent ≡ things_back self.old.lent ++ doors.items }
+        ensures gave { things_given self.new.lent ≡ things_given self.old.lent }
+        ensures rest { self.new.base ≡ self.old.base }
     {
         self.lent.take_back(doors.as_slice());
         let _appended = self.back.append(&mut doors);

@@ -1,7 +1,7 @@
 //! The tests over the tables of this crate: a test fails with the row that comes to something else.
 use crate::crashes::{try_calls, try_crashes};
 use crate::ends::{DAMAGED, SELFTESTS, STORES, TEXTS, WORDS};
-use crate::failing::{CHECKS, DOORS, LINES};
+use crate::failing::{CHECKS, DOORS, LINES, PACKETS};
 use crate::jobs::{JOBS, LAYERS, try_jobs};
 use crate::runs::{Runs, run_table};
 use crate::serving::SERVED;
@@ -11,8 +11,8 @@ use std::sync::Wait;
 use std::test::Fail;
 use std::thread::Threads;
 
-const TABLES: [&str; 11] = [
-    WORDS, TEXTS, STORES, DAMAGED, SELFTESTS, CHECKS, DOORS, LINES, SERVED, LAYERS, JOBS,
+const TABLES: [&str; 12] = [
+    WORDS, TEXTS, STORES, DAMAGED, SELFTESTS, CHECKS, DOORS, LINES, PACKETS, SERVED, LAYERS, JOBS,
 ];
 
 fn tables() -> &'static [&'static str] {

@@ -1,5 +1,6 @@
 //! Lines that take turns: each packet of a line has its turn, and is given once those before it were answered, whichever line they came
-//! over. So the lines are served at once, or the read of some packet fails, since its turn doesn't come.
+//! over. So the lines are served at once, or the read of some packet fails, since its turn doesn't come. A line may also give each packet
+//! only once all before it were answered over the same line.
 ghost use Rattle.std.specs.Prelude.{◌≡◌};
 
 use srch_base::{Failed, Link, MemoryLink};
@@ -12,7 +13,8 @@ use std::thread;
 /// How often a line looks whether its turn has come, before its read fails.
 const MOST_LOOKS: u32 = 100_000_000;
 
-/// A line over memory whose reads have turns: each begins once the turn has come, and the turn ends as the next one is asked for.
+/// A line over memory whose reads have turns: each begins once the turn has come, and the turn ends as the next one is asked for. A read
+/// before which something is due fails unless that many bytes were written.
 ///
 /// Contracts see it as the line over memory, with its own count of reads that failed.
 pub(crate) struct TurnLink {
@@ -23,7 +25,11 @@ pub(crate) struct TurnLink {
     pub(crate) mine: Option<u32>,
     /// The turn that it is.
     pub(crate) now: Arc<AtomicU32, Global>,
+    /// How many bytes are to be written before each read, the last one first; before reads behind them nothing is.
+    pub(crate) due: Vec<usize>,
     pub(crate) read_faults: u64,
+    /// How many writes failed.
+    pub(crate) failed_writes: u64,
 }
 
 // Not derived: so letting go of a line is a call, and no caller's proof takes apart what it holds.
@@ -34,7 +40,9 @@ impl Drop for TurnLink {
             turns: _turns,
             mine: _,
             now: _now,
+            due: _due,
             read_faults: _,
+            failed_writes: _,
         } = self;
     }
 }
@@ -69,6 +77,18 @@ impl TurnLink {
     }
 }
 
+impl TurnLink {
+    /// Whether all is written that is due before the next read.
+    fn is_answered(&mut self) -> bool
+        ensures { self.new ≡ self.old }
+    {
+        match self.due.pop() {
+            Some(due) => self.line.written().len() >= due,
+            None => true,
+        }
+    }
+}
+
 impl Link for TurnLink {
     ghost use Rattle.srch_base.specs.Memory.{memory_read, memory_written};
 
@@ -82,9 +102,9 @@ impl Link for TurnLink {
 
     ghost write_faults = { λ m. m.write_faults };
 
-    /// Fails too where its turn doesn't come.
+    /// Fails too where its turn doesn't come, or what is due wasn't written.
     fn read(&mut self, into: &mut [u8]) -> Result<usize, Failed> {
-        if self.take_turn() {
+        if self.is_answered() && self.take_turn() {
             if let Ok(count) = self.line.read(into) {
                 return Ok(count);
             }
@@ -94,6 +114,12 @@ impl Link for TurnLink {
     }
 
     fn write(&mut self, piece: &[u8]) -> Result<usize, Failed> {
-        self.line.write(piece)
+        match self.line.write(piece) {
+            Ok(count) => Ok(count),
+            Err(Failed) => {
+                self.failed_writes = self.failed_writes.saturating_add(1);
+                Err(Failed)
+            }
+        }
     }
 }

@@ -6,6 +6,7 @@ use Rattle.job_states.specs.States.{HasSeen}
 use Rattle.step_history.specs.History.{Base}
 use Rattle.snap_share.specs.Tokens.{TokenValue}
 use Rattle.snap_share.specs.Engines.{EngineValue}
+use Rattle.step_line.specs.Tallies.{TallyValue}
 
 abbrev pub plain : Schema
 plain = record { name = []; fields = []; attrs = []; zones = []; sp = false }
@@ -21,3 +22,11 @@ pub record IsUser (schema : ℕ → Schema) (engine : EngineValue) (token : Toke
 pub record IsJobOf (base : Base) (token : TokenValue) (new : NewChunkValue) : Type 0 where
   pub seen : HasSeen base token.seen new.from
   pub chunk : IsNewChunk plain new
+
+-- The lines of calls and the token are of one index, which has three workers, and the token is the first one's.
+pub record AreOfFirst (faults stops : TallyValue) (token : TokenValue) : Type 0 where
+  pub faults_index : faults.index ≡ token.index
+  pub stops_index : stops.index ≡ token.index
+  pub faults_workers : faults.workers ≡ 3
+  pub stops_workers : stops.workers ≡ 3
+  pub worker : token.worker ≡ 1

@@ -2,9 +2,9 @@
 //! its own.
 ghost use Rattle.std.specs.Prelude.{◌≡◌, All};
 ghost use Rattle.share_vectors.specs.Users.{IsUser, plain};
-ghost use Rattle.snap_share.specs.Opens.{IsOpened, base_of};
+ghost use Rattle.snap_share.specs.Opens.{IsOpened, base_of, opening_of};
 
-use crate::commits::{have_all, insert, schema};
+use crate::commits::{end, have_all, insert, schema};
 use chunk_store::{Disk, MemoryDisk};
 use snap_share::{Engine, Naming, Opened, Token, snapshot};
 use std::alloc::Global;
@@ -66,9 +66,9 @@ fn work_and_close<D: Disk + Drop + Send, J: Naming + Send + Sync, R: Threads + W
     requires { All (IsUser J.schema engine) tokens.old }
 {
     work_all(rt, alloc, &engine, tokens);
-    let (_disk, told) = engine.close(rt, tokens, &[]);
+    let steps = end(rt, engine, tokens);
     have_all(
-        told,
+        steps,
         tokens,
         u64::from(WORKERS * COMMITS),
         u64::from(COMMITS),
@@ -82,7 +82,10 @@ fn run<D: Disk + Drop + Send, J: Naming + Send + Sync, R: Threads + Wait + Sync>
     opened: Opened<D>,
 ) -> bool
     requires book { opened.book.past.seen.book ≡ J.book 0 }
+    requires faults { opened.faults.past.seen.book ≡ J.faults 0 }
+    requires stops { opened.stops.past.seen.book ≡ J.stops 0 }
     requires base { J.base 0 ≡ base_of opened }
+    requires counted { J.opened 0 ≡ opening_of D.Disk opened }
     requires columns { J.schema 0 ≡ plain }
     requires opened { IsOpened D.Disk plain opened }
 {

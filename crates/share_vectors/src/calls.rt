@@ -1,12 +1,15 @@
 //! What a line, its tokens and its notes tell after a few steps, call by call; a step that is published at the second attempt where
 //! memory for the first one was refused; and reads after the line's end.
 ghost use Rattle.std.specs.Prelude.{◌≡◌, []};
+ghost use Rattle.step_line.specs.Lines.{new_line, new_token};
+ghost use Rattle.step_line.specs.Tallies.{new_tally};
+ghost use Rattle.share_vectors.specs.Users.{AreOfFirst};
 
-use crate::writing::{is_after, open_line, put};
+use crate::writing::{NewLines, Tallies, is_after, new_lines, open_line, open_tallies, put, token};
 use std::alloc::Global;
 use std::marker::Brand;
 use std::sync::Wait;
-use step_book::{Naming, NewBook};
+use step_book::Naming;
 use step_line::Line;
 use step_tokens::{Token, learn, snapshot};
 
@@ -82,26 +85,66 @@ fn ended<J: Naming, R: Wait>(rt: &R, line: Line<J>, mut token: Token<J>) -> [u64
     ]
 }
 
-/// Tokens of the first two workers.
-fn two_tokens<J: Naming>(line: &Line<J>) -> Option<(Token<J>, Token<J>)>
-    requires { line.now.workers ≡ 3 }
+/// Enters a call of the first worker that a fault ended, and gives its token the share.
+fn fault<J: Naming>(tallies: &mut Tallies<J>, token: &mut Token<J>) -> Option<()>
+    requires { AreOfFirst tallies.old.faults tallies.old.stops token.old }
+    ensures { AreOfFirst tallies.new.faults tallies.new.stops token.new }
 {
-    Some((line.token(1).ok()?, line.token(2).ok()?))
+    tallies.faults.prepare().ok()?;
+    tallies.faults.enter(1, token.taken_faults());
+    token.take_faults(tallies.faults.share(), tallies.faults.count(1));
+    Some(())
 }
 
-/// Whether each call tells what it is to tell.
-fn calls<J: Naming, R: Wait>(rt: &R, alloc: Global, opened: NewBook) -> bool
-    requires book { opened.past.seen.book ≡ J.book 0 }
-    requires base { (J.base 0).opening ≡ record { number = 0; shape = 0; layers = [] } }
+/// Enters two such calls, and one that a contradiction ended. It tells how many of each line are that worker's, by the line and by the
+/// token, and how many the other workers have.
+fn tallied<J: Naming>(tallies: &mut Tallies<J>, token: &mut Token<J>) -> Option<[u64; 6]>
+    requires { AreOfFirst tallies.old.faults tallies.old.stops token.old }
 {
-    let Some(mut line) = open_line::<J>(alloc, opened) else {
+    fault(tallies, token)?;
+    fault(tallies, token)?;
+    tallies.stops.prepare().ok()?;
+    tallies.stops.enter(1, token.taken_stops());
+    token.take_stops(tallies.stops.share(), tallies.stops.count(1));
+    Some([
+        tallies.faults.count(1),
+        token.faults(),
+        tallies.faults.count(2),
+        tallies.stops.count(1),
+        token.stops(),
+        tallies.stops.count(3),
+    ])
+}
+
+/// Tokens of the first two workers.
+fn two_tokens<J: Naming>(line: &Line<J>, tallies: &Tallies<J>) -> Option<(Token<J>, Token<J>)>
+    requires { (line.now ≡ new_line 0 3) × (tallies.now.faults ≡ new_tally 0 3) × (tallies.now.stops ≡ new_tally 0 3) }
+{
+    Some((token(line, tallies, 1)?, token(line, tallies, 2)?))
+}
+
+/// Whether each call of a line tells what it is to tell, and then those of the lines of ended calls.
+fn tell_all<J: Naming, R: Wait>(
+    rt: &R,
+    alloc: Global,
+    line: Line<J>,
+    tallies: &mut Tallies<J>,
+) -> bool
+    requires { (line ≡ new_line 0 3) × (tallies.old.faults ≡ new_tally 0 3) × (tallies.old.stops ≡ new_tally 0 3) }
+{
+    let mut line = line;
+    let Some(mut again) = token(&line, tallies, 1) else {
+        line.close(rt);
         return false;
     };
-    match two_tokens(&line) {
+    match two_tokens(&line, tallies) {
         Some((mut first, second)) => {
             let told = tell(rt, alloc, &mut line, &mut first);
             let ended = ended(rt, line, second);
-            told == Some([0, 4, 3, 1, 1, 4, 0, 1]) && ended == [2, 0, 4, 0]
+            let tallied = tallied(tallies, &mut again);
+            told == Some([0, 4, 3, 1, 1, 4, 0, 1])
+                && ended == [2, 0, 4, 0]
+                && tallied == Some([2, 2, 0, 1, 1, 0])
         }
         None => {
             line.close(rt);
@@ -110,7 +153,28 @@ fn calls<J: Naming, R: Wait>(rt: &R, alloc: Global, opened: NewBook) -> bool
     }
 }
 
+/// Whether each call tells what it is to tell.
+fn calls<J: Naming, R: Wait>(rt: &R, alloc: Global, opened: NewLines) -> bool
+    requires book { opened.steps.past.seen.book ≡ J.book 0 }
+    requires faults { opened.faults.past.seen.book ≡ J.faults 0 }
+    requires stops { opened.stops.past.seen.book ≡ J.stops 0 }
+    requires base { (J.base 0).opening ≡ record { number = 0; shape = 0; layers = [] } }
+{
+    let NewLines {
+        steps,
+        faults,
+        stops,
+    } = opened;
+    let Some(mut tallies) = open_tallies::<J>(alloc, faults, stops) else {
+        return false;
+    };
+    match open_line::<J>(alloc, steps) {
+        Some(line) => tell_all(rt, alloc, line, &mut tallies),
+        None => false,
+    }
+}
+
 #[test]
 fn each_call_once(rt: HostRuntime) {
-    assert!(rt; calls::<Brand, _>(&rt, rt.alloc(), NewBook::new()));
+    assert!(rt; calls::<Brand, _>(&rt, rt.alloc(), new_lines()));
 }

@@ -1,11 +1,16 @@
 //! Insertions into an index without columns, and what all workers know of them in the end.
-ghost use Rattle.std.specs.Prelude.{◌≡◌, [], IfOk};
+ghost use Rattle.std.specs.Prelude.{◌≡◌, ◌==◌, [], false, map, IfOk};
+ghost use Rattle.std.specs.List.{AllByRecursion};
+ghost use Rattle.std.specs.Bool.{IsTrue};
 ghost use Rattle.doc_types.specs.Transactions.{IsTxnOf};
 ghost use Rattle.share_vectors.specs.Users.{IsUser, plain};
+ghost use Rattle.snap_share.specs.Closings.{WorkersDiffer};
+ghost use Rattle.snap_share.specs.Lines.{new_line};
+ghost use Rattle.snap_share.specs.Tellings.{AreTokensOf};
 
 use chunk_store::Disk;
 use doc_types::{Doc, Schema, Txn, TxnOp};
-use snap_share::{CommitFault, Committed, Engine, Naming, Note, Token};
+use snap_share::{CommitFault, Committed, Engine, Naming, Token};
 use srch_base::{Items, Name, NoMemory};
 use std::alloc::Global;
 use std::sync::Wait;
@@ -57,17 +62,56 @@ pub(crate) fn insert<D: Disk, J: Naming, R: Wait>(
     }
 }
 
-/// Whether an engine that ended told of so many commits, each token has seen all of them, and each worker made so many of them.
-pub(crate) fn have_all<J: Naming, E: Drop>(
-    told: Result<Note<J>, E>,
+/// Whether the worker has none of the tokens.
+fn has_none<J: Naming>(worker: u32, tokens: &[Token<J>]) -> bool
+    ensures { IsTrue result → AllByRecursion (λ other. (worker == other) ≡ false) (map (λ token. token.worker) tokens.now) }
+{
+    match tokens.split_first() {
+        None => true,
+        Some((token, others)) => worker != token.worker() && has_none(worker, others),
+    }
+}
+
+/// Whether no two of the tokens are of one worker.
+#[tactic(auto, using(crate::proofs::Differ::none_differ, crate::proofs::Differ::one_more_differs))]
+fn workers_differ<J: Naming>(tokens: &[Token<J>]) -> bool
+    ensures { IsTrue result → WorkersDiffer tokens.now }
+{
+    match tokens.split_first() {
+        None => true,
+        Some((token, others)) => has_none(token.worker(), others) && workers_differ(others),
+    }
+}
+
+/// Ends an engine with its tokens: how many steps its history has, where that was told.
+#[tactic(auto, using(crate::proofs::Differ::none_differ))]
+pub(crate) fn end<D: Disk + Drop, J: Naming, R: Wait>(
+    rt: &R,
+    engine: Engine<D, J>,
+    tokens: &mut [Token<J>],
+) -> Option<u64>
+    requires { AreTokensOf (new_line engine.index engine.workers) tokens.old }
+{
+    if !workers_differ(tokens) {
+        let (none, _tokens) = tokens.split_at_mut(0);
+        let (_disk, _note, _answer) = engine.close(rt, none, &[]);
+        return None;
+    }
+    let (_disk, note, answer) = engine.close(rt, tokens, &[]);
+    match answer {
+        Ok(()) => Some(note.len()),
+        Err(_) => None,
+    }
+}
+
+/// Whether an engine ended with a history of so many commits, each token has seen all of them, and each worker made so many of them.
+pub(crate) fn have_all<J: Naming>(
+    steps: Option<u64>,
     tokens: &[Token<J>],
     all: u64,
     own: u64,
 ) -> bool {
-    let mut right = match told {
-        Ok(note) => note.len() == all,
-        Err(_) => false,
-    };
+    let mut right = steps == Some(all);
     for token in tokens {
         if token.len() != all || token.made() != own {
             right = false;

@@ -1,9 +1,9 @@
 //! Two workers of one engine in turn: each commits, and reads what the other one did.
 ghost use Rattle.std.specs.Prelude.{◌≡◌};
 ghost use Rattle.share_vectors.specs.Users.{IsUser, plain};
-ghost use Rattle.snap_share.specs.Opens.{IsOpened, base_of};
+ghost use Rattle.snap_share.specs.Opens.{IsOpened, base_of, opening_of};
 
-use crate::commits::{have_all, insert, schema};
+use crate::commits::{end, have_all, insert, schema};
 use chunk_store::{Disk, MemoryDisk};
 use snap_share::{CommitFault, Engine, Naming, Opened, Token, learn, snapshot};
 use std::alloc::Global;
@@ -48,7 +48,10 @@ fn work<D: Disk, J: Naming, R: Wait>(
 /// Whether both workers find what they are to find, and know the one history in the end.
 fn run<D: Disk + Drop, J: Naming, R: Wait>(rt: &R, alloc: Global, opened: Opened<D>) -> bool
     requires book { opened.book.past.seen.book ≡ J.book 0 }
+    requires faults { opened.faults.past.seen.book ≡ J.faults 0 }
+    requires stops { opened.stops.past.seen.book ≡ J.stops 0 }
     requires base { J.base 0 ≡ base_of opened }
+    requires counted { J.opened 0 ≡ opening_of D.Disk opened }
     requires columns { J.schema 0 ≡ plain }
     requires opened { IsOpened D.Disk plain opened }
 {
@@ -60,13 +63,13 @@ fn run<D: Disk + Drop, J: Naming, R: Wait>(rt: &R, alloc: Global, opened: Opened
     let second = tokens.pop();
     let first = tokens.pop();
     let (Some(mut first), Some(mut second)) = (first, second) else {
-        let (_disk, _) = engine.close(rt, tokens.as_mut_slice(), &[]);
+        let _ = end(rt, engine, tokens.as_mut_slice());
         return false;
     };
     let worked = work(rt, alloc, &engine, &mut first, &mut second);
     let mut both = [first, second];
-    let (_disk, told) = engine.close(rt, &mut both, &[]);
-    let right = have_all(told, &both, 2, 1);
+    let steps = end(rt, engine, &mut both);
+    let right = have_all(steps, &both, 2, 1);
     right & (opened == ((0, 0), 0)) & (worked == Some([1, 1, 7, 2, 2, 2]))
 }
 

@@ -5,9 +5,9 @@ ghost use Rattle.doc_types.specs.Documents.{IsDocOf};
 ghost use Rattle.doc_types.specs.Transactions.{IsOpOf, IsTxnOf};
 ghost use mathlib.Core.List.{IsPrefix};
 ghost use Rattle.share_vectors.specs.Users.{IsJobOf, IsUser, plain};
-ghost use Rattle.snap_share.specs.Opens.{IsOpened, base_of};
+ghost use Rattle.snap_share.specs.Opens.{IsOpened, base_of, opening_of};
 
-use crate::commits::schema;
+use crate::commits::{end as ended, schema};
 use chunk_store::{Disk, MemoryDisk};
 use doc_types::{Doc, Txn, TxnOp};
 use snap_share::{
@@ -144,7 +144,10 @@ fn work<D: Disk, J: Naming, R: Wait>(
 /// Whether the workers find what they are to find, and the engine ends with the three commits and the two jobs.
 fn run<D: Disk + Drop, J: Naming, R: Wait>(rt: &R, alloc: Global, opened: Opened<D>) -> bool
     requires book { opened.book.past.seen.book ≡ J.book 0 }
+    requires faults { opened.faults.past.seen.book ≡ J.faults 0 }
+    requires stops { opened.stops.past.seen.book ≡ J.stops 0 }
     requires base { J.base 0 ≡ base_of opened }
+    requires counted { J.opened 0 ≡ opening_of D.Disk opened }
     requires columns { J.schema 0 ≡ plain }
     requires opened { IsOpened D.Disk plain opened }
 {
@@ -155,17 +158,13 @@ fn run<D: Disk + Drop, J: Naming, R: Wait>(rt: &R, alloc: Global, opened: Opened
     let second = tokens.pop();
     let first = tokens.pop();
     let (Some(mut first), Some(mut second)) = (first, second) else {
-        let (_disk, _) = engine.close(rt, tokens.as_mut_slice(), &[]);
+        let _ = ended(rt, engine, tokens.as_mut_slice());
         return false;
     };
     let worked = work(rt, alloc, &engine, &mut first, &mut second);
     let mut both = [first, second];
-    let (_disk, told) = engine.close(rt, &mut both, &[]);
-    let steps = match told {
-        Ok(note) => note.len(),
-        Err(_) => 0,
-    };
-    (worked == Some([1, 2, 3, 2, 3, 9, 1])) & (steps == 5)
+    let steps = ended(rt, engine, &mut both);
+    (worked == Some([1, 2, 3, 2, 3, 9, 1])) & (steps == Some(5))
 }
 
 #[test]

@@ -1,5 +1,6 @@
 //! Tests of what no clause says of what threads share: that reads beside a writer give whole snapshots in their order, that each call
-//! of a line can succeed, that commits of an engine succeed and are found by other workers, that a job ends beside commits, and that many workers commit at once.
+//! of a line can succeed, that commits of an engine succeed and are found by other workers, that a job ends beside commits, that a
+//! fault of the disk counts for the worker whose commit met it alone, and that many workers commit at once.
 #![tactic(auto)]
 
 #[cfg(test)]
@@ -8,6 +9,8 @@ mod at_once;
 mod calls;
 #[cfg(test)]
 mod commits;
+#[cfg(test)]
+mod doubts;
 #[cfg(test)]
 mod in_turn;
 #[cfg(test)]

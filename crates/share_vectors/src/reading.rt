@@ -1,13 +1,17 @@
 //! Readers in threads of their own beside a writer. A clause says of each read that its snapshot is the last one of what the token
 //! has seen from then on; that the copies which the writer changes meanwhile are read whole is tried here.
 ghost use Rattle.std.specs.Prelude.{◌≡◌, []};
+ghost use Rattle.step_line.specs.Lines.{new_line};
+ghost use Rattle.step_line.specs.Tallies.{new_tally};
 
-use crate::writing::{is_after, open_line, write};
+use crate::writing::{
+    NewLines, Tallies, is_after, new_lines, open_line, open_tallies, token, write,
+};
 use std::alloc::Global;
 use std::marker::Brand;
 use std::sync::Wait;
 use std::thread::{Threads, for_each_mut, join};
-use step_book::{Naming, NewBook};
+use step_book::Naming;
 use step_line::Line;
 use step_tokens::{Note, Token, learn, snapshot};
 
@@ -63,12 +67,12 @@ impl<J: Naming> Reader<J> {
 }
 
 /// A reader for each worker of the line.
-fn readers<J: Naming>(alloc: Global, line: &Line<J>) -> Option<Vec<Reader<J>>>
-    requires { line.now.workers ≡ 3 }
+fn readers<J: Naming>(alloc: Global, line: &Line<J>, tallies: &Tallies<J>) -> Option<Vec<Reader<J>>>
+    requires { (line.now ≡ new_line 0 3) × (tallies.now.faults ≡ new_tally 0 3) × (tallies.now.stops ≡ new_tally 0 3) }
 {
     let mut readers = Vec::new(alloc);
     for worker in 1..4 {
-        let token = line.token(worker).ok()?;
+        let token = token(line, tallies, worker)?;
         readers.push(Reader { token, wrong: 0 }).ok()?;
     }
     Some(readers)
@@ -79,19 +83,15 @@ fn beside<J: Naming + Send + Sync, R: Threads + Wait + Sync>(
     rt: &R,
     alloc: Global,
     line: &mut Line<J>,
-) -> bool
-    requires { line.old.workers ≡ 3 }
-{
-    let Some(mut readers) = readers(alloc, line) else {
-        return false;
-    };
+    readers: &mut [Reader<J>],
+) -> bool {
     // The writing end stays in this thread.
     let ((), written) = join(
         rt,
         || {
             for_each_mut(
                 rt,
-                readers.as_mut_slice(),
+                readers,
                 READERS,
                 &|_: usize, reader: &mut Reader<J>| reader.read_on(),
             )
@@ -100,7 +100,7 @@ fn beside<J: Naming + Send + Sync, R: Threads + Wait + Sync>(
     );
     let note = line.note();
     let mut all = written;
-    for reader in readers.as_mut_slice() {
+    for reader in readers {
         if !reader.finds(&note) {
             all = false;
         }
@@ -112,20 +112,33 @@ fn beside<J: Naming + Send + Sync, R: Threads + Wait + Sync>(
 fn read_beside<J: Naming + Send + Sync, R: Threads + Wait + Sync>(
     rt: &R,
     alloc: Global,
-    opened: NewBook,
+    opened: NewLines,
 ) -> bool
-    requires book { opened.past.seen.book ≡ J.book 0 }
+    requires book { opened.steps.past.seen.book ≡ J.book 0 }
+    requires faults { opened.faults.past.seen.book ≡ J.faults 0 }
+    requires stops { opened.stops.past.seen.book ≡ J.stops 0 }
     requires base { (J.base 0).opening ≡ record { number = 0; shape = 0; layers = [] } }
 {
-    let Some(mut line) = open_line::<J>(alloc, opened) else {
+    let NewLines {
+        steps,
+        faults,
+        stops,
+    } = opened;
+    let Some(tallies) = open_tallies::<J>(alloc, faults, stops) else {
         return false;
     };
-    let found = beside(rt, alloc, &mut line);
+    let Some(mut line) = open_line::<J>(alloc, steps) else {
+        return false;
+    };
+    let found = match readers(alloc, &line, &tallies) {
+        Some(mut readers) => beside(rt, alloc, &mut line, readers.as_mut_slice()),
+        None => false,
+    };
     line.close(rt);
     found
 }
 
 #[test]
 fn readers_beside_a_writer(rt: HostRuntime) {
-    assert!(rt; read_beside::<Brand, _>(&rt, rt.alloc(), NewBook::new()));
+    assert!(rt; read_beside::<Brand, _>(&rt, rt.alloc(), new_lines()));
 }

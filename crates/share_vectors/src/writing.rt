@@ -1,16 +1,18 @@
 //! Steps of an index without documents: commits of nothing, and jobs that find nothing. Commits raise the number of a snapshot,
 //! jobs its shape, so that a snapshot of which a reader had one from before a step and the other from after it would show.
-ghost use Rattle.std.specs.Prelude.{◌≡◌, [], None, IfSome};
-ghost use Rattle.step_line.specs.Lines.{IsBy};
+ghost use Rattle.std.specs.Prelude.{◌≡◌, ◌<◌, ◌≤◌, [], None, IfSome};
+ghost use Rattle.step_line.specs.Lines.{IsBy, new_line, new_token};
+ghost use Rattle.step_line.specs.Tallies.{new_tally};
 
 use doc_types::{Snapshot, Txn};
 use image_chunk::AnyChunk;
 use srch_base::{Items, NoMemory};
 use std::alloc::Global;
 use std::sync::{Arc, Wait};
-use step_book::{Made, Naming, NewBook};
+use step_book::{Faults, Made, Naming, NewBook, NewLine, Stops};
 use step_history::Job;
-use step_line::{Line, Pending};
+use step_line::{Line, Pending, Tally};
+use step_tokens::Token;
 
 /// The most steps of a line here.
 const MOST_STEPS: u64 = 1 << 32;
@@ -26,11 +28,28 @@ pub(crate) fn bare(alloc: Global, number: u64, shape: u64) -> Snapshot<AnyChunk>
     }
 }
 
+/// What the lines of a new index begin with, before they have its name.
+#[derive(Drop)]
+pub(crate) struct NewLines {
+    pub(crate) steps: NewBook,
+    pub(crate) faults: NewLine<u32>,
+    pub(crate) stops: NewLine<u32>,
+}
+
+/// Lines that nobody has seen.
+pub(crate) fn new_lines() -> NewLines {
+    NewLines {
+        steps: NewBook::new(),
+        faults: NewLine::new(),
+        stops: NewLine::new(),
+    }
+}
+
 /// The line of a new index without documents, for three workers.
 pub(crate) fn open_line<J: Naming>(alloc: Global, opened: NewBook) -> Option<Line<J>>
     requires book { opened.past.seen.book ≡ J.book 0 }
     requires base { (J.base 0).opening ≡ record { number = 0; shape = 0; layers = [] } }
-    ensures { IfSome result (λ line. (line.workers ≡ 3) × (line.index ≡ 0)) }
+    ensures { IfSome result (λ line. line ≡ new_line 0 3) }
 {
     let (book, front) = opened.named::<J>(0);
     let Ok(opening) = Arc::new(alloc, bare(alloc, 0, 0)) else {
@@ -40,6 +59,44 @@ pub(crate) fn open_line<J: Naming>(alloc: Global, opened: NewBook) -> Option<Lin
         Ok(line) => Some(line),
         Err(NoMemory) => None,
     }
+}
+
+/// The lines of the calls that faults and contradictions ended, of the same index: there are none yet.
+#[derive(Drop)]
+pub(crate) struct Tallies<J: Naming> {
+    pub(crate) faults: Tally<J, Faults>,
+    pub(crate) stops: Tally<J, Stops>,
+}
+
+/// Opens them.
+pub(crate) fn open_tallies<J: Naming>(
+    alloc: Global,
+    faults: NewLine<u32>,
+    stops: NewLine<u32>,
+) -> Option<Tallies<J>>
+    requires faults { faults.past.seen.book ≡ J.faults 0 }
+    requires stops { stops.past.seen.book ≡ J.stops 0 }
+    ensures { IfSome result (λ tallies. (tallies.faults ≡ new_tally 0 3) × (tallies.stops ≡ new_tally 0 3)) }
+{
+    let faults = Tally::open(alloc, faults, 0, 3).ok()?;
+    let stops = Tally::open(alloc, stops, 0, 3).ok()?;
+    Some(Tallies { faults, stops })
+}
+
+/// A token of one of the three workers.
+pub(crate) fn token<J: Naming>(
+    line: &Line<J>,
+    tallies: &Tallies<J>,
+    worker: u32,
+) -> Option<Token<J>>
+    requires among { (0 < worker) × (worker ≤ 3) }
+    requires line { line.now ≡ new_line 0 3 }
+    requires faults { tallies.now.faults ≡ new_tally 0 3 }
+    requires stops { tallies.now.stops ≡ new_tally 0 3 }
+    ensures { IfSome result (λ token. token ≡ new_token 0 worker []) }
+{
+    line.token(worker, tallies.faults.share(), tallies.stops.share())
+        .ok()
 }
 
 /// The next commit of a worker.

@@ -18,9 +18,9 @@ returns-in-Ok-build g c =
     let of = of_columns g.J.Naming.schema g.J.Naming.base c.args.seat.now.token.index c.snapshot.new.token.seen (arc_value c.in-Ok.found) own.index c.snapshot.ensures.good c.in-Ok.ensures.found in
     record {
       own = record {
-        index = same.0 ∙ own.index;
-        some = subst (λ (worker : ℕ). 0 < worker) (sym same.1) own.some;
-        among = subst (λ (worker : ℕ). worker ≤ workers) (sym same.1) own.among;
+        index = same.index ∙ own.index;
+        some = subst (λ (worker : ℕ). 0 < worker) (sym same.worker) own.some;
+        among = subst (λ (worker : ℕ). worker ≤ workers) (sym same.worker) own.among;
       };
       begun = record {
         seen = seen_now g.J.Naming.base c.args.seat.now.token.index c.snapshot.new.token.seen (arc_value c.in-Ok.found) c.in-Ok-build.new.from own.index c.in-Ok.ensures.found c.in-Ok-build.ensures.1;

@@ -1,5 +1,5 @@
 use Rattle.share_vectors.proofs.Users.{are_tokens}
 use Rattle.share_vectors.proofs.at_once.work_and_close.Goals as goal
 
-pub close-disk-requires : goal.close-disk-requires
-close-disk-requires g c = are_tokens g.J.Naming.schema c.args.engine c.work_all.new.tokens c.work_all.ensures
+pub end-steps-requires : goal.end-steps-requires
+end-steps-requires g c = are_tokens g.J.Naming.schema c.args.engine c.work_all.new.tokens c.work_all.ensures
