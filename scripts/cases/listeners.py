@@ -88,7 +88,8 @@ def in_use(program, folder):
         words = [program.path, "serve", "--config", "conf", "--listen", listen]
         silent = {"stdin": subprocess.DEVNULL, "capture_output": True}
         ran = subprocess.run(words, cwd=folder, timeout=program.patience(), **silent)
-    return f"status {ran.returncode} {ran.stdout.decode()}{ran.stderr.decode()}"
+    said = f"{ran.stdout.decode()}{ran.stderr.decode()}"
+    return f"status {ran.returncode} {said.replace(listen, 'A')}"
 
 
 def states(pid):
@@ -171,11 +172,12 @@ def gone_away(program, folder):
         return answer(asked(program, served), "COM_PING")
 
 
+IN_USE = "Address already in use (os error 98)"
 UNKNOWN = "ERR 1064 42000 unknown index '{}'"
 ANSWERS = "; ".join(UNKNOWN.format(word) for word in ("hello", "hello", "again", "again"))
 CASES = (
     Case("two clients, and two more", "two", two_and_two, f"{ANSWERS}; status 0 "),
-    Case("an address in use", "two", in_use, "status 4 searchd: host fault\n"),
+    Case("an address in use", "two", in_use, f"status 4 searchd: host fault\nsearchd: listening at A: {IN_USE}\n"),
     Case("a read that is interrupted", "two", read_again, "OK 0"),
     Case("a write that is interrupted", "numbers", written_again, "True and True; OK 0"),
     Case("clients that go away", "numbers", gone_away, "OK 0"),

@@ -17,7 +17,7 @@ from scripts.cases.case_sessions import Bytes, Wrong, conversed, run_line, run_s
 from scripts.cases.replies import split
 from scripts.cases.runs import finish, lost, options, program_of, side_by_side
 
-KNOWN = {"docs/cases/packets.md": 103}
+KNOWN = {"docs/cases/packets.md": 110}
 OK_PAYLOAD = bytes(3) + b"\x02" + bytes(3)
 PING, PONG, ACCEPTED = whole_packet(0, b"\x0e"), whole_packet(1, OK_PAYLOAD), whole_packet(2, OK_PAYLOAD)
 

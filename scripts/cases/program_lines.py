@@ -10,7 +10,7 @@ PLAIN = "index rt;{;type = rt;path = .;rt_field = title;};"
 KNOWN = {
     "Runs: checks": 22,
     "Runs: directories that can't be read": 18,
-    "Runs: words, and what fails": 26,
+    "Runs: words, and what fails": 30,
     "Runs: texts": 8,
     "Runs: selftests": 8,
     "Runs: sessions": 11,

@@ -19,6 +19,9 @@ from scripts.cases.program_serving import at_once, in_turn, one_by_one
 from scripts.cases.runs import finish, lost, options, program_of, side_by_side
 
 FULL = "/dev/full"
+# Runs a program whose files can't have a byte: writing one fails, where it would end the program otherwise.
+FULL_DISK = ["sh", "-c", "trap '' XFSZ; ulimit -f 0; exec \"$@\"", "sh"]
+FOLDER = "(folder)"
 
 
 class Different(Exception):
@@ -40,16 +43,17 @@ def write_folders(folder, indexes, bytes_of):
             (folder / name).write_bytes(b"")
         for number, _, written in (file.partition("=") for file in files):
             (folder / name).mkdir(exist_ok=True)
-            (folder / name / number).write_bytes(bytes_of.all(written))
+            if written == FOLDER:
+                (folder / name / number).mkdir()
+            else:
+                (folder / name / number).write_bytes(bytes_of.all(written))
     return names
 
 
-def taken(words, stack):
-    """The words, in which `TAKEN` is the address of a listener."""
-    if "TAKEN" not in words:
-        return words
+def address_taken(stack):
+    """The address of a listener."""
     listener = stack.enter_context(socket.create_server(("127.0.0.1", 0)))
-    return words.replace("TAKEN", f"127.0.0.1:{listener.getsockname()[1]}")
+    return f"127.0.0.1:{listener.getsockname()[1]}"
 
 
 def told(status, opened, out, errors):
@@ -81,7 +85,7 @@ def of_run(program, folder, line, bytes_of):
     names = write_folders(folder, indexes, bytes_of)
     for name in opened_by(line.wanted):
         (folder / name).parent.mkdir(exist_ok=True)
-    if text == "(folder)":
+    if text == FOLDER:
         (folder / "searchd.conf").mkdir()
     elif text != "(none)":
         (folder / "searchd.conf").write_bytes(text_of(text, names))
@@ -89,12 +93,15 @@ def of_run(program, folder, line, bytes_of):
     with ExitStack() as stack:
         full = stack.enter_context(open(FULL, "wb"))
         out, errors = (full if f"full {name}" in streams else subprocess.PIPE for name in ("output", "errors"))
-        command = [program.path, *taken(words, stack).split()]
+        address = address_taken(stack) if "TAKEN" in words else "TAKEN"
+        command = [program.path, *words.replace("TAKEN", address).split()]
+        command = FULL_DISK + command if "full disk" in streams else command
         ran = subprocess.run(command, cwd=folder, input=sent, stdout=out, stderr=errors, timeout=program.patience())
     if session:
         same("written", (ran.stdout or b"").hex(" "), written.hex(" "))
     printed = "" if session else (ran.stdout or b"").decode()
-    same("", told(ran.returncode, opened_in(folder), printed, (ran.stderr or b"").decode()), ordered(line.wanted))
+    said = (ran.stderr or b"").decode().replace(address, "TAKEN")
+    same("", told(ran.returncode, opened_in(folder), printed, said), ordered(line.wanted))
 
 
 def of_cut(program, folder, line, bytes_of, sizes):
@@ -131,7 +138,9 @@ def of_folders(program, folder, line):
         ran = subprocess.run(command, cwd=folder, capture_output=True, timeout=program.patience())
     made = ", ".join(sorted(str(path.relative_to(folder)) for path in folder.rglob("*") if path.is_dir())) or "none"
     same("", f"{ran.returncode}; {made}", line.wanted)
-    same("", ran.stderr, b"searchd: host fault\n" if ran.returncode else b"")
+    said, _, cause = ran.stderr.decode().partition("\n")
+    same("", said, "searchd: host fault" if ran.returncode else "")
+    same("", cause.startswith("searchd: opening the folder "), ran.returncode != 0)
 
 
 def run(program, part, lines, bytes_of):

@@ -11,7 +11,8 @@ Each list has an empty folder of its own, with a configuration at the path that 
                 host fault once the index is made, and with an address in its place a client is greeted
     selftest    the summary that a scan finds; one of many documents runs, which is all that is waited for
 
-A path at which no file can be is a host fault. The addresses and numbers that words stand for are tried by `command_vectors`.
+A path at which no file can be is a host fault, which has a second line, with the path or the address. The addresses and numbers that
+words stand for are tried by `command_vectors`.
 
 A list is one case.
 """
@@ -51,6 +52,13 @@ def call(program, folder, words, longest=None):
     return ran.returncode, ran.stdout, ran.stderr.decode()
 
 
+def is_host_fault(called, doing):
+    """Whether a call was a host fault, as the program did this."""
+    status, out, errors = called
+    said, _, cause = errors.partition("\n")
+    return (status, out, said + "\n") == (4, b"", HOST_FAULT) and cause.startswith(f"searchd: {doing}: ")
+
+
 def put(folder, path, text):
     """Writes a text below a folder. Whether a file can be at this path."""
     if path.startswith("/") or any(len(name.encode()) > 255 for name in path.split("/")):
@@ -67,20 +75,20 @@ def of_usage(program, folder, one):
 
 def of_session(program, folder, one):
     if not put(folder, one.values["config"], CONFIGURATION):
-        return call(program, folder, one.words) == (4, b"", HOST_FAULT)
+        return is_host_fault(call(program, folder, one.words), f"reading {one.values['config']}")
     status, out, errors = call(program, folder, one.words)
     return (status, errors) == (0, "") and len(out) == 82 and (folder / "made").exists()
 
 
 def of_check(program, folder, one):
     if not put(folder, one.values["config"], CONFIGURATION):
-        return call(program, folder, one.words) == (4, b"", HOST_FAULT)
+        return is_host_fault(call(program, folder, one.words), f"reading {one.values['config']}")
     return call(program, folder, one.words) == (0, b"seen: 0 documents, 0 disk chunks, 0 log records\n", "")
 
 
 def of_serve(program, folder, one):
     if not put(folder, one.values["config"], FAULTY):
-        return call(program, folder, one.words) == (4, b"", HOST_FAULT)
+        return is_host_fault(call(program, folder, one.words), f"reading {one.values['config']}")
     if call(program, folder, one.words) != (3, b"", FAULT):
         return False
     return one.values["listen"] != "A" or greets(program, folder, one)
@@ -89,7 +97,7 @@ def of_serve(program, folder, one):
 def greets(program, folder, one):
     """Whether words are a host fault once the index was made, and greet a client where an address stands in the place of `A`."""
     put(folder, one.values["config"], CONFIGURATION)
-    if call(program, folder, one.words) != (4, b"", HOST_FAULT) or not (folder / "made").exists():
+    if not is_host_fault(call(program, folder, one.words), "listening at A") or not (folder / "made").exists():
         return False
     served = Called(program, folder, one.words)
     served.start()

@@ -15,7 +15,7 @@ starts a daemon over a new folder for each of these, and prints what was seen:
 The daemon has the variables of the C library that the manual's unit sets, but with --keeps, where more memory stays with it.
 Beside all but `texts` and `descriptors` another client sends one SELECT after the other, for so many seconds. What is
 answered to a text stands in the table `long_texts`, which a test compares with what scripts/readers tell of shorter ones. It counts as
-failed where a reply is another one, the other client isn't served, the daemon ends (but for want of descriptors), a text of twice
+failed where a reply is another one, the other client isn't served, the daemon ends, a worker is lost, a text of twice
 the length takes more than three times as long, or the daemon's memory afterwards is more than 16 MB above what it was before.
 """
 
@@ -49,7 +49,7 @@ SLOWLY = LOGIN + PING
 COLUMNS = ["rt_field = title", *(f"rt_attr_bigint = a{number}" for number in range(32))]
 ROWS, COPIES, CLIENTS = 400, 32, 8
 MUCH = "; ".join([f"SELECT * FROM rt LIMIT {ROWS}"] * COPIES)
-WORKERS, DESCRIPTORS, SESSIONS = 16, 24, 3
+WORKERS, DESCRIPTORS = 16, 24
 # What the manual's unit sets, so that the C library gives memory back.
 GIVES_BACK = {"MALLOC_MMAP_THRESHOLD_": "4194304", "GLIBC_TUNABLES": "glibc.malloc.tcache_count=0"}
 ROOM, SUPER_LINEAR, SHORT, ADDRESSES = 16 * 2**20, 3.0, 0.02, 3000 * 2**20
@@ -79,10 +79,10 @@ class Limited(Daemon):
 class Looked:
     """A daemon over a folder of its own, with rows of which 8 MB can be asked, and what was seen of it."""
 
-    def __init__(self, given, workers=CLIENTS + 2, limited=None, sessions=1000000):
+    def __init__(self, given, workers=CLIENTS + 2, limited=None):
         self.given, self.room = given, tempfile.TemporaryDirectory(prefix="hostile_clients.", dir=given.folder)
         self.daemon = Limited(given.program, Path(self.room.name), {"rt": COLUMNS, "shop": COLUMNS}, workers)
-        self.daemon.command += ["--sessions", str(sessions)]
+        self.daemon.command += ["--sessions", "1000000"]
         self.daemon.limited = limited
         self.port = self.daemon.port
 
@@ -282,28 +282,40 @@ def insert_much(port, seconds, queue):
 
 
 def descriptors(given):
-    """More clients than descriptors. What is seen is printed; what it is to be the manual says."""
-    with Looked(given, WORKERS, (resource.RLIMIT_NOFILE, DESCRIPTORS), SESSIONS) as looked:
+    """More clients than descriptors: those that wait are let in once there is room, and no worker is lost."""
+    with Looked(given, WORKERS, (resource.RLIMIT_NOFILE, DESCRIPTORS)) as looked:
         print(f"  {DESCRIPTORS} descriptors, of which {len(os.listdir(f'/proc/{looked.pid}/fd'))} are open, {WORKERS} workers")
-        clients = []
-        while len(clients) < WORKERS and greeted(last := looked.connected()):
-            clients.append(last)
-        print(f"  {len(clients)} clients were greeted, the next one waits; {how(looked)}")
+        clients, last = crowd(looked)
         look_at_served(clients)
-        for one in clients[: len(clients) // 2]:
+        kept = clients[: len(clients) // 2]
+        for one in clients[len(kept) :]:
             one.close()
-        print(f"  half of them gone: the one that waited is {'' if greeted(last) else 'not '}greeted, {newcomer(looked)}; {how(looked)}")
+        demand(greeted(last), "half of them gone: the one that waited is greeted")
         last.close()
-        look_at_served(clients[len(clients) // 2 :])
-        for one in clients:
+        look_at_served(kept)
+        for one in kept:
             one.close()
-        print(f"  all gone: {newcomer(looked)}; {how(looked)}")
-        count = 0
-        while looked.daemon.process.poll() is None and count < WORKERS * SESSIONS:
-            newcomer(looked)
-            count += 1
-            time.sleep(0.05)
-        print(f"  {count} connections later: {how(looked)}")
+        again, last = crowd(looked)
+        for one in [*again, last]:
+            one.close()
+        demand(len(again) >= len(clients), "all gone: as many are greeted again")
+        demand(looked.daemon.process.poll() is None, "the daemon goes on")
+
+
+def crowd(looked):
+    """Clients that are let in, as many as there is room for, and the next one, which isn't."""
+    clients = []
+    while len(clients) < WORKERS and greeted(last := looked.connected()):
+        clients.append(last)
+    demand(0 < len(clients) < WORKERS, f"{len(clients)} clients are greeted, the next one waits")
+    return clients, last
+
+
+def demand(holds, what):
+    """Says what was seen, or that it wasn't."""
+    if not holds:
+        raise Wrong(f"not so: {what}")
+    print(f"  {what}")
 
 
 def greeted(connection):
@@ -319,35 +331,14 @@ def greeted(connection):
 
 
 def look_at_served(clients):
-    """How many of some clients are answered, and what the first of them is answered to a commit and a job."""
-    served = []
+    """Looks whether clients are answered, and what the first of them is answered to commits and a job."""
     for one in clients:
-        try:
-            one.sendall(PING)
-            served += [one] if one.recv(4096) == PONG else []
-        except OSError:
-            pass
-    print(f"  of {len(clients)} clients that it has {len(served)} are answered")
-    for text in (b"REPLACE INTO rt (id) VALUES (1)", b"REPLACE INTO shop (id) VALUES (1)", b"FLUSH RAMCHUNK rt") if served else ():
-        served[0].sendall((len(text) + 1).to_bytes(3, "little") + b"\0\3" + text)
-        print(f"    {text.decode()}: {told(lambda size: taken(served[0].recv, size))[0]}")
-
-
-def newcomer(looked):
-    """What becomes of a client that comes now."""
-    try:
-        with looked.connected() as connection:
-            return f"a new client is {'greeted' if greeted(connection) else 'not greeted within 3 s'}"
-    except OSError as error:
-        return f"a new client isn't let in ({error.strerror})"
-
-
-def how(looked):
-    """Whether the daemon runs."""
-    status = looked.daemon.process.poll()
-    if status is not None:
-        return f"the daemon ended with status {status}: {looked.daemon.said()}"
-    return f"the daemon goes on with {len(os.listdir(f'/proc/{looked.pid}/task'))} threads"
+        one.sendall(PING)
+    demand(all(one.recv(4096) == PONG for one in clients), "each is answered")
+    for text in (b"REPLACE INTO rt (id) VALUES (1)", b"REPLACE INTO shop (id) VALUES (1)", b"FLUSH RAMCHUNK rt"):
+        clients[0].sendall((len(text) + 1).to_bytes(3, "little") + b"\0\3" + text)
+        answered = told(lambda size: taken(clients[0].recv, size))[0]
+        demand(answered.startswith("OK"), f"{text.decode()}: {answered}")
 
 
 KINDS = {kind.__name__: kind for kind in (silent, unread, left, texts, memory, descriptors)}
