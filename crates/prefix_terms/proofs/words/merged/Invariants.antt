@@ -1,0 +1,15 @@
+use Rattle.std.proofs.Common.{◌≡◌, ◌≤◌, ◌+◌, ◌^◌, ℕ, List, Option, length}
+use Rattle.prefix_terms.specs.steps.Keeping.{AreFound}
+use Rattle.prefix_terms.specs.steps.Merging.{AreWordsUpTo, StandAt}
+use Rattle.prefix_terms.proofs.Left.{left}
+use Rattle.prefix_terms.proofs.Merged.{IsAmid}
+use Rattle.prefix_terms.proofs.words.merged.Given as goal
+
+abbrev pub invariant-words : goal.invariant-words
+invariant-words g l = record {
+  amid : IsAmid l.parts l.numbers.items l.room l.found.kept.items l.found.count;
+  few : l.found.count + left l.parts l.numbers.items ≤ 2 ^ 48;
+}
+
+abbrev pub decreases-words : goal.decreases-words
+decreases-words g l = left l.parts l.numbers.items
