@@ -37,7 +37,6 @@ pub struct Draft {
     zones: Vec<Name>,
     strip: bool,
     sp: bool,
-    min_prefix: u8,
 }
 
 /// Whether an index has this name.
@@ -71,7 +70,6 @@ impl Draft {
             zones: Vec::new(alloc),
             strip: false,
             sp: false,
-            min_prefix: 0,
         }
     }
 
@@ -132,7 +130,6 @@ impl Draft {
             Setting::Charset(charset) => self.charset = Some(charset),
             Setting::Strip(on) => self.strip = on,
             Setting::Sp(on) => self.sp = on,
-            Setting::Prefix(len) => self.min_prefix = len,
             Setting::Zones(zones) => self.zones = zones,
         }
         Ok(())
@@ -219,7 +216,6 @@ impl Draft {
             attrs: Items::new(self.attrs),
             zones,
             sp: self.sp,
-            min_prefix: self.min_prefix,
         };
         Ok(IndexConf {
             schema,

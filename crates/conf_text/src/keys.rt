@@ -20,7 +20,6 @@ pub enum Key {
     HtmlStrip,
     IndexSp,
     IndexZones,
-    MinPrefixLen,
     MinWordLen,
     Mlock,
     Morphology,
@@ -46,7 +45,6 @@ macro_rules! keys {
             "html_strip" => Key::HtmlStrip,
             "index_sp" => Key::IndexSp,
             "index_zones" => Key::IndexZones,
-            "min_prefix_len" => Key::MinPrefixLen,
             "min_word_len" => Key::MinWordLen,
             "mlock" => Key::Mlock,
             "morphology" => Key::Morphology,
@@ -64,7 +62,7 @@ macro_rules! keys {
     };
 }
 
-fn key_table() -> NameTable<21>
+fn key_table() -> NameTable<20>
     ensures words { result ≡ key_words }
     ensures order { IsInOrder result }
 {

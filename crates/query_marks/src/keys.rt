@@ -68,7 +68,6 @@ fn nobody(alloc: Global) -> Key
         },
         start: false,
         end: false,
-        prefix: false,
     }
 }
 
@@ -116,7 +115,6 @@ fn put_key(
             limit: copy_limit(alloc, &standing.limit)?,
             start: standing.start,
             end: standing.end,
-            prefix: false,
         })?;
     }
     Ok(())

@@ -75,8 +75,5 @@ pub(crate) fn put_key(key: &Key, out: &mut Vec<u8>) -> Result<(), NoMemory>
     if key.end {
         out.push(b'$')?;
     }
-    if key.prefix {
-        out.push(b'*')?;
-    }
     Ok(())
 }

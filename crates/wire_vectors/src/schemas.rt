@@ -24,7 +24,6 @@ fn schema(alloc: Global) -> Option<Schema> {
         attrs: attrs(alloc)?,
         zones: Items::new(Vec::new(alloc)),
         sp: true,
-        min_prefix: 0,
     })
 }
 

@@ -4,6 +4,7 @@
 mod asking;
 mod counting;
 mod fields;
+mod keys;
 mod loading;
 mod marks;
 mod slots;
