@@ -3,7 +3,7 @@ use Rattle.std.proofs.Common.{◌≡◌, ℕ, suc, ◌+◌, ◌/◌, List, [], �
 use Rattle.std.specs.Prelude.{codes}
 use Rattle.index_conf.specs.declared.conf.IndexConf.{IndexConf}
 use Rattle.mysql_wire.specs.Replies.{ok_packet}
-use Rattle.ql_tree.specs.declared.select.Select.{Select}
+use Rattle.ql_tree.specs.declared.statement.Statement.{Statement}
 use Rattle.ql_tree.specs.declared.statement.Statement.TheVariants as statements
 use Rattle.ql_write.specs.Canonical.{canonical_text}
 use Rattle.ql_answers.specs.declared.state.State.{State}
@@ -59,12 +59,12 @@ module _ {D F : Type 0} (confs : D → List IndexConf) (words : StoreWords D F) 
       subst (λ (list : List Telling). AreDone confs words list old before new left) (sym (is ∙ append-nil told)) done
 
   -- one more was told, and its rows counted
-  pub one_more_counted : (select : ℕ → Select) (number sum rows : ℕ) (old mid new : State) (before between left : D) → AreCounted confs words select number sum old before mid between
-      → Shows confs words (select number) rows mid between new left → AreCounted confs words select (number + 1) (sum + rows) old before new left
-  one_more_counted select number sum rows old mid new before between left counted has =
-      let one : AreCounted confs words select (suc number) (sum + rows) old before new left = (sum, rows, mid, between, counted, has, refl) in
+  pub one_more_counted : (statement : ℕ → Statement) (number sum rows : ℕ) (old mid new : State) (before between left : D) → AreCounted confs words statement number sum old before mid between
+      → Shows confs words (statement number) rows mid between new left → AreCounted confs words statement (number + 1) (sum + rows) old before new left
+  one_more_counted statement number sum rows old mid new before between left counted has =
+      let one : AreCounted confs words statement (suc number) (sum + rows) old before new left = (sum, rows, mid, between, counted, has, refl) in
       let next : suc number ≡ number + 1 = omega arith in
-      subst (λ (n : ℕ). AreCounted confs words select n (sum + rows) old before new left) next one
+      subst (λ (n : ℕ). AreCounted confs words statement n (sum + rows) old before new left) next one
 
   -- both halves were written, and both jobs done
   pub loaded : (documents first others : List Document) (half : ℕ) (s0 s1 s2 s3 s4 : State) (d0 d1 d2 d3 d4 : D) → half ≡ length documents / 2 → first ≡ take half documents → others ≡ drop half documents

@@ -23,7 +23,6 @@ use Rattle.engine_tables.specs.Tokens.{SeatsDiffer, SitsAt, TokensValue, told_at
 use Rattle.engine_tables.specs.Workers.{WorkerValue, by_tokens}
 use Rattle.engine_tables.specs.declared.ended.Ended.{Ended}
 use Rattle.engine_tables.proofs.Makings.{all_end}
-use Rattle.self_test.specs.Asking.{Leads}
 use Rattle.self_test.specs.Conversations.{Converses}
 use Rattle.self_test.specs.Ends.{Ends, EndsBy, Finds, Found, HasFound, IsOver, Works, first_tokens}
 use Rattle.self_test.specs.declared.generator.Document.{Document}
@@ -73,15 +72,6 @@ found_by schema base confs documents summary first left old new begun same leave
 one_differs : (left : TokensValue) → SeatsDiffer (left ∷ [])
 unfolding IsDistinct
 one_differs left = record { apart = (tt, tt) }
-
--- what a worker with these tokens was led to is what its events led to
-pub works_by : (schema : ℕ → Schema) (base : ℕ → Base) (confs : List IndexConf) (first left : TokensValue) (old new : WorkerValue) → old ≡ record { confs = confs; tokens = first } → new.confs ≡ confs → new.tokens ≡ left
-    → Leads (λ (worker : WorkerValue). worker.confs) (by_tokens schema base) old new → Works schema base confs first left
-works_by schema base confs first left old new begun same leaves leads =
-    let ended : new ≡ record { confs = confs; tokens = left } =
-    ap (λ (list : List IndexConf). record { confs = list; tokens = new.tokens }) same ∙ ap (λ (tokens : TokensValue). record { confs = confs; tokens = tokens }) leaves in
-    subst (λ (w : WorkerValue). Leads (λ (worker : WorkerValue). worker.confs) (by_tokens schema base) w (record { confs = confs; tokens = left })) begun
-    (subst (λ (w : WorkerValue). Leads (λ (worker : WorkerValue). worker.confs) (by_tokens schema base) old w) ended leads)
 
 module _ (engines : EnginesValue) (old new : EndingValue) (left : TokensValue) where
   abbrev pub IsPut : Type 0

@@ -6,8 +6,6 @@ pub mod Letters
 pub mod Values
 -- statements that are done, and rows that are counted
 pub mod Conversing
--- what a reply to a SELECT says
-pub mod Finding
 -- what was asked leads from one store to another
 pub mod Leading
 -- whose the tokens of a worker are

@@ -5,10 +5,7 @@ use Rattle.mysql_wire.specs.Packets.{packets_from}
 use Rattle.mysql_wire.specs.Replies.{ok_packet}
 use Rattle.ql_session.specs.Machines.{Answered, FollowAll}
 use Rattle.index_conf.specs.declared.conf.IndexConf.{IndexConf}
-use Rattle.ql_tree.specs.declared.select.Select.{Select}
 use Rattle.ql_tree.specs.declared.statement.Statement.{Statement}
-use Rattle.ql_tree.specs.declared.statement.Statement.TheVariants as statements
-use Rattle.self_test.specs.Findings.{FindsRows}
 use Rattle.ql_write.specs.Canonical.{canonical_text}
 use Rattle.ql_answers.specs.declared.state.State.{State}
 use Rattle.ql_answers.specs.Sessions.{disk_count}
@@ -49,17 +46,16 @@ abbrev pub HasRows : {D F : Type 0} → (D → List IndexConf) → StoreWords D 
 HasRows confs words text rows old before new left =
     (reply : List ℕ) × Asks confs words text reply old before new left × ArePackets (rows + 4) reply
 
--- A SELECT was told by its canonical text and answered by so many rows: those that it finds in the documents that were seen of the index.
-abbrev pub Shows : {D F : Type 0} → (D → List IndexConf) → StoreWords D F → Select → ℕ → State → D → State → D → Type 0
-Shows confs words select rows old before new left =
-    HasRows confs words (canonical_text (statements.Select select)) rows old before new left × FindsRows confs words select rows before left
+-- A statement was told by its canonical text, and answered by so many rows.
+abbrev pub Shows : {D F : Type 0} → (D → List IndexConf) → StoreWords D F → Statement → ℕ → State → D → State → D → Type 0
+Shows confs words statement rows = HasRows confs words (canonical_text statement) rows
 
--- SELECTs, one for each number below this one, were told one after the other, and so many rows were replied to all of them together.
-abbrev pub AreCounted : {D F : Type 0} → (D → List IndexConf) → StoreWords D F → (ℕ → Select) → ℕ → ℕ → State → D → State → D → Type 0
-AreCounted confs words select zero sum old before new left = (sum ≡ 0) × (new ≡ old) × (left ≡ before)
-AreCounted {D} confs words select (suc number) sum old before new left =
-    (earlier : ℕ) × (rows : ℕ) × (mid : State) × (between : D) × AreCounted confs words select number earlier old before mid between
-    × Shows confs words (select number) rows mid between new left × (sum ≡ earlier + rows)
+-- Statements, one for each number below this one, were told one after the other, and so many rows were replied to all of them together.
+abbrev pub AreCounted : {D F : Type 0} → (D → List IndexConf) → StoreWords D F → (ℕ → Statement) → ℕ → ℕ → State → D → State → D → Type 0
+AreCounted confs words statement zero sum old before new left = (sum ≡ 0) × (new ≡ old) × (left ≡ before)
+AreCounted {D} confs words statement (suc number) sum old before new left =
+    (earlier : ℕ) × (rows : ℕ) × (mid : State) × (between : D) × AreCounted confs words statement number earlier old before mid between
+    × Shows confs words (statement number) rows mid between new left × (sum ≡ earlier + rows)
 
 -- What was asked led a store from one state to another.
 pub record Leads {D F : Type 0} (confs : D → List IndexConf) (words : StoreWords D F) (old new : D) : Type 0 where

@@ -8,7 +8,7 @@ use Rattle.ql_tree.specs.declared.statement.Statement.{Statement}
 use Rattle.ql_tree.specs.declared.statement.Statement.TheVariants as statements
 use Rattle.self_test.specs.Asking.{◌then◌, AreCounted, AreDone, SeesChunks, Telling}
 use Rattle.self_test.specs.Summaries.{many}
-use Rattle.self_test.specs.Texts.{count_select, insert_statement}
+use Rattle.self_test.specs.Texts.{count_statement, insert_statement}
 use Rattle.self_test.specs.declared.generator.Document.{Document}
 use Rattle.self_test.specs.declared.summary.Count.{Count}
 use Rattle.self_test.specs.declared.summary.Count.TheVariants.{Words, Pairs, Groups}
@@ -55,7 +55,7 @@ loading documents =
 
 -- All that is counted was asked for of a session, and the sum of the rows that it replied is this.
 abbrev pub Counts : {D F : Type 0} → (D → List IndexConf) → StoreWords D F → Count → ℕ → State → D → State → D → Type 0
-Counts confs words count sum = AreCounted confs words (count_select count) (many count) sum
+Counts confs words count sum = AreCounted confs words (count_statement count) (many count) sum
 
 -- One session, which began over a store, was told to write the documents and asked for all that is counted; then the index was read. The
 -- numbers of the summary are those of its replies and of that read.

@@ -4,8 +4,6 @@ pub mod Documents
 pub mod Texts
 -- what a scan of the documents finds
 pub mod Summaries
--- what a SELECT finds through a store
-pub mod Findings
 -- what a session is asked, and what it replies
 pub mod Asking
 -- the conversation of a selftest

@@ -2,5 +2,3 @@
 pub mod Engines
 -- the canonical texts, letter by letter
 pub mod Letters
--- replies that are short
-pub mod Replies

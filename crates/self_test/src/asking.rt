@@ -1,10 +1,9 @@
 //! A client of a session: it sends texts, and looks at what is replied.
-ghost use Rattle.std.specs.Prelude.{◌≡◌, ◌≤◌, ◌++◌, ℕ, List, IfOk, IsTrue, OnOk, length};
-ghost use Rattle.mysql_wire.specs.Packets.{max_payload, packet};
+ghost use Rattle.std.specs.Prelude.{◌≡◌, ◌++◌, ℕ, List, IfOk, IsTrue, OnOk};
+ghost use Rattle.mysql_wire.specs.Packets.{packet};
 ghost use Rattle.mysql_wire.specs.Replies.{ok_packet};
 ghost use Rattle.ql_session.specs.Fitting.{Fits};
-ghost use Rattle.self_test.specs.Asking.{ArePackets, Asks, Leads};
-ghost use Rattle.self_test.specs.steps.Replies.{HasShortRows};
+ghost use Rattle.self_test.specs.Asking.{ArePackets, Asks, HasRows, Leads};
 
 use crate::Unexpected;
 use mysql_wire::{Command, Framer, Next, ok_packet};
@@ -13,8 +12,8 @@ use reply_rows::Replies;
 use srch_base::{NoMemory, Or};
 use std::alloc::Global;
 
-/// The longest reply whose rows are counted, in bytes: as long as the payload of a packet may be.
-const MAX_REPLY: usize = 8_388_608;
+/// The longest reply whose rows are counted, in bytes.
+const MAX_REPLY: usize = 16_777_216;
 
 /// The packets of a result set beside its rows: the number of columns, the one column, and an EOF after each part.
 const PACKETS_BESIDE_ROWS: u32 = 4;
@@ -86,7 +85,7 @@ impl Client {
         text: &str,
     ) -> Result<u32, Or<Unexpected>>
         requires fits { Fits (T.confs tables.old) self.old.session }
-        ensures asks { IfOk result (λ rows. HasShortRows T.confs T.words text.now rows self.old.session tables.old self.new.session tables.new) }
+        ensures asks { IfOk result (λ rows. HasRows T.confs T.words text.now rows self.old.session tables.old self.new.session tables.new) }
         ensures fits { Fits (T.confs tables.new) self.new.session }
         ensures confs { T.confs tables.new ≡ T.confs tables.old }
         ensures leads { Leads T.confs T.words tables.old tables.new }
@@ -102,8 +101,7 @@ impl Client {
 
 /// How many packets a reply has, which are numbered from 1.
 fn count_packets(alloc: Global, reply: &[u8]) -> Result<u32, Or<Unexpected>>
-    ensures packets { IfOk result (λ count. ArePackets count reply.now) }
-    ensures short { OnOk result (length reply.now ≤ max_payload) }
+    ensures { IfOk result (λ count. ArePackets count reply.now) }
 {
     if reply.len() > MAX_REPLY {
         return Err(Or::Fault(Unexpected));

@@ -9,10 +9,9 @@ ghost use Rattle.self_test.specs.Summaries.{summary_of};
 
 use crate::asking::Client;
 use crate::generator::{Document, documents};
-use crate::laws::texts_are_read_as_statements;
 use crate::summary::{Count, Summary, scan};
 use crate::texts::{write_count, write_insert};
-use ql_session::{TableStore, a_text_is_read_in_one_way};
+use ql_session::TableStore;
 use srch_base::Or;
 use std::alloc::Global;
 
@@ -201,8 +200,6 @@ fn count<T: TableStore>(
     ensures confs { T.confs tables.new ≡ T.confs tables.old }
     ensures leads { Leads T.confs T.words tables.old tables.new }
 {
-    a_text_is_read_in_one_way();
-    texts_are_read_as_statements();
     let mut sum = 0;
     'numbers: for number in 0..count.many() {
         write_count(text, count, number)?;
