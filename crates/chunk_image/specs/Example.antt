@@ -7,7 +7,7 @@ use Rattle.doc_types.specs.declared.tokens.Gap.TheVariants as gaps
 use Rattle.doc_types.specs.declared.tokens.TokenWord.{TokenWord}
 
 abbrev pub example_schema : Schema
-example_schema = record { name = codes "one"; fields = codes "title" ∷ []; attrs = []; zones = []; sp = false }
+example_schema = record { name = codes "one"; fields = codes "title" ∷ []; attrs = []; zones = []; sp = false; min_prefix = 0 }
 
 abbrev pub example_words : List (List ℕ)
 example_words = codes "hello" ∷ codes "world" ∷ []

@@ -44,6 +44,7 @@ plain_repeated texts entries keys.CharsetTable value plain = absurd (true≢fals
 plain_repeated texts entries keys.HtmlStrip value plain = absurd (true≢false (sym plain))
 plain_repeated texts entries keys.IndexSp value plain = absurd (true≢false (sym plain))
 plain_repeated texts entries keys.IndexZones value plain = absurd (true≢false (sym plain))
+plain_repeated texts entries keys.MinPrefixLen value plain = absurd (true≢false (sym plain))
 plain_repeated texts entries keys.Path value plain = absurd (true≢false (sym plain))
 plain_repeated texts entries keys.RtField value plain = absurd (true≢false (sym plain))
 plain_repeated texts entries keys.RtAttrUint value plain = absurd (true≢false (sym plain))
@@ -78,6 +79,8 @@ repeats_is texts indexes name entries draft key value (settings.Strip on) are is
     key_has name entries draft key is ∙ ap (λ k. is_some (given k entries)) sets.0 ∙ ap (λ k. is_repeated texts entries k value) (sym sets.0)
 repeats_is texts indexes name entries draft key value (settings.Sp on) are is sets =
     key_has name entries draft key is ∙ ap (λ k. is_some (given k entries)) sets.0 ∙ ap (λ k. is_repeated texts entries k value) (sym sets.0)
+repeats_is texts indexes name entries draft key value (settings.Prefix len) are is sets =
+    key_has name entries draft key is ∙ ap (λ k. is_some (given k entries)) sets.0 ∙ ap (λ k. is_repeated texts entries k value) (sym sets.0)
 repeats_is texts indexes name entries draft key value (settings.Zones zones) are is sets =
     key_has name entries draft key is ∙ ap (λ k. is_some (given k entries)) sets.0 ∙ ap (λ k. is_repeated texts entries k value) (sym sets.0)
 
@@ -88,6 +91,7 @@ plain_within entries keys.RtAttrBool value plain = absurd (true≢false (sym pla
 plain_within entries keys.RtAttrBigint value plain = absurd (true≢false (sym plain))
 plain_within entries keys.RtAttrTimestamp value plain = absurd (true≢false (sym plain))
 plain_within entries keys.IndexZones value plain = absurd (true≢false (sym plain))
+plain_within entries keys.MinPrefixLen value plain = absurd (true≢false (sym plain))
 plain_within entries _ value plain = refl
 
 attr_within : (entries : List Entry) (key : Key) (value : List ℕ) (kind : AttrKind) → attr_kind key ≡ Some kind → passes_limit entries key value ≡ (is_long (small value) || nat_le MAX_ATTRS (length (attrs_in entries)))
@@ -112,6 +116,7 @@ exceeds_is name entries draft key value (settings.Attr column kind) is sets =
 exceeds_is name entries draft key value (settings.Charset charset) is sets = ap (λ k. passes_limit entries k value) (sym sets.0)
 exceeds_is name entries draft key value (settings.Strip on) is sets = ap (λ k. passes_limit entries k value) (sym sets.0)
 exceeds_is name entries draft key value (settings.Sp on) is sets = ap (λ k. passes_limit entries k value) (sym sets.0)
+exceeds_is name entries draft key value (settings.Prefix len) is sets = ap (λ k. passes_limit entries k value) (sym sets.0)
 exceeds_is name entries draft key value (settings.Zones zones) is sets =
     ap (λ (zs : List (List ℕ)). list_any is_long zs || nat_lt MAX_ZONES (length zs)) sets.1 ∙ ap (λ k. passes_limit entries k value) (sym sets.0)
 
@@ -140,6 +145,7 @@ finished name entries draft made is done = record {
   attrs = done.attrs ∙ is.attrs;
   zones = done.zones ∙ is.zones;
   sp = done.sp ∙ is.sp;
+  prefix = done.prefix ∙ is.prefix;
   charset = charset_by (given keys.CharsetTable entries) draft.charset made.charset is.charset done.charset;
   strip = done.strip ∙ is.strip;
   rules_zones = done.rules_zones;

@@ -268,13 +268,13 @@ same_charset : OneTable → (value : Option (List ℕ)) (a b : List Span) → Is
 same_charset one None a b is are c scalar = one default_text (folded a) (folded b) c scalar is are
 same_charset one (Some value) a b is are c scalar = one value (folded a) (folded b) c scalar is are
 
-made_schema : List ℕ → List (List ℕ) → List (List ℕ × AttrKind) → List (List ℕ) → Bool → Schema
-made_schema name fields attrs zones sp = record { name = name; fields = fields; attrs = attrs; zones = zones; sp = sp }
+made_schema : List ℕ → List (List ℕ) → List (List ℕ × AttrKind) → List (List ℕ) → Bool → ℕ → Schema
+made_schema name fields attrs zones sp min_prefix = record { name = name; fields = fields; attrs = attrs; zones = zones; sp = sp; min_prefix = min_prefix }
 
-same_schema : (a b : Schema) → a.name ≡ b.name → a.fields ≡ b.fields → a.attrs ≡ b.attrs → a.zones ≡ b.zones → a.sp ≡ b.sp → a ≡ b
+same_schema : (a b : Schema) → a.name ≡ b.name → a.fields ≡ b.fields → a.attrs ≡ b.attrs → a.zones ≡ b.zones → a.sp ≡ b.sp → a.min_prefix ≡ b.min_prefix → a ≡ b
 unfolding made_schema
-same_schema a b name fields attrs zones sp =
-    let is : made_schema a.name a.fields a.attrs a.zones a.sp ≡ made_schema b.name b.fields b.attrs b.zones b.sp = cc in
+same_schema a b name fields attrs zones sp min_prefix =
+    let is : made_schema a.name a.fields a.attrs a.zones a.sp a.min_prefix ≡ made_schema b.name b.fields b.attrs b.zones b.sp b.min_prefix = cc in
     is
 
 made_rules : Bool → Bool → List (List ℕ) → MarkRules
@@ -294,7 +294,7 @@ same_index one text a b is are =
     let zones : a.schema.zones ≡ b.schema.zones = is.zones ∙ sym are.zones in
     let sp : a.schema.sp ≡ b.schema.sp = is.sp ∙ sym are.sp in
     record {
-      schema = same_schema a.schema b.schema (is.name ∙ sym are.name) (is.fields ∙ sym are.fields) (is.attrs ∙ sym are.attrs) zones sp;
+      schema = same_schema a.schema b.schema (is.name ∙ sym are.name) (is.fields ∙ sym are.fields) (is.attrs ∙ sym are.attrs) zones sp (is.prefix ∙ sym are.prefix);
       rules = same_rules a.rules b.rules (is.strip ∙ sym are.strip) (is.rules_sp ∙ sp ∙ sym are.rules_sp) (is.rules_zones ∙ zones ∙ sym are.rules_zones);
       path = some_same a.path b.path (sym is.path ∙ are.path);
       charset = same_charset one (given keys.CharsetTable text.entries) a.charset b.charset is.charset are.charset;

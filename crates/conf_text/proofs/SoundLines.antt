@@ -1,9 +1,11 @@
 -- The indexes of good lines are sound.
-use Rattle.std.proofs.Common.{◌≡◌, ◌≢◌, ℕ, ◌<◌, ◌≤◌, Bool, true, false, cond, List, [], ◌∷◌, ◌++◌, append-nil, length, length-append, map, refl, sym, ◌∙◌, ap, subst, arith, get_or}
-use Rattle.std.specs.Prelude.{All, Option, Some, None, ◌&&◌, ◌||◌, ◌==◌, not, nat_le, codes, reverse}
+use Rattle.std.proofs.Common.{◌≡◌, ◌≢◌, ℕ, ◌+◌, ◌-◌, ◌*◌, ◌<◌, ◌≤◌, Bool, true, false, cond, List, [], ◌∷◌, ◌++◌, append-nil, length, length-append, map, refl, sym, ◌∙◌, ap, subst, arith, get_or}
+use Rattle.std.specs.Prelude.{All, Option, Some, None, ◌&&◌, ◌||◌, ◌==◌, not, nat_le, if◌then◌else◌, codes, reverse}
+use Rattle.std.specs.Char.{is_ascii_digit}
+use Rattle.std.specs.Int.{is_in_range}
 use Rattle.std.specs.List.{list_all, list_any, filter_map, cons_option}
 use Rattle.std.specs.Str.{bytes_eq}
-use Rattle.std.proofs.lemmas.Bool.{leb-false, ltb-false, or_parts}
+use Rattle.std.proofs.lemmas.Bool.{leb-false, leb-true, ltb-false, or_parts}
 use Rattle.std.proofs.lemmas.List.{map-append, reverse-append, length-map}
 use Rattle.doc_types.specs.declared.schema.AttrKind.{AttrKind}
 use Rattle.index_conf.specs.declared.conf.Conf.{Conf}
@@ -12,7 +14,7 @@ use Rattle.doc_types.specs.Schemas.{AreDistinct, AreZones, IsName, IsSchema, col
 use Rattle.index_conf.specs.declared.conf.IndexConf.{IndexConf}
 use Rattle.index_conf.specs.declared.conf.TheConstants.{MAX_INDEXES}
 use Rattle.conf_text.specs.declared.keys.Key.TheVariants as keys
-use Rattle.conf_text.specs.Confs.{IsIndexOf, shape, shapes_back}
+use Rattle.conf_text.specs.Confs.{IsIndexOf, prefix_len_by, shape, shapes_back}
 use Rattle.index_conf.specs.Soundness.{IsSound}
 use Rattle.conf_text.specs.steps.Drafts.{AreIndexes, entry_with}
 use Rattle.conf_text.specs.Faults.{AreGood, IsGoodAt, has_name, has_path, is_among, is_long, is_text}
@@ -20,6 +22,8 @@ use Rattle.conf_text.specs.Lines.{Line, content}
 use Rattle.conf_text.specs.Sections.{Entry, IndexText, LinePlace, Spot, attrs_in, after_head, entry_of, fields_in, entries_after, entries_in, given, headed, index, indexes_after, indexes_in, inside, other, outside, place_after, place_in, spot_at, spot_in}
 use Rattle.conf_text.specs.Shapes.{Shape, bare_head, before_brace, before_equals, after_equals, after_word, blank, closing, entry, entry_shape, first_word, has_equals, head, head_of, head_shape, index_head, is_name, misformed, named_head, opening, opens_section, other_head, shape_of, small, unknown_head, wants_name, wants_no_name, words_shape}
 use Rattle.conf_text.specs.Keys.{key_named}
+use Rattle.conf_text.specs.Values.{prefix_len_in, prefix_len_of}
+use Rattle.doc_types.specs.declared.tokens.TheConstants.{MAX_WORD_CHARS}
 use Rattle.conf_text.proofs.Pairs.{all_cons, all_head, all_tail, distinct_both}
 use Rattle.conf_text.proofs.Among.{distinct_more}
 use Rattle.conf_text.proofs.Entries.{filter_map_more, list_any_map}
@@ -223,6 +227,25 @@ paths_are [] (i ∷ indexes) are = absurd are
 paths_are (t ∷ texts) [] are = absurd are
 paths_are (t ∷ texts) (i ∷ indexes) are = ap (λ o. cons_option o (paths_in texts)) are.0.path ∙ ap (λ ps. i.path ∷ ps) (paths_are texts indexes are.1)
 
+short_of : (n : ℕ) (b : Bool) → nat_le n MAX_WORD_CHARS ≡ b → elim (if b then Some n else None) [ None ↦ 0 | Some k ↦ k ] ≤ MAX_WORD_CHARS
+short_of n true e = leb-true n MAX_WORD_CHARS e
+short_of n false e = omega arith
+
+short_if : (b : Bool) (o : Option ℕ) → elim o [ None ↦ 0 | Some k ↦ k ] ≤ MAX_WORD_CHARS → elim (if b then o else None) [ None ↦ 0 | Some k ↦ k ] ≤ MAX_WORD_CHARS
+short_if true o short = short
+short_if false o short = omega arith
+
+-- no value makes prefixes longer than words
+short_in : (value : List ℕ) → elim (prefix_len_in value) [ None ↦ 0 | Some k ↦ k ] ≤ MAX_WORD_CHARS
+short_in [] = omega arith
+short_in (b ∷ []) = short_if (is_ascii_digit b) (prefix_len_of (b - 48)) (short_of (b - 48) (nat_le (b - 48) MAX_WORD_CHARS) refl)
+short_in (a ∷ b ∷ []) = short_if (is_in_range 49 57 a && is_ascii_digit b) (prefix_len_of (10 * (a - 48) + (b - 48))) (short_of (10 * (a - 48) + (b - 48)) (nat_le (10 * (a - 48) + (b - 48)) MAX_WORD_CHARS) refl)
+short_in (a ∷ b ∷ c ∷ rest) = omega arith
+
+short_by : (o : Option (List ℕ)) → prefix_len_by o ≤ MAX_WORD_CHARS
+short_by None = omega arith
+short_by (Some value) = short_in value
+
 schema_of : (t : IndexText) (i : IndexConf) → GoodText t → IsIndexOf t i → IsSchema i.schema
 schema_of t i good is =
     let parts : GoodEntries [] t.entries = good.parts in
@@ -236,6 +259,7 @@ schema_of t i good is =
       form = subst (All (λ n. is_column_name n ≡ true)) (sym columns_are) (All-append (λ n. is_column_name n ≡ true) (fields_in t.entries) (attr_names_in t.entries) parts.field_forms parts.attr_forms);
       distinct = subst AreDistinct (sym columns_are) (distinct_both (fields_in t.entries) (attr_names_in t.entries) parts.fields_distinct parts.attrs_distinct parts.apart);
       zones = subst AreZones (sym is.zones) parts.zones_are;
+      prefixes = omega (arith, is.prefix, short_by (given keys.MinPrefixLen t.entries));
     }
 
 schemas_are : (texts : List IndexText) (indexes : List IndexConf) → All GoodText texts → AreIndexes texts indexes → All (λ i. IsSchema i.schema) indexes

@@ -18,7 +18,7 @@ use Rattle.conf_text.specs.Faults.{is_outside, is_on, IsFaultAt, AreGood}
 use Rattle.conf_text.specs.Lines.{Line, lines_of, content}
 use Rattle.conf_text.specs.Sections.{place_in, IndexText, indexes_in, spot_in, given, fields_in, attrs_in}
 use Rattle.conf_text.specs.Shapes.{Shape, shape_of}
-use Rattle.conf_text.specs.Values.{zones_in}
+use Rattle.conf_text.specs.Values.{prefix_len_in, zones_in}
 
 -- a line is UTF-8: each of its parts is
 abbrev pub IsUtf8Line : Line → Type 0
@@ -83,6 +83,11 @@ abbrev pub zones_by : Option (List ℕ) → List (List ℕ)
 zones_by None = []
 zones_by (Some value) = zones_in value
 
+-- the fewest characters of a prefix, by the value of its key
+abbrev pub prefix_len_by : Option (List ℕ) → ℕ
+prefix_len_by None = 0
+prefix_len_by (Some value) = elim (prefix_len_in value) [ None ↦ 0 | Some n ↦ n ]
+
 -- the character table of an index, by the value of its key
 abbrev pub IsCharsetBy : Option (List ℕ) → List Span → Type 0
 IsCharsetBy None charset = IsTableOf default_text (folded charset)
@@ -95,6 +100,7 @@ pub record IsIndexOf (text : IndexText) (conf : IndexConf) : Type 0 where
   pub attrs : conf.schema.attrs ≡ attrs_in text.entries
   pub zones : conf.schema.zones ≡ zones_by (given keys.IndexZones text.entries)
   pub sp : conf.schema.sp ≡ is_on (given keys.IndexSp text.entries)
+  pub prefix : conf.schema.min_prefix ≡ prefix_len_by (given keys.MinPrefixLen text.entries)
   pub charset : IsCharsetBy (given keys.CharsetTable text.entries) conf.charset
   pub strip : conf.rules.strip ≡ is_on (given keys.HtmlStrip text.entries)
   pub rules_zones : conf.rules.zones ≡ conf.schema.zones

@@ -37,6 +37,7 @@ pub struct Draft {
     zones: Vec<Name>,
     strip: bool,
     sp: bool,
+    min_prefix: u8,
 }
 
 /// Whether an index has this name.
@@ -70,6 +71,7 @@ impl Draft {
             zones: Vec::new(alloc),
             strip: false,
             sp: false,
+            min_prefix: 0,
         }
     }
 
@@ -130,6 +132,7 @@ impl Draft {
             Setting::Charset(charset) => self.charset = Some(charset),
             Setting::Strip(on) => self.strip = on,
             Setting::Sp(on) => self.sp = on,
+            Setting::Prefix(len) => self.min_prefix = len,
             Setting::Zones(zones) => self.zones = zones,
         }
         Ok(())
@@ -216,6 +219,7 @@ impl Draft {
             attrs: Items::new(self.attrs),
             zones,
             sp: self.sp,
+            min_prefix: self.min_prefix,
         };
         Ok(IndexConf {
             schema,

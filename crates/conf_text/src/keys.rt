@@ -20,6 +20,7 @@ pub enum Key {
     HtmlStrip,
     IndexSp,
     IndexZones,
+    MinPrefixLen,
     MinWordLen,
     Mlock,
     Morphology,
@@ -45,6 +46,7 @@ macro_rules! keys {
             "html_strip" => Key::HtmlStrip,
             "index_sp" => Key::IndexSp,
             "index_zones" => Key::IndexZones,
+            "min_prefix_len" => Key::MinPrefixLen,
             "min_word_len" => Key::MinWordLen,
             "mlock" => Key::Mlock,
             "morphology" => Key::Morphology,
@@ -62,7 +64,7 @@ macro_rules! keys {
     };
 }
 
-fn key_table() -> NameTable<20>
+fn key_table() -> NameTable<21>
     ensures words { result ≡ key_words }
     ensures order { IsInOrder result }
 {

@@ -1,12 +1,12 @@
 //! The value of a key, and what it sets. A value is good or bad by itself; what the index has already is looked at in
 //! `draft`.
-ghost use Rattle.std.specs.Prelude.{◌≡◌, ◌≢◌, ◌<◌, ◌^◌, [], codes, length, true, false};
+ghost use Rattle.std.specs.Prelude.{◌≡◌, ◌≢◌, ◌<◌, ◌^◌, [], ◌∷◌, codes, length, is_some, Some, true, false};
 ghost use Rattle.std.specs.Str.{IsUtf8, bytes_eq};
 ghost use Rattle.charset_map.specs.TableText.{IsTableOf};
 ghost use Rattle.charset_map.specs.Spans.{folded};
 ghost use Rattle.conf_text.specs.steps.Settings.{ReadsSetting, ReadsValue};
 ghost use Rattle.conf_text.specs.Shapes.{small};
-ghost use Rattle.conf_text.specs.Values.{IsCharsetText, can_be_column, is_switch};
+ghost use Rattle.conf_text.specs.Values.{IsCharsetText, can_be_column, is_switch, prefix_len_in as prefix_len_text, prefix_len_of as number_of_prefix};
 ghost use Rattle.conf_text.specs.declared.setting.Setting.TheVariants.{Plain};
 
 use crate::fault::ConfKind;
@@ -14,7 +14,7 @@ use crate::keys::Key;
 use crate::text::{name_like, small_name};
 use crate::zones::read_zones;
 use charset_map::{Charset, a_text_is_read_in_one_way};
-use doc_types::AttrKind;
+use doc_types::{AttrKind, MAX_WORD_CHARS};
 use srch_base::{Name, NoMemory, Or, Text};
 use std::alloc::Global;
 
@@ -29,6 +29,7 @@ pub enum Setting {
     Charset(Charset),
     Strip(bool),
     Sp(bool),
+    Prefix(u8),
     Zones(Vec<Name>),
 }
 
@@ -53,6 +54,7 @@ pub fn read_setting(alloc: Global, key: Key, value: &[u8]) -> Result<Setting, Or
         Key::CharsetTable => Ok(Setting::Charset(charset(alloc, value)?)),
         Key::HtmlStrip => Ok(Setting::Strip(switch(value)?)),
         Key::IndexSp => Ok(Setting::Sp(switch(value)?)),
+        Key::MinPrefixLen => Ok(Setting::Prefix(prefix_len(value)?)),
         Key::IndexZones => Ok(Setting::Zones(read_zones(alloc, value)?)),
         Key::RtMemLimit
         | Key::Dict
@@ -113,6 +115,60 @@ fn switch(value: &[u8]) -> Result<bool, Or<ConfKind>>
         Ok(on)
     } else {
         Err(BAD_VALUE)
+    }
+}
+
+/// The fewest characters of a prefix, where a number may be that.
+fn prefix_len_of(number: u8) -> Option<u8>
+    ensures { result ≡ number_of_prefix number }
+{
+    if usize::from(number) <= MAX_WORD_CHARS {
+        Some(number)
+    } else {
+        None
+    }
+}
+
+/// The fewest characters of a prefix, where one byte writes it.
+fn by_one_digit(b: u8) -> Option<u8>
+    ensures { result ≡ prefix_len_text (b ∷ []) }
+{
+    if b.is_ascii_digit() {
+        prefix_len_of(b - b'0')
+    } else {
+        None
+    }
+}
+
+/// The fewest characters of a prefix, where two bytes write it.
+fn by_two_digits(a: u8, b: u8) -> Option<u8>
+    ensures { result ≡ prefix_len_text (a ∷ b ∷ []) }
+{
+    if matches!(a, b'1'..=b'9') && b.is_ascii_digit() {
+        prefix_len_of(10 * (a - b'0') + (b - b'0'))
+    } else {
+        None
+    }
+}
+
+/// The fewest characters of a prefix that a text writes: digits without a 0 in front.
+fn prefix_len_in(value: &[u8]) -> Option<u8>
+    ensures { result ≡ prefix_len_text value.now }
+{
+    match value {
+        [b] => by_one_digit(*b),
+        [a, b] => by_two_digits(*a, *b),
+        _ => None,
+    }
+}
+
+/// The fewest characters of a prefix.
+fn prefix_len(value: &[u8]) -> Result<u8, Or<ConfKind>>
+    ensures { ReadsValue (λ len. (is_some (prefix_len_text value.now) ≡ true) × (prefix_len_text value.now ≡ Some len)) (is_some (prefix_len_text value.now) ≡ false) result }
+{
+    match prefix_len_in(value) {
+        Some(len) => Ok(len),
+        None => Err(BAD_VALUE),
     }
 }
 

@@ -4,6 +4,7 @@ use Rattle.std.specs.Int.{is_in_range}
 use Rattle.std.specs.List.{list_all}
 use Rattle.doc_types.specs.declared.schema.TheConstants.{MAX_FIELDS, MAX_ATTRS, MAX_ZONES, MAX_NAME_BYTES}
 use Rattle.doc_types.specs.declared.schema.Schema.{Schema}
+use Rattle.doc_types.specs.declared.tokens.TheConstants.{MAX_WORD_CHARS}
 
 -- an ASCII capital
 abbrev pub is_capital : ℕ → Bool
@@ -41,7 +42,8 @@ pub record AreZones (zones : List (List ℕ)) : Type 0 where
 abbrev pub columns : Schema → List (List ℕ)
 columns schema = schema.fields ++ map (λ attr. attr.0) schema.attrs
 
--- a schema within the limits: its columns have distinct names of their form, and its zones are distinct
+-- a schema within the limits: its columns have distinct names of their form, its zones are distinct, and a word is long enough
+-- for each prefix
 pub record IsSchema (schema : Schema) : Type 0 where
   pub name : IsName schema.name
   pub few_fields : length schema.fields ≤ MAX_FIELDS
@@ -50,3 +52,4 @@ pub record IsSchema (schema : Schema) : Type 0 where
   pub form : All (λ name. IsTrue (is_column_name name)) (columns schema)
   pub distinct : AreDistinct (columns schema)
   pub zones : AreZones schema.zones
+  pub prefixes : schema.min_prefix ≤ MAX_WORD_CHARS

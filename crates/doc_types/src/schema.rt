@@ -28,6 +28,9 @@ pub struct Schema {
     pub zones: Items<Name>,
     /// Ends of sentences and paragraphs are boundaries between words.
     pub sp: bool,
+    /// The fewest characters of a prefix in a query; 0 where queries have none. It counts for queries alone, so nothing that
+    /// an index keeps depends on it.
+    pub min_prefix: u8,
 }
 
 /// The kind of an attribute, as the configuration names it.

@@ -14,4 +14,5 @@ is_schema = record {
   form = All-nil (λ name. IsTrue (is_column_name name));
   distinct = λ i j d l h. absurd (omega (arith, h));
   zones = record { few = omega arith; names = All-nil IsName; distinct = λ i j d l h. absurd (omega (arith, h)) };
+  prefixes = omega arith;
 }

@@ -51,8 +51,8 @@ all_distinct (name ∷ others) e =
     AllPairs-cons (λ name other. name ≢ other) name others (all_differ name others parts.0) (all_distinct others parts.1)
 
 -- a schema whose columns pass, and which has no zones
-is_schema : (schema : Schema) → IsName schema.name → length schema.fields ≤ 32 → length schema.attrs ≤ 32 → list_all is_fine (columns schema) ≡ true → distinct (columns schema) ≡ true → schema.zones ≡ [] → IsSchema schema
-is_schema schema name fields attrs fine apart none = record {
+is_schema : (schema : Schema) → IsName schema.name → length schema.fields ≤ 32 → length schema.attrs ≤ 32 → list_all is_fine (columns schema) ≡ true → distinct (columns schema) ≡ true → schema.zones ≡ [] → schema.min_prefix ≤ 42 → IsSchema schema
+is_schema schema name fields attrs fine apart none short = record {
   name = name;
   few_fields = fields;
   few_attrs = attrs;
@@ -60,17 +60,18 @@ is_schema schema name fields attrs fine apart none = record {
   form = all_by (λ name. IsTrue (is_column_name name)) is_fine (λ name e. (both (leb (length name) 64 && list_all (λ b. not (is_capital b)) name) (is_column_name name) e).1) (columns schema) fine;
   distinct = all_distinct (columns schema) apart;
   zones = subst AreZones (sym none) (record { few = omega arith; names = All-nil IsName; distinct = all_distinct [] refl });
+  prefixes = short;
 }
 
 -- the numbers of the fields and attributes of each schema of the tables
 pub the_shape : HasShape the_schema 3 2
-the_shape = record { limits = is_schema the_schema (is_name the_schema.name refl) (omega arith) (omega arith) refl refl refl; fields_n = refl; attrs_n = refl }
+the_shape = record { limits = is_schema the_schema (is_name the_schema.name refl) (omega arith) (omega arith) refl refl refl (omega arith); fields_n = refl; attrs_n = refl }
 
 pub one_shape : HasShape one_schema 1 0
-one_shape = record { limits = is_schema one_schema (is_name one_schema.name refl) (omega arith) (omega arith) refl refl refl; fields_n = refl; attrs_n = refl }
+one_shape = record { limits = is_schema one_schema (is_name one_schema.name refl) (omega arith) (omega arith) refl refl refl (omega arith); fields_n = refl; attrs_n = refl }
 
 pub wide_shape : HasShape wide_schema 32 0
-wide_shape = record { limits = is_schema wide_schema (is_name wide_schema.name refl) (omega arith) (omega arith) refl refl refl; fields_n = refl; attrs_n = refl }
+wide_shape = record { limits = is_schema wide_schema (is_name wide_schema.name refl) (omega arith) (omega arith) refl refl refl (omega arith); fields_n = refl; attrs_n = refl }
 
 is_equal : (a b : ℕ) → IsTrue (nat_eq a b) → a ≡ b
 is_equal a b e = grind (arith, nat_tests)

@@ -97,5 +97,6 @@ fn copy_of(schema: &Schema) -> Result<Schema, NoMemory>
         attrs: schema.attrs.clone()?,
         zones: schema.zones.clone()?,
         sp: schema.sp,
+        min_prefix: schema.min_prefix,
     })
 }

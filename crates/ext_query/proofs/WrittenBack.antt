@@ -20,7 +20,7 @@ use Rattle.query_grammar.specs.Queries.{keys_of, IsRoot, IsValue}
 use Rattle.query_grammar.specs.DeepValues.{IsDeepRoot, IsDeepValue, IsShallow, GivesChars, ReadsBack}
 use Rattle.query_tree.specs.TreeKeys.{node_keys, query_keys}
 use Rattle.query_write.specs.Written.{node_tokens, query_tokens, tokens_text, written}
-use Rattle.query_write.specs.steps.Signs.{ArePiecesOf}
+use Rattle.query_write.specs.steps.Signs.{ArePiecesOf, alphabet_by}
 use Rattle.query_write.specs.steps.TokenRun.{start, signs_of}
 use Rattle.query_write.specs.steps.Writable.{IsRightLimit, IsWritable}
 use Rattle.query_write.specs.steps.Carried.{every}
@@ -37,6 +37,7 @@ use Rattle.query_grammar.proofs.MarkOrder.{only_one}
 use Rattle.query_read.proofs.AtDepth.{root_within}
 use Rattle.query_read.proofs.OpenQueries.{text_of_root}
 use Rattle.query_write.proofs.RightPieces.{right_pieces}
+use Rattle.query_pieces.specs.Letters.{Alphabet}
 
 -- ---- a tree that a text has can be written
 module _ (schema : Schema) (is : IsSchema schema) (node : Node) where
@@ -48,7 +49,7 @@ module _ (schema : Schema) (is : IsSchema schema) (node : Node) where
     can : IsWritable fold schema 0 node count
     few : count ≤ 255
 
-  writable : (source fold : ℕ → Option ℕ) (text : List ℕ) (read : List Piece) → GivesChars source → IsUtf8 text → ArePieces source text read
+  writable : (source fold : ℕ → Option ℕ) (text : List ℕ) (read : List Piece) → GivesChars source → IsUtf8 text → ArePieces (alphabet_by source schema) text read
       → (depth : ℕ) → IsQuery IsOpenAnd depth node (marks_of (setting_of source schema) text read) → ((m : Mark) → Contains (marks_of (setting_of source schema) text read) m → m.wrong ≡ None)
       → ((key : Key) → Contains (node_keys node) key → (c : ℕ) → Contains (chars key.word) c → fold c ≡ Some c)
       → CanBeWritten fold (marks_count (marks_of (setting_of source schema) text read))
@@ -69,13 +70,13 @@ module _ (schema : Schema) (is : IsSchema schema) (node : Node) where
     right : (m : Mark) → Contains (marks_of (setting_of fold schema) text pieces) m → m.wrong ≡ None
     keywords : marks_count (marks_of (setting_of fold schema) text pieces) ≡ count
 
-  read_again : (fold : ℕ → Option ℕ) (count : ℕ) (pieces : List Piece) → HasNone fold → CanBeWritten fold count → ArePieces fold (tokens_text schema (node_tokens schema.fields node)) pieces → ReadAgain fold (tokens_text schema (node_tokens schema.fields node)) pieces count
+  read_again : (fold : ℕ → Option ℕ) (count : ℕ) (pieces : List Piece) → HasNone fold → CanBeWritten fold count → ArePieces (alphabet_by fold schema) (tokens_text schema (node_tokens schema.fields node)) pieces → ReadAgain fold (tokens_text schema (node_tokens schema.fields node)) pieces count
   read_again fold count pieces none w are =
       let tokens = node_tokens schema.fields node in
       let text = tokens_text schema tokens in
       let stand : TokensStand fold schema tokens = tree_tokens 0 node count is w.can in
       let found = text_pieces fold schema tokens none stand.spaced stand.begins stand.ends stand.read in
-      let same : found.0 ≡ pieces = pieces_same fold text found.0 pieces found.1 are in
+      let same : found.0 ≡ pieces = pieces_same (alphabet_by fold schema) text found.0 pieces found.1 are in
       let tree : ReadsTree schema node count = tree_query node count w.can w.few in
       let marks = marks_of (setting_of fold schema) text pieces in
       let both = marks_are fold schema text tokens pieces is (subst (ArePiecesOf fold schema text tokens) same found.2) tree.right in
@@ -89,9 +90,9 @@ module _ (schema : Schema) (is : IsSchema schema) (node : Node) where
 
 -- ---- queries
 -- the empty text has no piece
-no_pieces : (fold : ℕ → Option ℕ) (pieces : List Piece) → ArePieces fold [] pieces → pieces ≡ []
-no_pieces fold [] are = refl
-no_pieces fold (p ∷ pieces) are = absurd (omega (arith, are.0))
+no_pieces : (alphabet : Alphabet) (pieces : List Piece) → ArePieces alphabet [] pieces → pieces ≡ []
+no_pieces alphabet [] are = refl
+no_pieces alphabet (p ∷ pieces) are = absurd (omega (arith, are.0))
 
 -- the end of a text alone
 end_right : (m : Mark) → Contains (mark_at 0 None signs.End ∷ []) m → m.wrong ≡ None
@@ -101,7 +102,7 @@ end_count : (marks : List Mark) → Is signs.End marks → marks_count marks ≡
 end_count marks (m, e, sign) = ap marks_count e ∙ ap (λ s. length (keys_of s ++ [])) sign
 
 module _ (schema : Schema) (is : IsSchema schema) (query : Query) (source fold : ℕ → Option ℕ) (text : List ℕ) (read pieces : List Piece) where
-  pub read_back : GivesChars source → IsUtf8 text → ArePieces source text read → IsDeepValue query (marks_of (setting_of source schema) text read) → ReadsBack fold query → ArePieces fold (written schema query) pieces
+  pub read_back : GivesChars source → IsUtf8 text → ArePieces (alphabet_by source schema) text read → IsDeepValue query (marks_of (setting_of source schema) text read) → ReadsBack fold query → ArePieces (alphabet_by fold schema) (written schema query) pieces
       → IsDeepValue query (marks_of (setting_of fold schema) (written schema query) pieces)
   read_back gives utf8 are value back again = by query.root refl
     where
@@ -115,7 +116,7 @@ module _ (schema : Schema) (is : IsSchema schema) (query : Query) (source fold :
       by None e =
           let empty : query_tokens schema.fields query ≡ [] = ap (λ r. elim r [ None ↦ [] | Some node ↦ node_tokens schema.fields node ]) e in
           let text_is : written schema query ≡ [] = ap (tokens_text schema) empty in
-          let nothing : pieces ≡ [] = no_pieces fold pieces (subst (λ t. ArePieces fold t pieces) text_is again) in
+          let nothing : pieces ≡ [] = no_pieces (alphabet_by fold schema) pieces (subst (λ t. ArePieces (alphabet_by fold schema) t pieces) text_is again) in
           let marks_is : marks_of (setting_of fold schema) (written schema query) pieces ≡ mark_at 0 None signs.End ∷ [] = ap (λ t. marks_of (setting_of fold schema) t pieces) text_is ∙ ap (marks_of (setting_of fold schema) []) nothing in
           subst (IsDeepValue query) (sym marks_is) (record {
             root = subst (λ r. IsDeepRoot r (mark_at 0 None signs.End ∷ [])) (sym e) (mark_at 0 None signs.End, refl, refl);
@@ -128,7 +129,7 @@ module _ (schema : Schema) (is : IsSchema schema) (query : Query) (source fold :
           let root : IsDeepRoot (Some node) old = subst (λ r. IsDeepRoot r old) e value.root in
           let keys_are : query_keys query ≡ node_keys node = ap (λ r. elim r [ None ↦ [] | Some n ↦ node_keys n ]) e in
           let w = writable schema is node source fold text read gives utf8 are root.0 root.1 value.right (λ key has. back.keeps key (subst (λ l. Contains l key) (sym keys_are) has)) in
-          let r = read_again schema is node fold (marks_count old) pieces none w (subst (λ t. ArePieces fold t pieces) text_is again) in
+          let r = read_again schema is node fold (marks_count old) pieces none w (subst (λ t. ArePieces (alphabet_by fold schema) t pieces) text_is again) in
           subst (λ t. IsDeepValue query (marks_of (setting_of fold schema) t pieces)) (sym text_is) (record {
             root = subst (λ x. IsDeepRoot x (marks_of (setting_of fold schema) (tokens_text schema (node_tokens schema.fields node)) pieces)) (sym e) (r.depth, r.query);
             right = r.right;

@@ -37,7 +37,7 @@ first_tells (r ∷ rs) row fields attrs is first f a =
 
 -- a schema without columns, which no row is all of
 abbrev bare : Schema
-bare = record { name = []; fields = []; attrs = []; zones = []; sp = false }
+bare = record { name = []; fields = []; attrs = []; zones = []; sp = false; min_prefix = 0 }
 
 pub none_tells : (rows : List DocRow) → slice_get rows 0 ≡ None → (schema : Schema) × IsWritten schema rows 0 0
 none_tells [] none = (
@@ -51,6 +51,7 @@ none_tells [] none = (
       form = λ k d low. absurd (omega (arith, low));
       distinct = λ i j d before low. absurd (omega (arith, low));
       zones = record { few = omega arith; names = λ k d low. absurd (omega (arith, low)); distinct = λ i j d before low. absurd (omega (arith, low)) };
+      prefixes = omega arith;
     };
     of = record { ids = λ i j d before low. absurd (omega (arith, low)); docs = λ k d low. absurd (omega (arith, low)) };
     fields_n = refl;

@@ -12,7 +12,7 @@ use Rattle.query_pieces.specs.Pieces.{ArePieces}
 use Rattle.query_marks.specs.declared.fault.Wrong.{Wrong}
 use Rattle.query_marks.specs.declared.mark.Mark.{Mark}
 use Rattle.query_marks.specs.declared.mark.Sign.TheVariants as signs
-use Rattle.query_marks.specs.Marks.{Setting, mark_at, marks_of}
+use Rattle.query_marks.specs.Marks.{Setting, alphabet_in, mark_at, marks_of}
 use Rattle.query_marks.specs.Enough.{is_not, has_not, has_wrong, depth_after, IsCutShort, AreEnough}
 use Rattle.query_grammar.specs.Grammar.{IsGroup, IsQuery}
 use Rattle.query_grammar.specs.QueryFaults.{order, Any, Told, Stops, IsRead, FirstItem, IsCandidate, by_stop, by_itself, by_and, by_span, IsUpTo, IsFirstFault}
@@ -228,7 +228,7 @@ first_of_enough size all given told all_orderly given_orderly (inr cut) fault =
     (same_first cut.read cut.rest (mark_at size None signs.End) told (subst AreOrderly cut.given_is given_orderly) (subst AreOrderly cut.is all_orderly) cut.decided (subst (λ l. IsFirstFault l told) cut.given_is fault))
 
 -- the first fault of the marks that are given is that of all
-pub first_of_all : (setting : Setting) (text : List ℕ) (pieces : List Piece) (given : List Mark) (told : Told) → IsUtf8 text → ArePieces setting.fold text pieces → AreEnough (length text) (marks_of setting text pieces) given → IsFirstFault given told → IsFirstFault (marks_of setting text pieces) told
+pub first_of_all : (setting : Setting) (text : List ℕ) (pieces : List Piece) (given : List Mark) (told : Told) → IsUtf8 text → ArePieces (alphabet_in setting) text pieces → AreEnough (length text) (marks_of setting text pieces) given → IsFirstFault given told → IsFirstFault (marks_of setting text pieces) told
 first_of_all setting text pieces given told utf8 are enough fault =
     first_of_enough (length text) (marks_of setting text pieces) given told (orderly setting text pieces utf8 are) (orderly_given setting text pieces given utf8 are enough) enough fault
 

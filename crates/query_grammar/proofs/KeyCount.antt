@@ -24,7 +24,7 @@ use Rattle.query_tree.specs.declared.key.How.TheVariants as hows
 use Rattle.query_marks.specs.declared.mark.Mark.{Mark}
 use Rattle.query_marks.specs.declared.mark.Sign.{Sign}
 use Rattle.query_marks.specs.declared.mark.Sign.TheVariants as signs
-use Rattle.query_marks.specs.Marks.{Setting, nameless, keys_after, nobody, nobodies, keys_of as keys_from, passes_limit, counted, word_sign, quoted_sign, zone_sign, sign_of, wrong_of, wrong_count, wrong_quoted, mark_at, after, before_marks, marks_from, marks_of, at_start, slice_words}
+use Rattle.query_marks.specs.Marks.{Setting, alphabet_in, nameless, keys_after, nobody, nobodies, keys_of as keys_from, passes_limit, counted, as_prefix, word_sign, quoted_sign, zone_sign, sign_of, wrong_of, wrong_count, wrong_word, wrong_quoted, mark_at, after, before_marks, marks_from, marks_of, at_start, slice_words}
 use Rattle.query_grammar.specs.Queries.{keys_of}
 use Rattle.query_grammar.proofs.MarkPlaces.{first_contained, contained_later}
 use Rattle.query_grammar.proofs.OneWord.{one_word}
@@ -144,25 +144,33 @@ adds_keys n limit start end words few =
     })
 
 -- a word
-word_keys : (keys : List Key) → length keys ≡ 1 → keys_in (word_sign keys) ≡ keys
-word_keys [] one = absurd (omega (arith, one))
-word_keys (key ∷ []) one = refl
-word_keys (key ∷ other ∷ keys) one = absurd (omega (arith, one))
+right_word : (n : ℕ) (short : Bool) → wrong_word n short ≡ None → wrong_count n 1 ≡ None
+right_word n short = by (passes_limit n 1)
+  where
+    by : (b : Bool) → (if b then nameless kinds.TooManyKeywords else (if short then nameless kinds.PrefixTooShort else None)) ≡ None → (if b then nameless kinds.TooManyKeywords else None) ≡ None
+    by true e = e
+    by false e = refl
 
-word_counts : (n : ℕ) (limit : Limit) (start end : Bool) (words : List (List ℕ)) → length words ≡ 1 → Counts n (counted n 1) (wrong_count n 1) (word_sign (keys_from n limit start end words))
-word_counts n limit start end words one = record { adds = λ below. by below (keys_from n limit start end words) refl }
+-- a keyword counts alike as a prefix
+adds_prefix : (n k : ℕ) (prefix : Bool) (key : Key) → Adds n k (key ∷ []) → Adds n k (as_prefix prefix key ∷ [])
+adds_prefix n k prefix key adds = record { few = adds.few; count = adds.count; numbered = adds.numbered }
+
+word_counts : (n : ℕ) (limit : Limit) (start end prefix short : Bool) (words : List (List ℕ)) → length words ≡ 1 → Counts n (counted n 1) (wrong_word n short) (word_sign prefix (keys_from n limit start end words))
+word_counts n limit start end prefix short words one = record { adds = λ below. by below (keys_from n limit start end words) refl }
   where
     same : n ≤ 255 → wrong_count n 1 ≡ None → Adds n (counted n 1) (keys_from n limit start end words)
     same below right =
         let few : n + 1 ≤ 255 = within_limit n 1 below (right_count n 1 right) in
         subst (λ k. Adds n (counted n k) (keys_from n limit start end words)) one (adds_keys n limit start end words (omega (arith, few, one)))
 
-    by : n ≤ 255 → (keys : List Key) → keys_from n limit start end words ≡ keys → IsRight (wrong_count n 1) (word_sign keys) → Adds n (counted n 1) (keys_in (word_sign keys))
+    by : n ≤ 255 → (keys : List Key) → keys_from n limit start end words ≡ keys → IsRight (wrong_word n short) (word_sign prefix keys) → Adds n (counted n 1) (keys_in (word_sign prefix keys))
     by below [] e right = absurd (keys_some n limit start end words (λ f. absurd (omega (arith, one, ap length f))) e)
-    by below (key ∷ keys) e right =
-        let adds : Adds n (counted n 1) (key ∷ keys) = subst (Adds n (counted n 1)) e (same below right) in
-        let few : n + 1 ≤ 255 = within_limit n 1 below (right_count n 1 right) in
-        subst (Adds n (counted n 1)) (sym (word_keys (key ∷ keys) (omega (arith, adds.count, counted_is n 1 few)))) adds
+    by below (key ∷ []) e right = adds_prefix n (counted n 1) prefix key (subst (Adds n (counted n 1)) e (same below (right_word n short right)))
+    by below (key ∷ other ∷ keys) e right =
+        let right_one : wrong_count n 1 ≡ None = right_word n short right in
+        let adds : Adds n (counted n 1) (key ∷ other ∷ keys) = subst (Adds n (counted n 1)) e (same below right_one) in
+        let few : n + 1 ≤ 255 = within_limit n 1 below (right_count n 1 right_one) in
+        absurd (omega (arith, adds.count, counted_is n 1 few))
 
 -- a quoted piece
 quoted_keys : (keys : List Key) (how : How) → keys_in (quoted_sign keys how) ≡ keys
@@ -195,7 +203,7 @@ quoted_counts n limit out words how = record {
         within_limit n (length (word ∷ words)) below (right_count n (length (word ∷ words)) (right_quoted n out (length (word ∷ words)) (quoted_right (wrong_quoted n out (length (word ∷ words))) (keys_from n limit false false (word ∷ words)) how (keys_some n limit false false (word ∷ words) (λ e. cc)) right)))
 
 form_counts : (setting : Setting) (state : _) (text : List ℕ) (form : Form) → ((w : Spelling) → form ≡ forms.Word w → length (slice_words setting text w.letters) ≡ 1) → Counts state.keywords (after setting state text form).keywords (wrong_of setting state text form) (sign_of setting state text form)
-form_counts setting state text (forms.Word w) one = word_counts state.keywords _ w.start w.end (slice_words setting text w.letters) (one w refl)
+form_counts setting state text (forms.Word w) one = word_counts state.keywords _ w.start w.end w.prefix _ (slice_words setting text w.letters) (one w refl)
 form_counts setting state text (forms.Quoted q) one = quoted_counts state.keywords _ _ (slice_words setting text q.inside) _
 form_counts setting state text forms.Unclosed one = no_keys state.keywords _ _ refl
 form_counts setting state text forms.Open one = no_keys state.keywords _ _ refl
@@ -247,23 +255,23 @@ adds_more n k keys more adds rest = record {
   numbered = numbered_append n k keys more adds.count adds.numbered rest.numbered;
 }
 
-holds_from : (setting : Setting) (text : List ℕ) (state : _) (inside : Bool) (place : ℕ) (pieces : List Piece) → IsUtf8 text → IsCharBoundary text place → Splits setting.fold text inside place pieces (length text) → AreRight (marks_from setting text state place pieces) → state.keywords ≤ 255 → Holds state.keywords (keys_on (marks_from setting text state place pieces))
+holds_from : (setting : Setting) (text : List ℕ) (state : _) (inside : Bool) (place : ℕ) (pieces : List Piece) → IsUtf8 text → IsCharBoundary text place → Splits (alphabet_in setting) text inside place pieces (length text) → AreRight (marks_from setting text state place pieces) → state.keywords ≤ 255 → Holds state.keywords (keys_on (marks_from setting text state place pieces))
 holds_from setting text state inside place [] utf8 seam splits right below = record { few = omega (arith, below); numbered = refl }
 holds_from setting text state inside place (p ∷ pieces) utf8 seam splits right below =
-    let follows : Follows text place p.to = piece_follows setting.fold text inside place p utf8 seam splits.0 splits.1 in
+    let follows : Follows text place p.to = piece_follows (alphabet_in setting) text inside place p utf8 seam splits.0 splits.1 in
     let next = after setting state text p.form in
     let marks = marks_from setting text next p.to pieces in
     let both = before_right place (wrong_of setting state text p.form) (sign_of setting state text p.form) marks right in
     let adds : Adds state.keywords next.keywords (keys_in (sign_of setting state text p.form)) =
-    (form_counts setting state text p.form (λ w is. ap length (one_word setting.fold text inside place p w utf8 seam splits.0 splits.1 is).1)).adds below both.0 in
+    (form_counts setting state text p.form (λ w is. ap length (one_word (alphabet_in setting) text inside place p w utf8 seam splits.0 splits.1 is).1)).adds below both.0 in
     let rest = holds_from setting text next (ends_in_letter p.form) p.to pieces utf8 follows.seam splits.2 both.1 adds.few in
     subst (Holds state.keywords) (sym (before_keys place (wrong_of setting state text p.form) (sign_of setting state text p.form) marks)) (adds_more state.keywords next.keywords (keys_in (sign_of setting state text p.form)) (keys_on marks) adds rest)
 
-holds : (setting : Setting) (text : List ℕ) (pieces : List Piece) → IsUtf8 text → ArePieces setting.fold text pieces → AreRight (marks_of setting text pieces) → Holds 0 (keys_on (marks_of setting text pieces))
+holds : (setting : Setting) (text : List ℕ) (pieces : List Piece) → IsUtf8 text → ArePieces (alphabet_in setting) text pieces → AreRight (marks_of setting text pieces) → Holds 0 (keys_on (marks_of setting text pieces))
 holds setting text pieces utf8 are right = holds_from setting text (at_start setting) false 0 pieces utf8 (IsCharBoundary-start text utf8) are right (omega arith)
 
-pub few_keywords : (setting : Setting) (text : List ℕ) (pieces : List Piece) → IsUtf8 text → ArePieces setting.fold text pieces → ((m : Mark) → Contains (marks_of setting text pieces) m → m.wrong ≡ None) → length (flat_map (λ m. keys_of m.sign) (marks_of setting text pieces)) ≤ 255
+pub few_keywords : (setting : Setting) (text : List ℕ) (pieces : List Piece) → IsUtf8 text → ArePieces (alphabet_in setting) text pieces → ((m : Mark) → Contains (marks_of setting text pieces) m → m.wrong ≡ None) → length (flat_map (λ m. keys_of m.sign) (marks_of setting text pieces)) ≤ 255
 few_keywords setting text pieces utf8 are right = omega (arith, (holds setting text pieces utf8 are right).few)
 
-pub numbered_keywords : (setting : Setting) (text : List ℕ) (pieces : List Piece) → IsUtf8 text → ArePieces setting.fold text pieces → ((m : Mark) → Contains (marks_of setting text pieces) m → m.wrong ≡ None) → map (λ key. key.query) (flat_map (λ m. keys_of m.sign) (marks_of setting text pieces)) ≡ range_with_len 1 (length (flat_map (λ m. keys_of m.sign) (marks_of setting text pieces)))
+pub numbered_keywords : (setting : Setting) (text : List ℕ) (pieces : List Piece) → IsUtf8 text → ArePieces (alphabet_in setting) text pieces → ((m : Mark) → Contains (marks_of setting text pieces) m → m.wrong ≡ None) → map (λ key. key.query) (flat_map (λ m. keys_of m.sign) (marks_of setting text pieces)) ≡ range_with_len 1 (length (flat_map (λ m. keys_of m.sign) (marks_of setting text pieces)))
 numbered_keywords setting text pieces utf8 are right = (holds setting text pieces utf8 are right).numbered

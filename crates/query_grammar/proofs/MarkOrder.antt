@@ -19,7 +19,7 @@ use Rattle.query_tree.specs.declared.key.How.TheVariants as hows
 use Rattle.query_marks.specs.declared.mark.Mark.{Mark}
 use Rattle.query_marks.specs.declared.mark.Sign.{Sign}
 use Rattle.query_marks.specs.declared.mark.Sign.TheVariants as signs
-use Rattle.query_marks.specs.Marks.{Setting, mark_at, sign_of, wrong_of, after, marks_from, marks_of, at_start, before_marks, word_sign, phrase_sign, loose_sign, quoted_sign, zone_sign}
+use Rattle.query_marks.specs.Marks.{Setting, alphabet_in, mark_at, sign_of, wrong_of, after, marks_from, marks_of, at_start, before_marks, as_prefix, word_sign, phrase_sign, loose_sign, quoted_sign, zone_sign}
 use Rattle.query_marks.specs.Enough.{IsCutShort, AreEnough}
 use Rattle.query_grammar.specs.declared.class.Class.TheVariants as classes
 use Rattle.query_grammar.specs.steps.Classes.{class_of, same_class, fits, is_ended}
@@ -48,9 +48,9 @@ nothing wrong = record { is = tt }
 inner : (wrong : Option Wrong) (sign : Sign) → same_class classes.End (class_of sign) ≡ false → (sign ≡ signs.Not → wrong ≡ None) → IsInnerSign wrong (Some sign)
 inner wrong sign e clean = record { is = (e, clean) }
 
-word_inner : (wrong : Option Wrong) (keys : List Key) → IsInnerSign wrong (word_sign keys)
-word_inner wrong [] = nothing wrong
-word_inner wrong (key ∷ keys) = inner wrong (signs.Bare key) refl (λ e. cc)
+word_inner : (wrong : Option Wrong) (prefix : Bool) (keys : List Key) → IsInnerSign wrong (word_sign prefix keys)
+word_inner wrong prefix [] = nothing wrong
+word_inner wrong prefix (key ∷ keys) = inner wrong (signs.Bare (as_prefix prefix key)) refl (λ e. cc)
 
 phrase_inner : (wrong : Option Wrong) (keys : List Key) → IsInnerSign wrong (phrase_sign keys)
 phrase_inner wrong [] = nothing wrong
@@ -72,7 +72,7 @@ span_inner wrong true zones = inner wrong (signs.Spans zones) refl (λ e. cc)
 span_inner wrong false zones = inner wrong signs.Limits refl (λ e. cc)
 
 form_inner : (setting : Setting) (state : _) (text : List ℕ) (form : Form) → IsInnerSign (wrong_of setting state text form) (sign_of setting state text form)
-form_inner setting state text (forms.Word w) = word_inner _ _
+form_inner setting state text (forms.Word w) = word_inner _ _ _
 form_inner setting state text (forms.Quoted q) = quoted_inner _ _ _
 form_inner setting state text forms.Unclosed = inner _ signs.Unclosed refl (λ e. cc)
 form_inner setting state text forms.Open = inner _ signs.Open refl (λ e. cc)
@@ -148,18 +148,18 @@ piece_before : (size place next : ℕ) (wrong : Option Wrong) (o : Option Sign) 
 piece_before size place next wrong None marks within ahead inner rest = none_before size place next marks (omega (arith, ahead)) rest
 piece_before size place next wrong (Some sign) marks within ahead inner rest = mark_before size place next (mark_at place wrong sign) marks within ahead (record { at = refl; inner = inner.is.0; clean = inner.is.1 }) rest
 
-in_places : (setting : Setting) (text : List ℕ) (state : _) (inside : Bool) (place : ℕ) (pieces : List Piece) → IsUtf8 text → IsCharBoundary text place → Splits setting.fold text inside place pieces (length text) → InPlaces (length text) place (marks_from setting text state place pieces)
+in_places : (setting : Setting) (text : List ℕ) (state : _) (inside : Bool) (place : ℕ) (pieces : List Piece) → IsUtf8 text → IsCharBoundary text place → Splits (alphabet_in setting) text inside place pieces (length text) → InPlaces (length text) place (marks_from setting text state place pieces)
 in_places setting text state inside place [] utf8 seam splits = subst (λ (n : ℕ). InPlaces (length text) n (mark_at (length text) None signs.End ∷ [])) (sym splits) (the_end (length text))
 in_places setting text state inside place (p ∷ pieces) utf8 seam splits =
-    let follows : Follows text place p.to = piece_follows setting.fold text inside place p utf8 seam splits.0 splits.1 in
+    let follows : Follows text place p.to = piece_follows (alphabet_in setting) text inside place p utf8 seam splits.0 splits.1 in
     piece_before (length text) place p.to (wrong_of setting state text p.form) (sign_of setting state text p.form) (marks_from setting text (after setting state text p.form) p.to pieces) splits.0 follows.after (form_inner setting state text p.form)
     (in_places setting text (after setting state text p.form) (ends_in_letter p.form) p.to pieces utf8 follows.seam splits.2)
 
-in_text : (setting : Setting) (text : List ℕ) (pieces : List Piece) → IsUtf8 text → ArePieces setting.fold text pieces → InPlaces (length text) 0 (marks_of setting text pieces)
+in_text : (setting : Setting) (text : List ℕ) (pieces : List Piece) → IsUtf8 text → ArePieces (alphabet_in setting) text pieces → InPlaces (length text) 0 (marks_of setting text pieces)
 in_text setting text pieces utf8 are = in_places setting text (at_start setting) false 0 pieces utf8 (IsCharBoundary-start text utf8) are
 
 -- the marks of a text are in order
-pub orderly : (setting : Setting) (text : List ℕ) (pieces : List Piece) → IsUtf8 text → ArePieces setting.fold text pieces → AreOrderly (marks_of setting text pieces)
+pub orderly : (setting : Setting) (text : List ℕ) (pieces : List Piece) → IsUtf8 text → ArePieces (alphabet_in setting) text pieces → AreOrderly (marks_of setting text pieces)
 orderly setting text pieces utf8 are = (in_text setting text pieces utf8 are).orderly
 
 -- ---- the marks that are given
@@ -220,7 +220,7 @@ orderly_cut size place all given places cut =
     subst AreOrderly (sym cut.given_is) made
 
 -- and so are those that are given
-pub orderly_given : (setting : Setting) (text : List ℕ) (pieces : List Piece) (given : List Mark) → IsUtf8 text → ArePieces setting.fold text pieces → AreEnough (length text) (marks_of setting text pieces) given → AreOrderly given
+pub orderly_given : (setting : Setting) (text : List ℕ) (pieces : List Piece) (given : List Mark) → IsUtf8 text → ArePieces (alphabet_in setting) text pieces → AreEnough (length text) (marks_of setting text pieces) given → AreOrderly given
 orderly_given setting text pieces given utf8 are enough =
     let places : InPlaces (length text) 0 (marks_of setting text pieces) = in_text setting text pieces utf8 are in
     elim enough [

@@ -7,7 +7,7 @@ use Rattle.query_pieces.specs.Pieces.{ArePieces}
 use Rattle.query_marks.specs.declared.fault.QueryKind.{QueryKind}
 use Rattle.query_marks.specs.declared.mark.Mark.{Mark}
 use Rattle.query_marks.specs.declared.mark.Sign.TheVariants as signs
-use Rattle.query_marks.specs.Marks.{Setting, marks_of}
+use Rattle.query_marks.specs.Marks.{Setting, alphabet_in, marks_of}
 use Rattle.query_grammar.specs.declared.fault.QueryFault.{QueryFault}
 use Rattle.query_tree.specs.declared.query.Node.{Node}
 use Rattle.query_tree.specs.declared.query.Query.{Query}
@@ -65,7 +65,7 @@ value_no_fault setting text pieces query fault value refused = by query.root val
     by None end = refused.1 end
     by (Some node) is = is.1 (told_of fault) refused.0.is
 
-pub one_refusal : (setting : Setting) (text : List ℕ) (pieces : List Piece) (a b : QueryFault) → IsUtf8 text → ArePieces setting.fold text pieces → IsRefused a (marks_of setting text pieces) → IsRefused b (marks_of setting text pieces) → a ≡ b
+pub one_refusal : (setting : Setting) (text : List ℕ) (pieces : List Piece) (a b : QueryFault) → IsUtf8 text → ArePieces (alphabet_in setting) text pieces → IsRefused a (marks_of setting text pieces) → IsRefused b (marks_of setting text pieces) → a ≡ b
 one_refusal setting text pieces a b utf8 are x y =
     let told : told_of a ≡ told_of b = one_fault (orderly setting text pieces utf8 are) x.0 y.0 in
     whole (ap (λ (t : Told). t.place) told) (ap (λ (t : Told). t.kind) told) (ap (λ (t : Told). t.name) told)

@@ -105,7 +105,7 @@ one_name {marks} {a} {b} orderly places is_a is_b = by (which orderly a is_a) (w
 
 -- Kinds by their order.
 abbrev kind_values : List QueryKind
-kind_values = kinds.UnclosedQuote ∷ kinds.Syntax ∷ kinds.OnlyNot ∷ kinds.UnknownField ∷ kinds.UnknownZone ∷ kinds.NameTooLong ∷ kinds.NumberOutOfRange ∷ kinds.Nesting ∷ kinds.TooManyKeywords ∷ kinds.ZoneSpanBeforeOperator ∷ []
+kind_values = kinds.UnclosedQuote ∷ kinds.Syntax ∷ kinds.OnlyNot ∷ kinds.UnknownField ∷ kinds.UnknownZone ∷ kinds.NameTooLong ∷ kinds.NumberOutOfRange ∷ kinds.Nesting ∷ kinds.TooManyKeywords ∷ kinds.ZoneSpanBeforeOperator ∷ kinds.PrefixTooShort ∷ []
 
 kind_numbered : (kind : QueryKind) → slice_get kind_values (order kind) ≡ Some kind
 kind_numbered kinds.UnclosedQuote = refl
@@ -118,6 +118,7 @@ kind_numbered kinds.NumberOutOfRange = refl
 kind_numbered kinds.Nesting = refl
 kind_numbered kinds.TooManyKeywords = refl
 kind_numbered kinds.ZoneSpanBeforeOperator = refl
+kind_numbered kinds.PrefixTooShort = refl
 
 pub one_kind : (j k : QueryKind) → order j ≡ order k → j ≡ k
 one_kind j k e =

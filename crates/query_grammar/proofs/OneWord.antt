@@ -13,7 +13,7 @@ use Rattle.query_pieces.specs.declared.piece.Form.TheVariants as forms
 use Rattle.query_pieces.specs.declared.piece.Piece.{Piece}
 use Rattle.query_pieces.specs.declared.piece.Spelling.{Spelling}
 use Rattle.query_pieces.specs.QueryBytes.{byte}
-use Rattle.query_pieces.specs.Letters.{Letter, first_of, char_at}
+use Rattle.query_pieces.specs.Letters.{Alphabet, Letter, first_of, char_at}
 use Rattle.query_pieces.specs.Pieces.{AreLetters, Stands}
 use Rattle.query_pieces.specs.steps.Ends.{Follows}
 use Rattle.query_pieces.proofs.ByteRuns.{byte_within}
@@ -75,7 +75,10 @@ small_anchor n = by (n == 94) (n == 36) refl refl
     by false true e f g = omega (arith, eqb-true n 36 f)
     by false false e f g = cc
 
-module _ (fold : ℕ → Option ℕ) (text : List ℕ) (utf8 : IsUtf8 text) where
+module _ (alphabet : Alphabet) (text : List ℕ) (utf8 : IsUtf8 text) where
+  abbrev fold : ℕ → Option ℕ
+  fold = alphabet.fold
+
   -- the first letter of a slice, and then the others
   record LetterFrom (from to : ℕ) (letter : Letter) : Type 0 where
     v : ℕ
@@ -126,14 +129,14 @@ module _ (fold : ℕ → Option ℕ) (text : List ℕ) (utf8 : IsUtf8 text) wher
       nothing : to - from ≡ 0
       nothing = omega (arith, e)
 
-  all_letters : (inside : Bool) (from : ℕ) (letters : List ℕ) (to : ℕ) → IsCharBoundary text from → AreLetters fold text inside from letters to → AllLetters from to letters
+  all_letters : (inside : Bool) (from : ℕ) (letters : List ℕ) (to : ℕ) → IsCharBoundary text from → AreLetters alphabet text inside from letters to → AllLetters from to letters
   all_letters inside from [] to seam are = record { folded = []; size = refl; are = ap (letters_in fold) (ap chars (none_left from to are) ∙ chars-nil) }
   all_letters inside from (c ∷ cs) to seam are =
-      let follows : Follows text from are.0.to = letter_follows fold text inside from are.0 utf8 seam are.1 in
-      let ahead = letters_ahead fold text true are.0.to cs to utf8 follows.seam are.3 in
+      let follows : Follows text from are.0.to = letter_follows alphabet text inside from are.0 utf8 seam are.1 in
+      let ahead = letters_ahead alphabet text true are.0.to cs to utf8 follows.seam are.3 in
       let rest : AllLetters are.0.to to cs = all_letters true are.0.to cs to follows.seam are.3 in
       let within : from < length text = omega (arith, follows.after, ahead.0, ahead.1.0) in
-      let first : LetterFrom from to are.0 = elim (spelled fold text inside from are.0 are.1) [
+      let first : LetterFrom from to are.0 = elim (spelled alphabet text inside from are.0 are.1) [
         | escaped is char ↦ escaped_letter from to are.0 seam ahead.1 ahead.0 is char
         | plain e f char ↦ plain_letter from to are.0 seam ahead.1 ahead.0 e f char within
       ] in
@@ -148,23 +151,31 @@ run_word v folded = ap (λ runs. map word_of (filter has_letters runs)) (slice_s
 
 -- the bytes are one word
 record IsOneWord (fold : ℕ → Option ℕ) (bytes : List ℕ) : Type 0 where
-  word : List ℕ
-  words : words_in fold bytes ≡ word ∷ []
+  folded : List ℕ
+  letters : letters_in fold (chars bytes) ≡ map (λ (v : ℕ). Some v) folded
+  words : words_in fold bytes ≡ word_of (map (λ (v : ℕ). Some v) folded) ∷ []
 
-run_is_word : (fold : ℕ → Option ℕ) (text : List ℕ) (from : ℕ) (letters : List ℕ) (to : ℕ) → IsUtf8 text → IsCharBoundary text from → letters ≢ [] → AreLetters fold text false from letters to → IsOneWord fold (slice_range text from to)
-run_is_word fold text from letters to utf8 seam some are =
-    let all : AllLetters fold text utf8 from to letters = all_letters fold text utf8 false from letters to seam are in
+run_is_word : (alphabet : Alphabet) (text : List ℕ) (from : ℕ) (letters : List ℕ) (to : ℕ) → IsUtf8 text → IsCharBoundary text from → letters ≢ [] → AreLetters alphabet text false from letters to → IsOneWord alphabet.fold (slice_range text from to)
+run_is_word alphabet text from letters to utf8 seam some are =
+    let all : AllLetters alphabet text utf8 from to letters = all_letters alphabet text utf8 false from letters to seam are in
     by all.folded (some_size letters some) all.size all.are
   where
     some_size : (list : List ℕ) → list ≢ [] → 0 < length list
     some_size [] some = absurd (some refl)
     some_size (c ∷ list) some = omega arith
 
-    by : (folded : List ℕ) → 0 < length letters → length folded ≡ length letters → letters_in fold (chars (slice_range text from to)) ≡ map (λ (v : ℕ). Some v) folded → IsOneWord fold (slice_range text from to)
+    by : (folded : List ℕ) → 0 < length letters → length folded ≡ length letters → letters_in alphabet.fold (chars (slice_range text from to)) ≡ map (λ (v : ℕ). Some v) folded → IsOneWord alphabet.fold (slice_range text from to)
     by [] above size is = absurd (omega (arith, above, size))
-    by (v ∷ folded) above size is = record { word = word_of (map (λ (x : ℕ). Some x) (v ∷ folded)); words = ap (λ l. map word_of (runs_in l)) is ∙ run_word v folded }
+    by (v ∷ folded) above size is = record { folded = v ∷ folded; letters = is; words = ap (λ l. map word_of (runs_in l)) is ∙ run_word v folded }
 
-pub one_word : (fold : ℕ → Option ℕ) (text : List ℕ) (inside : Bool) (place : ℕ) (p : Piece) (w : Spelling) → IsUtf8 text → IsCharBoundary text place → place < length text → Stands fold text inside place p → p.form ≡ forms.Word w → (word : List ℕ) × (words_in fold (bytes_of text w.letters) ≡ word ∷ [])
-one_word fold text inside place p w utf8 seam within stands form =
-    let is : IsOneWord fold (bytes_of text w.letters) = stands_run fold text (IsOneWord fold) (λ from to letters start run. run_is_word fold text from letters to utf8 start run.some run.are) inside place p w utf8 seam within stands form in
-    (is.word, is.words)
+pub one_word : (alphabet : Alphabet) (text : List ℕ) (inside : Bool) (place : ℕ) (p : Piece) (w : Spelling) → IsUtf8 text → IsCharBoundary text place → place < length text → Stands alphabet text inside place p → p.form ≡ forms.Word w → (word : List ℕ) × (words_in alphabet.fold (bytes_of text w.letters) ≡ word ∷ [])
+one_word alphabet text inside place p w utf8 seam within stands form =
+    let is : IsOneWord alphabet.fold (bytes_of text w.letters) = stands_run alphabet text (IsOneWord alphabet.fold) (λ from to letters start run. run_is_word alphabet text from letters to utf8 start run.some run.are) inside place p w utf8 seam within stands form in
+    (word_of (map (λ (v : ℕ). Some v) is.folded), is.words)
+
+-- .. by its letters
+pub one_run : (alphabet : Alphabet) (text : List ℕ) (inside : Bool) (place : ℕ) (p : Piece) (w : Spelling) → IsUtf8 text → IsCharBoundary text place → place < length text → Stands alphabet text inside place p → p.form ≡ forms.Word w
+    → (folded : List ℕ) × (letters_in alphabet.fold (chars (bytes_of text w.letters)) ≡ map (λ (v : ℕ). Some v) folded) × (words_in alphabet.fold (bytes_of text w.letters) ≡ word_of (map (λ (v : ℕ). Some v) folded) ∷ [])
+one_run alphabet text inside place p w utf8 seam within stands form =
+    let is : IsOneWord alphabet.fold (bytes_of text w.letters) = stands_run alphabet text (IsOneWord alphabet.fold) (λ from to letters start run. run_is_word alphabet text from letters to utf8 start run.some run.are) inside place p w utf8 seam within stands form in
+    (is.folded, is.letters, is.words)

@@ -12,7 +12,7 @@ use Rattle.query_grammar.specs.declared.fault.QueryFault.{QueryFault}
 use Rattle.query_marks.specs.declared.mark.Mark.{Mark}
 use Rattle.query_marks.specs.declared.mark.Sign.TheVariants as signs
 pub use Rattle.query_marks.specs.LimitsOver.{keys_of_sign as keys_of}
-use Rattle.query_marks.specs.Marks.{Setting, marks_of}
+use Rattle.query_marks.specs.Marks.{Setting, alphabet_in, marks_of}
 use Rattle.query_grammar.specs.Grammar.{Is, IsQuery}
 use Rattle.query_grammar.specs.QueryFaults.{Any, Told, IsFirstFault, IsCandidate}
 
@@ -40,4 +40,4 @@ IsAnswer (Err (Fault fault)) marks = IsRefused fault marks
 
 -- What is answered for a text, by the pieces that it has.
 abbrev pub ReadsQuery : Setting → List ℕ → Result Query (Or QueryFault) → Type 0
-ReadsQuery setting text result = (pieces : List Piece) → ArePieces setting.fold text pieces → IsAnswer result (marks_of setting text pieces)
+ReadsQuery setting text result = (pieces : List Piece) → ArePieces (alphabet_in setting) text pieces → IsAnswer result (marks_of setting text pieces)

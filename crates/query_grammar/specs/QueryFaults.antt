@@ -23,6 +23,7 @@ order kinds.NumberOutOfRange = 6
 order kinds.Nesting = 7
 order kinds.TooManyKeywords = 8
 order kinds.ZoneSpanBeforeOperator = 9
+order kinds.PrefixTooShort = 10
 
 -- an AND may have negated items alone
 abbrev pub Any : List Section → Type 0

@@ -22,7 +22,7 @@ use Rattle.query_marks.specs.declared.state.State.{State}
 use Rattle.query_marks.specs.Limits.{zone_limits}
 use Rattle.query_marks.specs.Hows.{how_of}
 use Rattle.query_marks.specs.LimitNames.{bytes_of, numbers_of}
-use Rattle.query_marks.specs.Marks.{Setting, after, at_start, but_last, keys_after, keys_of, last_of, limit_of, loose_sign, mark_at, nobodies, nobody, phrase_sign, quoted_sign, sign_of, slice_words, word_sign, wrong_of, zone_sign}
+use Rattle.query_marks.specs.Marks.{Setting, after, as_prefix, at_start, but_last, keys_after, keys_of, last_of, limit_of, loose_sign, mark_at, nobodies, nobody, phrase_sign, quoted_sign, sign_of, slice_words, word_sign, wrong_of, zone_sign}
 use Rattle.query_marks.specs.LimitsOver.{CloseGroups, forms_of, keys_of_sign, limits_after, limits_over, IsMarkAfter, IsUnder}
 use Rattle.query_marks.proofs.GroupLimits.{but_last_is, last_is}
 use Rattle.query_marks.proofs.PieceMarks.{mark_made, place_after, state_after}
@@ -190,7 +190,7 @@ module _ (limit : Limit) where
   all_after : (n : ℕ) (start end : Bool) (words : List (List ℕ)) → All Has (keys_after n limit start end words)
   all_after n start end [] = All-nil Has
   all_after n start end (word ∷ words) =
-      All-cons Has (record { query = n + 1; word = word; limit = limit; start = start; end = end }) (keys_after (n + 1) limit start end words) (λ h. refl) (all_after (n + 1) start end words)
+      All-cons Has (record { query = n + 1; word = word; limit = limit; start = start; end = end; prefix = false }) (keys_after (n + 1) limit start end words) (λ h. refl) (all_after (n + 1) start end words)
 
   no_position : Has nobody
   no_position h = absurd (omega (arith, h))
@@ -212,9 +212,9 @@ module _ (limit : Limit) where
   abbrev IsGood : Option Sign → Type 0
   IsGood sign = MatchOption sign (Unit {0}) (λ s. All Has (keys_of_sign s))
 
-  word_good : (keys : List Key) → All Has keys → IsGood (word_sign keys)
-  word_good [] all = tt
-  word_good (key ∷ keys) all = All-cons Has key [] (All-head Has key keys all) (All-nil Has)
+  word_good : (prefix : Bool) (keys : List Key) → All Has keys → IsGood (word_sign prefix keys)
+  word_good prefix [] all = tt
+  word_good prefix (key ∷ keys) all = All-cons Has (as_prefix prefix key) [] (All-head Has key keys all) (All-nil Has)
 
   phrase_good : (keys : List Key) → All Has keys → IsGood (phrase_sign keys)
   phrase_good [] all = tt
@@ -242,7 +242,7 @@ module _ (limit : Limit) where
 sign_good : (setting : Setting) (text : List ℕ) (state : State) (form : Form) → IsGood (limit_of setting.zones text state.here) (sign_of setting state text form)
 sign_good setting text state (forms.Word w) =
     let limit = limit_of setting.zones text state.here in
-    word_good limit (keys_of state.keywords limit w.start w.end (slice_words setting text w.letters)) (all_keys limit state.keywords w.start w.end (slice_words setting text w.letters))
+    word_good limit w.prefix (keys_of state.keywords limit w.start w.end (slice_words setting text w.letters)) (all_keys limit state.keywords w.start w.end (slice_words setting text w.letters))
 sign_good setting text state (forms.Quoted q) =
     let limit = limit_of setting.zones text state.here in
     quoted_good limit (keys_of state.keywords limit false false (slice_words setting text q.inside)) (how_of text q.number) (all_keys limit state.keywords false false (slice_words setting text q.inside))

@@ -8,6 +8,7 @@ use Rattle.std.proofs.lemmas.List.Folds.{list_any-append}
 use Rattle.query_pieces.specs.declared.piece.Form.{Form}
 use Rattle.query_pieces.specs.declared.piece.Form.TheVariants as forms
 use Rattle.query_pieces.specs.declared.piece.Piece.{Piece}
+use Rattle.query_pieces.specs.Letters.{Alphabet}
 use Rattle.query_pieces.specs.Pieces.{Stands, Splits, ArePieces, ends_in_letter}
 use Rattle.query_pieces.proofs.OneReading.{stands_same}
 use Rattle.query_marks.specs.declared.fault.Wrong.{Wrong}
@@ -26,9 +27,9 @@ depth_append : (n : ℕ) (a b : List Mark) → depth_after n (a ++ b) ≡ depth_
 depth_append n [] b = refl
 depth_append n (m ∷ a) b = depth_append (depth_by n m.sign) a b
 
-word_flat : (n at : ℕ) (wrong : Option Wrong) (keys : List Key) → n ≡ depth_after n (option_to_list (option_map (mark_at at wrong) (word_sign keys)))
-word_flat n at wrong [] = refl
-word_flat n at wrong (key ∷ keys) = refl
+word_flat : (n at : ℕ) (wrong : Option Wrong) (prefix : Bool) (keys : List Key) → n ≡ depth_after n (option_to_list (option_map (mark_at at wrong) (word_sign prefix keys)))
+word_flat n at wrong prefix [] = refl
+word_flat n at wrong prefix (key ∷ keys) = refl
 
 phrase_flat : (n at : ℕ) (wrong : Option Wrong) (keys : List Key) → n ≡ depth_after n (option_to_list (option_map (mark_at at wrong) (phrase_sign keys)))
 phrase_flat n at wrong [] = refl
@@ -55,7 +56,7 @@ but_last_length (outer ∷ []) = omega arith
 but_last_length (outer ∷ next ∷ around) = omega (arith, but_last_length (next ∷ around))
 
 form_depth : (setting : Setting) (state : State) (text : List ℕ) (at : ℕ) (form : Form) → length (after setting state text form).around ≡ depth_after (length state.around) (option_to_list (mark_of setting state text at form))
-form_depth setting state text at (forms.Word w) = word_flat (length state.around) at _ _
+form_depth setting state text at (forms.Word w) = word_flat (length state.around) at _ _ _
 form_depth setting state text at (forms.Quoted q) = quoted_flat (length state.around) at _ _ _
 form_depth setting state text at forms.Unclosed = refl
 form_depth setting state text at forms.Open = length-append state.around (state.here ∷ [])
@@ -91,20 +92,20 @@ some_marks setting text state at (p ∷ pieces) = before (mark_of setting state 
     before (Some mark) marks some = λ e. cc
 
 -- The pieces that are left, with the marks that they give, after those that were read.
-pub record Left (fold : ℕ → Option ℕ) (setting : Setting) (text : List ℕ) (marks : List Mark) (state : State) (inside : Bool) (at : ℕ) (pieces : List Piece) : Type 0 where
+pub record Left (alphabet : Alphabet) (setting : Setting) (text : List ℕ) (marks : List Mark) (state : State) (inside : Bool) (at : ℕ) (pieces : List Piece) : Type 0 where
   pub rest : List Piece
-  pub splits : Splits fold text inside at rest (length text)
+  pub splits : Splits alphabet text inside at rest (length text)
   pub is : marks_of setting text pieces ≡ marks ++ marks_from setting text state at rest
 
 -- what is known between two pieces
-pub record Marked (fold : ℕ → Option ℕ) (setting : Setting) (text : List ℕ) (marks : List Mark) (state : State) (inside : Bool) (at : ℕ) (negated : Bool) : Type 0 where
+pub record Marked (alphabet : Alphabet) (setting : Setting) (text : List ℕ) (marks : List Mark) (state : State) (inside : Bool) (at : ℕ) (negated : Bool) : Type 0 where
   pub seam : IsCharBoundary text at
-  pub left : (pieces : List Piece) → ArePieces fold text pieces → Left fold setting text marks state inside at pieces
+  pub left : (pieces : List Piece) → ArePieces alphabet text pieces → Left alphabet setting text marks state inside at pieces
   pub not : negated ≡ has_not marks
   pub deep : length state.around ≡ depth_after 0 marks
 
-pub marked_start : (fold : ℕ → Option ℕ) (setting : Setting) (text : List ℕ) (marks : List Mark) (state : State) → IsCharBoundary text 0 → marks ≡ [] → state ≡ at_start setting → Marked fold setting text marks state false 0 false
-marked_start fold setting text marks state seam none start = record {
+pub marked_start : (alphabet : Alphabet) (setting : Setting) (text : List ℕ) (marks : List Mark) (state : State) → IsCharBoundary text 0 → marks ≡ [] → state ≡ at_start setting → Marked alphabet setting text marks state false 0 false
+marked_start alphabet setting text marks state seam none start = record {
   seam = seam;
   left = λ pieces are. record {
     rest = pieces;
@@ -115,19 +116,19 @@ marked_start fold setting text marks state seam none start = record {
   deep = ap (λ (s : State). length s.around) start ∙ ap (depth_after 0) (sym none);
 }
 
-left_next : (fold : ℕ → Option ℕ) (setting : Setting) (text : List ℕ) (marks next : List Mark) (state then_state : State) (inside then_inside : Bool) (at : ℕ) (p : Piece) (found : Option Mark) (pieces : List Piece) →
-    at < length text → Stands fold text inside at p → found ≡ mark_of setting state text at p.form → then_state ≡ after setting state text p.form → next ≡ marks ++ option_to_list found → then_inside ≡ ends_in_letter p.form →
-    Left fold setting text marks state inside at pieces → Left fold setting text next then_state then_inside p.to pieces
-left_next fold setting text marks next state then_state inside then_inside at p found pieces within stands found_is state_is next_is inside_is left = by left.rest left.splits left.is
+left_next : (alphabet : Alphabet) (setting : Setting) (text : List ℕ) (marks next : List Mark) (state then_state : State) (inside then_inside : Bool) (at : ℕ) (p : Piece) (found : Option Mark) (pieces : List Piece) →
+    at < length text → Stands alphabet text inside at p → found ≡ mark_of setting state text at p.form → then_state ≡ after setting state text p.form → next ≡ marks ++ option_to_list found → then_inside ≡ ends_in_letter p.form →
+    Left alphabet setting text marks state inside at pieces → Left alphabet setting text next then_state then_inside p.to pieces
+left_next alphabet setting text marks next state then_state inside then_inside at p found pieces within stands found_is state_is next_is inside_is left = by left.rest left.splits left.is
   where
-    by : (rest : List Piece) → Splits fold text inside at rest (length text) → marks_of setting text pieces ≡ marks ++ marks_from setting text state at rest → Left fold setting text next then_state then_inside p.to pieces
+    by : (rest : List Piece) → Splits alphabet text inside at rest (length text) → marks_of setting text pieces ≡ marks ++ marks_from setting text state at rest → Left alphabet setting text next then_state then_inside p.to pieces
     by [] splits is = absurd (omega (arith, splits, within))
     by (q ∷ rest) splits is =
-        let same : q ≡ p = stands_same fold text inside at q p splits.1 stands in
+        let same : q ≡ p = stands_same alphabet text inside at q p splits.1 stands in
         let ahead : List Mark = marks_from setting text (after setting state text p.form) p.to rest in
         record {
           rest = rest;
-          splits = subst (λ (b : Bool). Splits fold text b p.to rest (length text)) (sym inside_is) (subst (λ (r : Piece). Splits fold text (ends_in_letter r.form) r.to rest (length text)) same splits.2);
+          splits = subst (λ (b : Bool). Splits alphabet text b p.to rest (length text)) (sym inside_is) (subst (λ (r : Piece). Splits alphabet text (ends_in_letter r.form) r.to rest (length text)) same splits.2);
           is = is
               ∙ ap (λ (r : Piece). marks ++ before_marks (mark_of setting state text at r.form) (marks_from setting text (after setting state text r.form) r.to rest)) same
               ∙ ap (λ l. marks ++ l) (before_is (mark_of setting state text at p.form) ahead)
@@ -137,29 +138,29 @@ left_next fold setting text marks next state then_state inside then_inside at p 
               ∙ ap (λ s. next ++ marks_from setting text s p.to rest) (sym state_is);
         }
 
-pub marked_next : (fold : ℕ → Option ℕ) (setting : Setting) (text : List ℕ) (marks next : List Mark) (state then_state : State) (inside then_inside : Bool) (at : ℕ) (p : Piece) (found : Option Mark) (negated then_negated : Bool) →
-    at < length text → Stands fold text inside at p → IsCharBoundary text p.to → found ≡ mark_of setting state text at p.form → then_state ≡ after setting state text p.form → next ≡ marks ++ option_to_list found → then_inside ≡ ends_in_letter p.form →
+pub marked_next : (alphabet : Alphabet) (setting : Setting) (text : List ℕ) (marks next : List Mark) (state then_state : State) (inside then_inside : Bool) (at : ℕ) (p : Piece) (found : Option Mark) (negated then_negated : Bool) →
+    at < length text → Stands alphabet text inside at p → IsCharBoundary text p.to → found ≡ mark_of setting state text at p.form → then_state ≡ after setting state text p.form → next ≡ marks ++ option_to_list found → then_inside ≡ ends_in_letter p.form →
     then_negated ≡ (negated || has_not (option_to_list found)) →
-    Marked fold setting text marks state inside at negated → Marked fold setting text next then_state then_inside p.to then_negated
-marked_next fold setting text marks next state then_state inside then_inside at p found negated then_negated within stands seam found_is state_is next_is inside_is negated_is marked = record {
+    Marked alphabet setting text marks state inside at negated → Marked alphabet setting text next then_state then_inside p.to then_negated
+marked_next alphabet setting text marks next state then_state inside then_inside at p found negated then_negated within stands seam found_is state_is next_is inside_is negated_is marked = record {
   seam = seam;
-  left = λ pieces are. left_next fold setting text marks next state then_state inside then_inside at p found pieces within stands found_is state_is next_is inside_is (marked.left pieces are);
+  left = λ pieces are. left_next alphabet setting text marks next state then_state inside then_inside at p found pieces within stands found_is state_is next_is inside_is (marked.left pieces are);
   not = negated_is ∙ ap (λ b. b || has_not (option_to_list found)) marked.not ∙ sym (list_any-append (λ (m : Mark). is_not m.sign) marks (option_to_list found)) ∙ ap has_not (sym next_is);
   deep = ap (λ (s : State). length s.around) state_is ∙ form_depth setting state text at p.form ∙ ap (λ n. depth_after n (option_to_list (mark_of setting state text at p.form))) marked.deep
       ∙ sym (depth_append 0 marks (option_to_list (mark_of setting state text at p.form))) ∙ ap (λ o. depth_after 0 (marks ++ option_to_list o)) (sym found_is) ∙ ap (depth_after 0) (sym next_is);
 }
 
 -- at the text's end
-pub enough_all : (fold : ℕ → Option ℕ) (setting : Setting) (text : List ℕ) (marks given : List Mark) (state : State) (inside : Bool) (at : ℕ) (negated : Bool) → length text ≤ at → given ≡ marks ++ mark_at (length text) None signs.End ∷ [] → Marked fold setting text marks state inside at negated → (pieces : List Piece) → ArePieces fold text pieces → AreEnough (length text) (marks_of setting text pieces) given
-enough_all fold setting text marks given state inside at negated past given_is marked pieces are = let left = marked.left pieces are in by left.rest left.splits left.is
+pub enough_all : (alphabet : Alphabet) (setting : Setting) (text : List ℕ) (marks given : List Mark) (state : State) (inside : Bool) (at : ℕ) (negated : Bool) → length text ≤ at → given ≡ marks ++ mark_at (length text) None signs.End ∷ [] → Marked alphabet setting text marks state inside at negated → (pieces : List Piece) → ArePieces alphabet text pieces → AreEnough (length text) (marks_of setting text pieces) given
+enough_all alphabet setting text marks given state inside at negated past given_is marked pieces are = let left = marked.left pieces are in by left.rest left.splits left.is
   where
-    by : (rest : List Piece) → Splits fold text inside at rest (length text) → marks_of setting text pieces ≡ marks ++ marks_from setting text state at rest → AreEnough (length text) (marks_of setting text pieces) given
+    by : (rest : List Piece) → Splits alphabet text inside at rest (length text) → marks_of setting text pieces ≡ marks ++ marks_from setting text state at rest → AreEnough (length text) (marks_of setting text pieces) given
     by [] splits is = inl (given_is ∙ sym is)
     by (q ∷ rest) splits is = absurd (omega (arith, splits.0, past))
 
 -- where enough was read
-pub enough_cut : (fold : ℕ → Option ℕ) (setting : Setting) (text : List ℕ) (marks before given : List Mark) (state : State) (inside : Bool) (at : ℕ) (negated wrong : Bool) (found : Option Mark) → marks ≡ before ++ option_to_list found → wrong ≡ has_wrong (option_to_list found) → (nat_lt 32 (length state.around) || (wrong && not negated)) ≡ true → given ≡ marks ++ mark_at (length text) None signs.End ∷ [] → Marked fold setting text marks state inside at negated → (pieces : List Piece) → ArePieces fold text pieces → AreEnough (length text) (marks_of setting text pieces) given
-enough_cut fold setting text marks before given state inside at negated wrong found marks_is wrong_is ends given_is marked pieces are =
+pub enough_cut : (alphabet : Alphabet) (setting : Setting) (text : List ℕ) (marks before given : List Mark) (state : State) (inside : Bool) (at : ℕ) (negated wrong : Bool) (found : Option Mark) → marks ≡ before ++ option_to_list found → wrong ≡ has_wrong (option_to_list found) → (nat_lt 32 (length state.around) || (wrong && not negated)) ≡ true → given ≡ marks ++ mark_at (length text) None signs.End ∷ [] → Marked alphabet setting text marks state inside at negated → (pieces : List Piece) → ArePieces alphabet text pieces → AreEnough (length text) (marks_of setting text pieces) given
+enough_cut alphabet setting text marks before given state inside at negated wrong found marks_is wrong_is ends given_is marked pieces are =
     let left = marked.left pieces are in
     inr (record {
       read = marks;
@@ -188,6 +189,6 @@ enough_cut fold setting text marks before given state inside at negated wrong fo
         inr (any, sym marked.not ∙ yes negated both.1)
 
 -- what is known of the marks with the end after them, where there are any
-pub ended : {E : Type 0} (fold : ℕ → Option ℕ) (setting : Setting) (text : List ℕ) (marks : List Mark) (r : Result (Vec Mark Global) E) → ((given : List Mark) → given ≡ marks ++ mark_at (length text) None signs.End ∷ [] → (pieces : List Piece) → ArePieces fold text pieces → AreEnough (length text) (marks_of setting text pieces) given) → IfOk r (λ (all : Vec Mark Global). all.items ≡ marks ++ mark_at (length text) None signs.End ∷ []) → IfOk r (λ (all : Vec Mark Global). (pieces : List Piece) → ArePieces fold text pieces → AreEnough (length text) (marks_of setting text pieces) all.items)
-ended fold setting text marks (Ok all) enough is = enough all.items is
-ended fold setting text marks (Err e) enough is = is
+pub ended : {E : Type 0} (alphabet : Alphabet) (setting : Setting) (text : List ℕ) (marks : List Mark) (r : Result (Vec Mark Global) E) → ((given : List Mark) → given ≡ marks ++ mark_at (length text) None signs.End ∷ [] → (pieces : List Piece) → ArePieces alphabet text pieces → AreEnough (length text) (marks_of setting text pieces) given) → IfOk r (λ (all : Vec Mark Global). all.items ≡ marks ++ mark_at (length text) None signs.End ∷ []) → IfOk r (λ (all : Vec Mark Global). (pieces : List Piece) → ArePieces alphabet text pieces → AreEnough (length text) (marks_of setting text pieces) all.items)
+ended alphabet setting text marks (Ok all) enough is = enough all.items is
+ended alphabet setting text marks (Err e) enough is = is

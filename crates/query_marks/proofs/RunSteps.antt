@@ -1,5 +1,5 @@
 -- Runs of letters, one after the other.
-use Rattle.std.proofs.Common.{◌≡◌, ℕ, zero, suc, ◌+◌, ◌≤◌, eqb, arith, Bool, List, [], ◌∷◌, ◌++◌, length, take, drop, map, refl, sym, ap, ◌∙◌, append_assoc, append-nil, length-append}
+use Rattle.std.proofs.Common.{◌≡◌, ℕ, zero, suc, ◌+◌, ◌≤◌, eqb, arith, Bool, false, List, [], ◌∷◌, ◌++◌, length, take, drop, map, refl, sym, ap, ◌∙◌, append_assoc, append-nil, length-append}
 use Rattle.std.specs.Prelude.{Option, Some, None, filter}
 use Rattle.std.specs.Option.{is_some}
 use Rattle.std.specs.List.{prefix_len, slice_split, onto_first}
@@ -63,7 +63,7 @@ keys_append : (n : ℕ) (limit : Limit) (start end : Bool) (words more : List (L
 keys_append n limit start end [] more = let e : n ≡ n + 0 = omega arith in ap (λ k. keys_after k limit start end more) e
 keys_append n limit start end (word ∷ words) more =
     let e : n + 1 + length words ≡ n + length (word ∷ words) = omega arith in
-    ap (λ l. record { query = n + 1; word = word; limit = limit; start = start; end = end } ∷ l)
+    ap (λ l. record { query = n + 1; word = word; limit = limit; start = start; end = end; prefix = false } ∷ l)
     (keys_append (n + 1) limit start end words more ∙ ap (λ k. keys_after (n + 1) limit start end words ++ keys_after k limit start end more) e)
 
 keys_length : (n : ℕ) (limit : Limit) (start end : Bool) (words : List (List ℕ)) → length (keys_after n limit start end words) ≡ length words

@@ -13,7 +13,7 @@ use Rattle.query_pieces.specs.declared.piece.Names.TheVariants as names
 use Rattle.query_pieces.specs.declared.piece.Piece.{Piece}
 use Rattle.query_pieces.specs.QueryBytes.{byte, byte_before, begins_field, is_field_byte, begins_zone, is_zone_byte, spells, run_end, digits_end}
 use Rattle.query_pieces.specs.Operators.{piece, slice, NamesAt, operator_at, limit_with, limit_of, fields_from, fields_at, names_at, relaxed_at, at_sign_at, zones_of, zones_at, quoted_at, quote_end, number_at, is_inside}
-use Rattle.query_pieces.specs.Letters.{Letter, char_at, letter_at, letter_of, by_table}
+use Rattle.query_pieces.specs.Letters.{Alphabet, Letter, char_at, is_word_mark, letter_at, letter_of, by_table}
 use Rattle.query_pieces.specs.Pieces.{AreLetters, IsWord, IsPlain, Stands, after_start, after_end, separator_at}
 use Rattle.query_pieces.proofs.ByteRuns.{byte_within, quote_stops}
 use Rattle.query_pieces.proofs.Seams.{byte_inside, seam_next}
@@ -39,52 +39,57 @@ table_ahead : (fold : ℕ → Option ℕ) (place from : ℕ) (o : Option ℕ) �
 table_ahead fold place from None ahead = none_ahead place
 table_ahead fold place from (Some c) ahead = let after : place ≤ from + len_utf8 c = omega (arith, ahead) in of_ahead place (from + len_utf8 c) (fold c) after
 
-at_ahead : (fold : ℕ → Option ℕ) (text : List ℕ) (inside : Bool) (place : ℕ) → IsAhead place (letter_at fold text inside place)
+at_ahead : (alphabet : Alphabet) (text : List ℕ) (inside : Bool) (place : ℕ) → IsAhead place (letter_at alphabet text inside place)
 unfolding letter_at
-at_ahead fold text inside place =
+at_ahead alphabet text inside place =
     let next : place ≤ place + 1 = omega arith in
     let same : place ≤ place = omega arith in
-    choose (IsAhead place) (byte text place == 92) (by_table fold (place + 1) (char_at text (place + 1))) _ (λ e. table_ahead fold place (place + 1) (char_at text (place + 1)) next)
-    (choose (IsAhead place) ((byte text place == 94) || (byte text place == 36)) None _ (λ e. none_ahead place)
-    (choose (IsAhead place) (is_some (operator_at text inside place)) None (by_table fold place (char_at text place)) (λ e. none_ahead place) (table_ahead fold place place (char_at text place) same)))
+    choose (IsAhead place) (byte text place == 92) (by_table alphabet.fold (place + 1) (char_at text (place + 1))) _ (λ e. table_ahead alphabet.fold place (place + 1) (char_at text (place + 1)) next)
+    (choose (IsAhead place) (is_word_mark alphabet inside (byte text place)) None _ (λ e. none_ahead place)
+    (choose (IsAhead place) (is_some (operator_at text inside place)) None (by_table alphabet.fold place (char_at text place)) (λ e. none_ahead place) (table_ahead alphabet.fold place place (char_at text place) same)))
 
-letter_ahead : (fold : ℕ → Option ℕ) (text : List ℕ) (inside : Bool) (place : ℕ) (letter : Letter) → letter_at fold text inside place ≡ Some letter → place ≤ letter.to
-letter_ahead fold text inside place letter is = (subst (IsAhead place) is (at_ahead fold text inside place)).ahead
+letter_ahead : (alphabet : Alphabet) (text : List ℕ) (inside : Bool) (place : ℕ) (letter : Letter) → letter_at alphabet text inside place ≡ Some letter → place ≤ letter.to
+letter_ahead alphabet text inside place letter is = (subst (IsAhead place) is (at_ahead alphabet text inside place)).ahead
 
-letters_ahead : (fold : ℕ → Option ℕ) (text : List ℕ) (inside : Bool) (from : ℕ) (letters : List ℕ) (to : ℕ) → AreLetters fold text inside from letters to → from ≤ to
-letters_ahead fold text inside from [] to are = omega (arith, are)
-letters_ahead fold text inside from (c ∷ cs) to are = omega (arith, letter_ahead fold text inside from are.0 are.1, letters_ahead fold text true are.0.to cs to are.3)
+letters_ahead : (alphabet : Alphabet) (text : List ℕ) (inside : Bool) (from : ℕ) (letters : List ℕ) (to : ℕ) → AreLetters alphabet text inside from letters to → from ≤ to
+letters_ahead alphabet text inside from [] to are = omega (arith, are)
+letters_ahead alphabet text inside from (c ∷ cs) to are = omega (arith, letter_ahead alphabet text inside from are.0 are.1, letters_ahead alphabet text true are.0.to cs to are.3)
 
 -- ---- words
 start_seam : (text : List ℕ) (at : ℕ) → IsUtf8 text → IsCharBoundary text at → IsCharBoundary text (after_start text at)
 start_seam text at utf8 seam = choose (IsCharBoundary text) (byte text at == 94) (at + 1) at (λ e. seam_next text at 94 utf8 (eqb-true (byte text at) 94 e) (lit< tt) (λ e. omega (arith, e))) seam
 
-end_seam : (text : List ℕ) (to : ℕ) → IsUtf8 text → IsCharBoundary text (after_end text to) → IsCharBoundary text to
-end_seam text to utf8 = by (byte text to == 36) refl
+end_seam : (alphabet : Alphabet) (text : List ℕ) (to : ℕ) → IsUtf8 text → IsCharBoundary text (after_end alphabet text to) → IsCharBoundary text to
+end_seam alphabet text to utf8 = by (byte text to == 36) (byte text to == 42) refl refl alphabet.stars
   where
-    by : (b : Bool) → (byte text to == 36) ≡ b → IsCharBoundary text (if b then to + 1 else to) → IsCharBoundary text to
-    by true e seam =
-        let is : byte text to ≡ 36 = eqb-true (byte text to) 36 e in
-        let below : to < length text = byte_inside text to 36 is (λ e. omega (arith, e)) in
-        IsCharBoundary-before_ascii text to below (omega (arith, is, byte_within text to below))
-    by false e seam = seam
+    marked : (b : ℕ) → b < 128 → (b ≡ 32 → ⊥) → (byte text to == b) ≡ true → IsCharBoundary text to
+    marked b small other e =
+        let is : byte text to ≡ b = eqb-true (byte text to) b e in
+        let below : to < length text = byte_inside text to b is other in
+        IsCharBoundary-before_ascii text to below (omega (arith, is, small, byte_within text to below))
 
-word_cut : (fold : ℕ → Option ℕ) (text : List ℕ) (at : ℕ) (p : Piece) → IsUtf8 text → IsCharBoundary text at → IsCharBoundary text p.to → IsWord fold text at p → AreCut text p.form
-word_cut fold text at p utf8 seam next word =
-    let after : IsCharBoundary text (after_end text word.to) = subst (λ (q : Piece). IsCharBoundary text q.to) word.is next in
+    by : (dollar star : Bool) → (byte text to == 36) ≡ dollar → (byte text to == 42) ≡ star → (stars : Bool) → IsCharBoundary text (if dollar || (stars && star) then to + 1 else to) → IsCharBoundary text to
+    by true star e f stars seam = marked 36 (lit< tt) (λ d. omega (arith, d)) e
+    by false true e f stars seam = marked 42 (lit< tt) (λ d. omega (arith, d)) f
+    by false false e f true seam = seam
+    by false false e f false seam = seam
+
+word_cut : (alphabet : Alphabet) (text : List ℕ) (at : ℕ) (p : Piece) → IsUtf8 text → IsCharBoundary text at → IsCharBoundary text p.to → IsWord alphabet text at p → AreCut text p.form
+word_cut alphabet text at p utf8 seam next word =
+    let after : IsCharBoundary text (after_end alphabet text word.to) = subst (λ (q : Piece). IsCharBoundary text q.to) word.is next in
     let cut : IsCut text (slice (after_start text at) word.to) = record {
-      ahead = letters_ahead fold text false (after_start text at) word.letters word.to word.run.are;
+      ahead = letters_ahead alphabet text false (after_start text at) word.letters word.to word.run.are;
       from = start_seam text at utf8 seam;
-      to = end_seam text word.to utf8 after;
+      to = end_seam alphabet text word.to utf8 after;
     } in
     subst (λ (q : Piece). AreCut text q.form) (sym word.is) cut
 
-plain_cut : (fold : ℕ → Option ℕ) (text : List ℕ) (at : ℕ) (p : Piece) → IsUtf8 text → IsCharBoundary text at → IsCharBoundary text p.to → IsPlain fold text at p → AreCut text p.form
-plain_cut fold text at p utf8 seam next = by (letter_at fold text false (after_start text at))
+plain_cut : (alphabet : Alphabet) (text : List ℕ) (at : ℕ) (p : Piece) → IsUtf8 text → IsCharBoundary text at → IsCharBoundary text p.to → IsPlain alphabet text at p → AreCut text p.form
+plain_cut alphabet text at p utf8 seam next = by (letter_at alphabet text false (after_start text at))
   where
-    by : (o : Option Letter) → MatchOption o (p ≡ separator_at text at) (λ letter. IsWord fold text at p) → AreCut text p.form
+    by : (o : Option Letter) → MatchOption o (p ≡ separator_at text at) (λ letter. IsWord alphabet text at p) → AreCut text p.form
     by None is = subst (λ (q : Piece). AreCut text q.form) (sym is) tt
-    by (Some letter) word = word_cut fold text at p utf8 seam next word
+    by (Some letter) word = word_cut alphabet text at p utf8 seam next word
 
 -- ---- operators
 record OptionCut (text : List ℕ) (o : Option Piece) : Type 0 where
@@ -157,9 +162,9 @@ operator_cut text inside at utf8 =
     (choose (OptionCut text) (byte text at == 78) _ _ (λ e. tested text _ (piece (forms.Near (slice (at + 5) (digits_end text (at + 5)))) (digits_end text (at + 5))) tt) (none_cut text))))))))))))
 
 -- the slices of a piece that stands in a text
-pub are_cut : (fold : ℕ → Option ℕ) (text : List ℕ) (inside : Bool) (at : ℕ) (p : Piece) → IsUtf8 text → IsCharBoundary text at → IsCharBoundary text p.to → Stands fold text inside at p → AreCut text p.form
-are_cut fold text inside at p utf8 seam next = by (operator_at text inside at) (operator_cut text inside at utf8)
+pub are_cut : (alphabet : Alphabet) (text : List ℕ) (inside : Bool) (at : ℕ) (p : Piece) → IsUtf8 text → IsCharBoundary text at → IsCharBoundary text p.to → Stands alphabet text inside at p → AreCut text p.form
+are_cut alphabet text inside at p utf8 seam next = by (operator_at text inside at) (operator_cut text inside at utf8)
   where
-    by : (o : Option Piece) → OptionCut text o → MatchOption o (IsPlain fold text at p) (λ operator. p ≡ operator) → AreCut text p.form
-    by None cut plain = plain_cut fold text at p utf8 seam next plain
+    by : (o : Option Piece) → OptionCut text o → MatchOption o (IsPlain alphabet text at p) (λ operator. p ≡ operator) → AreCut text p.form
+    by None cut plain = plain_cut alphabet text at p utf8 seam next plain
     by (Some operator) cut is = subst (λ (q : Piece). AreCut text q.form) (sym is) cut.cut

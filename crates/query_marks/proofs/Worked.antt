@@ -19,7 +19,7 @@ fold : ℕ → Option ℕ
 fold c = if nat_le 97 c && nat_le c 122 then Some c else None
 
 setting : Setting
-setting = record { fold = fold; fields = codes "title" ∷ codes "content" ∷ []; zones = codes "th" ∷ [] }
+setting = record { fold = fold; fields = codes "title" ∷ codes "content" ∷ []; zones = codes "th" ∷ []; shortest = 2 }
 
 words : map (filter_map (λ letter. letter)) (runs_in (letters_in fold (codes "a\\-b ^c\\de"))) ≡ codes "a" ∷ codes "b" ∷ codes "cde" ∷ []
 unfolding fold
@@ -44,6 +44,6 @@ fields_of _ = []
 fields : List Mark → List (List ℕ)
 fields marks = map (λ m. fields_of m.sign) marks
 
-inherited : fields (marks_of setting (codes "(@title a) b") (piece forms.Open 1 ∷ piece (forms.Fields (record { negated = false; names = names.Listed (slice 2 7); positions = None })) 7 ∷ piece forms.Separator 8 ∷ piece (forms.Word (record { letters = slice 8 9; start = false; end = false })) 9 ∷ piece forms.Close 10 ∷ piece forms.Separator 11 ∷ piece (forms.Word (record { letters = slice 11 12; start = false; end = false })) 12 ∷ [])) ≡ [] ∷ [] ∷ (1 ∷ 1 ∷ []) ∷ [] ∷ (3 ∷ 2 ∷ []) ∷ [] ∷ []
+inherited : fields (marks_of setting (codes "(@title a) b") (piece forms.Open 1 ∷ piece (forms.Fields (record { negated = false; names = names.Listed (slice 2 7); positions = None })) 7 ∷ piece forms.Separator 8 ∷ piece (forms.Word (record { letters = slice 8 9; start = false; end = false; prefix = false })) 9 ∷ piece forms.Close 10 ∷ piece forms.Separator 11 ∷ piece (forms.Word (record { letters = slice 11 12; start = false; end = false; prefix = false })) 12 ∷ [])) ≡ [] ∷ [] ∷ (1 ∷ 1 ∷ []) ∷ [] ∷ (3 ∷ 2 ∷ []) ∷ [] ∷ []
 unfolding fold setting fields_of fields chars
 inherited = refl

@@ -3,7 +3,7 @@
 -- range counts as 0, and the words of a piece with which the 256th is reached stand for nobody.
 use Rattle.std.specs.Prelude.{ℕ, ◌+◌, List, [], ◌∷◌, ◌++◌, Bool, true, false, ◌==◌, ◌&&◌, nat_lt, nat_le, Option, Some, None, if◌then◌else◌, length}
 use Rattle.std.specs.Option.{option_map}
-use Rattle.std.specs.Str.{str_to_ascii_lowercase}
+use Rattle.std.specs.Str.{chars, str_to_ascii_lowercase}
 use Rattle.doc_types.specs.declared.schema.Schema.{Schema}
 use Rattle.query_pieces.specs.declared.piece.Slice.{Slice}
 use Rattle.query_pieces.specs.declared.piece.Names.{Names}
@@ -24,19 +24,25 @@ use Rattle.query_marks.specs.declared.mark.Mark.{Mark}
 use Rattle.query_marks.specs.declared.mark.Sign.{Sign}
 use Rattle.query_marks.specs.declared.mark.Sign.TheVariants as signs
 use Rattle.query_marks.specs.declared.state.State.{State}
-use Rattle.query_marks.specs.QueryWords.{words_in}
+use Rattle.query_pieces.specs.Letters.{Alphabet}
+use Rattle.query_marks.specs.QueryWords.{letters_in, words_in}
 use Rattle.query_marks.specs.LimitNames.{bytes_of, first_unknown, has_long, numbers_of, number_of}
 use Rattle.query_marks.specs.Hows.{how_of, is_out}
 use Rattle.query_marks.specs.Limits.{mask, field_limits, zone_limits}
 
--- what a text is read by: the table, and the names of the fields and of the zones
+-- what a text is read by: the table, the names of the fields and of the zones, and the fewest letters of a prefix
 pub record Setting : Type 0 where
   pub fold : ℕ → Option ℕ
   pub fields : List (List ℕ)
   pub zones : List (List ℕ)
+  pub shortest : ℕ
 
 abbrev pub setting_of : (ℕ → Option ℕ) → Schema → Setting
-setting_of fold schema = record { fold = fold; fields = schema.fields; zones = schema.zones }
+setting_of fold schema = record { fold = fold; fields = schema.fields; zones = schema.zones; shortest = schema.min_prefix }
+
+-- what the pieces of a text are read by: words may be prefixes where those have a fewest number of letters
+abbrev pub alphabet_in : Setting → Alphabet
+alphabet_in setting = record { fold = setting.fold; stars = nat_lt 0 setting.shortest }
 
 -- a fault without a name, and one with the name in small letters
 abbrev pub nameless : QueryKind → Option Wrong
@@ -58,11 +64,11 @@ limit_of zones text here = record { fields = here.fields; positions = here.posit
 abbrev pub keys_after : ℕ → Limit → Bool → Bool → List (List ℕ) → List Key
 keys_after n limit start end [] = []
 keys_after n limit start end (word ∷ words) =
-    record { query = n + 1; word = word; limit = limit; start = start; end = end } ∷ keys_after (n + 1) limit start end words
+    record { query = n + 1; word = word; limit = limit; start = start; end = end; prefix = false } ∷ keys_after (n + 1) limit start end words
 
 -- what stands for each keyword of a piece with which the 256th is reached
 abbrev pub nobody : Key
-nobody = record { query = 0; word = []; limit = record { fields = 0; positions = 0; zones = [] }; start = false; end = false }
+nobody = record { query = 0; word = []; limit = record { fields = 0; positions = 0; zones = [] }; start = false; end = false; prefix = false }
 
 -- none, one, or several
 abbrev pub nobodies : ℕ → List Key
@@ -83,10 +89,14 @@ counted n more = if nat_le (n + more) 255 then n + more else 256
 abbrev pub slice_words : Setting → List ℕ → Slice → List (List ℕ)
 slice_words setting text s = words_in setting.fold (bytes_of text s)
 
+-- the keyword, as a prefix or as a whole word
+abbrev pub as_prefix : Bool → Key → Key
+as_prefix prefix key = record { query = key.query; word = key.word; limit = key.limit; start = key.start; end = key.end; prefix = prefix }
+
 -- the sign of a word
-abbrev pub word_sign : List Key → Option Sign
-word_sign [] = None
-word_sign (key ∷ keys) = Some (signs.Bare key)
+abbrev pub word_sign : Bool → List Key → Option Sign
+word_sign prefix [] = None
+word_sign prefix (key ∷ keys) = Some (signs.Bare (as_prefix prefix key))
 
 -- the sign of a quoted piece without a number, if it has a word
 abbrev pub phrase_sign : List Key → Option Sign
@@ -112,7 +122,7 @@ zone_sign (zone ∷ zones) text limit = if limit.span then signs.Spans (numbers_
 
 -- the sign of a piece, if it has one: it separates, or it is dropped, where it has none
 abbrev pub sign_of : Setting → State → List ℕ → Form → Option Sign
-sign_of setting state text (forms.Word w) = word_sign (keys_of state.keywords (limit_of setting.zones text state.here) w.start w.end (slice_words setting text w.letters))
+sign_of setting state text (forms.Word w) = word_sign w.prefix (keys_of state.keywords (limit_of setting.zones text state.here) w.start w.end (slice_words setting text w.letters))
 sign_of setting state text (forms.Quoted q) = quoted_sign (keys_of state.keywords (limit_of setting.zones text state.here) false false (slice_words setting text q.inside)) (how_of text q.number)
 sign_of setting state text forms.Unclosed = Some signs.Unclosed
 sign_of setting state text forms.Open = Some signs.Open
@@ -160,6 +170,18 @@ wrong_zones (zone ∷ zones) names =
 abbrev pub wrong_count : ℕ → ℕ → Option Wrong
 wrong_count n more = if passes_limit n more then nameless kinds.TooManyKeywords else None
 
+-- the letters of a slice, each as it is folded
+abbrev pub slice_letters : Setting → List ℕ → Slice → List (Option ℕ)
+slice_letters setting text s = letters_in setting.fold (chars (bytes_of text s))
+
+-- a prefix has too few letters
+abbrev pub is_short : ℕ → Bool → ℕ → Bool
+is_short shortest prefix letters = prefix && nat_lt letters shortest
+
+-- the number of a word's keyword, and then its letters
+abbrev pub wrong_word : ℕ → Bool → Option Wrong
+wrong_word n short = if passes_limit n 1 then nameless kinds.TooManyKeywords else (if short then nameless kinds.PrefixTooShort else None)
+
 -- the number of a quoted piece, and then its keywords
 abbrev pub wrong_quoted : ℕ → Bool → ℕ → Option Wrong
 wrong_quoted n out more = if out then nameless kinds.NumberOutOfRange else wrong_count n more
@@ -170,7 +192,7 @@ wrong_near state number = if number == 0 then nameless kinds.NumberOutOfRange el
 
 -- what is wrong with a piece by itself
 abbrev pub wrong_of : Setting → State → List ℕ → Form → Option Wrong
-wrong_of setting state text (forms.Word w) = wrong_count state.keywords 1
+wrong_of setting state text (forms.Word w) = wrong_word state.keywords (is_short setting.shortest w.prefix (length (slice_letters setting text w.letters)))
 wrong_of setting state text (forms.Quoted q) = wrong_quoted state.keywords (is_out (how_of text q.number)) (length (slice_words setting text q.inside))
 wrong_of setting state text forms.Before = wrong_span state
 wrong_of setting state text (forms.Near s) = wrong_near state (number_of (bytes_of text s))

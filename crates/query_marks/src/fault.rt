@@ -30,6 +30,8 @@ pub enum QueryKind {
     TooManyKeywords,
     /// ZONESPAN is in force in the group of a `<<` or NEAR.
     ZoneSpanBeforeOperator,
+    /// A prefix has fewer characters than the index asks for.
+    PrefixTooShort,
 }
 
 /// What is wrong with a piece by itself.
@@ -57,6 +59,7 @@ impl QueryKind {
             QueryKind::Nesting => "nesting above 32",
             QueryKind::TooManyKeywords => "too many keywords",
             QueryKind::ZoneSpanBeforeOperator => "ZONESPAN before operator",
+            QueryKind::PrefixTooShort => "prefix too short",
         }
     }
 }

@@ -68,6 +68,7 @@ fn nobody(alloc: Global) -> Key
         },
         start: false,
         end: false,
+        prefix: false,
     }
 }
 
@@ -115,6 +116,7 @@ fn put_key(
             limit: copy_limit(alloc, &standing.limit)?,
             start: standing.start,
             end: standing.end,
+            prefix: false,
         })?;
     }
     Ok(())

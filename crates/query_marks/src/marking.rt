@@ -8,7 +8,7 @@ ghost use Rattle.query_marks.specs.LimitNames.{bytes_of as bytes_in, number_of a
 ghost use Rattle.query_marks.specs.Limits.{field_limits as field_limits_of, zone_limits as zone_limits_of};
 ghost use Rattle.query_marks.specs.declared.mark.Sign.TheVariants as signs;
 ghost use Rattle.query_marks.specs.QueryWords.{letters_in};
-ghost use Rattle.query_marks.specs.Marks.{setting_of, mark_of, mark_at, after, with_limits, wrong_count as wrong_count_of, wrong_quoted as wrong_quoted_of, wrong_near as wrong_near_of, wrong_fields as wrong_fields_of, wrong_zones as wrong_zones_of, zone_sign as zone_sign_of};
+ghost use Rattle.query_marks.specs.Marks.{setting_of, mark_of, mark_at, after, with_limits, wrong_count as wrong_count_of, wrong_word as wrong_word_of, is_short as is_too_short, wrong_quoted as wrong_quoted_of, wrong_near as wrong_near_of, wrong_fields as wrong_fields_of, wrong_zones as wrong_zones_of, zone_sign as zone_sign_of};
 ghost use Rattle.query_marks.specs.steps.Cuts.{IsCut, AreCut};
 
 use crate::fault::{QueryKind, Wrong};
@@ -64,6 +64,26 @@ fn wrong_count(alloc: Global, state: &State, more: usize) -> Result<Option<Boxed
     }
 }
 
+/// Whether a prefix has too few letters.
+fn is_short(schema: &Schema, prefix: bool, letters: usize) -> bool
+    ensures { result ≡ is_too_short schema.now.min_prefix prefix letters }
+{
+    prefix && letters < usize::from(schema.min_prefix)
+}
+
+/// What is wrong with a word: the number of its keyword, and then its letters.
+fn wrong_word(alloc: Global, state: &State, short: bool) -> Result<Option<Boxed<Wrong>>, NoMemory>
+    ensures { IfOk result (λ wrong. wrong ≡ wrong_word_of state.now.keywords short) }
+{
+    if passes_limit(state, 1) {
+        nameless(alloc, QueryKind::TooManyKeywords)
+    } else if short {
+        nameless(alloc, QueryKind::PrefixTooShort)
+    } else {
+        Ok(None)
+    }
+}
+
 /// Marks a word.
 fn mark_word(
     alloc: Global,
@@ -80,7 +100,8 @@ fn mark_word(
     ensures state { OnOk result (state.new ≡ after (setting_of (folded charset.now) schema.now) state.old text.now (forms.Word spelling)) }
 {
     let letters = slice_letters(alloc, charset, text, spelling.letters)?;
-    let wrong = wrong_count(alloc, state, 1)?;
+    let short = is_short(schema, spelling.prefix, letters.len());
+    let wrong = wrong_word(alloc, state, short)?;
     let zones = schema.zones.as_slice();
     let keys = keys(
         alloc,
@@ -91,7 +112,7 @@ fn mark_word(
         spelling.start,
         spelling.end,
     )?;
-    let sign = word_sign(alloc, keys)?;
+    let sign = word_sign(alloc, keys, spelling.prefix)?;
     count(state, 1);
     Ok(marked(at, sign, wrong))
 }

@@ -5,7 +5,7 @@ ghost use Rattle.doc_types.specs.Schemas.{IsSchema};
 ghost use Rattle.query_pieces.specs.declared.piece.Piece.{Piece};
 ghost use Rattle.query_pieces.specs.Pieces.{ends_in_letter, ArePieces};
 ghost use Rattle.query_marks.specs.declared.mark.Sign.TheVariants as signs;
-ghost use Rattle.query_marks.specs.Marks.{setting_of, mark_at, marks_of};
+ghost use Rattle.query_marks.specs.Marks.{alphabet_in, setting_of, mark_at, marks_of};
 ghost use Rattle.query_marks.specs.Enough.{has_not, has_wrong, AreEnough};
 
 use crate::mark::{Mark, Sign};
@@ -23,7 +23,7 @@ fn leaves_letter(form: Form) -> bool
     ensures { result ≡ ends_in_letter form }
 {
     match form {
-        Form::Word(spelling) => !spelling.end,
+        Form::Word(spelling) => !spelling.end && !spelling.prefix,
         _ => false,
     }
 }
@@ -100,15 +100,16 @@ pub fn marks(
 ) -> Result<Vec<Mark>, NoMemory>
     requires schema { IsSchema schema.now }
     requires size { length text.now < 2 ^ 32 }
-    ensures { IfOk result (λ marks. (pieces : List Piece) → ArePieces (folded charset.now) text.now pieces → AreEnough (length text.now) (marks_of (setting_of (folded charset.now) schema.now) text.now pieces) marks.items) }
+    ensures { IfOk result (λ marks. (pieces : List Piece) → ArePieces (alphabet_in (setting_of (folded charset.now) schema.now)) text.now pieces → AreEnough (length text.now) (marks_of (setting_of (folded charset.now) schema.now) text.now pieces) marks.items) }
 {
     let mut marks = Vec::new(alloc);
     let mut state = at_start(alloc, charset, schema);
+    let stars = schema.min_prefix > 0;
     let mut inside = false;
     let mut negated = false;
     let mut at = 0;
     'pieces: while at < text.len() {
-        let piece = piece_at(charset, text, inside, at);
+        let piece = piece_at(charset, stars, text, inside, at);
         let found = mark_piece(
             alloc, charset, schema, text, &mut state, at as u32, piece.form,
         )?;

@@ -1,6 +1,6 @@
 //! What words, quoted pieces and zone limits are to the grammar.
-ghost use Rattle.std.specs.Prelude.{◌≡◌, ◌<◌, ◌^◌, IfOk, length};
-ghost use Rattle.query_marks.specs.Marks.{word_sign as sign_of_word, phrase_sign as sign_of_phrase, loose_sign as sign_of_loose, quoted_sign as sign_of_quoted, zone_sign as sign_of_zones};
+ghost use Rattle.std.specs.Prelude.{◌≡◌, ◌<◌, ◌≤◌, ◌^◌, IfOk, length};
+ghost use Rattle.query_marks.specs.Marks.{as_prefix as as_a_prefix, word_sign as sign_of_word, phrase_sign as sign_of_phrase, loose_sign as sign_of_loose, quoted_sign as sign_of_quoted, zone_sign as sign_of_zones};
 
 use crate::mark::Sign;
 use crate::names::numbers_of;
@@ -11,9 +11,41 @@ use sqlite_items::{Boxed, Items};
 use srch_base::{Name, NoMemory};
 use std::alloc::Global;
 
+/// A keyword, as a prefix or as a whole word.
+fn as_prefix(key: Key, prefix: bool) -> Key
+    ensures { result ≡ as_a_prefix prefix key }
+{
+    Key {
+        query: key.query,
+        word: key.word,
+        limit: key.limit,
+        start: key.start,
+        end: key.end,
+        prefix,
+    }
+}
+
 /// The sign of a word.
-pub(crate) fn word_sign(alloc: Global, keys: Items<Key>) -> Result<Option<Sign>, NoMemory>
-    ensures { IfOk result (λ sign. sign ≡ sign_of_word keys) }
+pub(crate) fn word_sign(
+    alloc: Global,
+    keys: Items<Key>,
+    prefix: bool,
+) -> Result<Option<Sign>, NoMemory>
+    ensures { IfOk result (λ sign. sign ≡ sign_of_word prefix keys) }
+{
+    let mut keys = keys;
+    if keys.is_empty() {
+        return Ok(None);
+    }
+    let key = as_prefix(keys.remove(0), prefix);
+    let boxed = Boxed::new(alloc, key)?;
+    Ok(Some(Sign::Bare(boxed)))
+}
+
+/// The sign of a quoted piece of one word at most.
+fn lone_sign(alloc: Global, keys: Items<Key>) -> Result<Option<Sign>, NoMemory>
+    requires { length keys ≤ 1 }
+    ensures { IfOk result (λ sign. sign ≡ sign_of_phrase keys) }
 {
     let mut keys = keys;
     if keys.is_empty() {
@@ -31,7 +63,7 @@ fn phrase_sign(alloc: Global, keys: Items<Key>) -> Result<Option<Sign>, NoMemory
     if keys.len() > 1 {
         return Ok(Some(Sign::Phrase(keys)));
     }
-    word_sign(alloc, keys)
+    lone_sign(alloc, keys)
 }
 
 /// The sign of a quoted piece with a number, if it has a word.

@@ -1,15 +1,16 @@
 //! Laws of the definitions. The functions do nothing: their contracts are the laws.
-ghost use Rattle.std.specs.Prelude.{◌≡◌, ℕ, List, Option};
+ghost use Rattle.std.specs.Prelude.{◌≡◌, ℕ, List};
 ghost use Rattle.std.specs.Str.{IsUtf8};
 ghost use Rattle.query_pieces.specs.declared.piece.Piece.{Piece};
+ghost use Rattle.query_pieces.specs.Letters.{Alphabet};
 ghost use Rattle.query_pieces.specs.Pieces.{ArePieces};
 
 /// A text has one list of pieces, whatever the table.
 pub fn one_list_of_pieces()
-    ensures { (fold : ℕ → Option ℕ) (text : List ℕ) (a b : List Piece) → ArePieces fold text a → ArePieces fold text b → a ≡ b }
+    ensures { (alphabet : Alphabet) (text : List ℕ) (a b : List Piece) → ArePieces alphabet text a → ArePieces alphabet text b → a ≡ b }
 {}
 
 /// Each text has pieces, whatever the table.
 pub fn each_text_has_pieces()
-    ensures { (fold : ℕ → Option ℕ) (text : List ℕ) → IsUtf8 text → (pieces : List Piece) × ArePieces fold text pieces }
+    ensures { (alphabet : Alphabet) (text : List ℕ) → IsUtf8 text → (pieces : List Piece) × ArePieces alphabet text pieces }
 {}

@@ -6,7 +6,7 @@ ghost use Rattle.std.specs.Char.{encode_utf8, len_utf8};
 ghost use Rattle.std.specs.Option.{option_map};
 ghost use Rattle.std.specs.Str.{IsCharBoundary, IsUtf8};
 ghost use Rattle.charset_map.specs.Spans.{folded};
-ghost use Rattle.query_pieces.specs.Letters.{char_at, by_table, letter_at};
+ghost use Rattle.query_pieces.specs.Letters.{alphabet_of, char_at, by_table, is_word_mark as is_mark, letter_at};
 ghost use Rattle.query_pieces.specs.Pieces.{char_end, IsRun};
 ghost use Rattle.query_pieces.specs.steps.Names.{letter_is};
 ghost use Rattle.query_pieces.specs.steps.Ends.{EndsIn, Follows};
@@ -106,19 +106,32 @@ pub(crate) fn operator(text: &str, inside: bool, at: usize) -> Option<Piece>
     read_operator(text.as_bytes(), inside, at)
 }
 
-/// The letter at an offset. The flag says that a letter of the same word stands directly before it.
+/// Whether a byte marks a word's start or end. The flag says that a letter of the word stands directly before it.
+fn is_word_mark(charset: &Charset, stars: bool, inside: bool, b: u8) -> bool
+    ensures { result ≡ is_mark (alphabet_of (folded charset.now) stars) inside b }
+{
+    b == b'^' || b == b'$' || (inside && stars && b == b'*')
+}
+
+/// The letter at an offset. The flag `inside` says that a letter of the same word stands directly before it.
 #[tactic(auto, unfolding(crate::specs::Letters::letter_at))]
-pub(crate) fn letter(charset: &Charset, text: &str, inside: bool, at: usize) -> Option<Folded>
+pub(crate) fn letter(
+    charset: &Charset,
+    stars: bool,
+    text: &str,
+    inside: bool,
+    at: usize,
+) -> Option<Folded>
     requires seam { IsCharBoundary text.now at }
     requires size { length text.now < 2 ^ 32 }
-    ensures is { option_map letter_is result ≡ letter_at (folded charset.now) text.now inside at }
+    ensures is { option_map letter_is result ≡ letter_at (alphabet_of (folded charset.now) stars) text.now inside at }
     ensures ends { IfSome result (λ found. Follows text.now at found.to) }
 {
     let b = text_byte(text, at);
     if b == b'\\' {
         return escaped(charset, text, at);
     }
-    if b == b'^' || b == b'$' {
+    if is_word_mark(charset, stars, inside, b) {
         return None;
     }
     match operator(text, inside, at) {
@@ -128,16 +141,16 @@ pub(crate) fn letter(charset: &Charset, text: &str, inside: bool, at: usize) -> 
 }
 
 /// The offset after the letters at an offset.
-pub(crate) fn after_letters(charset: &Charset, text: &str, from: usize) -> usize
+pub(crate) fn after_letters(charset: &Charset, stars: bool, text: &str, from: usize) -> usize
     requires seam { IsCharBoundary text.now from }
     requires size { length text.now < 2 ^ 32 }
-    requires some { letter_at (folded charset.now) text.now false from ≡ None → ⊥ }
-    ensures is { (letters : List ℕ) × IsRun (folded charset.now) text.now from letters result }
+    requires some { letter_at (alphabet_of (folded charset.now) stars) text.now false from ≡ None → ⊥ }
+    ensures is { (letters : List ℕ) × IsRun (alphabet_of (folded charset.now) stars) text.now from letters result }
     ensures follows { Follows text.now from result }
 {
     let mut at = from;
     let mut inside = false;
-    'letters: while let Some(found) = letter(charset, text, inside, at) {
+    'letters: while let Some(found) = letter(charset, stars, text, inside, at) {
         at = found.to;
         inside = true;
     }

@@ -20,6 +20,8 @@ pub struct Spelling {
     pub start: bool,
     /// `$` stands directly after it.
     pub end: bool,
+    /// `*` stands directly after it where words may end with it: it is a prefix.
+    pub prefix: bool,
 }
 
 /// The number after a quoted piece, as its digits stand in the text.

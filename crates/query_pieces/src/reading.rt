@@ -5,9 +5,10 @@
 ghost use Rattle.std.specs.Prelude.{◌≡◌, ◌<◌, ◌≤◌, ◌^◌, ℕ, false, None, IfOk, length};
 ghost use Rattle.std.specs.Str.{IsCharBoundary};
 ghost use Rattle.charset_map.specs.Spans.{folded};
-ghost use Rattle.query_pieces.specs.Letters.{letter_at};
+ghost use Rattle.query_pieces.specs.Letters.{alphabet_of, is_star, letter_at};
+ghost use Rattle.query_pieces.specs.QueryBytes.{byte};
 ghost use Rattle.query_pieces.specs.Operators.{operator_at};
-ghost use Rattle.query_pieces.specs.Pieces.{after_start, separator_at, IsWord, IsPlain, Stands, ends_in_letter, ArePieces};
+ghost use Rattle.query_pieces.specs.Pieces.{after_start, after_end, separator_at, IsWord, IsPlain, Stands, ends_in_letter, ArePieces};
 ghost use Rattle.query_pieces.specs.steps.Ends.{Follows};
 
 use crate::letters::{after_character, after_letters, letter, operator, text_byte};
@@ -35,25 +36,49 @@ fn read_separator(text: &str, at: usize) -> Piece
     }
 }
 
+/// Whether a `*` that makes a prefix stands at an offset, where a word's letters end.
+fn is_starred(charset: &Charset, stars: bool, text: &str, at: usize) -> bool
+    ensures { result ≡ is_star (alphabet_of (folded charset.now) stars) (byte text.now at) }
+{
+    stars && text_byte(text, at) == b'*'
+}
+
+/// The offset after a `$` or a `*` that ends a word, where there is one.
+fn after_word(charset: &Charset, stars: bool, text: &str, at: usize) -> usize
+    requires seam { IsCharBoundary text.now at }
+    requires size { length text.now < 2 ^ 32 }
+    ensures is { result ≡ after_end (alphabet_of (folded charset.now) stars) text.now at }
+    ensures ahead { at ≤ result }
+{
+    if text_byte(text, at) == b'$' || is_starred(charset, stars, text, at) {
+        at + 1
+    } else {
+        at
+    }
+}
+
 /// Reads a word, whose first letter is at the offset `from`.
-fn read_word(charset: &Charset, text: &str, at: usize, from: usize) -> Piece
+fn read_word(charset: &Charset, stars: bool, text: &str, at: usize, from: usize) -> Piece
     requires from { from ≡ after_start text.now at }
     requires ahead { at ≤ from }
     requires seam { IsCharBoundary text.now from }
     requires size { length text.now < 2 ^ 32 }
-    requires some { letter_at (folded charset.now) text.now false from ≡ None → ⊥ }
-    ensures is { IsWord (folded charset.now) text.now at result }
+    requires some { letter_at (alphabet_of (folded charset.now) stars) text.now false from ≡ None → ⊥ }
+    ensures is { IsWord (alphabet_of (folded charset.now) stars) text.now at result }
     ensures follows { Follows text.now at result.to }
 {
-    let to = after_letters(charset, text, from);
+    let to = after_letters(charset, stars, text, from);
     let end = text_byte(text, to) == b'$';
+    let prefix = is_starred(charset, stars, text, to);
+    let after = after_word(charset, stars, text, to);
     Piece {
         form: Form::Word(Spelling {
             letters: Slice { from, to },
             start: text_byte(text, at) == b'^',
             end,
+            prefix,
         }),
-        to: if end { to + 1 } else { to },
+        to: after,
     }
 }
 
@@ -73,16 +98,16 @@ fn after_caret(text: &str, at: usize) -> usize
 }
 
 /// Reads a word or what separates, where no operator begins.
-fn read_plain(charset: &Charset, text: &str, at: usize) -> Piece
+fn read_plain(charset: &Charset, stars: bool, text: &str, at: usize) -> Piece
     requires seam { IsCharBoundary text.now at }
     requires within { at < length text.now }
     requires size { length text.now < 2 ^ 32 }
-    ensures is { IsPlain (folded charset.now) text.now at result }
+    ensures is { IsPlain (alphabet_of (folded charset.now) stars) text.now at result }
     ensures follows { Follows text.now at result.to }
 {
     let from = after_caret(text, at);
-    match letter(charset, text, false, from) {
-        Some(_) => read_word(charset, text, at, from),
+    match letter(charset, stars, text, false, from) {
+        Some(_) => read_word(charset, stars, text, at, from),
         None => read_separator(text, at),
     }
 }
@@ -92,38 +117,44 @@ fn leaves_letter(form: Form) -> bool
     ensures { result ≡ ends_in_letter form }
 {
     match form {
-        Form::Word(spelling) => !spelling.end,
+        Form::Word(spelling) => !spelling.end && !spelling.prefix,
         _ => false,
     }
 }
 
-/// The piece at an offset of a text. The flag says that a letter of a word stands directly before it.
+/// The piece at an offset of a text. The flag `stars` says that a `*` directly behind a word makes a prefix, `inside` that a letter
+/// of a word stands directly before the piece.
 ///
 /// The time is linear in what the piece takes, and it takes no memory.
-pub fn piece_at(charset: &Charset, text: &str, inside: bool, at: usize) -> Piece
+pub fn piece_at(charset: &Charset, stars: bool, text: &str, inside: bool, at: usize) -> Piece
     requires seam { IsCharBoundary text.now at }
     requires within { at < length text.now }
     requires size { length text.now < 2 ^ 32 }
-    ensures is { Stands (folded charset.now) text.now inside at result }
+    ensures is { Stands (alphabet_of (folded charset.now) stars) text.now inside at result }
     ensures after { at < result.to }
     ensures seam { IsCharBoundary text.now result.to }
 {
     match operator(text, inside, at) {
         Some(piece) => piece,
-        None => read_plain(charset, text, at),
+        None => read_plain(charset, stars, text, at),
     }
 }
 
-/// The pieces of a text, one after the other.
-pub fn pieces(alloc: Global, charset: &Charset, text: &str) -> Result<Vec<Piece>, NoMemory>
+/// The pieces of a text, one after the other. The flag says that a `*` directly behind a word makes a prefix.
+pub fn pieces(
+    alloc: Global,
+    charset: &Charset,
+    stars: bool,
+    text: &str,
+) -> Result<Vec<Piece>, NoMemory>
     requires { length text.now < 2 ^ 32 }
-    ensures { IfOk result (λ list. ArePieces (folded charset.now) text.now list.items) }
+    ensures { IfOk result (λ list. ArePieces (alphabet_of (folded charset.now) stars) text.now list.items) }
 {
     let mut list = Vec::new(alloc);
     let mut inside = false;
     let mut at = 0;
     'pieces: while at < text.len() {
-        let piece = piece_at(charset, text, inside, at);
+        let piece = piece_at(charset, stars, text, inside, at);
         list.push(piece)?;
         inside = leaves_letter(piece.form);
         at = piece.to;

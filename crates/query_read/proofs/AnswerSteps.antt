@@ -11,7 +11,7 @@ use Rattle.query_marks.specs.declared.fault.Wrong.{Wrong}
 use Rattle.query_marks.specs.declared.mark.Mark.{Mark}
 use Rattle.query_marks.specs.declared.mark.Sign.{Sign}
 use Rattle.query_marks.specs.declared.mark.Sign.TheVariants as signs
-use Rattle.query_marks.specs.Marks.{Setting, marks_of}
+use Rattle.query_marks.specs.Marks.{Setting, alphabet_in, marks_of}
 use Rattle.query_marks.specs.Enough.{AreEnough}
 use Rattle.query_grammar.specs.declared.class.Class.TheVariants as classes
 use Rattle.query_grammar.specs.declared.fault.QueryFault.{QueryFault}
@@ -32,7 +32,7 @@ use Rattle.query_read.proofs.OnlyEnd.{end_alone, more_than_end, end_of_all, end_
 
 -- the marks of a text, or enough of them
 abbrev pub Given : Setting → List ℕ → List Mark → Type 0
-Given setting text given = (pieces : List Piece) → ArePieces setting.fold text pieces → AreEnough (length text) (marks_of setting text pieces) given
+Given setting text given = (pieces : List Piece) → ArePieces (alphabet_in setting) text pieces → AreEnough (length text) (marks_of setting text pieces) given
 
 -- each stop has a name, so that a text that stops has a fault
 pub named : {marks front : List Mark} {stop : Mark} → Stops marks front stop → is_ended marks ≡ true → (told : Told) × IsCandidate marks told
@@ -73,7 +73,7 @@ none_found None other is = is
 none_found (Some fault) other is = absurd (other fault refl)
 
 -- nothing is left but the end
-pub empty_answer : (setting : Setting) (text : List ℕ) (given : List Mark) → Given setting text given → is_ended given ≡ true → IsNextOf query_marks classes.End given true → (pieces : List Piece) → ArePieces setting.fold text pieces → IsValue (record { root = None; keywords = 0 }) (marks_of setting text pieces)
+pub empty_answer : (setting : Setting) (text : List ℕ) (given : List Mark) → Given setting text given → is_ended given ≡ true → IsNextOf query_marks classes.End given true → (pieces : List Piece) → ArePieces (alphabet_in setting) text pieces → IsValue (record { root = None; keywords = 0 }) (marks_of setting text pieces)
 empty_answer setting text given enough ended next pieces are =
     let end = end_of_all (length text) (marks_of setting text pieces) given (enough pieces are) (end_alone ended next) in
     (end, counted end)
@@ -82,7 +82,7 @@ empty_answer setting text given enough ended next pieces are =
     counted {marks} (m, is, end) = sym (ap (λ l. length (flat_map (λ (x : Mark). keys_of x.sign) l)) is ∙ ap (λ sign. length (keys_of sign ++ [])) end)
 
 -- a fault of the marks that are given
-pub refused_answer : (setting : Setting) (text : List ℕ) (given : List Mark) (fault : QueryFault) → IsUtf8 text → Given setting text given → IsNextOf query_marks classes.End given false → IsFirstFault given (told_of fault) → (pieces : List Piece) → ArePieces setting.fold text pieces → IsRefused fault (marks_of setting text pieces)
+pub refused_answer : (setting : Setting) (text : List ℕ) (given : List Mark) (fault : QueryFault) → IsUtf8 text → Given setting text given → IsNextOf query_marks classes.End given false → IsFirstFault given (told_of fault) → (pieces : List Piece) → ArePieces (alphabet_in setting) text pieces → IsRefused fault (marks_of setting text pieces)
 refused_answer setting text given fault utf8 enough next first pieces are = (
   first_of_all setting text pieces given (told_of fault) utf8 are (enough pieces are) first,
   λ end. more_than_end next (end_of_given (length text) (marks_of setting text pieces) given (enough pieces are) end),
@@ -91,11 +91,11 @@ refused_answer setting text given fault utf8 enough next first pieces are = (
 -- the marks that are given are in order
 pub given_orderly : (setting : Setting) (text : List ℕ) (given : List Mark) → IsUtf8 text → Given setting text given → AreOrderly given
 given_orderly setting text given utf8 enough =
-    let (pieces, are) = has_pieces setting.fold text utf8 in
+    let (pieces, are) = has_pieces (alphabet_in setting) text utf8 in
     orderly_given setting text pieces given utf8 are (enough pieces are)
 
 -- a query without a fault
-pub query_answer : (setting : Setting) (text : List ℕ) (given : List Mark) (root : Node) (keywords : ℕ) → IsUtf8 text → Given setting text given → IsQuery Any 32 root given → ((told : Told) → IsCandidate given told → ⊥) → keywords ≡ min (length (flat_map (λ m. keys_of m.sign) given)) 65535 → (pieces : List Piece) → ArePieces setting.fold text pieces → IsValue (record { root = Some root; keywords = keywords }) (marks_of setting text pieces)
+pub query_answer : (setting : Setting) (text : List ℕ) (given : List Mark) (root : Node) (keywords : ℕ) → IsUtf8 text → Given setting text given → IsQuery Any 32 root given → ((told : Told) → IsCandidate given told → ⊥) → keywords ≡ min (length (flat_map (λ m. keys_of m.sign) given)) 65535 → (pieces : List Piece) → ArePieces (alphabet_in setting) text pieces → IsValue (record { root = Some root; keywords = keywords }) (marks_of setting text pieces)
 query_answer setting text given root keywords utf8 enough query none counted pieces are = whole (marks_of setting text pieces) (all_given (length text) (marks_of setting text pieces) given (enough pieces are) none (root, query)) (few_keywords setting text pieces utf8 are)
   where
     whole : (all : List Mark) → given ≡ all → (((m : Mark) → Contains all m → m.wrong ≡ None) → length (flat_map (λ m. keys_of m.sign) all) ≤ 255) → IsValue (record { root = Some root; keywords = keywords }) all

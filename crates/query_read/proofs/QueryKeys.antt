@@ -13,7 +13,7 @@ use Rattle.query_tree.specs.declared.key.How.TheVariants as hows
 use Rattle.query_marks.specs.declared.mark.Mark.{Mark}
 use Rattle.query_marks.specs.declared.mark.Sign.{Sign}
 use Rattle.query_marks.specs.declared.mark.Sign.TheVariants as signs
-use Rattle.query_marks.specs.Marks.{Setting, marks_of}
+use Rattle.query_marks.specs.Marks.{Setting, alphabet_in, marks_of}
 use Rattle.query_tree.specs.declared.query.Item.{Item}
 use Rattle.query_tree.specs.declared.query.Node.{Node}
 use Rattle.query_tree.specs.declared.query.Node.TheVariants as nodes
@@ -196,14 +196,14 @@ pub value_has : (setting : Setting) (text : List ℕ) (pieces : List Piece) (que
 value_has setting text pieces query value = root_has query.root query.keywords (marks_of setting text pieces) (value_deep setting text pieces query value).root
 
 -- how many they are
-pub few_of_value : (setting : Setting) (text : List ℕ) (pieces : List Piece) (query : Query) → IsUtf8 text → ArePieces setting.fold text pieces → IsValue query (marks_of setting text pieces) → (length (query_keys query) ≤ 255) × (query.keywords ≡ length (query_keys query))
+pub few_of_value : (setting : Setting) (text : List ℕ) (pieces : List Piece) (query : Query) → IsUtf8 text → ArePieces (alphabet_in setting) text pieces → IsValue query (marks_of setting text pieces) → (length (query_keys query) ≤ 255) × (query.keywords ≡ length (query_keys query))
 few_of_value setting text pieces query utf8 are value =
     let same = ap length (value_has setting text pieces query value) in
     (omega (arith, few_keywords setting text pieces utf8 are (value_deep setting text pieces query value).right, same), value.1 ∙ same)
 
 pub few_when_read : (setting : Setting) (text : List ℕ) (query : Query) → IsUtf8 text → ReadsQuery setting text (Ok query) → (length (query_keys query) ≤ 255) × (query.keywords ≡ length (query_keys query))
 few_when_read setting text query utf8 reads =
-    let some = has_pieces setting.fold text utf8 in
+    let some = has_pieces (alphabet_in setting) text utf8 in
     few_of_value setting text some.0 query utf8 some.1 (reads some.0 some.1)
 
 -- the query positions of keywords are 1, 2, 3 and so on
@@ -212,6 +212,6 @@ AreNumbered keys = map (λ key. key.query) keys ≡ range_with_len 1 (length key
 
 pub numbered_when_read : (setting : Setting) (text : List ℕ) (query : Query) → IsUtf8 text → ReadsQuery setting text (Ok query) → AreNumbered (query_keys query)
 numbered_when_read setting text query utf8 reads =
-    let some = has_pieces setting.fold text utf8 in
+    let some = has_pieces (alphabet_in setting) text utf8 in
     let value = reads some.0 some.1 in
     subst AreNumbered (value_has setting text some.0 query value) (numbered_keywords setting text some.0 utf8 some.1 (value_deep setting text some.0 query value).right)

@@ -5,6 +5,7 @@ pub use Rattle.query_grammar.specs.declared.fault.QueryFault
 -- the marks of a text and its pieces, by a table of characters
 pub use Rattle.query_marks.specs.Marks
 pub use Rattle.query_pieces.specs.Pieces
+pub use Rattle.query_pieces.specs.Letters
 pub use Rattle.query_pieces.specs.declared.piece.Piece
 pub use Rattle.charset_map.specs.Spans
 -- the keywords of a tree

@@ -10,12 +10,11 @@ ghost use Rattle.query_grammar.specs.steps.MarkAlphabet.{query_marks};
 ghost use Rattle.query_grammar.specs.steps.QueryGrammar.{leaf, leaves};
 ghost use Rattle.query_read.specs.steps.Parts.{join_goes_on, AreAdded, IsLeaves};
 
-use crate::copies::{copy_key, copy_keys};
 use crate::cursor::MarkCursor;
 use crate::operators::{Operator, join_next};
 use query_grammar::Class;
 use query_marks::Sign;
-use query_tree::{How, Node};
+use query_tree::{How, Node, copy_key, copy_keys};
 use srch_base::Or;
 use std::alloc::Global;
 

@@ -1,7 +1,6 @@
 //! The reader of extended queries: a text is the query that it is, or its first fault.
 #![tactic(auto)]
 
-mod copies;
 mod cursor;
 mod faults;
 mod joins;

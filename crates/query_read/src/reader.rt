@@ -14,13 +14,12 @@ ghost use Rattle.query_grammar.specs.steps.MarkAlphabet.{query_marks};
 ghost use Rattle.query_read.specs.steps.Parts.{join_goes_on, alternatives_go_on, items_go_on, and_goes_on, expr_goes_on, AreItems, is_first, AreLimits, IsGiven};
 ghost use Rattle.query_grammar.specs.steps.QueryGrammar.{others, join_of, alternatives_of, item_of, items_of, section_of, and_of, expr_of};
 
-use crate::copies::copy_numbers;
 use crate::cursor::{MarkCursor, begins_item};
 use crate::joins::{leaves, loose};
 use crate::operators::{Operator, join_next};
 use query_grammar::Class;
 use query_marks::Sign;
-use query_tree::{Item, Node};
+use query_tree::{Item, Node, copy_numbers};
 use sqlite_items::{Boxed, Items};
 use srch_base::{NoMemory, Or};
 use std::alloc::Global;

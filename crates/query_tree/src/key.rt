@@ -25,6 +25,8 @@ pub struct Key {
     pub start: bool,
     /// It is the last word of its field.
     pub end: bool,
+    /// It stands for each word that begins with its own.
+    pub prefix: bool,
 }
 
 /// How the keywords of a quoted piece are looked for.

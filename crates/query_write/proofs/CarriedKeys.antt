@@ -1,7 +1,7 @@
 -- The keywords of one piece, where nothing is wrong with it.
-use Rattle.std.proofs.Common.{arith, ◌≡◌, ◌≢◌, ◌≤◌, ◌<◌, ◌+◌, ℕ, suc, Bool, true, false, List, [], ◌∷◌, length, refl, sym, ◌∙◌, ap, subst}
+use Rattle.std.proofs.Common.{arith, ◌≡◌, ◌≢◌, ◌≤◌, ◌<◌, ◌+◌, ℕ, suc, Bool, true, false, List, [], ◌∷◌, length, refl, sym, ◌∙◌, ap, subst, chars}
 use Rattle.std.specs.Prelude.{Option, Some, None, All, if◌then◌else◌, ◌==◌, ◌&&◌, nat_le, nat_lt}
-use Rattle.std.proofs.lemmas.Bool.{eqb-true, leb-true}
+use Rattle.std.proofs.lemmas.Bool.{eqb-true, leb-true, both_ways, ltb-false}
 use Rattle.std.proofs.lemmas.Bool.Decides.{nat_tests}
 use Rattle.std.proofs.lemmas.List.Elements.{All-nil, All-cons, All-head, All-tail}
 use Rattle.doc_types.specs.declared.schema.Schema.{Schema}
@@ -13,8 +13,8 @@ use Rattle.query_tree.specs.declared.key.How.{How}
 use Rattle.query_tree.specs.declared.key.How.TheVariants as hows
 use Rattle.query_marks.specs.declared.mark.Sign.{Sign}
 use Rattle.query_marks.specs.Hows.{is_out}
-use Rattle.query_marks.specs.Marks.{nameless, keys_after, nobody, nobodies, keys_of, passes_limit, counted, word_sign, quoted_sign, wrong_count, wrong_quoted}
-use Rattle.query_write.specs.steps.Signs.{IsPlainWord}
+use Rattle.query_marks.specs.Marks.{nameless, keys_after, nobody, nobodies, keys_of, passes_limit, counted, word_sign, quoted_sign, wrong_count, wrong_quoted, as_prefix, is_short, wrong_word}
+use Rattle.query_write.specs.steps.Signs.{IsPlainWord, IsKeyOf}
 use Rattle.query_write.specs.steps.TokenRun.{words_of, IsRightHow}
 use Rattle.query_write.specs.steps.Writable.{AreKeys}
 use Rattle.query_write.specs.steps.Carried.{every, IsStep}
@@ -66,27 +66,50 @@ keys_words n limit (word ∷ words) = ap (λ l. word ∷ l) (keys_words (n + 1) 
 keys_plain : (n : ℕ) (limit : Limit) (words : List (List ℕ)) → All (IsPlainWord every) words → All (λ key. IsPlainWord every key.word) (keys_after n limit false false words)
 keys_plain n limit [] all = All-nil (λ key. IsPlainWord every key.word)
 keys_plain n limit (word ∷ words) all =
-    All-cons (λ (key : Key). IsPlainWord every key.word) (record { query = n + 1; word = word; limit = limit; start = false; end = false }) (keys_after (n + 1) limit false false words) (All-head (IsPlainWord every) word words all) (keys_plain (n + 1) limit words (All-tail (IsPlainWord every) word words all))
+    All-cons (λ (key : Key). IsPlainWord every key.word) (record { query = n + 1; word = word; limit = limit; start = false; end = false; prefix = false }) (keys_after (n + 1) limit false false words) (All-head (IsPlainWord every) word words all) (keys_plain (n + 1) limit words (All-tail (IsPlainWord every) word words all))
 
 keys_are : (n : ℕ) (limit : Limit) (words : List (List ℕ)) → All (IsPlainWord every) words → AreKeys every limit n (keys_after n limit false false words)
 keys_are n limit words all = record { are = ap (keys_after n limit false false) (sym (keys_words n limit words)); plain = keys_plain n limit words all }
 
 -- ---- words
-pub word_step : (schema : Schema) (n : ℕ) (limit : Limit) (start end : Bool) (words : List (List ℕ)) (word : List ℕ) → n ≤ 255 → words ≡ word ∷ [] → IsPlainWord every word
-    → IsClean (word_sign (keys_of n limit start end words)) (wrong_count n 1) → IsStepOf schema n limit (word_sign (keys_of n limit start end words)) (counted n 1) limit × (counted n 1 ≤ 255)
-word_step schema n limit start end words word few e plain =
-    subst (λ l. IsClean (word_sign (keys_of n limit start end l)) (wrong_count n 1) → IsStepOf schema n limit (word_sign (keys_of n limit start end l)) (counted n 1) limit × (counted n 1 ≤ 255)) (sym e) (by (nat_le (n + 1) 255) refl)
+-- no prefix with which nothing is wrong has too few letters
+word_clean : (n shortest letters : ℕ) (prefix : Bool) → wrong_word n (is_short shortest prefix letters) ≡ None → (wrong_count n 1 ≡ None) × (prefix ≡ true → shortest ≤ letters)
+word_clean n shortest letters prefix = by (passes_limit n 1)
+  where
+    long : (p : Bool) → (if p && nat_lt letters shortest then nameless kinds.PrefixTooShort else None) ≡ None → p ≡ true → shortest ≤ letters
+    long true e f = enough (nat_lt letters shortest) refl e
+      where
+        enough : (b : Bool) → nat_lt letters shortest ≡ b → (if b then nameless kinds.PrefixTooShort else None) ≡ None → shortest ≤ letters
+        enough true g h = cc
+        enough false g h = ltb-false letters shortest g
+    long false e f = absurd (both_ways false refl f)
+
+    by : (b : Bool) → (if b then nameless kinds.TooManyKeywords else (if prefix && nat_lt letters shortest then nameless kinds.PrefixTooShort else None)) ≡ None
+        → ((if b then nameless kinds.TooManyKeywords else None) ≡ None) × (prefix ≡ true → shortest ≤ letters)
+    by true e = cc
+    by false e = (refl, long prefix e)
+
+pub word_step : (schema : Schema) (n : ℕ) (limit : Limit) (start end prefix : Bool) (letters : ℕ) (words : List (List ℕ)) (word : List ℕ) → n ≤ 255 → words ≡ word ∷ [] → IsPlainWord every word
+    → (prefix ≡ true → (nat_lt 0 schema.min_prefix ≡ true) × (end ≡ false)) → (schema.min_prefix ≤ letters → schema.min_prefix ≤ length (chars word))
+    → IsClean (word_sign prefix (keys_of n limit start end words)) (wrong_word n (is_short schema.min_prefix prefix letters)) → IsStepOf schema n limit (word_sign prefix (keys_of n limit start end words)) (counted n 1) limit × (counted n 1 ≤ 255)
+word_step schema n limit start end prefix letters words word few e plain marks long =
+    subst (λ l. IsClean (word_sign prefix (keys_of n limit start end l)) (wrong_word n (is_short schema.min_prefix prefix letters)) → IsStepOf schema n limit (word_sign prefix (keys_of n limit start end l)) (counted n 1) limit × (counted n 1 ≤ 255)) (sym e) (by (nat_le (n + 1) 255) refl)
   where
     bad : nat_le (n + 1) 255 ≡ false → n + 1 ≤ 255 → ⊥
     bad f g = grind (arith, nat_tests)
 
     key : Key
-    key = record { query = n + 1; word = word; limit = limit; start = start; end = end }
+    key = record { query = n + 1; word = word; limit = limit; start = start; end = end; prefix = false }
 
-    by : (b : Bool) → nat_le (n + 1) 255 ≡ b → IsClean (word_sign (if b then key ∷ [] else nobodies 1)) (wrong_count n 1)
-        → IsStepOf schema n limit (word_sign (if b then key ∷ [] else nobodies 1)) (if b then n + 1 else 256) limit × ((if b then n + 1 else 256) ≤ 255)
-    by true f clean = let low : n + 1 ≤ 255 = leb-true (n + 1) 255 f in ((refl, low, refl, refl, plain), low)
-    by false f clean = absurd (bad f (within n 1 few clean))
+    taken : (prefix ≡ true → schema.min_prefix ≤ letters) → IsKeyOf schema (as_prefix prefix key)
+    taken enough f = record { taken = (marks f).0; goes_on = (marks f).1; enough = long (enough f) }
+
+    by : (b : Bool) → nat_le (n + 1) 255 ≡ b → IsClean (word_sign prefix (if b then key ∷ [] else nobodies 1)) (wrong_word n (is_short schema.min_prefix prefix letters))
+        → IsStepOf schema n limit (word_sign prefix (if b then key ∷ [] else nobodies 1)) (if b then n + 1 else 256) limit × ((if b then n + 1 else 256) ≤ 255)
+    by true f clean =
+        let low : n + 1 ≤ 255 = leb-true (n + 1) 255 f in
+        ((refl, low, refl, refl, plain, taken (word_clean n schema.min_prefix letters prefix clean).1), low)
+    by false f clean = absurd (bad f (within n 1 few (word_clean n schema.min_prefix letters prefix clean).0))
 
 -- ---- quoted pieces
 nobody_some : (k : ℕ) → 0 < k → nobodies k ≢ []
@@ -120,7 +143,7 @@ not_out n false more e = (refl, e)
 keys_step : (schema : Schema) (n : ℕ) (limit : Limit) (words : List (List ℕ)) (how : How) → words ≢ [] → n + length words ≤ 255 → All (IsPlainWord every) words → IsRightHow how
     → IsStepOf schema n limit (quoted_sign (keys_after n limit false false words) how) (n + length words) limit
 keys_step schema n limit [] how some few all right = absurd (some refl)
-keys_step schema n limit (word ∷ []) hows.Phrase some few all right = (refl, few, refl, refl, All-head (IsPlainWord every) word [] all)
+keys_step schema n limit (word ∷ []) hows.Phrase some few all right = (refl, few, refl, refl, All-head (IsPlainWord every) word [] all, λ f. absurd (both_ways false refl f))
 keys_step schema n limit (word ∷ other ∷ words) hows.Phrase some few all right =
     let keys = keys_length n limit (word ∷ other ∷ words) in
     (ap (λ k. n + k) (sym keys), few, refl, omega (arith, keys), keys_are n limit (word ∷ other ∷ words) all)

@@ -1,6 +1,6 @@
 -- The marks of a text with which nothing is wrong carry their keywords one after the other.
-use Rattle.std.proofs.Common.{arith, ◌≡◌, ◌≢◌, ◌≤◌, ◌+◌, ◌*◌, ℕ, Bool, true, false, List, [], ◌∷◌, ◌++◌, refl, sym, ◌∙◌, subst}
-use Rattle.std.specs.Prelude.{Option, Some, None, All, if◌then◌else◌, ◌==◌}
+use Rattle.std.proofs.Common.{arith, ◌≡◌, ◌≢◌, ◌≤◌, ◌+◌, ◌*◌, ℕ, Bool, true, false, List, [], ◌∷◌, ◌++◌, refl, sym, ◌∙◌, subst, length, chars}
+use Rattle.std.specs.Prelude.{Option, Some, None, All, if◌then◌else◌, ◌==◌, nat_lt}
 use Rattle.std.specs.Option.{option_map}
 use Rattle.std.proofs.lemmas.List.Elements.{All-nil, All-head}
 use Rattle.doc_types.specs.declared.schema.Schema.{Schema}
@@ -20,7 +20,7 @@ use Rattle.query_marks.specs.declared.limits.Limits.{Limits}
 use Rattle.query_marks.specs.declared.mark.Mark.{Mark}
 use Rattle.query_marks.specs.declared.mark.Sign.{Sign}
 use Rattle.query_marks.specs.declared.mark.Sign.TheVariants as signs
-use Rattle.query_marks.specs.QueryWords.{words_in}
+use Rattle.query_marks.specs.QueryWords.{words_in, letters_in}
 use Rattle.query_marks.specs.LimitNames.{bytes_of, first_unknown, has_long, numbers_of, number_of}
 use Rattle.query_marks.specs.Hows.{how_of}
 use Rattle.query_marks.specs.Limits.{mask, keeps, field_limits, zone_limits}
@@ -45,7 +45,10 @@ each_last P (y ∷ xs) x (first, rest) last = (first, each_last P xs x rest last
 
 -- What is known of a piece besides its form: a word is one, and the zones of a limit can be written.
 abbrev pub IsRightPiece : (ℕ → Option ℕ) → Schema → List ℕ → Form → Type 0
-IsRightPiece fold schema text (forms.Word w) = (word : List ℕ) × (words_in fold (bytes_of text w.letters) ≡ word ∷ [])
+IsRightPiece fold schema text (forms.Word w) =
+    (word : List ℕ) × (words_in fold (bytes_of text w.letters) ≡ word ∷ [])
+    × (w.prefix ≡ true → (nat_lt 0 schema.min_prefix ≡ true) × (w.end ≡ false))
+    × (GivesChars fold → schema.min_prefix ≤ length (letters_in fold (chars (bytes_of text w.letters))) → schema.min_prefix ≤ length (chars word))
 IsRightPiece fold schema text (forms.Zones limit) = schema.zones ≢ [] → wrong_zones schema.zones (bytes_of text limit.names) ≡ None → AreRightZones schema (numbers_of schema.zones (bytes_of text limit.names))
 IsRightPiece fold schema text _ = Unit {0}
 
@@ -146,9 +149,9 @@ module _ (fold : ℕ → Option ℕ) (gives : GivesChars fold) (schema : Schema)
   -- ---- pieces
   goes : (state : _) (form : Form) → IsClean (sign_of setting state text form) (wrong_of setting state text form) → Fits state.keywords state.here state.around → IsRightPiece fold schema text form
       → Goes state.keywords state.here (sign_of setting state text form) (after setting state text form).keywords (after setting state text form).here (after setting state text form).around
-  goes state (forms.Word w) clean fits (word, e) =
+  goes state (forms.Word w) clean fits (word, e, marks, long) =
       let plain = All-head (IsPlainWord every) word [] (subst (All (IsPlainWord every)) e (words_plain fold gives (bytes_of text w.letters))) in
-      let s = word_step schema state.keywords (limit state.here) w.start w.end (words_in fold (bytes_of text w.letters)) word fits.few e plain clean in
+      let s = word_step schema state.keywords (limit state.here) w.start w.end w.prefix (length (letters_in fold (chars (bytes_of text w.letters)))) (words_in fold (bytes_of text w.letters)) word fits.few e plain marks (long gives) clean in
       record { step = s.0; fits = record { few = s.1; right = fits.right; outer = fits.outer } }
   goes state (forms.Quoted q) clean fits known =
       let s = quoted_step schema state.keywords (limit state.here) (words_in fold (bytes_of text q.inside)) (how_of text q.number) fits.few (words_plain fold gives (bytes_of text q.inside)) (right_how text q.number) clean in

@@ -57,13 +57,13 @@ module _ (fold : ℕ → Option ℕ) (schema : Schema) where
       last (k, mid, step, (em, et)) = subst (λ t. IsStep fold schema n here sign m t) (sym et) (subst (λ j. IsStep fold schema n here sign j mid) (sym em) (subst (λ s. IsStep fold schema n here s k mid) f step))
 
   -- ---- leaves
-  leaf_is : (n : ℕ) (here : Limit) (node : Node) (u : List Mark) (m : ℕ) (there : Limit) → IsLeaf node u → Carries fold schema n here u m there → IsLeafOf fold here n node m × (there ≡ here)
+  leaf_is : (n : ℕ) (here : Limit) (node : Node) (u : List Mark) (m : ℕ) (there : Limit) → IsLeaf node u → Carries fold schema n here u m there → IsLeafOf fold schema here n node m × (there ≡ here)
   leaf_is n here node u m there (inl (key, e, is)) c =
       let s = one_step n here (signs.Bare key) u m there is c in
-      (subst (λ x. IsLeafOf fold here n x m) (sym e) (subst (λ j. IsLeafOf fold here n (nodes.Word key) j) (sym s.0) (of_word n key s.3 s.4)), s.2)
+      (subst (λ x. IsLeafOf fold schema here n x m) (sym e) (subst (λ j. IsLeafOf fold schema here n (nodes.Word key) j) (sym s.0) (of_word n key s.3 s.4 s.5)), s.2)
   leaf_is n here node u m there (inr (keys, e, is)) c =
       let s = one_step n here (signs.Phrase keys) u m there is c in
-      (subst (λ x. IsLeafOf fold here n x m) (sym e) (subst (λ j. IsLeafOf fold here n (nodes.Quoted keys hows.Phrase) j) (sym s.0) (of_phrase n keys s.3 s.4)), s.2)
+      (subst (λ x. IsLeafOf fold schema here n x m) (sym e) (subst (λ j. IsLeafOf fold schema here n (nodes.Quoted keys hows.Phrase) j) (sym s.0) (of_phrase n keys s.3 s.4)), s.2)
 
   loose_is : (n : ℕ) (here : Limit) (node : Node) (u : List Mark) (m : ℕ) (there : Limit) → IsRightLimit schema here → IsLoose node u → Carries fold schema n here u m there → IsWritable fold schema n node m
   loose_is n here node u m there right (keys, how, e, is) c =
@@ -76,12 +76,12 @@ module _ (fold : ℕ → Option ℕ) (schema : Schema) where
     pub before : ℕ
     pub leaf : Node
     pub is : node ≡ join front leaf
-    pub leaves : AreLeavesOf fold here join n front before
-    pub last : IsLeafOf fold here before leaf m
+    pub leaves : AreLeavesOf fold schema here join n front before
+    pub last : IsLeafOf fold schema here before leaf m
 
   module _ (sign : Sign) (join : Node → Node → Node) (keeps : (n : ℕ) (here : Limit) (m : ℕ) (there : Limit) → IsStep fold schema n here sign m there → (m ≡ n) × (there ≡ here)) where
     next_leaf : (k : ℕ) (here : Limit) (leaf : Node) (rest : List Node) (u : List Mark) (m : ℕ) (there : Limit) → AreInRow (λ leaf. Is sign then IsLeaf leaf) (leaf ∷ rest) u → Carries fold schema k here u m there
-        → (j : ℕ) × (b : List Mark) × IsLeafOf fold here k leaf j × AreInRow (λ leaf. Is sign then IsLeaf leaf) rest b × Carries fold schema j here b m there
+        → (j : ℕ) × (b : List Mark) × IsLeafOf fold schema here k leaf j × AreInRow (λ leaf. Is sign then IsLeaf leaf) rest b × Carries fold schema j here b m there
     next_leaf k here leaf rest u m there (a, b, e, (a1, b1, e1, operator, is), row) c =
         let parts = carries_both k here u a b m there e c in
         let inner = carries_both k here a a1 b1 parts.0 parts.1 e1 parts.2 in
@@ -89,12 +89,12 @@ module _ (fold : ℕ → Option ℕ) (schema : Schema) where
         let next = leaf_is k here leaf b1 parts.0 parts.1 is (subst (λ j. Carries fold schema j here b1 parts.0 parts.1) stays.0 (subst (λ t. Carries fold schema inner.0 t b1 parts.0 parts.1) stays.1 inner.3)) in
         (parts.0, b, next.0, row, subst (λ t. Carries fold schema parts.0 t b m there) next.1 parts.3)
 
-    chain : (n : ℕ) (here : Limit) (front : Node) (k : ℕ) (leaf : Node) (rest : List Node) (u : List Mark) (m : ℕ) (there : Limit) → AreLeavesOf fold here join n front k
+    chain : (n : ℕ) (here : Limit) (front : Node) (k : ℕ) (leaf : Node) (rest : List Node) (u : List Mark) (m : ℕ) (there : Limit) → AreLeavesOf fold schema here join n front k
         → AreInRow (λ leaf. Is sign then IsLeaf leaf) (leaf ∷ rest) u → Carries fold schema k here u m there → Chain here join n (joined join front (leaf ∷ rest)) m
     chain n here front k leaf [] u m there leaves row c =
         let next = next_leaf k here leaf [] u m there row c in
         let none = subst (λ v. Carries fold schema next.0 here v m there) next.3 next.4 in
-        record { front = front; before = k; leaf = leaf; is = refl; leaves = leaves; last = subst (IsLeafOf fold here k leaf) (sym none.0) next.2 }
+        record { front = front; before = k; leaf = leaf; is = refl; leaves = leaves; last = subst (IsLeafOf fold schema here k leaf) (sym none.0) next.2 }
     chain n here front k leaf (other ∷ others) u m there leaves row c =
         let next = next_leaf k here leaf (other ∷ others) u m there row c in
         chain n here (join front leaf) next.0 other others next.1 m there (more_leaves n front k leaf next.0 leaves next.2) next.3 next.4

@@ -1,8 +1,11 @@
 -- The words that are read of a slice have 1 to 42 characters each.
-use Rattle.std.proofs.Common.{arith, ◌≡◌, ◌≤◌, ℕ, zero, suc, Bool, true, false, List, [], ◌∷◌, Option, Some, None, length, take, map, refl, subst, chars}
+use Rattle.std.proofs.Common.{arith, ◌≡◌, ◌≤◌, ℕ, zero, suc, Bool, true, false, List, [], ◌∷◌, Option, Some, None, length, take, map, refl, ap, subst, chars}
 use Rattle.std.specs.Prelude.{All, Contains, filter, if◌then◌else◌, ◌==◌, ◌||◌}
 use Rattle.std.specs.List.{filter_map, slice_split, onto_first}
-use Rattle.std.proofs.Math.Utf8.{scalar}
+use Rattle.std.proofs.Math.Utf8.{scalar, scalars}
+use Rattle.std.proofs.lemmas.Bool.{and_from}
+use Rattle.std.proofs.lemmas.List.{length-map}
+use Rattle.std.proofs.lemmas.Str.{chars-encodes}
 use Rattle.std.proofs.lemmas.List.Elements.{All-nil, All-cons}
 use Rattle.doc_types.specs.declared.tokens.TheConstants.{MAX_WORD_CHARS}
 use Rattle.query_marks.specs.QueryWords.{plain_letter, letters_from, letters_in, separates, has_letters, runs_in, word_of, words_in}
@@ -105,3 +108,28 @@ pub words_plain : (fold : ℕ → Option ℕ) → GivesChars fold → (bytes : L
 words_plain fold gives bytes =
     each_all (IsPlainWord every) (words_in fold bytes)
     (runs_words (runs_in (letters_in fold (chars bytes))) (runs_filter (slice_split separates (letters_in fold (chars bytes))) (split_letters (letters_in fold (chars bytes)) (letters_stand fold gives false (chars bytes)))))
+
+-- a word has as many characters as letters, up to the longest word's
+long_values : (k n : ℕ) (folded : List ℕ) → k ≤ n → k ≤ length folded → k ≤ length (filter_map (λ letter. letter) (take n (map (λ (v : ℕ). Some v) folded)))
+long_values zero n folded few some = omega arith
+long_values (suc k) zero folded few some = absurd (omega (arith, few))
+long_values (suc k) (suc n) [] few some = absurd (omega (arith, some))
+long_values (suc k) (suc n) (v ∷ folded) few some = omega (arith, long_values k n folded (omega (arith, few)) (omega (arith, some)))
+
+all_letters : (folded : List ℕ) → Each MayStand (map (λ (v : ℕ). Some v) folded) → Each IsLetter (map (λ (v : ℕ). Some v) folded)
+all_letters [] each = tt
+all_letters (v ∷ folded) (first, rest) = (first, all_letters folded rest)
+
+all_scalars : (cs : List ℕ) → Each (λ c. scalar c ≡ true) cs → scalars cs ≡ true
+all_scalars [] each = refl
+all_scalars (c ∷ cs) (first, rest) = and_from (scalar c) (scalars cs) first (all_scalars cs rest)
+
+pub long_word : (fold : ℕ → Option ℕ) → GivesChars fold → (bytes folded : List ℕ) (shortest : ℕ) → letters_in fold (chars bytes) ≡ map (λ (v : ℕ). Some v) folded → shortest ≤ MAX_WORD_CHARS → shortest ≤ length (letters_in fold (chars bytes))
+    → shortest ≤ length (chars (word_of (map (λ (v : ℕ). Some v) folded)))
+long_word fold gives bytes folded shortest letters few long =
+    let run : List (Option ℕ) = map (λ (v : ℕ). Some v) folded in
+    let values : List ℕ = filter_map (λ letter. letter) (take MAX_WORD_CHARS run) in
+    let are : Each IsLetter run = all_letters folded (subst (Each MayStand) letters (letters_stand fold gives false (chars bytes))) in
+    let same : chars (word_of run) ≡ values = chars-encodes values (all_scalars values (values_chars MAX_WORD_CHARS run are)) in
+    let enough : shortest ≤ length folded = omega (arith, long, ap length letters, length-map folded (λ (v : ℕ). Some v)) in
+    omega (arith, ap length same, long_values shortest MAX_WORD_CHARS folded few enough)

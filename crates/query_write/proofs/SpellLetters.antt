@@ -8,7 +8,7 @@ use Rattle.std.proofs.lemmas.Bool.{both_ways, cases_lt, and_parts, and_from, and
 use Rattle.std.proofs.lemmas.Str.{chars-append, chars-encodes, IsUtf8-encode, encode_ascii, inside_one, length-encode, len_utf8_bounds, len_utf8_ascii}
 use Rattle.query_pieces.specs.QueryBytes.{byte, byte_before, is_bound}
 use Rattle.query_pieces.specs.Operators.{operator_at}
-use Rattle.query_pieces.specs.Letters.{char_at, first_of, letter_of, by_table, letter_at}
+use Rattle.query_pieces.specs.Letters.{Alphabet, char_at, first_of, letter_of, by_table, is_star, is_word_mark, letter_at}
 use Rattle.query_write.specs.Spelling.{is_plain, is_lettered, stays, escape, spelled_from}
 use Rattle.query_write.proofs.SpellPlaces.{IsRest, rest_next, byte_first, char_is_at}
 use Rattle.query_write.proofs.SpellSigns.{IsEnd, IsPlainByte, no_operator, apart}
@@ -102,46 +102,48 @@ spelled_small bounded c more small = ap (λ (l : List ℕ). spelled_from bounded
 letter_is : (fold : ℕ → Option ℕ) (place to c : ℕ) (o : Option ℕ) → o ≡ Some c → fold c ≡ Some c → place + len_utf8 c ≡ to → by_table fold place o ≡ Some (record { folded = c; to = to })
 letter_is fold place to c o is same e = ap (by_table fold place) is ∙ ap (letter_of (place + len_utf8 c)) same ∙ ap (λ (n : ℕ). letter_of n (Some c)) e
 
-letter_escaped : (fold : ℕ → Option ℕ) (text : List ℕ) (inside : Bool) (place to c : ℕ) → byte text place ≡ 92 → char_at text (place + 1) ≡ Some c → fold c ≡ Some c → place + 1 + len_utf8 c ≡ to → letter_at fold text inside place ≡ Some (record { folded = c; to = to })
+letter_escaped : (alphabet : Alphabet) (text : List ℕ) (inside : Bool) (place to c : ℕ) → byte text place ≡ 92 → char_at text (place + 1) ≡ Some c → alphabet.fold c ≡ Some c → place + 1 + len_utf8 c ≡ to → letter_at alphabet text inside place ≡ Some (record { folded = c; to = to })
 unfolding letter_at
-letter_escaped fold text inside place to c is char same e =
-    if_true (byte text place == 92) (by_table fold (place + 1) (char_at text (place + 1))) _ (Some (record { folded = c; to = to })) (eq-eqb (byte text place) 92 is) (letter_is fold (place + 1) to c (char_at text (place + 1)) char same e)
+letter_escaped alphabet text inside place to c is char same e =
+    if_true (byte text place == 92) (by_table alphabet.fold (place + 1) (char_at text (place + 1))) _ (Some (record { folded = c; to = to })) (eq-eqb (byte text place) 92 is) (letter_is alphabet.fold (place + 1) to c (char_at text (place + 1)) char same e)
 
-pub letter_plain : (fold : ℕ → Option ℕ) (text : List ℕ) (inside : Bool) (place b : ℕ) → byte text place ≡ b → is_plain b ≡ true → operator_at text inside place ≡ None → letter_at fold text inside place ≡ by_table fold place (char_at text place)
+pub letter_plain : (alphabet : Alphabet) (text : List ℕ) (inside : Bool) (place b : ℕ) → byte text place ≡ b → is_plain b ≡ true → operator_at text inside place ≡ None → letter_at alphabet text inside place ≡ by_table alphabet.fold place (char_at text place)
 unfolding letter_at
-letter_plain fold text inside place b is plain none =
-    if_false (byte text place == 92) (by_table fold (place + 1) (char_at text (place + 1))) _ (by_table fold place (char_at text place)) (at 92 refl)
-    (if_false ((byte text place == 94) || (byte text place == 36)) None _ (by_table fold place (char_at text place)) (or_from (byte text place == 94) (byte text place == 36) (at 94 refl) (at 36 refl))
-    (if_false (is_some (operator_at text inside place)) None (by_table fold place (char_at text place)) (by_table fold place (char_at text place)) (ap is_some none) refl))
+letter_plain alphabet text inside place b is plain none =
+    if_false (byte text place == 92) (by_table alphabet.fold (place + 1) (char_at text (place + 1))) _ (by_table alphabet.fold place (char_at text place)) (at 92 refl)
+    (if_false (is_word_mark alphabet inside (byte text place)) None _ (by_table alphabet.fold place (char_at text place))
+    (or_from ((byte text place == 94) || (byte text place == 36)) (inside && is_star alphabet (byte text place)) (or_from (byte text place == 94) (byte text place == 36) (at 94 refl) (at 36 refl))
+    (and_right inside (is_star alphabet (byte text place)) (and_right alphabet.stars (byte text place == 42) (at 42 refl))))
+    (if_false (is_some (operator_at text inside place)) None (by_table alphabet.fold place (char_at text place)) (by_table alphabet.fold place (char_at text place)) (ap is_some none) refl))
   where
     at : (k : ℕ) → is_plain k ≡ false → (byte text place == k) ≡ false
     at k other = ap (λ (c : ℕ). eqb c k) is ∙ apart is_plain b k plain other
 
-pub letter_small : (fold : ℕ → Option ℕ) (text : List ℕ) (inside : Bool) (place : ℕ) (bounded : Bool) (c : ℕ) (bytes rest : List ℕ) (s : Bool) → stays bounded c bytes ≡ s → c < 128 → fold c ≡ Some c → IsEnd rest → (is_bound (byte_before text place) ≡ true → bounded ≡ true) → IsRest text place (spelled_from bounded (c ∷ bytes) ++ rest) → letter_at fold text inside place ≡ Some (record { folded = c; to = place + length (escape s) + 1 })
-letter_small fold text inside place bounded c bytes rest true stay small same end before at =
+pub letter_small : (alphabet : Alphabet) (text : List ℕ) (inside : Bool) (place : ℕ) (bounded : Bool) (c : ℕ) (bytes rest : List ℕ) (s : Bool) → stays bounded c bytes ≡ s → c < 128 → alphabet.fold c ≡ Some c → IsEnd rest → (is_bound (byte_before text place) ≡ true → bounded ≡ true) → IsRest text place (spelled_from bounded (c ∷ bytes) ++ rest) → letter_at alphabet text inside place ≡ Some (record { folded = c; to = place + length (escape s) + 1 })
+letter_small alphabet text inside place bounded c bytes rest true stay small same end before at =
     let here : IsRest text place (c ∷ (spelled_from (is_bound c) bytes ++ rest)) = subst (λ (s : Bool). IsRest text place (escape s ++ c ∷ spelled_from (is_bound c) bytes ++ rest)) stay at in
     let p : IsPlainByte text place bounded c bytes rest = record { at = at; stays = stay; before = before; end = end } in
     let char : char_at text place ≡ Some c = char_is_at text place (c ∷ (spelled_from (is_bound c) bytes ++ rest)) here ∙ ap first_of (chars_small c (spelled_from (is_bound c) bytes ++ rest) small) in
-    letter_plain fold text inside place c (byte_first text place (c ∷ (spelled_from (is_bound c) bytes ++ rest)) here) (and_parts (is_plain c) (not (bounded && is_lettered (c ∷ bytes))) stay).0 (no_operator text inside place bounded c bytes rest p)
-    ∙ letter_is fold place (place + 0 + 1) c (char_at text place) char same (omega (arith, len_utf8_ascii c small))
-letter_small fold text inside place bounded c bytes rest false stay small same end before at =
+    letter_plain alphabet text inside place c (byte_first text place (c ∷ (spelled_from (is_bound c) bytes ++ rest)) here) (and_parts (is_plain c) (not (bounded && is_lettered (c ∷ bytes))) stay).0 (no_operator text inside place bounded c bytes rest p)
+    ∙ letter_is alphabet.fold place (place + 0 + 1) c (char_at text place) char same (omega (arith, len_utf8_ascii c small))
+letter_small alphabet text inside place bounded c bytes rest false stay small same end before at =
     let here : IsRest text place (92 ∷ c ∷ (spelled_from (is_bound c) bytes ++ rest)) = subst (λ (s : Bool). IsRest text place (escape s ++ c ∷ spelled_from (is_bound c) bytes ++ rest)) stay at in
     let next : IsRest text (place + 1) (c ∷ (spelled_from (is_bound c) bytes ++ rest)) = rest_next text place 92 (c ∷ (spelled_from (is_bound c) bytes ++ rest)) here in
     let char : char_at text (place + 1) ≡ Some c = char_is_at text (place + 1) (c ∷ (spelled_from (is_bound c) bytes ++ rest)) next ∙ ap first_of (chars_small c (spelled_from (is_bound c) bytes ++ rest) small) in
-    letter_escaped fold text inside place (place + 1 + 1) c (byte_first text place (92 ∷ c ∷ (spelled_from (is_bound c) bytes ++ rest)) here) char same (omega (arith, len_utf8_ascii c small))
+    letter_escaped alphabet text inside place (place + 1 + 1) c (byte_first text place (92 ∷ c ∷ (spelled_from (is_bound c) bytes ++ rest)) here) char same (omega (arith, len_utf8_ascii c small))
 
-pub letter_high : (fold : ℕ → Option ℕ) (text : List ℕ) (inside : Bool) (place : ℕ) (bounded : Bool) (c : ℕ) (bytes rest : List ℕ) → 128 ≤ c → scalar c ≡ true → fold c ≡ Some c → IsEnd rest → (is_bound (byte_before text place) ≡ true → bounded ≡ true) → IsRest text place (spelled_from bounded (encode_utf8 c ++ bytes) ++ rest) → letter_at fold text inside place ≡ Some (record { folded = c; to = place + length (encode_utf8 c) })
-letter_high fold text inside place bounded c bytes rest high is same end before at =
+pub letter_high : (alphabet : Alphabet) (text : List ℕ) (inside : Bool) (place : ℕ) (bounded : Bool) (c : ℕ) (bytes rest : List ℕ) → 128 ≤ c → scalar c ≡ true → alphabet.fold c ≡ Some c → IsEnd rest → (is_bound (byte_before text place) ≡ true → bounded ≡ true) → IsRest text place (spelled_from bounded (encode_utf8 c ++ bytes) ++ rest) → letter_at alphabet text inside place ≡ Some (record { folded = c; to = place + length (encode_utf8 c) })
+letter_high alphabet text inside place bounded c bytes rest high is same end before at =
     let here : IsRest text place (encode_utf8 c ++ (spelled_from false bytes ++ rest)) =
     subst (λ (l : List ℕ). IsRest text place l) (append_assoc (encode_utf8 c) (spelled_from false bytes) rest) (subst (λ (l : List ℕ). IsRest text place (l ++ rest)) (spelled_encode bounded c bytes high) at) in
     let char : char_at text place ≡ Some c = char_is_at text place (encode_utf8 c ++ (spelled_from false bytes ++ rest)) here ∙ ap first_of (chars_next c (spelled_from false bytes ++ rest) is) in
     by (encode_utf8 c) (encode_some c) (encode_high c high) at here
-    ∙ letter_is fold place (place + length (encode_utf8 c)) c (char_at text place) char same (omega (arith, length-encode c))
+    ∙ letter_is alphabet.fold place (place + length (encode_utf8 c)) c (char_at text place) char same (omega (arith, length-encode c))
   where
-    by : (front : List ℕ) → 0 < length front → are_high front ≡ true → IsRest text place (spelled_from bounded (front ++ bytes) ++ rest) → IsRest text place (front ++ (spelled_from false bytes ++ rest)) → letter_at fold text inside place ≡ by_table fold place (char_at text place)
+    by : (front : List ℕ) → 0 < length front → are_high front ≡ true → IsRest text place (spelled_from bounded (front ++ bytes) ++ rest) → IsRest text place (front ++ (spelled_from false bytes ++ rest)) → letter_at alphabet text inside place ≡ by_table alphabet.fold place (char_at text place)
     by [] some are at here = absurd (omega (arith, some))
     by (b ∷ front) some are at here =
         let both = and_parts (leb 128 b) (are_high front) are in
         let plain : is_plain b ≡ true = or_left _ (b == 95) (or_left (leb 128 b) _ both.0) in
         let p : IsPlainByte text place bounded b (front ++ bytes) rest = record { at = at; stays = stays_high bounded b (front ++ bytes) both.0; before = before; end = end } in
-        letter_plain fold text inside place b (byte_first text place (b ∷ (front ++ (spelled_from false bytes ++ rest))) here) plain (no_operator text inside place bounded b (front ++ bytes) rest p)
+        letter_plain alphabet text inside place b (byte_first text place (b ∷ (front ++ (spelled_from false bytes ++ rest))) here) plain (no_operator text inside place bounded b (front ++ bytes) rest p)

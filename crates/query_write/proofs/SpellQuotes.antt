@@ -10,6 +10,7 @@ use Rattle.query_pieces.specs.declared.piece.Form.TheVariants as forms
 use Rattle.query_pieces.specs.declared.piece.Piece.{Piece}
 use Rattle.query_pieces.specs.QueryBytes.{is_bound}
 use Rattle.query_pieces.specs.Operators.{slice, piece, NumberAt, number_at, quoted_at, quote_end, is_inside}
+use Rattle.query_pieces.specs.Letters.{Alphabet}
 use Rattle.query_pieces.specs.Pieces.{Stands}
 use Rattle.query_tree.specs.declared.key.Key.{Key}
 use Rattle.query_tree.specs.declared.key.How.{How}
@@ -81,9 +82,10 @@ pub record IsReadAs (fold : ℕ → Option ℕ) (keys : List Key) (css : List (L
   pub after : flat_map (λ next. 32 ∷ next) (map key_text keys) ≡ spaced css
 
 -- the text of a keyword without marks
-pub bare_text : (key : Key) → key.start ≡ false → key.end ≡ false → key_text key ≡ spelled key.word
-bare_text key start end =
-    ap₂ (λ (s e : Bool). (if s then codes "^" else []) ++ (spelled key.word ++ (if e then codes "$" else []))) start end ∙ append-nil (spelled key.word)
+pub bare_text : (key : Key) → key.start ≡ false → key.end ≡ false → key.prefix ≡ false → key_text key ≡ spelled key.word
+bare_text key start end prefix =
+    ap₂ (λ (s e : Bool). (if s then codes "^" else []) ++ (spelled key.word ++ ((if e then codes "$" else []) ++ (if key.prefix then codes "*" else [])))) start end
+    ∙ ap (λ (p : Bool). spelled key.word ++ (if p then codes "*" else [])) prefix ∙ append-nil (spelled key.word)
 
 pub keys_read : (fold : ℕ → Option ℕ) (keys : List Key) → All (IsPlainKey fold) keys → (css : List (List ℕ)) × IsReadAs fold keys css
 keys_read fold [] all = ([], record { kept = tt; words = refl; after = refl })
@@ -94,7 +96,7 @@ keys_read fold (key ∷ keys) all =
       record {
         kept = (word_chars fold key.word first.0, first.0.some, first.0.short, rest.1.kept);
         words = ap₂ (λ (w : List ℕ) (ws : List (List ℕ)). w ∷ ws) (sym first.0.is) rest.1.words;
-        after = ap₂ (λ (w v : List ℕ). 32 ∷ (w ++ v)) (bare_text key first.1 first.2 ∙ ap spelled first.0.is) rest.1.after;
+        after = ap₂ (λ (w v : List ℕ). 32 ∷ (w ++ v)) (bare_text key first.1 first.2 first.3 ∙ ap spelled first.0.is) rest.1.after;
       },
     )
 
@@ -110,7 +112,7 @@ inside_is fold (key ∷ keys) none all =
     let rest = keys_read fold keys (All-tail (IsPlainKey fold) key keys all) in
     let kept : AllKept fold (first.0.chars ∷ rest.0) = (word_chars fold key.word first.0, first.0.some, first.0.short, rest.1.kept) in
     let text : key_text key ++ flat_map (λ next. 32 ∷ next) (map key_text keys) ≡ spelled (encode_utf8_all first.0.chars) ++ spaced rest.0 =
-    ap₂ (λ (w v : List ℕ). w ++ v) (bare_text key first.1 first.2 ∙ ap spelled first.0.is) rest.1.after in
+    ap₂ (λ (w v : List ℕ). w ++ v) (bare_text key first.1 first.2 first.3 ∙ ap spelled first.0.is) rest.1.after in
     record {
       closed = ap (list_all is_inside) text ∙ all_append is_inside (spelled (encode_utf8_all first.0.chars)) (spaced rest.0) (spelled_inside fold true first.0.chars none.quote kept.0) (spaced_inside fold rest.0 none.quote kept.3);
       words = ap (words_in fold) text ∙ spells_words fold first.0.chars rest.0 none kept ∙ ap₂ (λ (w : List ℕ) (ws : List (List ℕ)). w ∷ ws) (sym first.0.is) rest.1.words;
@@ -131,18 +133,18 @@ quoted_is text place last found inside rest closed e number at =
     ∙ ap (λ (b : Bool). if b then piece (forms.Quoted (record { inside = slice (place + 1) last; number = found.number })) found.to else piece forms.Unclosed (length text)) (lt-ltb last (length text) (rest_inside text last 34 rest quote))
 
 -- What a quoted piece is read as.
-pub record ReadsQuoted (fold : ℕ → Option ℕ) (text : List ℕ) (inside : Bool) (place : ℕ) (keys : List Key) (how : How) : Type 0 where
+pub record ReadsQuoted (alphabet : Alphabet) (text : List ℕ) (inside : Bool) (place : ℕ) (keys : List Key) (how : How) : Type 0 where
   pub quotation : Quotation
   pub to : ℕ
-  pub stands : Stands fold text inside place (piece (forms.Quoted quotation) to)
+  pub stands : Stands alphabet text inside place (piece (forms.Quoted quotation) to)
   pub ends : to ≡ place + length (quoted_text keys how)
-  pub words : words_in fold (bytes_of text quotation.inside) ≡ map (λ key. key.word) keys
+  pub words : words_in alphabet.fold (bytes_of text quotation.inside) ≡ map (λ key. key.word) keys
   pub number : IsHow text quotation.number how
 
-pub quoted_reads : (fold : ℕ → Option ℕ) (text : List ℕ) (inside : Bool) (place : ℕ) (keys : List Key) (how : How) (rest : List ℕ) → HasNone fold → All (IsPlainKey fold) keys → HasSmall how → IsParted rest → IsRest text place (quoted_text keys how ++ rest) → ReadsQuoted fold text inside place keys how
-quoted_reads fold text inside place keys how rest none all small parted_rest at =
+pub quoted_reads : (alphabet : Alphabet) (text : List ℕ) (inside : Bool) (place : ℕ) (keys : List Key) (how : How) (rest : List ℕ) → HasNone alphabet.fold → All (IsPlainKey alphabet.fold) keys → HasSmall how → IsParted rest → IsRest text place (quoted_text keys how ++ rest) → ReadsQuoted alphabet text inside place keys how
+quoted_reads alphabet text inside place keys how rest none all small parted_rest at =
     let words : List ℕ = parted 32 (map key_text keys) in
-    let is : IsInside fold keys words = inside_is fold keys none all in
+    let is : IsInside alphabet.fold keys words = inside_is alphabet.fold keys none all in
     let here : IsRest text place (34 ∷ (words ++ 34 ∷ (how_text how ++ rest))) = subst (λ (l : List ℕ). IsRest text place (34 ∷ l)) (append_assoc words (34 ∷ how_text how) rest) at in
     let next : IsRest text (place + 1) (words ++ 34 ∷ (how_text how ++ rest)) = rest_next text place 34 (words ++ 34 ∷ (how_text how ++ rest)) here in
     let last : ℕ = place + 1 + length words in
@@ -153,9 +155,9 @@ quoted_reads fold text inside place keys how rest none all small parted_rest at 
     record {
       quotation = record { inside = slice (place + 1) last; number = number.number };
       to = number.to;
-      stands = operator_stands fold text inside place (piece (forms.Quoted (record { inside = slice (place + 1) last; number = number.number })) number.to)
+      stands = operator_stands alphabet text inside place (piece (forms.Quoted (record { inside = slice (place + 1) last; number = number.number })) number.to)
           (by_byte text inside place 34 (words ++ 34 ∷ (how_text how ++ rest)) here ∙ ap (λ (p : Piece). Some p) quoted);
       ends = omega (arith, number.ends, length-append words (34 ∷ how_text how));
-      words = ap (words_in fold) (slice_at text (place + 1) last words (34 ∷ (how_text how ++ rest)) refl next) ∙ is.words;
+      words = ap (words_in alphabet.fold) (slice_at text (place + 1) last words (34 ∷ (how_text how ++ rest)) refl next) ∙ is.words;
       number = number.reads;
     }

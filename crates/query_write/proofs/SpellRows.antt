@@ -12,7 +12,7 @@ use Rattle.query_pieces.specs.Pieces.{Splits, ArePieces, ends_in_letter}
 use Rattle.query_tree.specs.declared.key.Key.{Key}
 use Rattle.query_write.specs.Spelling.{is_plain, spelled}
 use Rattle.query_write.specs.Written.{WrittenToken, token_text, tokens_text}
-use Rattle.query_write.specs.steps.Signs.{ArePiecesOf, IsPlainWord, CanBeRead, follows, is_atom, is_closed, is_space, AreSpaced}
+use Rattle.query_write.specs.steps.Signs.{alphabet_by, ArePiecesOf, IsPlainWord, CanBeRead, follows, is_atom, is_closed, is_space, AreSpaced}
 use Rattle.query_write.proofs.SpellPlaces.{IsRest, rest_whole, rest_to}
 use Rattle.query_write.proofs.SpellLetters.{HasNone}
 use Rattle.query_write.proofs.SpellWordPiece.{parts_word, first_byte, start_text, end_text, word_bytes}
@@ -31,22 +31,22 @@ closed_first schema _ more is = absurd (both_ways false refl is)
 plain_no_blank : (b : ℕ) → is_plain b ≡ true → is_blank b ≡ false
 plain_no_blank b plain = grind (arith, nat_tests)
 
-word_first : (fold : ℕ → Option ℕ) (key : Key) (more : List ℕ) → IsPlainWord fold key.word → is_blank (get_or (start_text key.start ++ (spelled key.word ++ end_text key.end) ++ more) 0 32) ≡ false
+word_first : (fold : ℕ → Option ℕ) (key : Key) (more : List ℕ) → IsPlainWord fold key.word → is_blank (get_or (start_text key.start ++ (spelled key.word ++ end_text key.end key.prefix) ++ more) 0 32) ≡ false
 word_first fold key more plain = by key.start plain.chars plain.is plain.some
   where
-    by : (start : Bool) (cs : List ℕ) → key.word ≡ encode_utf8_all cs → cs ≢ [] → is_blank (get_or (start_text start ++ (spelled key.word ++ end_text key.end) ++ more) 0 32) ≡ false
+    by : (start : Bool) (cs : List ℕ) → key.word ≡ encode_utf8_all cs → cs ≢ [] → is_blank (get_or (start_text start ++ (spelled key.word ++ end_text key.end key.prefix) ++ more) 0 32) ≡ false
     by true cs is some = refl
     by false [] is some = absurd (some refl)
     by false (c ∷ cs) is some =
         let bytes = word_bytes c cs in
         let word : key.word ≡ bytes.0 ∷ bytes.1 = is ∙ bytes.2 in
-        ap (λ (w : List ℕ). is_blank (get_or (spelled w ++ end_text key.end ++ more) 0 32)) word
-        ∙ ap (λ (l : List ℕ). is_blank (get_or l 0 32)) (append_assoc (spelled (bytes.0 ∷ bytes.1)) (end_text key.end) more)
-        ∙ first_byte true bytes.0 bytes.1 (end_text key.end ++ more) is_blank plain_no_blank refl
+        ap (λ (w : List ℕ). is_blank (get_or (spelled w ++ end_text key.end key.prefix ++ more) 0 32)) word
+        ∙ ap (λ (l : List ℕ). is_blank (get_or l 0 32)) (append_assoc (spelled (bytes.0 ∷ bytes.1)) (end_text key.end key.prefix) more)
+        ∙ first_byte true bytes.0 bytes.1 (end_text key.end key.prefix ++ more) is_blank plain_no_blank refl
 
 pub atom_first : (fold : ℕ → Option ℕ) (schema : Schema) (token : WrittenToken) (more : List ℕ) → CanBeRead fold schema token → is_atom token ≡ true → is_blank (get_or (token_text schema token ++ more) 0 32) ≡ false
 atom_first fold schema WrittenToken.Open more can is = refl
-atom_first fold schema (WrittenToken.Word key) more can is = word_first fold key more can
+atom_first fold schema (WrittenToken.Word key) more can is = word_first fold key more can.0
 atom_first fold schema (WrittenToken.Quoted keys how) more can is = refl
 atom_first fold schema _ more can is = absurd (both_ways false refl is)
 
@@ -162,7 +162,7 @@ record IsLeft (text : List ℕ) (place : ℕ) (rest : List ℕ) : Type 0 where
   at : IsRest text place rest
   size : length text ≡ place + length rest
 
-row_reads : (fold : ℕ → Option ℕ) (schema : Schema) (text : List ℕ) (inside : Bool) (place : ℕ) (tokens : List WrittenToken) → HasNone fold → AreSpaced tokens → ends_well tokens ≡ true → All (CanBeRead fold schema) tokens → NeedsFirst tokens text inside place → IsLeft text place (tokens_text schema tokens) → (pieces : List Piece) × Splits fold text inside place pieces (length text) × ArePiecesOf fold schema text tokens pieces
+row_reads : (fold : ℕ → Option ℕ) (schema : Schema) (text : List ℕ) (inside : Bool) (place : ℕ) (tokens : List WrittenToken) → HasNone fold → AreSpaced tokens → ends_well tokens ≡ true → All (CanBeRead fold schema) tokens → NeedsFirst tokens text inside place → IsLeft text place (tokens_text schema tokens) → (pieces : List Piece) × Splits (alphabet_by fold schema) text inside place pieces (length text) × ArePiecesOf fold schema text tokens pieces
 row_reads fold schema text inside place [] none spaced ends can needs left = ([], omega (arith, left.size), tt)
 row_reads fold schema text inside place (token ∷ tokens) none spaced ends can needs left =
     let first : CanBeRead fold schema token = All-head (CanBeRead fold schema) token tokens can in
@@ -192,7 +192,7 @@ row_reads fold schema text inside place (token ∷ tokens) none spaced ends can 
     needed (next ∷ list) flag to spaced leaves = needs_next token next text flag to spaced.0 leaves
 
 -- The pieces of the text of written tokens.
-pub text_pieces : (fold : ℕ → Option ℕ) (schema : Schema) (tokens : List WrittenToken) → HasNone fold → AreSpaced tokens → begins_well tokens ≡ true → ends_well tokens ≡ true → All (CanBeRead fold schema) tokens → (pieces : List Piece) × ArePieces fold (tokens_text schema tokens) pieces × ArePiecesOf fold schema (tokens_text schema tokens) tokens pieces
+pub text_pieces : (fold : ℕ → Option ℕ) (schema : Schema) (tokens : List WrittenToken) → HasNone fold → AreSpaced tokens → begins_well tokens ≡ true → ends_well tokens ≡ true → All (CanBeRead fold schema) tokens → (pieces : List Piece) × ArePieces (alphabet_by fold schema) (tokens_text schema tokens) pieces × ArePiecesOf fold schema (tokens_text schema tokens) tokens pieces
 text_pieces fold schema tokens none spaced begins ends can =
     row_reads fold schema (tokens_text schema tokens) false 0 tokens none spaced ends can (first tokens begins) (record { at = rest_whole (tokens_text schema tokens); size = omega arith })
   where

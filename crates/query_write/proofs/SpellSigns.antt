@@ -13,15 +13,16 @@ use Rattle.query_write.proofs.SpellPlaces.{IsRest, begins, begins_apart, begins_
 
 -- what may stand directly after the letters of a word
 abbrev pub ends_word : ℕ → Bool
-ends_word b = (b == 32) || (b == 41) || (b == 34) || (b == 36)
+ends_word b = (b == 32) || (b == 41) || (b == 34) || (b == 36) || (b == 42)
 
 pub record IsEnd (rest : List ℕ) : Type 0 where
   pub is : ends_word (get_or rest 0 32) ≡ true
 
-pub end_cases : (P : ℕ → Type 0) (b : ℕ) → ends_word b ≡ true → P 32 → P 41 → P 34 → P 36 → P b
-end_cases P b is blank close quote dollar =
+pub end_cases : (P : ℕ → Type 0) (b : ℕ) → ends_word b ≡ true → P 32 → P 41 → P 34 → P 36 → P 42 → P b
+end_cases P b is blank close quote dollar star =
     let at : (k : ℕ) → (b == k) ≡ true → P k → P b = λ k e p. subst P (sym (eqb-true b k e)) p in
-    ⊎_elim (λ three. ⊎_elim (λ two. ⊎_elim (λ e. at 32 e blank) (λ e. at 41 e close) (or_cases (b == 32) (b == 41) two)) (λ e. at 34 e quote) (or_cases ((b == 32) || (b == 41)) (b == 34) three)) (λ e. at 36 e dollar) (or_cases ((b == 32) || (b == 41) || (b == 34)) (b == 36) is)
+    ⊎_elim (λ four. ⊎_elim (λ three. ⊎_elim (λ two. ⊎_elim (λ e. at 32 e blank) (λ e. at 41 e close) (or_cases (b == 32) (b == 41) two)) (λ e. at 34 e quote) (or_cases ((b == 32) || (b == 41)) (b == 34) three)) (λ e. at 36 e dollar) (or_cases ((b == 32) || (b == 41) || (b == 34)) (b == 36) four))
+    (λ e. at 42 e star) (or_cases ((b == 32) || (b == 41) || (b == 34) || (b == 36)) (b == 42) is)
 
 -- two bytes of which one alone passes a test
 pub apart : (test : ℕ → Bool) (a b : ℕ) → test a ≡ true → test b ≡ false → eqb a b ≡ false
@@ -31,7 +32,7 @@ pub apart_from : (test : ℕ → Bool) (a b : ℕ) → test a ≡ false → test
 apart_from test a b no' yes' = ne_eqb a b (λ e. both_ways (test b) (subst (λ (c : ℕ). test c ≡ false) e no') yes')
 
 pub end_not_plain : (b : ℕ) → ends_word b ≡ true → is_plain b ≡ false
-end_not_plain b is = end_cases (λ (c : ℕ). is_plain c ≡ false) b is refl refl refl refl
+end_not_plain b is = end_cases (λ (c : ℕ). is_plain c ≡ false) b is refl refl refl refl refl
 
 pub plain_no_bound : (b : ℕ) → is_plain b ≡ true → is_bound b ≡ false
 plain_no_bound b plain = or_from _ (b == 34) (or_from _ (b == 41) (or_from _ (b == 40) (or_from _ (b == 10) (or_from _ (b == 13) (or_from (b == 32) (b == 9) (at 32 refl) (at 9 refl)) (at 13 refl)) (at 10 refl)) (at 40 refl)) (at 41 refl)) (at 34 refl)

@@ -2,11 +2,12 @@
 use Rattle.std.proofs.Common.{◌≡◌, ◌≢◌, ℕ, ◌<◌, ◌≤◌, Bool, true, false, eqb, List, [], ◌∷◌, ◌++◌, ◌||◌, length, map, chars, encode_utf8, encode_utf8_all, filter, filter_map, All, refl, ap, ap₂, ◌∙◌, arith, ⊎_elim, append_assoc, append-nil}
 use Rattle.std.specs.Prelude.{Option, Some, None, ◌==◌}
 use Rattle.std.specs.List.{slice_split}
-use Rattle.std.proofs.lemmas.Bool.{cases_lt, and_parts, or_from, ne_eqb}
+use Rattle.std.proofs.Math.Utf8.{scalar, scalars}
+use Rattle.std.proofs.lemmas.Bool.{cases_lt, and_from, and_parts, or_from, ne_eqb}
 use Rattle.std.proofs.lemmas.List.{take_all, length-map}
 use Rattle.std.proofs.lemmas.List.Elements.{All-nil, All-cons}
 use Rattle.std.proofs.lemmas.List.Splits.{slice_split_none, slice_split_at}
-use Rattle.std.proofs.lemmas.Str.{chars-nil, encode_ascii}
+use Rattle.std.proofs.lemmas.Str.{chars-encodes, chars-nil, encode_ascii}
 use Rattle.doc_types.specs.declared.tokens.TheConstants.{MAX_WORD_CHARS}
 use Rattle.query_pieces.specs.QueryBytes.{is_bound}
 use Rattle.query_marks.specs.QueryWords.{plain_letter, letters_from, letters_in, separates, has_letters, runs_in, word_of, words_in}
@@ -113,6 +114,20 @@ spells_words fold cs css none kept =
     ∙ ap (λ (l : List (List (Option ℕ))). map word_of (filter has_letters l)) (split_letters cs css)
     ∙ ap (map word_of) (runs_kept fold (cs ∷ css) kept)
     ∙ words_kept fold (cs ∷ css) kept
+
+-- as many letters as characters
+pub spells_letters : (fold : ℕ → Option ℕ) (cs : List ℕ) → AreKept fold cs → length (letters_in fold (chars (spelled (encode_utf8_all cs) ++ []))) ≡ length cs
+spells_letters fold cs kept =
+    ap length (letters_spelled fold true cs [] kept ∙ ap (λ (l : List ℕ). letters_of cs ++ letters_from fold false l) chars-nil ∙ append-nil (letters_of cs))
+    ∙ length-map cs (λ (c : ℕ). Some c)
+
+kept_scalars : (fold : ℕ → Option ℕ) (cs : List ℕ) → AreKept fold cs → scalars cs ≡ true
+kept_scalars fold [] kept = refl
+kept_scalars fold (c ∷ cs) kept = and_from (scalar c) (scalars cs) kept.0 (kept_scalars fold cs kept.2)
+
+-- the characters of the word that characters make
+pub chars_kept : (fold : ℕ → Option ℕ) (cs : List ℕ) → AreKept fold cs → chars (encode_utf8_all cs) ≡ cs
+chars_kept fold cs kept = chars-encodes cs (kept_scalars fold cs kept)
 
 pub spells_none : (fold : ℕ → Option ℕ) → words_in fold [] ≡ []
 spells_none fold = ap (λ (l : List ℕ). map word_of (runs_in (letters_in fold l))) chars-nil

@@ -58,30 +58,30 @@ module _ (fold : ℕ → Option ℕ) where
   keys_kept : (limit : Limit) (n : ℕ) (keys : List Key) → AreKeys every limit n keys → Each Kept keys → AreKeys fold limit n keys
   keys_kept limit n keys are kept = record { are = are.are; plain = words_kept keys are.plain kept }
 
-  leaf_kept : (limit : Limit) (n : ℕ) (node : Node) (m : ℕ) → IsLeafOf every limit n node m → Each Kept (node_keys node) → IsLeafOf fold limit n node m
-  leaf_kept limit _ _ _ (of_word n key is plain) kept = of_word n key is (plain_kept key.word plain (subst (Each Kept) (keys_word key) kept).0)
-  leaf_kept limit _ _ _ (of_phrase n keys several are) kept = of_phrase n keys several (keys_kept limit n keys are (subst (Each Kept) (keys_quoted keys hows.Phrase) kept))
+  leaf_kept : (schema : Schema) (limit : Limit) (n : ℕ) (node : Node) (m : ℕ) → IsLeafOf every schema limit n node m → Each Kept (node_keys node) → IsLeafOf fold schema limit n node m
+  leaf_kept schema limit _ _ _ (of_word n key is plain takes) kept = of_word n key is (plain_kept key.word plain (subst (Each Kept) (keys_word key) kept).0) takes
+  leaf_kept schema limit _ _ _ (of_phrase n keys several are) kept = of_phrase n keys several (keys_kept limit n keys are (subst (Each Kept) (keys_quoted keys hows.Phrase) kept))
 
   both_kept : (whole first second : List Key) → whole ≡ first ++ second → Each Kept whole → Each Kept first × Each Kept second
   both_kept whole first second e kept = each_split Kept first second (subst (Each Kept) e kept)
 
-  leaves_kept : (limit : Limit) (join : Node → Node → Node) → ((a b : Node) → node_keys (join a b) ≡ node_keys a ++ node_keys b) → (n : ℕ) (node : Node) (m : ℕ) → AreLeavesOf every limit join n node m → Each Kept (node_keys node) → AreLeavesOf fold limit join n node m
-  leaves_kept limit join keys _ _ _ (one_leaf n leaf m is) kept = one_leaf n leaf m (leaf_kept limit n leaf m is kept)
-  leaves_kept limit join keys _ _ _ (more_leaves n front k leaf m leaves is) kept =
+  leaves_kept : (schema : Schema) (limit : Limit) (join : Node → Node → Node) → ((a b : Node) → node_keys (join a b) ≡ node_keys a ++ node_keys b) → (n : ℕ) (node : Node) (m : ℕ) → AreLeavesOf every schema limit join n node m → Each Kept (node_keys node) → AreLeavesOf fold schema limit join n node m
+  leaves_kept schema limit join keys _ _ _ (one_leaf n leaf m is) kept = one_leaf n leaf m (leaf_kept schema limit n leaf m is kept)
+  leaves_kept schema limit join keys _ _ _ (more_leaves n front k leaf m leaves is) kept =
       let both = both_kept (node_keys (join front leaf)) (node_keys front) (node_keys leaf) (keys front leaf) kept in
-      more_leaves n front k leaf m (leaves_kept limit join keys n front k leaves both.0) (leaf_kept limit k leaf m is both.1)
+      more_leaves n front k leaf m (leaves_kept schema limit join keys n front k leaves both.0) (leaf_kept schema limit k leaf m is both.1)
 
   module _ (schema : Schema) where
     mutual
       pub writable_kept : (n : ℕ) (node : Node) (m : ℕ) → IsWritable every schema n node m → Each Kept (node_keys node) → IsWritable fold schema n node m
-      writable_kept _ _ _ (of_leaf n node m limit right is) kept = of_leaf n node m limit right (leaf_kept limit n node m is kept)
+      writable_kept _ _ _ (of_leaf n node m limit right is) kept = of_leaf n node m limit right (leaf_kept schema limit n node m is kept)
       writable_kept _ _ _ (of_loose n keys how limit right some are other right_how) kept = of_loose n keys how limit right some (keys_kept limit n keys are (subst (Each Kept) (keys_quoted keys how) kept)) other right_how
       writable_kept _ _ _ (of_sentences n a k leaf m limit right leaves is) kept =
           let both = both_kept (node_keys (nodes.Sentence a leaf)) (node_keys a) (node_keys leaf) (keys_sentence a leaf) kept in
-          of_sentences n a k leaf m limit right (leaves_kept limit nodes.Sentence keys_sentence n a k leaves both.0) (leaf_kept limit k leaf m is both.1)
+          of_sentences n a k leaf m limit right (leaves_kept schema limit nodes.Sentence keys_sentence n a k leaves both.0) (leaf_kept schema limit k leaf m is both.1)
       writable_kept _ _ _ (of_paragraphs n a k leaf m limit right leaves is) kept =
           let both = both_kept (node_keys (nodes.Paragraph a leaf)) (node_keys a) (node_keys leaf) (keys_paragraph a leaf) kept in
-          of_paragraphs n a k leaf m limit right (leaves_kept limit nodes.Paragraph keys_paragraph n a k leaves both.0) (leaf_kept limit k leaf m is both.1)
+          of_paragraphs n a k leaf m limit right (leaves_kept schema limit nodes.Paragraph keys_paragraph n a k leaves both.0) (leaf_kept schema limit k leaf m is both.1)
       writable_kept _ _ _ (of_items n items m several has are) kept = of_items n items m several has (items_kept n items m are (subst (Each Kept) (keys_and items) kept))
       writable_kept _ _ _ (of_or n a k b m first second) kept =
           let both = both_kept (node_keys (nodes.Or a b)) (node_keys a) (node_keys b) (keys_or a b) kept in

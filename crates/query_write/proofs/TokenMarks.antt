@@ -25,7 +25,7 @@ use Rattle.query_marks.specs.declared.mark.Sign.TheVariants as signs
 use Rattle.query_marks.specs.LimitNames.{bytes_of, number_of, numbers_of}
 use Rattle.query_marks.specs.Hows.{how_of, is_out}
 use Rattle.query_marks.specs.Limits.{zone_limits}
-use Rattle.query_marks.specs.Marks.{setting_of, nameless, zone_numbers, keys_after, nobodies, keys_of, passes_limit, counted, word_sign, quoted_sign, zone_sign, wrong_span, wrong_count, wrong_quoted, last_of, but_last, sign_of, wrong_of, mark_at, after, before_marks, marks_from, marks_of, at_start}
+use Rattle.query_marks.specs.Marks.{setting_of, nameless, zone_numbers, keys_after, nobodies, keys_of, passes_limit, counted, word_sign, quoted_sign, zone_sign, wrong_span, wrong_count, wrong_quoted, last_of, but_last, sign_of, wrong_of, mark_at, after, before_marks, marks_from, marks_of, at_start, is_short, wrong_word}
 use Rattle.query_write.specs.Written.{WrittenToken}
 use Rattle.query_write.specs.steps.Signs.{IsPieceOf, ArePiecesOf}
 use Rattle.query_write.specs.steps.TokenRun.{Ambient, Standing, standing, start, key_after, words_of, token_sign, token_after, spanless, zoned, shut, IsRightZone, AreRightZones, IsRight, before_signs, signs_of, AreRight}
@@ -74,11 +74,23 @@ keys_are : (n : ℕ) (limit : Limit) (begins ends : Bool) (words : List (List �
 keys_are n limit begins ends words few =
     if_true (nat_le (n + length words) 255) (keys_after n limit begins ends words) (nobodies (length words)) (keys_after n limit begins ends words) (le-leb (n + length words) 255 few) refl
 
-word_sign_is : (n : ℕ) (limit : Limit) (key : Key) (begins ends : Bool) (words : List (List ℕ)) → n + 1 ≤ 255 → words ≡ key.word ∷ [] → begins ≡ key.start → ends ≡ key.end → word_sign (keys_of n limit begins ends words) ≡ Some (signs.Bare (key_after n limit key))
-word_sign_is n limit key begins ends words few words_are begins_is ends_is =
-    ap (λ (l : List (List ℕ)). word_sign (keys_of n limit begins ends l)) words_are
-    ∙ ap word_sign (keys_are n limit begins ends (key.word ∷ []) few)
-    ∙ ap₂ (λ (b e : Bool). Some (signs.Bare (record { query = n + 1; word = key.word; limit = limit; start = b; end = e }))) begins_is ends_is
+word_sign_is : (n : ℕ) (limit : Limit) (key : Key) (begins ends prefix : Bool) (words : List (List ℕ)) → n + 1 ≤ 255 → words ≡ key.word ∷ [] → begins ≡ key.start → ends ≡ key.end → prefix ≡ key.prefix
+    → word_sign prefix (keys_of n limit begins ends words) ≡ Some (signs.Bare (key_after n limit key))
+word_sign_is n limit key begins ends prefix words few words_are begins_is ends_is prefix_is =
+    ap (λ (l : List (List ℕ)). word_sign prefix (keys_of n limit begins ends l)) words_are
+    ∙ ap (word_sign prefix) (keys_are n limit begins ends (key.word ∷ []) few)
+    ∙ ap₂ (λ (b e : Bool). Some (signs.Bare (record { query = n + 1; word = key.word; limit = limit; start = b; end = e; prefix = prefix }))) begins_is ends_is
+    ∙ ap (λ (p : Bool). Some (signs.Bare (record { query = n + 1; word = key.word; limit = limit; start = key.start; end = key.end; prefix = p }))) prefix_is
+
+-- nothing is wrong with a word that isn't the 256th, and a prefix long enough
+word_right : (n : ℕ) (short : Bool) → n + 1 ≤ 255 → short ≡ false → wrong_word n short ≡ None
+word_right n short few long =
+    if_false (passes_limit n 1) (nameless kinds.TooManyKeywords) _ None (within_count n 1 few) (if_false short (nameless kinds.PrefixTooShort) None None long refl)
+
+-- a prefix of these letters is long enough
+long_enough : (shortest letters : ℕ) (prefix : Bool) → (prefix ≡ true → shortest ≤ letters) → is_short shortest prefix letters ≡ false
+long_enough shortest letters false enough = refl
+long_enough shortest letters true enough = let few : shortest ≤ letters = enough refl in grind (arith, nat_tests)
 
 quoted_sign_is : (n : ℕ) (limit : Limit) (keys : List Key) (words : List (List ℕ)) (found how : How) → n + length keys ≤ 255 → words ≡ words_of keys → found ≡ how → quoted_sign (keys_of n limit false false words) found ≡ quoted_sign (keys_after n limit false false (words_of keys)) how
 quoted_sign_is n limit keys words found how few words_are how_is =
@@ -155,12 +167,12 @@ step fold schema text state (WrittenToken.Near n) form is (s, form_is, bytes) = 
 step fold schema text state WrittenToken.Sentence form is piece = λ right. of_form fold schema text state WrittenToken.Sentence form forms.Sentence piece (record { sign = refl; right = refl; next = refl })
 step fold schema text state WrittenToken.Paragraph form is piece = λ right. of_form fold schema text state WrittenToken.Paragraph form forms.Paragraph piece (record { sign = refl; right = refl; next = refl })
 step fold schema text state WrittenToken.Not form is piece = λ right. of_form fold schema text state WrittenToken.Not form forms.Not piece (record { sign = refl; right = refl; next = refl })
-step fold schema text state (WrittenToken.Word key) form is (w, form_is, words, begins, ends) = λ right.
+step fold schema text state (WrittenToken.Word key) form is (w, form_is, words, begins, ends, prefix, letters) = λ right.
     of_form fold schema text state (WrittenToken.Word key) form (forms.Word w) form_is
     (record {
-      sign = word_sign_is state.keywords _ key w.start w.end _ right words begins ends;
-      right = count_right state.keywords 1 right;
-      next = ap (λ (k : ℕ). standing k (ambient_of schema.zones text state.here) (turned schema.zones text state.around [])) (counted_is state.keywords 1 right);
+      sign = word_sign_is state.keywords _ key w.start w.end w.prefix _ right.0 words begins ends prefix;
+      right = word_right state.keywords _ right.0 (long_enough schema.min_prefix _ w.prefix (λ e. omega (arith, letters, (right.1 (sym prefix ∙ e)).enough)));
+      next = ap (λ (k : ℕ). standing k (ambient_of schema.zones text state.here) (turned schema.zones text state.around [])) (counted_is state.keywords 1 right.0);
     })
 step fold schema text state (WrittenToken.Quoted keys how) form is (q, form_is, words, how_is) = λ right.
     let found : how_of text q.number ≡ how = how_back text q.number how how_is right.2 in

@@ -31,11 +31,11 @@ module _ {schema : Schema} where
       makes_then r a (makes_space (makes_first r token sign (Space ∷ second) right (operator.sign_is r)
       (subst (λ (x : Standing). Makes schema Q x (Space ∷ second) t) (sym (operator.leaves r)) (makes_space b))))
 
-pub leaf_rises : {fold : ℕ → Option ℕ} {limit : Limit} (n : ℕ) (leaf : Node) (m : ℕ) → IsLeafOf fold limit n leaf m → n ≤ m
-leaf_rises _ _ _ (of_word n key is plain) = omega arith
+pub leaf_rises : {fold : ℕ → Option ℕ} {schema : Schema} {limit : Limit} (n : ℕ) (leaf : Node) (m : ℕ) → IsLeafOf fold schema limit n leaf m → n ≤ m
+leaf_rises _ _ _ (of_word n key is plain takes) = omega arith
 leaf_rises _ _ _ (of_phrase n keys several keys_are) = omega arith
 
-pub leaves_rise : {fold : ℕ → Option ℕ} {limit : Limit} {join : Node → Node → Node} (n : ℕ) (node : Node) (m : ℕ) → AreLeavesOf fold limit join n node m → n ≤ m
+pub leaves_rise : {fold : ℕ → Option ℕ} {schema : Schema} {limit : Limit} {join : Node → Node → Node} (n : ℕ) (node : Node) (m : ℕ) → AreLeavesOf fold schema limit join n node m → n ≤ m
 leaves_rise _ _ _ (one_leaf n leaf m is) = leaf_rises n leaf m is
 leaves_rise _ _ _ (more_leaves n left k leaf m chain is) = omega (arith, leaves_rise n left k chain, leaf_rises k leaf m is)
 
@@ -93,7 +93,7 @@ module _ {schema : Schema} {limit : Limit} (token : WrittenToken) (sign : Sign) 
           (chain.makes (spanless here) e (here ∷ around))))
 
 module _ {fold : ℕ → Option ℕ} {schema : Schema} {limit : Limit} (token : WrittenToken) (sign : Sign) (line : Line) (join : Node → Node → Node) (joining : IsJoining schema token sign line join) where
-  chain_reads : (n : ℕ) (node : Node) (m : ℕ) → AreLeavesOf fold limit join n node m → m ≤ 255 → ReadsChain schema limit sign join n node m (part_of schema.fields node)
+  chain_reads : (n : ℕ) (node : Node) (m : ℕ) → AreLeavesOf fold schema limit join n node m → m ≤ 255 → ReadsChain schema limit sign join n node m (part_of schema.fields node)
   chain_reads _ _ _ (one_leaf n leaf m is) few =
       let h : ReadsLeaf schema limit n leaf m (part_of schema.fields leaf) = reads_leaf n leaf m is few in
       record { first = leaf; rest = []; is = refl; limit_is = h.limit_is; makes = λ here e around. makes_as (then_none (λ x. Is sign then IsLeaf x)) (h.makes here e around) }
@@ -102,7 +102,7 @@ module _ {fold : ℕ → Option ℕ} {schema : Schema} {limit : Limit} (token : 
       subst (λ (p : Part). ReadsChain schema limit sign join n (join left leaf) m p) (sym (joining.part_is left leaf))
       (one_more token sign line join joining n left k leaf m (chain_reads n left k chain (omega (arith, few, leaf_rises k leaf m is))) h).0
 
-  pub joined_reads : (n : ℕ) (left : Node) (k : ℕ) (leaf : Node) (m : ℕ) → IsRightLimit schema limit → AreLeavesOf fold limit join n left k → IsLeafOf fold limit k leaf m → m ≤ 255 → Reads schema n (join left leaf) m
+  pub joined_reads : (n : ℕ) (left : Node) (k : ℕ) (leaf : Node) (m : ℕ) → IsRightLimit schema limit → AreLeavesOf fold schema limit join n left k → IsLeafOf fold schema limit k leaf m → m ≤ 255 → Reads schema n (join left leaf) m
   joined_reads n left k leaf m right chain is few =
       let h : ReadsLeaf schema limit k leaf m (part_of schema.fields leaf) = reads_leaf k leaf m is few in
       let more = one_more token sign line join joining n left k leaf m (chain_reads n left k chain (omega (arith, few, leaf_rises k leaf m is))) h in

@@ -72,18 +72,18 @@ module _ {fold : ℕ → Option ℕ} {schema : Schema} {limit : Limit} where
         (quoted_same n here around limit (key ∷ other ∷ keys) hows.Phrase e keys_are.are));
   }
 
-  pub reads_leaf : (n : ℕ) (leaf : Node) (m : ℕ) → IsLeafOf fold limit n leaf m → m ≤ 255 → ReadsLeaf schema limit n leaf m (part_of schema.fields leaf)
-  reads_leaf _ _ _ (of_word n key is plain) few =
+  pub reads_leaf : (n : ℕ) (leaf : Node) (m : ℕ) → IsLeafOf fold schema limit n leaf m → m ≤ 255 → ReadsLeaf schema limit n leaf m (part_of schema.fields leaf)
+  reads_leaf _ _ _ (of_word n key is plain takes) few =
       subst (λ (p : Part). ReadsLeaf schema limit n (nodes.Word key) (n + 1) p) (sym (part_word schema.fields key)) (record {
         single = refl;
         limit_is = ap (λ (k : Key). Some k.limit) is;
         makes = λ here e around.
-            makes_as (λ u h. inl (key, refl, h)) (makes_one (standing n here around) (WrittenToken.Word key) (signs.Bare key) few (word_sign n here around limit key e is));
+            makes_as (λ u h. inl (key, refl, h)) (makes_one (standing n here around) (WrittenToken.Word key) (signs.Bare key) (few, takes) (word_sign n here around limit key e is));
       })
   reads_leaf _ _ _ (of_phrase n keys several keys_are) few =
       subst (λ (p : Part). ReadsLeaf schema limit n (nodes.Quoted keys hows.Phrase) (n + length keys) p) (sym (part_quoted schema.fields keys hows.Phrase)) (reads_phrase n keys several keys_are few)
 
-  pub leaf_reads : (n : ℕ) (leaf : Node) (m : ℕ) → IsRightLimit schema limit → IsLeafOf fold limit n leaf m → m ≤ 255 → Reads schema n leaf m
+  pub leaf_reads : (n : ℕ) (leaf : Node) (m : ℕ) → IsRightLimit schema limit → IsLeafOf fold schema limit n leaf m → m ≤ 255 → Reads schema n leaf m
   leaf_reads n leaf m right is few =
       let h : ReadsLeaf schema limit n leaf m (part_of schema.fields leaf) = reads_leaf n leaf m is few in
       single_reads n leaf m (part_of schema.fields leaf) right h.single h.limit_is (λ here e around depth. makes_as (λ u x. inl x) (h.makes here e around))

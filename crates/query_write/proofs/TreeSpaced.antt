@@ -47,10 +47,10 @@ module _ (fold : ℕ → Option ℕ) (schema : Schema) (is_schema : IsSchema sch
   one_part : (limit : Limit) (p : Part) → IsRightLimit schema limit → UnderOne fold schema limit p → PartStands fold schema p
   one_part limit p right h = record { inner = h.inner; limit = one_limit schema limit p.limit h.limit_is right }
 
-  leaf_stands : (limit : Limit) (n : ℕ) (leaf : Node) (m : ℕ) → IsLeafOf fold limit n leaf m → UnderOne fold schema limit (part_of schema.fields leaf)
-  leaf_stands limit _ _ _ (of_word n key is plain) =
+  leaf_stands : (limit : Limit) (n : ℕ) (leaf : Node) (m : ℕ) → IsLeafOf fold schema limit n leaf m → UnderOne fold schema limit (part_of schema.fields leaf)
+  leaf_stands limit _ _ _ (of_word n key is plain takes) =
       subst (UnderOne fold schema limit) (sym (part_word schema.fields key))
-      (record { inner = word_stands fold schema is_schema key plain; limit_is = ap (λ (k : Key). Some k.limit) is })
+      (record { inner = word_stands fold schema is_schema key plain takes; limit_is = ap (λ (k : Key). Some k.limit) is })
   leaf_stands limit _ _ _ (of_phrase n keys several are) =
       subst (UnderOne fold schema limit) (sym (part_quoted schema.fields keys hows.Phrase))
       (record { inner = quoted_stands fold schema is_schema limit n keys hows.Phrase are tt; limit_is = some_limit n limit keys fold (several_keys keys several) are })
@@ -71,7 +71,7 @@ module _ (fold : ℕ → Option ℕ) (schema : Schema) (is_schema : IsSchema sch
 
   chain_stands : (limit : Limit) (join : Node → Node → Node)
       → ((a b : Node) → UnderOne fold schema limit (part_of schema.fields a) → UnderOne fold schema limit (part_of schema.fields b) → UnderOne fold schema limit (part_of schema.fields (join a b)))
-      → (n : ℕ) (node : Node) (m : ℕ) → AreLeavesOf fold limit join n node m → UnderOne fold schema limit (part_of schema.fields node)
+      → (n : ℕ) (node : Node) (m : ℕ) → AreLeavesOf fold schema limit join n node m → UnderOne fold schema limit (part_of schema.fields node)
   chain_stands limit join more _ _ _ (one_leaf n leaf m is) = leaf_stands limit n leaf m is
   chain_stands limit join more _ _ _ (more_leaves n a k leaf m chain is) = more a leaf (chain_stands limit join more n a k chain) (leaf_stands limit k leaf m is)
 

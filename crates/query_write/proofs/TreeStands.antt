@@ -10,7 +10,7 @@ use Rattle.query_tree.specs.declared.key.How.{How}
 use Rattle.query_tree.specs.declared.key.How.TheVariants as hows
 use Rattle.query_marks.specs.Marks.{keys_after}
 use Rattle.query_write.specs.Written.{WrittenToken, Space, Open, Close, Line, Part, is_single, limits, zone_tokens, under, enclosed, whole, left}
-use Rattle.query_write.specs.steps.Signs.{IsPlainWord, IsPlainKey, HasSmall, CanBeRead, AreSpaced}
+use Rattle.query_write.specs.steps.Signs.{IsKeyOf, IsPlainWord, IsPlainKey, HasSmall, CanBeRead, AreSpaced}
 use Rattle.query_write.specs.steps.TokenRun.{words_of, IsInRange, IsRightHow, IsRightZone, AreRightZones}
 use Rattle.query_write.specs.steps.Writable.{IsRightLimit, AreKeys}
 use Rattle.query_write.proofs.TreeNames.{field_names, zone_names}
@@ -26,15 +26,19 @@ ends : List Key → Bool
 ends [] = false
 ends (key ∷ keys) = key.end
 
+prefixes : List Key → Bool
+prefixes [] = false
+prefixes (key ∷ keys) = key.prefix
+
 later : List Key → List Key
 later [] = []
 later (key ∷ keys) = keys
 
 pub keys_plain : (fold : ℕ → Option ℕ) (limit : Limit) (n : ℕ) (keys : List Key) → keys ≡ keys_after n limit false false (words_of keys) → All (λ (key : Key). IsPlainWord fold key.word) keys → All (IsPlainKey fold) keys
-unfolding starts ends later
+unfolding starts ends prefixes later
 keys_plain fold limit n [] is plain = All-nil (IsPlainKey fold)
 keys_plain fold limit n (key ∷ keys) is plain =
-    All-cons (IsPlainKey fold) key keys (All-head (λ (k : Key). IsPlainWord fold k.word) key keys plain, ap starts is, ap ends is)
+    All-cons (IsPlainKey fold) key keys (All-head (λ (k : Key). IsPlainWord fold k.word) key keys plain, ap starts is, ap ends is, ap prefixes is)
     (keys_plain fold limit (n + 1) keys (ap later is) (All-tail (λ (k : Key). IsPlainWord fold k.word) key keys plain))
 
 pub small_range : (n : ℕ) → IsInRange n → n < 2 ^ 64
@@ -70,8 +74,8 @@ pub record PartStands (fold : ℕ → Option ℕ) (schema : Schema) (p : Part) :
   pub limit : (limit : Limit) → p.limit ≡ Some limit → IsRightLimit schema limit
 
 module _ (fold : ℕ → Option ℕ) (schema : Schema) (is_schema : IsSchema schema) where
-  pub word_stands : (key : Key) → IsPlainWord fold key.word → Stands fold schema (WrittenToken.Word key ∷ [])
-  word_stands key plain = one_stands (WrittenToken.Word key) refl (after_word key) plain
+  pub word_stands : (key : Key) → IsPlainWord fold key.word → IsKeyOf schema key → Stands fold schema (WrittenToken.Word key ∷ [])
+  word_stands key plain takes = one_stands (WrittenToken.Word key) refl (after_word key) (plain, takes)
 
   pub quoted_stands : (limit : Limit) (n : ℕ) (keys : List Key) (how : How) → AreKeys fold limit n keys → IsRightHow how → Stands fold schema (WrittenToken.Quoted keys how ∷ [])
   quoted_stands limit n keys how are right = one_stands (WrittenToken.Quoted keys how) refl (after_quoted keys how) (keys_plain fold limit n keys are.are are.plain, small_how how right)

@@ -13,7 +13,7 @@ use Rattle.query_pieces.specs.declared.piece.Form.TheVariants as forms
 use Rattle.query_pieces.specs.declared.piece.Piece.{Piece}
 use Rattle.query_pieces.specs.QueryBytes.{byte, byte_before, begins_field, is_field_byte, begins_zone, is_zone_byte, spells, run_end, digits_end}
 use Rattle.query_pieces.specs.Operators.{piece, slice, NamesAt, operator_at, limit_with, limit_of, fields_from, fields_at, names_at, list_at, name_at, is_listed, are_names, relaxed_at, at_sign_at, zones_of, zones_at, quoted_at, quote_end, number_at}
-use Rattle.query_pieces.specs.Letters.{Letter, letter_at}
+use Rattle.query_pieces.specs.Letters.{Alphabet, Letter, letter_at}
 use Rattle.query_pieces.specs.Pieces.{IsWord, IsPlain, Stands, after_start, separator_at}
 use Rattle.query_marks.specs.LimitNames.{bytes_of, names_in}
 use Rattle.query_write.specs.steps.TokenRun.{is_zone_name}
@@ -210,13 +210,13 @@ operator_named text inside place =
     (choose (ZonesNamed text) (byte text place == 80) _ _ (λ e. tested_piece text _ (piece forms.Paragraph (place + 9)) refl)
     (choose (ZonesNamed text) (byte text place == 78) _ _ (λ e. tested_piece text _ (piece (forms.Near (slice (place + 5) (digits_end text (place + 5)))) (digits_end text (place + 5))) refl) (no_piece text))))))))))))
 
-plain_other : (fold : ℕ → Option ℕ) (text : List ℕ) (place : ℕ) (p : Piece) (o : Option Letter) → MatchOption o (p ≡ separator_at text place) (λ letter. IsWord fold text place p) → is_zones p.form ≡ false
-plain_other fold text place p None is = ap (λ (q : Piece). is_zones q.form) is
-plain_other fold text place p (Some letter) word = ap (λ (q : Piece). is_zones q.form) word.is
+plain_other : (alphabet : Alphabet) (text : List ℕ) (place : ℕ) (p : Piece) (o : Option Letter) → MatchOption o (p ≡ separator_at text place) (λ letter. IsWord alphabet text place p) → is_zones p.form ≡ false
+plain_other alphabet text place p None is = ap (λ (q : Piece). is_zones q.form) is
+plain_other alphabet text place p (Some letter) word = ap (λ (q : Piece). is_zones q.form) word.is
 
-pub zone_names : (fold : ℕ → Option ℕ) (text : List ℕ) (inside : Bool) (place : ℕ) (p : Piece) (limit : ZoneLimit) → Stands fold text inside place p → p.form ≡ forms.Zones limit → HasZoneNames (bytes_of text limit.names)
-zone_names fold text inside place p limit stands form = by (operator_at text inside place) (operator_named text inside place) stands
+pub zone_names : (alphabet : Alphabet) (text : List ℕ) (inside : Bool) (place : ℕ) (p : Piece) (limit : ZoneLimit) → Stands alphabet text inside place p → p.form ≡ forms.Zones limit → HasZoneNames (bytes_of text limit.names)
+zone_names alphabet text inside place p limit stands form = by (operator_at text inside place) (operator_named text inside place) stands
   where
-    by : (o : Option Piece) → ZonesNamed text o → MatchOption o (IsPlain fold text place p) (λ operator. p ≡ operator) → HasZoneNames (bytes_of text limit.names)
-    by None are plain = absurd (both_ways (is_zones p.form) (plain_other fold text place p (letter_at fold text false (after_start text place)) plain) (ap is_zones form))
+    by : (o : Option Piece) → ZonesNamed text o → MatchOption o (IsPlain alphabet text place p) (λ operator. p ≡ operator) → HasZoneNames (bytes_of text limit.names)
+    by None are plain = absurd (both_ways (is_zones p.form) (plain_other alphabet text place p (letter_at alphabet text false (after_start text place)) plain) (ap is_zones form))
     by (Some operator) are is = are.named limit (sym (ap (λ (q : Piece). q.form) is) ∙ form)

@@ -37,7 +37,7 @@ pub data WrittenToken : Type 0 where
 
 -- a word with its marks
 abbrev pub key_text : Key → List ℕ
-key_text key = (if key.start then codes "^" else []) ++ (spelled key.word ++ (if key.end then codes "$" else []))
+key_text key = (if key.start then codes "^" else []) ++ (spelled key.word ++ ((if key.end then codes "$" else []) ++ (if key.prefix then codes "*" else [])))
 
 -- ---- the bytes of quoted pieces, limits and operators
 

@@ -75,5 +75,8 @@ pub(crate) fn put_key(key: &Key, out: &mut Vec<u8>) -> Result<(), NoMemory>
     if key.end {
         out.push(b'$')?;
     }
+    if key.prefix {
+        out.push(b'*')?;
+    }
     Ok(())
 }

@@ -33,7 +33,7 @@ abbrev pub no_base : Base
 no_base = record { opening = record { number = 0; shape = 0; layers = [] }; log = 0 }
 
 abbrev pub no_schema : Schema
-no_schema = record { name = []; fields = []; attrs = []; zones = []; sp = false }
+no_schema = record { name = []; fields = []; attrs = []; zones = []; sp = false; min_prefix = 0 }
 
 abbrev pub nothing_opened : AtOpening
 nothing_opened = record { faults = 0; file = 0; root = 0 }

@@ -31,7 +31,7 @@ pub(crate) fn put_pieces(
     if text.len() > MOST {
         return None;
     }
-    let count = pieces(alloc, table, text).ok()?.len();
+    let count = pieces(alloc, table, false, text).ok()?.len();
     write!(into, "{count}").ok()
 }
 

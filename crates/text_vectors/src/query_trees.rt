@@ -1,6 +1,6 @@
-//! The trees of docs/cases/extended_queries.md, as `query_cases` of scripts/ writes them: edit them there. After `# ` stands the
-//! configuration of the index by which texts are read, and then an empty line. Each text is followed by `⇒` and by its tree.
-//! `⟨x × n⟩` is x written n times, `⟨tab⟩` a tab.
+//! The trees of docs/cases/extended_queries.md, and of the page of texts with prefixes, as `query_cases` of scripts/ writes them: edit
+//! them there. After `# ` stands the configuration of the index by which texts are read, and then an empty line. Each text is followed
+//! by `⇒` and by its tree. `⟨x × n⟩` is x written n times, `⟨tab⟩` a tab.
 
 /// Texts with their trees.
 pub(crate) const TREES: &str = r#"
@@ -876,4 +876,301 @@ ZONESPAN:th a -b c ⇒ (ZONESPAN:(th) ( a -b c ))
 "a b c d"/0.5 e ⇒ ( "a b c d"/0.5 e )
 a (-b c) d ⇒ ( a ( -b c ) d )
 NEAR MAYBE, a ⇒ ( near maybe a )
+# index prefix2 {
+type = rt
+path = a
+rt_field = title
+rt_field = content
+min_prefix_len = 2
+}
+
+wor* ⇒ wor*
+WOR* ⇒ wor*
+wo* ⇒ wo*
+wor** ⇒ wor*
+wor*** ⇒ wor*
+wor * ⇒ wor
+*wor ⇒ wor
+*wor* ⇒ wor*
+* ⇒ 
+** ⇒ 
+* wor* ⇒ wor*
+wor*ld ⇒ ( wor* ld )
+wo*rl* ⇒ ( wo* rl* )
+wor*, wide ⇒ ( wor* wide )
+wor* wor ⇒ ( wor* wor )
+wor* wor* ⇒ ( wor* wor* )
+42* ⇒ 42*
+__* ⇒ __*
+жу* ⇒ жу*
+ЖУ* ⇒ жу*
+é* ⇒ 
+wé* ⇒ w
+wor-* ⇒ wor
+wor&* ⇒ wor
+wor.* ⇒ wor
+⟨a × 43⟩* ⇒ ⟨a × 42⟩*
+⟨Ж × 50⟩* ⇒ ⟨ж × 42⟩*
+wor*⟨tab⟩* ⇒ wor*
+^wor* ⇒ ^wor*
+^^wor* ⇒ ^wor*
+^ wor* ⇒ wor*
+wor*$ ⇒ wor*
+^wor*$ ⇒ ^wor*
+wor*$$ ⇒ wor*
+wor* $ ⇒ wor*
+wor$* ⇒ wor$
+wor$** ⇒ wor$
+^wor$* ⇒ ^wor$
+w$* ⇒ w$
+wor*^ld ⇒ ( wor* ^ld )
+wor*$ld ⇒ ( wor* ld )
+wor*ld$ ⇒ ( wor* ld$ )
+^wor*ld ⇒ ( ^wor* ld )
+wor^* ⇒ wor
+^* ⇒ 
+$* ⇒ 
+^*wor ⇒ wor
+\wor* ⇒ wor*
+wo\r* ⇒ wor*
+wor\* ⇒ wor
+wor\** ⇒ wor
+wor*\* ⇒ wor*
+w\*or* ⇒ ( w or* )
+wor\\* ⇒ wor
+\*wor* ⇒ wor*
+^\wor* ⇒ ^wor*
+"wor*" ⇒ wor
+"w*" ⇒ w
+"wor* ld" ⇒ "wor ld"
+"wor*ld" ⇒ "wor ld"
+"wor"* ⇒ wor
+"wor ld"* ⇒ "wor ld"
+"wor* ld"~3* ⇒ "wor ld"~3
+"wor ld*"/2* ⇒ "wor ld"/2
+"w* x*"/0.5 ⇒ "w x"/0.5
+"*" ⇒ 
+"*"* ⇒ 
+wor*"a b" ⇒ ( wor* "a b" )
+"a b"wor* ⇒ ( "a b" wor* )
+"a b"-wor* ⇒ ( "a b" -wor* )
+wor* | wid* ⇒ ( wor* | wid* )
+wor*|wid* ⇒ ( wor* | wid* )
+hello wor* | wid* one ⇒ ( hello ( wor* | wid* ) one )
+hello -wor* ⇒ ( hello -wor* )
+hello !wor* ⇒ ( hello -wor* )
+-wor* hello ⇒ ( -wor* hello )
+hello -^wor* ⇒ ( hello -^wor* )
+hello -(wor* | wid*) ⇒ ( hello -( wor* | wid* ) )
+wor*-ld ⇒ ( wor* ld )
+wor* -ld ⇒ ( wor* -ld )
+wor* - ld ⇒ ( wor* ld )
+*-wor hello ⇒ ( wor hello )
+wor* << wid* ⇒ ( wor* << wid* )
+wor*<<wid* ⇒ ( wor* << wid* )
+hello wor* << wid* << one ⇒ ( ( hello wor* ) << wid* << one )
+wor* NEAR/3 wid* ⇒ ( wor* NEAR/3 wid* )
+wor* MAYBE wid* ⇒ ( wor* MAYBE wid* )
+wor* MAYBE *wid ⇒ ( wor* MAYBE wid )
+wor*MAYBE wid ⇒ ( wor* maybe wid )
+wor* SENTENCE wid* ⇒ ( wor* SENTENCE wid* )
+wor* SENTENCE "a b" SENTENCE wid* ⇒ ( wor* SENTENCE "a b" SENTENCE wid* )
+wor* PARAGRAPH ^wid* ⇒ ( wor* PARAGRAPH ^wid* )
+a MAYBE* b ⇒ ( a maybe* b )
+SENTENCE* a ⇒ ( sentence* a )
+a NEAR* b ⇒ ( a near* b )
+a NEAR/33* b ⇒ ( a near 33* b )
+wor*~3 ⇒ ( wor* 3 )
+wor*/2 ⇒ ( wor* 2 )
+=wor* ⇒ wor*
+(wor*) ⇒ wor*
+(wor)* ⇒ wor
+(wor*)* ⇒ wor*
+(wor* | wid*) hello ⇒ ( ( wor* | wid* ) hello )
+@title wor* ⇒ (@(title) wor*)
+@title wor* wid* ⇒ ( (@(title) wor*) (@(title) wid*) )
+@title* wor* ⇒ (@(title) wor*)
+@title[2] ^wor* ⇒ (@(title)[2] ^wor*)
+@(title,content)[3] wor* ⇒ (@*[3] wor*)
+@* wor* ⇒ wor*
+@*wor* ⇒ wor*
+@!* wor* ⇒ (@!* wor*)
+@!title wor* ⇒ (@(content) wor*)
+wor*@title wide ⇒ ( wor* (@(title) wide) )
+@title a (wor* @content wid*) oth* ⇒ ( (@(title) a) ( (@(title) wor*) (@(content) wid*) ) (@(title) oth*) )
+@title wor* SENTENCE wid* ⇒ (@(title) ( wor* SENTENCE wid* ))
+@@relaxed wor* ⇒ wor*
+@@relaxed* wor* ⇒ wor*
+@@relaxed @nofield wor* ⇒ (@!* wor*)
+ZONE:th wor* ⇒ wor*
+ZONESPAN:nozone wor* ⇒ wor*
+# index zoned2 {
+type = rt
+path = a
+rt_field = title
+rt_field = content
+html_strip = 1
+index_zones = th, td
+min_prefix_len = 2
+}
+
+ZONE:th wor* ⇒ (@* ZONE:(th) wor*)
+ZONE:th* wor* ⇒ (@* ZONE:(th) wor*)
+ZONE:(th,td)*wor* ⇒ (@* ZONE:(th,td) wor*)
+@title ZONE:td wor* ⇒ (@(title) ZONE:(td) wor*)
+wor*ZONE:th wide ⇒ ( wor* (@* ZONE:(th) wide) )
+ZONESPAN:th wor* wid* ⇒ (ZONESPAN:(th) ( wor* wid* ))
+ZONESPAN:(th,td) wor* ⇒ (ZONESPAN:(th,td) wor*)
+ZONESPAN:th wor* -wid* ⇒ (ZONESPAN:(th) ( wor* -wid* ))
+hello ZONESPAN:th wor* ⇒ ( hello (ZONESPAN:(th) wor*) )
+(ZONESPAN:th wor*) << wid* ⇒ ( (ZONESPAN:(th) wor*) << wid* )
+# index prefix2 {
+type = rt
+path = a
+rt_field = title
+rt_field = content
+min_prefix_len = 2
+}
+
+⟨a  × 254⟩wo* ⇒ (⟨ a × 254⟩ wo* )
+# index prefix1 {
+type = rt
+path = a
+rt_field = title
+rt_field = content
+min_prefix_len = 1
+}
+
+w* ⇒ w*
+ж* ⇒ ж*
+^w*$ ⇒ ^w*
+w*r ⇒ ( w* r )
+w*r*l* ⇒ ( w* r* l* )
+* ⇒ 
+a NEAR/3* b ⇒ ( a near 3* b )
+"w*" w* ⇒ ( w w* )
+# index prefix3 {
+type = rt
+path = a
+rt_field = title
+rt_field = content
+min_prefix_len = 3
+}
+
+wor* ⇒ wor*
+жук* ⇒ жук*
+^wor* ⇒ ^wor*
+# index prefix42 {
+type = rt
+path = a
+rt_field = title
+rt_field = content
+min_prefix_len = 42
+}
+
+⟨a × 42⟩* ⇒ ⟨a × 42⟩*
+⟨a × 43⟩* ⇒ ⟨a × 42⟩*
+⟨ж × 42⟩* ⇒ ⟨ж × 42⟩*
+# index prefix0 {
+type = rt
+path = a
+rt_field = title
+rt_field = content
+}
+
+wor* ⇒ wor
+w* ⇒ w
+^wor* ⇒ ^wor
+wor*$ ⇒ wor
+wor$* ⇒ wor$
+wor*ld ⇒ ( wor ld )
+-wor* a ⇒ ( -wor a )
+"wor*" ⇒ wor
+# index prefix2 {
+type = rt
+path = a
+rt_field = title
+rt_field = content
+charset_table = a..z, *
+min_prefix_len = 2
+}
+
+wor* ⇒ wor*
+wor\* ⇒ wor\*
+wor\** ⇒ wor\**
+wor** ⇒ ( wor* \* )
+wor*ld ⇒ ( wor* ld )
+wor\*ld ⇒ wor\*ld
+*wor ⇒ \*wor
+*wor* ⇒ \*wor*
+* ⇒ \*
+\*\* ⇒ \*\*
+\*\** ⇒ \*\**
+wor * ⇒ ( wor \* )
+"wor*" ⇒ wor\*
+"wor* ld" ⇒ "wor\* ld"
+wor*$ ⇒ wor*
+wor$* ⇒ ( wor$ \* )
+^*wor ⇒ ^\*wor
+^*wor* ⇒ ^\*wor*
+@title* wor ⇒ ( (@(title) \*) (@(title) wor) )
+@** ⇒ \*
+"a"* ⇒ ( a \* )
+# index prefix0 {
+type = rt
+path = a
+rt_field = title
+rt_field = content
+charset_table = a..z, *
+}
+
+wor* ⇒ wor\*
+wor** ⇒ wor\*\*
+wor\* ⇒ wor\*
+wor*ld ⇒ wor\*ld
+# index prefix2 {
+type = rt
+path = a
+rt_field = title
+rt_field = content
+charset_table = a..z, U+2D, ^, $
+min_prefix_len = 2
+}
+
+foo-ba* ⇒ foo\-ba*
+-foo* ba-* ⇒ ( -foo* ba\-* )
+wor*-ld ⇒ ( wor* \-ld )
+wor*$ ⇒ wor*
+wor$* ⇒ wor$
+wor\$* ⇒ wor\$*
+^wor\^* ⇒ ^wor\^*
+# index prefix2 {
+type = rt
+path = a
+rt_field = title
+rt_field = content
+charset_table = A..Z, a..z
+min_prefix_len = 2
+}
+
+Wor* wor* ⇒ ( Wor* wor* )
+MAYBE* a ⇒ ( \MAYBE* a )
+a MAYBE* ⇒ ( a \MAYBE* )
+^SENTENCE* ⇒ ^\SENTENCE*
+NEAR* a ⇒ ( NEAR* a )
+a MAYBE MAYBE* ⇒ ( a MAYBE \MAYBE* )
+# index prefix2 {
+type = rt
+path = a
+rt_field = title
+rt_field = content
+min_prefix_len = 2
+}
+
+wor* a wor* ⇒ ( wor* a wor* )
+-(wid* a) wor* ⇒ ( -( wid* a ) wor* )
+"a b" wor* c ⇒ ( "a b" wor* c )
+wor* wor wor ⇒ ( wor* wor wor )
+wor*ld wid* ⇒ ( wor* ld wid* )
+wor* | wid* MAYBE "" oth* ⇒ ( wor* | wid* MAYBE oth* )
 "#;

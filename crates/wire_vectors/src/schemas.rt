@@ -24,6 +24,7 @@ fn schema(alloc: Global) -> Option<Schema> {
         attrs: attrs(alloc)?,
         zones: Items::new(Vec::new(alloc)),
         sp: true,
+        min_prefix: 0,
     })
 }
 

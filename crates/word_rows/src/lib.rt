@@ -4,7 +4,6 @@
 mod asking;
 mod counting;
 mod fields;
-mod keys;
 mod loading;
 mod marks;
 mod slots;

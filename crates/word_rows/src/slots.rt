@@ -10,10 +10,9 @@ ghost use Rattle.word_rows.specs.Terms.{AreSeenIn};
 ghost use Rattle.word_rows.specs.steps.Cursors.{with_word, HasPassed, IsMadeFor, IsUnlimited, Passes, is_next};
 ghost use Rattle.word_rows.specs.Slots.{AreAt, AreSlots, Stands, keys_of, number_among, words_of, next_of};
 
-use crate::keys::put_keys;
 use doc_types::{Chunk, Cursor, MAX_POSITION};
 use occ_lists::Term;
-use query_tree::{Key, Node};
+use query_tree::{Key, Node, put_keys};
 use srch_base::NoMemory;
 use std::alloc::Global;
 

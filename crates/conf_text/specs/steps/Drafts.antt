@@ -17,7 +17,7 @@ use Rattle.conf_text.specs.declared.keys.Key.TheVariants as keys
 use Rattle.conf_text.specs.declared.setting.Setting.{Setting}
 use Rattle.conf_text.specs.declared.setting.Setting.TheVariants as settings
 use Rattle.conf_text.specs.Keys.{same_key}
-use Rattle.conf_text.specs.Confs.{IsIndexOf, zones_by}
+use Rattle.conf_text.specs.Confs.{IsIndexOf, prefix_len_by, zones_by}
 use Rattle.conf_text.specs.Faults.{is_among, is_long, is_on, is_repeated, lacks_key, lacks_strip, passes_limit}
 use Rattle.conf_text.specs.Sections.{Entry, IndexText, attrs_in, fields_in, given}
 use Rattle.conf_text.specs.Values.{IsValue}
@@ -39,6 +39,7 @@ pub record IsDraft (name : List ℕ) (entries : List Entry) (draft : Draft) : Ty
   pub zones : draft.zones.items ≡ zones_by (given keys.IndexZones entries)
   pub strip : draft.strip ≡ is_on (given keys.HtmlStrip entries)
   pub sp : draft.sp ≡ is_on (given keys.IndexSp entries)
+  pub prefix : draft.min_prefix ≡ prefix_len_by (given keys.MinPrefixLen entries)
 
 -- one of the keys is this one
 abbrev pub has_key : List Key → Key → Bool
@@ -71,6 +72,7 @@ Sets (settings.Attr name kind) old new = (new ≡ record old { attrs = new.attrs
 Sets (settings.Charset charset) old new = new ≡ record old { charset = Some charset }
 Sets (settings.Strip on) old new = new ≡ record old { strip = on }
 Sets (settings.Sp on) old new = new ≡ record old { sp = on }
+Sets (settings.Prefix len) old new = new ≡ record old { min_prefix = len }
 Sets (settings.Zones zones) old new = new ≡ record old { zones = zones }
 
 -- a draft's table, or the default one
@@ -85,6 +87,7 @@ pub record IsFinished (draft : Draft) (index : IndexConf) : Type 0 where
   pub attrs : index.schema.attrs ≡ draft.attrs.items
   pub zones : index.schema.zones ≡ draft.zones.items
   pub sp : index.schema.sp ≡ draft.sp
+  pub prefix : index.schema.min_prefix ≡ draft.min_prefix
   pub charset : IsTableIn draft.charset index.charset
   pub strip : index.rules.strip ≡ draft.strip
   pub rules_zones : index.rules.zones ≡ index.schema.zones

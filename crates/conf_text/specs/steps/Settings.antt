@@ -17,7 +17,7 @@ use Rattle.conf_text.specs.declared.setting.Setting.TheVariants as settings
 use Rattle.conf_text.specs.Faults.{is_among}
 use Rattle.conf_text.specs.Keys.{attr_kind}
 use Rattle.conf_text.specs.Shapes.{small}
-use Rattle.conf_text.specs.Values.{IsValue, is_tag_name, zones_in}
+use Rattle.conf_text.specs.Values.{IsValue, is_tag_name, prefix_len_in, zones_in}
 
 -- A value was read, or it is bad, or memory was refused.
 abbrev pub ReadsValue : {X : Type 0} → (X → Type 0) → Type 0 → Result X (Or ConfKind) → Type 0
@@ -31,6 +31,7 @@ is_plain keys.CharsetTable = false
 is_plain keys.HtmlStrip = false
 is_plain keys.IndexSp = false
 is_plain keys.IndexZones = false
+is_plain keys.MinPrefixLen = false
 is_plain keys.Path = false
 is_plain keys.RtField = false
 is_plain keys.RtAttrUint = false
@@ -48,6 +49,7 @@ IsSetting key value (settings.Attr name kind) = (attr_kind key ≡ Some kind) ×
 IsSetting key value (settings.Charset charset) = (key ≡ keys.CharsetTable) × IsTableOf value (folded charset)
 IsSetting key value (settings.Strip on) = (key ≡ keys.HtmlStrip) × (on ≡ bytes_eq value (codes "1"))
 IsSetting key value (settings.Sp on) = (key ≡ keys.IndexSp) × (on ≡ bytes_eq value (codes "1"))
+IsSetting key value (settings.Prefix len) = (key ≡ keys.MinPrefixLen) × (prefix_len_in value ≡ Some len)
 IsSetting key value (settings.Zones zones) = (key ≡ keys.IndexZones) × (zones.items ≡ zones_in value)
 
 -- What a key with this value sets was read, or it can't have the value.

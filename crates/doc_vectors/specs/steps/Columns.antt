@@ -15,11 +15,12 @@ the_schema = record {
   attrs = (codes "gid", kinds.Uint) ∷ (codes "price", kinds.Bigint) ∷ [];
   zones = [];
   sp = true;
+  min_prefix = 0;
 }
 
 -- one field
 abbrev pub one_schema : Schema
-one_schema = record { name = codes "one"; fields = codes "title" ∷ []; attrs = []; zones = []; sp = false }
+one_schema = record { name = codes "one"; fields = codes "title" ∷ []; attrs = []; zones = []; sp = false; min_prefix = 0 }
 
 -- as many fields as there may be
 abbrev pub wide_schema : Schema
@@ -33,6 +34,7 @@ wide_schema = record {
   attrs = [];
   zones = [];
   sp = false;
+  min_prefix = 0;
 }
 
 -- a schema has so many fields and attributes

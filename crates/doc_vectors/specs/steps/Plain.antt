@@ -3,4 +3,4 @@ use Rattle.std.specs.Prelude.{[], false}
 use Rattle.doc_types.specs.declared.schema.Schema.{Schema}
 
 abbrev pub plain : Schema
-plain = record { name = []; fields = []; attrs = []; zones = []; sp = false }
+plain = record { name = []; fields = []; attrs = []; zones = []; sp = false; min_prefix = 0 }

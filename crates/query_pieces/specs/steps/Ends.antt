@@ -1,7 +1,8 @@
 -- Where pieces end.
-use Rattle.std.specs.Prelude.{◌≡◌, ◌⊎◌, ℕ, ◌-◌, ◌<◌, ◌≤◌, List, [], ◌∷◌, Bool, true, false, Option, length}
+use Rattle.std.specs.Prelude.{◌≡◌, ◌⊎◌, ℕ, ◌-◌, ◌<◌, ◌≤◌, List, [], ◌∷◌, Bool, true, false, length}
 use Rattle.std.specs.Str.{IsCharBoundary}
 use Rattle.query_pieces.specs.QueryBytes.{byte}
+use Rattle.query_pieces.specs.Letters.{Alphabet}
 use Rattle.query_pieces.specs.Pieces.{AreLetters}
 
 -- A piece from one place up to another has bytes and lies in the text, and no character is cut where it ends, since an ASCII
@@ -27,9 +28,9 @@ Ahead true from at = from < at
 Ahead false from at = from ≡ at
 
 -- Letters were read from one place up to another.
-pub record HasRead (fold : ℕ → Option ℕ) (text : List ℕ) (from : ℕ) (inside : Bool) (at : ℕ) : Type 0 where
+pub record HasRead (alphabet : Alphabet) (text : List ℕ) (from : ℕ) (inside : Bool) (at : ℕ) : Type 0 where
   pub letters : List ℕ
-  pub are : AreLetters fold text false from letters at
+  pub are : AreLetters alphabet text false from letters at
   pub flag : inside ≡ are_some letters
   pub ahead : Ahead inside from at
   pub seam : IsCharBoundary text at

@@ -7,13 +7,13 @@ use Rattle.query_tree.specs.declared.key.How.TheVariants as hows
 use Rattle.query_marks.specs.declared.mark.Mark.{Mark}
 use Rattle.query_marks.specs.declared.mark.Sign.{Sign}
 use Rattle.query_marks.specs.declared.mark.Sign.TheVariants as signs
-use Rattle.query_write.specs.steps.Signs.{IsPlainWord}
+use Rattle.query_write.specs.steps.Signs.{IsPlainWord, IsKeyOf}
 use Rattle.query_write.specs.steps.TokenRun.{key_after, IsInRange, IsRightHow, AreRightZones}
 use Rattle.query_write.specs.steps.Writable.{IsRightLimit, AreKeys}
 
 -- The sign stands after so many keywords under a limit, and after it there are so many keywords, and this limit is in force.
 abbrev pub IsStep : (ℕ → Option ℕ) → Schema → ℕ → Limit → Sign → ℕ → Limit → Type 0
-IsStep fold schema n here (signs.Bare key) m there = (m ≡ n + 1) × (m ≤ 255) × (there ≡ here) × (key ≡ key_after n here key) × IsPlainWord fold key.word
+IsStep fold schema n here (signs.Bare key) m there = (m ≡ n + 1) × (m ≤ 255) × (there ≡ here) × (key ≡ key_after n here key) × IsPlainWord fold key.word × IsKeyOf schema key
 IsStep fold schema n here (signs.Phrase keys) m there = (m ≡ n + length keys) × (m ≤ 255) × (there ≡ here) × (2 ≤ length keys) × AreKeys fold here n keys
 IsStep fold schema n here (signs.Loose keys how) m there = (m ≡ n + length keys) × (m ≤ 255) × (there ≡ here) × (keys ≢ []) × AreKeys fold here n keys × (how ≢ hows.Phrase) × IsRightHow how
 IsStep fold schema n here signs.Sentence m there = (m ≡ n) × (there ≡ here)

@@ -1,6 +1,7 @@
 -- The tokens of a written query beside the pieces of its text: what the piece of a token is, and what tokens stand side by side.
-use Rattle.std.specs.Prelude.{◌≡◌, ◌≢◌, ◌≤◌, ◌<◌, ◌^◌, ℕ, List, [], ◌∷◌, Bool, true, false, Option, Some, None, Contains, All, decimal, length, map, encode_utf8_all}
+use Rattle.std.specs.Prelude.{◌≡◌, ◌≢◌, ◌≤◌, ◌<◌, ◌^◌, ℕ, List, [], ◌∷◌, Bool, true, false, Option, Some, None, nat_lt, Contains, All, decimal, length, map, encode_utf8_all}
 use Rattle.std.specs.List.{list_all}
+use Rattle.std.specs.Str.{chars}
 use Rattle.std.proofs.Math.Utf8.{scalar}
 use Rattle.doc_types.specs.declared.tokens.TheConstants.{MAX_WORD_CHARS}
 use Rattle.doc_types.specs.declared.schema.Schema.{Schema}
@@ -21,9 +22,15 @@ use Rattle.query_pieces.specs.Operators.{are_names, is_listed}
 use Rattle.query_tree.specs.declared.key.Key.{Key}
 use Rattle.query_tree.specs.declared.key.How.{How}
 use Rattle.query_tree.specs.declared.key.How.TheVariants as hows
-use Rattle.query_marks.specs.QueryWords.{words_in}
+use Rattle.query_pieces.specs.Letters.{Alphabet}
+use Rattle.query_marks.specs.Marks.{alphabet_in, setting_of}
+use Rattle.query_marks.specs.QueryWords.{letters_in, words_in}
 use Rattle.query_marks.specs.LimitNames.{bytes_of}
 use Rattle.query_write.specs.Written.{WrittenToken, parted, padded, named, all_fields, name_of}
+
+-- what texts are read by in an index, with this table
+abbrev pub alphabet_by : (ℕ → Option ℕ) → Schema → Alphabet
+alphabet_by fold schema = alphabet_in (setting_of fold schema)
 
 -- ---- what the piece of a token is
 
@@ -62,7 +69,7 @@ IsPieceOf fold schema text WrittenToken.Sentence form = form ≡ forms.Sentence
 IsPieceOf fold schema text WrittenToken.Paragraph form = form ≡ forms.Paragraph
 IsPieceOf fold schema text WrittenToken.Not form = form ≡ forms.Not
 IsPieceOf fold schema text (WrittenToken.Word key) form =
-    (w : Spelling) × (form ≡ forms.Word w) × (words_in fold (bytes_of text w.letters) ≡ key.word ∷ []) × (w.start ≡ key.start) × (w.end ≡ key.end)
+    (w : Spelling) × (form ≡ forms.Word w) × (words_in fold (bytes_of text w.letters) ≡ key.word ∷ []) × (w.start ≡ key.start) × (w.end ≡ key.end) × (w.prefix ≡ key.prefix) × (length (letters_in fold (chars (bytes_of text w.letters))) ≡ length (chars key.word))
 IsPieceOf fold schema text (WrittenToken.Quoted keys how) form =
     (q : Quotation) × (form ≡ forms.Quoted q) × (words_in fold (bytes_of text q.inside) ≡ map (λ key. key.word) keys) × IsHow text q.number how
 IsPieceOf fold schema text (WrittenToken.Fields n positions) form =
@@ -88,9 +95,19 @@ pub record IsPlainWord (fold : ℕ → Option ℕ) (word : List ℕ) : Type 0 wh
   pub are_chars : (c : ℕ) → Contains chars c → scalar c ≡ true
   pub folded : (c : ℕ) → Contains chars c → fold c ≡ Some c
 
+-- A prefix that the index takes: it has letters enough, and no end mark.
+pub record IsPrefixOf (schema : Schema) (key : Key) : Type 0 where
+  pub taken : nat_lt 0 schema.min_prefix ≡ true
+  pub goes_on : key.end ≡ false
+  pub enough : schema.min_prefix ≤ length (chars key.word)
+
+-- a keyword that the index takes
+abbrev pub IsKeyOf : Schema → Key → Type 0
+IsKeyOf schema key = key.prefix ≡ true → IsPrefixOf schema key
+
 -- a keyword of a quoted piece
 abbrev pub IsPlainKey : (ℕ → Option ℕ) → Key → Type 0
-IsPlainKey fold key = IsPlainWord fold key.word × (key.start ≡ false) × (key.end ≡ false)
+IsPlainKey fold key = IsPlainWord fold key.word × (key.start ≡ false) × (key.end ≡ false) × (key.prefix ≡ false)
 
 -- a number of digits
 abbrev pub IsSmall : ℕ → Type 0
@@ -107,7 +124,7 @@ HaveNames begins further list = (are_names begins true (parted 44 list) ≡ true
 
 abbrev pub CanBeRead : (ℕ → Option ℕ) → Schema → WrittenToken → Type 0
 CanBeRead fold schema (WrittenToken.Near n) = IsSmall n
-CanBeRead fold schema (WrittenToken.Word key) = IsPlainWord fold key.word
+CanBeRead fold schema (WrittenToken.Word key) = IsPlainWord fold key.word × IsKeyOf schema key
 CanBeRead fold schema (WrittenToken.Quoted keys how) = All (IsPlainKey fold) keys × HasSmall how
 CanBeRead fold schema (WrittenToken.Fields n positions) =
     ((n ≢ all_fields schema.fields) → (n ≢ 0) → HaveNames begins_field is_field_byte (named schema.fields n)) × IsSmall positions

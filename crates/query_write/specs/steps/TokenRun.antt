@@ -12,6 +12,7 @@ use Rattle.query_marks.specs.declared.mark.Sign.{Sign}
 use Rattle.query_marks.specs.declared.mark.Sign.TheVariants as signs
 use Rattle.query_marks.specs.Marks.{keys_after, quoted_sign}
 use Rattle.query_write.specs.Written.{WrittenToken, all_fields, name_of}
+use Rattle.query_write.specs.steps.Signs.{IsKeyOf}
 
 -- limits in force; an empty list of zones is no limit
 pub record Ambient : Type 0 where
@@ -43,7 +44,7 @@ ambient_limit here = record { fields = here.fields; positions = here.positions; 
 
 -- the keyword that a word is, after so many
 abbrev pub key_after : ℕ → Limit → Key → Key
-key_after n limit key = record { query = n + 1; word = key.word; limit = limit; start = key.start; end = key.end }
+key_after n limit key = record { query = n + 1; word = key.word; limit = limit; start = key.start; end = key.end; prefix = key.prefix }
 
 -- the words of keywords
 abbrev pub words_of : List Key → List (List ℕ)
@@ -126,7 +127,7 @@ AreRightZones schema zones = (zones ≢ []) × All (IsRightZone schema) zones
 abbrev pub IsRight : Schema → Standing → WrittenToken → Type 0
 IsRight schema s WrittenToken.Before = s.here.span ≡ false
 IsRight schema s (WrittenToken.Near n) = IsInRange n × (s.here.span ≡ false)
-IsRight schema s (WrittenToken.Word key) = s.keywords + 1 ≤ 255
+IsRight schema s (WrittenToken.Word key) = (s.keywords + 1 ≤ 255) × IsKeyOf schema key
 IsRight schema s (WrittenToken.Quoted keys how) = (keys ≢ []) × (s.keywords + length keys ≤ 255) × IsRightHow how
 IsRight schema s (WrittenToken.Fields n positions) = (n ≤ all_fields schema.fields) × IsInRange positions
 IsRight schema s (WrittenToken.Zones zones) = AreRightZones schema zones

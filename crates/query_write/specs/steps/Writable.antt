@@ -11,7 +11,7 @@ use Rattle.query_tree.specs.declared.query.Node.{Node}
 use Rattle.query_tree.specs.declared.query.Node.TheVariants as nodes
 use Rattle.query_grammar.specs.Grammar.{has_item}
 use Rattle.query_write.specs.Written.{all_fields}
-use Rattle.query_write.specs.steps.Signs.{IsPlainWord}
+use Rattle.query_write.specs.steps.Signs.{IsPlainWord, IsKeyOf}
 use Rattle.query_write.specs.steps.TokenRun.{key_after, words_of, IsInRange, IsRightHow, IsRightZone, AreRightZones}
 
 -- a limit that can be written
@@ -26,21 +26,21 @@ pub record AreKeys (fold : ℕ → Option ℕ) (limit : Limit) (n : ℕ) (keys :
   pub plain : All (λ key. IsPlainWord fold key.word) keys
 
 -- A word or a phrase under a limit. The first number is that of the keywords before the tree, the second one that of those to its end.
-pub data IsLeafOf (fold : ℕ → Option ℕ) (limit : Limit) : ℕ → Node → ℕ → Type 0 where
-  of_word : (n : ℕ) (key : Key) → key ≡ key_after n limit key → IsPlainWord fold key.word → IsLeafOf fold limit n (nodes.Word key) (n + 1)
-  of_phrase : (n : ℕ) (keys : List Key) → 2 ≤ length keys → AreKeys fold limit n keys → IsLeafOf fold limit n (nodes.Quoted keys hows.Phrase) (n + length keys)
+pub data IsLeafOf (fold : ℕ → Option ℕ) (schema : Schema) (limit : Limit) : ℕ → Node → ℕ → Type 0 where
+  of_word : (n : ℕ) (key : Key) → key ≡ key_after n limit key → IsPlainWord fold key.word → IsKeyOf schema key → IsLeafOf fold schema limit n (nodes.Word key) (n + 1)
+  of_phrase : (n : ℕ) (keys : List Key) → 2 ≤ length keys → AreKeys fold limit n keys → IsLeafOf fold schema limit n (nodes.Quoted keys hows.Phrase) (n + length keys)
 
 -- leaves under one limit, joined from the left
-pub data AreLeavesOf (fold : ℕ → Option ℕ) (limit : Limit) (join : Node → Node → Node) : ℕ → Node → ℕ → Type 0 where
-  one_leaf : (n : ℕ) (leaf : Node) (m : ℕ) → IsLeafOf fold limit n leaf m → AreLeavesOf fold limit join n leaf m
-  more_leaves : (n : ℕ) (left : Node) (k : ℕ) (leaf : Node) (m : ℕ) → AreLeavesOf fold limit join n left k → IsLeafOf fold limit k leaf m → AreLeavesOf fold limit join n (join left leaf) m
+pub data AreLeavesOf (fold : ℕ → Option ℕ) (schema : Schema) (limit : Limit) (join : Node → Node → Node) : ℕ → Node → ℕ → Type 0 where
+  one_leaf : (n : ℕ) (leaf : Node) (m : ℕ) → IsLeafOf fold schema limit n leaf m → AreLeavesOf fold schema limit join n leaf m
+  more_leaves : (n : ℕ) (left : Node) (k : ℕ) (leaf : Node) (m : ℕ) → AreLeavesOf fold schema limit join n left k → IsLeafOf fold schema limit k leaf m → AreLeavesOf fold schema limit join n (join left leaf) m
 
 mutual
   pub data IsWritable (fold : ℕ → Option ℕ) (schema : Schema) : ℕ → Node → ℕ → Type 0 where
-    of_leaf : (n : ℕ) (node : Node) (m : ℕ) (limit : Limit) → IsRightLimit schema limit → IsLeafOf fold limit n node m → IsWritable fold schema n node m
+    of_leaf : (n : ℕ) (node : Node) (m : ℕ) (limit : Limit) → IsRightLimit schema limit → IsLeafOf fold schema limit n node m → IsWritable fold schema n node m
     of_loose : (n : ℕ) (keys : List Key) (how : How) (limit : Limit) → IsRightLimit schema limit → keys ≢ [] → AreKeys fold limit n keys → how ≢ hows.Phrase → IsRightHow how → IsWritable fold schema n (nodes.Quoted keys how) (n + length keys)
-    of_sentences : (n : ℕ) (left : Node) (k : ℕ) (leaf : Node) (m : ℕ) (limit : Limit) → IsRightLimit schema limit → AreLeavesOf fold limit nodes.Sentence n left k → IsLeafOf fold limit k leaf m → IsWritable fold schema n (nodes.Sentence left leaf) m
-    of_paragraphs : (n : ℕ) (left : Node) (k : ℕ) (leaf : Node) (m : ℕ) (limit : Limit) → IsRightLimit schema limit → AreLeavesOf fold limit nodes.Paragraph n left k → IsLeafOf fold limit k leaf m → IsWritable fold schema n (nodes.Paragraph left leaf) m
+    of_sentences : (n : ℕ) (left : Node) (k : ℕ) (leaf : Node) (m : ℕ) (limit : Limit) → IsRightLimit schema limit → AreLeavesOf fold schema limit nodes.Sentence n left k → IsLeafOf fold schema limit k leaf m → IsWritable fold schema n (nodes.Sentence left leaf) m
+    of_paragraphs : (n : ℕ) (left : Node) (k : ℕ) (leaf : Node) (m : ℕ) (limit : Limit) → IsRightLimit schema limit → AreLeavesOf fold schema limit nodes.Paragraph n left k → IsLeafOf fold schema limit k leaf m → IsWritable fold schema n (nodes.Paragraph left leaf) m
     of_items : (n : ℕ) (items : List Item) (m : ℕ) → 2 ≤ length items → IsTrue (has_item items) → AreWritable fold schema n items m → IsWritable fold schema n (nodes.And items) m
     of_or : (n : ℕ) (a : Node) (k : ℕ) (b : Node) (m : ℕ) → IsWritable fold schema n a k → IsWritable fold schema k b m → IsWritable fold schema n (nodes.Or a b) m
     of_maybe : (n : ℕ) (a : Node) (k : ℕ) (b : Node) (m : ℕ) → IsWritable fold schema n a k → IsWritable fold schema k b m → IsWritable fold schema n (nodes.Maybe a b) m

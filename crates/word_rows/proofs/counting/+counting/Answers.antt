@@ -4,7 +4,7 @@ use Rattle.query_tree.specs.declared.query.Item.{Item}
 use Rattle.query_tree.specs.declared.query.Node.{Node}
 use Rattle.query_tree.specs.TreeKeys.{node_keys}
 use Rattle.query_tree.proofs.NodeKeys.{keys_word, keys_quoted, keys_and, keys_span}
-use Rattle.word_rows.proofs.JoinedNodes.{keys_joint}
+use Rattle.query_tree.proofs.JoinedKeys.{keys_joint}
 use Rattle.word_rows.proofs.counting.+counting.Goals as goal
 
 pub key_count-returns-in-Word : goal.key_count-returns-in-Word

@@ -4,7 +4,7 @@ use Rattle.std.specs.List.{flat_map}
 use Rattle.query_tree.specs.declared.key.Key.{Key}
 use Rattle.query_tree.specs.declared.query.Item.{Item}
 use Rattle.query_tree.specs.TreeKeys.{node_keys}
-use Rattle.word_rows.proofs.keys.+keys.Given as goal
+use Rattle.query_tree.proofs.listing.+keys.Given as goal
 
 abbrev pub invariant-put_items-loop-item : goal.invariant-put_items-loop-item
 invariant-put_items-loop-item l =

@@ -1,14 +1,15 @@
-//! The keywords of a query, in the order of its text, and the numbers of their words.
+//! The keywords of a tree, listed in its order.
 ghost use Rattle.std.specs.Prelude.{◌≡◌, ◌++◌, map, OnOk};
 ghost use Rattle.std.specs.List.{flat_map};
 ghost use Rattle.query_tree.specs.TreeKeys.{node_keys};
 
-use query_tree::{Item, Key, Node};
+use crate::key::Key;
+use crate::query::{Item, Node};
 use srch_base::NoMemory;
 
 /// Appends the keywords of the node.
 #[cycle(keys)]
-pub(crate) fn put_keys<'q>(node: &'q Node, keys: &mut Vec<&'q Key>) -> Result<(), NoMemory>
+pub fn put_keys<'q>(node: &'q Node, keys: &mut Vec<&'q Key>) -> Result<(), NoMemory>
     ensures { OnOk result (map (λ key. key.now) keys.new.items ≡ map (λ key. key.now) keys.old.items ++ node_keys node.now) }
 {
     match node {
@@ -28,6 +29,7 @@ pub(crate) fn put_keys<'q>(node: &'q Node, keys: &mut Vec<&'q Key>) -> Result<()
     }
 }
 
+/// Appends these keywords.
 fn put_listed<'q>(listed: &'q [Key], keys: &mut Vec<&'q Key>) -> Result<(), NoMemory>
     ensures { OnOk result (map (λ key. key.now) keys.new.items ≡ map (λ key. key.now) keys.old.items ++ listed.now) }
 {
@@ -37,6 +39,7 @@ fn put_listed<'q>(listed: &'q [Key], keys: &mut Vec<&'q Key>) -> Result<(), NoMe
     Ok(())
 }
 
+/// Appends the keywords of the items.
 #[cycle(keys)]
 fn put_items<'q>(items: &'q [Item], keys: &mut Vec<&'q Key>) -> Result<(), NoMemory>
     ensures { OnOk result (map (λ key. key.now) keys.new.items ≡ map (λ key. key.now) keys.old.items ++ flat_map (λ item. node_keys item.node) items.now) }

@@ -1,20 +1,20 @@
-//! Copies of keywords: a mark keeps its own.
+//! Copies of keywords.
 ghost use Rattle.std.specs.Prelude.{◌≡◌, IfOk};
 
-use query_tree::{Key, Limit};
+use crate::key::{Key, Limit};
 use sqlite_items::Items;
 use srch_base::NoMemory;
 use std::alloc::Global;
 
 /// A copy of a list of numbers.
-pub(crate) fn copy_numbers(alloc: Global, numbers: &Items<u16>) -> Result<Items<u16>, NoMemory>
+pub fn copy_numbers(alloc: Global, numbers: &Items<u16>) -> Result<Items<u16>, NoMemory>
     ensures { IfOk result (λ copy. copy ≡ numbers.now) }
 {
     Ok(Items::from_slice(alloc, numbers.as_slice())?)
 }
 
 /// A copy of a keyword.
-pub(crate) fn copy_key(alloc: Global, key: &Key) -> Result<Key, NoMemory>
+pub fn copy_key(alloc: Global, key: &Key) -> Result<Key, NoMemory>
     ensures { IfOk result (λ copy. copy ≡ key.now) }
 {
     Ok(Key {
@@ -27,11 +27,12 @@ pub(crate) fn copy_key(alloc: Global, key: &Key) -> Result<Key, NoMemory>
         },
         start: key.start,
         end: key.end,
+        prefix: key.prefix,
     })
 }
 
 /// A copy of keywords.
-pub(crate) fn copy_keys(alloc: Global, keys: &Items<Key>) -> Result<Items<Key>, NoMemory>
+pub fn copy_keys(alloc: Global, keys: &Items<Key>) -> Result<Items<Key>, NoMemory>
     ensures { IfOk result (λ copies. copies ≡ keys.now) }
 {
     let mut copies = Items::new(alloc);
