@@ -1,6 +1,7 @@
-"""Writes the texts of docs/cases/extended_queries.md that have trees as a constant that the test of the written form runs over.
+"""Writes the texts of docs/cases/extended_queries.md, and those with prefixes, that have trees as a constant that the test of the
+written form runs over.
 
-What the texts find, and the faults of the others, `query_runs` asks the program. At the top of the repository:
+What the texts find, and the faults of the others, `query_runs` asks the program, and `prefix_runs`. At the top of the repository:
 python3 -m scripts.cases.query_cases [--check]
 """
 
@@ -11,24 +12,28 @@ from typing import NamedTuple
 from scripts.cases.tables import constant, read, run
 
 DOCUMENT = "docs/cases/extended_queries.md"
+PREFIXES = "docs/cases/prefix_texts.md"
 TABLE = "crates/text_vectors/src/query_trees.rt"
 # A text above so many bytes, or with a sign that has a name, is asked by its tree alone.
 LONGEST = 100
 
-HEAD = """//! The trees of docs/cases/extended_queries.md, as `query_cases` of scripts/ writes them: edit them there. After `# ` stands the
-//! configuration of the index by which texts are read, and then an empty line. Each text is followed by `⇒` and by its tree.
-//! `⟨x × n⟩` is x written n times, `⟨tab⟩` a tab.
+HEAD = """//! The trees of docs/cases/extended_queries.md, and of the page of texts with prefixes, as `query_cases` of scripts/ writes them: edit
+//! them there. After `# ` stands the configuration of the index by which texts are read, and then an empty line. Each text is followed
+//! by `⇒` and by its tree. `⟨x × n⟩` is x written n times, `⟨tab⟩` a tab.
 """
 
+# The fewest characters of a prefix, by schema, where these aren't 0.
+SHORTEST = {"prefix1": 1, "prefix2": 2, "prefix3": 3, "prefix42": 42, "zoned2": 2}
 # The fields and the zones of the schemas.
 FIELDS = {
+    **dict.fromkeys(["prefix0", *SHORTEST], ["title", "content"]),
     "rt": ["title", "content"],
     "pages": ["title", "content"],
     "one": ["title"],
     "wide": [f"f{number}" for number in range(32)],
     "long": ["n" * 64, "title"],
 }
-ZONES = {"pages": ["th", "td", "x-a:b_1"], "long": ["z" * 64]}
+ZONES = {"pages": ["th", "td", "x-a:b_1"], "long": ["z" * 64], "zoned2": ["th", "td"]}
 
 
 class Row(NamedTuple):
@@ -86,6 +91,7 @@ def configuration(schema, table):
     lines = ["type = rt", "path = a", *(f"rt_field = {field}" for field in FIELDS[schema])]
     lines += [f"charset_table = {table}"] if table != "default" else []
     lines += ["html_strip = 1", f"index_zones = {', '.join(ZONES[schema])}"] if schema in ZONES else []
+    lines += [f"min_prefix_len = {SHORTEST[schema]}"] if schema in SHORTEST else []
     return [f"# index {schema} {{", *lines, "}", ""]
 
 
@@ -103,7 +109,7 @@ def lines(found):
 
 
 def made():
-    found = [row for row in rows(read(DOCUMENT)) if row.tree is not None]
+    found = [row for page in (DOCUMENT, PREFIXES) for row in rows(read(page)) if row.tree is not None]
     yield TABLE, HEAD + "\n" + constant("Texts with their trees.", "TREES", lines(found))
 
 

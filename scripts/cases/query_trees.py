@@ -3,6 +3,7 @@
 A document is a list of fields, each with its words at their positions, the ends of its sentences and paragraphs, and its spans
 of zones (`Field`). What a tree finds there are occurrences, as (field, first, last), and hits, as (query, word, field, position),
 by the rules of docs/EXTENDED_QUERIES.md and of docs/cases/evaluation.md; both are sets. Nothing of it is taken from the program.
+A word with `*` behind it is a prefix, by the rules of docs/EXTENDED_QUERIES.md: it is found where a word stands that begins with it.
 """
 
 import re
@@ -42,25 +43,30 @@ ALL = Limit(None)
 
 
 class Key(NamedTuple):
-    """A keyword: its number from 1, that of its word from 0, what it is, and where it may stand."""
+    """A keyword: its number from 1, those of words from 0, what it is, and where it may stand."""
 
     query: int
-    number: int
+    numbers: dict
     word: str
     limit: Limit
     start: bool
     end: bool
     negated: bool
+    prefix: bool = False
+
+    def takes(self, word):
+        return word.startswith(self.word) if self.prefix else word == self.word
 
     def places(self, document, names, within):
-        found = []
+        """Its places as field and position, each with the number of the word that stands there."""
+        found = {}
         for field, has in enumerate(document):
             for word, position in has.words:
-                if word == self.word and self.limit.allows(document, names, field, position):
+                if self.takes(word) and self.limit.allows(document, names, field, position):
                     first = not self.start or position == has.words[0][1]
                     last = not self.end or position == has.words[-1][1]
                     inside = all(field == span[0] and span[1] <= position <= span[2] for span in within)
-                    found += [(field, position)] if first and last and inside else []
+                    found |= {(field, position): self.numbers[word]} if first and last and inside else {}
         return found
 
 
@@ -93,7 +99,7 @@ class Word(NamedTuple):
 
 
 def hits_at(key, places):
-    return frozenset((key.query, key.number, field, position) for field, position in places)
+    return frozenset((key.query, number, field, position) for (field, position), number in places.items())
 
 
 class Quoted(NamedTuple):
@@ -219,16 +225,31 @@ class Everything(NamedTuple):
 
 
 class Tree:
-    """A query, by its written form."""
+    """A query, by its written form; where it has prefixes it is asked of documents that have these words and no others.
 
-    def __init__(self, written):
-        self.text, self.at, self.keys, self.limit, self.negated = written, 0, [], ALL, False
+    Words are numbered by first use. A prefix uses all words that begin with it, in their order, or the empty one where none does.
+    """
+
+    def __init__(self, written, words=()):
+        self.text, self.at, self.keys, self.limit, self.negated, self.numbers = written, 0, [], ALL, False, {}
         self.root = self.node() if written else Everything()
         assert self.at == len(written), f"{written} at {self.at}"
+        self.expanded = sum(len(found) for key, found in self.used(words) if key.prefix)
+        for _, found in self.used(words):
+            for word in found or [""]:
+                self.numbers.setdefault(word, len(self.numbers))
+
+    def used(self, words):
+        """The keywords with the words that each uses."""
+        return [(key, sorted(filter(key.takes, set(words))) if key.prefix else [key.word]) for key in self.keys]
 
     def words(self):
         """The distinct words, by first use."""
         return list(dict.fromkeys(key.word for key in self.keys))
+
+    def shown(self):
+        """The distinct keywords, as SHOW META tells them, by first use."""
+        return list(dict.fromkeys((key.word, key.prefix) for key in self.keys))
 
     def find(self, document, names, reads_sentences):
         return self.root.find((document, names, reads_sentences), [])
@@ -299,13 +320,13 @@ class Tree:
     def word(self):
         """A keyword with its marks, and its escapes taken away."""
         start, word = self.take("^"), ""
-        while self.at < len(self.text) and self.text[self.at] not in ' )"$':
+        while self.at < len(self.text) and self.text[self.at] not in ' )"$*':
             self.at += self.text[self.at] == "\\"
             word += self.text[self.at]
             self.at += 1
         assert word, f"{self.text} at {self.at}"
         end = self.take("$")
-        known = [*self.words(), word]
-        key = Key(len(self.keys) + 1, known.index(word), word, self.limit, start, end, self.negated)
+        prefix = not end and self.take("*")
+        key = Key(len(self.keys) + 1, self.numbers, word, self.limit, start, end, self.negated, prefix)
         self.keys.append(key)
         return key

@@ -18,7 +18,7 @@ use doc_search::{Question, Ranking, search};
 use doc_types::{Chunk, HitLists, Layer, Snapshot};
 use image_chunk::RamChunk;
 use index_conf::{Conf, IndexConf};
-use op_eval::for_schema;
+use op_eval::{for_schema, numbered_keywords_have_positions};
 use query_read::read_query;
 use query_tree::Query;
 use rankers::{Ranker, Weights};
@@ -66,6 +66,7 @@ fn question_of(alloc: Global, text: &str, index: &IndexConf) -> Result<Question,
     ensures asked { IfOk result (IsAskedOf index.now.schema) }
     ensures few { IfOk result (λ question. length (query_keys question.query) < 2 ^ 16) }
 {
+    numbered_keywords_have_positions();
     let fields = index.schema.fields.len();
     let weights = vec![in alloc; 1; fields]?;
     let keys = vec![in alloc; (ColumnRef::Weight, true)]?;

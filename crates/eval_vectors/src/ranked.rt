@@ -73,6 +73,7 @@ fn schema_in(alloc: Global) -> Option<Schema>
         attrs: Items::new(attrs),
         zones: Items::new(Vec::new(alloc)),
         sp: false,
+        min_prefix: 0,
     })
 }
 

@@ -162,7 +162,7 @@ unfolding happened_code
 decided plan happenings.NoMemory refusal is = cc is
 decided (plans.Agree turn) happenings.Nothing refusal is = absurd (cc is)
 decided (plans.Show set) happenings.Nothing refusal is = absurd (cc is)
-decided (plans.Search place selection) (happenings.Read front) refusal is = ⊎_elim (λ found. absurd (cc (found.2))) (λ lacks. (let same : Fails refusal ≡ _ = lacks.2 in cc same)) is
+decided (plans.Search place selection) (happenings.Read front) refusal is = ⊎_elim (λ found. absurd (cc (found.2))) (⊎_elim (λ lacks. (let same : Fails refusal ≡ _ = lacks.2 in cc same)) (λ many. (let same : Fails refusal ≡ _ = many.2 in cc same))) is
 decided (plans.Status place) (happenings.Read front) refusal is = absurd (cc is)
 decided (plans.Keep place txn affected) happenings.Nothing refusal is = absurd (cc is)
 decided (plans.Put place txn counted) (happenings.Committing outcome) refusal is = commit_is counted (length txn.ops) outcome refusal is

@@ -29,7 +29,8 @@ use Rattle.op_eval.specs.steps.Evaluating.{Finds, Holds, founds_in, join_by, ite
 use Rattle.word_rows.specs.Terms.{AreTermsOf}
 use Rattle.op_eval.proofs.Appending.{chosen, finds_joined, finds_when}
 use Rattle.op_eval.proofs.Forward.{finds_forward}
-use Rattle.word_rows.proofs.JoinedNodes.{IsBounded, IsJoint, IsPlain, keys_joint, bounds_plain, bounds_bounded, zones_plain, zones_bounded}
+use Rattle.query_tree.proofs.JoinedKeys.{IsBounded, IsJoint, keys_joint}
+use Rattle.word_rows.proofs.JoinedNodes.{IsPlain, bounds_plain, bounds_bounded, zones_plain, zones_bounded}
 use Rattle.word_rows.proofs.MarkedNodes.{bounds_and, bounds_span, zones_and, zones_span}
 use Rattle.op_eval.proofs.Nodes.{finds_and, finds_or, finds_maybe, finds_before, finds_near, finds_sentence, finds_paragraph, finds_span}
 

@@ -23,7 +23,7 @@ use Rattle.op_eval.specs.declared.verdict.Verdict.{Verdict}
 use Rattle.op_eval.specs.declared.verdict.Verdict.TheVariants as verdicts
 use Rattle.word_rows.specs.Terms.{AreSeenIn, IsSeenIn}
 use Rattle.op_eval.specs.steps.Verdicts.{AreApart, Tells, negation, conjunction, doubt, stands_in, quoted_matches, item_passes}
-use Rattle.word_rows.proofs.JoinedNodes.{IsJoint, IsOrdered, keys_joint}
+use Rattle.query_tree.proofs.JoinedKeys.{IsJoint, IsOrdered, keys_joint}
 use Rattle.op_eval.proofs.Nodes.{part_within, finds_word, finds_quoted, finds_and, finds_or, finds_maybe, finds_before, finds_near, finds_sentence, finds_paragraph, finds_span}
 use Rattle.op_eval.proofs.QuotedVerdicts.{guard_matches}
 use Rattle.op_eval.proofs.SoundFindings.{sound}

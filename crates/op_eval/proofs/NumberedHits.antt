@@ -1,6 +1,6 @@
--- The hits of a query whose keywords are numbered: within the limits, and no two of one query position at one place.
-use Rattle.std.proofs.Common.{◌≡◌, refl, sym, subst, ◌∙◌, ap, ℕ, ◌+◌, ◌<◌, ◌≤◌, Bool, true, false, List, length, map, get_or, slice_get, Some, None, Option, zero-add, arith}
-use Rattle.std.specs.Prelude.{All, Contains, IsTrue, option_map, if◌then◌else◌}
+-- The hits of a query whose keywords have query positions: within the limits, and no two of one query position at one place.
+use Rattle.std.proofs.Common.{◌≡◌, refl, sym, subst, ◌∙◌, ap, ℕ, ◌+◌, ◌<◌, ◌≤◌, ◌^◌, ◌⊎◌, ⊎_elim, Bool, true, false, List, length, map, get_or, slice_get, Some, None, Option, zero-add, arith}
+use Rattle.std.specs.Prelude.{All, AllPairs, Any, Contains, IsTrue, option_map, if◌then◌else◌}
 use Rattle.std.specs.List.{filter, range_with_len}
 use Rattle.std.proofs.lemmas.Bool.Decides.{nat_tests}
 use Rattle.std.proofs.lemmas.List.{get_or-map, get_or_default}
@@ -22,11 +22,11 @@ use Rattle.query_tree.specs.TreeKeys.{query_keys}
 use Rattle.word_rows.specs.Keywords.{allows, key_places}
 use Rattle.op_eval.specs.Matching.{number_in}
 use Rattle.op_eval.specs.Hits.{AreHits, comes_before}
-use Rattle.op_eval.specs.Numbered.{IsNumbered, IsWordAt, IsHitOf, IsHitWithin, AreTwoHits, AreHitsWithin}
+use Rattle.op_eval.specs.Numbered.{HasPositions, IsNumbered, IsWordAt, IsHitOf, IsHitWithin, AreTwoHits, AreHitsWithin}
 use Rattle.op_eval.specs.Sentences.{joined_by_and, query_for}
 use Rattle.op_eval.proofs.AndKeys.{node_keeps}
 use Rattle.op_eval.proofs.KeywordHits.{IsKeyHit, hits_keyed}
-use Rattle.word_rows.proofs.PlacedRows.{IsHit, IsPlacedField, IsPlacedRow, placed_field, all_parts, are_hits}
+use Rattle.word_rows.proofs.PlacedRows.{IsHit, IsPlacedField, IsPlacedRow, placed_field, all_parts, are_hits, at_one}
 
 -- ---- an index's queries
 keys_kept : (root : Option Node) (keywords : ℕ) → query_keys (record { root = option_map joined_by_and root; keywords = keywords }) ≡ query_keys (record { root = root; keywords = keywords })
@@ -57,11 +57,16 @@ at_number keys key k numbers within at =
     ∙ ap (λ list. get_or list k 0) numbers
     ∙ get_or-range_with_len 1 (length keys) k 0 within
 
--- one position is that of one keyword
-one_key : (keys : List Key) (a b : Key) → AreNumbered keys → Contains keys a → Contains keys b → a.query ≡ b.query → a ≡ b
-one_key keys a b numbers (i, within_a, at_a) (j, within_b, at_b) same =
-    let places : i ≡ j = omega (arith, at_number keys a i numbers within_a at_a, at_number keys b j numbers within_b at_b, same) in
-    sym at_a ∙ get_or_default keys i a b within_a ∙ ap (λ k. get_or keys k b) places ∙ at_b
+pub have_positions : (query : Query) → IsNumbered query → HasPositions query
+have_positions query numbered =
+    let keys = query_keys query in record {
+      few = omega (arith, numbered.count, numbered.few);
+      short = omega (arith, numbered.few);
+      count = omega (arith, numbered.count);
+      within = λ k d low.
+          let number : (get_or keys k d).query ≡ 1 + k = at_number keys (get_or keys k d) k numbered.numbers low (get_or_default keys k (get_or keys k d) d low) in
+          (omega (arith, number), omega (arith, number, low, numbered.count));
+    }
 
 -- ---- where hits stand
 pub words_stand : (row : DocRow) (key : Key) → All (IsWordAt row key.word) (key_places row key)
@@ -79,7 +84,31 @@ words_stand row key = All-filter (allows row key) (IsWordAt row key.word) (hits_
           token = (member.0, token, member.1, member.2, ((bytes_eq-Decides token.word key.word).0 (filter_passes (is_word key.word) tokens.words i d within), refl));
         })
 
-module _ (query : Query) (row : DocRow) (numbered : IsNumbered query) (placed : IsPlacedRow row) where
+-- one place has one word
+module _ (row : DocRow) (placed : IsPlacedRow row) where
+  one_token : (words : List TokenWord) → AllPairs (λ word later. word.position < later.position) words → (i j : ℕ) (one other : TokenWord) → i < length words → j < length words → get_or words i one ≡ one → get_or words j other ≡ other → one.position ≡ other.position → one ≡ other
+  one_token words ascend i j one other low high at there same =
+      ⊎_elim
+      (λ (less : i < j). absurd (let climbs = ascend i j one less high in let here = ap (λ (word : TokenWord). word.position) at in let later = ap (λ (word : TokenWord). word.position) (get_or_default words j one other high ∙ there) in omega (arith, climbs, here, later, same)))
+      (λ rest. ⊎_elim
+      (λ (is : i ≡ j). sym at ∙ get_or_default words i one other low ∙ ap (λ k. get_or words k other) is ∙ there)
+      (λ (more : j < i). absurd (let climbs = ascend j i other more low in let here = ap (λ (word : TokenWord). word.position) there in let later = ap (λ (word : TokenWord). word.position) (get_or_default words i other one low ∙ at) in omega (arith, climbs, here, later, same)))
+      rest)
+      (three i j)
+    where
+      three : (i j : ℕ) → (i < j) ⊎ ((i ≡ j) ⊎ (j < i))
+      three i j = grind arith
+
+  one_word : (word other : List ℕ) (place : ℕ × ℕ) → IsWordAt row word place → IsWordAt row other place → word ≡ other
+  one_word word other place one two =
+      let fields : one.tokens ≡ two.tokens = let same : Some one.tokens ≡ Some two.tokens = sym one.field ∙ two.field in cc in
+      let there = subst (λ (tokens : FieldTokens). Any (λ token. (token.word ≡ other) × (token.position ≡ place.1)) tokens.words) (sym fields) two.token in
+      let own = one.token in
+      let field : IsPlacedField one.tokens = at_one IsPlacedField row.doc.fields placed place.0 one.tokens one.field in
+      let same : own.1 ≡ there.1 = one_token one.tokens.words field.ascend own.0 there.0 own.1 there.1 own.2 there.2 own.3 there.3 (own.4.1 ∙ sym there.4.1) in
+      sym own.4.0 ∙ ap (λ (token : TokenWord). token.word) same ∙ there.4.0
+
+module _ (query : Query) (row : DocRow) (has : HasPositions query) (placed : IsPlacedRow row) where
   stands : (hit : Hit) (key : Key) → IsHitOf query row hit key → IsHit row (hit.field, hit.position)
   stands hit key of =
       All-contains (IsHit row) (key_places row key) (hit.field, hit.position)
@@ -87,11 +116,11 @@ module _ (query : Query) (row : DocRow) (numbered : IsNumbered query) (placed : 
 
   within_limits : (hit : Hit) → IsKeyHit query row hit → IsHitWithin query.keywords (length row.doc.fields) hit
   within_limits hit (k, key, within, at, of) =
-      let number : key.query ≡ 1 + k = at_number (query_keys query) key k numbered.numbers within at in
+      let position = All-contains (λ (own : Key). (1 ≤ own.query) × (own.query ≤ query.keywords)) (query_keys query) key has.within (k, within, at) in
       let place : IsHit row (hit.field, hit.position) = stands hit key of in
       record {
-        from_one = omega (arith, of.position, number);
-        query = omega (arith, of.position, number, within, numbered.count);
+        from_one = omega (arith, of.position, position.0);
+        query = omega (arith, of.position, position.1);
         field = slice_get_within row.doc.fields hit.field place.field place.at;
         position = place.high;
       }
@@ -99,10 +128,15 @@ module _ (query : Query) (row : DocRow) (numbered : IsNumbered query) (placed : 
   not_before : (hit other : Hit) → hit.field ≡ other.field → hit.position ≡ other.position → hit.query ≡ other.query → hit.word ≡ other.word → IsTrue (comes_before hit other) → ⊥
   not_before hit other fields positions queries words before = grind (arith, nat_tests)
 
+  -- the keyword's word stands where its hit does
+  own_word : (hit : Hit) (key : Key) → IsHitOf query row hit key → IsWordAt row key.word (hit.field, hit.position)
+  own_word hit key of = All-contains (IsWordAt row key.word) (key_places row key) (hit.field, hit.position) (words_stand row key) of.place
+
   two_hits : (hit other : Hit) → IsKeyHit query row hit → IsKeyHit query row other → IsTrue (comes_before hit other) → AreTwoHits hit other
   two_hits hit other (i, a, within_a, at_a, of_a) (j, b, within_b, at_b, of_b) before fields positions queries =
-      let same : a ≡ b = one_key (query_keys query) a b numbered.numbers (i, within_a, at_a) (j, within_b, at_b) (sym of_a.position ∙ queries ∙ of_b.position) in
-      not_before hit other fields positions queries (of_a.word ∙ ap (λ (key : Key). number_in query key.word) same ∙ sym of_b.word) before
+      let there : IsWordAt row b.word (hit.field, hit.position) = subst (IsWordAt row b.word) (λ k. (sym fields k, sym positions k)) (own_word other b of_b) in
+      let same : a.word ≡ b.word = one_word row placed a.word b.word (hit.field, hit.position) (own_word hit a of_a) there in
+      not_before hit other fields positions queries (of_a.word ∙ ap (number_in query) same ∙ sym of_b.word) before
 
   pub hits_within : (hits : List Hit) → AreHits query row hits → AreHitsWithin query.keywords (length row.doc.fields) hits
   hits_within hits are =
@@ -113,6 +147,6 @@ module _ (query : Query) (row : DocRow) (numbered : IsNumbered query) (placed : 
             two_hits (get_or hits i d) (get_or hits j d) (keyed i d (omega (arith, before, within))) (keyed j d within) (are.ascend i j d before within);
       }
 
-pub can_be_weighed : (query : Query) (row : DocRow) (hits : List Hit) → IsNumbered query → All IsField row.doc.fields → AreHits query row hits → AreHitsWithin query.keywords (length row.doc.fields) hits
-can_be_weighed query row hits numbered fields =
-    hits_within query row numbered (All-weaker IsField IsPlacedField placed_field row.doc.fields fields) hits
+pub can_be_weighed : (query : Query) (row : DocRow) (hits : List Hit) → HasPositions query → All IsField row.doc.fields → AreHits query row hits → AreHitsWithin query.keywords (length row.doc.fields) hits
+can_be_weighed query row hits has fields =
+    hits_within query row has (All-weaker IsField IsPlacedField placed_field row.doc.fields fields) hits

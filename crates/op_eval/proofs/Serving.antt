@@ -14,7 +14,7 @@ use Rattle.query_tree.specs.declared.query.Node.TheVariants as nodes
 use Rattle.query_tree.specs.TreeKeys.{node_keys}
 use Rattle.query_tree.proofs.NodeKeys.{keys_word, keys_quoted, keys_and, keys_span}
 use Rattle.word_rows.specs.Keywords.{Spans}
-use Rattle.word_rows.proofs.JoinedNodes.{IsJoint, IsOrdered, keys_joint}
+use Rattle.query_tree.proofs.JoinedKeys.{IsJoint, IsOrdered, keys_joint}
 use Rattle.op_eval.specs.Finding.{Found, is_some, is_enough, passes, spans_in, node_finds}
 use Rattle.op_eval.specs.steps.Verdicts.{AreApart, stands_in, quoted_matches, item_passes}
 use Rattle.op_eval.proofs.Nodes.{part_within, finds_word, finds_quoted, finds_and, finds_or, finds_maybe, finds_span}

@@ -10,7 +10,7 @@ use Rattle.query_tree.specs.declared.query.Node.TheVariants as nodes
 use Rattle.query_tree.specs.TreeKeys.{node_keys}
 use Rattle.query_tree.proofs.NodeKeys.{keys_and, keys_span}
 use Rattle.occ_lists.specs.declared.term.Term.{Term}
-use Rattle.word_rows.proofs.JoinedNodes.{IsJoint, keys_joint}
+use Rattle.query_tree.proofs.JoinedKeys.{IsJoint, keys_joint}
 
 -- ---- lists
 

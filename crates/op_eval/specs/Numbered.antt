@@ -1,5 +1,5 @@
--- Queries whose keywords are numbered from 1 in the order of the tree, and what that says of their hits.
-use Rattle.std.specs.Prelude.{◌≡◌, ◌≢◌, ℕ, ◌<◌, ◌≤◌, List, map, length, Some, slice_get, All, AllPairs, Any, Contains}
+-- Queries whose keywords are numbered from 1 in the order of the tree, or have query positions, and what that says of their hits.
+use Rattle.std.specs.Prelude.{◌≡◌, ◌≢◌, ℕ, ◌<◌, ◌≤◌, ◌^◌, List, map, length, Some, slice_get, All, AllPairs, Any, Contains}
 use Rattle.std.specs.List.{range_with_len}
 use Rattle.doc_types.specs.declared.documents.DocRow.{DocRow}
 use Rattle.doc_types.specs.declared.hits.Hit.{Hit}
@@ -17,6 +17,14 @@ pub record IsNumbered (query : Query) : Type 0 where
   pub few : length (query_keys query) ≤ 255
   pub count : query.keywords ≡ length (query_keys query)
   pub numbers : map (λ key. key.query) (query_keys query) ≡ range_with_len 1 (length (query_keys query))
+
+-- The keywords have query positions from 1 to as many as the query counts, which are 255 at most; several may have one of them. So it
+-- is of each query whose keywords are numbered, and of each that is asked in the place of such a one with prefixes.
+pub record HasPositions (query : Query) : Type 0 where
+  pub few : query.keywords ≤ 255
+  pub short : length (query_keys query) < 2 ^ 16
+  pub count : query.keywords ≤ length (query_keys query)
+  pub within : All (λ key. (1 ≤ key.query) × (key.query ≤ query.keywords)) (query_keys query)
 
 -- the word stands at the place, which is one of a field of the row
 pub record IsWordAt (row : DocRow) (word : List ℕ) (place : ℕ × ℕ) : Type 0 where

@@ -22,7 +22,7 @@ mod wanted;
 pub use calls::{candidates, hits, occurrences};
 pub use laws::{
     all_rows_owe_their_counts, an_index_keeps_the_numbers_of_keywords, each_hit_is_of_a_keyword,
-    hits_can_be_weighed,
+    hits_can_be_weighed, numbered_keywords_have_positions,
 };
 pub use occ_lists::Occ;
 pub use sentences::for_schema;

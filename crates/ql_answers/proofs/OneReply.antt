@@ -19,10 +19,10 @@ use Rattle.ql_answers.specs.declared.state.State.{State}
 use Rattle.ql_answers.specs.Metas.{max_matches, meta_of}
 use Rattle.ql_answers.specs.Reading.{found_sets}
 use Rattle.commit_outcomes.specs.declared.outcome.CommitOutcome.{CommitOutcome}
-use Rattle.doc_search.specs.Searches.{AreFound, IsFirstLacking}
+use Rattle.prefix_search.specs.Searches.{AreFound, AreTooMany, IsFirstLacking}
 use Rattle.doc_search.specs.declared.question.Question.{Question}
 use Rattle.row_select.specs.declared.row.Row.{Row}
-use Rattle.ql_refusals.specs.Refusals.{no_memory, rank_out_of_range}
+use Rattle.ql_refusals.specs.Refusals.{no_memory, rank_out_of_range, too_many_prefix_words}
 use Rattle.ql_answers.specs.Replies.{Fails, Finds, Reply, Shows}
 use Rattle.ql_answers.specs.Sessions.{AreAlike, Committing, Decides, Happened, HasLayers, LookAlike, NoMemory, Nothing, Read, Reshaping, after_plan, disk_count, next_of, reply_to_commit, reply_to_job, told_by}
 use Rattle.ql_answers.specs.Showing.{index_status}
@@ -85,7 +85,17 @@ LacksOne = (question : Question) (docs others : List DocRow) (id other : ℕ) �
 abbrev NeverBoth : Type 0
 NeverBoth = (question : Question) (docs others : List DocRow) (found : List Row) (id : ℕ) → DocsApart docs → DocsApart others → rows_of docs ≡ rows_of others → AreFound question docs found → IsFirstLacking question others id → ⊥
 
-module _ (finds_one : FindsOne) (counts_one : CountsOne) (lacks_one : LacksOne) (never_both : NeverBoth) where
+-- nor is anything found, or a document without a weight, where the words of prefixes are too many; and these are so many
+abbrev CountsMany : Type 0
+CountsMany = (query : Query) (docs others : List DocRow) (count other : ℕ) → DocsApart docs → DocsApart others → rows_of docs ≡ rows_of others → AreTooMany query docs count → AreTooMany query others other → count ≡ other
+
+abbrev NoneFound : Type 0
+NoneFound = (question : Question) (docs others : List DocRow) (found : List Row) (count : ℕ) → DocsApart docs → DocsApart others → rows_of docs ≡ rows_of others → AreFound question docs found → AreTooMany question.query others count → ⊥
+
+abbrev NobodyLacks : Type 0
+NobodyLacks = (question : Question) (docs others : List DocRow) (id count : ℕ) → DocsApart docs → DocsApart others → rows_of docs ≡ rows_of others → IsFirstLacking question docs id → AreTooMany question.query others count → ⊥
+
+module _ (finds_one : FindsOne) (counts_one : CountsOne) (lacks_one : LacksOne) (never_both : NeverBoth) (counts_many : CountsMany) (none_found : NoneFound) (nobody_lacks : NobodyLacks) where
   one_for_documents : (plan : Plan) (front other : SnapshotValue) (a b : Reply) → AreLayers front.layers → AreLayers other.layers → live front ≡ live other → LookAlike plan front other
       → Decides plan (Read front) a → Decides plan (Read other) b → a ≡ b
   one_for_documents (Search place selection) front other a b layers layers' same looks (inl (found, are, says)) (inl (others, are', says')) =
@@ -97,12 +107,22 @@ module _ (finds_one : FindsOne) (counts_one : CountsOne) (lacks_one : LacksOne) 
       says ∙ ap (λ (f : Found). Finds (found_sets selection f) (meta_of asked f docs)) alike
       ∙ ap (λ (w : List WordDocs). Finds (found_sets selection others) (record { total = min others.total_found (max_matches asked); total_found = others.total_found; words = w })) words
       ∙ sym says'
-  one_for_documents (Search place selection) front other a b layers layers' same looks (inl (found, are, says)) (inr (id, lacks, says')) =
+  one_for_documents (Search place selection) front other a b layers layers' same looks (inl (found, are, says)) (inr (inl (id, lacks, says'))) =
       absurd (never_both selection.asked.question (all_living front.layers) (all_living other.layers) are.found id layers.distinct layers'.distinct same are.are lacks)
-  one_for_documents (Search place selection) front other a b layers layers' same looks (inr (id, lacks, says)) (inl (found, are, says')) =
+  one_for_documents (Search place selection) front other a b layers layers' same looks (inl (found, are, says)) (inr (inr (count, many, says'))) =
+      absurd (none_found selection.asked.question (all_living front.layers) (all_living other.layers) are.found count layers.distinct layers'.distinct same are.are many)
+  one_for_documents (Search place selection) front other a b layers layers' same looks (inr (inl (id, lacks, says))) (inl (found, are, says')) =
       absurd (never_both selection.asked.question (all_living other.layers) (all_living front.layers) are.found id layers'.distinct layers.distinct (sym same) are.are lacks)
-  one_for_documents (Search place selection) front other a b layers layers' same looks (inr (id, lacks, says)) (inr (next, lacks', says')) =
+  one_for_documents (Search place selection) front other a b layers layers' same looks (inr (inl (id, lacks, says))) (inr (inl (next, lacks', says'))) =
       says ∙ ap (λ (n : ℕ). Fails (rank_out_of_range n)) (lacks_one selection.asked.question (all_living front.layers) (all_living other.layers) id next layers.distinct layers'.distinct same lacks lacks') ∙ sym says'
+  one_for_documents (Search place selection) front other a b layers layers' same looks (inr (inl (id, lacks, says))) (inr (inr (count, many, says'))) =
+      absurd (nobody_lacks selection.asked.question (all_living front.layers) (all_living other.layers) id count layers.distinct layers'.distinct same lacks many)
+  one_for_documents (Search place selection) front other a b layers layers' same looks (inr (inr (count, many, says))) (inl (found, are, says')) =
+      absurd (none_found selection.asked.question (all_living other.layers) (all_living front.layers) are.found count layers'.distinct layers.distinct (sym same) are.are many)
+  one_for_documents (Search place selection) front other a b layers layers' same looks (inr (inr (count, many, says))) (inr (inl (id, lacks, says'))) =
+      absurd (nobody_lacks selection.asked.question (all_living other.layers) (all_living front.layers) id count layers'.distinct layers.distinct (sym same) lacks many)
+  one_for_documents (Search place selection) front other a b layers layers' same looks (inr (inr (count, many, says))) (inr (inr (next, many', says'))) =
+      says ∙ ap (λ (n : ℕ). Fails (too_many_prefix_words n)) (counts_many selection.asked.question.query (all_living front.layers) (all_living other.layers) count next layers.distinct layers'.distinct same many many') ∙ sym says'
   one_for_documents (Status place) front other a b layers layers' same looks says says' =
       says ∙ (ap (λ (rows : Rows). Shows (index_status (finite.len rows) (disk_count front))) same
       ∙ ap (λ (chunks : ℕ). Shows (index_status (finite.len (live other)) chunks)) looks) ∙ sym says'

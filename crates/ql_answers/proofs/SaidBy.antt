@@ -7,7 +7,10 @@ use Rattle.commit_outcomes.specs.declared.outcome.CommitOutcome.TheVariants as o
 use Rattle.commit_outcomes.specs.declared.outcome.Doubt.TheVariants as doubts
 use Rattle.reply_rows.specs.ResultSets.{sets_payloads}
 use Rattle.reply_rows.specs.Written.{Written, then_reply}
-use Rattle.table_search.specs.Tables.{AreTables}
+use Rattle.srch_base.specs.declared.faults.Or.TheVariants.{Fault}
+use Rattle.table_search.specs.Tables.{AreTables, TablesOr}
+use Rattle.table_search.specs.declared.found.Unfound.{Unfound}
+use Rattle.table_search.specs.declared.found.Unfound.TheVariants.{NoWeight, TooManyWords}
 use Rattle.table_search.specs.declared.found.Found.{Found}
 use Rattle.ql_select.specs.declared.selection.Selection.{Selection}
 use Rattle.ql_answers.specs.declared.meta.Meta.{Meta}
@@ -16,13 +19,13 @@ use Rattle.ql_answers.specs.declared.job_outcome.JobOutcome.TheVariants as job_o
 use Rattle.ql_answers.specs.declared.plan.Counted.{Counted}
 use Rattle.ql_answers.specs.declared.plan.Plan.{Plan}
 use Rattle.ql_answers.specs.declared.plan.Plan.TheVariants.{Agree, Commit, Keep, Put, Reshape, Search, Show, Status}
-use Rattle.doc_search.specs.Searches.{IsFirstLacking}
-use Rattle.ql_refusals.specs.Refusals.{Refused, no_memory, rank_out_of_range}
+use Rattle.prefix_search.specs.Searches.{AreTooMany, IsFirstLacking}
+use Rattle.ql_refusals.specs.Refusals.{Refused, no_memory, rank_out_of_range, too_many_prefix_words}
 use Rattle.ql_answers.specs.Metas.{meta_of}
 use Rattle.ql_answers.specs.Reading.{found_sets}
 use Rattle.ql_answers.specs.Replies.{Reply, Fails, Finds, replied}
 use Rattle.ql_answers.specs.Sessions.{Committing, Decides, Happened, NoMemory, Read, Reshaping, reply_to_commit, reply_to_job, told_by}
-use Rattle.ql_answers.specs.steps.Answering.{Says, SaysPlan}
+use Rattle.ql_answers.specs.steps.Answering.{Says, SaysPlan, refusal_of}
 
 pub says_told : (plan given : Plan) (happened : Happened) (reply : Reply) (status : ℕ) (told : Option Meta) (before after : Written)
     → plan ≡ given → Decides given happened reply → after ≡ replied before status reply → told ≡ told_by reply → Says plan happened status told before after
@@ -78,7 +81,21 @@ pub says_lacking : (index : ℕ) (selection : Selection) (front : SnapshotValue)
     → IsFirstLacking selection.asked.question (all_living front.layers) id → refusal ≡ rank_out_of_range id → after ≡ replied before 0 (Fails refusal)
     → Says (Search index selection) (Read front) status None before after
 says_lacking index selection front id refusal status before after lacks is said =
-    (Fails (rank_out_of_range id), inr (id, lacks, refl), said ∙ ap (λ (r : Refused). replied before 0 (Fails r)) is, refl)
+    (Fails (rank_out_of_range id), inr (inl (id, lacks, refl)), said ∙ ap (λ (r : Refused). replied before 0 (Fails r)) is, refl)
+
+-- or since the prefixes of its query have too many words
+pub says_too_many : (index : ℕ) (selection : Selection) (front : SnapshotValue) (count : ℕ) (refusal : Refused) (status : ℕ) (before after : Written)
+    → AreTooMany selection.asked.question.query (all_living front.layers) count → refusal ≡ too_many_prefix_words count → after ≡ replied before 0 (Fails refusal)
+    → Says (Search index selection) (Read front) status None before after
+says_too_many index selection front count refusal status before after many is said =
+    (Fails (too_many_prefix_words count), inr (inr (count, many, refl)), said ∙ ap (λ (r : Refused). replied before 0 (Fails r)) is, refl)
+
+-- by which of both it is
+pub says_unfound : (index : ℕ) (selection : Selection) (front : SnapshotValue) (unfound : Unfound) (refusal : Refused) (status : ℕ) (before after : Written)
+    → TablesOr selection.asked (all_living front.layers) (Err (Fault unfound)) → refusal ≡ refusal_of unfound → after ≡ replied before 0 (Fails refusal)
+    → Says (Search index selection) (Read front) status None before after
+says_unfound index selection front (TooManyWords count) refusal status before after many is said = says_too_many index selection front count refusal status before after many is said
+says_unfound index selection front (NoWeight id) refusal status before after lacks is said = says_lacking index selection front id refusal status before after lacks is said
 
 -- want of memory is told whatever the plan is
 pub no_memory_decides : (plan : Plan) → Decides plan NoMemory (Fails no_memory)

@@ -22,7 +22,7 @@ pub mod Plans
 pub mod Sessions
 -- what clauses cite of lower crates, passed on
 pub use Rattle.commit_outcomes.specs.declared.outcome.CommitOutcome
-pub use Rattle.doc_search.specs.Searches
+pub use Rattle.prefix_search.specs.Searches
 pub use Rattle.ql_refusals.specs.Refusals
 pub use Rattle.ql_select.specs.declared.selection.Selection
 pub use Rattle.reply_rows.specs.declared.result_set.ResultSet

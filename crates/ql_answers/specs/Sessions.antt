@@ -25,9 +25,9 @@ use Rattle.ql_answers.specs.declared.plan.Counted.{Counted}
 use Rattle.ql_answers.specs.declared.plan.Counted.TheVariants as counting
 use Rattle.ql_answers.specs.declared.plan.Plan.TheVariants.{Agree, Show, Search, Status, Keep, Put, Commit, Reshape}
 use Rattle.ql_answers.specs.Plans.{Wants, Refuses, TakesMemory}
-use Rattle.ql_refusals.specs.Refusals.{Refused, disk_failed, disk_in_doubt, duplicate_id, index_full, job_in_doubt, memory_in_doubt, no_memory, overtaken, rank_out_of_range, strayed}
+use Rattle.ql_refusals.specs.Refusals.{Refused, disk_failed, disk_in_doubt, duplicate_id, index_full, job_in_doubt, memory_in_doubt, no_memory, overtaken, rank_out_of_range, strayed, too_many_prefix_words}
 use Rattle.doc_search.specs.declared.question.Question.{Question}
-use Rattle.doc_search.specs.Searches.{IsAskedOf, IsFirstLacking}
+use Rattle.prefix_search.specs.Searches.{AreTooMany, IsFirstLacking, IsReadOf}
 use Rattle.ql_select.specs.declared.selection.Selection.{Selection}
 use Rattle.table_search.specs.Tables.{AreTables}
 use Rattle.table_search.specs.declared.found.Found.{Found}
@@ -113,7 +113,7 @@ happened_by (events.Reshape outcome) = Reshaping outcome
 
 -- The question is asked of the index whose rows these are.
 abbrev pub CanSearch : Question → SnapshotValue → Type 0
-CanSearch question front = (schema : Schema) × IsAskedOf schema question × All (λ layer. AreRowsOf schema layer.rows) front.layers
+CanSearch question front = (schema : Schema) × IsReadOf schema question × All (λ layer. AreRowsOf schema layer.rows) front.layers
 
 -- what is replied to a commit for which a text has so many rows
 abbrev pub reply_to_commit : Counted → ℕ → CommitOutcome → Reply
@@ -135,11 +135,12 @@ reply_to_job job_outcomes.InDoubt = Fails job_in_doubt
 reply_to_job (job_outcomes.Strayed numbers) = Fails (strayed numbers)
 
 -- What is replied to a SELECT by the documents: what it finds; or, on whatever page that is, the first document that it finds without a
--- weight.
+-- weight; or, before both, how many words the prefixes of its query have, where these are too many.
 abbrev pub DecidesSearch : Selection → List DocRow → Reply → Type 0
 DecidesSearch selection docs reply =
     ((found : Found) × AreTables selection.asked docs found × (reply ≡ Finds (found_sets selection found) (meta_of selection.asked found docs)))
-    ⊎ ((id : ℕ) × IsFirstLacking selection.asked.question docs id × (reply ≡ Fails (rank_out_of_range id)))
+    ⊎ (((id : ℕ) × IsFirstLacking selection.asked.question docs id × (reply ≡ Fails (rank_out_of_range id)))
+    ⊎ ((count : ℕ) × AreTooMany selection.asked.question.query docs count × (reply ≡ Fails (too_many_prefix_words count))))
 
 -- What is replied to a plan by what happened.
 abbrev pub Decides : Plan → Happened → Reply → Type 0

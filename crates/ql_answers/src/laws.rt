@@ -10,7 +10,7 @@ ghost use Rattle.ql_answers.specs.Replies.{Reply};
 ghost use Rattle.ql_answers.specs.Sessions.{AreAlike, Decides, Happened, next_of};
 ghost use Rattle.ql_answers.specs.declared.state.State.{State};
 
-use doc_search::a_search_ends_in_one_way;
+use prefix_search::{a_search_finds_the_same, too_many_words_are_so_many};
 use ql_insert::an_insert_has_one_answer;
 use ql_select::a_select_has_one_answer;
 use table_search::a_select_finds_the_same;
@@ -33,5 +33,6 @@ pub fn a_plan_has_one_reply()
     ensures state { (plan : Plan) (happened other : Happened) (reply : Reply) (state : State) → AreAlike plan happened other → next_of plan happened reply state ≡ next_of plan other reply state }
 {
     a_select_finds_the_same();
-    a_search_ends_in_one_way();
+    a_search_finds_the_same();
+    too_many_words_are_so_many();
 }

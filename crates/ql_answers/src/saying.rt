@@ -12,7 +12,7 @@ ghost use Rattle.ql_answers.specs.Reading.{found_sets};
 ghost use Rattle.ql_answers.specs.Replies.{Shows, replied};
 ghost use Rattle.ql_answers.specs.Sessions.{CanHave, CanSearch, Committing, Nothing, Read, Reshaping, disk_count, happened_by, reply_to_commit, reply_to_job};
 ghost use Rattle.ql_answers.specs.Showing.{index_status};
-ghost use Rattle.ql_answers.specs.steps.Answering.{Says, SaysPlan};
+ghost use Rattle.ql_answers.specs.steps.Answering.{Says, SaysPlan, refusal_of};
 
 use crate::event::Event;
 use crate::found::put_found;
@@ -24,26 +24,27 @@ use crate::showing::index_status;
 use commit_outcomes::{CommitOutcome, Doubt};
 use doc_types::{HitLists, Snapshot};
 use ql_refusals::{
-    disk_failed, disk_in_doubt, duplicate_id, index_full, job_in_doubt, memory_in_doubt, no_memory,
-    overtaken, rank_out_of_range, strayed,
+    Refusal, disk_failed, disk_in_doubt, duplicate_id, index_full, job_in_doubt, memory_in_doubt,
+    no_memory, overtaken, rank_out_of_range, strayed, too_many_prefix_words,
 };
 use ql_select::Selection;
 use reply_rows::Replies;
 use srch_base::{NoMemory, Or};
 use std::alloc::Global;
-use table_search::{Asked, Found, Table, find_tables, word_docs};
+use table_search::{Asked, Found, Table, Unfound, find_tables, word_docs};
 
-/// Replies to a plan, and gives what SHOW META tells from then on, where that is something else.
+/// Replies to a plan, and gives what SHOW META tells from then on, where that is something else. The plan stays as it is.
 pub(crate) fn say<C: HitLists>(
     alloc: Global,
-    plan: &Plan,
+    plan: &mut Plan,
     event: &Event<'_, C>,
     status: u16,
     replies: &mut Replies,
 ) -> Result<Option<Meta>, NoMemory>
-    requires can { CanHave plan.now (happened_by event.now) }
+    requires can { CanHave plan.old (happened_by event.now) }
     requires open { IsOpen replies.old }
-    ensures { SaysPlan plan.now (happened_by event.now) status result replies.old replies.new }
+    ensures stays { plan.new ≡ plan.old }
+    ensures says { SaysPlan plan.old (happened_by event.now) status result replies.old replies.new }
 {
     match event {
         Event::Nothing => say_nothing(alloc, plan, status, replies),
@@ -96,14 +97,15 @@ fn say_nothing(
 
 fn say_read<C: HitLists>(
     alloc: Global,
-    plan: &Plan,
+    plan: &mut Plan,
     snapshot: &Snapshot<C>,
     status: u16,
     replies: &mut Replies,
 ) -> Result<Option<Meta>, NoMemory>
-    requires can { CanHave plan.now (Read snapshot.now) }
+    requires can { CanHave plan.old (Read snapshot.now) }
     requires open { IsOpen replies.old }
-    ensures { SaysPlan plan.now (Read snapshot.now) status result replies.old replies.new }
+    ensures stays { plan.new ≡ plan.old }
+    ensures says { SaysPlan plan.old (Read snapshot.now) status result replies.old replies.new }
 {
     match plan {
         Plan::Search { selection, .. } => say_search(alloc, selection, snapshot, status, replies),
@@ -120,25 +122,37 @@ fn say_read<C: HitLists>(
     }
 }
 
-/// Replies to a SELECT with what it finds, or with the refusal of a document that has no weight.
+/// Replies to a SELECT with what it finds, or with the refusal of prefixes that have too many words, or of a document that has no
+/// weight.
 fn say_search<C: HitLists>(
     alloc: Global,
-    selection: &Selection,
+    selection: &mut Selection,
     snapshot: &Snapshot<C>,
     status: u16,
     replies: &mut Replies,
 ) -> Result<Option<Meta>, NoMemory>
-    requires can { CanSearch selection.now.asked.question snapshot.now }
+    requires can { CanSearch selection.old.asked.question snapshot.now }
     requires open { IsOpen replies.old }
-    ensures { (index : ℕ) → SaysPlan (Search index selection.now) (Read snapshot.now) status result replies.old replies.new }
+    ensures stays { selection.new ≡ selection.old }
+    ensures says { (index : ℕ) → SaysPlan (Search index selection.old) (Read snapshot.now) status result replies.old replies.new }
 {
-    match find_tables(alloc, &selection.asked, snapshot) {
+    match find_tables(alloc, &mut selection.asked, snapshot) {
         Ok(found) => say_found(alloc, selection, &found, snapshot, status, replies),
         Err(Or::NoMemory) => Err(NoMemory),
-        Err(Or::Fault(id)) => {
-            put_refusal(&rank_out_of_range(id), replies);
+        Err(Or::Fault(unfound)) => {
+            put_refusal(&unfound_refusal(unfound), replies);
             Ok(None)
         }
+    }
+}
+
+/// The refusal of a SELECT by the documents of its index.
+fn unfound_refusal(unfound: Unfound) -> Refusal
+    ensures { result ≡ refusal_of unfound }
+{
+    match unfound {
+        Unfound::TooManyWords(count) => too_many_prefix_words(count),
+        Unfound::NoWeight(id) => rank_out_of_range(id),
     }
 }
 

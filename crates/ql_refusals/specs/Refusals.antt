@@ -122,6 +122,10 @@ offset_not_below offset max_matches = refused (codes "offset " ++ decimal offset
 abbrev pub bad_query : QueryFault → Refused
 bad_query fault = refused (query_text (record fault { name = shown fault.name }))
 
+-- the prefixes of the query have too many words together
+abbrev pub too_many_prefix_words : ℕ → Refused
+too_many_prefix_words count = refused (codes "query: prefixes have " ++ decimal count ++ codes " words")
+
 -- what is wrong with a ranking expression, with the name that isn't known or stands in the wrong scope
 abbrev pub expr_text : ExprKind → List ℕ → List ℕ
 expr_text expr_kinds.Long name = codes "too long"

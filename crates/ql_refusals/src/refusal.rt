@@ -1,16 +1,15 @@
 //! Why a statement is refused: a code of the protocol and a text, made by one named function for each text of the manual's
-//! table. Here are those that come before the store is asked.
+//! table. Here are those of texts, names and writes, before the store is asked.
 ghost use Rattle.std.specs.Prelude.{◌≡◌, ◌+◌, ◌≤◌, ◌++◌, [], codes, length, decimal};
 ghost use Rattle.query_grammar.specs.FaultTexts.{name_text};
-ghost use Rattle.ql_refusals.specs.Refusals.{bad_expr as bad_expr_row, bad_query as bad_query_row, bad_syntax as bad_syntax_row, bad_token as bad_token_row, column_is_field as column_is_field_row, column_is_no_field as column_is_no_field_row, column_twice as column_twice_row, expr_text, group_by_missing as group_by_missing_row, id_missing as id_missing_row, id_out_of_range as id_out_of_range_row, max_matches_out_of_range as max_matches_out_of_range_row, no_memory as no_memory_row, offset_not_below as offset_not_below_row, other_index as other_index_row, ranker_not_offered as ranker_not_offered_row, rank_out_of_range as rank_out_of_range_row, refused, second_match as second_match_row, shown, state_of, too_many_columns as too_many_columns_row, too_many_facets as too_many_facets_row, too_many_operations as too_many_operations_row, too_many_positions as too_many_positions_row, too_many_sort_keys as too_many_sort_keys_row, transaction_open as transaction_open_row, transaction_too_large as transaction_too_large_row, unknown_column as unknown_column_row, unknown_index as unknown_index_row, unknown_option as unknown_option_row, value_out_of_range as value_out_of_range_row, wrong_kind as wrong_kind_row, wrong_number as wrong_number_row};
+ghost use Rattle.ql_refusals.specs.Refusals.{bad_syntax as bad_syntax_row, bad_token as bad_token_row, column_twice as column_twice_row, expr_text, id_missing as id_missing_row, id_out_of_range as id_out_of_range_row, no_memory as no_memory_row, other_index as other_index_row, refused, shown, state_of, too_many_operations as too_many_operations_row, too_many_positions as too_many_positions_row, transaction_open as transaction_open_row, transaction_too_large as transaction_too_large_row, unknown_column as unknown_column_row, unknown_index as unknown_index_row, unknown_option as unknown_option_row, value_out_of_range as value_out_of_range_row, wrong_kind as wrong_kind_row, wrong_number as wrong_number_row};
 
 use arrayvec::ArrayVec;
 use itoa::Buffer;
 use ql_grammar::{ParseFault, ParseKind};
 use ql_lex::LexFault;
-use query_grammar::QueryFault;
 use query_marks::QueryKind;
-use rank_expr::{ExprFault, ExprKind};
+use rank_expr::ExprKind;
 use srch_base::Or;
 use std::marker::Model;
 
@@ -86,7 +85,7 @@ impl Refusal {
     }
 
     /// A text with a name in it.
-    fn named(prefix: &[u8], name: &[u8], suffix: &[u8]) -> Refusal
+    pub(crate) fn named(prefix: &[u8], name: &[u8], suffix: &[u8]) -> Refusal
         requires { length prefix.now + length suffix.now ≤ 136 }
         ensures { result ≡ refused (prefix.now ++ shown name.now ++ suffix.now) }
     {
@@ -131,7 +130,7 @@ impl Refusal {
     }
 
     /// The text goes on with the name that a query's fault has, where one isn't known.
-    fn then_unknown(self, kind: QueryKind, name: &[u8]) -> Refusal
+    pub(crate) fn then_unknown(self, kind: QueryKind, name: &[u8]) -> Refusal
         requires { length self.text ≤ 100 }
         ensures value { result ≡ record { code = self.code; text = self.text ++ name_text kind (shown name.now) } }
         ensures short { length result.text ≤ length self.text + 67 }
@@ -145,7 +144,7 @@ impl Refusal {
     }
 
     /// The text goes on with what is wrong with an expression.
-    fn then_expr(self, kind: ExprKind, name: &[u8]) -> Refusal
+    pub(crate) fn then_expr(self, kind: ExprKind, name: &[u8]) -> Refusal
         requires { length self.text ≤ 100 }
         ensures value { result ≡ record { code = self.code; text = self.text ++ expr_text kind (shown name.now) } }
         ensures short { length result.text ≤ length self.text + 90 }
@@ -231,32 +230,11 @@ pub fn unknown_option(name: &[u8]) -> Refusal
     Refusal::named(b"unknown option '", name, b"'")
 }
 
-/// No weights are offered by a ranker of this name.
-pub fn ranker_not_offered(name: &[u8]) -> Refusal
-    ensures { result ≡ ranker_not_offered_row name.now }
-{
-    Refusal::named(b"ranker '", name, b"' is not offered")
-}
-
 /// The column is named twice.
 pub fn column_twice(name: &[u8]) -> Refusal
     ensures { result ≡ column_twice_row name.now }
 {
     Refusal::named(b"column '", name, b"' twice")
-}
-
-/// A field stands where only an attribute or the id can.
-pub fn column_is_field(name: &[u8]) -> Refusal
-    ensures { result ≡ column_is_field_row name.now }
-{
-    Refusal::named(b"column '", name, b"' is a field")
-}
-
-/// An attribute or the id stands where only a field can.
-pub fn column_is_no_field(name: &[u8]) -> Refusal
-    ensures { result ≡ column_is_no_field_row name.now }
-{
-    Refusal::named(b"column '", name, b"' is not a field")
 }
 
 /// A text for a column of numbers, a number for a field, or a value of another form for an option.
@@ -292,86 +270,6 @@ pub fn wrong_number() -> Refusal
     ensures { result ≡ wrong_number_row }
 {
     Refusal::plain(WRONG, b"wrong number of values")
-}
-
-/// A SELECT has two MATCH.
-pub fn second_match() -> Refusal
-    ensures { result ≡ second_match_row }
-{
-    Refusal::plain(WRONG, b"second MATCH")
-}
-
-/// A SELECT speaks of groups, and says of none.
-pub fn group_by_missing() -> Refusal
-    ensures { result ≡ group_by_missing_row }
-{
-    Refusal::plain(WRONG, b"GROUP BY is missing")
-}
-
-/// A SELECT shows more columns than it may.
-pub fn too_many_columns() -> Refusal
-    ensures { result ≡ too_many_columns_row }
-{
-    Refusal::plain(WRONG, b"too many columns")
-}
-
-/// A SELECT is sorted by more keys than it may.
-pub fn too_many_sort_keys() -> Refusal
-    ensures { result ≡ too_many_sort_keys_row }
-{
-    Refusal::plain(WRONG, b"too many sort keys")
-}
-
-/// A SELECT has more facets than it may.
-pub fn too_many_facets() -> Refusal
-    ensures { result ≡ too_many_facets_row }
-{
-    Refusal::plain(WRONG, b"too many facets")
-}
-
-/// The option `max_matches` is a number that it can't be.
-pub fn max_matches_out_of_range() -> Refusal
-    ensures { result ≡ max_matches_out_of_range_row }
-{
-    Refusal::plain(WRONG, b"max_matches out of range")
-}
-
-/// The page would begin after the last row that is kept.
-pub fn offset_not_below(offset: u64, max_matches: u64) -> Refusal
-    ensures { result ≡ offset_not_below_row offset max_matches }
-{
-    Refusal::plain(WRONG, b"offset ")
-        .then_number(offset)
-        .then(b" is not below max_matches ")
-        .then_number(max_matches)
-}
-
-/// The text of MATCH is no query.
-pub fn bad_query(fault: &QueryFault) -> Refusal
-    ensures { result ≡ bad_query_row fault.now }
-{
-    Refusal::plain(WRONG, b"query: ")
-        .then(fault.kind.text().as_bytes())
-        .then_unknown(fault.kind, fault.name.as_bytes())
-        .then(b" at ")
-        .then_number(u64::from(fault.place))
-}
-
-/// The text of a ranker is no expression.
-pub fn bad_expr(fault: &ExprFault) -> Refusal
-    ensures { result ≡ bad_expr_row fault.now }
-{
-    Refusal::plain(WRONG, b"expr: ")
-        .then_expr(fault.kind, fault.name.as_bytes())
-        .then(b" at ")
-        .then_number(u64::from(fault.place))
-}
-
-/// The ranking expression gives no weight to the document of this id, which is found.
-pub fn rank_out_of_range(id: u64) -> Refusal
-    ensures { result ≡ rank_out_of_range_row id }
-{
-    Refusal::numbered(b"rank out of range at id ", id)
 }
 
 /// A word of the field would stand above the last position.

@@ -2,7 +2,7 @@
 use Rattle.std.proofs.Common.{sym, subst}
 use Rattle.std.proofs.lemmas.Str.{IsUtf8-from_is_utf8}
 use Rattle.index_conf.specs.declared.conf.IndexConf.{IndexConf}
-use Rattle.doc_search.specs.Searches.{IsAskedOf}
+use Rattle.prefix_search.specs.Searches.{IsReadOf}
 use Rattle.doc_types.specs.Schemas.{IsSchema}
 use Rattle.query_read.proofs.QueryKeys.{few_when_read, numbered_when_read}
 use Rattle.op_eval.specs.Numbered.{IsNumbered}
@@ -26,8 +26,8 @@ numbered_query conf select selection selects =
       numbers = numbered_when_read (setting conf) text selects.query utf8 selects.reads;
     }
 
-pub selection_is_asked : (conf : IndexConf) (select : Select) (selection : Selection) → IsSchema conf.schema → Selects conf select selection → IsAskedOf conf.schema selection.asked.question
+pub selection_is_asked : (conf : IndexConf) (select : Select) (selection : Selection) → IsSchema conf.schema → Selects conf select selection → IsReadOf conf.schema selection.asked.question
 selection_is_asked conf select selection schema selects =
-    subst (λ (s : Selection). IsAskedOf conf.schema s.asked.question) (sym selects.means)
+    subst (λ (s : Selection). IsReadOf conf.schema s.asked.question) (sym selects.means)
     (is_asked conf select (names_of conf.schema select) selects.query selects.ranking schema selects.good
     (numbers_kept conf.schema selects.query (numbered_query conf select selection selects)))

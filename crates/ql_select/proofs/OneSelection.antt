@@ -20,8 +20,9 @@ use Rattle.ql_refusals.proofs.Options.{not_both, one_value}
 use Rattle.query_read.specs.QueryFault.{QueryFault}
 use Rattle.query_tree.specs.declared.query.Query.{Query}
 use Rattle.query_read.specs.Queries.{IsRefused, IsValue, ReadsQuery}
-use Rattle.query_read.specs.Marks.{Setting, marks_of}
+use Rattle.query_read.specs.Marks.{Setting, alphabet_in, marks_of}
 use Rattle.query_read.specs.Piece.{Piece}
+use Rattle.query_read.specs.Letters.{Alphabet}
 use Rattle.query_read.specs.Pieces.{ArePieces}
 use Rattle.ql_select.specs.declared.first_fault.Fault.{Fault}
 use Rattle.ql_select.specs.declared.selection.Selection.{Selection}
@@ -32,28 +33,28 @@ use Rattle.ql_select.specs.Options.{IsRankingIn, RefusesRankingIn, last_value, r
 use Rattle.ql_select.specs.Selections.{RefusesSelection, RefusesText, RefusesWeights, Selects, selection_of, setting}
 
 module _
-    (has_pieces : (fold : ℕ → Option ℕ) (text : List ℕ) → IsUtf8 text → (pieces : List Piece) × ArePieces fold text pieces)
+    (has_pieces : (alphabet : Alphabet) (text : List ℕ) → IsUtf8 text → (pieces : List Piece) × ArePieces alphabet text pieces)
     (one_query : (setting : Setting) (text : List ℕ) (pieces : List Piece) (a b : Query) → IsValue a (marks_of setting text pieces) → IsValue b (marks_of setting text pieces) → a ≡ b)
     (no_fault : (setting : Setting) (text : List ℕ) (pieces : List Piece) (query : Query) (fault : QueryFault) → IsValue query (marks_of setting text pieces) → IsRefused fault (marks_of setting text pieces) → ⊥)
-    (one_fault : (setting : Setting) (text : List ℕ) (pieces : List Piece) (a b : QueryFault) → IsUtf8 text → ArePieces setting.fold text pieces → IsRefused a (marks_of setting text pieces) → IsRefused b (marks_of setting text pieces) → a ≡ b)
+    (one_fault : (setting : Setting) (text : List ℕ) (pieces : List Piece) (a b : QueryFault) → IsUtf8 text → ArePieces (alphabet_in setting) text pieces → IsRefused a (marks_of setting text pieces) → IsRefused b (marks_of setting text pieces) → a ≡ b)
     (one_expr : (schema : Schema) (text : List ℕ) (a b : RankExpr) → exprs.IsValue schema text a → exprs.IsValue schema text b → a ≡ b)
     (no_expr_fault : (schema : Schema) (text : List ℕ) (expr : RankExpr) (fault : ExprFault) → exprs.IsValue schema text expr → exprs.IsRefused schema text fault → ⊥)
     (one_expr_fault : (schema : Schema) (text : List ℕ) (a b : ExprFault) → exprs.IsRefused schema text a → exprs.IsRefused schema text b → a ≡ b) where
   -- ---- a text
   one_read : (setting : Setting) (text : List ℕ) (a b : Query) → is_utf8 text ≡ true → ReadsQuery setting text (Ok a) → ReadsQuery setting text (Ok b) → a ≡ b
   one_read setting text a b utf8 one two =
-      let (pieces, are) = has_pieces setting.fold text (IsUtf8-from_is_utf8 text utf8) in
+      let (pieces, are) = has_pieces (alphabet_in setting) text (IsUtf8-from_is_utf8 text utf8) in
       one_query setting text pieces a b (one pieces are) (two pieces are)
 
   not_read : (setting : Setting) (text : List ℕ) (query : Query) (fault : QueryFault) → is_utf8 text ≡ true → ReadsQuery setting text (Ok query) → ReadsQuery setting text (Err (ends.Fault fault)) → ⊥
   not_read setting text query fault utf8 one two =
-      let (pieces, are) = has_pieces setting.fold text (IsUtf8-from_is_utf8 text utf8) in
+      let (pieces, are) = has_pieces (alphabet_in setting) text (IsUtf8-from_is_utf8 text utf8) in
       no_fault setting text pieces query fault (one pieces are) (two pieces are)
 
   one_first : (setting : Setting) (text : List ℕ) (a b : QueryFault) → is_utf8 text ≡ true → ReadsQuery setting text (Err (ends.Fault a)) → ReadsQuery setting text (Err (ends.Fault b)) → a ≡ b
   one_first setting text a b utf8 one two =
       let read = IsUtf8-from_is_utf8 text utf8 in
-      let (pieces, are) = has_pieces setting.fold text read in
+      let (pieces, are) = has_pieces (alphabet_in setting) text read in
       one_fault setting text pieces a b read are (one pieces are) (two pieces are)
 
   one_refused_text : (conf : IndexConf) (text : List ℕ) (a b : Refused) → RefusesText conf text a → RefusesText conf text b → a ≡ b

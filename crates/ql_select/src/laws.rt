@@ -3,7 +3,7 @@ ghost use Rattle.std.specs.Prelude.{◌≡◌, [], None, Some};
 ghost use Rattle.doc_types.specs.Schemas.{IsSchema};
 ghost use Rattle.doc_types.specs.declared.schema.Schema.{Schema};
 ghost use Rattle.index_conf.specs.declared.conf.IndexConf.{IndexConf};
-ghost use Rattle.doc_search.specs.Searches.{IsAskedOf};
+ghost use Rattle.prefix_search.specs.Searches.{IsReadOf};
 ghost use Rattle.ql_tree.specs.declared.select.Select.{Select};
 ghost use Rattle.ql_select.specs.declared.selection.Selection.{Selection};
 ghost use Rattle.ql_refusals.specs.Refusals.{Refused};
@@ -20,7 +20,7 @@ use rank_expr::law::{a_text_is_one_expression, an_expression_has_no_fault};
 
 /// What a SELECT means is a question to the index that it names: a search over rows of its columns answers it.
 pub fn a_selection_is_asked_of_its_index()
-    ensures { (conf : IndexConf) (select : Select) (selection : Selection) → IsSchema conf.schema → Selects conf select selection → IsAskedOf conf.schema selection.asked.question }
+    ensures { (conf : IndexConf) (select : Select) (selection : Selection) → IsSchema conf.schema → Selects conf select selection → IsReadOf conf.schema selection.asked.question }
 {}
 
 /// The fault that decides is one of all that are wrong with a SELECT, and the first of them by class and place; and where nothing

@@ -6,7 +6,7 @@ use Rattle.std.specs.Option.{IsSomeAnd}
 use Rattle.srch_base.specs.declared.faults.Or.{Or}
 use Rattle.srch_base.specs.declared.faults.Or.TheVariants as causes
 use Rattle.index_conf.specs.declared.conf.IndexConf.{IndexConf}
-use Rattle.ql_answers.specs.Searches.{IsAskedOf}
+use Rattle.ql_answers.specs.Searches.{IsReadOf}
 use Rattle.ql_tree.specs.declared.statement.Statement.{Statement}
 use Rattle.doc_types.specs.Documents.{AreRowsOf}
 use Rattle.doc_types.specs.Schemas.{IsSchema}
@@ -171,7 +171,7 @@ can_read confs state (Search at selection) place front conf e sound here schema 
     let same : at ≡ place = cc in
     let both : Some sound.0 ≡ Some conf = sym (subst (λ (p : ℕ). slice_get confs p ≡ Some sound.0) same sound.1) ∙ here in
     let is : sound.0 ≡ conf = ap (λ (o : Option IndexConf). unwrap_or o conf) both in
-    (conf.schema, subst (λ (c : IndexConf). IsSchema c.schema → IsAskedOf c.schema selection.asked.question) is sound.2 schema, rows)
+    (conf.schema, subst (λ (c : IndexConf). IsSchema c.schema → IsReadOf c.schema selection.asked.question) is sound.2 schema, rows)
 can_read confs state (Status at) place front conf e sound here schema rows = tt
 can_read confs state (Keep at txn affected) place front conf e sound here schema rows = absurd cc
 can_read confs state (Put at txn counted) place front conf e sound here schema rows = absurd cc

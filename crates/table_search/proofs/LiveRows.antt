@@ -9,8 +9,7 @@ use Rattle.std.proofs.lemmas.List.Concat.{flat_map-append}
 use Rattle.doc_types.specs.declared.documents.DocRow.{DocRow}
 use Rattle.doc_types.specs.Chunks.{has_word, rows_with}
 use Rattle.doc_types.specs.Snapshots.{LayerValue, all_living, living}
-use Rattle.table_search.specs.Keywords.{docs_with}
-use Rattle.table_search.specs.steps.Counting.{lives_among}
+use Rattle.table_search.specs.steps.Counting.{docs_with, lives_among}
 
 module _ (has : DocRow → Bool) (lives : ℕ → Bool) where
   -- of rows with their numbers those that live, and those that have the word

@@ -15,11 +15,10 @@ use Rattle.std.proofs.lemmas.List.Sums.{length-filter}
 use Rattle.std.proofs.lemmas.Map.Lookups.{exact_signed, exact_unsigned}
 use Rattle.std.proofs.lemmas.Map.Views.{tells_apart}
 use Rattle.doc_types.specs.declared.documents.DocRow.{DocRow}
-use Rattle.doc_types.specs.Chunks.{has_word}
 use Rattle.doc_types.specs.Rows.{rows_of}
 use Rattle.doc_search.specs.declared.question.Question.{Question}
 use Rattle.doc_search.proofs.Members.{DocsApart, beside_first, beside_second, in_both, in_filter}
-use Rattle.doc_search.proofs.OneFound.{found_apart, found_too}
+use Rattle.prefix_search.proofs.OneSearch.{found_apart, found_too}
 use Rattle.row_select.specs.Columns.{column_value}
 use Rattle.row_select.specs.Pages.{IsTop, cut}
 use Rattle.row_select.specs.declared.order.Order.{Order}
@@ -39,8 +38,8 @@ use Rattle.group_facet.specs.declared.shown.GroupColumn.{GroupColumn}
 use Rattle.group_facet.proofs.Orders.{by_facet_total, by_group_keys_total}
 use Rattle.query_tree.specs.TreeKeys.{query_keys}
 use Rattle.query_tree.specs.declared.query.Query.{Query}
-use Rattle.word_rows.specs.Keywords.{first_uses}
-use Rattle.table_search.specs.Keywords.{counted, word_docs, words_of}
+use Rattle.query_tree.specs.declared.key.Key.{Key}
+use Rattle.table_search.specs.Keywords.{counted, first_keys, has_taken, shown_key, word_docs}
 use Rattle.table_search.specs.Tables.{AreTables, ShowsGroups, ShowsTable}
 use Rattle.table_search.specs.declared.asked.Asked.{Asked}
 use Rattle.table_search.specs.declared.asked.GroupTable.{GroupTable}
@@ -228,8 +227,8 @@ one_tables one_page asked docs others found other apart others_apart same one tw
     let rows_apart = found_apart question docs one.found apart one.are in
     let other_apart = found_apart question others two.found others_apart two.are in
     let alike : HaveSame one.found two.found = record {
-      into = found_too question docs others one.found two.found (in_both docs others apart same) one.are two.are;
-      back = found_too question others docs two.found one.found (in_both others docs others_apart (sym same)) two.are one.are;
+      into = found_too question docs others apart others_apart same one.found two.found one.are two.are;
+      back = found_too question others docs others_apart apart (sym same) two.found one.found two.are one.are;
     } in
     let table = one_shown one_page question asked.table one.found two.found found.table other.table found.total_found other.total_found rows_apart other_apart alike one.table two.table in
     let facets : found.facets ≡ other.facets = one_facets one.found two.found rows_apart other_apart alike asked.facets found.facets other.facets one.facets two.facets in
@@ -259,4 +258,4 @@ one_count p docs others apart others_apart same =
 pub one_words : (query : Query) (docs others : List DocRow) → DocsApart docs → DocsApart others → rows_of docs ≡ rows_of others → word_docs query docs ≡ word_docs query others
 one_words query docs others apart others_apart same =
     let alike : HaveSame docs others = record { into = in_both docs others apart same; back = in_both others docs others_apart (sym same) } in
-    map_alike (counted docs) (counted others) (λ word i. record { word = word; docs = one_count (has_word word) docs others apart others_apart alike i }) (first_uses (words_of (query_keys query)))
+    map_alike (counted docs) (counted others) (λ (key : Key) i. record { word = shown_key key; docs = one_count (has_taken key) docs others apart others_apart alike i }) (first_keys (query_keys query))

@@ -10,8 +10,8 @@ use Rattle.group_facet.specs.ShownGroups.{AreTop, kept}
 use Rattle.group_facet.specs.declared.grouping.GroupRow.{GroupRow}
 use Rattle.srch_base.specs.declared.faults.Or.{Or}
 use Rattle.srch_base.specs.declared.faults.Or.TheVariants.{NoMemory, Fault}
-use Rattle.doc_search.specs.Searches.{AreFound, IsFirstLacking}
 use Rattle.doc_search.specs.declared.question.Question.{Question}
+use Rattle.prefix_search.specs.Searches.{AreFound, AreTooMany, IsFirstLacking}
 use Rattle.table_search.specs.declared.asked.Asked.{Asked}
 use Rattle.table_search.specs.declared.asked.GroupTable.{GroupTable}
 use Rattle.table_search.specs.declared.asked.Table.{Table}
@@ -19,6 +19,8 @@ use Rattle.table_search.specs.declared.asked.Table.TheVariants as tables
 use Rattle.table_search.specs.declared.found.Found.{Found}
 use Rattle.table_search.specs.declared.found.FoundTable.{FoundTable}
 use Rattle.table_search.specs.declared.found.FoundTable.TheVariants as found_tables
+use Rattle.table_search.specs.declared.found.Unfound.{Unfound}
+use Rattle.table_search.specs.declared.found.Unfound.TheVariants.{NoWeight, TooManyWords}
 
 -- the groups of the found rows: those that HAVING keeps are counted, and the page of them is shown
 pub record ShowsGroups (asked : GroupTable) (found : List Row) (shown : List GroupRow) (total : ℕ) : Type 0 where
@@ -40,9 +42,10 @@ pub record AreTables (asked : Asked) (docs : List DocRow) (tables : Found) : Typ
   pub table : ShowsTable asked.question asked.table found tables.table tables.total_found
   pub facets : AllZip (IsFacet found) asked.facets tables.facets
 
--- What is answered to a SELECT: its tables; or the least id of a document that it finds without a weight, on whatever page that is.
--- Without memory nothing is said.
-abbrev pub TablesOr : Asked → List DocRow → Result Found (Or ℕ) → Type 0
+-- What is answered to a SELECT: its tables; or how many words the prefixes of its query have, where these are too many; or the least id
+-- of a document that it finds without a weight, on whatever page that is. Without memory nothing is said.
+abbrev pub TablesOr : Asked → List DocRow → Result Found (Or Unfound) → Type 0
 TablesOr asked docs (Ok tables) = AreTables asked docs tables
 TablesOr asked docs (Err NoMemory) = Unit {0}
-TablesOr asked docs (Err (Fault id)) = IsFirstLacking asked.question docs id
+TablesOr asked docs (Err (Fault (TooManyWords count))) = AreTooMany asked.question.query docs count
+TablesOr asked docs (Err (Fault (NoWeight id))) = IsFirstLacking asked.question docs id

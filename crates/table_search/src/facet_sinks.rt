@@ -71,7 +71,7 @@ fn count_weights(list: &[FacetCounts<'_>]) -> bool
 }
 
 impl Sink for FacetSinks<'_> {
-    ghost use Rattle.std.specs.Prelude.{All, List, []};
+    ghost use Rattle.std.specs.Prelude.{◌≡◌, All, List, []};
     ghost use Rattle.group_facet.specs.GatheringFacets.{CountsNoWeights};
     ghost use Rattle.group_facet.specs.declared.facets.Facet.{Facet};
     ghost use Rattle.table_search.specs.Gathering.{GatherFacets};
@@ -79,6 +79,9 @@ impl Sink for FacetSinks<'_> {
     ghost Took = { λ first rows last. (facets : List Facet) → GatherFacets facets [] first.list.items → GatherFacets facets rows last.list.items };
 
     ghost Passes = { λ sinks row. All CountsNoWeights sinks.list.items };
+
+    // How many rows there are tells no facet, so only where there is none.
+    ghost Counts = { λ sinks most from. sinks.list.items ≡ [] };
 
     ghost nothing = { λ first facets so. so };
 
@@ -92,6 +95,14 @@ impl Sink for FacetSinks<'_> {
 
     fn pass<R: FoundRow>(&mut self, row: &R) -> Result<(), NoMemory> {
         self.offer(row)?;
+        Ok(())
+    }
+
+    fn only_counts(&self, _most: u64, _from: u64) -> bool {
+        self.list.is_empty()
+    }
+
+    fn count(&mut self, _rows: u32) -> Result<(), NoMemory> {
         Ok(())
     }
 }

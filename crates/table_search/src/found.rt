@@ -10,6 +10,15 @@ pub enum FoundTable {
     Groups(Items<GroupRow>),
 }
 
+/// Why a SELECT is refused by the documents of its index.
+#[derive(Clone, Copy, Debug, PartialEq, Eq)]
+pub enum Unfound {
+    /// The prefixes of its query have so many words together, and these are too many.
+    TooManyWords(u64),
+    /// The document of this id has no weight; it is the first of these.
+    NoWeight(u64),
+}
+
 /// What a SELECT finds.
 #[derive(Drop)]
 pub struct Found {

@@ -1,31 +1,30 @@
-//! The words of a query, and how many documents have each: what SHOW META tells ("SHOW META syntax" of the manual).
+//! The keywords of a query, and how many documents have each: what SHOW META tells ("SHOW META syntax" of the manual).
 //!
 //! A chunk tells how many rows have a word. Where rows of it are dead, one walk of a cursor counts those that live. No list of
 //! places is opened.
 ghost use Rattle.std.specs.Prelude.{◌≡◌, ◌+◌, ◌<◌, ◌==◌, AllPairs, map, IfOk, OnOk, if◌then◌else◌};
-ghost use Rattle.std.specs.List.{count_by, flat_map, list_any};
-ghost use Rattle.std.specs.Str.{bytes_eq};
-ghost use Rattle.doc_types.specs.Chunks.{has_word};
+ghost use Rattle.std.specs.List.{count_by, list_any};
 ghost use Rattle.doc_types.specs.Snapshots.{all_living, living};
-ghost use Rattle.query_tree.specs.TreeKeys.{node_keys, query_keys};
-ghost use Rattle.word_rows.specs.Keywords.{first_uses};
-ghost use Rattle.table_search.specs.Keywords.{counted, docs_with, word_docs, words_of};
-ghost use Rattle.word_rows.specs.steps.Cursors.{with_word};
-ghost use Rattle.table_search.specs.steps.Counting.{lent, lives_among, with_words};
+ghost use Rattle.query_tree.specs.TreeKeys.{query_keys};
+ghost use Rattle.table_search.specs.Keywords.{are_one, counted, docs_taking, first_keys, shown_key, word_docs};
+ghost use Rattle.table_search.specs.steps.Counting.{docs_with, lent, lives_among, with_key};
 
+use crate::prefix_docs::docs_beginning;
 use doc_types::{Chunk, Cursor, Layer, Snapshot};
-use query_tree::{Item, Key, Node, Query};
+use query_tree::{Key, Query, put_keys};
 use srch_base::{Items, NoMemory, Word};
 use std::alloc::Global;
 
-/// A word of a query, and how many documents have it.
+/// A keyword of a query, and how many documents have it.
 #[derive(Drop)]
 pub struct WordDocs {
+    /// The word; of a prefix, as `wor*`.
     pub word: Word,
     pub docs: u64,
 }
 
-/// The words of a query, those under NOT too, each once and in the order of first use, with the number of documents that have each.
+/// The keywords of a query, those under NOT too, each once and in the order of first use, with the number of documents that have
+/// each. A prefix is had where a word begins so.
 pub fn word_docs<C: Chunk>(
     alloc: Global,
     query: &Query,
@@ -33,97 +32,115 @@ pub fn word_docs<C: Chunk>(
 ) -> Result<Items<WordDocs>, NoMemory>
     ensures { IfOk result (λ counts. counts ≡ word_docs query.now (all_living snapshot.now.layers)) }
 {
-    let words = query_words(alloc, query)?;
-    count_words(alloc, words.as_slice(), snapshot.layers.as_slice())
+    let all = keys_of(alloc, query)?;
+    let keys = first_keys(alloc, &all)?;
+    count_keys(alloc, &keys, snapshot)
 }
 
-/// The words of a query, each once.
-fn query_words(alloc: Global, query: &Query) -> Result<Vec<&[u8]>, NoMemory>
-    ensures { IfOk result (λ words. lent words.items ≡ first_uses (words_of (query_keys query.now))) }
+/// The keywords of the query.
+fn keys_of(alloc: Global, query: &Query) -> Result<Vec<&Key>, NoMemory>
+    ensures { IfOk result (λ keys. lent keys.items ≡ query_keys query.now) }
 {
+    let mut keys = Vec::new(alloc);
     match &query.root {
-        Some(root) => {
-            let mut words = Vec::new(alloc);
-            add_words(root, &mut words)?;
-            Ok(words)
-        }
-        None => Ok(Vec::new(alloc)),
+        Some(root) => put_keys(root, &mut keys)?,
+        None => {}
     }
+    Ok(keys)
 }
 
-/// Adds the words of a node that aren't there yet.
-#[cycle(words)]
-fn add_words<'q>(node: &'q Node, words: &mut Vec<&'q [u8]>) -> Result<(), NoMemory>
-    ensures { OnOk result (lent words.new.items ≡ with_words (lent words.old.items) (words_of (node_keys node.now))) }
+/// Each of these once.
+fn first_keys<'q>(alloc: Global, all: &[&'q Key]) -> Result<Vec<&'q Key>, NoMemory>
+    ensures { IfOk result (λ keys. lent keys.items ≡ first_keys (lent all.now)) }
 {
-    match node {
-        Node::Word(key) => add_word(key.word.as_bytes(), words),
-        Node::Quoted { keys, .. } => add_listed(keys.as_slice(), words),
-        Node::And(items) => add_items(items.as_slice(), words),
-        Node::Or(a, b)
-        | Node::Maybe(a, b)
-        | Node::Before(a, b)
-        | Node::Near(_, a, b)
-        | Node::Sentence(a, b)
-        | Node::Paragraph(a, b) => {
-            add_words(a.get(), words)?;
-            add_words(b.get(), words)
-        }
-        Node::ZoneSpan(_, a) => add_words(a.get(), words),
+    let mut keys = Vec::new(alloc);
+    for key in all {
+        put_first(key, &mut keys)?;
     }
+    Ok(keys)
 }
 
-#[cycle(words)]
-fn add_items<'q>(items: &'q [Item], words: &mut Vec<&'q [u8]>) -> Result<(), NoMemory>
-    ensures { OnOk result (lent words.new.items ≡ with_words (lent words.old.items) (words_of (flat_map (λ item. node_keys item.node) items.now))) }
+/// Adds a keyword, if it isn't there.
+fn put_first<'q>(key: &'q Key, keys: &mut Vec<&'q Key>) -> Result<(), NoMemory>
+    ensures { OnOk result (lent keys.new.items ≡ with_key (lent keys.old.items) key.now) }
 {
-    for item in items {
-        add_words(&item.node, words)?;
+    if !is_among(keys, key) {
+        keys.push(key)?;
     }
     Ok(())
 }
 
-fn add_listed<'q>(keys: &'q [Key], words: &mut Vec<&'q [u8]>) -> Result<(), NoMemory>
-    ensures { OnOk result (lent words.new.items ≡ with_words (lent words.old.items) (words_of keys.now)) }
+/// Whether the keyword is one of these.
+fn is_among(keys: &[&Key], key: &Key) -> bool
+    ensures { result ≡ list_any (λ seen. are_one seen.now key.now) keys.now }
 {
-    for key in keys {
-        add_word(key.word.as_bytes(), words)?;
+    keys.iter().any(|seen| are_one(seen, key))
+}
+
+/// Whether both are the same word, or the same prefix.
+fn are_one(key: &Key, other: &Key) -> bool
+    ensures { result ≡ are_one key.now other.now }
+{
+    let same = key.word.as_bytes() == other.word.as_bytes();
+    if key.prefix {
+        same && other.prefix
+    } else {
+        same && !other.prefix
     }
-    Ok(())
 }
 
-/// Adds a word, if it isn't there.
-fn add_word<'q>(word: &'q [u8], words: &mut Vec<&'q [u8]>) -> Result<(), NoMemory>
-    ensures { OnOk result (lent words.new.items ≡ with_word (lent words.old.items) word.now) }
-{
-    if !is_among(words, word) {
-        words.push(word)?;
-    }
-    Ok(())
-}
-
-/// Whether the word is one of these.
-fn is_among(words: &[&[u8]], word: &[u8]) -> bool
-    ensures { result ≡ list_any (λ seen. bytes_eq seen.now word.now) words.now }
-{
-    words.iter().any(|seen| *seen == word)
-}
-
-/// The number of documents of each word.
-fn count_words<C: Chunk>(
+/// The number of documents of each keyword.
+fn count_keys<C: Chunk>(
     alloc: Global,
-    words: &[&[u8]],
-    layers: &[Layer<C>],
+    keys: &[&Key],
+    snapshot: &Snapshot<C>,
 ) -> Result<Items<WordDocs>, NoMemory>
-    ensures { IfOk result (λ counts. counts ≡ map (counted (all_living layers.now)) (lent words.now)) }
+    ensures { IfOk result (λ counts. counts ≡ map (counted (all_living snapshot.now.layers)) (lent keys.now)) }
 {
-    let mut counts = Vec::with_capacity(alloc, words.len())?;
-    'words: for word in words {
-        let docs = docs_with(word, layers)?;
-        let word = Word::from_slice(alloc, word)?;
-        counts.push(WordDocs { word, docs })?;
+    let mut counts = Vec::with_capacity(alloc, keys.len())?;
+    'keys: for key in keys {
+        let count = count_key(alloc, key, snapshot)?;
+        counts.push(count)?;
     }
     Ok(Items::new(counts))
+}
+
+/// The number of documents of a keyword.
+fn count_key<C: Chunk>(
+    alloc: Global,
+    key: &Key,
+    snapshot: &Snapshot<C>,
+) -> Result<WordDocs, NoMemory>
+    ensures { IfOk result (λ count. count ≡ counted (all_living snapshot.now.layers) key.now) }
+{
+    let word = shown_key(alloc, key)?;
+    let docs = docs_taking(alloc, key, snapshot)?;
+    Ok(WordDocs { word, docs })
+}
+
+/// The keyword as it is shown.
+fn shown_key(alloc: Global, key: &Key) -> Result<Word, NoMemory>
+    ensures { IfOk result (λ word. word ≡ shown_key key.now) }
+{
+    if !key.prefix {
+        let word = Word::from_slice(alloc, key.word.as_bytes())?;
+        return Ok(word);
+    }
+    let mut name = Vec::new(alloc);
+    name.extend_from_slice(key.word.as_bytes())?;
+    name.push(b'*')?;
+    Ok(Word::new(name))
+}
+
+/// How many documents have a word that the keyword takes.
+fn docs_taking<C: Chunk>(alloc: Global, key: &Key, snapshot: &Snapshot<C>) -> Result<u64, NoMemory>
+    ensures { IfOk result (λ docs. docs ≡ docs_taking key.now (all_living snapshot.now.layers)) }
+{
+    if key.prefix {
+        docs_beginning(alloc, key.word.as_bytes(), snapshot)
+    } else {
+        docs_with(key.word.as_bytes(), snapshot.layers.as_slice())
+    }
 }
 
 /// How many documents of the layers have the word.
@@ -175,7 +192,7 @@ fn more(docs: u64, rows: u32) -> Result<u64, NoMemory>
 }
 
 /// As many documents, and one more where the row isn't dead.
-fn add_row(dead: &[u32], row: u32, docs: u64) -> Result<u64, NoMemory>
+pub(crate) fn add_row(dead: &[u32], row: u32, docs: u64) -> Result<u64, NoMemory>
     requires { AllPairs (λ row later. row < later) dead.now }
     ensures { IfOk result (λ more. more ≡ docs + (if lives_among dead.now row then 1 else 0)) }
 {

@@ -6,10 +6,11 @@ mod facet_sinks;
 mod found;
 mod keywords;
 mod laws;
+mod prefix_docs;
 mod searching;
 
 pub use asked::{Asked, GroupTable, Table};
-pub use found::{Found, FoundTable};
+pub use found::{Found, FoundTable, Unfound};
 pub use keywords::{WordDocs, word_docs};
 pub use laws::a_select_finds_the_same;
 pub use searching::find_tables;

@@ -4,27 +4,83 @@ ghost use Rattle.doc_types.specs.declared.schema.Schema.{Schema};
 ghost use Rattle.doc_types.specs.Documents.{AreRowsOf};
 ghost use Rattle.doc_types.specs.Snapshots.{all_living};
 ghost use Rattle.doc_search.specs.Searches.{IsAskedOf};
+ghost use Rattle.prefix_search.specs.Searches.{IsReadOf};
+ghost use Rattle.prefix_search.specs.Asking.{IsAskedFor};
 ghost use Rattle.table_search.specs.Tables.{TablesOr};
+ghost use Rattle.table_search.specs.steps.Plain.{IsTold, PlainOr};
 ghost use Rattle.table_search.specs.declared.asked.Table.TheVariants as tables;
 
 use crate::asked::{Asked, GroupTable, Table};
 use crate::facet_sinks::FacetSinks;
-use crate::found::{Found, FoundTable};
+use crate::found::{Found, FoundTable, Unfound};
 use doc_search::search_into;
 use doc_types::{HitLists, Snapshot};
 use group_facet::{Groups, top_groups};
+use prefix_search::query_to_ask;
+use query_tree::Query;
 use row_select::{Both, Collector, RowCount};
 use srch_base::{Items, Or};
 use std::alloc::Global;
+use std::mem;
 
-/// What a SELECT finds in a snapshot, by what it asks of its index; or the least id of a document that it finds without a weight.
+/// What a SELECT finds in a snapshot, by what it asks of its index; or how many words the prefixes of its query have, where these are too
+/// many; or the least id of a document that it finds without a weight.
+///
+/// Where the query has prefixes, the one that is asked stands in its place as long as it is searched by.
 pub fn find_tables<C: HitLists>(
+    alloc: Global,
+    asked: &mut Asked,
+    snapshot: &Snapshot<C>,
+) -> Result<Found, Or<Unfound>>
+    requires asked { (schema : Schema) × IsReadOf schema asked.old.question × All (λ layer. AreRowsOf schema layer.rows) snapshot.now.layers }
+    ensures stays { asked.new ≡ asked.old }
+    ensures found { TablesOr asked.old (all_living snapshot.now.layers) result }
+{
+    match query_to_ask(alloc, &asked.question.query, snapshot) {
+        Ok(Some(other)) => find_by(alloc, other, asked, snapshot),
+        Ok(None) => told(find_plain(alloc, asked, snapshot)),
+        Err(Or::NoMemory) => Err(Or::NoMemory),
+        Err(Or::Fault(many)) => Err(Or::Fault(Unfound::TooManyWords(many.count))),
+    }
+}
+
+/// What a SELECT finds by another query, which has the words of its prefixes in their place.
+fn find_by<C: HitLists>(
+    alloc: Global,
+    other: Query,
+    asked: &mut Asked,
+    snapshot: &Snapshot<C>,
+) -> Result<Found, Or<Unfound>>
+    requires asked { (schema : Schema) × IsReadOf schema asked.old.question × All (λ layer. AreRowsOf schema layer.rows) snapshot.now.layers }
+    requires other { IsAskedFor asked.old.question.query (all_living snapshot.now.layers) other }
+    ensures stays { asked.new ≡ asked.old }
+    ensures found { TablesOr asked.old (all_living snapshot.now.layers) result }
+{
+    let own = mem::replace(&mut asked.question.query, other);
+    let found = find_plain(alloc, asked, snapshot);
+    asked.question.query = own;
+    told(found)
+}
+
+/// What was found, or the document without a weight.
+fn told(found: Result<Found, Or<u64>>) -> Result<Found, Or<Unfound>>
+    ensures { IsTold found result }
+{
+    match found {
+        Ok(found) => Ok(found),
+        Err(Or::NoMemory) => Err(Or::NoMemory),
+        Err(Or::Fault(id)) => Err(Or::Fault(Unfound::NoWeight(id))),
+    }
+}
+
+/// What a SELECT finds whose query has no prefixes.
+fn find_plain<C: HitLists>(
     alloc: Global,
     asked: &Asked,
     snapshot: &Snapshot<C>,
 ) -> Result<Found, Or<u64>>
     requires asked { (schema : Schema) × IsAskedOf schema asked.now.question × All (λ layer. AreRowsOf schema layer.rows) snapshot.now.layers }
-    ensures { TablesOr asked.now (all_living snapshot.now.layers) result }
+    ensures { PlainOr asked.now (all_living snapshot.now.layers) result }
 {
     match &asked.table {
         Table::Rows => find_rows(alloc, asked, snapshot),
@@ -40,7 +96,7 @@ fn find_rows<C: HitLists>(
 ) -> Result<Found, Or<u64>>
     requires asked { (schema : Schema) × IsAskedOf schema asked.now.question × All (λ layer. AreRowsOf schema layer.rows) snapshot.now.layers }
     requires rows { asked.now.table ≡ tables.Rows }
-    ensures { TablesOr asked.now (all_living snapshot.now.layers) result }
+    ensures { PlainOr asked.now (all_living snapshot.now.layers) result }
 {
     let question = &asked.question;
     let mut sinks = Both {
@@ -78,7 +134,7 @@ fn find_groups<C: HitLists>(
 ) -> Result<Found, Or<u64>>
     requires asked { (schema : Schema) × IsAskedOf schema asked.now.question × All (λ layer. AreRowsOf schema layer.rows) snapshot.now.layers }
     requires groups { asked.now.table ≡ tables.Groups table.now }
-    ensures { TablesOr asked.now (all_living snapshot.now.layers) result }
+    ensures { PlainOr asked.now (all_living snapshot.now.layers) result }
 {
     let mut sinks = Both {
         first: Groups::new(alloc, &table.group),

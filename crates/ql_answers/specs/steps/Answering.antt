@@ -3,8 +3,16 @@ use Rattle.std.specs.Prelude.{◌≡◌, ◌≢◌, ℕ, true, Option, Result, O
 use Rattle.reply_rows.specs.Written.{Written}
 use Rattle.ql_answers.specs.declared.meta.Meta.{Meta}
 use Rattle.ql_answers.specs.declared.plan.Plan.{Plan}
+use Rattle.ql_refusals.specs.Refusals.{Refused, rank_out_of_range, too_many_prefix_words}
+use Rattle.table_search.specs.declared.found.Unfound.{Unfound}
+use Rattle.table_search.specs.declared.found.Unfound.TheVariants.{NoWeight, TooManyWords}
 use Rattle.ql_answers.specs.Replies.{Reply, replied}
 use Rattle.ql_answers.specs.Sessions.{Happened, Decides, NoMemory, shows_rows, told_by}
+
+-- how a SELECT is refused by the documents of its index
+abbrev pub refusal_of : Unfound → Refused
+refusal_of (TooManyWords count) = too_many_prefix_words count
+refusal_of (NoWeight id) = rank_out_of_range id
 
 -- A reply to the plan, by what happened, was written, and SHOW META tells this anew.
 abbrev pub Says : Plan → Happened → ℕ → Option Meta → Written → Written → Type 0

@@ -6,8 +6,8 @@ use Rattle.ql_answers.specs.steps.Answering.{Says}
 use Rattle.ql_answers.proofs.SaidBy.{no_memory_decides}
 use Rattle.ql_answers.proofs.saying.say.Goals as goal
 
-pub returns-in-NoMemory : goal.returns-in-NoMemory
-returns-in-NoMemory g c =
+pub returns-in-NoMemory-clause-says : goal.returns-in-NoMemory-clause-says
+returns-in-NoMemory-clause-says g c =
     let Of : Happened → Type 0 = λ h. Says c.args.plan.now h c.args.status None c.args.replies.now c.put_refusal.new.replies in
     subst Of (sym (ap happened_by c.in-NoMemory.is)) (
       Fails no_memory,

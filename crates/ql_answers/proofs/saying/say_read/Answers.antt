@@ -10,12 +10,12 @@ use Rattle.ql_answers.specs.steps.Answering.{SaysPlan}
 use Rattle.ql_answers.proofs.SaidBy.{says_from}
 use Rattle.ql_answers.proofs.saying.say_read.Goals as goal
 
-pub returns-in-Search : goal.returns-in-Search
-returns-in-Search g c =
+pub returns-in-Search-clause-says : goal.returns-in-Search-clause-says
+returns-in-Search-clause-says g c =
     let Of : Plan → Type 0 = λ p. SaysPlan p (Read c.args.snapshot.now) c.args.status c.say_search.result c.args.replies.now c.say_search.new.replies in
-    subst Of (sym c.in-Search.is) (c.say_search.ensures c.in-Search.index)
+    subst Of (sym c.in-Search.is) (c.say_search.ensures.says c.in-Search.index)
 
-pub returns-in_ok-say_status-in-Status : goal.returns-in_ok-say_status-in-Status
-returns-in_ok-say_status-in-Status g c =
+pub returns-in_ok-say_status-in-Status-clause-says : goal.returns-in_ok-say_status-in-Status-clause-says
+returns-in_ok-say_status-in-Status-clause-says g c =
     says_from c.args.plan.now (Status c.in-Status.index) (Read c.args.snapshot.now) (Shows (index_status (finite.len (live c.args.snapshot.now)) (disk_count c.args.snapshot.now))) c.args.status c.args.replies.now c.say_status.new.replies
     c.in-Status.is refl c.in_ok-say_status-in-Status.ensures.ok

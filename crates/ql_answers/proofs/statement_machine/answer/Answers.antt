@@ -13,4 +13,4 @@ say-requires-clause-can g c =
 pub returns : goal.returns
 returns g c =
     answered c.args.plan.now c.turn.new.plan (happened_by c.args.event.now) c.args.more c.status.result c.in_ok-told.told c.args.state.now c.turn.new.state c.tell.new.self c.args.replies.now c.say.new.replies
-    c.in_ok-turn.ensures.0 c.in_ok-turn.ensures.1 c.status.ensures c.in_ok-told.ensures c.tell.ensures
+    c.in_ok-turn.ensures.0 c.in_ok-turn.ensures.1 c.status.ensures c.in_ok-told.ensures.says c.tell.ensures

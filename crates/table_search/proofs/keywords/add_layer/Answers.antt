@@ -4,8 +4,7 @@ use Rattle.std.specs.List.{count_by}
 use Rattle.doc_types.specs.declared.documents.DocRow.{DocRow}
 use Rattle.doc_types.specs.Chunks.{CursorPlace, rows_with}
 use Rattle.doc_types.specs.Snapshots.{LayerValue, living}
-use Rattle.table_search.specs.Keywords.{docs_with}
-use Rattle.table_search.specs.steps.Counting.{lives_among}
+use Rattle.table_search.specs.steps.Counting.{docs_with, lives_among}
 use Rattle.table_search.proofs.LiveRows.{by_count, by_numbers}
 use Rattle.table_search.proofs.keywords.add_layer.Goals as goal
 

@@ -1,6 +1,6 @@
 use Rattle.std.proofs.Common.{◌≡◌, take}
 use Rattle.doc_types.specs.Snapshots.{all_living}
-use Rattle.table_search.specs.Keywords.{docs_with}
+use Rattle.table_search.specs.steps.Counting.{docs_with}
 use Rattle.table_search.proofs.keywords.docs_with.Given as goal
 
 abbrev pub invariant-loop-layer : goal.invariant-loop-layer
