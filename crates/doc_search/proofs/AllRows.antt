@@ -1,5 +1,5 @@
 -- A question without a word and without conditions, which takes each document that lives.
-use Rattle.std.proofs.Common.{◌≡◌, ◌∙◌, ◌+◌, ◌<◌, ◌≤◌, ◌++◌, ◌∷◌, [], ℕ, List, true, false, cond, Option, None, Some, length, slice_get, refl, sym, ap, subst, arith}
+use Rattle.std.proofs.Common.{◌≡◌, ◌+◌, ◌<◌, ◌≤◌, ◌++◌, ◌∷◌, [], ℕ, List, true, false, cond, Option, None, Some, length, slice_get, refl, sym, ap, subst, arith}
 use Rattle.std.specs.List.{filter, list_any}
 use Rattle.std.specs.Prelude.{◌==◌}
 use Rattle.doc_types.specs.Snapshots.{LayerValue, living}
@@ -32,7 +32,7 @@ module _ (question : Question) (all : TakesAll question) where
 
   pub weighs : (docs : List DocRow) (doc : DocRow) → IsAskedOfDocs question docs → IsWeighed question doc (Some (Some 1))
   weighs docs doc asked =
-      let none : question.query.keywords ≡ 0 = asked.asked.numbered.count ∙ ap (λ keys. length keys) (no_keys question.query.root question.query.keywords all.root) in
+      let none : question.query.keywords ≡ 0 = (let some = asked.asked.positions.count in let no = ap (λ keys. length keys) (no_keys question.query.root question.query.keywords all.root) in omega (arith, some, no)) in
       weighs_one question question.query doc (one_without_keywords question none) refl (fits doc)
 
 -- the question before a row of the layer
@@ -53,6 +53,7 @@ module _ {S : Type 0} (Took : S → List Row → S → Type 0) (question : Quest
       record {
         query = way.query;
         docs = way.docs;
+        dead = way.dead;
         amid = λ first before so. subst (λ numbers. IsAmid Took question first layer.rows (filter (matches question.query) (living layer)) before numbers here) past (way.amid first before so);
       }
 

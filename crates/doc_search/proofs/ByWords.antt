@@ -1,12 +1,13 @@
 -- A document's weight is bounded by how many of the query's words it has.
-use Rattle.std.proofs.Common.{◌≡◌, ◌≢◌, ◌<◌, ◌≤◌, ◌++◌, ◌||◌, ◌&&◌, zero, suc, ℕ, Bool, true, false, cond, List, [], ◌∷◌, Option, None, Some, map, length, get_or, slice_get, refl, sym, ap, subst, ◌∙◌, arith, inl, inr}
+use Rattle.std.proofs.Common.{◌≡◌, ◌≢◌, ◌<◌, ◌≤◌, ◌++◌, ◌||◌, ◌&&◌, zero, suc, ℕ, Bool, true, false, cond, List, [], ◌∷◌, Option, None, Some, map, length, get_or, slice_get, refl, sym, ap, subst, ◌∙◌, arith, inl, inr, ◌+◌, ◌⊎◌, ⊎_elim, min}
 use Rattle.std.specs.Prelude.{Any, Contains, IfSome, nat_eq, not}
-use Rattle.std.specs.List.{filter, list_any}
+use Rattle.std.specs.List.{filter, list_any, range_with_len}
+use Rattle.std.proofs.lemmas.List.FromFn.{length-range_with_len}
 use Rattle.std.specs.Set.{is_member}
 use Rattle.std.proofs.lemmas.Bool.{cases_Bool, eq-eqb, or_left, or_parts, or_right}
 use Rattle.std.proofs.lemmas.List.{length-map}
 use Rattle.std.proofs.lemmas.List.Elements.{All-weaker}
-use Rattle.std.proofs.lemmas.List.Sums.{count_by-le-length, length-filter}
+use Rattle.std.proofs.lemmas.List.Sums.{length-filter}
 use Rattle.doc_types.specs.Chunks.{has_word}
 use Rattle.doc_types.specs.declared.documents.DocRow.{DocRow}
 use Rattle.doc_types.specs.declared.hits.Hit.{Hit}
@@ -21,7 +22,7 @@ use Rattle.op_eval.specs.Numbered.{IsHitOf}
 use Rattle.op_eval.proofs.KeywordHits.{hits_keyed}
 use Rattle.op_eval.proofs.Standing.{filter_always, places_absent}
 use Rattle.rankers.specs.Limits.{AreOfPositions}
-use Rattle.rankers.specs.Weight.{AreRanked, weight}
+use Rattle.rankers.specs.Weight.{AreRanked, IsRanked, weight}
 use Rattle.rankers.specs.declared.ranker.Ranker.{Ranker}
 use Rattle.doc_search.specs.Rankings.{weigh}
 use Rattle.doc_search.specs.declared.ranking.Ranking.{Ranking}
@@ -92,8 +93,21 @@ pub some_weaker : {P Q : ℕ → Type 0} (found : Option ℕ) → ((n : ℕ) →
 some_weaker None weaker holds = tt
 some_weaker (Some n) weaker holds = weaker n holds
 
-pub few_words : (question : Question) (docs : List DocRow) (row : DocRow) → IsAskedOfDocs question docs → present_in row (query_keys question.query) ≤ 255
-few_words question docs row asked = omega (arith, count_by-le-length (λ (key : Key). has_word key.word row) (query_keys question.query), asked.asked.numbered.few)
+-- hits that can be ranked are of the query positions from 1 on
+in_range : (n k q : ℕ) → k ≤ q → q < k + n → is_member nat_eq (range_with_len k n) q ≡ true
+in_range zero k q low high = absurd (omega (arith, low, high))
+in_range (suc n) k q low high = ⊎_elim
+    (λ (is : q ≡ k). or_left (nat_eq q k) (is_member nat_eq (range_with_len (k + 1) n) q) (eq-eqb q k is))
+    (λ (more : k + 1 ≤ q). or_right (nat_eq q k) (is_member nat_eq (range_with_len (k + 1) n) q) (in_range n (k + 1) q more (omega (arith, high))))
+    (either k q low)
+  where
+    either : (k q : ℕ) → k ≤ q → (q ≡ k) ⊎ (k + 1 ≤ q)
+    either k q low = grind arith
+
+pub of_range : (hits : Hits) (weights : List ℕ) → AreRanked hits weights → AreOfPositions (range_with_len 1 hits.keywords) hits.list
+of_range hits weights ranked =
+    All-weaker (IsRanked hits.keywords (length weights)) (λ hit. is_member nat_eq (range_with_len 1 hits.keywords) hit.query ≡ true)
+    (λ hit is. in_range hits.keywords 1 hit.query is.from_one (omega (arith, is.query))) hits.list ranked.each_hit
 
 -- no condition is on the weight
 none_weighed : (conditions : List Filter) (row : Row) → list_any is_weighed conditions ≡ false → hold_weighed conditions row ≡ true
@@ -102,8 +116,11 @@ none_weighed (condition ∷ conditions) row none =
     let parts = or_parts (is_weighed condition) (list_any is_weighed conditions) none in
     ap (λ b. (not b || holds condition row) && hold_weighed conditions row) parts.0 ∙ none_weighed conditions row parts.1
 
+lesser : (words a b : ℕ) → words ≡ min a b → (words ≡ a) ⊎ (words ≡ b)
+lesser words a b is = grind arith
+
 pub weighs_up_to : (question : Question) (docs : List DocRow) (number : ℕ) (doc : DocRow) (words most : ℕ) → IsAskedOfDocs question docs → slice_get docs number ≡ Some doc → question.query.keywords ≢ 0 → list_any is_weighed question.filters ≡ false
-    → matches question.query doc ≡ true → words ≡ present_in doc (query_keys question.query)
+    → matches question.query doc ≡ true → words ≡ min (present_in doc (query_keys question.query)) question.query.keywords
     → (ranker : Ranker) → question.ranker ≡ rankings.Plain ranker
     → ((hits : Hits) (positions : List ℕ) → hits.keywords ≢ 0 → AreRanked hits question.weights.list → length positions ≤ words → AreOfPositions positions hits.list → weight ranker hits question.weights.list ≤ most)
     → WeighsUpTo question doc most
@@ -113,9 +130,12 @@ weighs_up_to question docs number doc words most asked here some any fits count 
   least = λ list are.
       let hits : Hits = record { keywords = question.query.keywords; list = list } in
       let keys = query_keys question.query in
-      let limit =
-      limits hits (positions_in doc keys) some (are_ranked asked.schema question doc hits asked.asked (doc_of asked.schema docs number doc asked.rows here) refl are)
-      (omega (arith, so_many doc keys, count)) (all_listed doc question.query list are) in
+      let ranked = are_ranked asked.schema question doc hits asked.asked (doc_of asked.schema docs number doc asked.rows here) refl are in
+      let limit : weight ranker hits question.weights.list ≤ most =
+      ⊎_elim
+      (λ (is : words ≡ present_in doc keys). limits hits (positions_in doc keys) some ranked (omega (arith, so_many doc keys, is)) (all_listed doc question.query list are))
+      (λ (is : words ≡ question.query.keywords). limits hits (range_with_len 1 question.query.keywords) some ranked (omega (arith, length-range_with_len 1 question.query.keywords, is)) (of_range hits question.weights.list ranked))
+      (lesser words (present_in doc keys) question.query.keywords count) in
       (weight ranker hits question.weights.list, ap (λ (its : Ranking). weigh its hits question.weights.list doc.doc.values) plain, limit);
 }
 

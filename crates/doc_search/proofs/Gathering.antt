@@ -141,6 +141,7 @@ module _ {S : Type 0} (Took : S → List Row → S → Type 0) (question : Quest
   on_way_first layer docs dead stream start its out told = record {
     query = ap (λ (it : Stream). it.query) told;
     docs = ap (λ (it : Stream). it.rows) told ∙ its;
+    dead = ap (λ (it : Stream). it.dead) told ∙ out;
     amid = λ first before so. amid_first Took question first layer docs dead stream before start its out told so;
   }
 
@@ -169,6 +170,7 @@ module _ {S : Type 0} (Took : S → List Row → S → Type 0) (question : Quest
       record {
         query = ap (λ (it : Stream). it.query) behind ∙ way.query;
         docs = ap (λ (it : Stream). it.rows) behind ∙ way.docs;
+        dead = ap (λ (it : Stream). it.dead) behind ∙ way.dead;
         amid = λ first before so.
             amid_past Took question first layer.rows (filter (matches question.query) (living layer)) before number doc (matches question.query doc) (ahead old) (ahead new) here there
             (ap (λ rows. slice_get rows number) (sym way.docs) ∙ at) refl past (way.amid first before so)
@@ -183,6 +185,7 @@ module _ {S : Type 0} (Took : S → List Row → S → Type 0) (question : Quest
       record {
         query = way.query;
         docs = way.docs;
+        dead = way.dead;
         amid = λ first before so. subst (λ numbers. IsAmid Took question first layer.rows (filter (matches question.query) (living layer)) before numbers here) past (way.amid first before so);
       }
   on_way_by layer stream start here row false within living_row fails way =
@@ -195,6 +198,7 @@ module _ {S : Type 0} (Took : S → List Row → S → Type 0) (question : Quest
       record {
         query = way.query;
         docs = way.docs;
+        dead = way.dead;
         amid = λ first before so.
             amid_past Took question first layer.rows (filter (matches question.query) (living layer)) before row doc (matches question.query doc) (ahead (record stream { at = row })) (ahead (record stream { at = row + 1 })) here here
             at refl past (way.amid first before so)

@@ -28,3 +28,7 @@ pub mod AllRows
 pub mod WithoutWeight
 -- a document at which a search ends is one of those that it goes over
 pub mod Stopping
+-- the most that any document weighs
+pub mod MostOfAll
+-- the rest of a layer, counted
+pub mod LayerRest

@@ -1,14 +1,16 @@
 -- What the weight of a document asks of its hits, and a row that holds it.
-use Rattle.std.proofs.Common.{◌≡◌, ◌≢◌, ◌<◌, ◌≤◌, ℕ, Bool, true, false, List, Option, Some, None, refl, length, slice_get, sym, ap, subst, ◌∙◌, arith, ⊎_elim}
-use Rattle.std.specs.Prelude.{◌==◌, is_some, not, unwrap_or, if◌then◌else◌}
+use Rattle.std.proofs.Common.{◌≡◌, ◌≢◌, ◌<◌, ◌≤◌, ℕ, Bool, true, false, List, [], ◌∷◌, Option, Some, None, refl, length, slice_get, sym, ap, subst, ◌∙◌, arith, ⊎_elim}
+use Rattle.std.specs.Prelude.{All, ◌==◌, is_some, not, unwrap_or, if◌then◌else◌}
 use Rattle.std.proofs.lemmas.Bool.{eq-eqb, ne_eqb}
-use Rattle.std.proofs.lemmas.List.Elements.{All-weaker}
+use Rattle.std.proofs.lemmas.List.Elements.{All-head, All-weaker}
 use Rattle.std.proofs.lemmas.Option.{get_or_from_slice_get, slice_get_within, slice_get_cases}
 use Rattle.doc_types.specs.declared.documents.DocRow.{DocRow}
 use Rattle.doc_types.specs.declared.hits.Hit.{Hit}
 use Rattle.doc_types.specs.declared.hits.Hits.{Hits}
 use Rattle.doc_types.specs.declared.schema.Schema.{Schema}
 use Rattle.doc_types.specs.Documents.{AreRowsOf, IsDocOf}
+use Rattle.query_tree.specs.TreeKeys.{query_keys}
+use Rattle.query_tree.specs.declared.key.Key.{Key}
 use Rattle.query_tree.specs.declared.query.Query.{Query}
 use Rattle.op_eval.specs.Fields.{AreFieldsOf, GoesByFields}
 use Rattle.op_eval.specs.Hits.{AreHits}
@@ -42,9 +44,9 @@ pub are_ranked : (schema : Schema) (question : Question) (doc : DocRow) (hits : 
 are_ranked schema question doc hits asked its keywords are =
     let fields : length doc.doc.fields ≡ length question.weights.list = its.fields ∙ sym asked.weights in
     let within : AreHitsWithin hits.keywords (length question.weights.list) hits.list =
-    rw (keywords, ← fields) (can_be_weighed question.query doc hits.list asked.numbered its.tokens are) in
+    rw (keywords, ← fields) (can_be_weighed question.query doc hits.list asked.positions its.tokens are) in
     record {
-      keywords = omega (arith, keywords, asked.numbered.count, asked.numbered.few);
+      keywords = omega (arith, keywords, asked.positions.few);
       fields = omega (arith, asked.weights, asked.few_fields);
       each_weight = asked.each_weight;
       each_hit = All-weaker (IsHitWithin hits.keywords (length question.weights.list)) (IsRanked hits.keywords (length question.weights.list)) (is_ranked hits.keywords (length question.weights.list)) hits.list within.each;
@@ -149,10 +151,17 @@ looks_unsought false ranking looks = looks
 -- keywords and fields are few
 pub are_few : (question : Question) (docs : List DocRow) → IsAskedOfDocs question docs → AreFew question.query.keywords question.weights.list
 are_few question docs asked = record {
-  keywords = omega (arith, asked.asked.numbered.count, asked.asked.numbered.few);
+  keywords = asked.asked.positions.few;
   fields = omega (arith, asked.asked.weights, asked.asked.few_fields);
   each_weight = asked.asked.each_weight;
 }
+
+-- a query with one keyword counts some
+some_keyword : (keys : List Key) (keywords : ℕ) → length keys ≡ 1 → All (λ key. (1 ≤ key.query) × (key.query ≤ keywords)) keys → keywords ≢ 0
+some_keyword [] keywords one each none = absurd (omega (arith, one))
+some_keyword (key ∷ keys) keywords one each none =
+    let first = All-head (λ (own : Key). (1 ≤ own.query) × (own.query ≤ keywords)) key keys each in
+    omega (arith, first.0, first.1, none)
 
 -- a document that matches weighs what its fields tell
 pub fields_weigh : (question : Question) (docs : List DocRow) (query : Query) (number fields : ℕ) (weighed : Option ℕ) (values : List Value) (doc : DocRow) → IsAskedOfDocs question docs → query ≡ question.query → GoesByFields query → slice_get docs number ≡ Some doc → AreFieldsOf (query_finds query doc) fields → fields ≢ 0
@@ -173,7 +182,7 @@ fields_weigh question docs query number fields weighed values doc asked same wor
               query = its.position;
               word = its.word;
               keywords = refl;
-              some = λ none. absurd (omega (arith, none, asked.asked.numbered.count, alone));
+              some = some_keyword (query_keys question.query) question.query.keywords alone asked.asked.positions.within;
               ranked = are_ranked asked.schema question doc hits asked.asked (doc_of asked.schema docs number doc asked.rows here) refl ordered;
               one = all_ordered (λ hit. (hit.query ≡ its.position) × (hit.word ≡ its.word)) (query_finds question.query doc).hits its.one;
               are = λ field. its.each field ∙ sym (ordered.all (λ hit. hit.field == field));

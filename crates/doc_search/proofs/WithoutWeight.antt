@@ -36,7 +36,7 @@ pub asked_alike : (lacking : Bool) (question : Question) (docs : List DocRow) â†
 asked_alike lacking question docs its = record {
   schema = its.schema;
   asked = record {
-    numbered = its.asked.numbered;
+    positions = its.asked.positions;
     few_fields = its.asked.few_fields;
     weights = its.asked.weights;
     each_weight = its.asked.each_weight;

@@ -8,7 +8,7 @@ use Rattle.doc_types.specs.declared.schema.Schema.{Schema}
 use Rattle.doc_types.specs.declared.schema.TheConstants.{MAX_FIELDS}
 use Rattle.op_eval.specs.Hits.{AreHits}
 use Rattle.op_eval.specs.Matching.{matches}
-use Rattle.op_eval.specs.Numbered.{IsNumbered}
+use Rattle.op_eval.specs.Numbered.{HasPositions}
 use Rattle.row_select.specs.Columns.{row_of}
 use Rattle.row_select.specs.Filters.{holds}
 use Rattle.row_select.specs.Pages.{IsTop}
@@ -69,10 +69,9 @@ FindsOr Is question docs (Err (Fault id)) = IsFirstLacking question docs id
 abbrev pub AreShown : Question → List DocRow → List Row → Type 0
 AreShown question docs shown = (found : List Row) × AreFound question docs found × IsTop found question.order question.page shown
 
--- The question is one of an index with these columns: its keywords are numbered as those of a text are, and there is a weight for
--- each field.
+-- The question is one of an index with these columns: its keywords have query positions, and there is a weight for each field.
 pub record IsAskedOf (schema : Schema) (question : Question) : Type 0 where
-  pub numbered : IsNumbered question.query
+  pub positions : HasPositions question.query
   pub few_fields : length schema.fields ≤ MAX_FIELDS
   pub weights : length question.weights.list ≡ length schema.fields
   pub each_weight : All (λ weight. (1 ≤ weight) × (weight ≤ 65535)) question.weights.list

@@ -1,7 +1,7 @@
 //! Rows that are offered by the most that they can weigh. Where the words of a row tell that it matches, they also say how many keywords
 //! it has, and by that what it weighs at most. A page that is full lets most such rows go by this alone, and a count asks for no weight
 //! at all: so none of their places is read.
-ghost use Rattle.std.specs.Prelude.{◌≡◌, ◌<◌, ◌++◌, ◌∷◌, [], List, IfOk, IfSome, Some, true, false, length, slice_get};
+ghost use Rattle.std.specs.Prelude.{◌≡◌, ◌<◌, ◌++◌, ◌∷◌, [], List, IfOk, IfSome, Some, true, false, length, min, slice_get};
 ghost use Rattle.std.specs.List.{filter};
 ghost use Rattle.doc_types.specs.declared.documents.DocRow.{DocRow};
 ghost use Rattle.op_eval.specs.Matching.{matches};
@@ -52,7 +52,15 @@ fn most_by_words<C: Chunk>(asked: &ReadyQuestion<'_>, stream: &mut Matches<'_, C
     }
     let ranker = question.ranker.plain()?;
     let words = stream.sure_words()?;
-    most_weight(ranker, words, &question.weights)
+    let positions = positions_at_most(words, question.query.keywords);
+    most_weight(ranker, positions, &question.weights)
+}
+
+/// How many query positions the hits of a row have at most that has so many of the keywords, of a query that counts so many.
+fn positions_at_most(words: usize, keywords: u16) -> usize
+    ensures { result ≡ min words keywords }
+{
+    words.min(usize::from(keywords))
 }
 
 /// The same for a document that weighs so much at most.

@@ -48,6 +48,9 @@ impl Sink for LeastAtZero {
     // What a row weighs matters, which 0 alone says as a bound.
     ghost Passes = { λ least row. row.weight ≡ 0 };
 
+    // The number of rows alone never tells.
+    ghost Counts = { λ least most from. ⊥ };
+
     ghost nothing = { λ first. refl };
 
     fn offer<R: FoundRow>(&mut self, row: &R) -> Result<(), NoMemory> {
@@ -63,6 +66,14 @@ impl Sink for LeastAtZero {
 
     fn pass<R: FoundRow>(&mut self, row: &R) -> Result<(), NoMemory> {
         self.offer(row)
+    }
+
+    fn only_counts(&self, _most: u64, _from: u64) -> bool {
+        false
+    }
+
+    fn count(&mut self, _rows: u32) -> Result<(), NoMemory> {
+        Ok(())
     }
 }
 

@@ -9,6 +9,7 @@ mod listed_rows;
 mod question;
 mod ranking;
 mod ready;
+mod rest;
 mod room;
 mod scanning;
 mod searching;

@@ -4,7 +4,8 @@
 //! A document's conditions that look at no weight come before its hits, since to find these the places of its words are read. They
 //! are asked of the document where it stands in the chunk, and so is all that the sink looks at: of a document that is found no
 //! column is read that isn't asked for, and who keeps it makes the copy. Of rows that conditions on the id rule out none is looked
-//! at. Nothing is kept of a document but what the sink takes, and one list of hits serves for all of them.
+//! at. Nothing is kept of a document but what the sink takes, and one list of hits serves for all of them. Where only how many are found
+//! matters from some row on, the rest of the layer is counted (`rest.rt`).
 ghost use Rattle.std.specs.Prelude.{◌≡◌, ◌+◌, ◌<◌, ◌≤◌, ◌++◌, ◌∷◌, [], List, IfOk, OnOk, All, AllPairs, Some, true, length, slice_get};
 ghost use Rattle.std.specs.List.{filter};
 ghost use Rattle.doc_types.specs.declared.documents.DocRow.{DocRow};
@@ -31,6 +32,7 @@ use crate::listed_rows::ListedRows;
 use crate::question::Question;
 use crate::ranking::Ranking;
 use crate::ready::ReadyQuestion;
+use crate::rest::{count_rest, most_of_all};
 use crate::room::{Room, read_values};
 use crate::scanning::{next_passing, passes};
 use doc_types::{Chunk, Counted, CountedLists, HitLists, Layer, Snapshot};
@@ -130,8 +132,13 @@ fn collect_layer<L: Ledger, C: HitLists, S: Sink>(
     let dead = layer.dead.as_slice();
     let mut stream = Matches::over(asked.alloc, &asked.question.query, &counted, dead)?;
     let mut listed = ListedRows::over(&counted, &asked.conditions);
+    let mut most = most_of_all(asked);
     let mut at = 0;
     'rows: while let Some(number) = next_row(asked, &mut stream, &mut listed, &counted, at) {
+        let done = count_rest(asked, &counted, dead, number, &mut most, sink, steps)?;
+        if done {
+            return Ok(());
+        }
         collect_row(asked, &counted, number, &mut stream, room, sink, steps)?;
         at = number + 1;
     }

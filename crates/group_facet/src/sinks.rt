@@ -14,6 +14,9 @@ impl Sink for Groups<'_> {
     // What rows weigh may matter to a group: which of them is its row, and its aggregates. Of a bound it takes 0 alone, which says it.
     ghost Passes = { λ groups row. row.weight ≡ 0 };
 
+    // How many rows there are never tells their groups.
+    ghost Counts = { λ groups most from. ⊥ };
+
     ghost nothing = { λ first group so. so };
 
     fn offer<R: FoundRow>(&mut self, row: &R) -> Result<(), NoMemory> {
@@ -30,6 +33,14 @@ impl Sink for Groups<'_> {
         Groups::offer(self, row)?;
         Ok(())
     }
+
+    fn only_counts(&self, _most: u64, _from: u64) -> bool {
+        false
+    }
+
+    fn count(&mut self, _rows: u32) -> Result<(), NoMemory> {
+        Ok(())
+    }
 }
 
 impl Sink for FacetCounts<'_> {
@@ -40,6 +51,9 @@ impl Sink for FacetCounts<'_> {
     ghost Took = { λ first rows last. (facet : Facet) → GathersFacet facet [] first → GathersFacet facet rows last };
 
     ghost Passes = { λ counts row. CountsNoWeights counts };
+
+    // How many rows there are never tells what they hold.
+    ghost Counts = { λ counts most from. ⊥ };
 
     ghost nothing = { λ first facet so. so };
 
@@ -55,6 +69,14 @@ impl Sink for FacetCounts<'_> {
 
     fn pass<R: FoundRow>(&mut self, row: &R) -> Result<(), NoMemory> {
         FacetCounts::pass(self, row)?;
+        Ok(())
+    }
+
+    fn only_counts(&self, _most: u64, _from: u64) -> bool {
+        false
+    }
+
+    fn count(&mut self, _rows: u32) -> Result<(), NoMemory> {
         Ok(())
     }
 }

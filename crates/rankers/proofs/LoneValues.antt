@@ -1,17 +1,18 @@
 -- Hits of one keyword: a field that has some gives what it would by one of them alone.
-use Rattle.std.proofs.Common.{◌≡◌, ◌≢◌, ℕ, ◌+◌, ◌-◌, ◌*◌, ◌<◌, ◌≤◌, true, cond, ◌==◌, nat_eq, List, [], ◌∷◌, map, length, inl, inr, refl, sym, ap, ◌∙◌, arith}
+use Rattle.std.proofs.Common.{◌≡◌, ◌≢◌, ℕ, ◌+◌, ◌-◌, ◌*◌, ◌<◌, ◌≤◌, true, false, ◌||◌, cond, ◌==◌, nat_eq, List, [], ◌∷◌, map, length, inl, inr, refl, sym, ap, ◌∙◌, arith}
 use Rattle.std.specs.List.{filter, count_by, list_any, enumerate_from, sum_by, All, AllPairs}
 use Rattle.std.specs.Set.{unique_keys, is_member, distinct_count}
+use mathlib.Core.Bool.{true≢false}
 use Rattle.std.proofs.lemmas.Bool.{cases_Bool, eq-eqb, eqb-true, or_left}
 use Rattle.std.proofs.lemmas.List.{length-map}
 use Rattle.std.proofs.lemmas.List.Elements.{All-map, All-filter, All-head, All-tail, filter_passes}
 use Rattle.std.proofs.lemmas.List.Kept.{AllPairs-filter}
-use Rattle.std.proofs.lemmas.List.Sums.{length-filter}
+use Rattle.std.proofs.lemmas.List.Sums.{length-filter, sum_by-le-sum_by}
 use Rattle.doc_types.specs.declared.hits.Hit.{Hit}
 use Rattle.doc_types.specs.declared.hits.Hits.{Hits}
 use Rattle.rankers.specs.declared.ranker.Ranker.{Ranker}
 use Rattle.rankers.specs.declared.ranker.Ranker.TheVariants as rankers
-use Rattle.rankers.specs.Fields.{has_bit, AreFieldsOf, AreOfOne}
+use Rattle.rankers.specs.Fields.{has_bit, AreFieldsOf, AreInFields, AreOfOne}
 use Rattle.rankers.specs.Weight.{AreRanked, Differ, in_field, same_offset, lcs, word_count, max_lcs, weight}
 use Rattle.rankers.specs.steps.FieldValue.{own_value, field_value, fields_value, lone_value, value_by_bit, values_by_bits}
 use Rattle.rankers.proofs.FewHits.{few}
@@ -108,3 +109,35 @@ pub weight_by_bits : (ranker : Ranker) (fields query word total : ℕ) (list wei
 weight_by_bits ranker fields query word total list weights hits asks not same is some ranked one bits =
     weight_is ranker hits list weights total some asks same
     (is ∙ values_are ranker (max_lcs hits.keywords list) fields query word list hits.list not ranked.apart one bits)
+
+-- ---- where hits lie in some fields alone, no other field gives anything
+
+bit_there : (fields field : ℕ) (hits : List Hit) → AreInFields fields hits → list_any (λ hit. hit.field == field) hits ≡ true → has_bit fields field ≡ true
+bit_there fields field [] all some = absurd (true≢false (sym some))
+bit_there fields field (hit ∷ hits) all some =
+    elim (cases_Bool (hit.field == field)) [
+      | inl here ↦ ap (has_bit fields) (sym (eqb-true hit.field field here)) ∙ All-head (λ (its : Hit). has_bit fields its.field ≡ true) hit hits all
+      | inr not ↦ bit_there fields field hits (All-tail (λ (its : Hit). has_bit fields its.field ≡ true) hit hits all) (ap (λ b. b || list_any (λ its. its.field == field) hits) (sym not) ∙ some)
+    ]
+
+up_to_bit : (field query word : ℕ) (hits : List Hit) → AllPairs Differ hits → AreOfOne query word hits → (ranker : Ranker) (most fields weight : ℕ) → ranker ≢ rankers.WordCount → AreInFields fields hits
+    → field_value ranker most field weight hits ≤ value_by_bit ranker fields field weight
+up_to_bit field query word hits apart one ranker most fields weight not inside =
+    elim (cases_Bool (list_any (λ hit. hit.field == field) hits)) [
+      | inl some ↦ (let same = value_is field query word hits apart one ranker most fields weight not (bit_there fields field hits inside some ∙ sym some) in omega arith)
+      | inr none ↦ (let nothing : field_value ranker most field weight hits ≡ 0 = ap (λ b. cond b (own_value ranker most field weight (in_field field hits)) 0) none in omega arith)
+    ]
+
+-- so the weight is no more than that of hits in all of these fields
+pub weight_up_to_bits : (ranker : Ranker) (fields query word total : ℕ) (list weights : List ℕ) (hits : Hits) → ranker ≢ rankers.None → ranker ≢ rankers.WordCount → list ≡ weights → total ≡ values_by_bits ranker fields list
+    → hits.keywords ≢ 0 → AreRanked hits weights → AreOfOne query word hits.list → AreInFields fields hits.list → weight ranker hits weights ≤ total
+weight_up_to_bits ranker fields query word total list weights hits asks not same is some ranked one inside =
+    let most = max_lcs hits.keywords list in
+    let each = sum_by-le-sum_by (λ (e : ℕ × ℕ). field_value ranker most e.0 e.1 hits.list) (λ (e : ℕ × ℕ). value_by_bit ranker fields e.0 e.1) (enumerate_from 0 list)
+    (λ e. up_to_bit e.0 query word hits.list ranked.apart one ranker most fields e.1 not inside) in
+    let whole : fields_value ranker most list hits.list ≡ weight ranker hits weights = weight_is ranker hits list weights (fields_value ranker most list hits.list) some asks same refl in
+    omega arith
+
+-- by the ranker that looks at no hits it is 1
+pub weighs_one : (hits : Hits) (weights : List ℕ) → weight rankers.None hits weights ≤ 1
+weighs_one hits weights = elim (hits.keywords == 0) as (λ b. cond b 1 1 ≤ 1) [ true ↦ omega arith | false ↦ omega arith ]

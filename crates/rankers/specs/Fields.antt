@@ -1,5 +1,5 @@
 -- The fields in which a document has hits, as bits, and hits that are all of one keyword.
-use Rattle.std.specs.Prelude.{◌≡◌, ℕ, ◌/◌, ◌%◌, ◌^◌, List, Bool, ◌==◌, All}
+use Rattle.std.specs.Prelude.{◌≡◌, ℕ, ◌/◌, ◌%◌, ◌^◌, List, Bool, true, ◌==◌, All}
 use Rattle.std.specs.List.{list_any}
 use Rattle.doc_types.specs.declared.hits.Hit.{Hit}
 
@@ -14,3 +14,7 @@ AreFieldsOf fields hits = (field : ℕ) → has_bit fields field ≡ list_any (�
 -- each hit is of this query position and of this word
 abbrev pub AreOfOne : ℕ → ℕ → List Hit → Type 0
 AreOfOne query word hits = All (λ hit. (hit.query ≡ query) × (hit.word ≡ word)) hits
+
+-- each hit lies in a field whose bit is set
+abbrev pub AreInFields : ℕ → List Hit → Type 0
+AreInFields fields hits = All (λ hit. has_bit fields hit.field ≡ true) hits

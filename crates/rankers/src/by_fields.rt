@@ -22,7 +22,7 @@ pub fn weight_of_fields(ranker: Ranker, fields: u32, weights: &Weights) -> u64
 }
 
 /// The sum of what the fields give whose bits are set.
-fn sum_by_bits(ranker: Ranker, fields: u32, weights: &[u32]) -> u64
+pub(crate) fn sum_by_bits(ranker: Ranker, fields: u32, weights: &[u32]) -> u64
     requires { length weights.now ≤ 32 }
     ensures { result ≡ values_by_bits ranker fields weights.now }
 {

@@ -1,9 +1,12 @@
-//! The most that a document can weigh, by how many keywords its hits can be of: what is known before any of its places is read.
+//! The most that a document can weigh, by how many keywords its hits can be of, or by the fields of one keyword: what is known before
+//! any of its places is read.
 ghost use Rattle.std.specs.Prelude.{◌≡◌, ◌≢◌, ℕ, ◌≤◌, List, All, IfSome, length};
 ghost use Rattle.doc_types.specs.declared.hits.Hits.{Hits as HitsValue};
+ghost use Rattle.rankers.specs.Fields.{AreInFields, AreOfOne};
 ghost use Rattle.rankers.specs.Limits.{AreOfPositions};
 ghost use Rattle.rankers.specs.Weight.{AreRanked, weight};
 
+use crate::by_fields::sum_by_bits;
 use crate::ranker::{MAX_FIELD_WEIGHT, Ranker, Weights};
 use crate::weighing::sum_of;
 
@@ -18,5 +21,18 @@ pub fn most_weight(ranker: Ranker, keywords: usize, weights: &Weights) -> Option
     match ranker {
         Ranker::Proximity => Some(keywords as u64 * sum_of(weights.list.as_slice())),
         _ => None,
+    }
+}
+
+/// The most that a document weighs whose hits are all of one keyword and lie in some of these fields, as bits: what it weighs where
+/// each of them has one. None by `wordcount`, which counts hits.
+pub fn most_of_fields(ranker: Ranker, fields: u32, weights: &Weights) -> Option<u64>
+    requires few { length weights.now.list ≤ 32 }
+    ensures { IfSome result (λ most. (hits : HitsValue) (query word : ℕ) → hits.keywords ≢ 0 → AreRanked hits weights.now.list → AreOfOne query word hits.list → AreInFields fields hits.list → weight ranker hits weights.now.list ≤ most) }
+{
+    match ranker {
+        Ranker::WordCount => None,
+        Ranker::None => Some(1),
+        _ => Some(sum_by_bits(ranker, fields, weights.list.as_slice())),
     }
 }

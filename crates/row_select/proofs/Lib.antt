@@ -16,6 +16,8 @@ pub mod Counting
 pub mod Collected
 -- rows that are as others but for their weight
 pub mod Lighter
+-- rows that are lighter than some weight and have ids from some one on
+pub mod Beyond
 -- whether a number is in a list, by a search among the same numbers in order
 pub mod Listed
 -- conditions on the weight, and those on other columns

@@ -27,7 +27,7 @@ same_column columns.Id its row other lighter = ap pos lighter.id
 same_column (columns.Attr place) its row other lighter = ap (λ values. attr_number (slice_get values place)) lighter.values
 same_column columns.Weight its row other lighter = absurd (true≢false other)
 
-up_to : (a b : ℕ) → a ≤ b → is_le (int_cmp (pos a) (pos b)) ≡ true
+pub up_to : (a b : ℕ) → a ≤ b → is_le (int_cmp (pos a) (pos b)) ≡ true
 up_to a b small = by (int_lt (pos a) (pos b)) (int_lt (pos b) (pos a)) refl
   where
     by : (less more : Bool) → int_lt (pos b) (pos a) ≡ more → is_le (cond less Less (cond more Greater Equal)) ≡ true
@@ -47,7 +47,7 @@ by_one_key (columns.Attr place) descending its row none lighter = level (columns
 by_one_key columns.Weight true its row none lighter = up_to its.weight row.weight lighter.weight
 by_one_key columns.Weight false its row none lighter = absurd (true≢false none)
 
-then_le : (first rest : Ordering) → is_le first ≡ true → is_le rest ≡ true → is_le (ordering_then first rest) ≡ true
+pub then_le : (first rest : Ordering) → is_le first ≡ true → is_le rest ≡ true → is_le (ordering_then first rest) ≡ true
 then_le Less rest is last = refl
 then_le Equal rest is last = last
 then_le Greater rest is last = absurd (true≢false (sym is))
@@ -63,7 +63,7 @@ not_after_lighter (key ∷ keys) its row none lighter =
     let both = neither (ascends_by_weight key) (brings_lighter keys) none in
     then_le (by_key key row its) (by_keys keys row its) (by_one_key key.0 key.1 its row both.0 lighter) (not_after_lighter keys its row both.1 lighter)
 
-one_more : (here there : Bool) → (here ≡ true → there ≡ true) → cond here 1 0 ≤ cond there 1 0
+pub one_more : (here there : Bool) → (here ≡ true → there ≡ true) → cond here 1 0 ≤ cond there 1 0
 one_more true true so = omega arith
 one_more true false so = absurd (true≢false (sym (so refl)))
 one_more false there so = omega arith

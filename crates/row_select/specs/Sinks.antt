@@ -1,5 +1,5 @@
 -- Where found rows go, one after the other.
-use Rattle.std.specs.Prelude.{◌≡◌, ◌≤◌, List, []}
+use Rattle.std.specs.Prelude.{◌≡◌, ◌≤◌, ℕ, List, []}
 use Rattle.row_select.specs.Collecting.{Collection, Keeps, count_not_after}
 use Rattle.row_select.specs.Pages.{page_end}
 use Rattle.row_select.specs.declared.row.Row.{Row}
@@ -16,6 +16,15 @@ pub record IsLighter (its row : Row) : Type 0 where
   pub id : its.id ≡ row.id
   pub values : its.values ≡ row.values
   pub weight : its.weight ≤ row.weight
+
+-- a row weighs no more than this, and has an id from this one on
+pub record IsBeyond (most from : ℕ) (row : Row) : Type 0 where
+  pub light : row.weight ≤ most
+  pub on : from ≤ row.id
+
+-- a collector needs no such row
+abbrev pub NeedsNoneBeyond : ℕ → ℕ → Collection → Type 0
+NeedsNoneBeyond most from collection = (its : Row) → IsBeyond most from its → page_end collection.page ≤ count_not_after collection.order its collection.kept
 
 -- a collector needs no row that is lighter than this one: so many kept ones don't come after it as there are up to the page's end
 abbrev pub NeedsNoLighter : Collection → Row → Type 0

@@ -1,8 +1,8 @@
 //! The rows that a page may need, kept while the rows are found one after the other.
-ghost use Rattle.std.specs.Prelude.{◌≡◌, ◌≤◌, ◌<◌, ◌*◌, [], ◌∷◌, ◌++◌, List, true, false, length, IfOk, OnOk, OnErr};
+ghost use Rattle.std.specs.Prelude.{◌≡◌, ◌≤◌, ◌<◌, ◌*◌, ℕ, All, [], ◌∷◌, ◌++◌, List, true, false, length, IfOk, OnOk, OnErr};
 ghost use Rattle.row_select.specs.Collecting.{AreEnough, Keeps, count_not_after};
 ghost use Rattle.row_select.specs.Pages.{IsTop, page_end};
-ghost use Rattle.row_select.specs.Sinks.{NeedsNoLighter};
+ghost use Rattle.row_select.specs.Sinks.{NeedsNoLighter, NeedsNoneBeyond};
 ghost use Rattle.row_select.specs.declared.row.Row.{Row};
 ghost use Rattle.row_select.specs.steps.Collecting.{IsBordered};
 ghost use Rattle.row_select.specs.steps.Selecting.{AreFirst};
@@ -11,7 +11,7 @@ use crate::found::FoundRow;
 use crate::order::Order;
 use crate::page::{Page, top};
 use crate::row::Row;
-use srch_base::NoMemory;
+use srch_base::{Items, NoMemory};
 use std::alloc::Global;
 use std::marker::Model;
 
@@ -27,19 +27,21 @@ pub struct Collector<'a> {
     rows: Vec<Row>,
     /// Whether the order brings lighter rows forward.
     lighter_first: bool,
+    /// Whether neither a lighter row nor one of a greater id comes earlier by any key of the order.
+    falling: bool,
 }
 
 impl<'a> Model for Collector<'a> {
     ghost use Rattle.std.specs.Prelude.{◌≡◌, ◌≤◌, ◌*◌, length};
     ghost use Rattle.row_select.specs.Collecting.{Collection};
     ghost use Rattle.row_select.specs.Pages.{page_end};
-    ghost use Rattle.row_select.specs.steps.Collecting.{IsBordered, brings_lighter};
+    ghost use Rattle.row_select.specs.steps.Collecting.{IsBordered, all_fall_behind, brings_lighter};
 
     ghost Value = { Collection };
 
     ghost view = { λ a. record { order = a.order.now; page = a.page; kept = a.rows.items } };
 
-    ghost invariant = { λ a. IsBordered a.order.now (page_end a.page) a.rows.items × (length a.rows.items ≤ 2 * page_end a.page) × (a.lighter_first ≡ brings_lighter a.order.now.keys) };
+    ghost invariant = { λ a. IsBordered a.order.now (page_end a.page) a.rows.items × (length a.rows.items ≤ 2 * page_end a.page) × (a.lighter_first ≡ brings_lighter a.order.now.keys) × (a.falling ≡ all_fall_behind a.order.now.keys) };
 }
 
 impl<'a> Collector<'a> {
@@ -54,6 +56,7 @@ impl<'a> Collector<'a> {
             page,
             rows: Vec::new(alloc),
             lighter_first: order.brings_lighter(),
+            falling: order.falls_behind(),
         }
     }
 
@@ -77,6 +80,22 @@ impl<'a> Collector<'a> {
     {
         let end = self.page.end();
         end > 0 && (self.lighter_first || !is_behind(&self.rows, self.order, end, row))
+    }
+
+    /// Whether the page needs no row that weighs no more than this and has an id from this one on. It costs one comparison, and none
+    /// where the order has another key than the weight, descending, and the id, ascending.
+    pub fn needs_none_beyond(&self, most: u64, from: u64) -> bool
+        ensures { result ≡ true → NeedsNoneBeyond most from self.now }
+    {
+        if !self.falling {
+            return false;
+        }
+        let foremost = Row {
+            id: from,
+            weight: most,
+            values: Items::new(Vec::new(*self.rows.allocator())),
+        };
+        is_behind(&self.rows, self.order, self.page.end(), &foremost)
     }
 
     /// The page of all rows that were offered.

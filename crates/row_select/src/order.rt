@@ -1,7 +1,7 @@
 //! The order of rows: by keys, and by id where all keys tie.
 ghost use Rattle.std.specs.Prelude.{◌≡◌};
 ghost use Rattle.row_select.specs.Orders.{by_key, by_keys};
-ghost use Rattle.row_select.specs.steps.Collecting.{ascends_by_weight, brings_lighter};
+ghost use Rattle.row_select.specs.steps.Collecting.{all_fall_behind, ascends_by_weight, brings_lighter, falls_behind};
 
 use crate::found::FoundRow;
 use crate::row::ColumnRef;
@@ -37,6 +37,13 @@ impl Order {
             .iter()
             .any(|key| ascends_by_weight(key))
     }
+
+    /// Whether it is by nothing but the weight, descending, and the id, ascending.
+    pub(crate) fn falls_behind(&self) -> bool
+        ensures { result ≡ all_fall_behind self.now.keys }
+    {
+        self.keys.as_slice().iter().all(|key| falls_behind(key))
+    }
 }
 
 /// Whether the weight ascends by a key.
@@ -45,6 +52,18 @@ fn ascends_by_weight(key: &(ColumnRef, bool)) -> bool
 {
     let (column, descending) = *key;
     column.is_weight() && !descending
+}
+
+/// Whether neither a lighter row nor one of a greater id comes earlier by a key.
+fn falls_behind(key: &(ColumnRef, bool)) -> bool
+    ensures { result ≡ falls_behind key.now }
+{
+    let (column, descending) = *key;
+    if column.is_weight() {
+        descending
+    } else {
+        column.is_id() && !descending
+    }
 }
 
 /// How two rows stand by one key.

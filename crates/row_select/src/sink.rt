@@ -5,8 +5,8 @@ use srch_base::NoMemory;
 
 /// What takes the rows that a search finds, one after the other.
 pub trait Sink {
-    ghost use Rattle.std.specs.Prelude.{◌≡◌, false, List, [], ◌∷◌, ◌++◌, OnOk};
-    ghost use Rattle.row_select.specs.Sinks.{IsLighter};
+    ghost use Rattle.std.specs.Prelude.{◌≡◌, ℕ, All, true, false, List, [], ◌∷◌, ◌++◌, OnOk, length};
+    ghost use Rattle.row_select.specs.Sinks.{IsBeyond, IsLighter};
     ghost use Rattle.row_select.specs.declared.row.Row.{Row};
 
     // These rows were offered to the sink since it was as the first one, and it is now as the last one.
@@ -14,6 +14,9 @@ pub trait Sink {
 
     // It doesn't matter to the sink what a row weighs exactly, as long as it is no more than this one does.
     ghost Passes: { Self → Row → Type 0 };
+
+    // Of rows that weigh no more than this and have ids from this one on it matters to the sink only how many they are.
+    ghost Counts: { Self → ℕ → ℕ → Type 0 };
 
     /// Offers a row. After an error the sink is of no use.
     fn offer<R: FoundRow>(&mut self, row: &R) -> Result<(), NoMemory>
@@ -30,17 +33,28 @@ pub trait Sink {
         requires { Passes self.old (R.as_row row.now) }
         ensures { (first : Self) (rows : List Row) (its : Row) → IsLighter its (R.as_row row.now) → Took first rows self.old → OnOk result (Took first (rows ++ its ∷ []) self.new) };
 
+    /// Whether it matters only how many they are of rows that weigh no more than this and have ids from this one on. A sink that
+    /// always says no is right too: that costs time alone.
+    fn only_counts(&self, most: u64, from: u64) -> bool
+        ensures { result ≡ true → Counts self.now most from };
+
+    /// Offers so many rows, where it matters only how many they are. After an error the sink is of no use.
+    fn count(&mut self, rows: u32) -> Result<(), NoMemory>
+        ensures { (most from : ℕ) (first : Self) (before its : List Row) → Counts self.old most from → All (IsBeyond most from) its → length its ≡ rows → Took first before self.old → OnOk result (Took first (before ++ its) self.new) };
+
     // Nothing was offered to it yet.
     ghost nothing: { (first : Self) → Took first [] first };
 }
 
 impl Sink for Collector<'_> {
     ghost use Rattle.std.specs.Prelude.{refl};
-    ghost use Rattle.row_select.specs.Sinks.{Collects, NeedsNoLighter};
+    ghost use Rattle.row_select.specs.Sinks.{Collects, NeedsNoLighter, NeedsNoneBeyond};
 
     ghost Took = { Collects };
 
     ghost Passes = { NeedsNoLighter };
+
+    ghost Counts = { λ collection most from. NeedsNoneBeyond most from collection };
 
     ghost nothing = { λ first. record { order = refl; page = refl; keeps = λ so. so } };
 
@@ -54,6 +68,15 @@ impl Sink for Collector<'_> {
     }
 
     fn pass<R: FoundRow>(&mut self, _row: &R) -> Result<(), NoMemory> {
+        Ok(())
+    }
+
+    #[inline]
+    fn only_counts(&self, most: u64, from: u64) -> bool {
+        self.needs_none_beyond(most, from)
+    }
+
+    fn count(&mut self, _rows: u32) -> Result<(), NoMemory> {
         Ok(())
     }
 }
@@ -72,6 +95,8 @@ impl Sink for RowCount {
 
     ghost Passes = { λ count row. ⊤ };
 
+    ghost Counts = { λ count most from. ⊤ };
+
     ghost nothing = { λ first. Prim.search rules };
 
     fn offer<R: FoundRow>(&mut self, row: &R) -> Result<(), NoMemory> {
@@ -87,6 +112,16 @@ impl Sink for RowCount {
     fn pass<R: FoundRow>(&mut self, row: &R) -> Result<(), NoMemory> {
         self.offer(row)
     }
+
+    #[inline]
+    fn only_counts(&self, _most: u64, _from: u64) -> bool {
+        true
+    }
+
+    fn count(&mut self, rows: u32) -> Result<(), NoMemory> {
+        self.rows = self.rows.checked_add(u64::from(rows)).ok_or(NoMemory)?;
+        Ok(())
+    }
 }
 
 /// Two sinks at once: each row is offered to both.
@@ -100,6 +135,8 @@ impl<A: Sink, B: Sink> Sink for Both<A, B> {
     ghost Took = { λ first rows last. A.Took first.first rows last.first × B.Took first.second rows last.second };
 
     ghost Passes = { λ both row. A.Passes both.first row × B.Passes both.second row };
+
+    ghost Counts = { λ both most from. A.Counts both.first most from × B.Counts both.second most from };
 
     ghost nothing = { λ first. (A.nothing first.first, B.nothing first.second) };
 
@@ -116,5 +153,15 @@ impl<A: Sink, B: Sink> Sink for Both<A, B> {
     fn pass<R: FoundRow>(&mut self, row: &R) -> Result<(), NoMemory> {
         self.first.pass(row)?;
         self.second.pass(row)
+    }
+
+    #[inline]
+    fn only_counts(&self, most: u64, from: u64) -> bool {
+        self.first.only_counts(most, from) && self.second.only_counts(most, from)
+    }
+
+    fn count(&mut self, rows: u32) -> Result<(), NoMemory> {
+        self.first.count(rows)?;
+        self.second.count(rows)
     }
 }

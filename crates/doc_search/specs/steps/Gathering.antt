@@ -58,6 +58,11 @@ pub record WeighsUpTo (question : Question) (doc : DocRow) (most : ℕ) : Type 0
   pub any : list_any is_weighed question.filters ≡ false
   pub least : (hits : List Hit) → AreHits question.query doc hits → (weighed : ℕ) × (weight_of question doc hits ≡ Some weighed) × (weighed ≤ most)
 
+-- No condition is asked, and of these documents none weighs more that matches.
+pub record WeighNoMore (question : Question) (docs : List DocRow) (most : ℕ) : Type 0 where
+  pub none : question.filters ≡ []
+  pub each : (number : ℕ) (doc : DocRow) → slice_get docs number ≡ Some doc → matches question.query doc ≡ true → WeighsUpTo question doc most
+
 -- The values are those of the document, as far as the ranker looks at them.
 abbrev pub AreValuesFor : Question → DocRow → List Value → Type 0
 AreValuesFor question doc values =
@@ -90,6 +95,7 @@ pub record IsAmid {S : Type 0} (Took : S → List Row → S → Type 0) (questio
 pub record IsOnWay {S : Type 0} (Took : S → List Row → S → Type 0) (question : Question) (layer : LayerValue) (start : S) (stream : Stream) (here : S) : Type 0 where
   pub query : stream.query ≡ question.query
   pub docs : stream.rows ≡ layer.rows
+  pub dead : stream.dead ≡ layer.dead
   pub amid : (first : S) (before : List DocRow) → Gathers Took question first before start → IsAmid Took question first layer.rows (filter (matches question.query) (living layer)) before (ahead stream) here
 
 -- the documents of some layers that match

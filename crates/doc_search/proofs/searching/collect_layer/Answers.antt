@@ -1,12 +1,14 @@
-use Rattle.std.proofs.Common.{◌≡◌, ◌∙◌, ◌<◌, List, ap, arith, length, subst, sym}
+use Rattle.std.proofs.Common.{◌≡◌, ◌∙◌, ◌<◌, ℕ, List, IfSome, Some, ap, arith, length, slice_get, subst, sym}
+use Rattle.std.specs.List.{AllZip}
 use Rattle.std.specs.Prelude.{AllPairs}
 use Rattle.doc_types.specs.declared.documents.DocRow.{DocRow}
 use Rattle.doc_types.specs.Snapshots.{LayerValue, living}
-use Rattle.op_eval.specs.Streams.{Stream}
+use Rattle.op_eval.specs.Streams.{Stream, matching_from}
 use Rattle.doc_search.specs.declared.question.Question.{Question}
-use Rattle.doc_search.specs.steps.Gathering.{IsAskedOfDocs}
+use Rattle.doc_search.specs.steps.Gathering.{Gathers, IsAskedOfDocs, WeighNoMore}
 use Rattle.doc_search.specs.steps.ListedRows.{Leaves}
 use Rattle.doc_search.proofs.Gathering.{on_way_first}
+use Rattle.doc_search.proofs.LayerRest.{led_counted}
 use Rattle.doc_search.proofs.Leading.{led_last, led_on, led_to, led_within}
 use Rattle.doc_search.specs.steps.Lacking.{LacksSome}
 use Rattle.doc_search.proofs.Stopping.{layer_stopped, stopped_with}
@@ -18,25 +20,28 @@ rows-init g c =
     ap g.C.Chunk.content (c.over-counted.ensures ∙ c.deref-chunk.ensures) ∙ ap (λ (its : LayerValue). its.rows) c.layer.view_is in
     let dead : c.as_slice-dead.result.now ≡ c.args.layer.now.dead = c.as_slice-dead.ensures ∙ c.deref.ensures ∙ ap (λ (its : LayerValue). its.dead) c.layer.view_is in
     record {
-      way = on_way_first g.S.Sink.Took c.args.asked.now c.args.layer.now (g.C.Chunk.content c.over-counted.result.chunk.now) c.as_slice-dead.result.now c.in_ok-stream.stream c.args.sink.now docs dead
-          (c.in_ok-stream.ensures ∙ ap (λ (its : Question). record { query = its.query; rows = g.C.Chunk.content c.over-counted.result.chunk.now; dead = c.as_slice-dead.result.now; at = 0 }) c.asked.view_is);
-      stands = ap (λ (it : Stream). it.at) c.in_ok-stream.ensures;
-      within = omega arith;
-      leaves = subst (λ (rows : List DocRow). Leaves c.args.asked.now rows 0 c.over-listed.result) docs
-          (c.over-listed.ensures c.args.asked.now (c.asked.invariant.0 ∙ ap (λ (its : Question). its.filters) c.asked.view_is));
+      led = record {
+        way = on_way_first g.S.Sink.Took c.args.asked.now c.args.layer.now (g.C.Chunk.content c.over-counted.result.chunk.now) c.as_slice-dead.result.now c.in_ok-stream.stream c.args.sink.now docs dead
+            (c.in_ok-stream.ensures ∙ ap (λ (its : Question). record { query = its.query; rows = g.C.Chunk.content c.over-counted.result.chunk.now; dead = c.as_slice-dead.result.now; at = 0 }) c.asked.view_is);
+        stands = ap (λ (it : Stream). it.at) c.in_ok-stream.ensures;
+        within = omega arith;
+        leaves = subst (λ (rows : List DocRow). Leaves c.args.asked.now rows 0 c.over-listed.result) docs
+            (c.over-listed.ensures c.args.asked.now (c.asked.invariant.0 ∙ ap (λ (its : Question). its.filters) c.asked.view_is));
+      };
+      most = c.most_of_all-most.ensures c.args.layer.now.rows c.requires;
     }
 
 pub next_row-requires-clause-docs : goal.next_row-requires-clause-docs
 next_row-requires-clause-docs g c =
     let docs : g.C.Chunk.content c.over-counted.result.chunk.now ≡ c.args.layer.now.rows =
     ap g.C.Chunk.content (c.over-counted.ensures ∙ c.deref-chunk.ensures) ∙ ap (λ (its : LayerValue). its.rows) c.layer.view_is in
-    c.rows.invariant.way.docs ∙ sym docs
+    c.rows.invariant.led.way.docs ∙ sym docs
 
 pub next_row-requires-clause-within : goal.next_row-requires-clause-within
 next_row-requires-clause-within g c =
     let docs : g.C.Chunk.content c.over-counted.result.chunk.now ≡ c.args.layer.now.rows =
     ap g.C.Chunk.content (c.over-counted.ensures ∙ c.deref-chunk.ensures) ∙ ap (λ (its : LayerValue). its.rows) c.layer.view_is in
-    omega (arith, c.rows.invariant.within, ap (λ (rows : List DocRow). length rows) docs)
+    omega (arith, c.rows.invariant.led.within, ap (λ (rows : List DocRow). length rows) docs)
 
 pub next_row-requires-clause-asked : goal.next_row-requires-clause-asked
 next_row-requires-clause-asked g c =
@@ -55,29 +60,34 @@ collect_row-requires-clause-stands g c =
     let docs : g.C.Chunk.content c.over-counted.result.chunk.now ≡ c.args.layer.now.rows =
     ap g.C.Chunk.content (c.over-counted.ensures ∙ c.deref-chunk.ensures) ∙ ap (λ (its : LayerValue). its.rows) c.layer.view_is in
     led_to g.S.Sink.Took c.args.asked.now c.args.layer.now (g.C.Chunk.content c.over-counted.result.chunk.now) docs c.args.sink.now c.rows.sink c.rows.at c.in-Some.number c.rows.stream c.next_row.new.stream c.rows.listed c.next_row.new.listed
-    c.rows.invariant c.in-Some.ensures
+    c.rows.invariant.led c.in-Some.ensures
 
 pub overflow_add-at : goal.overflow_add-at
 overflow_add-at g c =
     let docs : g.C.Chunk.content c.over-counted.result.chunk.now ≡ c.args.layer.now.rows =
     ap g.C.Chunk.content (c.over-counted.ensures ∙ c.deref-chunk.ensures) ∙ ap (λ (its : LayerValue). its.rows) c.layer.view_is in
     let within = led_within g.S.Sink.Took c.args.asked.now c.args.layer.now (g.C.Chunk.content c.over-counted.result.chunk.now) docs c.args.sink.now c.rows.sink c.rows.at c.in-Some.number c.rows.stream c.next_row.new.stream c.rows.listed c.next_row.new.listed
-    c.rows.invariant c.in-Some.ensures in
+    c.rows.invariant.led c.in-Some.ensures in
     omega (arith, within.1, c.layer.invariant.content.small.few_rows, ap (λ (its : LayerValue). length its.rows) c.layer.view_is)
 
 pub rows-preserved : goal.rows-preserved
 rows-preserved g c =
     let docs : g.C.Chunk.content c.over-counted.result.chunk.now ≡ c.args.layer.now.rows =
     ap g.C.Chunk.content (c.over-counted.ensures ∙ c.deref-chunk.ensures) ∙ ap (λ (its : LayerValue). its.rows) c.layer.view_is in
-    led_on g.S.Sink.Took c.args.asked.now c.args.layer.now (g.C.Chunk.content c.over-counted.result.chunk.now) docs c.args.sink.now c.rows.sink c.rows.at c.in-Some.number c.rows.stream c.next_row.new.stream c.collect_row.new.stream c.rows.listed c.next_row.new.listed c.collect_row.new.sink
-    c.rows.invariant c.in-Some.ensures c.in_ok-collect_row.ensures.goes_on c.in_ok-collect_row.ensures.gathers
+    let kept = c.in_ok-done.ensures.kept c.if-done.false in
+    record {
+      led = led_on g.S.Sink.Took c.args.asked.now c.args.layer.now (g.C.Chunk.content c.over-counted.result.chunk.now) docs c.args.sink.now c.rows.sink c.rows.at c.in-Some.number c.rows.stream c.next_row.new.stream c.collect_row.new.stream c.rows.listed c.next_row.new.listed c.collect_row.new.sink
+          c.rows.invariant.led c.in-Some.ensures c.in_ok-collect_row.ensures.goes_on
+          (λ first gathered doc at so. c.in_ok-collect_row.ensures.gathers first gathered doc at (subst (Gathers g.S.Sink.Took c.args.asked.now first gathered) (sym kept) so));
+      most = subst (λ (rows : List DocRow). IfSome c.count_rest.new.most (WeighNoMore c.args.asked.now rows)) docs c.in_ok-done.ensures.most;
+    }
 
 pub returns-clause-gathers : goal.returns-clause-gathers
 returns-clause-gathers g c =
     let docs : g.C.Chunk.content c.over-counted.result.chunk.now ≡ c.args.layer.now.rows =
     ap g.C.Chunk.content (c.over-counted.ensures ∙ c.deref-chunk.ensures) ∙ ap (λ (its : LayerValue). its.rows) c.layer.view_is in
     led_last g.S.Sink.Took c.args.asked.now c.args.layer.now (g.C.Chunk.content c.over-counted.result.chunk.now) docs c.args.sink.now c.rows.sink c.rows.at c.rows.stream c.next_row.new.stream c.rows.listed c.next_row.new.listed
-    c.rows.invariant c.in_default.ensures
+    c.rows.invariant.led c.in_default.ensures
 
 pub returns-in_err-collect_row-clause-lacks : goal.returns-in_err-collect_row-clause-lacks
 returns-in_err-collect_row-clause-lacks g c =
@@ -85,4 +95,16 @@ returns-in_err-collect_row-clause-lacks g c =
     ap g.C.Chunk.content (c.over-counted.ensures ∙ c.deref-chunk.ensures) ∙ ap (λ (its : LayerValue). its.rows) c.layer.view_is in
     stopped_with (LacksSome c.args.asked.now (living c.args.layer.now)) c.in_err-collect_row.field-0.0 c.from_residual-in_err-collect_row.result c.from_residual-in_err-collect_row.ensures.1
     (layer_stopped g.S.Sink.Took c.args.asked.now c.args.layer.now (g.C.Chunk.content c.over-counted.result.chunk.now) docs c.args.sink.now c.rows.sink (g.met.S.Sink.nothing c.args.sink.now) c.rows.at c.in-Some.number c.rows.stream c.next_row.new.stream c.rows.listed c.next_row.new.listed
-    c.rows.invariant c.in-Some.ensures c.in_err-collect_row.field-0.0 c.in_err-collect_row.ensures.lacks)
+    c.rows.invariant.led c.in-Some.ensures c.in_err-collect_row.field-0.0 c.in_err-collect_row.ensures.lacks)
+
+pub returns-then-done-clause-gathers : goal.returns-then-done-clause-gathers
+returns-then-done-clause-gathers g c =
+    let docs : g.C.Chunk.content c.over-counted.result.chunk.now ≡ c.args.layer.now.rows =
+    ap g.C.Chunk.content (c.over-counted.ensures ∙ c.deref-chunk.ensures) ∙ ap (λ (its : LayerValue). its.rows) c.layer.view_is in
+    let dead : c.as_slice-dead.result.now ≡ c.args.layer.now.dead = c.as_slice-dead.ensures ∙ c.deref.ensures ∙ ap (λ (its : LayerValue). its.dead) c.layer.view_is in
+    let rows = g.C.Chunk.content c.over-counted.result.chunk.now in
+    led_counted g.S.Sink.Took c.args.asked.now c.args.layer.now rows docs c.args.sink.now c.rows.sink c.count_rest.new.sink c.rows.at c.in-Some.number c.rows.stream c.next_row.new.stream c.rows.listed c.next_row.new.listed
+    c.rows.invariant.led c.in-Some.ensures
+    (λ first before left zip fit so.
+    c.in_ok-done.ensures.counted first before left
+    (subst (λ (gone : List ℕ). AllZip (λ n doc. slice_get rows n ≡ Some doc) (matching_from c.in-Some.number c.args.asked.now.query rows gone) left) (sym dead) zip) fit so c.if-done.true)

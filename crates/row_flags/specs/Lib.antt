@@ -1,0 +1,2 @@
+-- what serves proofs and private functions alone
+pub mod steps
