@@ -16,7 +16,7 @@ use Rattle.directory_vectors.specs.declared.step.Step.TheVariants as steps
 
 -- the columns of an index without any
 abbrev pub plain : Schema
-plain = record { name = []; fields = []; attrs = []; zones = []; sp = false }
+plain = record { name = []; fields = []; attrs = []; zones = []; sp = false; min_prefix = 0 }
 
 -- how many workers there are: one commits, and two have a job each
 abbrev pub workers : ℕ

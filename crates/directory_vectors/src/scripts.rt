@@ -71,6 +71,7 @@ pub(crate) fn schema(alloc: Global) -> Schema
         attrs: Items::new(Vec::new(alloc)),
         zones: Items::new(Vec::new(alloc)),
         sp: false,
+        min_prefix: 0,
     }
 }
 

@@ -20,7 +20,7 @@ use Rattle.step_book.specs.Fronts.{FrontValue}
 use Rattle.step_book.proofs.Prefixes.{prefix_trans}
 use Rattle.step_history.specs.History.{AreOf, Base, IsGood, Reshape, last_snapshot}
 use Rattle.step_history.specs.declared.job.Job.{Job}
-use Rattle.step_tokens.specs.Tokens.{TokenValue}
+use Rattle.step_tokens.specs.Tokens.{LeavesInDoubt, TokenValue}
 use Rattle.store_keep.specs.Charges.{charge_of_job, charge_of_limit}
 use Rattle.store_keep.specs.declared.charge.Charge.{Charge}
 use Rattle.store_keep.specs.declared.charge.Charge.TheVariants as charges
@@ -80,10 +80,10 @@ shaped_so base old new after from is = record {
   before = is.before;
 }
 
-unended_so : (base : Base) (old : TokenValue) (new : NewChunkValue) (after : TokenValue) → new.from ≡ last_snapshot base old.seen → IsJobInDoubt new after → IsUnended base new.job old after
+unended_so : (base : Base) (old : TokenValue) (new : NewChunkValue) (after : TokenValue) → new.from ≡ last_snapshot base old.seen → IsJobInDoubt old new after → IsUnended base new.job old after
 unended_so base old new after from is = record {
   snapshot = is.snapshot;
-  entered = subst (λ (s : SnapshotValue). after.entered ≡ Some (after.seen ++ Reshape new.job s.number is.snapshot ∷ [])) from is.entered;
+  leaves = subst (λ (s : SnapshotValue). LeavesInDoubt old after (after.seen ++ Reshape new.job s.number is.snapshot ∷ [])) from is.leaves;
 }
 
 abbrev said : JobOutcome → Result JobOutcome NoMemory

@@ -17,7 +17,7 @@ use Rattle.ql_answers.specs.declared.job_outcome.JobOutcome.TheVariants as job_o
 use Rattle.step_book.specs.Fronts.{FrontValue}
 use Rattle.step_history.specs.History.{Base, Reshape, Step, last_snapshot}
 use Rattle.step_history.specs.declared.job.Job.{Job}
-use Rattle.step_tokens.specs.Tokens.{TokenValue}
+use Rattle.step_tokens.specs.Tokens.{LeavesInDoubt, TokenValue}
 use Rattle.store_keep.specs.Charges.{charge_of_limit}
 use Rattle.store_keep.specs.declared.charge.Charge.{Charge}
 use Rattle.store_keep.specs.declared.charge.Charge.TheVariants as charges
@@ -73,7 +73,7 @@ Tells schema base old ops (outcomes.Duplicate id) new =
     Advances schema base old new old.made old.entered × IsNoteOf new (seen_by new) × (verdict ops (live (last_snapshot base new.seen)) ≡ Duplicate id)
 Tells schema base old ops (outcomes.Full full) new = Advances schema base old new old.made old.entered × IsNoteOf new (seen_by new) × IsOverLimit base ops full new
 Tells schema base old ops outcomes.Refused new = Advances schema base old new old.made old.entered
-Tells schema base old ops (outcomes.InDoubt doubt) new = Advances schema base old new (old.made + 1) new.entered × IsInDoubt base ops new
+Tells schema base old ops (outcomes.InDoubt doubt) new = Advances schema base old new (old.made + 1) new.entered × IsInDoubt base ops old new
 Tells schema base old ops (outcomes.Strayed numbers) new = Stays old new × ContradictsSome base old numbers
 
 -- the outcome of a job whose end was answered so; none where memory was refused
@@ -112,10 +112,11 @@ pub record IsShaped (base : Base) (job : Job) (old new : TokenValue) : Type 0 wh
   pub last : new.seen ≡ earlier ++ Reshape job (last_snapshot base old.seen).number snapshot ∷ []
   pub before : IsPrefix old.seen earlier
 
--- The end of the job waits behind what the token has seen, and its step stands in the index's book: the token keeps the steps with it.
+-- The end of the job waits behind what the token has seen, and its step stands in the index's book: the token keeps the steps with it,
+-- and what it had left in doubt before is of one line with them.
 pub record IsUnended (base : Base) (job : Job) (old new : TokenValue) : Type 0 where
   pub snapshot : SnapshotValue
-  pub entered : new.entered ≡ Some (new.seen ++ Reshape job (last_snapshot base old.seen).number snapshot ∷ [])
+  pub leaves : LeavesInDoubt old new (new.seen ++ Reshape job (last_snapshot base old.seen).number snapshot ∷ [])
 
 -- What the end of a job says by its outcome, and what its token is then but for its shares, by what that had seen where the job began.
 -- A job counts no commit.

@@ -6,12 +6,14 @@ mod Sharing
 mod Telling
 mod Resting
 mod Fitting
+mod Keeping
 mod Doubting
 mod Whole
 mod Turns
 mod Worked
 mod Seated
 mod Standing
+mod Settling
 mod Plainly
 mod Quiet
 mod Stands

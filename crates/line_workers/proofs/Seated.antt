@@ -201,7 +201,7 @@ module _ {E K J : Type 0} (door : DoorWords E K) (link : LinkWords K) (schema : 
         strays = λ index end at.
             subst (λ (n : ℕ). RestsOn disk (schema index) (base index) index n (tokens_at index lefts) (map events_of (services_of olds mids all)) end.disk end.note end.answer) (sym many)
             (all_rest disk door link schema base opened engines.confs engines.workers sessions (services_of olds mids all) lefts olds news ends works over index end at);
-        settled = λ index end note place own at told own_at. all_settle disk door link schema base opened engines.confs engines.workers sessions (services_of olds mids all) lefts olds news ends works over index end note place own at told own_at;
+        settled = λ index end note at told. all_settle disk door link schema base opened engines.confs engines.workers sessions (services_of olds mids all) lefts olds news ends works over index end note at told;
         faults = λ index end at. all_fit disk door link schema base opened engines.confs engines.workers sessions (services_of olds mids all) lefts olds news ends works over index end at;
         stops = λ index end note at told answered. all_stop disk door link schema base opened engines.confs engines.workers sessions (services_of olds mids all) lefts olds news ends works over index end note at told answered;
       }

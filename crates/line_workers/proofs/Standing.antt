@@ -52,13 +52,13 @@ asked_at base worker (event ∷ events) (e ∷ entries) zero entry are at = (eve
 asked_at base worker (event ∷ events) (e ∷ entries) (suc number) entry are at = asked_at base worker events entries number entry are.1 at
 
 -- the entries are numbered from this number on
-abbrev AreNumbered : ℕ → List Entry → Type 0
+abbrev pub AreNumbered : ℕ → List Entry → Type 0
 AreNumbered first entries = (k : ℕ) (entry : Entry) → slice_get entries k ≡ Some entry → entry.seq ≡ first + k
 
 later_numbered : (first : ℕ) (e : Entry) (entries : List Entry) → AreNumbered first (e ∷ entries) → AreNumbered (first + 1) entries
 later_numbered first e entries numbered = λ k entry at. let n = numbered (suc k) entry at in omega (arith, n)
 
-none_numbered : (first seq : ℕ) (entries : List Entry) → AreNumbered first entries → (seq < first) ⊎ (first + length entries ≤ seq) → filter (λ (e : Entry). e.seq == seq) entries ≡ []
+pub none_numbered : (first seq : ℕ) (entries : List Entry) → AreNumbered first entries → (seq < first) ⊎ (first + length entries ≤ seq) → filter (λ (e : Entry). e.seq == seq) entries ≡ []
 none_numbered first seq [] numbered away = refl
 none_numbered first seq (e ∷ entries) numbered away =
     let n = numbered zero e refl in
@@ -107,14 +107,14 @@ kept_at p (e ∷ entries) zero entry at passes =
 kept_at p (e ∷ entries) (suc k) entry at passes = kept_behind p e entries entry (p e) refl (kept_at p entries k entry at passes)
 
 module _ (schema : Schema) (base : Base) (index : ℕ) (history : List Step) (events : List (List (Event FrontValue))) (one : IsOneHistory schema base index history events) where
-  numbered : (worker : ℕ) → AreNumbered 1 (commits_by worker history)
+  pub numbered : (worker : ℕ) → AreNumbered 1 (commits_by worker history)
   numbered worker = λ k entry at. let n = seqs schema base history worker k entry one.good at in omega (arith, n)
 
   stands : (place number : ℕ) (event : Event FrontValue) → IsAttempt index events place number event → Stood base (place + 1) (commits_by (place + 1) history) number event
   stands place number event attempt =
       stood base (place + 1) (attempts_on index attempt.own) (commits_by (place + 1) history) number event (one.each place attempt.own attempt.of).entries attempt.at
 
-  found_once : (place number : ℕ) (entry : Entry) → slice_get (commits_by (place + 1) history) number ≡ Some entry → entries_numbered (place + 1) (number + 1) history ≡ entry ∷ []
+  pub found_once : (place number : ℕ) (entry : Entry) → slice_get (commits_by (place + 1) history) number ≡ Some entry → entries_numbered (place + 1) (number + 1) history ≡ entry ∷ []
   found_once place number entry at = one_numbered 1 (number + 1) number (commits_by (place + 1) history) entry (numbered (place + 1)) (omega arith) at
 
   once_so : (place number : ℕ) (event : Event FrontValue) → IsAcknowledged event → Stood base (place + 1) (commits_by (place + 1) history) number event → (entry : Entry) × IsEntryOf base (place + 1) event entry × (entries_numbered (place + 1) (number + 1) history ≡ entry ∷ [])

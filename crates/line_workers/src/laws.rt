@@ -1,5 +1,5 @@
 //! Laws of the one history of an index. Each is a function that does nothing, or calls the laws that it rests on: its clauses are the law.
-ghost use Rattle.std.specs.Prelude.{◌≡◌, ◌<◌, ◌≤◌, ◌+◌, ℕ, true, List, [], ◌∷◌, ◌++◌, All, Some, length, slice_get};
+ghost use Rattle.std.specs.Prelude.{◌≡◌, ◌⊎◌, ◌<◌, ◌≤◌, ◌+◌, ℕ, true, List, [], ◌∷◌, ◌++◌, All, Some, length, slice_get};
 ghost use Rattle.doc_types.specs.declared.schema.Schema.{Schema};
 ghost use Rattle.doc_types.specs.Commits.{Entry};
 ghost use Rattle.index_conf.specs.declared.conf.IndexConf.{IndexConf};
@@ -8,18 +8,23 @@ ghost use Rattle.step_book.specs.Fronts.{FrontValue};
 ghost use Rattle.step_history.specs.History.{Base, Step, commits};
 ghost use Rattle.line_workers.specs.Alone.{IsAlone, IsWithoutStatus, OpenAlike};
 ghost use Rattle.line_workers.specs.Attempts.{OnFront, OnLast, attempts_on, is_noted};
-ghost use Rattle.line_workers.specs.Histories.{AreEntriesOf, IsAcknowledged, IsAskedFor, IsAttempt, IsEntryOf, IsOneHistory, entries_numbered};
+ghost use Rattle.line_workers.specs.Doubts.{AreSettled, IsEntryWanted};
+ghost use Rattle.line_workers.specs.Histories.{AreEntriesOf, IsAcknowledged, IsAskedFor, IsAttempt, IsDoubtful, IsEntryOf, IsOneHistory, entries_numbered};
 
 use mysql_wire::{bytes_begin_in_one_way, payload_is_one_response_or_bad};
 use ql_answers::{a_plan_has_one_reply, a_statement_has_one_plan};
 use ql_session::a_text_is_read_in_one_way;
 
-/// A commit that was acknowledged stands in the history once, as its worker's entry of its number; one in doubt at most once.
+/// A commit that was acknowledged stands in the history once, as its worker's entry of its number; one in doubt at most once, and then
+/// as what its operations became, where each call in doubt was settled as it was wanted.
 pub fn each_commit_stands_once()
     ensures acknowledged { (schema : Schema) (base : Base) (index : ℕ) (history : List Step) (events : List (List (Event FrontValue))) (place number : ℕ) (event : Event FrontValue) → IsOneHistory schema base index history events
         → IsAttempt index events place number event → IsAcknowledged event → (entry : Entry) × IsEntryOf base (place + 1) event entry × (entries_numbered (place + 1) (number + 1) history ≡ entry ∷ []) }
     ensures any { (schema : Schema) (base : Base) (index : ℕ) (history : List Step) (events : List (List (Event FrontValue))) (place number : ℕ) (event : Event FrontValue) → IsOneHistory schema base index history events
         → IsAttempt index events place number event → length (entries_numbered (place + 1) (number + 1) history) ≤ 1 }
+    ensures doubtful { (schema : Schema) (base : Base) (index : ℕ) (history : List Step) (events : List (List (Event FrontValue))) (place number : ℕ) (event : Event FrontValue) → IsOneHistory schema base index history events
+        → AreSettled base index history events → IsAttempt index events place number event → IsDoubtful event
+        → (entries_numbered (place + 1) (number + 1) history ≡ []) ⊎ ((entry : Entry) × IsEntryWanted base (place + 1) event entry × (entries_numbered (place + 1) (number + 1) history ≡ entry ∷ [])) }
 {}
 
 /// The history has no entry that no line asked for.

@@ -90,7 +90,9 @@ impl Host for TableHost {
         requires { length (things_back self.old.lent) + length doors.items ≤ length (things_given self.old.lent) }
         ensures took { things_back self.new.lent ≡ things_back self.old.lent ++ doors.items }
         ensures gave { things_given self.new.lent ≡ things_given self.old.lent }
-        ensures rest { self.new.base ≡ self.old.base }
+        ensures base { self.new.base ≡ self.old.base }
+        ensures doors { self.new.doors ≡ self.old.doors }
+        ensures alloc { self.new.alloc ≡ self.old.alloc }
     {
         self.lent.take_back(doors.as_slice());
         let _appended = self.back.append(&mut doors);

@@ -88,9 +88,9 @@ module _ {E K J : Type 0} (door : DoorWords E K) (link : LinkWords K) (schema : 
         histories = λ index end note at noted well.
             let found = mapped_at any_ended ends index end at in
             is.histories index found.0 note found.1 (ap (λ (e : AnyEnded D). e.note) found.2 ∙ noted) (subst (λ (e : AnyEnded D). IsUnstrayed e.answer) (sym found.2) well);
-        settled = λ index end note place own at noted own_at.
+        settled = λ index end note at noted.
             let found = mapped_at any_ended ends index end at in
-            is.settled index found.0 note place own found.1 (ap (λ (e : AnyEnded D). e.note) found.2 ∙ noted) own_at;
+            is.settled index found.0 note found.1 (ap (λ (e : AnyEnded D). e.note) found.2 ∙ noted);
         strays = λ index end at.
             let found = mapped_at any_ended ends index end at in
             subst (λ (n : ℕ). RestsOn disk (schema index) (base index) index n (tokens_at index is.left) (map events_of is.services) end.disk end.note end.answer) (sym many)

@@ -9,7 +9,7 @@ use Rattle.snap_share.specs.Engines.{EngineValue}
 use Rattle.step_line.specs.Tallies.{TallyValue}
 
 abbrev pub plain : Schema
-plain = record { name = []; fields = []; attrs = []; zones = []; sp = false }
+plain = record { name = []; fields = []; attrs = []; zones = []; sp = false; min_prefix = 0 }
 
 -- The token is one of the engine's, and the index has no columns.
 pub record IsUser (schema : ℕ → Schema) (engine : EngineValue) (token : TokenValue) : Type 0 where

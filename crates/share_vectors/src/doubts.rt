@@ -27,7 +27,7 @@ const TOLD: [[u64; 5]; 5] = [
 ];
 
 /// What became of a commit.
-fn word_of<J: Naming>(answer: &Result<Committed<J>, CommitFault<J>>) -> u64 {
+pub(crate) fn word_of<J: Naming>(answer: &Result<Committed<J>, CommitFault<J>>) -> u64 {
     match answer {
         Ok(_) => 0,
         Err(CommitFault::Refused) => 1,

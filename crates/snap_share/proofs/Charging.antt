@@ -109,7 +109,7 @@ module _ (schema : Schema) (base : Base) (old mid : TokenValue) (f s : List ℕ)
   answered ops (Err faults.Refused) is = advances old.made old.entered is
   answered ops (Err (faults.InDoubt doubt)) is = (
     advances (old.made + 1) mid.entered is.0,
-    record { entry = is.1.entry; snapshot = is.1.snapshot; removed = is.1.removed; becomes = is.1.becomes; seq = is.1.seq; counts = is.1.counts; entered = is.1.entered },
+    record { entry = is.1.entry; snapshot = is.1.snapshot; removed = is.1.removed; becomes = is.1.becomes; seq = is.1.seq; counts = is.1.counts; leaves = record { entered = is.1.leaves.entered; before = is.1.leaves.before } },
   )
 
   reshaped : {J : Type 0} (new : NewChunkValue) (result : Result FrontValue (InstallFault J)) → ReshapeAnswers {J = J} schema base old new result mid → ReshapeAnswers {J = J} schema base old new result (record mid { faults = f; stops = s })
@@ -120,7 +120,7 @@ module _ (schema : Schema) (base : Base) (old mid : TokenValue) (f s : List ℕ)
   reshaped new (Err (endings.Overtaken shape note)) is = (advances old.made old.entered is.0, noted note is.1, is.2, is.3)
   reshaped new (Err (endings.Full full)) is = (advances old.made old.entered is.0, is.1, is.2)
   reshaped new (Err endings.DiskFault) is = advances old.made old.entered is
-  reshaped new (Err endings.InDoubt) is = (advances old.made mid.entered is.0, record { snapshot = is.1.snapshot; entered = is.1.entered })
+  reshaped new (Err endings.InDoubt) is = (advances old.made mid.entered is.0, record { snapshot = is.1.snapshot; leaves = record { entered = is.1.leaves.entered; before = is.1.leaves.before } })
 
 -- what is said of a commit before it is charged holds afterwards
 pub answered_so : {J : Type 0} (schema : Schema) (base : Base) (old : TokenValue) (ops : List TxnOp) (result : Result (Committed J) (CommitFault J)) (charge : Charge) (mid after : TokenValue) → Charges charge mid after → Answers {J = J} schema base old ops result mid → Answers {J = J} schema base old ops result after

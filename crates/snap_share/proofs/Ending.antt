@@ -22,7 +22,8 @@ use Rattle.store_keep.specs.Charges.{IsBacked, MayHaveStopped}
 use Rattle.store_keep.specs.Commits.{front_of}
 use Rattle.store_keep.specs.Tellings.{AreTokensOf, IsTold, first_stray}
 use Rattle.store_keep.proofs.Telling.{all_have}
-use Rattle.snap_share.specs.Closings.{Closes, EndsBy, HasKept, IsOnLine, IsStoppedByNumbers, Keeps, Says, SharesFit, WorkersDiffer}
+use Rattle.snap_share.specs.Closings.{Closes, HasKept, IsOnLine, IsStoppedByNumbers, Keeps, Says, SharesFit, WorkersDiffer}
+use Rattle.snap_share.specs.steps.Endings.{EndsBy}
 use Rattle.snap_share.specs.steps.Takings.{HasTaken}
 
 -- tokens of an index and its workers are those of its line

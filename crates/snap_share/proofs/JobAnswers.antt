@@ -10,7 +10,7 @@ use Rattle.step_book.proofs.Prefixes.{prefix_trans}
 use Rattle.step_history.specs.History.{Base, Step, IsGood, last_snapshot, made_by}
 use Rattle.step_history.proofs.Counts.{add_up}
 use Rattle.step_line.specs.Lines.{LineValue, entered, settled}
-use Rattle.step_tokens.specs.Tokens.{TokenValue}
+use Rattle.step_tokens.specs.Tokens.{Agrees, TokenValue}
 use Rattle.store_steps.specs.declared.files.Files.{Files}
 use Rattle.store_keep.specs.Answers.{AnswersInstall}
 use Rattle.store_keep.specs.Charges.{charge_of_job}
@@ -70,10 +70,10 @@ module _ (schema : Schema) (base : Base) (line : LineValue) (token : TokenValue)
         subst (λ (t : TokenValue). IsReshaped token new t) (sym same) (record { earlier = line.history; snapshot = installed base line new; last = refl; before = begins }),
       )
 
-  unended : (new : NewChunkValue) (after : TokenValue) → after ≡ record token { seen = line.history; entered = Some (line.history ++ end_of base line new ∷ []) } → IsGood schema base after.seen → Advances schema base token after token.made after.entered × IsJobInDoubt new after
-  unended new after same good = (
+  unended : (new : NewChunkValue) (after : TokenValue) → after ≡ record token { seen = line.history; entered = Some (line.history ++ end_of base line new ∷ []) } → Agrees token.entered (line.history ++ end_of base line new ∷ []) → IsGood schema base after.seen → Advances schema base token after token.made after.entered × IsJobInDoubt token new after
+  unended new after same agrees good = (
     subst (λ (e : Option (List Step)). Advances schema base token after token.made e) (sym (ap (λ (t : TokenValue). t.entered) same)) (moved after (Some (line.history ++ end_of base line new ∷ [])) same good),
-    subst (λ (t : TokenValue). IsJobInDoubt new t) (sym same) (record { snapshot = installed base line new; entered = refl }),
+    subst (λ (t : TokenValue). IsJobInDoubt token new t) (sym same) (record { snapshot = installed base line new; leaves = record { entered = refl; before = agrees } }),
   )
 
   -- what is said behind a line in which nothing waits, of a token that has seen all of it
@@ -90,7 +90,7 @@ module _ (schema : Schema) (base : Base) (line : LineValue) (token : TokenValue)
   )
   ends_so files new before now (Err (faults.Full full)) next kept after ends good = let only = root_only files full ends.2 in (moved after token.entered ends.0.token_is good, only.0, only.1)
   ends_so files new before now (Err faults.DiskFault) next kept after ends good = moved after token.entered ends.0.token_is good
-  ends_so files new before now (Err faults.InDoubt) next kept after ends good = unended new after ends.2 good
+  ends_so files new before now (Err faults.InDoubt) next kept after ends good = unended new after ends.2 ends.3 good
 
 stray_so : {J : Type 0} (schema : Schema) (base : Base) (line : LineValue) (token : TokenValue) (new : NewChunkValue) (before : ℕ) (result : Result FrontValue (InstallFault J)) (next : LineValue) (after : TokenValue) (now : ℕ) → token.index ≡ line.index → IsStrayJob {J = J} base line token before result next after now
     → ReshapeAnswers {J = J} schema base token new result after

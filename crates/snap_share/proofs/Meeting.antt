@@ -1,11 +1,11 @@
 -- What a token tells once it has learnt a history: what it had seen before, and what it left in doubt, are of one line with that.
-use Rattle.std.proofs.Common.{◌≡◌, ◌⊎◌, ⊎_elim, inl, inr, Bool, true, false, nat_le, List, length, Option, Some, None, IfSome, refl, subst, arith}
+use Rattle.std.proofs.Common.{◌≡◌, ◌⊎◌, ⊎_elim, inl, inr, Bool, true, false, nat_le, List, length, Option, Some, None, refl, subst, arith}
 use Rattle.std.proofs.lemmas.Bool.Decides.{nat_tests}
 use mathlib.Core.List.{IsPrefix}
 use Rattle.step_book.proofs.Prefixes.{prefix_shorter, prefix_trans}
 use Rattle.step_history.specs.History.{Step}
-use Rattle.step_tokens.specs.Tokens.{HasCome, TokenValue}
-use Rattle.snap_share.specs.Closings.{AreOnOneLine, IsOnLine}
+use Rattle.step_tokens.specs.Tokens.{Agrees, AreOnOneLine, HasCome, TokenValue}
+use Rattle.snap_share.specs.Closings.{IsOnLine}
 
 -- two beginnings of one history
 one_line : (one other whole : List Step) → IsPrefix one whole → IsPrefix other whole → AreOnOneLine one other
@@ -19,7 +19,7 @@ had_seen : (old new steps : List Step) → (new ≡ old) ⊎ (new ≡ steps) →
 had_seen old new steps one before told =
     ⊎_elim (λ same. inr (subst (λ (s : List Step). IsPrefix steps s) same told)) (λ is. inl (subst (λ (s : List Step). IsPrefix old s) is before)) one
 
-had_entered : (entered : Option (List Step)) (seen steps : List Step) (come : Bool) → HasCome entered seen come → IsPrefix steps seen → IfSome entered (λ (e : List Step). AreOnOneLine e steps)
+had_entered : (entered : Option (List Step)) (seen steps : List Step) (come : Bool) → HasCome entered seen come → IsPrefix steps seen → Agrees entered steps
 had_entered None seen steps come has told = tt
 had_entered (Some entered) seen steps true has told = one_line entered steps seen has told
 had_entered (Some entered) seen steps false has told = inr (prefix_trans steps seen entered told has.0)

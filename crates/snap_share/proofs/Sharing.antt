@@ -13,7 +13,7 @@ use Rattle.step_book.proofs.Prefixes.{prefix_self, prefix_trans, prefix_whole}
 use Rattle.step_history.specs.History.{Base, Step, Commit, IsGood, last_snapshot, made_by}
 use Rattle.step_history.proofs.Counts.{add_up}
 use Rattle.step_line.specs.Lines.{LineValue, entered, settled, with_waiting}
-use Rattle.step_tokens.specs.Tokens.{TokenValue}
+use Rattle.step_tokens.specs.Tokens.{Agrees, TokenValue}
 use Rattle.store_steps.specs.Answers.{Becomes}
 use Rattle.store_keep.specs.Answers.{AnswersCommit}
 use Rattle.store_keep.specs.Charges.{charge_of}
@@ -81,11 +81,11 @@ module _ (schema : Schema) (base : Base) (line : LineValue) (token : TokenValue)
   noted after note is told =
       subst (λ (t : TokenValue). IsNoteOf t note) (sym is) (record { is = told ∙ ap (λ (i : ℕ). record { index = i; steps = line.history }) (sym of); counts = sym counts })
 
-  in_doubt : (removed number : ℕ) (step : Step) (after : TokenValue) (is : IsCommit base line worker ops removed number step) → after ≡ record token { seen = line.history; made = token.made + 1; entered = Some (line.history ++ step ∷ []) } → IsGood schema base after.seen
-      → Advances schema base token after (token.made + 1) after.entered × IsInDoubt base ops after
-  in_doubt removed number step after is same good = (
+  in_doubt : (removed number : ℕ) (step : Step) (after : TokenValue) (is : IsCommit base line worker ops removed number step) → after ≡ record token { seen = line.history; made = token.made + 1; entered = Some (line.history ++ step ∷ []) } → Agrees token.entered (line.history ++ step ∷ []) → IsGood schema base after.seen
+      → Advances schema base token after (token.made + 1) after.entered × IsInDoubt base ops token after
+  in_doubt removed number step after is same agrees good = (
     subst (λ (e : Option (List Step)). Advances schema base token after (token.made + 1) e) (sym (ap (λ (t : TokenValue). t.entered) same)) (moved after (token.made + 1) (Some (line.history ++ step ∷ [])) same good),
-    subst (λ (t : TokenValue). IsInDoubt base ops t) (sym same)
+    subst (λ (t : TokenValue). IsInDoubt base ops token t) (sym same)
         (record {
           entry = is.entry;
           snapshot = is.snapshot;
@@ -93,7 +93,7 @@ module _ (schema : Schema) (base : Base) (line : LineValue) (token : TokenValue)
           becomes = becomes_own removed number step is;
           seq = next_seq removed number step is;
           counts = ap (λ (m : ℕ). m + 1) (sym counts);
-          entered = ap (λ (s : Step). Some (line.history ++ s ∷ [])) is.is;
+          leaves = record { entered = ap (λ (s : Step). Some (line.history ++ s ∷ [])) is.is; before = subst (λ (s : Step). Agrees token.entered (line.history ++ s ∷ [])) is.is agrees };
         }),
   )
 
@@ -142,8 +142,8 @@ module _ {J : Type 0} (schema : Schema) (base : Base) (line : LineValue) (token 
     subst (λ (t : TokenValue). IsOverLimit base ops full t) (sym ends.0.token_is) (record { changes = ends.1.0.0; removed = ends.1.0.1; verdict = ends.1.0.2; over = ends.1.0.3 }),
   )
   ends_so before now (Err faults.Refused) new log after ends good = moved schema base line token worker ops own of begins counts after token.made token.entered ends.4.1 good
-  ends_so before now (Err (faults.InDoubt doubts.Disk)) new log after ends good = in_doubt schema base line token worker ops own of begins counts ends.0 ends.1 ends.2 after ends.3 ends.4.1 good
-  ends_so before now (Err (faults.InDoubt doubts.Memory)) new log after ends good = in_doubt schema base line token worker ops own of begins counts ends.0 ends.1 ends.2 after ends.3 ends.4.1 good
+  ends_so before now (Err (faults.InDoubt doubts.Disk)) new log after ends good = in_doubt schema base line token worker ops own of begins counts ends.0 ends.1 ends.2 after ends.3 ends.4.1 ends.4.2 good
+  ends_so before now (Err (faults.InDoubt doubts.Memory)) new log after ends good = in_doubt schema base line token worker ops own of begins counts ends.0 ends.1 ends.2 after ends.3 ends.4.1 ends.4.2 good
 
 stray_so : {J : Type 0} (schema : Schema) (base : Base) (line : LineValue) (token : TokenValue) (ops : List TxnOp) (before : ℕ) (result : Result (Committed J) (CommitFault J)) (new : LineValue) (after : TokenValue) (now : ℕ) → token.index ≡ line.index → IsStray {J = J} base line token before result new after now
     → Answers {J = J} schema base token ops result after

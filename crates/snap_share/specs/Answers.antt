@@ -10,7 +10,7 @@ use Rattle.doc_types.specs.declared.transactions.TxnOp.{TxnOp}
 use Rattle.step_book.specs.Fronts.{FrontValue}
 use Rattle.step_history.specs.History.{Base, Step, Commit, IsGood, last_snapshot, made_by}
 use Rattle.step_line.specs.Lines.{LineValue}
-use Rattle.step_tokens.specs.Tokens.{TokenValue}
+use Rattle.step_tokens.specs.Tokens.{LeavesInDoubt, TokenValue}
 use Rattle.store_steps.specs.Answers.{Becomes}
 use Rattle.store_steps.specs.Refusals.{full_of, stray_of}
 use Rattle.store_keep.specs.Commits.{front_of}
@@ -47,15 +47,16 @@ pub record IsAcknowledged {J : Type 0} (base : Base) (old : TokenValue) (ops : L
   pub seq : entry.seq ≡ new.made
 
 -- The commit waits behind what the token has seen, where the transaction was accepted. It is the one commit that the token counts
--- beyond that, and its step stands in the index's book: the token keeps the steps with it.
-pub record IsInDoubt (base : Base) (ops : List TxnOp) (new : TokenValue) : Type 0 where
+-- beyond that, and its step stands in the index's book: the token keeps the steps with it, and what it had left in doubt before is of
+-- one line with them.
+pub record IsInDoubt (base : Base) (ops : List TxnOp) (old new : TokenValue) : Type 0 where
   pub entry : Entry
   pub snapshot : SnapshotValue
   pub removed : ℕ
   pub becomes : Becomes base new.seen new.worker ops entry snapshot removed
   pub seq : entry.seq ≡ new.made
   pub counts : made_by new.worker new.seen + 1 ≡ new.made
-  pub entered : new.entered ≡ Some (new.seen ++ Commit entry snapshot ∷ [])
+  pub leaves : LeavesInDoubt old new (new.seen ++ Commit entry snapshot ∷ [])
 
 -- The transaction was accepted, but for a limit that it would pass, the first such limit.
 pub record IsOverLimit (base : Base) (ops : List TxnOp) (full : Full) (new : TokenValue) : Type 0 where
@@ -84,4 +85,4 @@ Answers schema base old ops (Err (faults.Duplicate id note)) new =
     Advances schema base old new old.made old.entered × IsNoteOf new note × (verdict ops (live (last_snapshot base new.seen)) ≡ Duplicate id)
 Answers schema base old ops (Err (faults.Full full note)) new = Advances schema base old new old.made old.entered × IsNoteOf new note × IsOverLimit base ops full new
 Answers schema base old ops (Err faults.Refused) new = Advances schema base old new old.made old.entered
-Answers schema base old ops (Err (faults.InDoubt doubt)) new = Advances schema base old new (old.made + 1) new.entered × IsInDoubt base ops new
+Answers schema base old ops (Err (faults.InDoubt doubt)) new = Advances schema base old new (old.made + 1) new.entered × IsInDoubt base ops old new

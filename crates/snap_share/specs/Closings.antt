@@ -1,7 +1,6 @@
 -- Closings: what the end of an engine says of the disk and of the tokens.
-use Rattle.std.specs.Prelude.{◌≡◌, ◌⊎◌, ◌==◌, ℕ, ◌+◌, ◌≤◌, List, [], All, IfSome, map, sum_by, Option, Some, None, Result, Ok, Err}
+use Rattle.std.specs.Prelude.{◌≡◌, ◌⊎◌, ◌==◌, ℕ, ◌+◌, ◌≤◌, List, [], All, map, sum_by, Some, Result, Ok, Err}
 use Rattle.std.specs.List.{AllZip, Contains, IsDistinct}
-use mathlib.Core.List.{IsPrefix}
 use Rattle.srch_base.specs.declared.faults.Or.{Or}
 use Rattle.srch_base.specs.declared.faults.Or.TheVariants as causes
 use Rattle.chunk_store.specs.Images.{Image}
@@ -12,7 +11,7 @@ use Rattle.step_book.specs.Fronts.{FrontValue}
 use Rattle.step_book.specs.Tellings.{AtOpening}
 use Rattle.step_history.specs.History.{Base, Step}
 use Rattle.step_line.specs.Lines.{IsLine, LineValue}
-use Rattle.step_tokens.specs.Tokens.{TokenValue, faults_of, stops_of}
+use Rattle.step_tokens.specs.Tokens.{Agrees, AreOnOneLine, TokenValue, faults_of, stops_of}
 use Rattle.store_steps.specs.Kept.{GivesEither, IsKept}
 use Rattle.store_steps.specs.declared.files.Files.{Files}
 use Rattle.store_keep.specs.Charges.{HasEnded, IsAtEnd}
@@ -27,11 +26,6 @@ Keeps words schema base disk line = (x : Image) → words.may_leave disk x → G
 abbrev pub HasKept : {D : Type 0} → DiskWords D → Schema → Base → D → LineValue → Type 0
 HasKept words schema base disk line = (files : Files) × IsKept words schema base line.history line.waiting disk files
 
--- Of the contradictions that workers were told, the one that a keeper holds is one: it was told; or it holds none, and none was.
-abbrev pub WasTold : List Strayed → Option Strayed → Type 0
-WasTold told None = told ≡ []
-WasTold told (Some numbers) = Contains told numbers
-
 -- The line is one of the index and of so many workers, and the disk keeps it: the files hold its history, and the step that waits as
 -- it does.
 pub record IsLeft {D : Type 0} (words : DiskWords D) (schema : Schema) (base : Base) (index workers : ℕ) (disk : D) (line : LineValue) : Type 0 where
@@ -41,14 +35,10 @@ pub record IsLeft {D : Type 0} (words : DiskWords D) (schema : Schema) (base : B
   pub gives : Keeps words schema base disk line
   pub kept : HasKept words schema base disk line
 
--- of two beginnings of one history one begins the other
-abbrev pub AreOnOneLine : List Step → List Step → Type 0
-AreOnOneLine one other = IsPrefix one other ⊎ IsPrefix other one
-
 -- What the token had seen is of one line with these steps, and so are the steps that it left in doubt.
 pub record IsOnLine (steps : List Step) (token : TokenValue) : Type 0 where
   pub seen : AreOnOneLine token.seen steps
-  pub entered : IfSome token.entered (λ entered. AreOnOneLine entered steps)
+  pub entered : Agrees token.entered steps
 
 -- no two of the tokens are of one worker
 abbrev pub WorkersDiffer : List TokenValue → Type 0
@@ -82,12 +72,6 @@ abbrev pub Says : Base → AtOpening → List Strayed → List TokenValue → Li
 Says base opened told old line now (Ok done) new = (told ≡ []) × AllZip (HasSeenAll line) old new × All (IsStoppedByNumbers opened line now) old
 Says base opened told old line now (Err (causes.Fault numbers)) new = Strays base line told old numbers
 Says base opened told old line now (Err causes.NoMemory) new = AllZip (HasSeenAll line) old new
-
--- What is answered by the contradiction that a keeper holds, those that workers were told, and the first that a token shows.
-abbrev pub EndsBy : Option Strayed → List Strayed → Option Strayed → Result (Unit {0}) (Or Strayed) → Type 0
-EndsBy held told stray (Ok done) = (held ≡ None) × (told ≡ []) × (stray ≡ None)
-EndsBy held told stray (Err (causes.Fault numbers)) = Contains told numbers ⊎ (stray ≡ Some numbers)
-EndsBy held told stray (Err causes.NoMemory) = stray ≡ None
 
 -- What the end leaves and says, by the first contradiction that a call told each worker, where one did.
 abbrev pub Closes : {D : Type 0} → DiskWords D → (ℕ → Schema) → (ℕ → Base) → (ℕ → AtOpening) → ℕ → ℕ → List Strayed → List TokenValue → D → FrontValue → Result (Unit {0}) (Or Strayed) → List TokenValue → Type 0

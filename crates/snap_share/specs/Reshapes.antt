@@ -7,7 +7,7 @@ use Rattle.doc_types.specs.declared.schema.Schema.{Schema}
 use Rattle.job_chunks.specs.Chunks.{NewChunkValue}
 use Rattle.step_book.specs.Fronts.{FrontValue}
 use Rattle.step_history.specs.History.{Base, Step, Reshape, last_snapshot}
-use Rattle.step_tokens.specs.Tokens.{TokenValue}
+use Rattle.step_tokens.specs.Tokens.{LeavesInDoubt, TokenValue}
 use Rattle.store_keep.specs.declared.install_fault.InstallFault.{InstallFault}
 use Rattle.store_keep.specs.declared.install_fault.InstallFault.TheVariants as faults
 use Rattle.snap_share.specs.Answers.{Advances, Contradicts, IsNoteOf, Stays}
@@ -20,10 +20,11 @@ pub record IsReshaped (old : TokenValue) (new : NewChunkValue) (after : TokenVal
   pub last : after.seen ≡ earlier ++ Reshape new.job new.from.number snapshot ∷ []
   pub before : IsPrefix old.seen earlier
 
--- The end of the job waits behind what the token has seen, and its step stands in the index's book: the token keeps the steps with it.
-pub record IsJobInDoubt (new : NewChunkValue) (after : TokenValue) : Type 0 where
+-- The end of the job waits behind what the token has seen, and its step stands in the index's book: the token keeps the steps with it,
+-- and what it had left in doubt before is of one line with them.
+pub record IsJobInDoubt (old : TokenValue) (new : NewChunkValue) (after : TokenValue) : Type 0 where
   pub snapshot : SnapshotValue
-  pub entered : after.entered ≡ Some (after.seen ++ Reshape new.job new.from.number snapshot ∷ [])
+  pub leaves : LeavesInDoubt old after (after.seen ++ Reshape new.job new.from.number snapshot ∷ [])
 
 -- what the end of a job with this chunk says, and what its token is then, but for its shares
 abbrev pub ReshapeAnswers : {J : Type 0} → Schema → Base → TokenValue → NewChunkValue → Result FrontValue (InstallFault J) → TokenValue → Type 0
@@ -34,4 +35,4 @@ ReshapeAnswers schema base old new (Err (faults.Overtaken shape note)) after =
     Advances schema base old after old.made old.entered × IsNoteOf after note × ((last_snapshot base after.seen).shape ≡ shape) × (new.from.shape < shape)
 ReshapeAnswers schema base old new (Err (faults.Full full)) after = Advances schema base old after old.made old.entered × (full.what ≡ limits.Root) × (full.need ≡ 1)
 ReshapeAnswers schema base old new (Err faults.DiskFault) after = Advances schema base old after old.made old.entered
-ReshapeAnswers schema base old new (Err faults.InDoubt) after = Advances schema base old after old.made after.entered × IsJobInDoubt new after
+ReshapeAnswers schema base old new (Err faults.InDoubt) after = Advances schema base old after old.made after.entered × IsJobInDoubt old new after

@@ -3,7 +3,8 @@ ghost use Rattle.std.specs.Prelude.{◌≡◌, All, IsTrue};
 ghost use Rattle.std.specs.Bool.{Decides};
 ghost use Rattle.std.specs.List.{AllByRecursion, AllZip};
 ghost use Rattle.store_keep.specs.Tellings.{AreOfIndex, IsTold};
-ghost use Rattle.snap_share.specs.Closings.{EndsBy, IsOnLine, WasTold};
+ghost use Rattle.snap_share.specs.Closings.{IsOnLine};
+ghost use Rattle.snap_share.specs.steps.Endings.{EndsBy, WasTold};
 ghost use Rattle.snap_share.specs.steps.Takings.{HasTaken};
 
 use commit_outcomes::Strayed;

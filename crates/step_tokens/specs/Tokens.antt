@@ -1,5 +1,5 @@
 -- Tokens: what a token remembers.
-use Rattle.std.specs.Prelude.{◌≡◌, ◌<◌, ℕ, Bool, false, List, length, Option, None, Some, MatchBool}
+use Rattle.std.specs.Prelude.{◌≡◌, ◌⊎◌, ◌<◌, ℕ, Bool, false, List, length, Option, None, Some, MatchBool}
 use mathlib.Core.List.{IsPrefix}
 use Rattle.step_book.specs.Fronts.{FrontValue}
 use Rattle.step_book.specs.Shares.{calls_by}
@@ -25,6 +25,20 @@ steps_in (Some front) = Some front.steps
 abbrev pub IsOf : ℕ → Option FrontValue → Type 0
 IsOf index None = Unit {0}
 IsOf index (Some front) = front.index ≡ index
+
+-- of two beginnings of one history one begins the other
+abbrev pub AreOnOneLine : List Step → List Step → Type 0
+AreOnOneLine one other = IsPrefix one other ⊎ IsPrefix other one
+
+-- what was left in doubt, if anything was, is of one line with these steps
+abbrev pub Agrees : Option (List Step) → List Step → Type 0
+Agrees None steps = Unit {0}
+Agrees (Some left) steps = AreOnOneLine left steps
+
+-- The token keeps these steps, the last of which it left in doubt. What it had left so before is of one line with them.
+pub record LeavesInDoubt (old new : TokenValue) (steps : List Step) : Type 0 where
+  pub entered : new.entered ≡ Some steps
+  pub before : Agrees old.entered steps
 
 -- what was left in doubt begins what was seen; or it goes beyond that, which it begins with
 abbrev pub HasCome : Option (List Step) → List Step → Bool → Type 0

@@ -6,7 +6,7 @@ ghost use Rattle.std.specs.Arc.{arc_value};
 ghost use Rattle.step_history.specs.History.{IsGood, last_snapshot};
 ghost use Rattle.step_book.specs.Shares.{calls_by};
 ghost use Rattle.step_tokens.specs.Shows.{IsShown};
-ghost use Rattle.step_tokens.specs.Tokens.{HasCome, IsSameBut, faults_of, stops_of};
+ghost use Rattle.step_tokens.specs.Tokens.{Agrees, HasCome, IsSameBut, faults_of, stops_of};
 
 use crate::note::Note;
 use crate::rule::{Finds, Idle, Rises};
@@ -33,7 +33,7 @@ pub struct Token<J: Naming> {
     made: u64,
     faults: Taken<J, Faults>,
     stops: Taken<J, Stops>,
-    /// The history with the last step that was left in doubt.
+    /// The history with the last step that was left in doubt. Those before it are of one line with that.
     entered: Option<Front<J>>,
 }
 
@@ -185,10 +185,16 @@ impl<J: Naming> Token<J> {
     }
 
     /// A commit of it was left in doubt, which is the last step of this front: it stands in the index's book, and may still be published.
+    /// What it had left in doubt before is of one line with that.
     pub fn leave(&mut self, entered: &Front<J>)
         requires { entered.now.index ≡ self.old.index }
-        ensures { self.new ≡ record self.old { entered = Some entered.now.steps } }
+        ensures left { self.new ≡ record self.old { entered = Some entered.now.steps } }
+        ensures earlier { Agrees self.old.entered entered.now.steps }
     {
+        if let Some(earlier) = &self.entered {
+            let mut longest = earlier.again();
+            longest.follow(entered);
+        }
         self.entered = Some(entered.again());
     }
 

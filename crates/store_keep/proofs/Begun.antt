@@ -147,6 +147,7 @@ begun_found words schema root old new found state_is read tells steps files_is l
         few = omega arith;
         records_are = records;
       };
+      fresh = λ image is zeroth first. ap (λ (fs : Files). fs.log.end) files_is;
       kept = λ hides.
           subst (λ (fs : Files). IsKept words schema (record { opening = snapshot; log = fs.log.end }) [] None new fs) (sym files_is) (record {
             dir = dir;
@@ -187,6 +188,7 @@ hides_then words old mid looks hides = record { hides = λ image x slot lt is le
 pub finds_then : {D : Type 0} (words : DiskWords D) (schema : Schema) (old mid new : D) (r : Result Found StoreFault) → OnlyReads words old mid → Finds words schema mid new r → Finds words schema old new r
 finds_then words schema old mid new (Ok found) looks is = record {
   said = λ image told. is.said image (looks.same ∙ told);
+  fresh = λ image told. is.fresh image (looks.same ∙ told);
   kept = λ hides. is.kept (hides_then words old mid looks hides);
   of = is.of;
   shape = is.shape;

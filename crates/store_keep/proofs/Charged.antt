@@ -42,8 +42,8 @@ ends_moves base line token worker ops before now new log after (Err (faults.Stra
 ends_moves base line token worker ops before now new log after (Err (faults.Duplicate id note)) ends = still_moves (settled line) new before now ends.0.line_is ends.0.later
 ends_moves base line token worker ops before now new log after (Err (faults.Full full note)) ends = still_moves (settled line) new before now ends.0.line_is ends.0.later
 ends_moves base line token worker ops before now new log after (Err faults.Refused) ends = still_moves (settled line) new before now ends.4.0 ends.4.2
-ends_moves base line token worker ops before now new log after (Err (faults.InDoubt doubts.Disk)) ends = put_moves line new ends.2 before now ends.4.0 ends.4.2
-ends_moves base line token worker ops before now new log after (Err (faults.InDoubt doubts.Memory)) ends = put_moves line new ends.2 before now ends.4.0 ends.4.2
+ends_moves base line token worker ops before now new log after (Err (faults.InDoubt doubts.Disk)) ends = put_moves line new ends.2 before now ends.4.0 ends.4.3
+ends_moves base line token worker ops before now new log after (Err (faults.InDoubt doubts.Memory)) ends = put_moves line new ends.2 before now ends.4.0 ends.4.3
 
 pub commits_moves : {J : Type 0} (base : Base) (line : LineValue) (token : TokenValue) (worker : ℕ) (ops : List TxnOp) (before now : ℕ) (new : LineValue) (log : GateLog) (after : TokenValue) (r : Result (Committed J) (CommitFault J))
     → Commits {J = J} base line token worker ops before r new log after now → Moves line before new now
@@ -67,7 +67,7 @@ ends_job_moves base line files token new before now next kept after (Err (ending
 ends_job_moves base line files token new before now next kept after (Err (endings.Overtaken shape note)) ends = still_moves (settled line) next before now ends.0.line_is ends.0.later
 ends_job_moves base line files token new before now next kept after (Err (endings.Full full)) ends = still_moves (settled line) next before now ends.0.line_is ends.0.later
 ends_job_moves base line files token new before now next kept after (Err endings.DiskFault) ends = still_moves (settled line) next before now ends.0.line_is ends.0.later
-ends_job_moves base line files token new before now next kept after (Err endings.InDoubt) ends = put_moves line next _ before now ends.1 ends.3
+ends_job_moves base line files token new before now next kept after (Err endings.InDoubt) ends = put_moves line next _ before now ends.1 ends.4
 
 pub installs_moves : {J : Type 0} (base : Base) (line : LineValue) (files : Files) (token : TokenValue) (new : NewChunkValue) (before now : ℕ) (next : LineValue) (kept : Files) (after : TokenValue) (r : Result FrontValue (InstallFault J))
     → Installs {J = J} base line files token new before r next kept after now → Moves line before next now
@@ -116,7 +116,7 @@ ends_rose base line token worker ops before now new log after (Err (faults.Stray
 ends_rose base line token worker ops before now new log after (Err (faults.Duplicate id note)) ends is = absurd (free_fault is)
 ends_rose base line token worker ops before now new log after (Err (faults.Full full note)) ends is = absurd (no_fault full.what is)
 ends_rose base line token worker ops before now new log after (Err faults.Refused) ends is = ends.4.3
-ends_rose base line token worker ops before now new log after (Err (faults.InDoubt doubts.Disk)) ends is = ends.4.3
+ends_rose base line token worker ops before now new log after (Err (faults.InDoubt doubts.Disk)) ends is = ends.4.4
 ends_rose base line token worker ops before now new log after (Err (faults.InDoubt doubts.Memory)) ends is = absurd (free_fault is)
 
 pub commits_rose : {J : Type 0} (base : Base) (line : LineValue) (token : TokenValue) (worker : ℕ) (ops : List TxnOp) (before now : ℕ) (new : LineValue) (log : GateLog) (after : TokenValue) (r : Result (Committed J) (CommitFault J))

@@ -1,5 +1,5 @@
 -- What was read of a disk is what it keeps.
-use Rattle.std.proofs.Common.{◌≡◌, ◌≢◌, ℕ, zero, suc, ◌<◌, List, [], ◌∷◌, Option, Some, None, Result, Ok, Err, refl, sym, ◌∙◌, ap, subst, arith, length, length-append, map, not, nat_lt}
+use Rattle.std.proofs.Common.{inl, inr, ◌≡◌, ◌≢◌, ℕ, zero, suc, ◌<◌, List, [], ◌∷◌, ◌++◌, Option, Some, None, Result, Ok, Err, refl, sym, ◌∙◌, ap, subst, arith, length, length-append, map, not, nat_lt}
 use Rattle.std.specs.Arc.{arc_value}
 use Rattle.chunk_store.proofs.WholeFiles.{looks_then}
 use Rattle.chunk_store.specs.Calls.{OnlyReads}
@@ -9,7 +9,7 @@ use Rattle.doc_types.specs.declared.schema.Schema.{Schema}
 use Rattle.gate_log.proofs.Standing.{gives_records}
 use Rattle.gate_log.specs.Logs.{IsLogOf, spelled}
 use Rattle.gate_log.specs.declared.records.LogRecord.{LogRecord}
-use Rattle.root_slots.specs.Slots.{slots_of}
+use Rattle.root_slots.specs.Slots.{IsRoot, Slot, Slots, slots_of, tail}
 use Rattle.root_slots.specs.States.{IsState}
 use Rattle.root_slots.specs.declared.root.Root.{Root}
 use Rattle.root_slots.specs.declared.state.RootState.{RootState}
@@ -58,6 +58,14 @@ agrees schema dir number root told may image x is left steady image_is zeroth fi
   newer = steady.newer image is (log_there (map record_of dir.newer) (image dir.state.newer) (gives_records (log_in dir) (map record_of dir.newer) (image dir.state.newer) refl image_is.newer)) x left;
 }
 
+-- a root that is read has a file
+no_bytes : (file : Option (List ℕ)) (b : ℕ) (bytes : List ℕ) → contents file ≡ b ∷ bytes → file ≡ None → ⊥
+no_bytes file b bytes is none = let empty : [] ≡ b ∷ bytes = sym (ap contents none) ∙ is in cc empty
+
+open_there : (s : Slot) (slots : Slots) → IsRoot (Some s) slots → slots.zeroth ≡ None → slots.first ≡ None → ⊥
+open_there s slots (inl (opened, below)) zeroth first = no_bytes slots.zeroth 1 (tail s ++ opened.rest) opened.is zeroth
+open_there s slots (inr (opened, below)) zeroth first = no_bytes slots.first 1 (tail s ++ opened.rest) opened.is first
+
 -- a directory that was read of steady files is found, and kept
 pub found_is : {D : Type 0} (words : DiskWords D) (schema : Schema) (root : Root) (state : RootState) (old new : D) (found : Found) → IsState state → IsRootRead (words.told old) (words.may_leave old) root (Some state) → OnlyReads words old new → AreSteady state (words.told new) (words.may_leave new)
     → IsDirectory schema root state (words.told new) found → ((x : Image) → words.may_leave new x → (image : Image) × (words.told new ≡ Some image)) → IsFound words schema old new found
@@ -88,6 +96,9 @@ found_is words schema root state old new found state_is slots looks steady read 
             few = read.few;
             records_are = read.records_are;
           };
+      fresh = λ image is zeroth first.
+          absurd (open_there (record { number = root.number; state = state }) (slots_of image)
+          (root_leaves root (Some (record { number = root.number; state = state })) None (slots_of image) (slots.opens image is).stands) zeroth first);
       kept = λ hides.
           subst (λ (fs : Files). IsKept words schema (record { opening = snapshot; log = fs.log.end }) [] None new fs) (sym read.files_are)
           (begins words schema base new files dir root.number (subst IsState (sym read.state_is) state_is) read.in_order read.reaches read.says refl (sym read.state_is) (ap (λ (s : RootState). s.next_file) (sym read.state_is)) refl refl refl refl read.image

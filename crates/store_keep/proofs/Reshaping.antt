@@ -23,7 +23,7 @@ use Rattle.step_book.proofs.Prefixes.{prefix_whole}
 use Rattle.step_history.proofs.Steps.{shape_up}
 use Rattle.step_history.specs.History.{Base, IsGood, Reshape, Step, last_snapshot}
 use Rattle.step_line.specs.Lines.{LineValue, MayFollow, entered, settled, with_waiting}
-use Rattle.step_tokens.specs.Tokens.{TokenValue}
+use Rattle.step_tokens.specs.Tokens.{Agrees, TokenValue}
 use Rattle.store_steps.specs.Kept.{GivesEither, IsKept, LeavesOnly}
 use Rattle.store_steps.proofs.Leaving.{leaves_weaker}
 use Rattle.store_steps.specs.declared.files.Files.{Files}
@@ -163,7 +163,7 @@ pub job_ended : {J : Type 0} (base : Base) (line mid : LineValue) (files : Files
     → mid ≡ record line { waiting = Some (end_of base line new) } → HasRoom base line files new → before ≤ between → kept.sure ≡ true → FinishesJob {J = J} mid token between r next after now → EndsJob {J = J} base line files token new before r next kept after now
 job_ended base line mid files token new before between now (Ok note) next kept after is room le sure ends = (room, ends.0 ∙ ap settled is, ends.1, ends.2, omega (arith, le, ends.3), sure)
 job_ended base line mid files token new before between now (Err faults.InDoubt) next kept after is room le sure ends =
-    (room, ends.0 ∙ is, ends.1 ∙ ap (λ (l : LineValue). record token { entered = Some (entered l) }) is, omega (arith, le, ends.2), sure)
+    (room, ends.0 ∙ is, ends.1 ∙ ap (λ (l : LineValue). record token { entered = Some (entered l) }) is, subst (λ (l : LineValue). Agrees token.entered (entered l)) is ends.2, omega (arith, le, ends.3), sure)
 job_ended base line mid files token new before between now (Err faults.NoMemory) next kept after is room le sure ends = absurd ends
 job_ended base line mid files token new before between now (Err (faults.Strayed strayed note)) next kept after is room le sure ends = absurd ends
 job_ended base line mid files token new before between now (Err (faults.Overtaken shape note)) next kept after is room le sure ends = absurd ends
@@ -199,7 +199,7 @@ with_files base line files log token new before now (Err (faults.Strayed strayed
 with_files base line files log token new before now (Err (faults.Overtaken shape note)) next kept after ends = ends
 with_files base line files log token new before now (Err (faults.Full full)) next kept after ends = ends
 with_files base line files log token new before now (Err faults.DiskFault) next kept after ends = ends
-with_files base line files log token new before now (Err faults.InDoubt) next kept after ends = (same_room base line files log new ends.0, ends.1, ends.2, ends.3, ends.4)
+with_files base line files log token new before now (Err faults.InDoubt) next kept after ends = (same_room base line files log new ends.0, ends.1, ends.2, ends.3, ends.4, ends.5)
 
 pub after_job : {J : Type 0} (base : ℕ → Base) (line mid : LineValue) (files mid_files : Files) (log : GateLog) (token taught : TokenValue) (new : NewChunkValue) (before between now : ℕ) (r : Result FrontValue (InstallFault J)) (next : LineValue) (kept : Files) (after : TokenValue)
     → stray_of (base line.index) line token ≡ None → mid ≡ settled line → mid_files ≡ record files { log = log } → Learns token taught token.made mid.history → before ≤ between → EndsJob {J = J} (base mid.index) mid mid_files taught new between r next kept after now

@@ -17,7 +17,7 @@ use Rattle.gate_log.specs.declared.log.GateLog.{GateLog}
 use Rattle.step_book.specs.Fronts.{FrontValue}
 use Rattle.step_history.specs.History.{Base, Step, Commit, last_snapshot}
 use Rattle.step_line.specs.Lines.{LineValue, entered, settled}
-use Rattle.step_tokens.specs.Tokens.{TokenValue}
+use Rattle.step_tokens.specs.Tokens.{Agrees, TokenValue}
 use Rattle.store_steps.specs.Answers.{Becomes}
 use Rattle.store_steps.specs.Kept.{Gives}
 use Rattle.store_steps.specs.Refusals.{full_of, stray_of}
@@ -68,12 +68,13 @@ Refuses base line ops faults.Refused = ⊥
 Refuses base line ops (faults.InDoubt doubt) = ⊥
 
 -- What making a commit of this step says and leaves. In doubt by the disk is one whose record is staged: its gate couldn't be opened.
--- In doubt by memory is one whose record isn't, since it is on the disk for good. The token keeps the steps with the one in doubt.
+-- In doubt by memory is one whose record isn't, since it is on the disk for good. The token keeps the steps with the one in doubt;
+-- what it had left so before is of one line with them.
 abbrev pub Makes : {J : Type 0} → LineValue → TokenValue → Step → ℕ → ℕ → ℕ → Result (Committed J) (CommitFault J) → LineValue → GateLog → TokenValue → ℕ → Type 0
 Makes line token step number removed before (Ok made) new log after now =
     (new ≡ settled (record line { waiting = Some step })) × (made.note ≡ front_of new) × (made.number ≡ number) × (made.removed ≡ removed) × Learns token after (token.made + 1) new.history × (before ≤ now)
-Makes line token step number removed before (Err (faults.InDoubt doubts.Disk)) new log after now = (new ≡ record line { waiting = Some step }) × (after ≡ record token { made = token.made + 1; entered = Some (line.history ++ step ∷ []) }) × (before ≤ now) × Rose before now × (log.staged ≢ None)
-Makes line token step number removed before (Err (faults.InDoubt doubts.Memory)) new log after now = (new ≡ record line { waiting = Some step }) × (after ≡ record token { made = token.made + 1; entered = Some (line.history ++ step ∷ []) }) × (before ≤ now) × (log.staged ≡ None)
+Makes line token step number removed before (Err (faults.InDoubt doubts.Disk)) new log after now = (new ≡ record line { waiting = Some step }) × (after ≡ record token { made = token.made + 1; entered = Some (line.history ++ step ∷ []) }) × Agrees token.entered (line.history ++ step ∷ []) × (before ≤ now) × Rose before now × (log.staged ≢ None)
+Makes line token step number removed before (Err (faults.InDoubt doubts.Memory)) new log after now = (new ≡ record line { waiting = Some step }) × (after ≡ record token { made = token.made + 1; entered = Some (line.history ++ step ∷ []) }) × Agrees token.entered (line.history ++ step ∷ []) × (before ≤ now) × (log.staged ≡ None)
 Makes line token step number removed before (Err faults.Refused) new log after now = (new ≡ line) × (after ≡ token) × (before ≤ now) × Rose before now
 Makes line token step number removed before (Err fault) new log after now = ⊥
 

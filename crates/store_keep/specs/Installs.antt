@@ -11,7 +11,7 @@ use Rattle.reshape_laws.specs.Rebasing.{rebased}
 use Rattle.step_book.specs.Fronts.{FrontValue}
 use Rattle.step_history.specs.History.{Base, Step, Reshape, last_snapshot}
 use Rattle.step_line.specs.Lines.{LineValue, entered, settled}
-use Rattle.step_tokens.specs.Tokens.{TokenValue}
+use Rattle.step_tokens.specs.Tokens.{Agrees, TokenValue}
 use Rattle.store_steps.specs.Refusals.{stray_of}
 use Rattle.store_steps.specs.declared.files.Files.{Files}
 use Rattle.store_keep.specs.Commits.{IsSame, Learns, front_of}
@@ -44,7 +44,7 @@ pub record HasRoom (base : Base) (line : LineValue) (files : Files) (new : NewCh
   pub numbers : full_root files ≡ None
 
 -- what the end of a job says and leaves behind a line in which nothing waits: once the root was replaced, no state is in doubt.
--- Where the job is in doubt, the token keeps the steps with it.
+-- Where the job is in doubt, the token keeps the steps with it; what it had left so before is of one line with them.
 abbrev pub EndsJob : {J : Type 0} → Base → LineValue → Files → TokenValue → NewChunkValue → ℕ → Result FrontValue (InstallFault J) → LineValue → Files → TokenValue → ℕ → Type 0
 EndsJob base line files token new before (Ok note) next kept after now =
     HasRoom base line files new × (next ≡ settled (record line { waiting = Some (end_of base line new) })) × (note ≡ front_of next) × Learns token after token.made next.history × (before ≤ now) × (kept.sure ≡ true)
@@ -53,7 +53,7 @@ EndsJob base line files token new before (Err (faults.Strayed strayed note)) nex
 EndsJob base line files token new before (Err (faults.Overtaken shape note)) next kept after now = IsSame line token before next after now × (shape ≡ shape_of base line) × (new.from.shape < shape) × (note ≡ front_of line)
 EndsJob base line files token new before (Err (faults.Full full)) next kept after now = IsSame line token before next after now × (shape_of base line ≡ new.from.shape) × (full_root files ≡ Some full)
 EndsJob base line files token new before (Err faults.DiskFault) next kept after now = IsSame line token before next after now × Rose before now
-EndsJob base line files token new before (Err faults.InDoubt) next kept after now = HasRoom base line files new × (next ≡ record line { waiting = Some (end_of base line new) }) × (after ≡ record token { entered = Some (line.history ++ end_of base line new ∷ []) }) × (before ≤ now) × (kept.sure ≡ true)
+EndsJob base line files token new before (Err faults.InDoubt) next kept after now = HasRoom base line files new × (next ≡ record line { waiting = Some (end_of base line new) }) × (after ≡ record token { entered = Some (line.history ++ end_of base line new ∷ []) }) × Agrees token.entered (line.history ++ end_of base line new ∷ []) × (before ≤ now) × (kept.sure ≡ true)
 
 -- The token contradicts the keeper, and nothing was done. The answer has a note of the history that it contradicts.
 pub record IsStrayJob {J : Type 0} (base : Base) (line : LineValue) (token : TokenValue) (before : ℕ) (result : Result FrontValue (InstallFault J)) (next : LineValue) (after : TokenValue) (now : ℕ) : Type 0 where

@@ -35,6 +35,10 @@ pub record IsOpened {D : Type 0} (words : DiskWords D) (schema : Schema) (opened
   pub shape : (arc_value opened.snapshot).shape ≡ 0
   pub documents_are : opened.documents ≡ finite.len (live (arc_value opened.snapshot))
 
+-- Where neither file of a root is there, an index begins: a log that ends here has no record.
+abbrev pub BeginsAt : ℕ → Image → Type 0
+BeginsAt end image = image 0 ≡ None → image 1 ≡ None → end ≡ 0
+
 -- No slot was open, and the image stands for an index without documents.
 pub record IsBegun (schema : Schema) (told : Option Image) (x : Image) : Type 0 where
   pub none : Told (λ image. IsRoot None (slots_of image)) told

@@ -7,7 +7,7 @@ ghost use Rattle.chunk_store.specs.Calls.{OnlyReads};
 ghost use Rattle.chunk_store.specs.Images.{Told};
 ghost use Rattle.doc_types.specs.Schemas.{IsSchema};
 ghost use Rattle.root_slots.specs.States.{IsState};
-ghost use Rattle.store_keep.specs.Opens.{HasStoreCause, HidesNothing, IsFoundIn, IsOpened, LeavesBegun, SaysDamage, disk_of};
+ghost use Rattle.store_keep.specs.Opens.{BeginsAt, HasStoreCause, HidesNothing, IsFoundIn, IsOpened, LeavesBegun, SaysDamage, base_of, disk_of};
 ghost use Rattle.store_keep.specs.steps.Finds.{AreSteady, Finds, IsRootRead, IsSteady, ReadsSteadySlots};
 
 use crate::beginning::begin;
@@ -48,6 +48,7 @@ impl<D: Disk> Opened<D> {
     ) -> Result<Opened<D>, (D, StoreFault)>
         requires { IsSchema schema.now }
         ensures found { IfOk result (λ opened. Told (IsFoundIn schema.now (arc_value opened.snapshot) opened.records) (D.told disk)) }
+        ensures fresh { IfOk result (λ opened. Told (BeginsAt (base_of opened).log) (D.told disk)) }
         ensures opened { IfOk result (λ opened. HidesNothing D.Disk disk → IsOpened D.Disk schema.now opened) }
         ensures leaves { HidesNothing D.Disk disk → LeavesBegun D.Disk schema.now disk (disk_of result) }
         ensures refused { IfErr result (λ refused. SaysDamage schema.now (D.told disk) refused.1) }

@@ -6,7 +6,7 @@ use Rattle.chunk_store.specs.Images.{Image, Told}
 use Rattle.doc_bytes.specs.SchemaText.{schema_text}
 use Rattle.doc_types.specs.declared.schema.Schema.{Schema}
 use Rattle.doc_types.specs.Snapshots.{LayerValue, SnapshotValue, live}
-use Rattle.gate_log.specs.Logs.{quiet_log}
+use Rattle.gate_log.specs.Logs.{last_number, quiet_log}
 use Rattle.gate_log.specs.declared.records.LogRecord.{LogRecord}
 use Rattle.root_slots.specs.Choosing.{IsBadRoot}
 use Rattle.root_slots.specs.Openings.{Opens}
@@ -27,8 +27,8 @@ use Rattle.store_reads.specs.declared.fault.StoreFault.{StoreFault}
 use Rattle.store_reads.specs.declared.fault.StoreFault.TheVariants as faults
 use Rattle.store_reads.specs.declared.found.Found.{Found}
 use Rattle.store_reads.specs.declared.logs.Logs.{Logs}
-use Rattle.store_reads.specs.steps.Founds.{ChecksState, IsLoadedAs}
-use Rattle.store_reads.specs.steps.Loads.{IsSnapshotOf}
+use Rattle.store_reads.specs.steps.Founds.{ChecksState, FindsEarly, IsLoadedAs}
+use Rattle.store_reads.specs.steps.Loads.{IsLoaded, IsSnapshotOf, number_after}
 
 -- the root that was read
 abbrev pub IsOpen : Option Image → Root → RootState → Type 0
@@ -67,12 +67,17 @@ says_root schema root state told faults.NoMemory read checks = tt
 says_root schema root state told faults.DiskFault read checks = tt
 says_root schema root state told (faults.Damaged damage) read checks = λ image is. inr (inl (checks image (record { number = root.number; state = state }) refl (read image is).stands))
 
-pub loaded_as : (schema : Schema) (chunks : List LayerValue) (root : Root) (state : RootState) (logs : Logs) (records : List LogRecord) (found : Found) (snapshot : SnapshotValue) (number : ℕ) → IsSnapshotOf schema chunks state.through records snapshot → arc_value found.snapshot ≡ snapshot → number ≡ snapshot.number → state.through ≤ number
+-- where the last record, if there is one, isn't before a number, the next one isn't either
+late_enough : (through : ℕ) (named : Option ℕ) → ((last : ℕ) → named ≡ Some last → through ≤ last) → through ≤ number_after through named
+late_enough through None late = omega arith
+late_enough through (Some last) late = late last refl
+
+pub loaded_as : (schema : Schema) (chunks : List LayerValue) (root : Root) (state : RootState) (logs : Logs) (records : List LogRecord) (found : Found) (snapshot : SnapshotValue) (number : ℕ) → IsSnapshotOf schema chunks state.through records snapshot → arc_value found.snapshot ≡ snapshot → number ≡ snapshot.number → IsLoaded schema chunks state.through records logs.loaded → FindsEarly state logs None
     → found.files ≡ sure_files root state (quiet_log state.newer logs.end.end logs.end.last) → found.records ≡ number - state.through → found.documents ≡ finite.len (live snapshot) → IsLoadedAs schema chunks root state logs records found
-loaded_as schema chunks root state logs records found snapshot number is same number_is le files many documents = record {
+loaded_as schema chunks root state logs records found snapshot number is same number_is loaded late files many documents = record {
   files_are = files;
   snapshot = subst (λ (s : SnapshotValue). IsSnapshotOf schema chunks state.through records s) (sym same) is;
-  reach = omega (arith, le, number_is, is.number_is);
+  reach = late_enough state.through (last_number records) (λ last named. late last (loaded.last_is ∙ named));
   records_are = many ∙ ap (λ (n : ℕ). n - state.through) (number_is ∙ ap (λ (s : SnapshotValue). s.number) (sym same));
   documents_are = documents ∙ ap (λ (s : SnapshotValue). finite.len (live s)) (sym same);
 }

@@ -1,5 +1,5 @@
 //! What a root names, read: its chunks, and its logs over them. The first damage in this order is what is said.
-ghost use Rattle.std.specs.Prelude.{◌≡◌, List, Some, IfOk};
+ghost use Rattle.std.specs.Prelude.{◌≡◌, List, None, Some, IfOk};
 ghost use Rattle.chunk_store.specs.Calls.{OnlyReads};
 ghost use Rattle.chunk_store.specs.CrashModel.{KeepsAll};
 ghost use Rattle.chunk_store.specs.Images.{Told};
@@ -91,16 +91,13 @@ fn read_base<D: Disk, R: Threads>(
     }
 }
 
-/// The documents of a root's logs.
+/// The documents of a root's logs, which end no earlier than the chunks do.
 fn load(alloc: Global, root: Root, state: RootState, logs: Logs) -> Result<Found, NoMemory>
+    requires late { FindsEarly state logs None }
     ensures { IfOk result (λ found. (schema : AnySchema) (chunks : List LayerValue) (records : List LogRecord) → IsLoaded schema chunks state.through records logs.loaded → IsLoadedAs schema chunks root state logs records found) }
 {
     let Logs { loaded, end, .. } = logs;
     let snapshot = loaded.into_snapshot();
-    // Logs that end before the chunks do are damaged, and were refused.
-    if snapshot.number < state.through {
-        return Err(NoMemory);
-    }
     let records = snapshot.number.saturating_sub(state.through);
     let documents = snapshot.live_count();
     let log = GateLog::behind(state.newer, end.end, end.last);

@@ -6,7 +6,7 @@ use Rattle.job_chunks.specs.Chunks.{NewChunkValue}
 use Rattle.step_book.specs.Fronts.{FrontValue}
 use Rattle.step_history.specs.History.{Base}
 use Rattle.step_line.specs.Lines.{LineValue, MayFollow, entered, settled}
-use Rattle.step_tokens.specs.Tokens.{TokenValue}
+use Rattle.step_tokens.specs.Tokens.{Agrees, TokenValue}
 use Rattle.store_steps.specs.declared.files.Files.{Files}
 use Rattle.store_keep.specs.Commits.{Learns, front_of}
 use Rattle.store_keep.specs.Installs.{HasRoom, end_of, full_root, installed, shape_of}
@@ -30,5 +30,5 @@ pub record IsEndPrepared (schema : Schema) (base : Base) (line : LineValue) (new
 -- what is said and left where the step that waits is the end of a job that was just written
 abbrev pub FinishesJob : {J : Type 0} → LineValue → TokenValue → ℕ → Result FrontValue (InstallFault J) → LineValue → TokenValue → ℕ → Type 0
 FinishesJob line token before (Ok note) next after now = (next ≡ settled line) × (note ≡ front_of next) × Learns token after token.made next.history × (before ≤ now)
-FinishesJob line token before (Err faults.InDoubt) next after now = (next ≡ line) × (after ≡ record token { entered = Some (entered line) }) × (before ≤ now)
+FinishesJob line token before (Err faults.InDoubt) next after now = (next ≡ line) × (after ≡ record token { entered = Some (entered line) }) × Agrees token.entered (entered line) × (before ≤ now)
 FinishesJob line token before (Err fault) next after now = ⊥

@@ -16,7 +16,7 @@ use Rattle.store_reads.specs.declared.fault.StoreFault.{StoreFault}
 use Rattle.store_reads.specs.declared.found.Found.{Found}
 use Rattle.store_reads.specs.Reads.{IsFoundIn, ReadsSlots, SaysDamage}
 use Rattle.store_steps.specs.Kept.{IsKept}
-use Rattle.store_keep.specs.Opens.{HidesNothing}
+use Rattle.store_keep.specs.Opens.{BeginsAt, HidesNothing}
 
 -- Where the file is there, a crash leaves of it what a read gives.
 abbrev pub IsSteady : ℕ → Option Image → (Image → Type 0) → Type 0
@@ -42,6 +42,7 @@ pub record AreSteady (state : RootState) (told : Option Image) (may_leave : Imag
 -- What was found is what the files stood for, and the disk keeps it.
 pub record IsFound {D : Type 0} (words : DiskWords D) (schema : Schema) (old new : D) (found : Found) : Type 0 where
   pub said : Told (IsFoundIn schema (arc_value found.snapshot) found.records) (words.told old)
+  pub fresh : Told (BeginsAt found.files.log.end) (words.told old)
   pub kept : HidesNothing words old → IsKept words schema (record { opening = arc_value found.snapshot; log = found.files.log.end }) [] None new found.files
   pub of : AreOf schema (arc_value found.snapshot)
   pub shape : (arc_value found.snapshot).shape ≡ 0

@@ -14,7 +14,7 @@ use Rattle.gate_log.specs.declared.records.LogRecord.{LogRecord}
 use Rattle.step_history.specs.History.{Base, Step, Commit, CommitFollows}
 use Rattle.step_history.specs.Logs.{log_at}
 use Rattle.step_line.specs.Lines.{LineValue, entered, settled}
-use Rattle.step_tokens.specs.Tokens.{TokenValue}
+use Rattle.step_tokens.specs.Tokens.{Agrees, TokenValue}
 use Rattle.store_steps.specs.Answers.{Becomes}
 use Rattle.store_steps.specs.Batches.{IsBatchOf, batch_of, record_of}
 use Rattle.store_keep.specs.Commits.{Learns, Refuses, front_of}
@@ -57,6 +57,6 @@ Prepares schema base line worker ops (Err fault) = Refuses base line ops fault
 abbrev pub Finishes : {J : Type 0} → LineValue → TokenValue → ℕ → ℕ → ℕ → Result (Committed J) (CommitFault J) → LineValue → GateLog → TokenValue → ℕ → Type 0
 Finishes line token number removed before (Ok made) new log after now =
     (new ≡ settled line) × (made.note ≡ front_of new) × (made.number ≡ number) × (made.removed ≡ removed) × Learns token after token.made new.history × (before ≤ now)
-Finishes line token number removed before (Err (faults.InDoubt doubts.Disk)) new log after now = (new ≡ line) × (after ≡ record token { entered = Some (entered line) }) × (before ≤ now) × Rose before now × (log.staged ≢ None)
-Finishes line token number removed before (Err (faults.InDoubt doubts.Memory)) new log after now = (new ≡ line) × (after ≡ record token { entered = Some (entered line) }) × (before ≤ now) × (log.staged ≡ None)
+Finishes line token number removed before (Err (faults.InDoubt doubts.Disk)) new log after now = (new ≡ line) × (after ≡ record token { entered = Some (entered line) }) × Agrees token.entered (entered line) × (before ≤ now) × Rose before now × (log.staged ≢ None)
+Finishes line token number removed before (Err (faults.InDoubt doubts.Memory)) new log after now = (new ≡ line) × (after ≡ record token { entered = Some (entered line) }) × Agrees token.entered (entered line) × (before ≤ now) × (log.staged ≡ None)
 Finishes line token number removed before (Err fault) new log after now = ⊥

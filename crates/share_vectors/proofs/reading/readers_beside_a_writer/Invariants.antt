@@ -8,7 +8,7 @@ ghosts-read_beside g a = record {
   book = λ index. a.opened.steps.past.seen.book;
   faults = λ index. a.opened.faults.past.seen.book;
   stops = λ index. a.opened.stops.past.seen.book;
-  schema = λ index. record { name = []; fields = []; attrs = []; zones = []; sp = false };
+  schema = λ index. record { name = []; fields = []; attrs = []; zones = []; sp = false; min_prefix = 0 };
   base = λ index. record { opening = record { number = 0; shape = 0; layers = [] }; log = 0 };
   opened = λ index. nothing_opened;
 }

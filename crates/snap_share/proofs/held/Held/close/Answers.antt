@@ -7,7 +7,8 @@ use Rattle.step_line.specs.Tallies.{TallyValue}
 use Rattle.store_keep.specs.Charges.{IsBacked, MayHaveStopped}
 use Rattle.store_keep.specs.Tellings.{AreOfIndex, first_stray}
 use Rattle.store_keep.proofs.Telling.{of_index}
-use Rattle.snap_share.specs.Closings.{EndsBy, HasKept, Keeps}
+use Rattle.snap_share.specs.Closings.{HasKept, Keeps}
+use Rattle.snap_share.specs.steps.Endings.{EndsBy}
 use Rattle.snap_share.specs.steps.Takings.{HasTaken}
 use Rattle.snap_share.proofs.Ending.{closes_so, of_line}
 use Rattle.snap_share.proofs.held.Held.close.Goals as goal
