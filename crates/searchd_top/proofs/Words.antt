@@ -5,7 +5,7 @@ use Rattle.std.specs.Option.{is_some}
 use Rattle.std.specs.Str.{bytes_eq}
 use Rattle.std.specs.Str.Parse.{digits_value}
 use Rattle.std.proofs.lemmas.Nat.{mul-le}
-use Rattle.command_line.specs.Modes.{is_number, number_or, within}
+use Rattle.command_line.specs.Modes.{is_number, number_of, number_or, within}
 use Rattle.command_line.specs.Modes as modes
 use Rattle.command_line.specs.Reading.{said}
 use Rattle.command_line.specs.declared.mode.Mode.{Mode}
@@ -25,12 +25,12 @@ not_usage words status other some = (
 
 -- ---- numbers in their ranges
 
--- the numbers of a mode with workers
+-- the numbers of a mode with workers, and of a selftest
 abbrev pub InRange : Option modes.Mode → Type 0
 InRange (Some (modes.serve config listen workers sessions)) = (0 < workers) × (workers ≤ 64) × (sessions ≤ 1000000)
 InRange (Some (modes.session config)) = ⊤
 InRange (Some (modes.check config)) = ⊤
-InRange (Some (modes.selftest number docs)) = ⊤
+InRange (Some (modes.selftest number docs)) = docs ≤ 100000
 InRange None = ⊤
 
 if_range : (b : Bool) (x y : Option modes.Mode) → InRange x → InRange y → InRange (if b then x else y)
@@ -73,18 +73,22 @@ serve_range value =
     mapped None config listen workers some each = tt
     mapped (Some sessions) config listen workers some each = (omega (arith, some.0), some.1, (each sessions refl).1)
 
-mapped_range : {A : Type 0} (f : A → modes.Mode) (o : Option A) → ((a : A) → InRange (Some (f a))) → InRange (option_map f o)
+mapped_range : {A : Type 0} (f : A → modes.Mode) (o : Option A) → ((a : A) → o ≡ Some a → InRange (Some (f a))) → InRange (option_map f o)
 mapped_range f None each = tt
-mapped_range f (Some a) each = each a
+mapped_range f (Some a) each = each a refl
+
+of_range : (low high : ℕ) (o : Option (List ℕ)) (a : ℕ) → number_of low high o ≡ Some a → (low ≤ a) × (a ≤ high)
+of_range low high None a is = let clash : None ≡ Some a = is in absurd (cc clash)
+of_range low high (Some text) a is = within_range low high (digits_value 10 text) a (if_some (is_number text) (within low high (digits_value 10 text)) a is).1
 
 pub mode_range : (words : List (List ℕ)) → InRange (modes.mode words)
 mode_range [] = tt
 mode_range (name ∷ words) =
-    if_range (bytes_eq name (codes "session")) _ _ (by_range modes.session_options modes.session_of words (λ value. mapped_range modes.session (value (codes "--config")) (λ a. tt)))
+    if_range (bytes_eq name (codes "session")) _ _ (by_range modes.session_options modes.session_of words (λ value. mapped_range modes.session (value (codes "--config")) (λ a is. tt)))
     (if_range (bytes_eq name (codes "serve")) _ _ (by_range modes.serve_options modes.serve_of words serve_range)
-    (if_range (bytes_eq name (codes "check")) _ _ (by_range modes.check_options modes.check_of words (λ value. mapped_range modes.check (value (codes "--config")) (λ a. tt)))
+    (if_range (bytes_eq name (codes "check")) _ _ (by_range modes.check_options modes.check_of words (λ value. mapped_range modes.check (value (codes "--config")) (λ a is. tt)))
     (if_range (bytes_eq name (codes "selftest")) _ _ (by_range modes.selftest_options modes.selftest_of words
-    (λ value. then_range _ (modes.number_of 0 2147483647 (value (codes "--number"))) (λ number is. mapped_range (λ (docs : ℕ). modes.selftest number docs) (modes.number_of 1 100000 (value (codes "--docs"))) (λ a. tt))))
+    (λ value. then_range _ (number_of 0 2147483647 (value (codes "--number"))) (λ number is. mapped_range (λ (docs : ℕ). modes.selftest number docs) (number_of 1 100000 (value (codes "--docs"))) (λ docs that. (of_range 1 100000 (value (codes "--docs")) docs that).1))))
     tt)))
 
 -- the numbers of words that ask for serving
@@ -92,3 +96,7 @@ pub serves_within : (words : List (List ℕ)) (config listen : List ℕ) (worker
 serves_within words config listen workers sessions is =
     let range : InRange (Some (modes.serve config listen workers sessions)) = subst InRange is (mode_range words) in
     (range.0, omega (arith, mul-le workers sessions 64 1000000 range.1 range.2))
+
+-- the number of documents of words that ask for a selftest
+pub documents_within : (words : List (List ℕ)) (number docs : ℕ) → modes.mode words ≡ Some (modes.selftest number docs) → docs ≤ 100000
+documents_within words number docs is = subst InRange is (mode_range words)

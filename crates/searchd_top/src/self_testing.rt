@@ -1,5 +1,5 @@
 //! A selftest: documents in an index in memory are asked for, and what was found is printed once the index has ended.
-ghost use Rattle.std.specs.Prelude.{◌≡◌, List, Err, Some, IfErr, IfOk, string_bytes};
+ghost use Rattle.std.specs.Prelude.{◌≡◌, ◌≤◌, List, Err, Some, IfErr, IfOk, string_bytes};
 ghost use Rattle.command_line.specs.Modes.{selftest};
 ghost use Rattle.self_test.specs.Ends.{Ends};
 ghost use Rattle.self_test.specs.declared.generator.Document.{Document};
@@ -28,6 +28,7 @@ pub(crate) fn run_selftest<H: Host, R: Threads + Wait>(
     docs: u32,
     host: &mut H,
 ) -> Status
+    requires few { docs ≤ 100000 }
     ensures runs { Runs H.Host H.Store.Disk H.Entry.Door H.Entry.Line.Link (Some (selftest number docs)) result host.old host.new }
     ensures asked { ¬ (result ≡ Status.Usage) }
     ensures names { NamesIndex result }
@@ -48,6 +49,7 @@ fn selftest_lines<R: Threads + Wait>(
     number: u32,
     docs: u32,
 ) -> Result<String, Status>
+    requires { docs ≤ 100000 }
     ensures lines { IfOk result (λ lines. string_bytes lines ≡ selftest_lines number docs) }
     ensures ended { IfOk result (λ lines. HasEnded number docs) }
     ensures ends { IfErr result IsUnprinted }

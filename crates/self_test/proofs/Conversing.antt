@@ -1,24 +1,25 @@
--- Statements that are done one after another, and sums of rows.
-use Rattle.std.proofs.Common.{◌≡◌, ℕ, suc, ◌+◌, ◌/◌, List, [], ◌∷◌, ◌++◌, length, take, drop, refl, sym, ◌∙◌, subst, arith, append_assoc, append-nil}
+-- Statements that are done one after another or go astray, and sums of rows.
+use Rattle.std.proofs.Common.{◌≡◌, ◌≢◌, ℕ, suc, ◌+◌, ◌/◌, ◌<◌, List, [], ◌∷◌, ◌++◌, Result, Ok, Err, length, take, drop, refl, sym, ap, ◌∙◌, subst, arith, inl, inr, append_assoc, append-nil}
 use Rattle.std.specs.Prelude.{codes}
+use Rattle.srch_base.specs.declared.faults.Or.{Or}
+use Rattle.srch_base.specs.declared.faults.Or.TheVariants as causes
 use Rattle.index_conf.specs.declared.conf.IndexConf.{IndexConf}
-use Rattle.mysql_wire.specs.Replies.{ok_packet}
-use Rattle.ql_tree.specs.declared.statement.Statement.{Statement}
+use Rattle.ql_tree.specs.declared.select.Select.{Select}
 use Rattle.ql_tree.specs.declared.statement.Statement.TheVariants as statements
-use Rattle.ql_write.specs.Canonical.{canonical_text}
 use Rattle.ql_answers.specs.declared.state.State.{State}
+use Rattle.ql_answers.specs.States.{new_state}
 use Rattle.ql_session.specs.Events.{StoreWords}
-use Rattle.self_test.specs.Asking.{AreCounted, AreDone, Asks, Shows, Telling}
-use Rattle.self_test.specs.Conversations.{before_document, behind_document, insert, job, loading, transactions, writing}
+use Rattle.self_test.specs.Asking.{AreCounted, AreDone, AreTold, GoAstray, LoseOne, Shows, Telling}
+use Rattle.self_test.specs.Conversations.{ComesTo, ConversesOr, LostOr, SomeLost, SumsOr, before_document, behind_document, insert, job, loading, transactions, writing}
+use Rattle.self_test.specs.Summaries.{many, summary_of}
+use Rattle.self_test.specs.Texts.{count_select}
 use Rattle.self_test.specs.declared.generator.Document.{Document}
+use Rattle.self_test.specs.declared.summary.Count.{Count}
+use Rattle.self_test.specs.declared.summary.Summary.{Summary}
+use Rattle.self_test.specs.steps.Comparing.{IsCompared}
+use Rattle.self_test.specs.steps.Replies.{RowsOr}
 
 module _ {D F : Type 0} (confs : D → List IndexConf) (words : StoreWords D F) where
-  -- A text that is a statement's was told, and answered as it has to be.
-  pub told_done : (text : List ℕ) (telling : Telling) (old new : State) (before left : D) → text ≡ canonical_text telling.statement
-      → Asks confs words text (ok_packet 1 telling.affected telling.status) old before new left → AreDone confs words (telling ∷ []) old before new left
-  told_done text telling old new before left is asks =
-      (new, left, subst (λ (letters : List ℕ). Asks confs words letters (ok_packet 1 telling.affected telling.status) old before new left) is asks, (refl, refl))
-
   -- nothing was told
   pub done_none : (old : State) (before : D) → AreDone confs words [] old before old before
   done_none old before = (refl, refl)
@@ -37,20 +38,13 @@ module _ {D F : Type 0} (confs : D → List IndexConf) (words : StoreWords D F) 
       (told : List Telling) × (writing first last 0 documents ≡ told ++ writing first last number rest) × AreDone confs words told old before new left
 
   -- one more was written
-  pub one_more_written : (first last : ℕ) (documents : List Document) (number : ℕ) (document : Document) (rest : List Document) (old s0 s1 s2 s3 : State) (before d0 d1 d2 d3 : D)
-      → AreWritten first last documents number (document ∷ rest) old before s0 d0 → AreDone confs words (before_document number) s0 d0 s1 d1
-      → AreDone confs words (insert (first + (number + 1)) document ∷ []) s1 d1 s2 d2 → AreDone confs words (behind_document last (number + 1)) s2 d2 s3 d3
-      → AreWritten first last documents (number + 1) rest old before s3 d3
-  one_more_written first last documents number document rest old s0 s1 s2 s3 before d0 d1 d2 d3 (told, is, done) opened inserted closed =
-      let put : Telling = insert (first + (number + 1)) document in
-      let one : List Telling = before_document number ++ put ∷ behind_document last (number + 1) in
-      let left : List Telling = writing first last (number + 1) rest in (
-        told ++ one,
-        is ∙ sym (append_assoc told one left),
-        done_then told one old s0 s3 before d0 d3 done
-            (done_then (before_document number) (put ∷ behind_document last (number + 1)) s0 s1 s3 d0 d1 d3 opened
-            (done_then (put ∷ []) (behind_document last (number + 1)) s1 s2 s3 d1 d2 d3 inserted closed)),
-      )
+  pub one_more_written : (first last : ℕ) (documents : List Document) (number : ℕ) (document : Document) (rest : List Document) (old mid new : State) (before between left : D)
+      → AreWritten first last documents number (document ∷ rest) old before mid between
+      → AreDone confs words (before_document number ++ insert (first + (number + 1)) document ∷ behind_document last (number + 1)) mid between new left
+      → AreWritten first last documents (number + 1) rest old before new left
+  one_more_written first last documents number document rest old mid new before between left (told, is, done) one =
+      let more : List Telling = before_document number ++ insert (first + (number + 1)) document ∷ behind_document last (number + 1) in
+      (told ++ more, is ∙ sym (append_assoc told more (writing first last (number + 1) rest)), done_then told more old mid new before between left done one)
 
   -- all were written
   pub all_written : (first last : ℕ) (documents : List Document) (number : ℕ) (old new : State) (before left : D) → AreWritten first last documents number [] old before new left
@@ -59,25 +53,120 @@ module _ {D F : Type 0} (confs : D → List IndexConf) (words : StoreWords D F) 
       subst (λ (list : List Telling). AreDone confs words list old before new left) (sym (is ∙ append-nil told)) done
 
   -- one more was told, and its rows counted
-  pub one_more_counted : (statement : ℕ → Statement) (number sum rows : ℕ) (old mid new : State) (before between left : D) → AreCounted confs words statement number sum old before mid between
-      → Shows confs words (statement number) rows mid between new left → AreCounted confs words statement (number + 1) (sum + rows) old before new left
-  one_more_counted statement number sum rows old mid new before between left counted has =
-      let one : AreCounted confs words statement (suc number) (sum + rows) old before new left = (sum, rows, mid, between, counted, has, refl) in
+  pub one_more_counted : (select : ℕ → Select) (number sum rows : ℕ) (old mid new : State) (before between left : D) → AreCounted confs words select number sum old before mid between
+      → Shows confs words (select number) rows mid between new left → AreCounted confs words select (number + 1) (sum + rows) old before new left
+  one_more_counted select number sum rows old mid new before between left counted has =
+      let one : AreCounted confs words select (suc number) (sum + rows) old before new left = (sum, rows, mid, between, counted, has, refl) in
       let next : suc number ≡ number + 1 = omega arith in
-      subst (λ (n : ℕ). AreCounted confs words statement n (sum + rows) old before new left) next one
+      subst (λ (n : ℕ). AreCounted confs words select n (sum + rows) old before new left) next one
 
-  -- both halves were written, and both jobs done
-  pub loaded : (documents first others : List Document) (half : ℕ) (s0 s1 s2 s3 s4 : State) (d0 d1 d2 d3 d4 : D) → half ≡ length documents / 2 → first ≡ take half documents → others ≡ drop half documents
-      → AreDone confs words (transactions 0 first) s0 d0 s1 d1 → AreDone confs words (job (statements.FlushRamchunk (codes "t")) ∷ []) s1 d1 s2 d2 → AreDone confs words (transactions half others) s2 d2 s3 d3
-      → AreDone confs words (job (statements.OptimizeIndex (codes "t")) ∷ []) s3 d3 s4 d4 → AreDone confs words (loading documents) s0 d0 s4 d4
-  loaded documents first others half s0 s1 s2 s3 s4 d0 d1 d2 d3 d4 halved front back begun flushed ended optimized =
-      let flush : Telling = job (statements.FlushRamchunk (codes "t")) in
-      let optimize : Telling = job (statements.OptimizeIndex (codes "t")) in
-      let one : List Telling = transactions 0 (take half documents) in
-      let other : List Telling = transactions half (drop half documents) in
-      let done_front : AreDone confs words one s0 d0 s1 d1 = subst (λ (list : List Document). AreDone confs words (transactions 0 list) s0 d0 s1 d1) front begun in
-      let done_back : AreDone confs words other s2 d2 s3 d3 = subst (λ (list : List Document). AreDone confs words (transactions half list) s2 d2 s3 d3) back ended in
-      let all : AreDone confs words (one ++ flush ∷ other ++ optimize ∷ []) s0 d0 s4 d4 =
-      done_then (one ++ flush ∷ other) (optimize ∷ []) s0 s3 s4 d0 d3 d4
-      (done_then one (flush ∷ other) s0 s1 s3 d0 d1 d3 done_front (done_then (flush ∷ []) other s1 s2 s3 d1 d2 d3 flushed done_back)) optimized in
-      subst (λ (n : ℕ). AreDone confs words (transactions 0 (take n documents) ++ flush ∷ transactions n (drop n documents) ++ optimize ∷ []) s0 d0 s4 d4) halved all
+  -- one of what was told went astray, behind what was done
+  pub astray_then : (first next : List Telling) (old mid new : State) (before between left : D) → AreDone confs words first old before mid between → GoAstray confs words next mid between new left
+      → GoAstray confs words (first ++ next) old before new left
+  astray_then [] next old mid new before between left (same, still) rest =
+      subst (λ (state : State). GoAstray confs words next state before new left) same (subst (λ (d : D). GoAstray confs words next mid d new left) still rest)
+  astray_then (telling ∷ first) next old mid new before between left (state, d, one, more) rest =
+      inr (state, d, one, astray_then first next state mid new d between left more rest)
+
+  -- one of what was told first went astray
+  pub astray_first : (first next : List Telling) (old new : State) (before left : D) → GoAstray confs words first old before new left → GoAstray confs words (first ++ next) old before new left
+  astray_first [] next old new before left astray = absurd astray
+  astray_first (telling ∷ first) next old new before left (inl astray) = inl astray
+  astray_first (telling ∷ first) next old new before left (inr (state, d, one, more)) = inr (state, d, one, astray_first first next state new d left more)
+
+  -- both halves of what is told, with a job each
+  both_halves : (a b : List Telling) (flush optimize : Telling) → (a ++ flush ∷ []) ++ (b ++ optimize ∷ []) ≡ a ++ flush ∷ b ++ optimize ∷ []
+  both_halves a b flush optimize = append_assoc a (flush ∷ []) (b ++ optimize ∷ []) ∙ sym (append_assoc a (flush ∷ b) (optimize ∷ []))
+
+  abbrev pub flush_job : Telling
+  flush_job = job (statements.FlushRamchunk (codes "t"))
+
+  abbrev pub optimize_job : Telling
+  optimize_job = job (statements.OptimizeIndex (codes "t"))
+
+  halves_are : (documents first others : List Document) (half : ℕ) → half ≡ length documents / 2 → first ≡ take half documents → others ≡ drop half documents
+      → (transactions 0 first ++ flush_job ∷ []) ++ (transactions half others ++ optimize_job ∷ []) ≡ loading documents
+  halves_are documents first others half halved front back =
+      both_halves (transactions 0 first) (transactions half others) flush_job optimize_job
+      ∙ ap (λ (list : List Document). transactions 0 list ++ flush_job ∷ transactions half others ++ optimize_job ∷ []) front
+      ∙ ap (λ (list : List Document). transactions 0 (take half documents) ++ flush_job ∷ transactions half list ++ optimize_job ∷ []) back
+      ∙ ap (λ (n : ℕ). transactions 0 (take n documents) ++ flush_job ∷ transactions n (drop n documents) ++ optimize_job ∷ []) halved
+
+  -- a SELECT that went astray did so over a store of the same indexes
+  from_first : (count : Count) (start first left : D) → confs first ≡ confs start → LoseOne confs words (count_select count) (many count) first left → LoseOne confs words (count_select count) (many count) start left
+  from_first count start first left same lost = record { number = lost.number; below = lost.below; old = lost.old; before = lost.before; new = lost.new; same = lost.same ∙ same; lost = lost.lost }
+
+  module _ {E : Type 0} where
+    -- what is answered where more was told behind what was done
+    pub told_then : (result : Result (Unit {0}) (Or E)) (first next : List Telling) (old mid new : State) (before between left : D) → AreDone confs words first old before mid between
+        → AreTold confs words next result mid between new left → AreTold confs words (first ++ next) result old before new left
+    told_then (Ok done) first next old mid new before between left begun told = done_then first next old mid new before between left begun told
+    told_then (Err (causes.Fault fault)) first next old mid new before between left begun told = astray_then first next old mid new before between left begun told
+    told_then (Err causes.NoMemory) first next old mid new before between left begun told = tt
+
+    -- and where nothing more was told
+    pub told_first : (fault : Or E) (first next : List Telling) (old new : State) (before left : D) → AreTold {T = Unit {0}} confs words first (Err fault) old before new left
+        → AreTold {T = Unit {0}} confs words (first ++ next) (Err fault) old before new left
+    told_first (causes.Fault fault) first next old new before left told = astray_first first next old new before left told
+    told_first causes.NoMemory first next old new before left told = tt
+
+    -- a document of those that are written wasn't
+    pub written_astray : (fault : Or E) (first last : ℕ) (documents : List Document) (number : ℕ) (document : Document) (rest : List Document) (old mid new : State) (before between left : D)
+        → AreWritten first last documents number (document ∷ rest) old before mid between
+        → AreTold {T = Unit {0}} confs words (before_document number ++ insert (first + (number + 1)) document ∷ behind_document last (number + 1)) (Err fault) mid between new left
+        → AreTold {T = Unit {0}} confs words (writing first last 0 documents) (Err fault) old before new left
+    written_astray fault first last documents number document rest old mid new before between left (told, is, done) astray =
+        let one : List Telling = before_document number ++ insert (first + (number + 1)) document ∷ behind_document last (number + 1) in
+        let left_over : List Telling = writing first last (number + 1) rest in
+        subst (λ (list : List Telling). AreTold {T = Unit {0}} confs words list (Err fault) old before new left) (sym is)
+        (told_then (Err fault) told (one ++ left_over) old mid new before between left done (told_first fault one left_over mid new between left astray))
+
+    pub loaded : (result : Result (Unit {0}) (Or E)) (documents first others : List Document) (half : ℕ) (old mid new : State) (before between left : D) → half ≡ length documents / 2 → first ≡ take half documents → others ≡ drop half documents
+        → AreDone confs words (transactions 0 first ++ flush_job ∷ []) old before mid between → AreTold confs words (transactions half others ++ optimize_job ∷ []) result mid between new left
+        → AreTold confs words (loading documents) result old before new left
+    loaded result documents first others half old mid new before between left halved front back begun told =
+        subst (λ (list : List Telling). AreTold confs words list result old before new left) (halves_are documents first others half halved front back)
+        (told_then result (transactions 0 first ++ flush_job ∷ []) (transactions half others ++ optimize_job ∷ []) old mid new before between left begun told)
+
+    pub loaded_first : (fault : Or E) (documents first others : List Document) (half : ℕ) (old new : State) (before left : D) → half ≡ length documents / 2 → first ≡ take half documents → others ≡ drop half documents
+        → AreTold {T = Unit {0}} confs words (transactions 0 first ++ flush_job ∷ []) (Err fault) old before new left
+        → AreTold {T = Unit {0}} confs words (loading documents) (Err fault) old before new left
+    loaded_first fault documents first others half old new before left halved front back told =
+        subst (λ (list : List Telling). AreTold {T = Unit {0}} confs words list (Err fault) old before new left) (halves_are documents first others half halved front back)
+        (told_first fault (transactions 0 first ++ flush_job ∷ []) (transactions half others ++ optimize_job ∷ []) old new before left told)
+
+    -- a SELECT of some went astray
+    pub lost_one : (fault : Or E) (count : Count) (number : ℕ) (first : D) (old new : State) (before left : D) → number < many count → confs before ≡ confs first
+        → RowsOr confs words (count_select count number) (Err fault) old before new left → LostOr confs words count fault first left
+    lost_one (causes.Fault fault) count number first old new before left below same lost = record { number = number; below = below; old = old; before = before; new = new; same = same; lost = lost }
+    lost_one causes.NoMemory count number first old new before left below same lost = tt
+
+    -- one of all did
+    pub some_lost : (fault : Or E) (count : Count) (start first left : D) → confs first ≡ confs start → LostOr confs words count fault first left → SomeLost confs words fault start left
+    some_lost (causes.Fault fault) count start first left same lost = (count, from_first count start first left same lost)
+    some_lost causes.NoMemory count start first left same lost = tt
+
+    -- so the conversation did
+    pub comes_lost : (fault : Or E) (documents : List Document) (start first left : D) → confs first ≡ confs start → SomeLost confs words fault first left → ConversesOr confs words documents (Err fault) start left
+    comes_lost (causes.Fault fault) documents start first left same (count, lost) = inr (count, from_first count start first left same lost)
+    comes_lost causes.NoMemory documents start first left same lost = tt
+
+    pub comes_astray : (fault : Or E) (documents : List Document) (new : State) (start left : D) → AreTold {T = Unit {0}} confs words (loading documents) (Err fault) new_state start new left
+        → ConversesOr confs words documents (Err fault) start left
+    comes_astray (causes.Fault fault) documents new start left astray = inl (new, astray)
+    comes_astray causes.NoMemory documents new start left astray = tt
+
+    -- what was found behind what was done
+    pub comes_then : (result : Result Summary (Or E)) (documents : List Document) (state : State) (start between left : D) → confs between ≡ confs start → AreDone confs words (loading documents) new_state start state between
+        → SumsOr confs words (length documents) result state between left → ConversesOr confs words documents result start left
+    comes_then (Ok summary) documents state start between left same done sums = record { state = state; between = between; done = done; sums = sums }
+    comes_then (Err fault) documents state start between left same done lost = comes_lost fault documents start between left same lost
+
+    -- and compared
+    pub compared : (result found : Result Summary (Or E)) (documents : List Document) (start left : D) → IsCompared documents found result → ConversesOr confs words documents found start left
+        → ComesTo confs words documents result start left
+    compared (Ok summary) found documents start left is converses = subst (λ (r : Result Summary (Or E)). ConversesOr confs words documents r start left) is converses
+    compared (Err (causes.Fault fault)) found documents start left (inl is) converses = inl (subst (λ (r : Result Summary (Or E)). ConversesOr confs words documents r start left) is converses)
+    compared (Err (causes.Fault fault)) found documents start left (inr (summary, is, differs)) converses =
+        inr (summary, subst (λ (r : Result Summary (Or E)). ConversesOr confs words documents r start left) is converses, differs)
+    compared (Err causes.NoMemory) found documents start left is converses = tt

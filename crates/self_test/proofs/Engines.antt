@@ -1,5 +1,5 @@
 -- An engine for one worker: the names that it is given, and how it ends.
-use Rattle.std.proofs.Common.{◌≡◌, ℕ, zero, suc, List, [], ◌∷◌, ◌++◌, Option, Some, None, All, Result, Ok, Err, refl, sym, ap, subst, ◌∙◌, arith, length, length-append, slice_get}
+use Rattle.std.proofs.Common.{◌≡◌, ◌≤◌, inl, inr, ℕ, zero, suc, List, [], ◌∷◌, ◌++◌, Option, Some, None, All, Result, Ok, Err, refl, sym, ap, subst, ◌∙◌, arith, length, length-append, slice_get}
 use Rattle.std.specs.Prelude.{IfOk}
 use Rattle.std.proofs.lemmas.List.Elements.{All-cons, All-nil}
 use Rattle.std.specs.List.{IsDistinct}
@@ -9,34 +9,40 @@ use Rattle.chunk_store.specs.declared.disk.Disk.{Ghosts as DiskWords}
 use Rattle.commit_outcomes.specs.declared.strayed.Strayed.{Strayed}
 use Rattle.doc_types.specs.Schemas.{IsSchema}
 use Rattle.doc_types.specs.declared.schema.Schema.{Schema}
-use Rattle.index_conf.specs.Soundness.{IsSound}
-use Rattle.index_conf.specs.declared.conf.Conf.{Conf}
 use Rattle.index_conf.specs.declared.conf.IndexConf.{IndexConf}
 use Rattle.step_book.specs.Tellings.{AtOpening}
 use Rattle.step_history.specs.History.{Base}
 use Rattle.store_keep.specs.Opens.{IsOpened, base_of, opening_of}
 use Rattle.store_keep.specs.declared.opening.Opened.{Opened}
+use Rattle.snap_share.specs.Closings.{Closes}
 use Rattle.engine_tables.specs.Endings.{CanEnd, EndingValue, HasEnded, HaveEnded}
 use Rattle.engine_tables.specs.Engines.{EnginesValue}
 use Rattle.engine_tables.specs.Names.{AreNamed, AreServed, IsRoomFor}
 use Rattle.engine_tables.specs.Tokens.{SeatsDiffer, SitsAt, TokensValue, told_at, tokens_at}
 use Rattle.engine_tables.specs.Workers.{WorkerValue, by_tokens}
+use Rattle.ql_answers.specs.declared.state.State.{State}
+use Rattle.ql_answers.specs.States.{new_state}
 use Rattle.engine_tables.specs.declared.ended.Ended.{Ended}
-use Rattle.engine_tables.proofs.Makings.{all_end}
-use Rattle.self_test.specs.Conversations.{Converses}
+use Rattle.self_test.specs.Asking.{GoAstray, Leads}
+use Rattle.self_test.specs.Conversations.{ComesTo, loading}
+use Rattle.self_test.specs.Documents.{after_document, documents_from}
 use Rattle.self_test.specs.Ends.{Ends, EndsBy, Finds, Found, HasFound, IsOver, Works, first_tokens}
+use Rattle.self_test.specs.Own.{IsEmpty, IsOwn}
 use Rattle.self_test.specs.declared.generator.Document.{Document}
 use Rattle.self_test.specs.declared.fault.SelftestFault.{SelftestFault}
 use Rattle.self_test.specs.declared.fault.SelftestFault.TheVariants.{NoMemory, Unexpected, Strayed as HasStrayed}
 use Rattle.self_test.specs.declared.summary.Summary.{Summary}
-use Rattle.self_test.specs.steps.Engines.{AnswersEnd, IsReady, IsServable}
+use Rattle.self_test.specs.steps.Engines.{IsAnswered, IsReady, LeadsTo}
+use Rattle.self_test.specs.steps.Servable.{IsServable}
+use Rattle.self_test.proofs.Begun.{closed_well}
+use Rattle.self_test.proofs.Losing.{Laws, lost_is_long}
+use Rattle.self_test.proofs.Ending.{closed_over, first_worker, never_astray}
+use Rattle.self_test.proofs.Scripts.{all_drawn}
 
--- the last index of a configuration can be served
-pub last_servable : (conf : Conf) (others : List IndexConf) (index : IndexConf) → IsSound conf → conf.indexes ≡ others ++ index ∷ [] → IsServable index
-last_servable conf others index sound is = record {
-  schema = all_end (λ (c : IndexConf). IsSchema c.schema) others index (subst (All (λ (c : IndexConf). IsSchema c.schema)) is sound.schemas);
-  zones = all_end (λ (c : IndexConf). c.rules.zones ≡ c.schema.zones) others index (subst (All (λ (c : IndexConf). c.rules.zones ≡ c.schema.zones)) is sound.zones);
-}
+-- so many documents
+documents_length : (x docs : ℕ) → length (documents_from x docs) ≡ docs
+documents_length x zero = refl
+documents_length x (suc docs) = ap suc (documents_length (after_document x) docs)
 
 -- one index that can be served
 pub served_one : (index : IndexConf) → IsServable index → AreServed (index ∷ [])
@@ -58,20 +64,29 @@ first_last seats front last first is one =
     let there : slice_get seats 0 ≡ Some first = ap (λ (list : List TokensValue). slice_get list 0) one in
     cc (here, there)
 
--- what a worker with these tokens found is what its conversation found, which left others
-pub found_by : (schema : ℕ → Schema) (base : ℕ → Base) (confs : List IndexConf) (documents : List Document) (summary : Summary) (first left : TokensValue) (old new : WorkerValue)
-    → old ≡ record { confs = confs; tokens = first } → new.confs ≡ confs → new.tokens ≡ left → Converses (λ (worker : WorkerValue). worker.confs) (by_tokens schema base) documents summary old new
-    → Finds schema base confs documents summary first left
-found_by schema base confs documents summary first left old new begun same leaves converses =
+-- what a worker with these tokens came to is what its conversation came to, which left others
+pub found_by : {E : Type 0} (schema : ℕ → Schema) (base : ℕ → Base) (confs : List IndexConf) (documents : List Document) (result : Result Summary (Or E)) (first left : TokensValue) (old new : WorkerValue)
+    → old ≡ record { confs = confs; tokens = first } → new.confs ≡ confs → new.tokens ≡ left → ComesTo (λ (worker : WorkerValue). worker.confs) (by_tokens schema base) documents result old new
+    → LeadsTo schema base confs documents result first left
+found_by schema base confs documents result first left old new begun same leaves comes =
     let ended : new ≡ record { confs = confs; tokens = left } =
     ap (λ (list : List IndexConf). record { confs = list; tokens = new.tokens }) same ∙ ap (λ (tokens : TokensValue). record { confs = confs; tokens = tokens }) leaves in
-    subst (λ (w : WorkerValue). Converses (λ (worker : WorkerValue). worker.confs) (by_tokens schema base) documents summary w (record { confs = confs; tokens = left })) begun
-    (subst (λ (w : WorkerValue). Converses (λ (worker : WorkerValue). worker.confs) (by_tokens schema base) documents summary old w) ended converses)
+    subst (λ (w : WorkerValue). ComesTo (λ (worker : WorkerValue). worker.confs) (by_tokens schema base) documents result w (record { confs = confs; tokens = left })) begun
+    (subst (λ (w : WorkerValue). ComesTo (λ (worker : WorkerValue). worker.confs) (by_tokens schema base) documents result old w) ended comes)
 
 -- the tokens of one worker
 one_differs : (left : TokensValue) → SeatsDiffer (left ∷ [])
 unfolding IsDistinct
 one_differs left = record { apart = (tt, tt) }
+
+-- what a worker with these tokens was led to is what its events led to
+pub works_by : (schema : ℕ → Schema) (base : ℕ → Base) (confs : List IndexConf) (first left : TokensValue) (old new : WorkerValue) → old ≡ record { confs = confs; tokens = first } → new.confs ≡ confs → new.tokens ≡ left
+    → Leads (λ (worker : WorkerValue). worker.confs) (by_tokens schema base) old new → Works schema base confs first left
+works_by schema base confs first left old new begun same leaves leads =
+    let ended : new ≡ record { confs = confs; tokens = left } =
+    ap (λ (list : List IndexConf). record { confs = list; tokens = new.tokens }) same ∙ ap (λ (tokens : TokensValue). record { confs = confs; tokens = tokens }) leaves in
+    subst (λ (w : WorkerValue). Leads (λ (worker : WorkerValue). worker.confs) (by_tokens schema base) w (record { confs = confs; tokens = left })) begun
+    (subst (λ (w : WorkerValue). Leads (λ (worker : WorkerValue). worker.confs) (by_tokens schema base) old w) ended leads)
 
 module _ (engines : EnginesValue) (old new : EndingValue) (left : TokensValue) where
   abbrev pub IsPut : Type 0
@@ -134,14 +149,16 @@ module _ {D : Type 0} (words : DiskWords D) where
       are_opened (suc place) other at = absurd (cc at)
 
   -- one store that has names is the one of their index
-  pub over_one : (book faults stops : ℕ → _) (schema : ℕ → Schema) (base : ℕ → Base) (opened : ℕ → AtOpening) (index : IndexConf) (store : Opened D) (confs : List IndexConf) → confs ≡ index ∷ []
+  pub over_one : (book faults stops : ℕ → _) (schema : ℕ → Schema) (base : ℕ → Base) (opened : ℕ → AtOpening) (index : IndexConf) (store : Opened D) (confs : List IndexConf) → confs ≡ index ∷ [] → IsReady words index store
       → AreNamed words book faults stops schema base opened (index ∷ []) (store ∷ []) → IsOver words schema base opened confs
-  over_one book faults stops schema base opened index store confs is named = record {
+  over_one book faults stops schema base opened index store confs is ready named = record {
     index = index;
     store = store;
     is = is;
+    ours = ready.ours;
     columns = named.columns 0 index refl;
     begins = named.bases 0 store refl;
+    empty = subst IsEmpty (sym (named.bases 0 store refl)) ready.empty;
     counted = named.openings 0 store refl;
     is_opened = named.are_opened 0 store refl;
   }
@@ -153,22 +170,61 @@ module _ {D : Type 0} (words : DiskWords D) where
       subst (λ (list : List TokensValue). HaveEnded words schema base opened 1 1 list all) put
       (subst (λ (n : ℕ). HaveEnded words schema base opened 1 n seats all) alone (subst (λ (n : ℕ). HaveEnded words schema base opened n workers seats all) one ended))
 
+  -- where the engine ended well, no statement that writes the documents went astray
+  pub never_so : {J : Type 0} (schema : ℕ → Schema) (base : ℕ → Base) (opened : ℕ → AtOpening) (conf : IndexConf) (confs : List IndexConf) (number docs : ℕ) (left : TokensValue) (one : Ended D J) → confs ≡ conf ∷ [] → IsOwn conf → IsEmpty (base 0) → docs ≤ 100000
+      → Works schema base confs first_tokens left → HasEnded words schema base opened 0 1 (told_at 0 (left ∷ [])) (tokens_at 0 (left ∷ [])) one → one.answer ≡ Ok tt → (state : State)
+      → GoAstray (λ (worker : WorkerValue). worker.confs) (by_tokens schema base) (loading (documents_from number docs)) new_state (record { confs = confs; tokens = first_tokens }) state (record { confs = confs; tokens = left }) → ⊥
+  never_so schema base opened conf confs number docs left one is own empty few works (note, noted, new, closes) well state gone =
+      let worker : WorkerValue = record { confs = conf ∷ []; tokens = left } in
+      let worked : Works schema base (conf ∷ []) first_tokens left = subst (λ (list : List IndexConf). Works schema base list first_tokens left) is works in
+      let went : GoAstray (λ (worker : WorkerValue). worker.confs) (by_tokens schema base) (loading (documents_from number docs)) new_state (first_worker conf) state worker =
+      subst (λ (list : List IndexConf). GoAstray (λ (worker : WorkerValue). worker.confs) (by_tokens schema base) (loading (documents_from number docs)) new_state (record { confs = list; tokens = first_tokens }) state (record { confs = list; tokens = left })) is gone in
+      let closed = closed_well words schema base opened 0 1 (told_at 0 (left ∷ [])) (tokens_at 0 (left ∷ [])) one.disk note new
+      (subst (λ (end : Result (Unit {0}) (Or Strayed)). Closes words schema base opened 0 1 (told_at 0 (left ∷ [])) (tokens_at 0 (left ∷ [])) one.disk note end new) well closes) in
+      let (history, over) = closed_over schema base conf worker worked.events worked.follows closed in
+      never_astray schema base history conf own empty (documents_from number docs) (all_drawn number docs) (omega (arith, few, documents_length number docs)) worker over state worker [] went refl
+
+  -- what a conversation came to is what it found, where the engine ended well
+  pub comes_through : {J E : Type 0} (laws : Laws) (schema : ℕ → Schema) (base : ℕ → Base) (opened : ℕ → AtOpening) (confs : List IndexConf) (number docs : ℕ) (left : TokensValue) (one : Ended D J) (found : Result Summary (Or E)) → IsOver words schema base opened confs → docs ≤ 100000
+      → Works schema base confs first_tokens left → HasEnded words schema base opened 0 1 (told_at 0 (left ∷ [])) (tokens_at 0 (left ∷ [])) one → one.answer ≡ Ok tt
+      → LeadsTo schema base confs (documents_from number docs) found first_tokens left → Finds schema base confs (documents_from number docs) found first_tokens left
+  comes_through laws schema base opened confs number docs left one (Ok summary) over few works ended well finds = finds
+  comes_through laws schema base opened confs number docs left one (Err (causes.Fault fault)) over few works ended well (inl (inl (state, gone))) =
+      absurd (never_so schema base opened over.index confs number docs left one over.is over.ours.own over.empty few works ended well state gone)
+  comes_through laws schema base opened confs number docs left one (Err (causes.Fault fault)) over few works ended well (inl (inr (count, lose))) =
+      inl (count, lost_is_long (λ (worker : WorkerValue). worker.confs) (by_tokens schema base) laws over.index over.ours count (record { confs = confs; tokens = first_tokens }) (record { confs = confs; tokens = left }) over.is lose)
+  comes_through laws schema base opened confs number docs left one (Err (causes.Fault fault)) over few works ended well (inr differs) = inr differs
+  comes_through laws schema base opened confs number docs left one (Err causes.NoMemory) over few works ended well finds = tt
+
   -- how the one engine ended is what the answer says
-  pub ends_so : {J : Type 0} (schema : ℕ → Schema) (base : ℕ → Base) (opened : ℕ → AtOpening) (confs : List IndexConf) (documents : List Document) (left : TokensValue) (all : List (Ended D J)) (one : Ended D J) (answer : Result Summary SelftestFault)
-      → IsOver words schema base opened confs → Works schema base confs first_tokens left → IfOk answer (λ summary. Finds schema base confs documents summary first_tokens left) → HaveEnded words schema base opened 1 1 (left ∷ []) all
-      → slice_get all 0 ≡ Some one → AnswersEnd one.answer answer → Ends words documents answer
-  ends_so {J} schema base opened confs documents left all one answer over works finds ended at says = by_answer answer finds says
+  pub ends_so : {J E : Type 0} (laws : Laws) (schema : ℕ → Schema) (base : ℕ → Base) (opened : ℕ → AtOpening) (confs : List IndexConf) (number docs : ℕ) (left : TokensValue) (all : List (Ended D J)) (one : Ended D J) (found : Result Summary (Or E)) (answer : Result Summary SelftestFault)
+      → IsOver words schema base opened confs → docs ≤ 100000 → Works schema base confs first_tokens left → LeadsTo schema base confs (documents_from number docs) found first_tokens left → HaveEnded words schema base opened 1 1 (left ∷ []) all
+      → slice_get all 0 ≡ Some one → IsAnswered found one.answer answer → Ends words (documents_from number docs) answer
+  ends_so {J} {E} laws schema base opened confs number docs left all one found answer over few works leads ended at says = by_answer answer says
     where
       ends : HasEnded words schema base opened 0 1 (told_at 0 (left ∷ [])) (tokens_at 0 (left ∷ [])) one
       ends = ended.each 0 one at
+
+      documents : List Document
+      documents = documents_from number docs
+
+      finds : one.answer ≡ Ok tt → Finds schema base confs documents found first_tokens left
+      finds well = comes_through laws schema base opened confs number docs left one found over few works ends well leads
 
       ends_by : (found : Option Found) (end : Result (Unit {0}) (Or Strayed)) → HasFound schema base confs found left → one.answer ≡ end → HasEnded words schema base opened 0 1 (told_at 0 (left ∷ [])) (tokens_at 0 (left ∷ [])) one
           → EndsBy words found end
       ends_by found end has is (note, noted, new, closes) = subst (λ (e : Result (Unit {0}) (Or Strayed)). EndsBy words found e) is
           (record { schema = schema; base = base; opened = opened; confs = confs; over = over; left = left; works = works; has = has; disk = one.disk; note = note; new = new; closes = closes })
 
-      by_answer : (answer : Result Summary SelftestFault) → IfOk answer (λ summary. Finds schema base confs documents summary first_tokens left) → AnswersEnd one.answer answer → Ends words documents answer
-      by_answer (Ok summary) finds says = ends_by (Some (record { documents = documents; summary = summary })) (Ok tt) finds says ends
-      by_answer (Err Unexpected) finds says = ends_by None (Ok tt) tt says ends
-      by_answer (Err (HasStrayed strayed)) finds says = ends_by None (Err (causes.Fault strayed)) tt says ends
-      by_answer (Err NoMemory) finds says = tt
+      by_answer : (answer : Result Summary SelftestFault) → IsAnswered found one.answer answer → Ends words documents answer
+      by_answer (Ok summary) (is, ok) =
+          ends_by (Some (record { documents = documents; result = Ok summary })) (Ok tt) (subst (λ (r : Result Summary (Or E)). Finds schema base confs documents r first_tokens left) is (finds ok)) ok ends
+      by_answer (Err Unexpected) ((fault, is), ok) =
+          ends_by (Some (record { documents = documents; result = Err (causes.Fault tt) })) (Ok tt) (subst (λ (r : Result Summary (Or E)). Finds schema base confs documents r first_tokens left) is (finds ok)) ok ends
+      by_answer (Err (HasStrayed strayed)) says = ends_by None (Err (causes.Fault strayed)) tt says ends
+      by_answer (Err NoMemory) says = tt
+
+-- what holds of what was found holds of the answer
+pub answered_so : {E : Type 0} (P : Summary → Type 0) (found : Result Summary (Or E)) (end : Result (Unit {0}) (Or Strayed)) (answer : Result Summary SelftestFault) → IsAnswered found end answer → IfOk found P → IfOk answer P
+answered_so {E} P found end (Ok summary) (is, ok) holds = subst (λ (r : Result Summary (Or E)). IfOk r P) is holds
+answered_so P found end (Err fault) says holds = tt

@@ -111,12 +111,12 @@ most_is =
     (tenfold 100 (codes "100") (omega arith) (omega arith) (tenfold 10 (codes "10") (omega arith) (omega arith) (tenfold 1 (codes "1") (omega arith) (omega arith) one_is))))
 
 -- the canonical text of a SELECT by a query that stands for itself
-match_is : (query : List ℕ) → escaped_text query ≡ query → canonical_text (matching query) ≡ codes "SELECT `id` FROM `t` WHERE MATCH ( '" ++ (query ++ codes "' ) LIMIT 0 , 100000 OPTION `max_matches` = 100000")
+match_is : (query : List ℕ) → escaped_text query ≡ query → canonical_text (statements.Select (matching query)) ≡ codes "SELECT `id` FROM `t` WHERE MATCH ( '" ++ (query ++ codes "' ) LIMIT 0 , 100000 OPTION `max_matches` = 100000")
 unfolding canonical_text
 match_is query plain =
     let front : List ℕ = codes "SELECT `id` FROM `t` WHERE MATCH ( '" in
     let back : List ℕ → List ℕ → List ℕ = λ zero most. codes " ) LIMIT " ++ (zero ++ (codes " , " ++ (most ++ (codes " OPTION `max_matches` = " ++ most)))) in
-    let told : canonical_text (matching query) ≡ front ++ (escaped_text query ++ (codes "'" ++ back (decimal 0) (decimal 100000))) =
+    let told : canonical_text (statements.Select (matching query)) ≡ front ++ (escaped_text query ++ (codes "'" ++ back (decimal 0) (decimal 100000))) =
     ap (λ (v : List ℕ). front ++ v) (append_assoc (escaped_text query) (codes "'") (back (decimal 0) (decimal 100000))) in
     told
     ∙ ap (λ (v : List ℕ). front ++ (v ++ (codes "'" ++ back (decimal 0) (decimal 100000)))) plain

@@ -136,7 +136,7 @@ title_utf8 document small =
     IsUtf8-from_ascii (title_of document)
     (ascii_then c (slice_index document.title 3) (ascii_then b (slice_index document.title 2) (ascii_then a (slice_index document.title 1) (ascii_word (slice_index document.title 0) small.first) small.second) small.third) small.fourth)
 
-query_utf8 : (count : Count) (n : ℕ) → n < 50 → IsUtf8 (query_of count n)
+pub query_utf8 : (count : Count) (n : ℕ) → n < 50 → IsUtf8 (query_of count n)
 query_utf8 Words n below = IsUtf8-from_ascii (word_of n) (ascii_word n (omega arith))
 query_utf8 Pairs n below =
     let quote : List ℕ = codes "\"" in
@@ -163,9 +163,9 @@ insert_value id document below small =
 
 -- the tokens of a SELECT of this form
 select_value : (cond : Cond) (second : ℕ) (options : List SelectOption) → second < 2 ^ 64 → Some_of (IsCond cond) → Some_of (AreGiven AreOptions options)
-    → IsValue (selecting cond (record { first = 0; second = Some second }) options)
+    → IsValue (statements.Select (selecting cond (record { first = 0; second = Some second }) options))
 select_value cond second options below some given =
-    value_of (selecting cond (record { first = 0; second = Some second }) options)
+    value_of (statements.Select (selecting cond (record { first = 0; second = Some second }) options))
     (some_then (some_word keywords.Select)
     (some_then (some_then (some_name (codes "id") id_name) some_absent)
     (some_then (some_word keywords.From)
@@ -183,7 +183,7 @@ option_given : Some_of (AreGiven AreOptions (record { name = codes "max_matches"
 option_given =
     some_then (some_word keywords.Option) (some_then (some_name (codes "max_matches") option_name) (some_then (some_sign signs.Equal) (some_number 100000 (omega arith))))
 
-match_value : (query : List ℕ) → IsUtf8 query → IsValue (matching query)
+match_value : (query : List ℕ) → IsUtf8 query → IsValue (statements.Select (matching query))
 match_value query utf8 =
     select_value (conds.Match query) 100000 (record { name = codes "max_matches"; value = values.Number 100000 } ∷ []) (omega arith)
     (some_then (some_word keywords.Match) (some_enclosed (some_text query utf8))) option_given

@@ -5,6 +5,7 @@ use Rattle.ql_tree.specs.declared.select.Cond.{Cond}
 use Rattle.ql_tree.specs.declared.select.Cond.TheVariants as conds
 use Rattle.ql_tree.specs.declared.select.LimitPart.{LimitPart}
 use Rattle.ql_tree.specs.declared.select.OptionValue.TheVariants as values
+use Rattle.ql_tree.specs.declared.select.Select.{Select}
 use Rattle.ql_tree.specs.declared.select.SelectExpr.TheVariants as exprs
 use Rattle.ql_tree.specs.declared.select.SelectItem.TheVariants as items
 use Rattle.ql_tree.specs.declared.select.SelectOption.{SelectOption}
@@ -31,23 +32,22 @@ insert_statement id document =
     ((vals.Number (pos id) ∷ vals.Text (title_of document) ∷ vals.Number (pos document.gid) ∷ []) ∷ [])
 
 -- a SELECT of ids from the index, under a condition
-abbrev pub selecting : Cond → LimitPart → List SelectOption → Statement
-selecting cond limit options =
-    statements.Select (record {
-      items = items.One (exprs.Column (codes "id")) None ∷ [];
-      index = codes "t";
-      conds = cond ∷ [];
-      group = None;
-      within = [];
-      having = None;
-      order = [];
-      limit = Some limit;
-      options = options;
-      facets = [];
-    })
+abbrev pub selecting : Cond → LimitPart → List SelectOption → Select
+selecting cond limit options = record {
+  items = items.One (exprs.Column (codes "id")) None ∷ [];
+  index = codes "t";
+  conds = cond ∷ [];
+  group = None;
+  within = [];
+  having = None;
+  order = [];
+  limit = Some limit;
+  options = options;
+  facets = [];
+}
 
 -- the SELECT of all documents that a query finds, at most 100,000
-abbrev pub matching : List ℕ → Statement
+abbrev pub matching : List ℕ → Select
 matching query = selecting (conds.Match query) (record { first = 0; second = Some 100000 }) (record { name = codes "max_matches"; value = values.Number 100000 } ∷ [])
 
 -- the query of the word or the phrase with this number
@@ -57,7 +57,11 @@ query_of Pairs number = codes "\"" ++ word_of number ++ codes " " ++ word_of ((n
 query_of Groups number = []
 
 -- the SELECT whose rows are what is counted of the word, the phrase or the group with this number
+abbrev pub count_select : Count → ℕ → Select
+count_select Words number = matching (query_of Words number)
+count_select Pairs number = matching (query_of Pairs number)
+count_select Groups number = selecting (conds.Compare (codes "gid") comparisons.Equal (pos number)) (record { first = 0; second = Some 1 }) []
+
+-- the same as a statement
 abbrev pub count_statement : Count → ℕ → Statement
-count_statement Words number = matching (query_of Words number)
-count_statement Pairs number = matching (query_of Pairs number)
-count_statement Groups number = selecting (conds.Compare (codes "gid") comparisons.Equal (pos number)) (record { first = 0; second = Some 1 }) []
+count_statement count number = statements.Select (count_select count number)

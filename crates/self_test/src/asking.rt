@@ -1,22 +1,33 @@
 //! A client of a session: it sends texts, and looks at what is replied.
-ghost use Rattle.std.specs.Prelude.{◌≡◌, ◌++◌, ℕ, List, IfOk, IsTrue, OnOk};
-ghost use Rattle.mysql_wire.specs.Packets.{packet};
-ghost use Rattle.mysql_wire.specs.Replies.{ok_packet};
+ghost use Rattle.std.specs.Prelude.{◌≡◌, ◌+◌, ◌≤◌, ◌++◌, ◌∷◌, [], ℕ, List, IfOk, drop, false, length};
+ghost use Rattle.mysql_wire.specs.Packets.{max_payload, packet, packets_from};
 ghost use Rattle.ql_session.specs.Fitting.{Fits};
-ghost use Rattle.self_test.specs.Asking.{ArePackets, Asks, HasRows, Leads};
+ghost use Rattle.ql_session.specs.Statements.{States};
+ghost use Rattle.ql_tree.specs.declared.statement.Statement.{Statement};
+ghost use Rattle.ql_tree.specs.declared.statement.Statement.TheVariants as statements;
+ghost use Rattle.ql_write.specs.Canonical.{canonical_text};
+ghost use Rattle.self_test.specs.Asking.{AreTold, Asks, Ended, Leads, Made};
+ghost use Rattle.self_test.specs.Texts.{count_select};
+ghost use Rattle.self_test.specs.declared.summary.Count.{Count};
+ghost use Rattle.self_test.specs.steps.Replies.{RowsOr, is_err, is_err_of, stops};
 
 use crate::Unexpected;
-use mysql_wire::{Command, Framer, Next, ok_packet};
-use ql_session::{Session, TableStore};
+use mysql_wire::{Command, ok_packet};
+use ql_session::{Session, TableStore, a_text_is_read_in_one_way};
 use reply_rows::Replies;
 use srch_base::{NoMemory, Or};
 use std::alloc::Global;
 
-/// The longest reply whose rows are counted, in bytes.
-const MAX_REPLY: usize = 16_777_216;
+/// The longest reply whose rows are counted, in bytes: as long as the payload of a packet may be.
+const MAX_REPLY: usize = 8_388_608;
 
 /// The packets of a result set beside its rows: the number of columns, the one column, and an EOF after each part.
-const PACKETS_BESIDE_ROWS: u32 = 4;
+const PACKETS_BESIDE_ROWS: usize = 4;
+
+/// The codes of an ERR for want of memory and for a fault of the disk.
+const OUT_OF_MEMORY: usize = 1037;
+
+const DISK_FAULT: usize = 1105;
 
 /// A client with a session of its own.
 #[derive(Drop)]
@@ -55,7 +66,8 @@ impl Client {
             .step(self.alloc, tables, query, &mut self.replies);
     }
 
-    /// Tells a text that is to be answered OK, with so many rows affected and this status.
+    /// Tells a text that is to be answered OK, with so many rows affected and this status. A fault of the disk is want of memory: the
+    /// disk is in memory.
     pub(crate) fn tell<T: TableStore>(
         &mut self,
         tables: &mut T,
@@ -64,65 +76,134 @@ impl Client {
         status: u16,
     ) -> Result<(), Or<Unexpected>>
         requires fits { Fits (T.confs tables.old) self.old.session }
-        ensures asks { OnOk result (Asks T.confs T.words text.now (ok_packet 1 affected status) self.old.session tables.old self.new.session tables.new) }
+        ensures told { (statement : Statement) → text.now ≡ canonical_text statement → States text.now (statement ∷ []) → AreTold T.confs T.words (record { statement = statement; wanted = Made affected status } ∷ []) result self.old.session tables.old self.new.session tables.new }
         ensures fits { Fits (T.confs tables.new) self.new.session }
         ensures confs { T.confs tables.new ≡ T.confs tables.old }
         ensures leads { Leads T.confs T.words tables.old tables.new }
     {
+        a_text_is_read_in_one_way();
         self.ask(tables, text);
-        let expected = ok_packet(1, affected, status);
-        if self.replies.bytes() == expected.bytes() {
-            Ok(())
-        } else {
-            Err(Or::Fault(Unexpected))
+        if self.replies.bytes() == ok_packet(1, affected, status).bytes() {
+            return Ok(());
         }
+        if is_stop(self.replies.bytes()) {
+            return Err(Or::NoMemory);
+        }
+        Err(Or::Fault(Unexpected))
     }
 
-    /// Asks a text, and gives how many rows were replied.
+    /// Tells a text that does a job. It may be refused, as where another job has ended since or there is no room, and what is found
+    /// stays the same; only want of memory is an end.
+    pub(crate) fn tell_job<T: TableStore>(
+        &mut self,
+        tables: &mut T,
+        text: &str,
+    ) -> Result<(), Or<Unexpected>>
+        requires fits { Fits (T.confs tables.old) self.old.session }
+        ensures told { (statement : Statement) → text.now ≡ canonical_text statement → States text.now (statement ∷ []) → AreTold T.confs T.words (record { statement = statement; wanted = Ended } ∷ []) result self.old.session tables.old self.new.session tables.new }
+        ensures fits { Fits (T.confs tables.new) self.new.session }
+        ensures confs { T.confs tables.new ≡ T.confs tables.old }
+        ensures leads { Leads T.confs T.words tables.old tables.new }
+    {
+        a_text_is_read_in_one_way();
+        self.ask(tables, text);
+        if says_err_of(OUT_OF_MEMORY, self.replies.bytes()) {
+            return Err(Or::NoMemory);
+        }
+        Ok(())
+    }
+
+    /// Asks a text that counts, and gives how many rows were replied.
     pub(crate) fn count_rows<T: TableStore>(
         &mut self,
         tables: &mut T,
         text: &str,
     ) -> Result<u32, Or<Unexpected>>
         requires fits { Fits (T.confs tables.old) self.old.session }
-        ensures asks { IfOk result (λ rows. HasRows T.confs T.words text.now rows self.old.session tables.old self.new.session tables.new) }
+        ensures rows { (count : Count) → (number : ℕ) → text.now ≡ canonical_text (statements.Select (count_select count number)) → States text.now (statements.Select (count_select count number) ∷ []) → RowsOr T.confs T.words (count_select count number) result self.old.session tables.old self.new.session tables.new }
         ensures fits { Fits (T.confs tables.new) self.new.session }
         ensures confs { T.confs tables.new ≡ T.confs tables.old }
         ensures leads { Leads T.confs T.words tables.old tables.new }
     {
+        a_text_is_read_in_one_way();
         self.ask(tables, text);
-        let packets = count_packets(self.alloc, self.replies.bytes())?;
-        match packets.checked_sub(PACKETS_BESIDE_ROWS) {
-            Some(rows) => Ok(rows),
-            None => Err(Or::Fault(Unexpected)),
+        let reply = self.replies.bytes();
+        if is_stop(reply) {
+            return Err(Or::NoMemory);
         }
-    }
-}
-
-/// How many packets a reply has, which are numbered from 1.
-fn count_packets(alloc: Global, reply: &[u8]) -> Result<u32, Or<Unexpected>>
-    ensures { IfOk result (λ count. ArePackets count reply.now) }
-{
-    if reply.len() > MAX_REPLY {
-        return Err(Or::Fault(Unexpected));
-    }
-    let mut framer = Framer::new(alloc)?;
-    framer.feed(reply)?;
-    let mut count: u32 = 0;
-    let mut seq: u8 = 1;
-    'packets: while framer.held() > 0 {
-        if !take_packet(&mut framer, seq) {
+        if says_err(reply) {
             return Err(Or::Fault(Unexpected));
         }
-        count += 1;
-        seq = seq.wrapping_add(1);
+        if reply.len() > MAX_REPLY {
+            return Err(Or::Fault(Unexpected));
+        }
+        Ok(count_packets(reply).saturating_sub(PACKETS_BESIDE_ROWS) as u32)
     }
-    Ok(count)
 }
 
-/// Takes the packet of this number, if the bytes that are held begin with it.
-fn take_packet(framer: &mut Framer, seq: u8) -> bool
-    ensures taken { IsTrue result → (payload : List ℕ) × (framer.old.held ≡ packet seq payload ++ framer.new.held) }
+/// A reply is an ERR.
+fn says_err(reply: &[u8]) -> bool
+    ensures { result ≡ is_err reply.now }
 {
-    matches!(framer.next(seq), Next::Packet { .. })
+    matches!(reply, [_, _, _, _, 255, ..])
+}
+
+/// A reply is an ERR with this code.
+fn says_err_of(code: usize, reply: &[u8]) -> bool
+    ensures { result ≡ is_err_of code reply.now }
+{
+    match reply {
+        [_, _, _, _, kind, low, high, ..] => {
+            *kind == 255 && usize::from(*low) + 256 * usize::from(*high) == code
+        }
+        _ => false,
+    }
+}
+
+/// A reply says that memory was refused, or that the disk failed.
+fn is_stop(reply: &[u8]) -> bool
+    ensures { result ≡ stops reply.now }
+{
+    says_err_of(OUT_OF_MEMORY, reply) || says_err_of(DISK_FAULT, reply)
+}
+
+/// How many packets a reply has that is short.
+fn count_packets(reply: &[u8]) -> usize
+    requires short { length reply.now ≤ max_payload }
+    ensures packets { (payloads : List (List ℕ)) → reply.now ≡ packets_from 1 payloads → result ≡ length payloads }
+    ensures most { result ≤ length reply.now }
+{
+    let mut count = 0;
+    let mut rest = reply;
+    'packets: while !rest.is_empty() {
+        rest = behind_packet(rest);
+        count += 1;
+    }
+    count
+}
+
+/// What stands behind the packet that some bytes begin with.
+fn behind_packet(bytes: &[u8]) -> &[u8]
+    requires some { 1 ≤ length bytes.now }
+    ensures rest { (seq : ℕ) → (payload rest : List ℕ) → length payload ≤ max_payload → bytes.now ≡ packet seq payload ++ rest → result.now ≡ rest }
+    ensures shorter { length result.now + 1 ≤ length bytes.now }
+{
+    match bytes {
+        [low, middle, high, _, ..] => {
+            let size = usize::from(*low) + 256 * usize::from(*middle) + 65_536 * usize::from(*high);
+            behind(bytes, 4 + size)
+        }
+        _ => &[],
+    }
+}
+
+/// What stands behind so many bytes.
+fn behind(bytes: &[u8], size: usize) -> &[u8]
+    ensures { result.now ≡ drop size bytes.now }
+{
+    if size < bytes.len() {
+        &bytes[size..]
+    } else {
+        &[]
+    }
 }

@@ -1,21 +1,24 @@
 //! A selftest over an engine: its one worker runs it over an index on a disk, and the engine has ended before anything is answered.
-ghost use Rattle.std.specs.Prelude.{◌≡◌, [], ◌∷◌, Ok, Some, IfOk, length, slice_get};
+ghost use Rattle.std.specs.Prelude.{◌≡◌, ◌≤◌, [], ◌∷◌, Ok, Some, IfOk, length, slice_get};
 ghost use Rattle.engine_tables.specs.Names.{AreNamed, IsRoomFor};
 ghost use Rattle.engine_tables.specs.Tokens.{SitsAt};
 ghost use Rattle.engine_tables.specs.declared.ended.Ended.{Ended as AnyEnded};
 ghost use Rattle.store_keep.specs.Opens.{HidesNothing};
 ghost use Rattle.self_test.specs.Documents.{documents_from};
-ghost use Rattle.self_test.specs.Ends.{Ends, Finds, IsOver, Works, first_tokens};
+ghost use Rattle.self_test.specs.Ends.{Ends, IsOver, Works, first_tokens};
 ghost use Rattle.self_test.specs.Summaries.{summary_of};
-ghost use Rattle.self_test.specs.steps.Engines.{AnswersEnd, IsReady, IsServable};
+ghost use Rattle.self_test.specs.steps.Engines.{HoldsNothing, IsAnswered, IsReady, LeadsTo};
 
+use crate::index::{one, own_index};
 use crate::running::run;
 use crate::{SelftestFault, Summary, Unexpected};
+use charset_map::a_text_is_read_in_one_way;
 use chunk_store::{Disk, MemoryDisk};
 use commit_outcomes::Strayed;
-use conf_text::read_conf;
 use engine_tables::{Ended, Ending, Engines, Named, Tokens, WorkerTables};
 use index_conf::IndexConf;
+use query_grammar::{a_query_has_no_fault, a_text_is_one_query};
+use query_pieces::each_text_has_pieces;
 use srch_base::{NoMemory, Or};
 use std::alloc::Global;
 use std::marker::Brand;
@@ -26,12 +29,15 @@ use store_keep::Opened;
 
 /// Runs a selftest over an engine of the index `t`, with the field `title` and the attribute `gid`, on a disk in memory. The engine
 /// has ended before this answers: where its history strayed, that is the answer, whatever was found.
+///
+/// Where it ended well, each statement was replied to as it has to be, or memory was refused, or a reply was too long.
 pub fn run_over_engine<R: Threads + Wait>(
     rt: &R,
     alloc: Global,
     number: u32,
     docs: u32,
 ) -> Result<Summary, SelftestFault>
+    requires { docs ≤ 100000 }
     ensures summary { IfOk result (λ summary. summary ≡ summary_of (documents_from number docs)) }
     ensures ends { Ends ⟦<MemoryDisk as Disk>⟧ (documents_from number docs) result }
 {
@@ -44,44 +50,21 @@ pub fn run_over_engine<R: Threads + Wait>(
     }
 }
 
-/// The index that the documents are written to.
-fn configuration() -> &'static [u8] {
-    b"index t\n{\ntype = rt\npath = .\nrt_field = title\nrt_attr_uint = gid\n}\n"
-}
-
-/// The same, as it was read. The text is a configuration, so that nothing but memory is refused.
-fn read_index(alloc: Global) -> Result<IndexConf, NoMemory>
-    ensures { IfOk result IsServable }
-{
-    match read_conf(alloc, configuration()) {
-        Ok(conf) => Ok(conf.indexes.into_vec().take_last()),
-        Err(_) => Err(NoMemory),
-    }
-}
-
 /// The index and its store on a disk. The disk fails for want of memory alone.
 fn open_index<D: Disk + Drop, R: Threads>(
     rt: &R,
     alloc: Global,
     disk: D,
 ) -> Result<(IndexConf, Opened<D>), NoMemory>
-    requires { HidesNothing D.Disk disk }
+    requires hides { HidesNothing D.Disk disk }
+    requires nothing { HoldsNothing D.Disk disk }
     ensures { IfOk result (λ made. IsReady D.Disk made.0 made.1) }
 {
-    let index = read_index(alloc)?;
+    let index = own_index(alloc)?;
     match Opened::open(rt, alloc, disk, &index.schema) {
         Ok(store) => Ok((index, store)),
         Err(_) => Err(NoMemory),
     }
-}
-
-/// A list of one element.
-fn one<T: Drop>(alloc: Global, element: T) -> Result<Vec<T>, NoMemory>
-    ensures { IfOk result (λ list. list.items ≡ element ∷ []) }
-{
-    let mut list = Vec::new(alloc);
-    list.push(element)?;
-    Ok(list)
 }
 
 /// What an engine is made of: the index, its store, and room for the token of one worker in the end.
@@ -110,7 +93,8 @@ fn run_over_store<D: Disk + Drop, J: Naming, R: Wait>(
     number: u32,
     docs: u32,
 ) -> Result<Summary, SelftestFault>
-    requires ready { IsServable index }
+    requires few { docs ≤ 100000 }
+    requires ready { IsReady D.Disk index store }
     requires named { AreNamed D.Disk J.book J.faults J.stops J.schema J.base J.opened (index ∷ []) (store ∷ []) }
     ensures summary { IfOk result (λ summary. summary ≡ summary_of (documents_from number docs)) }
     ensures ends { Ends D.Disk (documents_from number docs) result }
@@ -137,6 +121,7 @@ fn run_over_named<D: Disk + Drop, J: Naming, R: Wait>(
     number: u32,
     docs: u32,
 ) -> Result<Summary, SelftestFault>
+    requires few { docs ≤ 100000 }
     requires over { IsOver D.Disk J.schema J.base J.opened named.engines.confs }
     requires alone { named.engines.workers ≡ 1 }
     requires seats { named.seats.items ≡ first_tokens ∷ [] }
@@ -145,6 +130,10 @@ fn run_over_named<D: Disk + Drop, J: Naming, R: Wait>(
     ensures summary { IfOk result (λ summary. summary ≡ summary_of (documents_from number docs)) }
     ensures ends { Ends D.Disk (documents_from number docs) result }
 {
+    each_text_has_pieces();
+    a_query_has_no_fault();
+    a_text_is_one_query();
+    a_text_is_read_in_one_way();
     let Named {
         engines,
         mut seats,
@@ -167,7 +156,7 @@ fn work<D: Disk, J: Naming, R: Wait>(
     requires one { length engines.now.confs ≡ 1 }
     requires sits { SitsAt engines.now tokens }
     ensures summary { IfOk result.0 (λ summary. summary ≡ summary_of (documents_from number docs)) }
-    ensures finds { IfOk result.0 (λ summary. Finds J.schema J.base engines.now.confs (documents_from number docs) summary tokens result.1) }
+    ensures finds { LeadsTo J.schema J.base engines.now.confs (documents_from number docs) result.0 tokens result.1 }
     ensures works { Works J.schema J.base engines.now.confs tokens result.1 }
     ensures sits { SitsAt engines.now result.1 }
 {
@@ -195,8 +184,7 @@ fn answer(
     found: Result<Summary, Or<Unexpected>>,
     end: Result<(), Or<Strayed>>,
 ) -> Result<Summary, SelftestFault>
-    ensures summary { IfOk result (λ summary. found ≡ Ok summary) }
-    ensures ends { AnswersEnd end result }
+    ensures { IsAnswered found end result }
 {
     match end {
         Ok(()) => match found {

@@ -6,7 +6,9 @@ ghost use Rattle.ql_tree.specs.declared.statement.Statement.TheVariants as state
 ghost use Rattle.ql_write.specs.Canonical.{canonical_text};
 ghost use Rattle.self_test.specs.Documents.{document_from};
 ghost use Rattle.self_test.specs.Texts.{count_statement, insert_statement};
+ghost use Rattle.self_test.specs.declared.generator.Document.{Document as DocumentValue};
 ghost use Rattle.self_test.specs.declared.summary.Count.{Count as CountValue};
+ghost use Rattle.self_test.specs.steps.Letters.{IsSmall};
 
 use ql_write::canonical_text_is_read;
 
@@ -19,6 +21,13 @@ pub fn texts_are_read_as_statements()
     ensures commits { States (canonical_text statements.Commit) (statements.Commit ∷ []) }
     ensures flushes { States (canonical_text (statements.FlushRamchunk (codes "t"))) (statements.FlushRamchunk (codes "t") ∷ []) }
     ensures optimizes { States (canonical_text (statements.OptimizeIndex (codes "t"))) (statements.OptimizeIndex (codes "t") ∷ []) }
+{
+    canonical_text_is_read();
+}
+
+/// The same of the INSERT of each document that there is.
+pub(crate) fn inserts_are_read()
+    ensures { (id : ℕ) → (document : DocumentValue) → id < 2 ^ 64 → IsSmall document → States (canonical_text (insert_statement id document)) (insert_statement id document ∷ []) }
 {
     canonical_text_is_read();
 }

@@ -5,6 +5,7 @@ mod asking;
 mod engine;
 mod fault;
 mod generator;
+mod index;
 mod laws;
 mod running;
 mod summary;

@@ -1,30 +1,51 @@
 -- Engines: what is asked of an index and its store, and what the end of its engine says of an answer.
-use Rattle.std.specs.Prelude.{◌≡◌, Result, Ok, Err}
+use Rattle.std.specs.Prelude.{◌≡◌, ℕ, List, Some, None, Result, Ok, Err}
 use Rattle.srch_base.specs.declared.faults.Or.{Or}
 use Rattle.srch_base.specs.declared.faults.Or.TheVariants as causes
 use Rattle.chunk_store.specs.declared.disk.Disk.{Ghosts as DiskWords}
 use Rattle.commit_outcomes.specs.declared.strayed.Strayed.{Strayed}
-use Rattle.doc_types.specs.Schemas.{IsSchema}
 use Rattle.index_conf.specs.declared.conf.IndexConf.{IndexConf}
-use Rattle.store_keep.specs.Opens.{IsOpened}
+use Rattle.chunk_store.specs.Images.{Image}
+use Rattle.doc_types.specs.declared.schema.Schema.{Schema}
+use Rattle.engine_tables.specs.Tokens.{TokensValue}
+use Rattle.engine_tables.specs.Workers.{by_tokens}
+use Rattle.step_history.specs.History.{Base}
+use Rattle.store_keep.specs.Opens.{IsOpened, base_of}
 use Rattle.store_keep.specs.declared.opening.Opened.{Opened}
+use Rattle.self_test.specs.Conversations.{ComesTo}
+use Rattle.self_test.specs.Own.{IsEmpty, IsOurs}
+use Rattle.self_test.specs.steps.Servable.{IsServable}
+use Rattle.self_test.specs.declared.generator.Document.{Document}
 use Rattle.self_test.specs.declared.fault.SelftestFault.{SelftestFault}
 use Rattle.self_test.specs.declared.fault.SelftestFault.TheVariants.{NoMemory, Unexpected, Strayed as HasStrayed}
 use Rattle.self_test.specs.declared.summary.Summary.{Summary}
 
--- an index that can be served
-pub record IsServable (index : IndexConf) : Type 0 where
-  pub schema : IsSchema index.schema
-  pub zones : index.rules.zones ≡ index.schema.zones
+-- The disk tells that it has no files.
+pub record HoldsNothing {D : Type 0} (words : DiskWords D) (disk : D) : Type 0 where
+  pub image : Image
+  pub told : words.told disk ≡ Some image
+  pub none : (file : ℕ) → image file ≡ None
 
--- Its store was opened with its columns.
+-- It is the selftest's own, its store was opened with its columns, and has no documents.
 pub record IsReady {D : Type 0} (words : DiskWords D) (index : IndexConf) (store : Opened D) : Type 0 where
   pub servable : IsServable index
+  pub ours : IsOurs index
   pub opened : IsOpened words index.schema store
+  pub empty : IsEmpty (base_of store)
 
--- what an answer says of how the engine ended
-abbrev pub AnswersEnd : Result (Unit {0}) (Or Strayed) → Result Summary SelftestFault → Type 0
-AnswersEnd end (Ok summary) = end ≡ Ok tt
-AnswersEnd end (Err Unexpected) = end ≡ Ok tt
-AnswersEnd end (Err (HasStrayed strayed)) = end ≡ Err (causes.Fault strayed)
-AnswersEnd end (Err NoMemory) = Unit {0}
+-- The one worker of engines of these indexes, with these tokens, was led to such other ones by a conversation about these documents, which
+-- came to this.
+abbrev pub LeadsTo : {E : Type 0} → (ℕ → Schema) → (ℕ → Base) → List IndexConf → List Document → Result Summary (Or E) → TokensValue → TokensValue → Type 0
+LeadsTo schema base confs documents result first left =
+    ComesTo (λ worker. worker.confs) (by_tokens schema base) documents result (record { confs = confs; tokens = first }) (record { confs = confs; tokens = left })
+
+-- a conversation went astray, or found another thing than the documents have
+abbrev pub IsFault : {E : Type 0} → Result Summary (Or E) → Type 0
+IsFault {E} found = (fault : E) × (found ≡ Err (causes.Fault fault))
+
+-- what an answer says of what was found and of how the engine ended
+abbrev pub IsAnswered : {E : Type 0} → Result Summary (Or E) → Result (Unit {0}) (Or Strayed) → Result Summary SelftestFault → Type 0
+IsAnswered found end (Ok summary) = (found ≡ Ok summary) × (end ≡ Ok tt)
+IsAnswered found end (Err Unexpected) = IsFault found × (end ≡ Ok tt)
+IsAnswered found end (Err (HasStrayed strayed)) = end ≡ Err (causes.Fault strayed)
+IsAnswered found end (Err NoMemory) = Unit {0}

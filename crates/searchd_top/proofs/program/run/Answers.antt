@@ -5,7 +5,7 @@ use Rattle.command_line.specs.declared.mode.Mode.TheVariants.{Session, Serve, Ch
 use Rattle.program_host.specs.declared.status.Status.TheVariants.{NoMemory}
 use Rattle.searchd_top.specs.Runs.{Runs}
 use Rattle.searchd_top.proofs.Running.{runs_none, runs_unread}
-use Rattle.searchd_top.proofs.Words.{mode_is, not_usage, serves_within}
+use Rattle.searchd_top.proofs.Words.{documents_within, mode_is, not_usage, serves_within}
 use Rattle.searchd_top.proofs.program.run.Goals as goal
 
 pub returns-in-Some-Session-clause-runs : goal.returns-in-Some-Session-clause-runs
@@ -63,3 +63,10 @@ run_serve-requires-clause-numbers g c κs within =
     let read : c.in-Ok.mode ≡ Some (Serve v.config v.listen v.workers v.sessions) = search rules in
     (serves_within (map string_bytes c.args.words.now) v.config.now v.listen.now v.workers v.sessions
     (mode_is (map string_bytes c.args.words.now) c.in-Ok.mode (Some (Serve v.config v.listen v.workers v.sessions)) c.in-Ok.ensures.reads read)).1
+
+pub run_selftest-requires-clause-few : goal.run_selftest-requires-clause-few
+run_selftest-requires-clause-few g c κs within =
+    let v = c.in-Some-Selftest in
+    let read : c.in-Ok.mode ≡ Some (Selftest v.number v.docs) = search rules in
+    documents_within (map string_bytes c.args.words.now) v.number v.docs
+    (mode_is (map string_bytes c.args.words.now) c.in-Ok.mode (Some (Selftest v.number v.docs)) c.in-Ok.ensures.reads read)

@@ -1,10 +1,9 @@
 use Rattle.std.proofs.Common.{◌≡◌, ap, length, sym, subst, ◌∙◌}
-use Rattle.std.proofs.lemmas.Result.{IfOk-weaker}
 use Rattle.engine_tables.specs.Tokens.{SitsAt, TokensValue}
 use Rattle.engine_tables.specs.Workers.{WorkerValue}
 use Rattle.self_test.specs.Documents.{documents_from}
 use Rattle.self_test.proofs.Seats.{still_sits}
-use Rattle.self_test.proofs.Engines.{found_by}
+use Rattle.self_test.proofs.Engines.{found_by, works_by}
 use Rattle.self_test.proofs.engine.work.Goals as goal
 
 pub run-found-requires : goal.run-found-requires
@@ -18,7 +17,10 @@ returns-clause-sits g c =
 
 pub returns-clause-finds : goal.returns-clause-finds
 returns-clause-finds g c =
-    IfOk-weaker c.run-found.result _ _
-    (λ summary converses. found_by g.J.Naming.schema g.J.Naming.base c.args.engines.now.confs (documents_from c.args.number c.args.docs) summary c.args.tokens c.into_tokens.result c.over-tables.result c.run-found.new.tables
-    c.over-tables.ensures (c.run-found.ensures.confs ∙ ap (λ (w : WorkerValue). w.confs) c.over-tables.ensures) (sym c.into_tokens.ensures) converses)
-    c.run-found.ensures.converses
+    found_by g.J.Naming.schema g.J.Naming.base c.args.engines.now.confs (documents_from c.args.number c.args.docs) c.run-found.result c.args.tokens c.into_tokens.result c.over-tables.result c.run-found.new.tables
+    c.over-tables.ensures (c.run-found.ensures.confs ∙ ap (λ (w : WorkerValue). w.confs) c.over-tables.ensures) (sym c.into_tokens.ensures) c.run-found.ensures.comes
+
+pub returns-clause-works : goal.returns-clause-works
+returns-clause-works g c =
+    works_by g.J.Naming.schema g.J.Naming.base c.args.engines.now.confs c.args.tokens c.into_tokens.result c.over-tables.result c.run-found.new.tables
+    c.over-tables.ensures (c.run-found.ensures.confs ∙ ap (λ (w : WorkerValue). w.confs) c.over-tables.ensures) (sym c.into_tokens.ensures) c.run-found.ensures.leads

@@ -1,0 +1,57 @@
+use Rattle.std.proofs.Common.{refl, ◌∙◌}
+use Rattle.self_test.specs.declared.summary.Count.TheVariants.{Pairs, Groups}
+use Rattle.self_test.proofs.Conversing.{some_lost}
+use Rattle.self_test.proofs.Leading.{leads_then}
+use Rattle.self_test.proofs.running.count_all.Goals as goal
+
+pub returns-in-Ok-chunks-clause-sums : goal.returns-in-Ok-chunks-clause-sums
+returns-in-Ok-chunks-clause-sums g c = record {
+  many = refl;
+  state = c.count-in-Ok-count.new.client.session;
+  between = c.count-in-Ok-count.new.tables;
+  counts = (
+    c.count.new.client.session,
+    c.count.new.tables,
+    c.in-Ok.ensures.counts,
+    (c.count-in-Ok.new.client.session, c.count-in-Ok.new.tables, c.in-Ok-count.ensures.counts, c.in-Ok-count-2.ensures.counts),
+  );
+  sees = c.in-Ok-chunks.ensures.chunks;
+}
+
+pub returns-in-Ok-chunks-clause-leads : goal.returns-in-Ok-chunks-clause-leads
+returns-in-Ok-chunks-clause-leads g c =
+    let confs = g.T.Catalog.confs in
+    let words = g.T.TableStore.words in
+    let begun = c.args.tables.now in
+    let again = leads_then confs words begun c.count.new.tables c.count-in-Ok.new.tables c.count.ensures.leads c.count-in-Ok.ensures.leads in
+    let grouped = leads_then confs words begun c.count-in-Ok.new.tables c.count-in-Ok-count.new.tables again c.count-in-Ok-count.ensures.leads in
+    leads_then confs words begun c.count-in-Ok-count.new.tables c.chunks.new.tables grouped c.chunks.ensures.leads
+
+pub returns-in-Err-chunks-clause-leads : goal.returns-in-Err-chunks-clause-leads
+returns-in-Err-chunks-clause-leads g c =
+    let confs = g.T.Catalog.confs in
+    let words = g.T.TableStore.words in
+    let begun = c.args.tables.now in
+    let again = leads_then confs words begun c.count.new.tables c.count-in-Ok.new.tables c.count.ensures.leads c.count-in-Ok.ensures.leads in
+    let grouped = leads_then confs words begun c.count-in-Ok.new.tables c.count-in-Ok-count.new.tables again c.count-in-Ok-count.ensures.leads in
+    leads_then confs words begun c.count-in-Ok-count.new.tables c.chunks.new.tables grouped c.chunks.ensures.leads
+
+pub returns-in-Err-count-clause-leads : goal.returns-in-Err-count-clause-leads
+returns-in-Err-count-clause-leads g c = leads_then g.T.Catalog.confs g.T.TableStore.words c.args.tables.now c.count.new.tables c.count-in-Ok.new.tables c.count.ensures.leads c.count-in-Ok.ensures.leads
+
+pub returns-in-Err-count-2-clause-leads : goal.returns-in-Err-count-2-clause-leads
+returns-in-Err-count-2-clause-leads g c =
+    let confs = g.T.Catalog.confs in
+    let words = g.T.TableStore.words in
+    let begun = c.args.tables.now in
+    let again = leads_then confs words begun c.count.new.tables c.count-in-Ok.new.tables c.count.ensures.leads c.count-in-Ok.ensures.leads in
+    leads_then confs words begun c.count-in-Ok.new.tables c.count-in-Ok-count.new.tables again c.count-in-Ok-count.ensures.leads
+
+pub returns-in-Err-count-2-clause-sums : goal.returns-in-Err-count-2-clause-sums
+returns-in-Err-count-2-clause-sums g c =
+    some_lost g.T.Catalog.confs g.T.TableStore.words c.in-Err-count-2.fault Groups c.args.tables.now c.count-in-Ok.new.tables c.count-in-Ok-count.new.tables (c.count-in-Ok.ensures.confs ∙ c.count.ensures.confs)
+    c.in-Err-count-2.ensures.counts
+
+pub returns-in-Err-count-clause-sums : goal.returns-in-Err-count-clause-sums
+returns-in-Err-count-clause-sums g c =
+    some_lost g.T.Catalog.confs g.T.TableStore.words c.in-Err-count.fault Pairs c.args.tables.now c.count.new.tables c.count-in-Ok.new.tables c.count.ensures.confs c.in-Err-count.ensures.counts
