@@ -64,6 +64,7 @@ CLASSES = [
     ("the order of an attribute", "SELECT id, price FROM rt WHERE MATCH('{f1}') ORDER BY price DESC" + RANKED),
     ("the same without MATCH", "SELECT id, price FROM rt ORDER BY price DESC"),
     ("id =", "SELECT id, gid, price FROM rt WHERE id = {id}"),
+    ("the page at 1,000", "SELECT id FROM rt WHERE MATCH('{c1}') LIMIT 980, 20" + RANKED),
     ("the page at 10,000", "SELECT id FROM rt WHERE MATCH('{c1}') LIMIT 9980, 20" + RANKED + ", max_matches=10000"),
     ("GROUP BY", "SELECT gid, COUNT(*) FROM rt WHERE MATCH('{f1}') GROUP BY gid" + RANKED),
     ("a facet", "SELECT id FROM rt WHERE MATCH('{f1}')" + RANKED + " FACET gid"),

@@ -1,6 +1,6 @@
 """Asks a daemon random queries over random documents, and compares what it finds with a scan of its own.
 
-    python3 -m scripts.gate.random_queries --program PROGRAM [--docs 20000] [--queries 20000] [--seed 1]
+    python3 -m scripts.gate.random_queries --program PROGRAM [--docs 20000] [--queries 20000] [--seed 1] [--prefixes]
 
 starts the program over an empty folder and inserts documents with ids in no order, some by one statement each and some
 by many; in between it replaces and deletes some, so that there are several layers with dead rows. One query in four is asked
@@ -11,6 +11,10 @@ of the first thousand documents, and of how many there are, with a scan in Pytho
 it also compares a short page, in some order and by weights, with the beginning of the page that has all: a row that can't enter
 a full page isn't weighed. Words are few and drawn as in a natural text, so that most queries find something. It ends at the
 first query that differs.
+
+With --prefixes half of the words are cut and asked as prefixes, over an index that takes them. Then it also compares how many
+words a refused query has, what SHOW META tells of each keyword, and the weights of a few documents by some ranker
+(`prefix_scan`).
 """
 
 import argparse
@@ -22,6 +26,7 @@ from pathlib import Path
 from scripts.clients import jobs
 from scripts.clients.daemon import Daemon, Ended
 from scripts.clients.mysql_client import Lost, Refused
+from scripts.gate import prefix_scan
 from scripts.gate.last_line import ended
 
 FIELDS = ["title", "content"]
@@ -33,6 +38,12 @@ STATES = 4
 # Pages of up to so many rows are compared with short ones.
 WHOLE = 3000
 ORDERS = ["", " ORDER BY gid ASC", " ORDER BY WEIGHT() ASC", " ORDER BY gid DESC, WEIGHT() DESC"]
+# A prefix has 1 to 4 letters, so often.
+PREFIXES = (1, 4, 6, 3)
+
+
+class WithPrefixes(random.Random):
+    """Draws words that are prefixes as well."""
 
 
 def word(draws, least=0.0):
@@ -68,6 +79,10 @@ class Scan:
     def has(self, one):
         return self.having.get(one, set())
 
+    def beginning(self, prefix):
+        """The words with a prefix that some document has."""
+        return [one for one, numbers in self.having.items() if numbers and one.startswith(prefix)]
+
     def find(self, query, below):
         """The documents that the query matches, looked for among those whose words can be enough."""
         found = query.among(self)
@@ -75,23 +90,45 @@ class Scan:
 
 
 class Word:
-    """A word, in one field or in all."""
+    """A word or a prefix, in one field or in all; a prefix may ask for the first word of a field."""
+
+    prefix = first = False
 
     def __init__(self, draws):
         self.word = asked(draws)
         self.field = draws.randrange(2) if draws.random() < 0.15 else None
+        if isinstance(draws, WithPrefixes) and draws.random() < 0.5:
+            self.word = self.word[: draws.choices((1, 2, 3, 4), PREFIXES)[0]]
+            self.prefix, self.first = True, draws.random() < 0.1
+
+    def sign(self):
+        return "^" * self.first + self.word + "*" * self.prefix
 
     def __str__(self):
-        return self.word if self.field is None else f"(@{FIELDS[self.field]} {self.word})"
+        return self.sign() if self.field is None else f"(@{FIELDS[self.field]} {self.sign()})"
+
+    def written(self):
+        return self.sign() if self.field is None else f"(@({FIELDS[self.field]}) {self.sign()})"
+
+    def keys(self):
+        return [(self.word, self.prefix)]
 
     def spans(self, places):
         """Its occurrences: field, first and last position."""
-        return [(f, p, p) for f, p in places.get(self.word, []) if self.field in (None, f)]
+        words = [one for one in places if one.startswith(self.word)] if self.prefix else [self.word]
+        return [
+            (f, p, p)
+            for one in words
+            for f, p in places.get(one, [])
+            if self.field in (None, f) and (p == 1 or not self.first)
+        ]
 
     def matches(self, places):
         return bool(self.spans(places))
 
     def among(self, scan):
+        if self.prefix:
+            return set().union(*map(scan.has, scan.beginning(self.word)))
         return scan.has(self.word)
 
 
@@ -105,6 +142,11 @@ class Quoted:
     def __str__(self):
         sign = {"phrase": "", "near": f"~{self.number}", "some": f"/{self.number}"}[self.kind]
         return '"' + " ".join(self.words) + '"' + sign
+
+    written = __str__
+
+    def keys(self):
+        return [(one, False) for one in self.words]
 
     def spans(self, places):
         """The runs of a phrase."""
@@ -151,6 +193,12 @@ class Pair:
         sign = "<<" if self.near is None else f"NEAR/{self.near}"
         return f"({self.left} {sign} {self.right})"
 
+    def written(self):
+        return f"( {self.left.written()} {'<<' if self.near is None else f'NEAR/{self.near}'} {self.right.written()} )"
+
+    def keys(self):
+        return self.left.keys() + self.right.keys()
+
     def go_together(self, one, two):
         before = one[2] < two[1]
         if self.near is None:
@@ -179,6 +227,13 @@ class Group:
         sign = {"and": " ", "or": " | ", "maybe": " MAYBE "}[self.kind]
         nots = "".join(f" -({part})" for part in self.nots)
         return f"({sign.join(map(str, self.parts))}{nots})"
+
+    def written(self):
+        sign = {"and": " ", "or": " | ", "maybe": " MAYBE "}[self.kind]
+        return f"( {sign.join(part.written() for part in self.parts)}{''.join(f' -{part.written()}' for part in self.nots)} )"
+
+    def keys(self):
+        return [key for part in self.parts + self.nots for key in part.keys()]
 
     def matches(self, places):
         if self.kind == "or":
@@ -237,11 +292,15 @@ def ask(client, scan, draws):
     """One query; what is wrong with its reply, or None."""
     tree, below = query(draws), draws.choice([100, 100, 50, 5])
     text = f"SELECT id FROM rt WHERE MATCH('{tree}') AND gid < {below} LIMIT {SHOWN} OPTION ranker=none"
+    if prefix_scan.words(scan, tree) > prefix_scan.MOST_WORDS:
+        return prefix_scan.ask_refused(client, scan, tree, text)
     wanted = scan.find(tree, below)
     found = [int(row[0]) for row in client.query(text).rows]
-    told = int(dict(client.query("SHOW META").rows)["total_found"])
+    meta = dict(client.query("SHOW META").rows)
+    told = int(meta["total_found"])
     if found == wanted[:SHOWN] and told == len(wanted):
-        return ask_page(client, draws, tree, below, told) if 0 < told <= WHOLE else None
+        wrong = prefix_scan.differ(client, scan, draws, tree, wanted, meta) if isinstance(draws, WithPrefixes) else None
+        return wrong or (ask_page(client, draws, tree, below, told) if 0 < told <= WHOLE else None)
     return f"{text}: {len(found)} of {told} documents, wanted {len(wanted)}; first that differs: " + next(
         (f"{one} for {two}" for one, two in zip(found, wanted) if one != two), "none"
     )
@@ -260,9 +319,10 @@ def ask_page(client, draws, tree, below, told):
 
 def first_wrong(given):
     """How many queries find what the scan finds before the first that doesn't, and what is wrong with that one, or None."""
-    draws, scan, done = random.Random(given.seed), Scan(), 0
+    draws, scan, done = (WithPrefixes if given.prefixes else random.Random)(given.seed), Scan(), 0
+    columns = COLUMNS + ["min_prefix_len = 1"] * given.prefixes
     with tempfile.TemporaryDirectory() as folder:
-        daemon = Daemon(given.program, Path(folder), {"rt": COLUMNS}, 2)
+        daemon = Daemon(given.program, Path(folder), {"rt": columns}, 2)
         daemon.start()
         try:
             client = daemon.client()
@@ -298,6 +358,7 @@ def main():
     words.add_argument("--program", required=True)
     for name, number in (("docs", 20000), ("queries", 20000), ("seed", 1)):
         words.add_argument(f"--{name}", type=int, default=number)
+    words.add_argument("--prefixes", action="store_true", help="also asks prefixes")
     done, wrong = first_wrong(words.parse_args())
     if wrong:
         print(wrong)
