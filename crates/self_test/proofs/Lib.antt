@@ -48,7 +48,3 @@ pub mod Querying
 pub mod Served
 -- a SELECT that is lost
 pub mod Losing
--- its reply is short
-pub mod Brief
--- so none is lost
-pub mod Lost
