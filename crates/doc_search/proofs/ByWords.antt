@@ -21,6 +21,7 @@ use Rattle.op_eval.specs.Matching.{matches}
 use Rattle.op_eval.specs.Numbered.{IsHitOf}
 use Rattle.op_eval.proofs.KeywordHits.{hits_keyed}
 use Rattle.op_eval.proofs.Standing.{filter_always, places_absent}
+use Rattle.rankers.specs.Fields.{AreInFields}
 use Rattle.rankers.specs.Limits.{AreOfPositions}
 use Rattle.rankers.specs.Weight.{AreRanked, IsRanked, weight}
 use Rattle.rankers.specs.declared.ranker.Ranker.{Ranker}
@@ -135,6 +136,27 @@ weighs_up_to question docs number doc words most asked here some any fits count 
       ⊎_elim
       (λ (is : words ≡ present_in doc keys). limits hits (positions_in doc keys) some ranked (omega (arith, so_many doc keys, is)) (all_listed doc question.query list are))
       (λ (is : words ≡ question.query.keywords). limits hits (range_with_len 1 question.query.keywords) some ranked (omega (arith, length-range_with_len 1 question.query.keywords, is)) (of_range hits question.weights.list ranked))
+      (lesser words (present_in doc keys) question.query.keywords count) in
+      (weight ranker hits question.weights.list, ap (λ (its : Ranking). weigh its hits question.weights.list doc.doc.values) plain, limit);
+}
+
+-- the same where its hits lie in some fields alone
+pub weighs_within : (question : Question) (docs : List DocRow) (number : ℕ) (doc : DocRow) (words fields most : ℕ) → IsAskedOfDocs question docs → slice_get docs number ≡ Some doc → question.query.keywords ≢ 0 → list_any is_weighed question.filters ≡ false
+    → matches question.query doc ≡ true → words ≡ min (present_in doc (query_keys question.query)) question.query.keywords → ((hits : List Hit) → AreHits question.query doc hits → AreInFields fields hits)
+    → (ranker : Ranker) → question.ranker ≡ rankings.Plain ranker
+    → ((hits : Hits) (positions : List ℕ) → hits.keywords ≢ 0 → AreRanked hits question.weights.list → length positions ≤ words → AreOfPositions positions hits.list → AreInFields fields hits.list → weight ranker hits question.weights.list ≤ most)
+    → WeighsUpTo question doc most
+weighs_within question docs number doc words fields most asked here some any fits count inside ranker plain limits = record {
+  fits = fits;
+  any = any;
+  least = λ list are.
+      let hits : Hits = record { keywords = question.query.keywords; list = list } in
+      let keys = query_keys question.query in
+      let ranked = are_ranked asked.schema question doc hits asked.asked (doc_of asked.schema docs number doc asked.rows here) refl are in
+      let limit : weight ranker hits question.weights.list ≤ most =
+      ⊎_elim
+      (λ (is : words ≡ present_in doc keys). limits hits (positions_in doc keys) some ranked (omega (arith, so_many doc keys, is)) (all_listed doc question.query list are) (inside list are))
+      (λ (is : words ≡ question.query.keywords). limits hits (range_with_len 1 question.query.keywords) some ranked (omega (arith, length-range_with_len 1 question.query.keywords, is)) (of_range hits question.weights.list ranked) (inside list are))
       (lesser words (present_in doc keys) question.query.keywords count) in
       (weight ranker hits question.weights.list, ap (λ (its : Ranking). weigh its hits question.weights.list doc.doc.values) plain, limit);
 }

@@ -56,7 +56,7 @@ kept_all question (row ∷ rows) none =
     kept_by (passes question row) row (filter (passes question) rows) (ap (λ (filters : List Filter). list_all (λ condition. holds condition row) filters) none)
     ∙ ap (λ (later : List Row). row ∷ later) (kept_all question rows none)
 
-id_on : (docs : List DocRow) (at n : ℕ) (first doc : DocRow) → AllPairs (λ (row later : DocRow). row.doc.id < later.doc.id) docs → slice_get docs at ≡ Some first → slice_get docs n ≡ Some doc → at ≤ n → first.doc.id ≤ doc.doc.id
+pub id_on : (docs : List DocRow) (at n : ℕ) (first doc : DocRow) → AllPairs (λ (row later : DocRow). row.doc.id < later.doc.id) docs → slice_get docs at ≡ Some first → slice_get docs n ≡ Some doc → at ≤ n → first.doc.id ≤ doc.doc.id
 id_on docs at n first doc ascend here there on =
     elim (cases_eq at n) [
       | inl same ↦ (let it : first ≡ doc = cc in omega (arith, ap (λ (d : DocRow). d.doc.id) it))
@@ -99,7 +99,7 @@ module _ (question : Question) (docs : List DocRow) (most from at : ℕ) (no_mor
       }
 
 module _ {S : Type 0} (Took : S → List Row → S → Type 0) (question : Question) (first : S) where
-  gathers_beyond : (before left : List DocRow) (most from : ℕ) (old new : S) → question.filters ≡ [] → AreBeyond question most from left → Gathers Took question first before old
+  pub gathers_beyond : (before left : List DocRow) (most from : ℕ) (old new : S) → question.filters ≡ [] → AreBeyond question most from left → Gathers Took question first before old
       → ((rows its : List Row) → All (IsBeyond most from) its → length its ≡ length left → Took first rows old → Took first (rows ++ its) new) → Gathers Took question first (before ++ left) new
   gathers_beyond before left most from old new none beyond so takes = record {
     rows = so.rows ++ beyond.rows;

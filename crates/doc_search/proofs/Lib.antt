@@ -32,3 +32,5 @@ pub mod Stopping
 pub mod MostOfAll
 -- the rest of a layer, counted
 pub mod LayerRest
+-- rows that are gone over many at a time
+pub mod ManyRows

@@ -11,17 +11,12 @@ use Rattle.doc_types.specs.Snapshots.{LayerValue, all_living, living}
 use Rattle.op_eval.specs.Matching.{matches}
 use Rattle.op_eval.specs.Streams.{GoesTo, Stream, ahead}
 use Rattle.op_eval.proofs.NextMatches.{ahead_here}
-use Rattle.word_rows.proofs.Opening.{row_there}
 use Rattle.row_select.specs.declared.row.Row.{Row}
-use Rattle.doc_search.specs.Searches.{LacksWeight}
 use Rattle.doc_search.specs.declared.lacking.NoWeight.{NoWeight}
-use Rattle.doc_search.specs.declared.listed_rows.ListedRows.{ListedRows}
 use Rattle.doc_search.specs.declared.question.Question.{Question}
 use Rattle.doc_search.specs.steps.Gathering.{IsAmid, IsOnWay}
 use Rattle.doc_search.specs.steps.Lacking.{IfStopped, LacksSome}
-use Rattle.doc_search.specs.steps.ListedRows.{GoesPast, IsLed, Leaves}
 use Rattle.doc_search.proofs.Gathering.{gathers_none}
-use Rattle.doc_search.proofs.Leading.{led_past}
 use Rattle.doc_search.proofs.Members.{in_filter}
 
 -- what a search says where it ended so
@@ -52,7 +47,7 @@ module _ {S : Type 0} (Took : S → List Row → S → Type 0) (question : Quest
       (in_filter (matches question.query) (living layer) doc wanted).0
 
   -- the document at which the stream stands lives, if it matches
-  on_way_living : (layer : LayerValue) (number : ℕ) (old mid : Stream) (start here : S) (doc : DocRow) → Took start [] start → GoesTo old number mid → IsOnWay Took question layer start old here → slice_get layer.rows number ≡ Some doc → matches question.query doc ≡ true → Contains (living layer) doc
+  pub on_way_living : (layer : LayerValue) (number : ℕ) (old mid : Stream) (start here : S) (doc : DocRow) → Took start [] start → GoesTo old number mid → IsOnWay Took question layer start old here → slice_get layer.rows number ≡ Some doc → matches question.query doc ≡ true → Contains (living layer) doc
   on_way_living layer number old mid start here doc nothing next way at fits =
       let behind = ahead (record old { at = number + 1 }) in
       let now : ahead old ≡ number ∷ behind =
@@ -62,17 +57,6 @@ module _ {S : Type 0} (Took : S → List Row → S → Type 0) (question : Quest
       ∙ ap (λ query. cond (matches query doc) (number ∷ []) [] ++ behind) way.query
       ∙ ap (λ b. cond b (number ∷ []) [] ++ behind) fits in
       amid_living layer start [] number doc (ahead old) behind here now at (way.amid start [] (gathers_none Took question start nothing))
-
-  -- a search that ends there says so of the layer
-  pub layer_stopped : (layer : LayerValue) (docs : List DocRow) → docs ≡ layer.rows → (start here : S) → Took start [] start → (at number : ℕ) (old mid : Stream) (rows later : ListedRows) → IsLed Took question layer start old at rows here → (Leaves question docs at rows → GoesPast question docs at old (Some number) mid later)
-      → (end : Or NoWeight) → ((doc : DocRow) → slice_get docs number ≡ Some doc → IfStopped {A = Unit {0}} (Err end) (LacksWeight question doc)) → IfStopped {A = Unit {0}} (Err end) (LacksSome question (living layer))
-  layer_stopped layer docs its start here nothing at number old mid rows later led goes end lacks =
-      let past = led_past Took question layer docs its start here at old mid (Some number) rows later led goes in
-      let found = row_there old.rows number past.0.on.within in
-      let doc : DocRow = found.0 in
-      let there : slice_get layer.rows number ≡ Some doc = ap (λ rows. slice_get rows number) (sym led.way.docs) ∙ found.1 in
-      let lives : LacksWeight question doc → Contains (living layer) doc = λ own. on_way_living layer number (record old { at = past.0.from }) mid start here doc nothing past.0.on past.1 there own.fits in
-      when_stopped (LacksWeight question doc) (LacksSome question (living layer)) end (λ own. (doc, lives own, own)) (lacks doc (ap (λ rows. slice_get rows number) its ∙ there))
 
 -- ---- over layers
 in_layers : (layers : List LayerValue) (i : ℕ) (layer : LayerValue) (doc : DocRow) → i < length layers → layer ≡ get_or layers i layer → Contains (living layer) doc → Contains (all_living layers) doc

@@ -57,14 +57,14 @@ fn most_by_words<C: Chunk>(asked: &ReadyQuestion<'_>, stream: &mut Matches<'_, C
 }
 
 /// How many query positions the hits of a row have at most that has so many of the keywords, of a query that counts so many.
-fn positions_at_most(words: usize, keywords: u16) -> usize
+pub(crate) fn positions_at_most(words: usize, keywords: u16) -> usize
     ensures { result ≡ min words keywords }
 {
     words.min(usize::from(keywords))
 }
 
 /// The same for a document that weighs so much at most.
-fn offer_at_most<C: Chunk, S: Sink>(
+pub(crate) fn offer_at_most<C: Chunk, S: Sink>(
     asked: &ReadyQuestion<'_>,
     chunk: &C,
     number: u32,

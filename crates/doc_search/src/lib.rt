@@ -6,6 +6,7 @@ mod by_words;
 mod lacking;
 mod laws;
 mod listed_rows;
+mod pace;
 mod question;
 mod ranking;
 mod ready;
@@ -13,6 +14,7 @@ mod rest;
 mod room;
 mod scanning;
 mod searching;
+mod windows;
 
 pub use laws::{a_search_ends_in_one_way, a_search_shows_one_list};
 pub use question::Question;

@@ -29,6 +29,7 @@ use crate::all_rows::{collect_all, takes_all};
 use crate::by_words::offer_by_words;
 use crate::lacking::{NoWeight, first_lacking};
 use crate::listed_rows::ListedRows;
+use crate::pace::{Pace, collect_some};
 use crate::question::Question;
 use crate::ranking::Ranking;
 use crate::ready::ReadyQuestion;
@@ -133,14 +134,24 @@ fn collect_layer<L: Ledger, C: HitLists, S: Sink>(
     let mut stream = Matches::over(asked.alloc, &asked.question.query, &counted, dead)?;
     let mut listed = ListedRows::over(&counted, &asked.conditions);
     let mut most = most_of_all(asked);
+    let mut pace = Pace::of(asked);
     let mut at = 0;
     'rows: while let Some(number) = next_row(asked, &mut stream, &mut listed, &counted, at) {
         let done = count_rest(asked, &counted, dead, number, &mut most, sink, steps)?;
         if done {
             return Ok(());
         }
-        collect_row(asked, &counted, number, &mut stream, room, sink, steps)?;
-        at = number + 1;
+        at = collect_some(
+            asked,
+            &counted,
+            dead,
+            number,
+            &mut pace,
+            &mut stream,
+            room,
+            sink,
+            steps,
+        )?;
     }
     Ok(())
 }
@@ -166,7 +177,7 @@ fn next_row<C: Chunk>(
 }
 
 /// Passes over the rows from this one on up to that one.
-fn lead<C: Chunk>(stream: &mut Matches<'_, C>, at: u32, to: u32)
+pub(crate) fn lead<C: Chunk>(stream: &mut Matches<'_, C>, at: u32, to: u32)
     requires at { stream.old.at ≡ at }
     requires on { at ≤ to }
     requires within { to ≤ length stream.old.rows }
@@ -178,7 +189,8 @@ fn lead<C: Chunk>(stream: &mut Matches<'_, C>, at: u32, to: u32)
 }
 
 /// Goes on behind a row, and offers its document if it matches and passes the conditions.
-fn collect_row<C: CountedLists, S: Sink>(
+#[inline(always)]
+pub(crate) fn collect_row<C: CountedLists, S: Sink>(
     asked: &ReadyQuestion<'_>,
     chunk: &C,
     number: u32,

@@ -1,6 +1,6 @@
 //! What a chunk promises, whatever keeps it: each call is a fact about one list of rows. All that evaluates queries is written
 //! against this trait, and so are the chunks in memory and on disk. The crate's README tells the promises in plain words.
-ghost use Rattle.std.specs.Prelude.{◌≡◌, ℕ, ◌+◌, ◌<◌, ◌==◌, ◌++◌, List, [], length, map, unwrap_or, ◌↔◌, IsSome, IfSome, IfNone, OnOk, OnErr, slice_get, All};
+ghost use Rattle.std.specs.Prelude.{◌≡◌, ℕ, ◌+◌, ◌<◌, ◌≤◌, ◌==◌, ◌++◌, List, [], length, map, take, unwrap_or, ◌↔◌, IsSome, IfSome, IfNone, OnOk, OnErr, slice_get, All};
 ghost use Rattle.std.specs.Option.{option_map, option_map_or};
 ghost use Rattle.std.specs.List.{position};
 ghost use Rattle.doc_types.specs.Chunks.{
@@ -120,6 +120,27 @@ pub trait Chunk: Drop {
             self.advance(cursor);
         }
         NO_ROW
+    }
+
+    /// Takes the next rows that have the word to the front of a list, as many as there is room for, and goes over them; tells how many
+    /// they are. Where they are fewer, none is left.
+    fn take_rows(&self, cursor: &mut Cursor, into: &mut [u32]) -> usize
+        requires { belongs self.now cursor.old }
+        ensures stays { belongs self.now cursor.new }
+        ensures within { result ≤ length into.new }
+        ensures long { length into.new ≡ length into.old }
+        ensures word { (place self.now cursor.new).word ≡ (place self.now cursor.old).word }
+        ensures rows { take result into.new ++ (place self.now cursor.new).ahead ≡ (place self.now cursor.old).ahead }
+        ensures ended { result < length into.new → (place self.now cursor.new).ahead ≡ [] }
+    {
+        for taken in 0..into.len() {
+            match self.row(cursor) {
+                Some(row) => into[taken] = row,
+                None => return taken,
+            }
+            self.advance(cursor);
+        }
+        into.len()
     }
 
     /// Appends the positions of the last words of the row's fields, field by field, each 0 where the field has no word.

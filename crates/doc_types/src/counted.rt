@@ -90,6 +90,11 @@ impl<'a, C: HitLists, L: Ledger> Chunk for Counted<'a, C, L> {
         self.chunk.seek(cursor, row)
     }
 
+    #[inline]
+    fn take_rows(&self, cursor: &mut Cursor, into: &mut [u32]) -> usize {
+        self.chunk.take_rows(cursor, into)
+    }
+
     fn lasts(&self, row: u32, into: &mut Vec<u32>) -> Result<(), NoMemory> {
         self.chunk.lasts(row, into)
     }

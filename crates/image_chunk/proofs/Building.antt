@@ -10,7 +10,6 @@ use Rattle.doc_types.specs.Chunks.{IsContent}
 use Rattle.chunk_image.specs.ChunkImage.{IsImageOf}
 use Rattle.image_write.specs.Written.{IsWritten}
 use Rattle.image_parts.specs.Images.{HasZones, HaveImage}
-use Rattle.image_chunk.specs.Images.{Image}
 
 -- what holds of the elements gone over holds of one more, and of all in the end
 pub all_more : {X : Type 0} (P : X → Type 0) (xs : List X) (i : ℕ) (x : X) → i < length xs → x ≡ get_or xs i x → All P (take i xs) → P x → All P (take (i + 1) xs)

@@ -1,6 +1,6 @@
 -- A cursor before all rows of a word.
-use Rattle.std.proofs.Common.{◌≡◌, ℕ, zero, suc, ◌+◌, ◌-◌, ◌<◌, ◌≤◌, ◌^◌, true, List, [], ◌∷◌, ◌++◌, Option, Some, None, IsSome, length, take, drop, map, slice_get, refl, sym, ap, subst, ◌∙◌, arith, get_or, length-append}
-use Rattle.std.specs.List.{Contains, position}
+use Rattle.std.proofs.Common.{◌≡◌, ℕ, ◌+◌, ◌-◌, ◌<◌, ◌≤◌, List, [], ◌∷◌, ◌++◌, Some, None, IsSome, length, take, drop, slice_get, refl, sym, ap, subst, ◌∙◌, arith, get_or, length-append}
+use Rattle.std.specs.List.{position}
 use Rattle.std.specs.Str.{bytes_eq}
 use Rattle.std.proofs.lemmas.List.{drop-take, length-drop, length-map, take_at}
 use Rattle.std.proofs.lemmas.List.Quantifiers.{position-Some}
@@ -16,7 +16,7 @@ use Rattle.chunk_image.specs.ChunkImage.{postings_bytes, word_postings}
 use Rattle.image_parts.specs.Images.{HaveImage}
 use Rattle.image_chunk.proofs.Stepping.{number_some}
 use Rattle.image_chunk.specs.Images.{Image}
-use Rattle.image_chunk.specs.Places.{Entry, Here, IsList, Rising, StandsIn, list_in, place_of, place_in}
+use Rattle.image_chunk.specs.Places.{Entry, Here, IsList, Rising, StandsIn, list_in, place_in}
 use Rattle.image_chunk.specs.steps.OneImage.{none_else, words_are}
 use Rattle.image_chunk.specs.steps.CursorPlaces.{Stands, ahead_in, left_from, rising_in, rows_are, rows_in, stands_here}
 

@@ -221,7 +221,20 @@ impl ImageChunk {
         ensures next { place_in self.now.image.0.0 self.now.image.0.1 cursor.new ≡ next_place (place_in self.now.image.0.0 self.now.image.0.1 cursor.old) }
         ensures word { cursor.new.word ≡ cursor.old.word }
     {
-        let (at, index) = step(self.list(cursor.word), cursor.at, cursor.index);
+        self.go_along(self.list(cursor.word), cursor);
+    }
+
+    /// The same along the list of its word, which the caller has at hand.
+    #[inline(always)]
+    fn go_along(&self, list: &[u8], cursor: &mut Cursor)
+        requires list { list.now ≡ list_in self.now.image.0.0 self.now.image.0.1 self.now.bytes cursor.old.word }
+        requires belongs { StandsIn self.now.image.0.0 self.now.image.0.1 self.now.bytes cursor.old }
+        requires left { cursor.old.index ≡ NO_ROW → ⊥ }
+        ensures stays { StandsIn self.now.image.0.0 self.now.image.0.1 self.now.bytes cursor.new }
+        ensures next { place_in self.now.image.0.0 self.now.image.0.1 cursor.new ≡ next_place (place_in self.now.image.0.0 self.now.image.0.1 cursor.old) }
+        ensures word { cursor.new.word ≡ cursor.old.word }
+    {
+        let (at, index) = step(list, cursor.at, cursor.index);
         cursor.at = at;
         cursor.index = index;
     }
@@ -329,6 +342,19 @@ impl Chunk for ImageChunk {
             self.advance(cursor);
         }
         NO_ROW
+    }
+
+    /// The list is found once for all of these rows.
+    fn take_rows(&self, cursor: &mut Cursor, into: &mut [u32]) -> usize {
+        let list = self.list(cursor.word);
+        for taken in 0..into.len() {
+            match self.row(cursor) {
+                Some(row) => into[taken] = row,
+                None => return taken,
+            }
+            self.go_along(list, cursor);
+        }
+        into.len()
     }
 
     fn lasts(&self, row: u32, into: &mut Vec<u32>) -> Result<(), NoMemory> {

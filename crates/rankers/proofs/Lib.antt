@@ -20,6 +20,8 @@ pub mod AnyOrder
 pub mod LoneValues
 -- the most that hits of so many keywords weigh
 pub mod MostWeights
+-- the most that hits of so many keywords weigh in some fields
+pub mod MostWithin
 -- hits whose fields ascend
 pub mod Runs
 -- the first hit of a field

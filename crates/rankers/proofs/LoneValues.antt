@@ -112,7 +112,7 @@ weight_by_bits ranker fields query word total list weights hits asks not same is
 
 -- ---- where hits lie in some fields alone, no other field gives anything
 
-bit_there : (fields field : ℕ) (hits : List Hit) → AreInFields fields hits → list_any (λ hit. hit.field == field) hits ≡ true → has_bit fields field ≡ true
+pub bit_there : (fields field : ℕ) (hits : List Hit) → AreInFields fields hits → list_any (λ hit. hit.field == field) hits ≡ true → has_bit fields field ≡ true
 bit_there fields field [] all some = absurd (true≢false (sym some))
 bit_there fields field (hit ∷ hits) all some =
     elim (cases_Bool (hit.field == field)) [

@@ -15,7 +15,7 @@ use Rattle.rankers.proofs.FieldValues.{weight_is}
 use Rattle.rankers.proofs.WholeOffsets.{few_together}
 
 -- a sum of what is at most so many times each weight
-times : (n : ℕ) (gives : ℕ → ℕ → ℕ) → ((field w : ℕ) → gives field w ≤ n * w) → (first : ℕ) (weights : List ℕ) → sum_by (λ e. gives e.0 e.1) (enumerate_from first weights) ≤ n * sum weights
+pub times : (n : ℕ) (gives : ℕ → ℕ → ℕ) → ((field w : ℕ) → gives field w ≤ n * w) → (first : ℕ) (weights : List ℕ) → sum_by (λ e. gives e.0 e.1) (enumerate_from first weights) ≤ n * sum weights
 times n gives each first [] = omega arith
 times n gives each first (w ∷ ws) =
     let here = each first w in
@@ -28,13 +28,17 @@ at_most : (b : Bool) (value limit : ℕ) → value ≤ limit → cond b value 0 
 at_most true value limit few = few
 at_most false value limit few = omega arith
 
-IsProximity : Ranker → Type 0
-IsProximity rankers.Proximity = Unit {0}
-IsProximity _ = ⊥
+LooksAtHits : Ranker → Type 0
+LooksAtHits rankers.None = ⊥
+LooksAtHits _ = Unit {0}
 
-looks_at_hits : rankers.Proximity ≢ rankers.None
-unfolding IsProximity
-looks_at_hits is = subst IsProximity is tt
+pub by_proximity : rankers.Proximity ≢ rankers.None
+unfolding LooksAtHits
+by_proximity is = subst LooksAtHits is tt
+
+pub by_mask : rankers.FieldMask ≢ rankers.None
+unfolding LooksAtHits
+by_mask is = subst LooksAtHits is tt
 
 pub weighs_at_most : (ranker : Ranker) (hits : Hits) (weights positions : List ℕ) (keywords most : ℕ) → ranker ≡ rankers.Proximity → most ≡ keywords * sum weights
     → hits.keywords ≢ 0 → AreRanked hits weights → length positions ≤ keywords → AreOfPositions positions hits.list → weight ranker hits weights ≤ most
@@ -45,7 +49,7 @@ weighs_at_most ranker hits weights positions keywords most is value some ranked 
     (mul-le (lcs (in_field field hits.list)) w keywords w (let together = few_together field hits.list ranked.apart positions of in omega arith) (omega arith)) in
     let all = times keywords (λ field w. field_value rankers.Proximity limit field w hits.list) each 0 weights in
     let same : fields_value rankers.Proximity limit weights hits.list ≡ weight rankers.Proximity hits weights =
-    weight_is rankers.Proximity hits weights weights (fields_value rankers.Proximity limit weights hits.list) some looks_at_hits refl refl in
+    weight_is rankers.Proximity hits weights weights (fields_value rankers.Proximity limit weights hits.list) some by_proximity refl refl in
     let here : weight ranker hits weights ≡ weight rankers.Proximity hits weights = ap (λ (its : Ranker). weight its hits weights) is in
     omega arith
 

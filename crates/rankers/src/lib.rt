@@ -12,6 +12,6 @@ mod words;
 
 pub use by_fields::weight_of_fields;
 pub use field_factors::factors;
-pub use limits::{most_of_fields, most_weight};
+pub use limits::{most_of_fields, most_weight, most_within};
 pub use ranker::{Factors, MAX_FIELD_WEIGHT, Ranker, Weights};
 pub use weighing::weight;

@@ -1,5 +1,5 @@
 -- How many rows pass, by their flags.
-use Rattle.std.proofs.Common.{◌≡◌, ℕ, ◌+◌, ◌-◌, ◌<◌, ◌≤◌, suc, Bool, true, false, cond, ◌&&◌, List, [], ◌∷◌, ◌++◌, Some, map, length, get_or, drop, slice_get, refl, sym, ap, subst, ◌∙◌, arith}
+use Rattle.std.proofs.Common.{◌≡◌, ℕ, ◌+◌, ◌<◌, ◌≤◌, suc, Bool, true, false, cond, ◌&&◌, List, [], ◌∷◌, ◌++◌, Some, length, get_or, drop, slice_get, sym, ap, ◌∙◌, arith}
 use Rattle.std.specs.Prelude.{count_by, not}
 use Rattle.std.specs.List.{enumerate_from, filter}
 use Rattle.std.proofs.lemmas.List.{length-drop, length-map}
@@ -8,12 +8,11 @@ use Rattle.std.proofs.lemmas.List.Sums.{count_by-le-length, length-filter, sum_b
 use Rattle.std.proofs.lemmas.Option.{get_or_from_slice_get}
 use Rattle.doc_types.specs.declared.documents.DocRow.{DocRow}
 use Rattle.query_tree.specs.declared.query.Node.{Node}
-use Rattle.query_tree.specs.declared.query.Query.{Query}
 use Rattle.word_rows.proofs.Opening.{row_there}
 use Rattle.op_eval.specs.steps.Searching.{node_found}
 use Rattle.op_eval.specs.steps.Wanted.{is_wanted, numbers_from}
 use Rattle.op_eval.proofs.RowsAhead.{row_ahead}
-use Rattle.row_flags.specs.steps.Flags.{AreFlags, is_dead, node_matches}
+use Rattle.row_flags.specs.steps.Flags.{AreFlags, is_dead}
 
 module _ (passes : ℕ × DocRow → Bool) (rows : List DocRow) where
   one_more : (b : Bool) (n : ℕ) (ns : List ℕ) → length (cond b (n ∷ []) [] ++ ns) ≡ cond b 1 0 + length ns

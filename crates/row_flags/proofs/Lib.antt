@@ -6,3 +6,9 @@ pub mod Places
 pub mod NodeFlags
 -- how many rows pass, by their flags
 pub mod Counted
+-- rows that are taken of a cursor
+pub mod TakenRows
+-- what is told of a row by its keywords
+pub mod KeyTallies
+-- what is known of rows
+pub mod ToldRows

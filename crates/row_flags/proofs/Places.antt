@@ -1,9 +1,9 @@
 -- What a keyword's fields tell of a row that has its word.
-use Rattle.std.proofs.Common.{◌≡◌, ℕ, ◌+◌, Bool, true, false, ◌||◌, bit_and, List, [], ◌∷◌, ◌++◌, Option, Some, map, length, slice_get, refl, sym, ap, subst, ◌∙◌, cond}
-use Rattle.std.specs.Prelude.{◌==◌, not}
+use Rattle.std.proofs.Common.{◌≡◌, ℕ, ◌+◌, Bool, true, false, ◌||◌, bit_and, List, [], ◌∷◌, ◌++◌, Some, map, length, slice_get, inl, inr, refl, sym, ap, subst, ◌∙◌, cond}
+use Rattle.std.specs.Prelude.{◌==◌, All, not}
 use Rattle.std.specs.List.{enumerate_from, filter, flat_map, list_any}
 use Rattle.std.specs.Option.{option_and_then, option_map_or}
-use Rattle.std.proofs.lemmas.Bool.{eq-eqb, ne_eqb}
+use Rattle.std.proofs.lemmas.Bool.{cases_Bool, eq-eqb, ne_eqb}
 use Rattle.doc_types.specs.declared.documents.DocRow.{DocRow}
 use Rattle.doc_types.specs.declared.tokens.FieldTokens.{FieldTokens}
 use Rattle.doc_types.specs.declared.tokens.TokenWord.{TokenWord}
@@ -14,9 +14,10 @@ use Rattle.word_rows.specs.Keywords.{key_places}
 use Rattle.word_rows.specs.steps.Cursors.{IsUnlimited}
 use Rattle.word_rows.proofs.Allowed.{all_allowed}
 use Rattle.word_rows.proofs.FieldBits.{key_fields, no_field, no_place}
-use Rattle.word_rows.proofs.PlacedRows.{IsPlacedRow}
+use Rattle.word_rows.proofs.PlacedRows.{IsPlacedRow, at_one}
 use Rattle.op_eval.specs.Finding.{is_some}
-use Rattle.row_flags.specs.steps.Flags.{IsFree, has_place}
+use Rattle.row_flags.specs.steps.Flags.{AreFlags, IsFree, has_place}
+use Rattle.row_flags.proofs.RowsAhead.{without_word}
 
 -- ---- a word that a row has is at some place
 
@@ -58,6 +59,18 @@ free_place row key looks free placed has =
     let unlimited : IsUnlimited key (length row.doc.fields) = record { start = looks.start; end = looks.end; positions = looks.positions; zones = looks.zones; fields = free } in
     ap is_some (all_allowed row key (length row.doc.fields) refl unlimited placed) ∙ some_hits key.word row ∙ has
 
+free_has : (row : DocRow) (key : Key) (fields : ℕ) → LooksAtFields key → IsFree key fields → length row.doc.fields ≡ fields → IsPlacedRow row → has_word key.word row ≡ has_place key row
+free_has row key fields looks free long placed =
+    elim (cases_Bool (has_word key.word row)) [
+      | inl has ↦ has ∙ sym (free_place row key looks (subst (λ n. IsFree key n) (sym long) free) placed has)
+      | inr none ↦ none ∙ sym (without_word key row none)
+    ]
+
+pub free_flags : (rows : List DocRow) (key : Key) (fields from : ℕ) (flags : List Bool) → LooksAtFields key → IsFree key fields → All (λ row. length row.doc.fields ≡ fields) rows → All IsPlacedRow rows → AreFlags (has_word key.word) rows from flags → AreFlags (has_place key) rows from flags
+free_flags rows key fields from flags looks free long placed are = λ i row d within there.
+    are i row d within there
+    ∙ free_has row key fields looks free (at_one (λ row. length row.doc.fields ≡ fields) rows long (from + i) row there) (at_one IsPlacedRow rows placed (from + i) row there)
+
 -- ---- one that may stand in some
 
 some_places : (fields : ℕ) (places : List (ℕ × ℕ)) → AreFieldsOf fields places → is_some places ≡ not (fields == 0)
@@ -65,7 +78,7 @@ some_places fields [] are = sym (ap not (eq-eqb fields 0 (no_field fields are)))
 some_places fields (place ∷ places) are =
     sym (ap not (ne_eqb fields 0 (λ zero. absurd (let none = no_place (place ∷ places) (subst (λ n. AreFieldsOf n (place ∷ places)) zero are) in let clash : true ≡ false = ap is_some none in cc))))
 
-next_fields : (rows : List DocRow) (place : CursorPlace) (row : ℕ) (word : List ℕ) (found : DocRow) → place.word ≡ word → next_row place ≡ Some row → slice_get rows row ≡ Some found → fields_ahead rows place ≡ fields_with word found
+pub next_fields : (rows : List DocRow) (place : CursorPlace) (row : ℕ) (word : List ℕ) (found : DocRow) → place.word ≡ word → next_row place ≡ Some row → slice_get rows row ≡ Some found → fields_ahead rows place ≡ fields_with word found
 next_fields rows place row word found over next here =
     ap (λ o. option_map_or (fields_with place.word) (option_and_then (slice_get rows) o) 0) next
     ∙ (ap (λ o. option_map_or (fields_with place.word) o 0) here ∙ ap (λ w. fields_with w found) over)

@@ -1,15 +1,14 @@
 -- The rows ahead of a cursor over those that have a word, and the flags that are set by them.
-use Rattle.std.proofs.Common.{◌≡◌, ◌≢◌, ℕ, ◌+◌, ◌<◌, ◌≤◌, zero, suc, Bool, true, false, cond, ◌&&◌, ◌||◌, List, [], ◌∷◌, Option, Some, None, map, length, drop, get_or, set, slice_get, nat_lt, inl, inr, refl, sym, ap, subst, ◌∙◌, zero-add, arith}
-use Rattle.std.specs.Prelude.{◌==◌}
-use Rattle.std.specs.List.{enumerate_from, filter, list_any}
-use Rattle.std.proofs.lemmas.Bool.{cases_Bool, cases_eq, eq-eqb, ne_eqb, le-ltb, lt-ltb}
+use Rattle.std.proofs.Common.{◌≡◌, ◌≢◌, ℕ, ◌+◌, ◌<◌, ◌≤◌, zero, suc, Bool, true, false, cond, ◌&&◌, ◌||◌, List, [], ◌∷◌, Some, map, length, drop, get_or, set, slice_get, nat_lt, inl, inr, refl, sym, ap, subst, ◌∙◌, zero-add, arith}
+use Rattle.std.specs.List.{enumerate_from, filter}
+use Rattle.std.proofs.lemmas.Bool.{cases_eq, eq-eqb, ne_eqb, le-ltb, lt-ltb}
 use Rattle.std.proofs.lemmas.Bool.Decides.{nat_tests}
 use Rattle.std.proofs.lemmas.Grind.{get_or-set_at}
 use Rattle.std.proofs.lemmas.List.{get_or-set_other, length-set}
 use Rattle.doc_types.specs.declared.documents.DocRow.{DocRow}
 use Rattle.doc_types.specs.Chunks.{has_word, rows_from, rows_with}
 use Rattle.query_tree.specs.declared.key.Key.{Key}
-use Rattle.row_plans.proofs.Seeking.{Rises, is_in, is_in_below, numbers_rise, rises_from}
+use Rattle.row_plans.proofs.Seeking.{Rises, is_in, is_in_below, numbers_rise}
 use Rattle.word_rows.specs.Keywords.{allows}
 use Rattle.word_rows.proofs.Opening.{no_hits}
 use Rattle.op_eval.specs.Finding.{is_some}
@@ -46,7 +45,7 @@ pub record AreAhead (rows : List DocRow) (word : List ℕ) (at : ℕ) (ahead : L
   pub rise : Rises at ahead
   pub all : (number : ℕ) (row : DocRow) → at ≤ number → slice_get rows number ≡ Some row → is_in number ahead ≡ has_word word row
 
-all_ahead : (rows : List DocRow) (word : List ℕ) → AreAhead rows word 0 (rows_with word rows)
+pub all_ahead : (rows : List DocRow) (word : List ℕ) → AreAhead rows word 0 (rows_with word rows)
 all_ahead rows word = record {
   rise = numbers_rise (has_word word) 0 rows;
   all = λ number row on at. is_number (has_word word) 0 number number rows row (sym (zero-add number)) at;
@@ -56,7 +55,7 @@ rises_kept : (b : Bool) (from x : ℕ) (xs later : List ℕ) → nat_lt x from �
 rises_kept true from x xs later is rise so = so
 rises_kept false from x xs later is rise so = (grind (arith, nat_tests), rise)
 
-rises_sought : (from low : ℕ) (xs : List ℕ) → Rises low xs → Rises from (rows_from from xs)
+pub rises_sought : (from low : ℕ) (xs : List ℕ) → Rises low xs → Rises from (rows_from from xs)
 rises_sought from low [] rise = tt
 rises_sought from low (x ∷ xs) rise = rises_kept (nat_lt x from) from x xs (rows_from from xs) refl rise.1 (rises_sought from (x + 1) xs rise.1)
 
@@ -66,7 +65,7 @@ in_kept true from number x xs later is on so =
     so ∙ sym (ap (λ t. t || is_in number xs) (ne_eqb x number (λ same. absurd (omega (arith, same, low, on)))))
 in_kept false from number x xs later is on so = refl
 
-in_sought : (from number : ℕ) (xs : List ℕ) → from ≤ number → is_in number (rows_from from xs) ≡ is_in number xs
+pub in_sought : (from number : ℕ) (xs : List ℕ) → from ≤ number → is_in number (rows_from from xs) ≡ is_in number xs
 in_sought from number [] on = refl
 in_sought from number (x ∷ xs) on = in_kept (nat_lt x from) from number x xs (rows_from from xs) refl on (in_sought from number xs on)
 
@@ -89,8 +88,8 @@ next_ahead rows word at row ahead are = record {
 
 -- ---- flags
 
-no_place : (key : Key) (row : DocRow) → has_word key.word row ≡ false → has_place key row ≡ false
-no_place key row none = ap (λ hits. is_some (filter (allows row key) hits)) (no_hits key.word row none)
+pub without_word : (key : Key) (row : DocRow) → has_word key.word row ≡ false → has_place key row ≡ false
+without_word key row none = ap (λ hits. is_some (filter (allows row key) hits)) (no_hits key.word row none)
 
 -- Of the rows from one on those that were gone over have their flags, and the others have none.
 pub record AreFlagging (rows : List DocRow) (key : Key) (from : ℕ) (ahead : List ℕ) (flags : List Bool) : Type 0 where
@@ -121,7 +120,7 @@ module _ (rows : List DocRow) (key : Key) (from : ℕ) (flags : List Bool) where
       by false is =
           let past : flagging.at ≤ from + i = grind (arith, is) in
           let absent : has_word key.word row ≡ false = sym (flagging.left.all (from + i) row past there) ∙ none (from + i) (omega (arith, within)) in
-          flagging.told i row d within there ∙ ap (λ b. b && has_place key row) is ∙ sym (no_place key row absent)
+          flagging.told i row d within there ∙ ap (λ b. b && has_place key row) is ∙ sym (without_word key row absent)
 
   pub flagging_ended : (ahead : List ℕ) → ahead ≡ [] → AreFlagging rows key from ahead flags → AreFlags (has_place key) rows from flags
   flagging_ended ahead is flagging = flagging_last ahead flagging (λ number low. ap (is_in number) is)
@@ -157,7 +156,7 @@ module _ (rows : List DocRow) (key : Key) (from : ℕ) (flags : List Bool) where
         let past : flagging.at ≤ from + i = grind (arith, lt) in
         let absent : has_word key.word its ≡ false =
         sym (flagging.left.all (from + i) its past there) ∙ is_in_below row (from + i) (row ∷ ahead) low (omega arith, flagging.left.rise.1) in
-        sym (no_place key its absent)
+        sym (without_word key its absent)
 
     other : (i : ℕ) (its : DocRow) (d : Bool) → i ≢ k → i < length flags → slice_get rows (from + i) ≡ Some its → get_or (set flags k told) i d ≡ (nat_lt (from + i) (row + 1) && has_place key its)
     other i its d differ within there = by (nat_lt (from + i) row) refl

@@ -98,7 +98,7 @@ fn count_flagged<C: CountedLists>(
 
 /// Sets the flags of the rows from one on by whether the tree matches them and they aren't dead; or tells that more than words and
 /// their fields decides that.
-fn flag_living<C: CountedLists>(
+pub(crate) fn flag_living<C: CountedLists>(
     alloc: Global,
     root: &Node,
     chunk: &C,

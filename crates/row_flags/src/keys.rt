@@ -6,6 +6,7 @@ ghost use Rattle.word_rows.specs.Fields.{LooksAtFields};
 ghost use Rattle.word_rows.specs.Keywords.{has_field};
 ghost use Rattle.row_flags.specs.steps.Flags.{AreFlags, IsFree, has_place};
 
+use crate::words::flag_word;
 use doc_types::{Chunk, CountedLists, Cursor};
 use query_tree::Key;
 use srch_base::Steps;
@@ -27,9 +28,10 @@ pub(crate) fn flag_key<C: CountedLists>(
         return false;
     }
     unset(into);
-    let free = is_free(key, chunk.fields());
-    if let Some(cursor) = chunk.start(key.word.as_bytes()) {
-        flag_rows(key, free, chunk, cursor, from, into, steps);
+    if is_free(key, chunk.fields()) {
+        flag_word(key.word.as_bytes(), chunk, from, into);
+    } else if let Some(cursor) = chunk.start(key.word.as_bytes()) {
+        flag_rows(key, chunk, cursor, from, into, steps);
     }
     true
 }
@@ -56,11 +58,9 @@ fn has_field(fields: u32, field: u16) -> bool
     field < 32 && fields >> field & 1 == 1
 }
 
-/// Sets the flags of those rows from one on in which the keyword has a place, by a cursor before all rows that have its word. `free`
-/// says that it may stand in each field.
+/// Sets the flags of those rows from one on in which the keyword has a place, by a cursor before all rows that have its word.
 fn flag_rows<C: CountedLists>(
     key: &Key,
-    free: bool,
     chunk: &C,
     cursor: Cursor,
     from: u32,
@@ -69,7 +69,6 @@ fn flag_rows<C: CountedLists>(
 )
     requires within { from + length into.old ≤ length (C.content chunk.now) }
     requires looks { LooksAtFields key.now }
-    requires free { free ≡ true → (number : ℕ) (row : DocRow) → slice_get (C.content chunk.now) number ≡ Some row → IsFree key.now (length row.doc.fields) }
     requires belongs { C.belongs chunk.now cursor }
     requires first { C.place chunk.now cursor ≡ first_place key.now.word (C.content chunk.now) }
     requires none { (i : ℕ) (d : Bool) → i < length into.old → slice_index_or into.old i d ≡ false }
@@ -83,7 +82,7 @@ fn flag_rows<C: CountedLists>(
         if at >= into.len() {
             return;
         }
-        into[at] = stands_next(key, free, chunk, &here, row, steps);
+        into[at] = stands_next(key, chunk, &here, row, steps);
         chunk.advance(&mut here);
     }
 }
@@ -92,18 +91,16 @@ fn flag_rows<C: CountedLists>(
 #[inline(always)]
 fn stands_next<C: CountedLists>(
     key: &Key,
-    free: bool,
     chunk: &C,
     cursor: &Cursor,
     row: u32,
     steps: &mut Steps<C::Book>,
 ) -> bool
     requires looks { LooksAtFields key.now }
-    requires free { free ≡ true → (number : ℕ) (row : DocRow) → slice_get (C.content chunk.now) number ≡ Some row → IsFree key.now (length row.doc.fields) }
     requires belongs { C.belongs chunk.now cursor.now }
     requires word { (C.place chunk.now cursor.now).word ≡ key.now.word }
     requires next { next_row (C.place chunk.now cursor.now) ≡ Some row }
     ensures { (found : DocRow) → slice_get (C.content chunk.now) row ≡ Some found → has_word key.now.word found ≡ true → result ≡ has_place key.now found }
 {
-    free || chunk.fields_at(cursor, steps) & key.limit.fields != 0
+    chunk.fields_at(cursor, steps) & key.limit.fields != 0
 }

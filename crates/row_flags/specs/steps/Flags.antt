@@ -39,3 +39,7 @@ all_pass number items row = list_all (item_passes row number []) items
 -- the row of this number is one of these
 abbrev pub is_dead : List ℕ → ℕ → Bool
 is_dead dead row = list_any (λ d. d == row) dead
+
+-- the row of this number is among these
+abbrev pub is_one_of : List ℕ → ℕ → Bool
+is_one_of rows row = list_any (λ other. other == row) rows

@@ -5,13 +5,14 @@ use Rattle.doc_types.specs.declared.documents.DocRow.{DocRow}
 use Rattle.doc_types.specs.Snapshots.{LayerValue, living}
 use Rattle.op_eval.specs.Streams.{Stream, matching_from}
 use Rattle.doc_search.specs.declared.question.Question.{Question}
-use Rattle.doc_search.specs.steps.Gathering.{Gathers, IsAskedOfDocs, WeighNoMore}
+use Rattle.doc_search.specs.steps.Gathering.{IsAskedOfDocs, IsOnWay, WeighNoMore}
 use Rattle.doc_search.specs.steps.ListedRows.{Leaves}
+use Rattle.doc_search.specs.steps.Windows.{standing}
 use Rattle.doc_search.proofs.Gathering.{on_way_first}
 use Rattle.doc_search.proofs.LayerRest.{led_counted}
-use Rattle.doc_search.proofs.Leading.{led_last, led_on, led_to, led_within}
+use Rattle.doc_search.proofs.Leading.{led_last}
+use Rattle.doc_search.proofs.ManyRows.{led_carried, led_there, stopped_as}
 use Rattle.doc_search.specs.steps.Lacking.{LacksSome}
-use Rattle.doc_search.proofs.Stopping.{layer_stopped, stopped_with}
 use Rattle.doc_search.proofs.searching.collect_layer.Goals as goal
 
 pub rows-init : goal.rows-init
@@ -55,30 +56,45 @@ next_row-requires-clause-rows g c =
     ap g.C.Chunk.content (c.over-counted.ensures ∙ c.deref-chunk.ensures) ∙ ap (λ (its : LayerValue). its.rows) c.layer.view_is in
     subst (λ (rows : List DocRow). AllPairs (λ row later. row.doc.id < later.doc.id) rows) (sym docs) c.requires.rows.ids
 
-pub collect_row-requires-clause-stands : goal.collect_row-requires-clause-stands
-collect_row-requires-clause-stands g c =
+pub collect_some-requires-clause-number : goal.collect_some-requires-clause-number
+collect_some-requires-clause-number g c =
     let docs : g.C.Chunk.content c.over-counted.result.chunk.now ≡ c.args.layer.now.rows =
     ap g.C.Chunk.content (c.over-counted.ensures ∙ c.deref-chunk.ensures) ∙ ap (λ (its : LayerValue). its.rows) c.layer.view_is in
-    led_to g.S.Sink.Took c.args.asked.now c.args.layer.now (g.C.Chunk.content c.over-counted.result.chunk.now) docs c.args.sink.now c.rows.sink c.rows.at c.in-Some.number c.rows.stream c.next_row.new.stream c.rows.listed c.next_row.new.listed
-    c.rows.invariant.led c.in-Some.ensures
-
-pub overflow_add-at : goal.overflow_add-at
-overflow_add-at g c =
-    let docs : g.C.Chunk.content c.over-counted.result.chunk.now ≡ c.args.layer.now.rows =
-    ap g.C.Chunk.content (c.over-counted.ensures ∙ c.deref-chunk.ensures) ∙ ap (λ (its : LayerValue). its.rows) c.layer.view_is in
-    let within = led_within g.S.Sink.Took c.args.asked.now c.args.layer.now (g.C.Chunk.content c.over-counted.result.chunk.now) docs c.args.sink.now c.rows.sink c.rows.at c.in-Some.number c.rows.stream c.next_row.new.stream c.rows.listed c.next_row.new.listed
+    let dead : c.as_slice-dead.result.now ≡ c.args.layer.now.dead = c.as_slice-dead.ensures ∙ c.deref.ensures ∙ ap (λ (its : LayerValue). its.dead) c.layer.view_is in
+    let there = led_there g.S.Sink.Took c.args.asked.now c.args.layer.now (g.C.Chunk.content c.over-counted.result.chunk.now) docs c.as_slice-dead.result.now dead c.args.sink.now c.rows.sink c.rows.at c.in-Some.number c.rows.stream c.next_row.new.stream c.rows.listed c.next_row.new.listed
     c.rows.invariant.led c.in-Some.ensures in
-    omega (arith, within.1, c.layer.invariant.content.small.few_rows, ap (λ (its : LayerValue). length its.rows) c.layer.view_is)
+    there.within
+
+pub collect_some-requires-clause-lives : goal.collect_some-requires-clause-lives
+collect_some-requires-clause-lives g c =
+    let docs : g.C.Chunk.content c.over-counted.result.chunk.now ≡ c.args.layer.now.rows =
+    ap g.C.Chunk.content (c.over-counted.ensures ∙ c.deref-chunk.ensures) ∙ ap (λ (its : LayerValue). its.rows) c.layer.view_is in
+    let dead : c.as_slice-dead.result.now ≡ c.args.layer.now.dead = c.as_slice-dead.ensures ∙ c.deref.ensures ∙ ap (λ (its : LayerValue). its.dead) c.layer.view_is in
+    let there = led_there g.S.Sink.Took c.args.asked.now c.args.layer.now (g.C.Chunk.content c.over-counted.result.chunk.now) docs c.as_slice-dead.result.now dead c.args.sink.now c.rows.sink c.rows.at c.in-Some.number c.rows.stream c.next_row.new.stream c.rows.listed c.next_row.new.listed
+    c.rows.invariant.led c.in-Some.ensures in
+    there.lives
+
+pub collect_some-requires-clause-stands : goal.collect_some-requires-clause-stands
+collect_some-requires-clause-stands g c =
+    let docs : g.C.Chunk.content c.over-counted.result.chunk.now ≡ c.args.layer.now.rows =
+    ap g.C.Chunk.content (c.over-counted.ensures ∙ c.deref-chunk.ensures) ∙ ap (λ (its : LayerValue). its.rows) c.layer.view_is in
+    let dead : c.as_slice-dead.result.now ≡ c.args.layer.now.dead = c.as_slice-dead.ensures ∙ c.deref.ensures ∙ ap (λ (its : LayerValue). its.dead) c.layer.view_is in
+    let there = led_there g.S.Sink.Took c.args.asked.now c.args.layer.now (g.C.Chunk.content c.over-counted.result.chunk.now) docs c.as_slice-dead.result.now dead c.args.sink.now c.rows.sink c.rows.at c.in-Some.number c.rows.stream c.next_row.new.stream c.rows.listed c.next_row.new.listed
+    c.rows.invariant.led c.in-Some.ensures in
+    there.stands
 
 pub rows-preserved : goal.rows-preserved
 rows-preserved g c =
     let docs : g.C.Chunk.content c.over-counted.result.chunk.now ≡ c.args.layer.now.rows =
     ap g.C.Chunk.content (c.over-counted.ensures ∙ c.deref-chunk.ensures) ∙ ap (λ (its : LayerValue). its.rows) c.layer.view_is in
+    let dead : c.as_slice-dead.result.now ≡ c.args.layer.now.dead = c.as_slice-dead.ensures ∙ c.deref.ensures ∙ ap (λ (its : LayerValue). its.dead) c.layer.view_is in
+    let there = led_there g.S.Sink.Took c.args.asked.now c.args.layer.now (g.C.Chunk.content c.over-counted.result.chunk.now) docs c.as_slice-dead.result.now dead c.args.sink.now c.rows.sink c.rows.at c.in-Some.number c.rows.stream c.next_row.new.stream c.rows.listed c.next_row.new.listed
+    c.rows.invariant.led c.in-Some.ensures in
     let kept = c.in_ok-done.ensures.kept c.if-done.false in
     record {
-      led = led_on g.S.Sink.Took c.args.asked.now c.args.layer.now (g.C.Chunk.content c.over-counted.result.chunk.now) docs c.args.sink.now c.rows.sink c.rows.at c.in-Some.number c.rows.stream c.next_row.new.stream c.collect_row.new.stream c.rows.listed c.next_row.new.listed c.collect_row.new.sink
-          c.rows.invariant.led c.in-Some.ensures c.in_ok-collect_row.ensures.goes_on
-          (λ first gathered doc at so. c.in_ok-collect_row.ensures.gathers first gathered doc at (subst (Gathers g.S.Sink.Took c.args.asked.now first gathered) (sym kept) so));
+      led = led_carried g.S.Sink.Took c.args.asked.now c.args.layer.now (g.C.Chunk.content c.over-counted.result.chunk.now) docs c.as_slice-dead.result.now dead c.args.sink.now c.rows.sink c.in-Some.number c.in_ok-at.at c.next_row.new.stream c.collect_some.new.stream c.next_row.new.listed c.collect_some.new.sink
+          there c.in_ok-at.ensures.within.0 c.in_ok-at.ensures.within.1 c.in_ok-at.ensures.stands
+          (λ layer start way. c.in_ok-at.ensures.carries layer start (subst (IsOnWay g.S.Sink.Took c.args.asked.now layer start (standing c.args.asked.now (g.C.Chunk.content c.over-counted.result.chunk.now) c.as_slice-dead.result.now c.in-Some.number)) (sym kept) way));
       most = subst (λ (rows : List DocRow). IfSome c.count_rest.new.most (WeighNoMore c.args.asked.now rows)) docs c.in_ok-done.ensures.most;
     }
 
@@ -89,13 +105,17 @@ returns-clause-gathers g c =
     led_last g.S.Sink.Took c.args.asked.now c.args.layer.now (g.C.Chunk.content c.over-counted.result.chunk.now) docs c.args.sink.now c.rows.sink c.rows.at c.rows.stream c.next_row.new.stream c.rows.listed c.next_row.new.listed
     c.rows.invariant.led c.in_default.ensures
 
-pub returns-in_err-collect_row-clause-lacks : goal.returns-in_err-collect_row-clause-lacks
-returns-in_err-collect_row-clause-lacks g c =
+pub returns-in_err-at-clause-lacks : goal.returns-in_err-at-clause-lacks
+returns-in_err-at-clause-lacks g c =
     let docs : g.C.Chunk.content c.over-counted.result.chunk.now ≡ c.args.layer.now.rows =
     ap g.C.Chunk.content (c.over-counted.ensures ∙ c.deref-chunk.ensures) ∙ ap (λ (its : LayerValue). its.rows) c.layer.view_is in
-    stopped_with (LacksSome c.args.asked.now (living c.args.layer.now)) c.in_err-collect_row.field-0.0 c.from_residual-in_err-collect_row.result c.from_residual-in_err-collect_row.ensures.1
-    (layer_stopped g.S.Sink.Took c.args.asked.now c.args.layer.now (g.C.Chunk.content c.over-counted.result.chunk.now) docs c.args.sink.now c.rows.sink (g.met.S.Sink.nothing c.args.sink.now) c.rows.at c.in-Some.number c.rows.stream c.next_row.new.stream c.rows.listed c.next_row.new.listed
-    c.rows.invariant.led c.in-Some.ensures c.in_err-collect_row.field-0.0 c.in_err-collect_row.ensures.lacks)
+    let dead : c.as_slice-dead.result.now ≡ c.args.layer.now.dead = c.as_slice-dead.ensures ∙ c.deref.ensures ∙ ap (λ (its : LayerValue). its.dead) c.layer.view_is in
+    let there = led_there g.S.Sink.Took c.args.asked.now c.args.layer.now (g.C.Chunk.content c.over-counted.result.chunk.now) docs c.as_slice-dead.result.now dead c.args.sink.now c.rows.sink c.rows.at c.in-Some.number c.rows.stream c.next_row.new.stream c.rows.listed c.next_row.new.listed
+    c.rows.invariant.led c.in-Some.ensures in
+    let kept = c.in_ok-done.ensures.kept c.if-done.false in
+    stopped_as (Unit {0}) ℕ (LacksSome c.args.asked.now (living c.args.layer.now)) c.in_err-at.field-0.0 c.from_residual-in_err-at.result c.from_residual-in_err-at.ensures.1
+    (c.in_err-at.ensures.lacks c.args.layer.now c.args.sink.now (g.met.S.Sink.nothing c.args.sink.now)
+    (subst (IsOnWay g.S.Sink.Took c.args.asked.now c.args.layer.now c.args.sink.now (standing c.args.asked.now (g.C.Chunk.content c.over-counted.result.chunk.now) c.as_slice-dead.result.now c.in-Some.number)) (sym kept) there.way))
 
 pub returns-then-done-clause-gathers : goal.returns-then-done-clause-gathers
 returns-then-done-clause-gathers g c =

@@ -1,4 +1,4 @@
-use Rattle.std.proofs.Common.{◌<◌, ◌^◌, All, map, take}
+use Rattle.std.proofs.Common.{All, map, take}
 use Rattle.image_parts.specs.Images.{HasZones}
 use Rattle.image_write.specs.Written.{row_of}
 use Rattle.image_chunk.proofs.ram_chunk.docs_fit.Given as goal

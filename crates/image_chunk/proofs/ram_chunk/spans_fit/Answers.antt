@@ -1,4 +1,4 @@
-use Rattle.std.proofs.Common.{◌<◌, ◌^◌, All, arith}
+use Rattle.std.proofs.Common.{◌<◌, ◌^◌, arith}
 use Rattle.doc_types.specs.declared.tokens.ZoneSpan.{ZoneSpan}
 use Rattle.image_chunk.proofs.Building.{all_at, all_taken}
 use Rattle.image_chunk.proofs.ram_chunk.spans_fit.Goals as goal

@@ -1,4 +1,4 @@
-use Rattle.std.proofs.Common.{◌<◌, ◌^◌, All, take}
+use Rattle.std.proofs.Common.{All, take}
 use Rattle.image_parts.specs.Images.{HasZones}
 use Rattle.image_chunk.proofs.ram_chunk.zones_fit.Given as goal
 

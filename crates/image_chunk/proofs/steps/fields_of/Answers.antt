@@ -1,5 +1,3 @@
-use Rattle.std.proofs.Common.{length}
-use Rattle.posting_codec.specs.HitLists.{hit_list}
 use Rattle.image_chunk.proofs.Stepping.{passed, hits_here}
 use Rattle.image_chunk.proofs.steps.fields_of.Goals as goal
 

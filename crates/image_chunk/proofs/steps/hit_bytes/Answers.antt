@@ -1,4 +1,4 @@
-use Rattle.std.proofs.Common.{◌≡◌, ◌∙◌, ◌+◌, ◌-◌, ◌≤◌, ◌<◌, ◌^◌, ◌++◌, ◌∷◌, List, ℕ, length, drop, take, sym, ap, arith, rules}
+use Rattle.std.proofs.Common.{◌≡◌, ◌∙◌, ◌+◌, ◌≤◌, ◌<◌, ◌^◌, ◌∷◌, List, ℕ, length, drop, take, sym, ap, arith}
 use Rattle.std.proofs.lemmas.List.{take_at}
 use Rattle.posting_codec.specs.HitLists.{hit_list}
 use Rattle.posting_codec.specs.Numbers.{IsNumberAt, number}

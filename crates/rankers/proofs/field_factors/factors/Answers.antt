@@ -1,5 +1,4 @@
-use Rattle.std.proofs.Common.{◌≤◌, ◌^◌, arith}
-use Rattle.rankers.specs.Weight.{in_field, word_count, lcs}
+use Rattle.std.proofs.Common.{arith}
 use Rattle.rankers.proofs.FewHits.{few_in_field}
 use Rattle.rankers.proofs.OffsetRing.{lcs_few}
 use Rattle.rankers.proofs.FieldValues.{words_few}

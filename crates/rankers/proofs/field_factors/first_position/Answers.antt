@@ -1,4 +1,4 @@
-use Rattle.std.proofs.Common.{◌≤◌, arith, ap, ◌∙◌, None, length, sym}
+use Rattle.std.proofs.Common.{◌≤◌, arith, ap, ◌∙◌, None, length}
 use Rattle.std.specs.Prelude.{fold}
 use Rattle.std.proofs.lemmas.List.{take_all}
 use Rattle.rankers.specs.steps.FieldValue.{with_hit}

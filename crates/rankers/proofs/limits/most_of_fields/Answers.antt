@@ -1,4 +1,4 @@
-use Rattle.std.proofs.Common.{ap, subst, sym, ◌≤◌}
+use Rattle.std.proofs.Common.{subst, sym, ◌≤◌}
 use Rattle.rankers.specs.Weight.{weight}
 use Rattle.rankers.specs.declared.ranker.Ranker.{Ranker}
 use Rattle.rankers.proofs.LoneValues.{weight_up_to_bits, weighs_one}

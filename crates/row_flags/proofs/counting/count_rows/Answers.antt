@@ -1,4 +1,4 @@
-use Rattle.std.proofs.Common.{◌≡◌, ◌+◌, ◌≤◌, ◌∙◌, ℕ, Option, IfSome, length, ap, subst, arith}
+use Rattle.std.proofs.Common.{◌≡◌, ◌+◌, ℕ, Option, IfSome, length, ap, subst, arith}
 use Rattle.op_eval.specs.steps.Wanted.{is_wanted, numbers_from}
 use Rattle.op_eval.proofs.RowsAhead.{end_ahead}
 use Rattle.row_flags.proofs.Counted.{few_numbers}

@@ -1,4 +1,4 @@
-use Rattle.std.proofs.Common.{◌≡◌, ◌+◌, ◌-◌, ◌≤◌, ◌<◌, ◌∙◌, ℕ, length, refl, sym, ap, arith}
+use Rattle.std.proofs.Common.{◌-◌, ◌≤◌, ◌∙◌, refl, sym, ap, arith}
 use Rattle.std.proofs.lemmas.List.{length-set}
 use Rattle.doc_types.specs.Chunks.{CursorPlace, rows_from}
 use Rattle.row_flags.proofs.RowsAhead.{flagging_ended, flagging_first, flagging_has, flagging_next, flagging_on, flagging_past}

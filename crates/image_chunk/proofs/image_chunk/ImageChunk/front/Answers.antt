@@ -1,7 +1,6 @@
-use Rattle.std.proofs.Common.{◌≡◌, ◌∙◌, Some, [], get_or, slice_get, sym, ap, drop, subst}
+use Rattle.std.proofs.Common.{◌≡◌, ◌∙◌, [], get_or, sym, ap, drop}
 use Rattle.std.proofs.lemmas.Option.{get_or_from_slice_get}
 use Rattle.doc_types.specs.Chunks.{first_place}
-use Rattle.image_chunk.specs.Places.{place_in}
 use Rattle.image_chunk.proofs.Cursors.{list_small}
 use Rattle.image_chunk.proofs.Starting.{is_list, is_there, place_first, seen, stands_first}
 use Rattle.image_chunk.proofs.image_chunk.ImageChunk.front.Goals as goal

@@ -1,4 +1,4 @@
-use Rattle.std.proofs.Common.{◌≡◌, ◌-◌, ◌∙◌, Some, [], get_or, slice_get, sym, ap, drop, length, arith}
+use Rattle.std.proofs.Common.{◌≡◌, ◌-◌, ◌∙◌, [], get_or, sym, ap, drop, length, arith}
 use Rattle.std.proofs.lemmas.List.{length-drop, take_all}
 use Rattle.std.proofs.lemmas.Option.{get_or_from_slice_get}
 use Rattle.chunk_image.specs.ChunkImage.{word_postings}

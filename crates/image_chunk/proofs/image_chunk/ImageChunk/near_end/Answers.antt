@@ -1,4 +1,4 @@
-use Rattle.std.proofs.Common.{◌-◌, arith, rules, slice_index_or, tests}
+use Rattle.std.proofs.Common.{◌-◌, rules, slice_index_or, tests}
 use Rattle.image_chunk.specs.Places.{place_in}
 use Rattle.image_chunk.proofs.Cursors.{left_next}
 use Rattle.image_chunk.proofs.Starting.{first_next}

@@ -1,6 +1,4 @@
-use Rattle.std.proofs.Common.{◌≡◌, ◌∙◌, Some, sym, refl, rules}
-use Rattle.std.specs.List.{position}
-use Rattle.std.specs.Str.{bytes_eq}
+use Rattle.std.proofs.Common.{◌∙◌, sym, refl, rules}
 use Rattle.image_chunk.proofs.Starting.{is_found, none_there, seen}
 use Rattle.image_chunk.proofs.image_chunk.ImageChunkChunk.start.Goals as goal
 

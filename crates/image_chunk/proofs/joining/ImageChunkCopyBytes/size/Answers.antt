@@ -1,4 +1,4 @@
-use Rattle.std.proofs.Common.{ap, ◌∙◌, length, rules}
+use Rattle.std.proofs.Common.{rules}
 use Rattle.image_chunk.proofs.Sizes.{sized}
 use Rattle.image_chunk.proofs.joining.ImageChunkCopyBytes.size.Goals as goal
 
