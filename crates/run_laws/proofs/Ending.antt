@@ -34,7 +34,7 @@ use Rattle.searchd_top.specs.Deeds.{Count, Deeds}
 use Rattle.searchd_top.specs.Output.{SaysLines}
 use Rattle.searchd_top.specs.Plans.{Plan}
 use Rattle.searchd_top.specs.Runs.{Runs, SaysRefused, Works}
-use Rattle.searchd_top.specs.Selftests.{SaysSelftest, selftest_lines}
+use Rattle.searchd_top.specs.Selftests.{SaysSelftest}
 use Rattle.searchd_top.specs.Sessions.{HaveWorked, SaysIdle, ServesIndexes, status_after, status_of_ends, unless_decided}
 use Rattle.run_laws.specs.GoodRuns.{EndsWell, IsCalm, IsConfiguration, IsGoodRun, AreUndamaged, IsUndamaged, IsWellAsked, NothingFails}
 
@@ -187,10 +187,10 @@ module _ {S D K : Type 0} (store : DiskWords S) (door : DoorWords D K) (link : L
   selftest_says number docs (Strayed index numbers) says = tt
   selftest_says number docs NoMemory says = tt
   selftest_says number docs Done says = tt
-  selftest_says number docs Usage says = lines_well Usage (selftest_lines number docs) says.1
-  selftest_says number docs (Config line kind) says = lines_well (Config line kind) (selftest_lines number docs) says.1
-  selftest_says number docs HostFault says = lines_well HostFault (selftest_lines number docs) says.1
-  selftest_says number docs (Damaged index file place kind) says = lines_well (Damaged index file place kind) (selftest_lines number docs) says.1
+  selftest_says number docs Usage says = lines_well Usage says.0 says.2
+  selftest_says number docs (Config line kind) says = lines_well (Config line kind) says.0 says.2
+  selftest_says number docs HostFault says = lines_well HostFault says.0 says.2
+  selftest_says number docs (Damaged index file place kind) says = lines_well (Damaged index file place kind) says.0 says.2
 
   works_well : (mode : Option Mode) (status : Status) → Works store door link mode indexes status deeds → EndsWell status
   works_well (Some (session file)) status works = served_well _ _ status works

@@ -21,7 +21,7 @@ use Rattle.searchd_top.specs.Deeds.{Count, Deeds, Does}
 use Rattle.searchd_top.specs.Output.{SaysLines}
 use Rattle.searchd_top.specs.Requests.{text_requests}
 use Rattle.searchd_top.specs.Runs.{Runs, SaysRefused, Works}
-use Rattle.searchd_top.specs.Selftests.{HasEnded, IsUnprinted, SaysSelftest, selftest_lines}
+use Rattle.searchd_top.specs.Selftests.{HasEnded, IsUnprinted, SaysSelftest}
 use Rattle.searchd_top.specs.steps.Sides.{Asks, Configures, DoesBy, KeepsLent, PrintsOut}
 use Rattle.searchd_top.proofs.Doing.{asking, asks_nothing, does_after, does_asking, does_then, idle_asking, requested_none, then_nothing}
 
@@ -37,14 +37,14 @@ says_unconfigured texts mode file (Damaged index number place kind) before now n
 says_unconfigured texts mode file (Strayed index strayed) before now named c = absurd c
 
 -- lines that were printed are those of a selftest
-says_printed : (number docs : ℕ) (status : Status) (output : List ℕ) (count : Count) → HasEnded number docs → SaysLines status (selftest_lines number docs) output count → SaysSelftest number docs status output count
-says_printed number docs Done output count ended says = (ended, says)
-says_printed number docs HostFault output count ended says = (ended, says)
-says_printed number docs NoMemory output count ended says = says
-says_printed number docs Usage output count ended says = absurd says
-says_printed number docs (Config line kind) output count ended says = absurd says
-says_printed number docs (Damaged index file place kind) output count ended says = absurd says
-says_printed number docs (Strayed index strayed) output count ended says = absurd says
+says_printed : (number docs : ℕ) (status : Status) (lines output : List ℕ) (count : Count) → HasEnded number docs lines → SaysLines status lines output count → SaysSelftest number docs status output count
+says_printed number docs Done lines output count ended says = (lines, ended, says)
+says_printed number docs HostFault lines output count ended says = (lines, ended, says)
+says_printed number docs NoMemory lines output count ended says = says
+says_printed number docs Usage lines output count ended says = absurd says
+says_printed number docs (Config line kind) lines output count ended says = absurd says
+says_printed number docs (Damaged index file place kind) lines output count ended says = absurd says
+says_printed number docs (Strayed index strayed) lines output count ended says = absurd says
 
 -- a selftest without lines printed none
 says_unprinted : (number docs : ℕ) (status : Status) (before : ℕ) → IsUnprinted status → SaysSelftest number docs status [] (record { before = before; now = before })
@@ -102,9 +102,9 @@ module _ {H S D K : Type 0} (host : HostWords H S D K) (store : DiskWords S) (do
   )
 
   -- a selftest printed its lines
-  pub runs_printed : (number docs : ℕ) (status : Status) (old new : H) → HasEnded number docs → PrintsOut host status (selftest_lines number docs) old new → KeepsLent host old new
+  pub runs_printed : (number docs : ℕ) (status : Status) (lines : List ℕ) (old new : H) → HasEnded number docs lines → PrintsOut host status lines old new → KeepsLent host old new
       → host.requests new ≡ host.requests old → host.faults new ≡ host.faults old → Runs host store door link (Some (selftest number docs)) status old new
-  runs_printed number docs status old new ended (output, printed, says) lent same still =
+  runs_printed number docs status lines old new ended (output, printed, says) lent same still =
       let deeds : Deeds S D = record (asking host [] old new) { output = output } in
       let none : Does host old old (asking host [] old old) = does_asking host [] old old (asks_nothing host old) in
       let does : Does host old new deeds = record {
@@ -117,7 +117,7 @@ module _ {H S D K : Type 0} (host : HostWords H S D K) (store : DiskWords S) (do
       } in (
         deeds,
         does,
-        inr (record { indexes = []; are = refl; later = []; asked = refl; works = record { requests = refl; stores = refl; doors = refl; faults = still; says = says_printed number docs status output deeds.print_faults ended says } }),
+        inr (record { indexes = []; are = refl; later = []; asked = refl; works = record { requests = refl; stores = refl; doors = refl; faults = still; says = says_printed number docs status lines output deeds.print_faults ended says } }),
       )
 
   -- a selftest ended without its lines

@@ -4,19 +4,20 @@ use Rattle.srch_base.specs.declared.faults.Or.TheVariants as causes
 use Rattle.chunk_store.specs.contracts.memory_disk.MemoryDiskDisk.TheImpl as memory
 use Rattle.self_test.specs.Documents.{documents_from}
 use Rattle.self_test.specs.Ends.{Ends, EndsBy}
-use Rattle.self_test.specs.Summaries.{lines_of, summary_of}
+use Rattle.self_test.specs.Summaries.{IsSummary, lines_of}
+use Rattle.self_test.specs.declared.summary.Summary.{Summary}
 use Rattle.program_host.specs.declared.status.Status.{Status}
 use Rattle.program_host.specs.declared.status.Status.TheVariants.{Done, Usage, Config, HostFault, Damaged, NoMemory, Strayed}
 use Rattle.searchd_top.specs.Deeds.{Count, Deeds, IsStill}
 use Rattle.searchd_top.specs.Output.{SaysLines}
 
--- the lines of a selftest: the summary of the documents that its number stands for
-unfoldable pub selftest_lines : ℕ → ℕ → List ℕ
-selftest_lines number docs = lines_of (summary_of (documents_from number docs))
-
--- Its engine ended with a note of the whole history, by what the conversation left that found the numbers of the lines.
-abbrev pub HasEnded : ℕ → ℕ → Type 0
-HasEnded number docs = Ends memory.ghosts (documents_from number docs) (Ok (summary_of (documents_from number docs)))
+-- The lines are those of a summary of the documents that the number stands for, and its engine ended with a note of the whole history, by
+-- what the conversation left that found the summary.
+pub record HasEnded (number docs : ℕ) (lines : List ℕ) : Type 0 where
+  pub summary : Summary
+  pub is : IsSummary (documents_from number docs) summary
+  pub ended : Ends memory.ghosts (documents_from number docs) (Ok summary)
+  pub lines_are : lines ≡ lines_of summary
 
 -- It ended without its lines: memory was refused, or the end of its engine, which is over a disk in memory, answered that the history of
 -- the index strayed.
@@ -29,11 +30,12 @@ IsUnprinted (Config number kind) = ⊥
 IsUnprinted HostFault = ⊥
 IsUnprinted (Damaged index file place kind) = ⊥
 
--- Its engine has ended, and the lines were printed, as the status says; or the index strayed as its engine ended, and none was.
+-- Its engine has ended, and its lines were printed, as the status says; or memory was refused, or the index strayed as its engine ended,
+-- and none was.
 abbrev pub SaysSelftest : ℕ → ℕ → Status → List ℕ → Count → Type 0
 SaysSelftest number docs (Strayed name strayed) output count = IsUnprinted (Strayed name strayed) × (output ≡ []) × IsStill count
-SaysSelftest number docs NoMemory output count = SaysLines NoMemory (selftest_lines number docs) output count
-SaysSelftest number docs status output count = HasEnded number docs × SaysLines status (selftest_lines number docs) output count
+SaysSelftest number docs NoMemory output count = (output ≡ []) × IsStill count
+SaysSelftest number docs status output count = (lines : List ℕ) × HasEnded number docs lines × SaysLines status lines output count
 
 pub record PrintsSelftest {S D : Type 0} (number docs : ℕ) (status : Status) (deeds : Deeds S D) : Type 0 where
   pub requests : deeds.requests ≡ []

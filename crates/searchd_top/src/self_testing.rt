@@ -2,15 +2,16 @@
 ghost use Rattle.std.specs.Prelude.{◌≡◌, ◌≤◌, List, Err, Some, IfErr, IfOk, string_bytes};
 ghost use Rattle.command_line.specs.Modes.{selftest};
 ghost use Rattle.self_test.specs.Ends.{Ends};
+ghost use Rattle.self_test.specs.Summaries.{lines_of};
 ghost use Rattle.self_test.specs.declared.generator.Document.{Document};
 ghost use Rattle.program_host.specs.Statuses.{NamesIndex};
 ghost use Rattle.searchd_top.specs.Runs.{Runs};
-ghost use Rattle.searchd_top.specs.Selftests.{HasEnded, IsUnprinted, selftest_lines};
+ghost use Rattle.searchd_top.specs.Selftests.{HasEnded, IsUnprinted};
 
 use crate::printing::print_output;
 use chunk_store::{Disk, MemoryDisk};
 use program_host::{Host, Status, Stream};
-use self_test::{SelftestFault, run_over_engine};
+use self_test::{SelftestFault, Summary, run_over_engine};
 use srch_base::{Name, NoMemory};
 use std::alloc::Global;
 use std::sync::Wait;
@@ -42,7 +43,6 @@ pub(crate) fn run_selftest<H: Host, R: Threads + Wait>(
 }
 
 /// The lines of a selftest, or how it ended without them.
-#[tactic(auto, unfolding(crate::specs::Selftests::selftest_lines))]
 fn selftest_lines<R: Threads + Wait>(
     rt: &R,
     alloc: Global,
@@ -50,23 +50,31 @@ fn selftest_lines<R: Threads + Wait>(
     docs: u32,
 ) -> Result<String, Status>
     requires { docs ≤ 100000 }
-    ensures lines { IfOk result (λ lines. string_bytes lines ≡ selftest_lines number docs) }
-    ensures ended { IfOk result (λ lines. HasEnded number docs) }
+    ensures ended { IfOk result (λ lines. HasEnded number docs (string_bytes lines)) }
     ensures ends { IfErr result IsUnprinted }
     ensures asked { IfErr result (λ status. ¬ (status ≡ Status.Usage)) }
     ensures names { IfErr result NamesIndex }
 {
     match run_over_engine(rt, alloc, number, docs) {
-        Ok(summary) => match format!(in alloc; "{summary}") {
+        Ok(summary) => match lines(alloc, &summary) {
             Ok(lines) => Ok(lines),
-            Err(_) => Err(Status::NoMemory),
+            Err(NoMemory) => Err(Status::NoMemory),
         },
         Err(fault) => Err(status_of(alloc, fault)),
     }
 }
 
-/// The status of a selftest that has no lines. A reply that isn't the one that it has to be is answered as want of memory: no other
-/// refusal can come.
+/// The lines of a summary.
+fn lines(alloc: Global, summary: &Summary) -> Result<String, NoMemory>
+    ensures { IfOk result (λ lines. string_bytes lines ≡ lines_of summary.now) }
+{
+    match format!(in alloc; "{summary}") {
+        Ok(lines) => Ok(lines),
+        Err(_) => Err(NoMemory),
+    }
+}
+
+/// The status of a selftest that has no lines.
 fn status_of(alloc: Global, fault: SelftestFault) -> Status
     requires { (documents : List Document) × Ends ⟦<MemoryDisk as Disk>⟧ documents (Err fault) }
     ensures ends { IsUnprinted result }
@@ -74,7 +82,7 @@ fn status_of(alloc: Global, fault: SelftestFault) -> Status
     ensures names { NamesIndex result }
 {
     match fault {
-        SelftestFault::NoMemory | SelftestFault::Unexpected => Status::NoMemory,
+        SelftestFault::NoMemory => Status::NoMemory,
         SelftestFault::Strayed(strayed) => match Name::from_slice(alloc, INDEX) {
             Ok(index) => Status::Strayed { index, strayed },
             Err(NoMemory) => Status::NoMemory,

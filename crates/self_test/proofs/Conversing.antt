@@ -1,5 +1,5 @@
 -- Statements that are done one after another or go astray, and sums of rows.
-use Rattle.std.proofs.Common.{◌≡◌, ◌≢◌, ℕ, suc, ◌+◌, ◌/◌, ◌<◌, List, [], ◌∷◌, ◌++◌, Result, Ok, Err, length, take, drop, refl, sym, ap, ◌∙◌, subst, arith, inl, inr, append_assoc, append-nil}
+use Rattle.std.proofs.Common.{◌≡◌, ℕ, suc, ◌+◌, ◌/◌, ◌<◌, List, [], ◌∷◌, ◌++◌, Result, Ok, Err, length, take, drop, refl, sym, ap, ◌∙◌, subst, arith, inl, inr, append_assoc, append-nil}
 use Rattle.std.specs.Prelude.{codes}
 use Rattle.srch_base.specs.declared.faults.Or.{Or}
 use Rattle.srch_base.specs.declared.faults.Or.TheVariants as causes
@@ -9,14 +9,14 @@ use Rattle.ql_tree.specs.declared.statement.Statement.TheVariants as statements
 use Rattle.ql_answers.specs.declared.state.State.{State}
 use Rattle.ql_answers.specs.States.{new_state}
 use Rattle.ql_session.specs.Events.{StoreWords}
-use Rattle.self_test.specs.Asking.{AreCounted, AreDone, AreTold, GoAstray, LoseOne, Shows, Telling}
-use Rattle.self_test.specs.Conversations.{ComesTo, ConversesOr, LostOr, SomeLost, SumsOr, before_document, behind_document, insert, job, loading, transactions, writing}
-use Rattle.self_test.specs.Summaries.{many, summary_of}
+use Rattle.self_test.specs.Asking.{◌then◌, AreCounted, AreDone, AreTold, GoAstray, Shows, Telling}
+use Rattle.self_test.specs.Conversations.{ConversesOr, Counts, LostOr, SomeLost, SumsOr, before_document, behind_document, insert, job, loading, of_groups, of_pairs, of_words, transactions, writing}
+use Rattle.self_test.specs.Summaries.{many}
 use Rattle.self_test.specs.Texts.{count_select}
 use Rattle.self_test.specs.declared.generator.Document.{Document}
 use Rattle.self_test.specs.declared.summary.Count.{Count}
+use Rattle.self_test.specs.declared.summary.Count.TheVariants.{Words, Pairs, Groups}
 use Rattle.self_test.specs.declared.summary.Summary.{Summary}
-use Rattle.self_test.specs.steps.Comparing.{IsCompared}
 use Rattle.self_test.specs.steps.Replies.{RowsOr}
 
 module _ {D F : Type 0} (confs : D → List IndexConf) (words : StoreWords D F) where
@@ -92,10 +92,6 @@ module _ {D F : Type 0} (confs : D → List IndexConf) (words : StoreWords D F) 
       ∙ ap (λ (list : List Document). transactions 0 (take half documents) ++ flush_job ∷ transactions half list ++ optimize_job ∷ []) back
       ∙ ap (λ (n : ℕ). transactions 0 (take n documents) ++ flush_job ∷ transactions n (drop n documents) ++ optimize_job ∷ []) halved
 
-  -- a SELECT that went astray did so over a store of the same indexes
-  from_first : (count : Count) (start first left : D) → confs first ≡ confs start → LoseOne confs words (count_select count) (many count) first left → LoseOne confs words (count_select count) (many count) start left
-  from_first count start first left same lost = record { number = lost.number; below = lost.below; old = lost.old; before = lost.before; new = lost.new; same = lost.same ∙ same; lost = lost.lost }
-
   module _ {E : Type 0} where
     -- what is answered where more was told behind what was done
     pub told_then : (result : Result (Unit {0}) (Or E)) (first next : List Telling) (old mid new : State) (before between left : D) → AreDone confs words first old before mid between
@@ -135,21 +131,32 @@ module _ {D F : Type 0} (confs : D → List IndexConf) (words : StoreWords D F) 
         subst (λ (list : List Telling). AreTold {T = Unit {0}} confs words list (Err fault) old before new left) (halves_are documents first others half halved front back)
         (told_first fault (transactions 0 first ++ flush_job ∷ []) (transactions half others ++ optimize_job ∷ []) old new before left told)
 
-    -- a SELECT of some went astray
-    pub lost_one : (fault : Or E) (count : Count) (number : ℕ) (first : D) (old new : State) (before left : D) → number < many count → confs before ≡ confs first
-        → RowsOr confs words (count_select count number) (Err fault) old before new left → LostOr confs words count fault first left
-    lost_one (causes.Fault fault) count number first old new before left below same lost = record { number = number; below = below; old = old; before = before; new = new; same = same; lost = lost }
-    lost_one causes.NoMemory count number first old new before left below same lost = tt
+    -- a SELECT of some was lost
+    pub lost_one : (fault : Or E) (count : Count) (number sum : ℕ) (begun old new : State) (first before left : D) → number < many count → AreCounted confs words (count_select count) number sum begun first old before
+        → RowsOr confs words (count_select count number) (Err fault) old before new left → LostOr confs words count fault begun first left
+    lost_one (causes.Fault fault) count number sum begun old new first before left below counted lost =
+        record { number = number; below = below; sum = sum; old = old; before = before; counted = counted; new = new; lost = lost }
+    lost_one causes.NoMemory count number sum begun old new first before left below counted lost = tt
 
-    -- one of all did
-    pub some_lost : (fault : Or E) (count : Count) (start first left : D) → confs first ≡ confs start → LostOr confs words count fault first left → SomeLost confs words fault start left
-    some_lost (causes.Fault fault) count start first left same lost = (count, from_first count start first left same lost)
-    some_lost causes.NoMemory count start first left same lost = tt
+    -- so one of all was
+    pub lost_words : (fault : Or E) (old : State) (before left : D) → LostOr confs words Words fault old before left → SomeLost confs words fault old before left
+    lost_words (causes.Fault fault) old before left lost = of_words lost
+    lost_words causes.NoMemory old before left lost = tt
 
-    -- so the conversation did
-    pub comes_lost : (fault : Or E) (documents : List Document) (start first left : D) → confs first ≡ confs start → SomeLost confs words fault first left → ConversesOr confs words documents (Err fault) start left
-    comes_lost (causes.Fault fault) documents start first left same (count, lost) = inr (count, from_first count start first left same lost)
-    comes_lost causes.NoMemory documents start first left same lost = tt
+    pub lost_pairs : (fault : Or E) (sum : ℕ) (old mid : State) (before between left : D) → Counts confs words Words sum old before mid between → LostOr confs words Pairs fault mid between left → SomeLost confs words fault old before left
+    lost_pairs (causes.Fault fault) sum old mid before between left counts lost = of_pairs sum mid between counts lost
+    lost_pairs causes.NoMemory sum old mid before between left counts lost = tt
+
+    pub lost_groups : (fault : Or E) (first second : ℕ) (old mid : State) (before between left : D) → (Counts confs words Words first then Counts confs words Pairs second) old before mid between → LostOr confs words Groups fault mid between left
+        → SomeLost confs words fault old before left
+    lost_groups (causes.Fault fault) first second old mid before between left counts lost = of_groups first second mid between counts lost
+    lost_groups causes.NoMemory first second old mid before between left counts lost = tt
+
+    -- so the conversation went astray
+    pub comes_lost : (fault : Or E) (documents : List Document) (state : State) (start between left : D) → AreDone confs words (loading documents) new_state start state between → SomeLost confs words fault state between left
+        → ConversesOr confs words documents (Err fault) start left
+    comes_lost (causes.Fault fault) documents state start between left done lost = inr (state, between, done, lost)
+    comes_lost causes.NoMemory documents state start between left done lost = tt
 
     pub comes_astray : (fault : Or E) (documents : List Document) (new : State) (start left : D) → AreTold {T = Unit {0}} confs words (loading documents) (Err fault) new_state start new left
         → ConversesOr confs words documents (Err fault) start left
@@ -157,16 +164,7 @@ module _ {D F : Type 0} (confs : D → List IndexConf) (words : StoreWords D F) 
     comes_astray causes.NoMemory documents new start left astray = tt
 
     -- what was found behind what was done
-    pub comes_then : (result : Result Summary (Or E)) (documents : List Document) (state : State) (start between left : D) → confs between ≡ confs start → AreDone confs words (loading documents) new_state start state between
+    pub comes_then : (result : Result Summary (Or E)) (documents : List Document) (state : State) (start between left : D) → AreDone confs words (loading documents) new_state start state between
         → SumsOr confs words (length documents) result state between left → ConversesOr confs words documents result start left
-    comes_then (Ok summary) documents state start between left same done sums = record { state = state; between = between; done = done; sums = sums }
-    comes_then (Err fault) documents state start between left same done lost = comes_lost fault documents start between left same lost
-
-    -- and compared
-    pub compared : (result found : Result Summary (Or E)) (documents : List Document) (start left : D) → IsCompared documents found result → ConversesOr confs words documents found start left
-        → ComesTo confs words documents result start left
-    compared (Ok summary) found documents start left is converses = subst (λ (r : Result Summary (Or E)). ConversesOr confs words documents r start left) is converses
-    compared (Err (causes.Fault fault)) found documents start left (inl is) converses = inl (subst (λ (r : Result Summary (Or E)). ConversesOr confs words documents r start left) is converses)
-    compared (Err (causes.Fault fault)) found documents start left (inr (summary, is, differs)) converses =
-        inr (summary, subst (λ (r : Result Summary (Or E)). ConversesOr confs words documents r start left) is converses, differs)
-    compared (Err causes.NoMemory) found documents start left is converses = tt
+    comes_then (Ok summary) documents state start between left done sums = record { state = state; between = between; done = done; sums = sums }
+    comes_then (Err fault) documents state start between left done lost = comes_lost fault documents state start between left done lost

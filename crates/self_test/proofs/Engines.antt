@@ -1,5 +1,5 @@
 -- An engine for one worker: the names that it is given, and how it ends.
-use Rattle.std.proofs.Common.{◌≡◌, ◌≤◌, inl, inr, ℕ, zero, suc, List, [], ◌∷◌, ◌++◌, Option, Some, None, All, Result, Ok, Err, refl, sym, ap, subst, ◌∙◌, arith, length, length-append, slice_get}
+use Rattle.std.proofs.Common.{◌≡◌, ◌≤◌, ℕ, zero, suc, List, [], ◌∷◌, ◌++◌, Option, Some, None, All, Result, Ok, Err, refl, sym, ap, subst, ◌∙◌, arith, length, length-append, slice_get}
 use Rattle.std.specs.Prelude.{IfOk}
 use Rattle.std.proofs.lemmas.List.Elements.{All-cons, All-nil}
 use Rattle.std.specs.List.{IsDistinct}
@@ -11,7 +11,7 @@ use Rattle.doc_types.specs.Schemas.{IsSchema}
 use Rattle.doc_types.specs.declared.schema.Schema.{Schema}
 use Rattle.index_conf.specs.declared.conf.IndexConf.{IndexConf}
 use Rattle.step_book.specs.Tellings.{AtOpening}
-use Rattle.step_history.specs.History.{Base}
+use Rattle.step_history.specs.History.{Base, Step}
 use Rattle.store_keep.specs.Opens.{IsOpened, base_of, opening_of}
 use Rattle.store_keep.specs.declared.opening.Opened.{Opened}
 use Rattle.snap_share.specs.Closings.{Closes}
@@ -20,23 +20,23 @@ use Rattle.engine_tables.specs.Engines.{EnginesValue}
 use Rattle.engine_tables.specs.Names.{AreNamed, AreServed, IsRoomFor}
 use Rattle.engine_tables.specs.Tokens.{SeatsDiffer, SitsAt, TokensValue, told_at, tokens_at}
 use Rattle.engine_tables.specs.Workers.{WorkerValue, by_tokens}
-use Rattle.ql_answers.specs.declared.state.State.{State}
-use Rattle.ql_answers.specs.States.{new_state}
 use Rattle.engine_tables.specs.declared.ended.Ended.{Ended}
-use Rattle.self_test.specs.Asking.{GoAstray, Leads}
-use Rattle.self_test.specs.Conversations.{ComesTo, loading}
+use Rattle.self_test.specs.Asking.{Leads}
+use Rattle.self_test.specs.Conversations.{ConversesOr}
 use Rattle.self_test.specs.Documents.{after_document, documents_from}
-use Rattle.self_test.specs.Ends.{Ends, EndsBy, Finds, Found, HasFound, IsOver, Works, first_tokens}
-use Rattle.self_test.specs.Own.{IsEmpty, IsOwn}
+use Rattle.self_test.specs.Ends.{Ends, EndsBy, Found, HasFound, IsOver, Works, first_tokens}
+use Rattle.self_test.specs.Own.{IsEmpty}
+use Rattle.self_test.specs.Summaries.{IsSummary}
 use Rattle.self_test.specs.declared.generator.Document.{Document}
 use Rattle.self_test.specs.declared.fault.SelftestFault.{SelftestFault}
-use Rattle.self_test.specs.declared.fault.SelftestFault.TheVariants.{NoMemory, Unexpected, Strayed as HasStrayed}
+use Rattle.self_test.specs.declared.fault.SelftestFault.TheVariants.{NoMemory, Strayed as HasStrayed}
 use Rattle.self_test.specs.declared.summary.Summary.{Summary}
-use Rattle.self_test.specs.steps.Engines.{IsAnswered, IsReady, LeadsTo}
+use Rattle.self_test.specs.steps.Engines.{IsAnswered, IsNeverAstray, IsReady, LeadsTo}
 use Rattle.self_test.specs.steps.Servable.{IsServable}
 use Rattle.self_test.proofs.Begun.{closed_well}
-use Rattle.self_test.proofs.Losing.{Laws, lost_is_long}
-use Rattle.self_test.proofs.Ending.{closed_over, first_worker, never_astray}
+use Rattle.self_test.proofs.Counting.{astray_never, found_so}
+use Rattle.self_test.proofs.Ending.{IsOver as IsWhole, closed_over, first_worker}
+use Rattle.self_test.proofs.Losing.{Laws}
 use Rattle.self_test.proofs.Scripts.{all_drawn}
 
 -- so many documents
@@ -66,13 +66,13 @@ first_last seats front last first is one =
 
 -- what a worker with these tokens came to is what its conversation came to, which left others
 pub found_by : {E : Type 0} (schema : ℕ → Schema) (base : ℕ → Base) (confs : List IndexConf) (documents : List Document) (result : Result Summary (Or E)) (first left : TokensValue) (old new : WorkerValue)
-    → old ≡ record { confs = confs; tokens = first } → new.confs ≡ confs → new.tokens ≡ left → ComesTo (λ (worker : WorkerValue). worker.confs) (by_tokens schema base) documents result old new
+    → old ≡ record { confs = confs; tokens = first } → new.confs ≡ confs → new.tokens ≡ left → ConversesOr (λ (worker : WorkerValue). worker.confs) (by_tokens schema base) documents result old new
     → LeadsTo schema base confs documents result first left
 found_by schema base confs documents result first left old new begun same leaves comes =
     let ended : new ≡ record { confs = confs; tokens = left } =
     ap (λ (list : List IndexConf). record { confs = list; tokens = new.tokens }) same ∙ ap (λ (tokens : TokensValue). record { confs = confs; tokens = tokens }) leaves in
-    subst (λ (w : WorkerValue). ComesTo (λ (worker : WorkerValue). worker.confs) (by_tokens schema base) documents result w (record { confs = confs; tokens = left })) begun
-    (subst (λ (w : WorkerValue). ComesTo (λ (worker : WorkerValue). worker.confs) (by_tokens schema base) documents result old w) ended comes)
+    subst (λ (w : WorkerValue). ConversesOr (λ (worker : WorkerValue). worker.confs) (by_tokens schema base) documents result w (record { confs = confs; tokens = left })) begun
+    (subst (λ (w : WorkerValue). ConversesOr (λ (worker : WorkerValue). worker.confs) (by_tokens schema base) documents result old w) ended comes)
 
 -- the tokens of one worker
 one_differs : (left : TokensValue) → SeatsDiffer (left ∷ [])
@@ -170,61 +170,65 @@ module _ {D : Type 0} (words : DiskWords D) where
       subst (λ (list : List TokensValue). HaveEnded words schema base opened 1 1 list all) put
       (subst (λ (n : ℕ). HaveEnded words schema base opened 1 n seats all) alone (subst (λ (n : ℕ). HaveEnded words schema base opened n workers seats all) one ended))
 
-  -- where the engine ended well, no statement that writes the documents went astray
-  pub never_so : {J : Type 0} (schema : ℕ → Schema) (base : ℕ → Base) (opened : ℕ → AtOpening) (conf : IndexConf) (confs : List IndexConf) (number docs : ℕ) (left : TokensValue) (one : Ended D J) → confs ≡ conf ∷ [] → IsOwn conf → IsEmpty (base 0) → docs ≤ 100000
-      → Works schema base confs first_tokens left → HasEnded words schema base opened 0 1 (told_at 0 (left ∷ [])) (tokens_at 0 (left ∷ [])) one → one.answer ≡ Ok tt → (state : State)
-      → GoAstray (λ (worker : WorkerValue). worker.confs) (by_tokens schema base) (loading (documents_from number docs)) new_state (record { confs = confs; tokens = first_tokens }) state (record { confs = confs; tokens = left }) → ⊥
-  never_so schema base opened conf confs number docs left one is own empty few works (note, noted, new, closes) well state gone =
+  -- where the engine ended well, its history has the commits of the one worker and no others
+  whole : {J : Type 0} (schema : ℕ → Schema) (base : ℕ → Base) (opened : ℕ → AtOpening) (conf : IndexConf) (confs : List IndexConf) (left : TokensValue) (one : Ended D J) → confs ≡ conf ∷ [] → Works schema base confs first_tokens left
+      → HasEnded words schema base opened 0 1 (told_at 0 (left ∷ [])) (tokens_at 0 (left ∷ [])) one → one.answer ≡ Ok tt → (history : List Step) × IsWhole history (record { confs = conf ∷ []; tokens = left })
+  whole schema base opened conf confs left one is works (note, noted, new, closes) well =
       let worker : WorkerValue = record { confs = conf ∷ []; tokens = left } in
       let worked : Works schema base (conf ∷ []) first_tokens left = subst (λ (list : List IndexConf). Works schema base list first_tokens left) is works in
-      let went : GoAstray (λ (worker : WorkerValue). worker.confs) (by_tokens schema base) (loading (documents_from number docs)) new_state (first_worker conf) state worker =
-      subst (λ (list : List IndexConf). GoAstray (λ (worker : WorkerValue). worker.confs) (by_tokens schema base) (loading (documents_from number docs)) new_state (record { confs = list; tokens = first_tokens }) state (record { confs = list; tokens = left })) is gone in
-      let closed = closed_well words schema base opened 0 1 (told_at 0 (left ∷ [])) (tokens_at 0 (left ∷ [])) one.disk note new
-      (subst (λ (end : Result (Unit {0}) (Or Strayed)). Closes words schema base opened 0 1 (told_at 0 (left ∷ [])) (tokens_at 0 (left ∷ [])) one.disk note end new) well closes) in
-      let (history, over) = closed_over schema base conf worker worked.events worked.follows closed in
-      never_astray schema base history conf own empty (documents_from number docs) (all_drawn number docs) (omega (arith, few, documents_length number docs)) worker over state worker [] went refl
+      closed_over schema base conf worker worked.events worked.follows
+      (closed_well words schema base opened 0 1 (told_at 0 (left ∷ [])) (tokens_at 0 (left ∷ [])) one.disk note new
+      (subst (λ (end : Result (Unit {0}) (Or Strayed)). Closes words schema base opened 0 1 (told_at 0 (left ∷ [])) (tokens_at 0 (left ∷ [])) one.disk note end new) well closes))
 
-  -- what a conversation came to is what it found, where the engine ended well
-  pub comes_through : {J E : Type 0} (laws : Laws) (schema : ℕ → Schema) (base : ℕ → Base) (opened : ℕ → AtOpening) (confs : List IndexConf) (number docs : ℕ) (left : TokensValue) (one : Ended D J) (found : Result Summary (Or E)) → IsOver words schema base opened confs → docs ≤ 100000
-      → Works schema base confs first_tokens left → HasEnded words schema base opened 0 1 (told_at 0 (left ∷ [])) (tokens_at 0 (left ∷ [])) one → one.answer ≡ Ok tt
-      → LeadsTo schema base confs (documents_from number docs) found first_tokens left → Finds schema base confs (documents_from number docs) found first_tokens left
-  comes_through laws schema base opened confs number docs left one (Ok summary) over few works ended well finds = finds
-  comes_through laws schema base opened confs number docs left one (Err (causes.Fault fault)) over few works ended well (inl (inl (state, gone))) =
-      absurd (never_so schema base opened over.index confs number docs left one over.is over.ours.own over.empty few works ended well state gone)
-  comes_through laws schema base opened confs number docs left one (Err (causes.Fault fault)) over few works ended well (inl (inr (count, lose))) =
-      inl (count, lost_is_long (λ (worker : WorkerValue). worker.confs) (by_tokens schema base) laws over.index over.ours count (record { confs = confs; tokens = first_tokens }) (record { confs = confs; tokens = left }) over.is lose)
-  comes_through laws schema base opened confs number docs left one (Err (causes.Fault fault)) over few works ended well (inr differs) = inr differs
-  comes_through laws schema base opened confs number docs left one (Err causes.NoMemory) over few works ended well finds = tt
+  module _ {J E : Type 0} (laws : Laws) (schema : ℕ → Schema) (base : ℕ → Base) (opened : ℕ → AtOpening) (confs : List IndexConf) (number docs : ℕ) (left : TokensValue) (all : List (Ended D J)) (one : Ended D J) (found : Result Summary (Or E))
+      (over : IsOver words schema base opened confs) (few : docs ≤ 100000) (works : Works schema base confs first_tokens left) (leads : LeadsTo schema base confs (documents_from number docs) found first_tokens left)
+      (ended : HaveEnded words schema base opened 1 1 (left ∷ []) all) (at : slice_get all 0 ≡ Some one) where
+    abbrev documents : List Document
+    documents = documents_from number docs
 
-  -- how the one engine ended is what the answer says
-  pub ends_so : {J E : Type 0} (laws : Laws) (schema : ℕ → Schema) (base : ℕ → Base) (opened : ℕ → AtOpening) (confs : List IndexConf) (number docs : ℕ) (left : TokensValue) (all : List (Ended D J)) (one : Ended D J) (found : Result Summary (Or E)) (answer : Result Summary SelftestFault)
-      → IsOver words schema base opened confs → docs ≤ 100000 → Works schema base confs first_tokens left → LeadsTo schema base confs (documents_from number docs) found first_tokens left → HaveEnded words schema base opened 1 1 (left ∷ []) all
-      → slice_get all 0 ≡ Some one → IsAnswered found one.answer answer → Ends words (documents_from number docs) answer
-  ends_so {J} {E} laws schema base opened confs number docs left all one found answer over few works leads ended at says = by_answer answer says
-    where
-      ends : HasEnded words schema base opened 0 1 (told_at 0 (left ∷ [])) (tokens_at 0 (left ∷ [])) one
-      ends = ended.each 0 one at
+    ends : HasEnded words schema base opened 0 1 (told_at 0 (left ∷ [])) (tokens_at 0 (left ∷ [])) one
+    ends = ended.each 0 one at
 
-      documents : List Document
-      documents = documents_from number docs
+    few_documents : length documents ≤ 100000
+    few_documents = omega (arith, few, documents_length number docs)
 
-      finds : one.answer ≡ Ok tt → Finds schema base confs documents found first_tokens left
-      finds well = comes_through laws schema base opened confs number docs left one found over few works ends well leads
+    led : ConversesOr (λ (worker : WorkerValue). worker.confs) (by_tokens schema base) documents found (first_worker over.index) (record { confs = over.index ∷ []; tokens = left })
+    led = subst (λ (list : List IndexConf). ConversesOr (λ (worker : WorkerValue). worker.confs) (by_tokens schema base) documents found (record { confs = list; tokens = first_tokens }) (record { confs = list; tokens = left })) over.is leads
 
-      ends_by : (found : Option Found) (end : Result (Unit {0}) (Or Strayed)) → HasFound schema base confs found left → one.answer ≡ end → HasEnded words schema base opened 0 1 (told_at 0 (left ∷ [])) (tokens_at 0 (left ∷ [])) one
-          → EndsBy words found end
-      ends_by found end has is (note, noted, new, closes) = subst (λ (e : Result (Unit {0}) (Or Strayed)). EndsBy words found e) is
-          (record { schema = schema; base = base; opened = opened; confs = confs; over = over; left = left; works = works; has = has; disk = one.disk; note = note; new = new; closes = closes })
+    by_found : (result : Result Summary (Or E)) → ConversesOr (λ (worker : WorkerValue). worker.confs) (by_tokens schema base) documents result (first_worker over.index) (record { confs = over.index ∷ []; tokens = left }) → one.answer ≡ Ok tt
+        → IfOk result (IsSummary documents) × ((fault : E) → result ≡ Err (causes.Fault fault) → ⊥)
+    by_found (Ok summary) converses well =
+        let (history, is_whole) = whole schema base opened over.index confs left one over.is works ends well in
+        (found_so laws schema base history over.index over.ours documents over.empty (all_drawn number docs) few_documents (record { confs = over.index ∷ []; tokens = left }) is_whole summary converses, λ fault is. cc is)
+    by_found (Err (causes.Fault fault)) astray well =
+        let (history, is_whole) = whole schema base opened over.index confs left one over.is works ends well in
+        absurd (astray_never laws schema base history over.index over.ours documents over.empty (all_drawn number docs) few_documents (record { confs = over.index ∷ []; tokens = left }) is_whole astray)
+    by_found (Err causes.NoMemory) converses well = (tt, λ fault is. cc is)
 
-      by_answer : (answer : Result Summary SelftestFault) → IsAnswered found one.answer answer → Ends words documents answer
-      by_answer (Ok summary) (is, ok) =
-          ends_by (Some (record { documents = documents; result = Ok summary })) (Ok tt) (subst (λ (r : Result Summary (Or E)). Finds schema base confs documents r first_tokens left) is (finds ok)) ok ends
-      by_answer (Err Unexpected) ((fault, is), ok) =
-          ends_by (Some (record { documents = documents; result = Err (causes.Fault tt) })) (Ok tt) (subst (λ (r : Result Summary (Or E)). Finds schema base confs documents r first_tokens left) is (finds ok)) ok ends
-      by_answer (Err (HasStrayed strayed)) says = ends_by None (Err (causes.Fault strayed)) tt says ends
-      by_answer (Err NoMemory) says = tt
+    -- where the engine ended well, what was found is a summary of the documents
+    pub found_well : one.answer ≡ Ok tt → IfOk found (IsSummary documents)
+    found_well well = (by_found found led well).0
 
--- what holds of what was found holds of the answer
-pub answered_so : {E : Type 0} (P : Summary → Type 0) (found : Result Summary (Or E)) (end : Result (Unit {0}) (Or Strayed)) (answer : Result Summary SelftestFault) → IsAnswered found end answer → IfOk found P → IfOk answer P
-answered_so {E} P found end (Ok summary) (is, ok) holds = subst (λ (r : Result Summary (Or E)). IfOk r P) is holds
+    -- and no statement went astray
+    pub never_so : IsNeverAstray found one.answer
+    never_so well = (by_found found led well).1
+
+    -- how the one engine ended is what the answer says
+    pub ends_so : (answer : Result Summary SelftestFault) → IsAnswered found one.answer answer → Ends words documents answer
+    ends_so answer says = by_answer answer says
+      where
+        ends_by : (found : Option Found) (end : Result (Unit {0}) (Or Strayed)) → HasFound schema base confs found left → one.answer ≡ end → HasEnded words schema base opened 0 1 (told_at 0 (left ∷ [])) (tokens_at 0 (left ∷ [])) one
+            → EndsBy words found end
+        ends_by found end has is (note, noted, new, closes) = subst (λ (e : Result (Unit {0}) (Or Strayed)). EndsBy words found e) is
+            (record { schema = schema; base = base; opened = opened; confs = confs; over = over; left = left; works = works; has = has; disk = one.disk; note = note; new = new; closes = closes })
+
+        by_answer : (answer : Result Summary SelftestFault) → IsAnswered found one.answer answer → Ends words documents answer
+        by_answer (Ok summary) (is, ok) =
+            ends_by (Some (record { documents = documents; summary = summary })) (Ok tt) (subst (λ (r : Result Summary (Or E)). LeadsTo schema base confs documents r first_tokens left) is leads) ok ends
+        by_answer (Err (HasStrayed strayed)) says = ends_by None (Err (causes.Fault strayed)) tt says ends
+        by_answer (Err NoMemory) says = tt
+
+-- what holds of what was found, where the end was well, holds of the answer
+pub answered_so : {E : Type 0} (P : Summary → Type 0) (found : Result Summary (Or E)) (end : Result (Unit {0}) (Or Strayed)) (answer : Result Summary SelftestFault) → IsAnswered found end answer → (end ≡ Ok tt → IfOk found P) → IfOk answer P
+answered_so {E} P found end (Ok summary) (is, ok) holds = subst (λ (r : Result Summary (Or E)). IfOk r P) is (holds ok)
 answered_so P found end (Err fault) says holds = tt

@@ -46,5 +46,13 @@ pub mod Begun
 pub mod Querying
 -- no SELECT of it is refused but for want of memory
 pub mod Served
--- a SELECT that is lost
+-- what is known of the texts of queries
 pub mod Losing
+-- its reply is short
+pub mod Brief
+-- so none is lost
+pub mod Lost
+-- what the SELECTs read
+pub mod Reading
+-- what they find
+pub mod Counting

@@ -160,7 +160,7 @@ module _ (each_has : EachHas) (no_fault : NoFault) (one_query : OneQuery) (one_t
   selection_never count number below refusal (inr (good, inl (inr (utf8, (fault, reads, is))))) = text_never count number below fault reads
   selection_never count number below refusal (inr (good, inr (reads, refuses))) = no_expression conf.schema count number refusal refuses
 
-  same_served : (count : Count) (number place : ℕ) (other : IndexConf) → Serves (conf ∷ []) (count_select count number).index place other → other ≡ conf
+  pub same_served : (count : Count) (number place : ℕ) (other : IndexConf) → Serves (conf ∷ []) (count_select count number).index place other → other ≡ conf
   same_served Words number place other serves = (first_served conf ours.own place other serves).1
   same_served Pairs number place other serves = (first_served conf ours.own place other serves).1
   same_served Groups number place other serves = (first_served conf ours.own place other serves).1

@@ -130,28 +130,16 @@ AreCounted {D} confs words select (suc number) sum old before new left =
     (earlier : ℕ) × (rows : ℕ) × (mid : State) × (between : D) × AreCounted confs words select number earlier old before mid between
     × Shows confs words (select number) rows mid between new left × (sum ≡ earlier + rows)
 
--- One of the SELECTs for the numbers below this one went astray, over a store of the same indexes.
-pub record LoseOne {D F : Type 0} (confs : D → List IndexConf) (words : StoreWords D F) (select : ℕ → Select) (many : ℕ) (first left : D) : Type 0 where
+-- One of the SELECTs for the numbers below this one was lost, behind those for lesser numbers, whose rows were counted.
+pub record LoseOne {D F : Type 0} (confs : D → List IndexConf) (words : StoreWords D F) (select : ℕ → Select) (many : ℕ) (begun : State) (first left : D) : Type 0 where
   pub number : ℕ
   pub below : number < many
+  pub sum : ℕ
   pub old : State
   pub before : D
+  pub counted : AreCounted confs words select number sum begun first old before
   pub new : State
-  pub same : confs before ≡ confs first
   pub lost : IsLost confs words (select number) old before new left
-
--- One of the SELECTs for the numbers below this one was told by its canonical text, over a store of the same indexes, and the reply is
--- longer than a packet's payload may be.
-pub record IsOneLong {D F : Type 0} (confs : D → List IndexConf) (words : StoreWords D F) (select : ℕ → Select) (many : ℕ) (first left : D) : Type 0 where
-  pub number : ℕ
-  pub below : number < many
-  pub old : State
-  pub before : D
-  pub new : State
-  pub same : confs before ≡ confs first
-  pub reply : Reply
-  pub replied : IsReplied confs words (statements.Select (select number)) reply old before new left
-  pub long : max_payload < length (bytes_of new reply)
 
 -- What was asked led a store from one state to another.
 pub record Leads {D F : Type 0} (confs : D → List IndexConf) (words : StoreWords D F) (old new : D) : Type 0 where

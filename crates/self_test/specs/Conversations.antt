@@ -1,5 +1,5 @@
 -- The conversation of a selftest: statements that write documents, each of which is done, and then statements that ask for them.
-use Rattle.std.specs.Prelude.{◌≡◌, ◌≢◌, ◌⊎◌, ℕ, ◌+◌, ◌/◌, ◌%◌, ◌==◌, ◌||◌, List, [], ◌∷◌, ◌++◌, Result, Ok, Err, length, codes, take, drop, if◌then◌else◌}
+use Rattle.std.specs.Prelude.{◌≡◌, ◌⊎◌, ℕ, ◌+◌, ◌/◌, ◌%◌, ◌==◌, ◌||◌, List, [], ◌∷◌, ◌++◌, Result, Ok, Err, length, codes, take, drop, if◌then◌else◌}
 use Rattle.srch_base.specs.declared.faults.Or.{Or}
 use Rattle.srch_base.specs.declared.faults.Or.TheVariants as causes
 use Rattle.index_conf.specs.declared.conf.IndexConf.{IndexConf}
@@ -8,8 +8,8 @@ use Rattle.ql_answers.specs.States.{new_state}
 use Rattle.ql_session.specs.Events.{StoreWords}
 use Rattle.ql_tree.specs.declared.statement.Statement.{Statement}
 use Rattle.ql_tree.specs.declared.statement.Statement.TheVariants as statements
-use Rattle.self_test.specs.Asking.{◌then◌, AreCounted, AreDone, Ended, GoAstray, IsOneLong, LoseOne, Made, SeesChunks, Telling}
-use Rattle.self_test.specs.Summaries.{many, summary_of}
+use Rattle.self_test.specs.Asking.{◌then◌, AreCounted, AreDone, Ended, GoAstray, LoseOne, Made, SeesChunks, Telling}
+use Rattle.self_test.specs.Summaries.{many}
 use Rattle.self_test.specs.Texts.{count_select, insert_statement}
 use Rattle.self_test.specs.declared.generator.Document.{Document}
 use Rattle.self_test.specs.declared.summary.Count.{Count}
@@ -59,15 +59,19 @@ loading documents =
 abbrev pub Counts : {D F : Type 0} → (D → List IndexConf) → StoreWords D F → Count → ℕ → State → D → State → D → Type 0
 Counts confs words count sum = AreCounted confs words (count_select count) (many count) sum
 
--- One of the SELECTs of what is counted went astray, or memory was refused.
-abbrev pub LostOr : {D F E : Type 0} → (D → List IndexConf) → StoreWords D F → Count → Or E → D → D → Type 0
-LostOr confs words count (causes.Fault fault) first left = LoseOne confs words (count_select count) (many count) first left
-LostOr confs words count causes.NoMemory first left = Unit {0}
+-- One of the SELECTs of what is counted was lost.
+abbrev pub LosesOne : {D F : Type 0} → (D → List IndexConf) → StoreWords D F → Count → State → D → D → Type 0
+LosesOne confs words count = LoseOne confs words (count_select count) (many count)
 
--- What is answered where all that is counted is asked for: the sum of the rows, or one of the SELECTs went astray. Out of memory is free.
+-- One of the SELECTs of what is counted was lost, or memory was refused.
+abbrev pub LostOr : {D F E : Type 0} → (D → List IndexConf) → StoreWords D F → Count → Or E → State → D → D → Type 0
+LostOr confs words count (causes.Fault fault) = LosesOne confs words count
+LostOr confs words count causes.NoMemory = λ begun first left. Unit {0}
+
+-- What is answered where all that is counted is asked for: the sum of the rows, or one of the SELECTs was lost. Out of memory is free.
 abbrev pub CountsOr : {D F E : Type 0} → (D → List IndexConf) → StoreWords D F → Count → Result ℕ (Or E) → State → D → State → D → Type 0
 CountsOr confs words count (Ok sum) = Counts confs words count sum
-CountsOr confs words count (Err fault) = λ old before new left. LostOr confs words count fault before left
+CountsOr confs words count (Err fault) = λ old before new left. LostOr confs words count fault old before left
 
 -- All that is counted was asked for, and then the index was read: what a summary of so many documents has.
 pub record Sums {D F : Type 0} (confs : D → List IndexConf) (words : StoreWords D F) (documents : ℕ) (summary : Summary) (old : State) (before left : D) : Type 0 where
@@ -77,15 +81,22 @@ pub record Sums {D F : Type 0} (confs : D → List IndexConf) (words : StoreWord
   pub counts : (Counts confs words Words summary.words then Counts confs words Pairs summary.pairs then Counts confs words Groups summary.groups) old before state between
   pub sees : SeesChunks confs words summary.chunks between left
 
--- One of all SELECTs went astray, or memory was refused.
-abbrev pub SomeLost : {D F E : Type 0} → (D → List IndexConf) → StoreWords D F → Or E → D → D → Type 0
-SomeLost confs words (causes.Fault fault) first left = (count : Count) × LoseOne confs words (count_select count) (many count) first left
-SomeLost confs words causes.NoMemory first left = Unit {0}
+-- One of all SELECTs was lost: of those for words, of those for pairs behind these, or of those for groups behind both.
+pub data LosesSome {D F : Type 0} (confs : D → List IndexConf) (words : StoreWords D F) (old : State) (before left : D) : Type 0 where
+  of_words : LosesOne confs words Words old before left → LosesSome confs words old before left
+  of_pairs : (sum : ℕ) (mid : State) (between : D) → Counts confs words Words sum old before mid between → LosesOne confs words Pairs mid between left → LosesSome confs words old before left
+  of_groups : (first second : ℕ) (mid : State) (between : D) → (Counts confs words Words first then Counts confs words Pairs second) old before mid between → LosesOne confs words Groups mid between left
+      → LosesSome confs words old before left
+
+-- One of all SELECTs was lost, or memory was refused.
+abbrev pub SomeLost : {D F E : Type 0} → (D → List IndexConf) → StoreWords D F → Or E → State → D → D → Type 0
+SomeLost confs words (causes.Fault fault) = LosesSome confs words
+SomeLost confs words causes.NoMemory = λ old before left. Unit {0}
 
 -- What is answered then. Out of memory is free.
 abbrev pub SumsOr : {D F E : Type 0} → (D → List IndexConf) → StoreWords D F → ℕ → Result Summary (Or E) → State → D → D → Type 0
 SumsOr confs words documents (Ok summary) old before left = Sums confs words documents summary old before left
-SumsOr confs words documents (Err fault) old before left = SomeLost confs words fault before left
+SumsOr confs words documents (Err fault) old before left = SomeLost confs words fault old before left
 
 -- One session, which began over a store, was told to write the documents and asked for all that is counted; then the index was read. The
 -- numbers of the summary are those of its replies and of that read.
@@ -96,30 +107,14 @@ pub record Converses {D F : Type 0} (confs : D → List IndexConf) (words : Stor
   pub sums : Sums confs words (length documents) summary state between new
 
 -- Such a conversation came to a statement to which another thing was replied than what has to be, and not that memory was refused or the
--- disk failed.
+-- disk failed: to one that writes the documents, or, behind these, which all were done, to a SELECT.
 abbrev pub ComesAstray : {D F : Type 0} → (D → List IndexConf) → StoreWords D F → List Document → D → D → Type 0
-ComesAstray confs words documents old left =
-    ((new : State) × GoAstray confs words (loading documents) new_state old new left) ⊎ ((count : Count) × LoseOne confs words (count_select count) (many count) old left)
+ComesAstray {D} confs words documents old left =
+    ((new : State) × GoAstray confs words (loading documents) new_state old new left)
+    ⊎ ((state : State) × (between : D) × AreDone confs words (loading documents) new_state old state between × LosesSome confs words state between left)
 
 -- What is answered by a conversation: what it found, or that it went astray. Out of memory is free.
 abbrev pub ConversesOr : {D F E : Type 0} → (D → List IndexConf) → StoreWords D F → List Document → Result Summary (Or E) → D → D → Type 0
 ConversesOr confs words documents (Ok summary) old left = Converses confs words documents summary old left
 ConversesOr confs words documents (Err (causes.Fault fault)) old left = ComesAstray confs words documents old left
 ConversesOr confs words documents (Err causes.NoMemory) old left = Unit {0}
-
--- What a selftest comes to: what was found by a conversation; or that went astray, or found another thing than the documents have. Out of
--- memory is free.
-abbrev pub ComesTo : {D F E : Type 0} → (D → List IndexConf) → StoreWords D F → List Document → Result Summary (Or E) → D → D → Type 0
-ComesTo confs words documents (Ok summary) old left = Converses confs words documents summary old left
-ComesTo confs words documents (Err (causes.Fault fault)) old left =
-    ComesAstray confs words documents old left ⊎ ((summary : Summary) × Converses confs words documents summary old left × (summary ≢ summary_of documents))
-ComesTo confs words documents (Err causes.NoMemory) old left = Unit {0}
-
--- What a selftest comes to where no statement is replied to wrongly: what was found by a conversation; or the reply to a SELECT was too
--- long, or another thing was found than the documents have. Out of memory is free.
-abbrev pub ComesThrough : {D F E : Type 0} → (D → List IndexConf) → StoreWords D F → List Document → Result Summary (Or E) → D → D → Type 0
-ComesThrough confs words documents (Ok summary) old left = Converses confs words documents summary old left
-ComesThrough confs words documents (Err (causes.Fault fault)) old left =
-    ((count : Count) × IsOneLong confs words (count_select count) (many count) old left)
-    ⊎ ((summary : Summary) × Converses confs words documents summary old left × (summary ≢ summary_of documents))
-ComesThrough confs words documents (Err causes.NoMemory) old left = Unit {0}

@@ -6,7 +6,7 @@ pub mod Own
 pub mod Texts
 -- what is stored of documents
 pub mod Loads
--- what a scan of the documents finds
+-- what a summary says of the documents
 pub mod Summaries
 -- what a SELECT finds through a store
 pub mod Findings

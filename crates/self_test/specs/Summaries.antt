@@ -1,21 +1,24 @@
--- What is found in documents: a word in those that have it, a phrase of two words in those where they stand next to each other
--- in this order ("Extended query syntax" of the manual), a group where a document has it; and the chunk that all of them are in.
-use Rattle.std.specs.Prelude.{ℕ, zero, suc, ◌+◌, ◌%◌, ◌==◌, ◌&&◌, ◌||◌, List, [], ◌∷◌, ◌++◌, Bool, false, length, codes, decimal, if◌then◌else◌}
-use Rattle.std.specs.List.{filter, list_any}
+-- What a summary says of documents: what the SELECTs of a selftest find in them. A word finds those that have it, and a phrase of two
+-- words those where they stand next to each other in this order; a group is found where a document has it.
+use Rattle.std.specs.Prelude.{◌≡◌, ◌≢◌, ℕ, zero, suc, ◌+◌, List, [], ◌∷◌, ◌++◌, AllPairs, length, map, codes, decimal}
+use Rattle.doc_types.specs.Rows.{rows_of}
+use Rattle.doc_types.specs.Snapshots.{SnapshotValue, live}
+use Rattle.doc_types.specs.declared.documents.DocRow.{DocRow}
+use Rattle.index_conf.specs.declared.conf.IndexConf.{IndexConf}
+use Rattle.ql_answers.specs.Reading.{table_set}
+use Rattle.ql_answers.specs.Sessions.{disk_count}
+use Rattle.ql_select.specs.Selections.{Selects}
+use Rattle.ql_select.specs.declared.selection.Selection.{Selection}
+use Rattle.ql_tree.specs.declared.select.Select.{Select}
+use Rattle.table_search.specs.Tables.{AreTables}
+use Rattle.table_search.specs.declared.found.Found.{Found}
+use Rattle.self_test.specs.Loads.{AreStored}
+use Rattle.self_test.specs.Own.{IsOurs}
+use Rattle.self_test.specs.Texts.{count_select}
 use Rattle.self_test.specs.declared.generator.Document.{Document}
 use Rattle.self_test.specs.declared.summary.Count.{Count}
 use Rattle.self_test.specs.declared.summary.Count.TheVariants.{Words, Pairs, Groups}
 use Rattle.self_test.specs.declared.summary.Summary.{Summary}
-
--- the word is one of these
-abbrev pub has_word : ℕ → List ℕ → Bool
-has_word word [] = false
-has_word word (first ∷ more) = first == word || has_word word more
-
--- the two words stand next to each other
-abbrev pub has_pair : ℕ → ℕ → List ℕ → Bool
-has_pair word after (first ∷ second ∷ more) = (first == word && second == after) || has_pair word after (second ∷ more)
-has_pair word after title = false
 
 -- how many words, phrases or groups there are
 abbrev pub many : Count → ℕ
@@ -23,34 +26,40 @@ many Words = 50
 many Pairs = 50
 many Groups = 5
 
--- what is counted of the word, the phrase or the group with this number
-abbrev pub count_of : Count → ℕ → List Document → ℕ
-count_of Words number documents = length (filter (λ document. has_word number document.title) documents)
-count_of Pairs number documents = length (filter (λ document. has_pair number ((number + 1) % 50) document.title) documents)
-count_of Groups number documents = if list_any (λ document. document.gid == number) documents then 1 else 0
+-- In these rows of an index, in some order, a SELECT finds so many. What it finds is the same in each order.
+pub record FindsIn (conf : IndexConf) (rows : List DocRow) (select : Select) (number : ℕ) : Type 0 where
+  pub selection : Selection
+  pub selects : Selects conf select selection
+  pub ordered : List DocRow
+  pub same : rows_of ordered ≡ rows_of rows
+  pub apart : AllPairs (λ row other. row.doc.id ≢ other.doc.id) ordered
+  pub found : Found
+  pub finds : AreTables selection.asked ordered found
+  pub shown : length (table_set selection.shown found.table).rows ≡ number
 
--- the sum of a function over the numbers below this one
-abbrev pub sum_below : ℕ → (ℕ → ℕ) → ℕ
-sum_below zero f = 0
-sum_below (suc n) f = sum_below n f + f n
+-- the sum of what the SELECTs for the numbers below this one find
+abbrev pub FindUpTo : IndexConf → List DocRow → (ℕ → Select) → ℕ → ℕ → Type 0
+FindUpTo conf rows select zero sum = sum ≡ 0
+FindUpTo conf rows select (suc number) sum = (earlier : ℕ) × (here : ℕ) × FindUpTo conf rows select number earlier × FindsIn conf rows (select number) here × (sum ≡ earlier + here)
 
--- what is counted of all of them, together
-abbrev pub counts_of : Count → List Document → ℕ
-counts_of count documents = sum_below (many count) (λ number. count_of count number documents)
+-- what is counted of all words, phrases or groups, together
+abbrev pub AreCounts : IndexConf → List DocRow → Count → ℕ → Type 0
+AreCounts conf rows count sum = FindUpTo conf rows (count_select count) (many count) sum
 
--- how many chunks are on the disk once all documents were put into one
-abbrev pub chunks_of : List Document → ℕ
-chunks_of documents = if length documents == 0 then 0 else 1
-
--- what a selftest says of these documents
-unfoldable pub summary_of : List Document → Summary
-summary_of documents = record {
-  documents = length documents;
-  words = counts_of Words documents;
-  pairs = counts_of Pairs documents;
-  groups = counts_of Groups documents;
-  chunks = chunks_of documents;
-}
+-- What a selftest says of documents: they are stored in an index that is a selftest's, under the ids from 1 on, and each number is the
+-- sum of what the SELECTs find there. The chunks are those on the disk of a snapshot of the index that has these documents and no others.
+pub record IsSummary (documents : List Document) (summary : Summary) : Type 0 where
+  pub conf : IndexConf
+  pub ours : IsOurs conf
+  pub rows : List DocRow
+  pub stored : AreStored conf 0 documents (map (λ row. row.doc) rows)
+  pub all : summary.documents ≡ length documents
+  pub words : AreCounts conf rows Words summary.words
+  pub pairs : AreCounts conf rows Pairs summary.pairs
+  pub groups : AreCounts conf rows Groups summary.groups
+  pub snapshot : SnapshotValue
+  pub has : live snapshot ≡ rows_of rows
+  pub chunks : disk_count snapshot ≡ summary.chunks
 
 -- The five lines of a summary.
 abbrev pub lines_of : Summary → List ℕ

@@ -6,5 +6,3 @@ pub mod Engines
 pub mod Letters
 -- what the first bytes of a reply say
 pub mod Replies
--- what is answered by comparing
-pub mod Comparing

@@ -6,8 +6,8 @@ ghost use Rattle.engine_tables.specs.declared.ended.Ended.{Ended as AnyEnded};
 ghost use Rattle.store_keep.specs.Opens.{HidesNothing};
 ghost use Rattle.self_test.specs.Documents.{documents_from};
 ghost use Rattle.self_test.specs.Ends.{Ends, IsOver, Works, first_tokens};
-ghost use Rattle.self_test.specs.Summaries.{summary_of};
-ghost use Rattle.self_test.specs.steps.Engines.{HoldsNothing, IsAnswered, IsReady, LeadsTo};
+ghost use Rattle.self_test.specs.Summaries.{IsSummary};
+ghost use Rattle.self_test.specs.steps.Engines.{HoldsNothing, IsAnswered, IsNeverAstray, IsReady, LeadsTo};
 
 use crate::index::{one, own_index};
 use crate::running::run;
@@ -30,7 +30,7 @@ use store_keep::Opened;
 /// Runs a selftest over an engine of the index `t`, with the field `title` and the attribute `gid`, on a disk in memory. The engine
 /// has ended before this answers: where its history strayed, that is the answer, whatever was found.
 ///
-/// Where it ended well, each statement was replied to as it has to be, or memory was refused, or a reply was too long.
+/// Where it ended well, each statement was replied to as it has to be, or memory was refused.
 pub fn run_over_engine<R: Threads + Wait>(
     rt: &R,
     alloc: Global,
@@ -38,7 +38,7 @@ pub fn run_over_engine<R: Threads + Wait>(
     docs: u32,
 ) -> Result<Summary, SelftestFault>
     requires { docs ≤ 100000 }
-    ensures summary { IfOk result (λ summary. summary ≡ summary_of (documents_from number docs)) }
+    ensures summary { IfOk result (IsSummary (documents_from number docs)) }
     ensures ends { Ends ⟦<MemoryDisk as Disk>⟧ (documents_from number docs) result }
 {
     let disk = MemoryDisk::new(alloc, Vec::new(alloc));
@@ -96,7 +96,7 @@ fn run_over_store<D: Disk + Drop, J: Naming, R: Wait>(
     requires few { docs ≤ 100000 }
     requires ready { IsReady D.Disk index store }
     requires named { AreNamed D.Disk J.book J.faults J.stops J.schema J.base J.opened (index ∷ []) (store ∷ []) }
-    ensures summary { IfOk result (λ summary. summary ≡ summary_of (documents_from number docs)) }
+    ensures summary { IfOk result (IsSummary (documents_from number docs)) }
     ensures ends { Ends D.Disk (documents_from number docs) result }
 {
     match parts(alloc, index, store) {
@@ -127,7 +127,7 @@ fn run_over_named<D: Disk + Drop, J: Naming, R: Wait>(
     requires seats { named.seats.items ≡ first_tokens ∷ [] }
     requires sit { SitsAt named.engines first_tokens }
     requires room { IsRoomFor 1 1 named.ending }
-    ensures summary { IfOk result (λ summary. summary ≡ summary_of (documents_from number docs)) }
+    ensures summary { IfOk result (IsSummary (documents_from number docs)) }
     ensures ends { Ends D.Disk (documents_from number docs) result }
 {
     each_text_has_pieces();
@@ -155,7 +155,6 @@ fn work<D: Disk, J: Naming, R: Wait>(
 ) -> (Result<Summary, Or<Unexpected>>, Tokens<J>)
     requires one { length engines.now.confs ≡ 1 }
     requires sits { SitsAt engines.now tokens }
-    ensures summary { IfOk result.0 (λ summary. summary ≡ summary_of (documents_from number docs)) }
     ensures finds { LeadsTo J.schema J.base engines.now.confs (documents_from number docs) result.0 tokens result.1 }
     ensures works { Works J.schema J.base engines.now.confs tokens result.1 }
     ensures sits { SitsAt engines.now result.1 }
@@ -184,12 +183,13 @@ fn answer(
     found: Result<Summary, Or<Unexpected>>,
     end: Result<(), Or<Strayed>>,
 ) -> Result<Summary, SelftestFault>
+    requires { IsNeverAstray found end }
     ensures { IsAnswered found end result }
 {
     match end {
         Ok(()) => match found {
             Ok(summary) => Ok(summary),
-            Err(Or::Fault(Unexpected)) => Err(SelftestFault::Unexpected),
+            Err(Or::Fault(Unexpected)) => unreachable!(),
             Err(Or::NoMemory) => Err(SelftestFault::NoMemory),
         },
         Err(Or::Fault(strayed)) => Err(SelftestFault::Strayed(strayed)),

@@ -5,8 +5,6 @@ use commit_outcomes::Strayed;
 #[derive(Clone, Copy)]
 pub enum SelftestFault {
     NoMemory,
-    /// A reply wasn't the one that it had to be.
-    Unexpected,
     /// What the index and the token of it count contradicts each other.
     Strayed(Strayed),
 }

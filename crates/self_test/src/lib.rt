@@ -1,4 +1,4 @@
-//! The selftest: generated documents are written to a session and asked for, and what is found is that of a scan.
+//! The selftest: generated documents are written to a session and asked for, and what is found is what SELECTs find in them.
 #![tactic(auto)]
 
 mod asking;
@@ -16,4 +16,4 @@ pub use fault::SelftestFault;
 pub use generator::{Document, documents};
 pub use laws::texts_are_read_as_statements;
 pub use running::{Unexpected, run};
-pub use summary::{Summary, scan};
+pub use summary::Summary;

@@ -6,18 +6,16 @@ ghost use Rattle.ql_session.specs.Statements.{States};
 ghost use Rattle.ql_tree.specs.declared.statement.Statement.{Statement};
 ghost use Rattle.ql_write.specs.Canonical.{canonical_text};
 ghost use Rattle.self_test.specs.Asking.{AreTold, Leads, SeesChunks};
-ghost use Rattle.self_test.specs.Conversations.{ComesTo, ConversesOr, CountsOr, SumsOr, before_document, behind_document, insert, job, loading, transactions};
+ghost use Rattle.self_test.specs.Conversations.{ConversesOr, CountsOr, SumsOr, before_document, behind_document, insert, job, loading, transactions};
 ghost use Rattle.ql_answers.specs.States.{new_state};
 ghost use Rattle.self_test.specs.Documents.{documents_from};
-ghost use Rattle.self_test.specs.Summaries.{summary_of};
 ghost use Rattle.self_test.specs.Texts.{count_select};
-ghost use Rattle.self_test.specs.steps.Comparing.{IsCompared};
 ghost use Rattle.self_test.specs.steps.Replies.{RowsOr};
 
 use crate::asking::Client;
 use crate::generator::{Document, documents};
 use crate::laws::{inserts_are_read, texts_are_read_as_statements};
-use crate::summary::{Count, Summary, scan};
+use crate::summary::{Count, Summary};
 use crate::texts::{write_count, write_insert};
 use ql_session::TableStore;
 use srch_base::{NoMemory, Or};
@@ -36,7 +34,7 @@ const AUTOCOMMIT: u16 = 2;
 pub struct Unexpected;
 
 /// Writes the documents of a number to the index `t`, the only one of a store, which has none, and asks a session what it finds of
-/// them. It is answered where all that a scan of the documents finds was found.
+/// them.
 pub fn run<T: TableStore>(
     alloc: Global,
     tables: &mut T,
@@ -44,35 +42,13 @@ pub fn run<T: TableStore>(
     docs: u32,
 ) -> Result<Summary, Or<Unexpected>>
     requires one { length (T.confs tables.old) ≡ 1 }
-    ensures is { IfOk result (λ summary. summary ≡ summary_of (documents_from number docs)) }
-    ensures comes { ComesTo T.confs T.words (documents_from number docs) result tables.old tables.new }
+    ensures comes { ConversesOr T.confs T.words (documents_from number docs) result tables.old tables.new }
     ensures confs { T.confs tables.new ≡ T.confs tables.old }
     ensures leads { Leads T.confs T.words tables.old tables.new }
 {
     match documents(alloc, number, docs) {
-        Ok(documents) => compare(&documents, found(alloc, tables, &documents)),
+        Ok(documents) => found(alloc, tables, &documents),
         Err(_) => Err(Or::NoMemory),
-    }
-}
-
-/// What was found of documents, where it is what a scan finds.
-fn compare(
-    documents: &[Document],
-    found: Result<Summary, Or<Unexpected>>,
-) -> Result<Summary, Or<Unexpected>>
-    requires few { length documents.now < 2 ^ 32 }
-    ensures is { IfOk result (λ summary. summary ≡ summary_of documents.now) }
-    ensures compared { IsCompared documents.now found result }
-{
-    match found {
-        Ok(summary) => {
-            if summary == scan(documents) {
-                Ok(summary)
-            } else {
-                Err(Or::Fault(Unexpected))
-            }
-        }
-        Err(fault) => Err(fault),
     }
 }
 

@@ -12,12 +12,12 @@ use Rattle.engine_tables.specs.Workers.{by_tokens}
 use Rattle.step_history.specs.History.{Base}
 use Rattle.store_keep.specs.Opens.{IsOpened, base_of}
 use Rattle.store_keep.specs.declared.opening.Opened.{Opened}
-use Rattle.self_test.specs.Conversations.{ComesTo}
+use Rattle.self_test.specs.Conversations.{ConversesOr}
 use Rattle.self_test.specs.Own.{IsEmpty, IsOurs}
 use Rattle.self_test.specs.steps.Servable.{IsServable}
 use Rattle.self_test.specs.declared.generator.Document.{Document}
 use Rattle.self_test.specs.declared.fault.SelftestFault.{SelftestFault}
-use Rattle.self_test.specs.declared.fault.SelftestFault.TheVariants.{NoMemory, Unexpected, Strayed as HasStrayed}
+use Rattle.self_test.specs.declared.fault.SelftestFault.TheVariants.{NoMemory, Strayed as HasStrayed}
 use Rattle.self_test.specs.declared.summary.Summary.{Summary}
 
 -- The disk tells that it has no files.
@@ -37,15 +37,14 @@ pub record IsReady {D : Type 0} (words : DiskWords D) (index : IndexConf) (store
 -- came to this.
 abbrev pub LeadsTo : {E : Type 0} → (ℕ → Schema) → (ℕ → Base) → List IndexConf → List Document → Result Summary (Or E) → TokensValue → TokensValue → Type 0
 LeadsTo schema base confs documents result first left =
-    ComesTo (λ worker. worker.confs) (by_tokens schema base) documents result (record { confs = confs; tokens = first }) (record { confs = confs; tokens = left })
+    ConversesOr (λ worker. worker.confs) (by_tokens schema base) documents result (record { confs = confs; tokens = first }) (record { confs = confs; tokens = left })
 
--- a conversation went astray, or found another thing than the documents have
-abbrev pub IsFault : {E : Type 0} → Result Summary (Or E) → Type 0
-IsFault {E} found = (fault : E) × (found ≡ Err (causes.Fault fault))
+-- where an engine ended well, the conversation didn't go astray
+abbrev pub IsNeverAstray : {E : Type 0} → Result Summary (Or E) → Result (Unit {0}) (Or Strayed) → Type 0
+IsNeverAstray {E} found end = end ≡ Ok tt → (fault : E) → found ≡ Err (causes.Fault fault) → ⊥
 
 -- what an answer says of what was found and of how the engine ended
 abbrev pub IsAnswered : {E : Type 0} → Result Summary (Or E) → Result (Unit {0}) (Or Strayed) → Result Summary SelftestFault → Type 0
 IsAnswered found end (Ok summary) = (found ≡ Ok summary) × (end ≡ Ok tt)
-IsAnswered found end (Err Unexpected) = IsFault found × (end ≡ Ok tt)
 IsAnswered found end (Err (HasStrayed strayed)) = end ≡ Err (causes.Fault strayed)
 IsAnswered found end (Err NoMemory) = Unit {0}

@@ -9,6 +9,6 @@ pub returns-in-Ok-clause-converses : goal.returns-in-Ok-clause-converses
 returns-in-Ok-clause-converses g c =
     let confs = g.T.Catalog.confs in
     let words = g.T.TableStore.words in
-    comes_then confs words c.count_all.result c.args.documents.now c.load.new.client.session c.args.tables.now c.load.new.tables c.count_all.new.tables c.load.ensures.confs
+    comes_then confs words c.count_all.result c.args.documents.now c.load.new.client.session c.args.tables.now c.load.new.tables c.count_all.new.tables
     (subst (λ (state : State). AreDone confs words (loading c.args.documents.now) state c.args.tables.now c.load.new.client.session c.load.new.tables) c.requires.begins c.in-Ok.ensures.told)
     c.count_all.ensures.sums

@@ -8,8 +8,8 @@ use Rattle.self_test.proofs.running.count.Goals as goal
 pub returns-in-Err-clause-counts : goal.returns-in-Err-clause-counts
 returns-in-Err-clause-counts g c =
     let below : c.numbers.number < many c.args.count = search rules in
-    lost_one g.T.Catalog.confs g.T.TableStore.words c.in-Err.fault c.args.count c.numbers.number c.args.tables.now c.numbers.client.session c.count_one.new.client.session c.numbers.tables c.count_one.new.tables
-    below c.numbers.invariant.confs c.in-Err.ensures.rows
+    lost_one g.T.Catalog.confs g.T.TableStore.words c.in-Err.fault c.args.count c.numbers.number c.numbers.sum c.args.client.now.session c.numbers.client.session c.count_one.new.client.session
+    c.args.tables.now c.numbers.tables c.count_one.new.tables below c.numbers.invariant.counted c.in-Err.ensures.rows
 
 pub returns-in-Err-clause-leads : goal.returns-in-Err-clause-leads
 returns-in-Err-clause-leads g c =

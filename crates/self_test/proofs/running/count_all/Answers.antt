@@ -1,6 +1,5 @@
-use Rattle.std.proofs.Common.{refl, ◌∙◌}
-use Rattle.self_test.specs.declared.summary.Count.TheVariants.{Pairs, Groups}
-use Rattle.self_test.proofs.Conversing.{some_lost}
+use Rattle.std.proofs.Common.{refl}
+use Rattle.self_test.proofs.Conversing.{lost_groups, lost_pairs, lost_words}
 use Rattle.self_test.proofs.Leading.{leads_then}
 use Rattle.self_test.proofs.running.count_all.Goals as goal
 
@@ -49,9 +48,14 @@ returns-in-Err-count-2-clause-leads g c =
 
 pub returns-in-Err-count-2-clause-sums : goal.returns-in-Err-count-2-clause-sums
 returns-in-Err-count-2-clause-sums g c =
-    some_lost g.T.Catalog.confs g.T.TableStore.words c.in-Err-count-2.fault Groups c.args.tables.now c.count-in-Ok.new.tables c.count-in-Ok-count.new.tables (c.count-in-Ok.ensures.confs ∙ c.count.ensures.confs)
-    c.in-Err-count-2.ensures.counts
+    lost_groups g.T.Catalog.confs g.T.TableStore.words c.in-Err-count-2.fault c.in-Ok.words c.in-Ok-count.pairs c.args.client.now.session c.count-in-Ok.new.client.session
+    c.args.tables.now c.count-in-Ok.new.tables c.count-in-Ok-count.new.tables
+    (c.count.new.client.session, c.count.new.tables, c.in-Ok.ensures.counts, c.in-Ok-count.ensures.counts) c.in-Err-count-2.ensures.counts
 
 pub returns-in-Err-count-clause-sums : goal.returns-in-Err-count-clause-sums
 returns-in-Err-count-clause-sums g c =
-    some_lost g.T.Catalog.confs g.T.TableStore.words c.in-Err-count.fault Pairs c.args.tables.now c.count.new.tables c.count-in-Ok.new.tables c.count.ensures.confs c.in-Err-count.ensures.counts
+    lost_pairs g.T.Catalog.confs g.T.TableStore.words c.in-Err-count.fault c.in-Ok.words c.args.client.now.session c.count.new.client.session c.args.tables.now c.count.new.tables c.count-in-Ok.new.tables
+    c.in-Ok.ensures.counts c.in-Err-count.ensures.counts
+
+pub returns-in-Err-clause-sums : goal.returns-in-Err-clause-sums
+returns-in-Err-clause-sums g c = lost_words g.T.Catalog.confs g.T.TableStore.words c.in-Err.fault c.args.client.now.session c.args.tables.now c.count.new.tables c.in-Err.ensures.counts
