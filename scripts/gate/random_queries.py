@@ -8,9 +8,10 @@ over half of the documents, which are in memory; one over all, of which FLUSH to
 with dead rows as well; one behind a last FLUSH, and one behind OPTIMIZE. Queries are of words, AND, OR, NOT, MAYBE,
 phrases, proximities, quorums, `<<`, NEAR and fields, one in another, some with a condition on an attribute. It compares the ids
 of the first thousand documents, and of how many there are, with a scan in Python. Where there are no more than some thousands
-it also compares a short page, in some order and by weights, with the beginning of the page that has all: a row that can't enter
-a full page isn't weighed. Words are few and drawn as in a natural text, so that most queries find something. It ends at the
-first query that differs.
+it also compares a short page, in some order and by weights, from the first row on or up to `max_matches`, with the same part of
+the page that has all, and how many documents are told of behind it: a row that can't enter a full page isn't weighed. Now and
+then it compares how many of the documents are of each group, as GROUP BY and FACET tell it. Words are few and drawn as in a
+natural text, so that most queries find something. It ends at the first query that differs.
 
 With --prefixes half of the words are cut and asked as prefixes, over an index that takes them. Then it also compares how many
 words a refused query has, what SHOW META tells of each keyword, and the weights of a few documents by some ranker
@@ -21,6 +22,7 @@ import argparse
 import random
 import sys
 import tempfile
+from collections import Counter
 from pathlib import Path
 
 from scripts.clients import jobs
@@ -37,7 +39,10 @@ SHOWN = 1000
 STATES = 4
 # Pages of up to so many rows are compared with short ones.
 WHOLE = 3000
-ORDERS = ["", " ORDER BY gid ASC", " ORDER BY WEIGHT() ASC", " ORDER BY gid DESC, WEIGHT() DESC"]
+ORDERS = ["", "", " ORDER BY id DESC", " ORDER BY gid ASC", " ORDER BY WEIGHT() ASC", " ORDER BY gid DESC, WEIGHT() DESC"]
+# Groups are 0 to so many less one, and asked for so often.
+GROUPS = 100
+GROUPED = 0.1
 # A prefix has 1 to 4 letters, so often.
 PREFIXES = (1, 4, 6, 3)
 
@@ -282,16 +287,21 @@ def fill(client, scan, draws, numbers, flushes):
 def put(client, scan, draws, verb, numbers):
     rows = []
     for number in numbers:
-        group, texts = draws.randrange(100), [" ".join(word(draws) for _ in range(n)) for n in (6, 40)]
+        group, texts = draws.randrange(GROUPS), [" ".join(word(draws) for _ in range(n)) for n in (6, 40)]
         scan.put(number, group, texts)
         rows.append(f"({number}, '{texts[0]}', '{texts[1]}', {group})")
     client.query(f"{verb} INTO rt (id, title, content, gid) VALUES {', '.join(rows)}")
 
 
+def condition(below):
+    """The condition that a group lies below this one, where that isn't so of all."""
+    return f" AND gid < {below}" if below < GROUPS else ""
+
+
 def ask(client, scan, draws):
     """One query; what is wrong with its reply, or None."""
-    tree, below = query(draws), draws.choice([100, 100, 50, 5])
-    text = f"SELECT id FROM rt WHERE MATCH('{tree}') AND gid < {below} LIMIT {SHOWN} OPTION ranker=none"
+    tree, below = query(draws), draws.choice([GROUPS, GROUPS, 50, 5])
+    text = f"SELECT id FROM rt WHERE MATCH('{tree}'){condition(below)} LIMIT {SHOWN} OPTION ranker=none"
     if prefix_scan.words(scan, tree) > prefix_scan.MOST_WORDS:
         return prefix_scan.ask_refused(client, scan, tree, text)
     wanted = scan.find(tree, below)
@@ -300,7 +310,8 @@ def ask(client, scan, draws):
     told = int(meta["total_found"])
     if found == wanted[:SHOWN] and told == len(wanted):
         wrong = prefix_scan.differ(client, scan, draws, tree, wanted, meta) if isinstance(draws, WithPrefixes) else None
-        return wrong or (ask_page(client, draws, tree, below, told) if 0 < told <= WHOLE else None)
+        wrong = wrong or (ask_page(client, draws, tree, below, told) if 0 < told <= WHOLE else None)
+        return wrong or (ask_groups(client, scan, tree, below, wanted) if draws.random() < GROUPED else None)
     return f"{text}: {len(found)} of {told} documents, wanted {len(wanted)}; first that differs: " + next(
         (f"{one} for {two}" for one, two in zip(found, wanted) if one != two), "none"
     )
@@ -308,13 +319,31 @@ def ask(client, scan, draws):
 
 def ask_page(client, draws, tree, below, told):
     """A short page by weights beside the page of all; what is wrong with it, or None."""
-    count, order = draws.choice([1, 5, 20]), draws.choice(ORDERS)
-    text = f"SELECT id, WEIGHT() FROM rt WHERE MATCH('{tree}') AND gid < {below}{order}"
+    count, order = draws.choice([1, 5, 20, 200]), draws.choice(ORDERS)
+    first = draws.choice([0, 0, max(0, told - count), draws.randrange(told)])
+    text = f"SELECT id, WEIGHT() FROM rt WHERE MATCH('{tree}'){condition(below)}{order}"
     option = "OPTION field_weights=(title=3), max_matches="
-    short, whole = (client.query(f"{text} LIMIT {rows} {option}{rows}").rows for rows in (count, told))
-    if short == whole[:count] and len(whole) == told:
+    whole = client.query(f"{text} LIMIT {told} {option}{told}").rows
+    short = client.query(f"{text} LIMIT {first}, {count} {option}{first + count}").rows
+    counted = int(dict(client.query("SHOW META").rows)["total_found"])
+    if short == whole[first : first + count] and len(whole) == told == counted:
         return None
-    return f"{text} LIMIT {count}: {short}, wanted {whole[:count]} of {told}, of which there are {len(whole)}"
+    return (
+        f"{text} LIMIT {first}, {count}: {short}, wanted {whole[first : first + count]} of {told}, "
+        f"of which there are {len(whole)}, and {counted} were told of"
+    )
+
+
+def ask_groups(client, scan, tree, below, wanted):
+    """How many documents are of each group, as GROUP BY and FACET tell it; what is wrong with that, or None."""
+    many = Counter(scan.live[number][0] for number in wanted)
+    text = f"FROM rt WHERE MATCH('{tree}'){condition(below)}"
+    groups = client.query(f"SELECT gid, COUNT(*) {text} GROUP BY gid ORDER BY gid ASC LIMIT {GROUPS}").rows
+    _, facet = client.queries(f"SELECT id {text} LIMIT 1 FACET gid ORDER BY gid ASC LIMIT {GROUPS}")
+    told = [[(int(group), int(count)) for group, count in rows] for rows in (groups, facet.rows)]
+    if told == [sorted(many.items())] * 2:
+        return None
+    return f"{text}: groups {told[0]} and facet {told[1]}, wanted {sorted(many.items())}"
 
 
 def first_wrong(given):

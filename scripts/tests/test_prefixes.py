@@ -116,10 +116,11 @@ class RandomPrefixes(unittest.TestCase):
         for number in range(1, 61):
             words = [" ".join(random_queries.word(self.draws) for _ in range(count)) for count in (4, 20)]
             self.scan.put(number, self.draws.randrange(100), words)
-        self.whole, random_queries.WHOLE = random_queries.WHOLE, 0
+        self.kept = random_queries.WHOLE, random_queries.GROUPED
+        random_queries.WHOLE, random_queries.GROUPED = 0, 0
 
     def tearDown(self):
-        random_queries.WHOLE = self.whole
+        random_queries.WHOLE, random_queries.GROUPED = self.kept
 
     def said(self, client, count):
         return [random_queries.ask(client, self.scan, self.draws) for _ in range(count)]

@@ -149,11 +149,17 @@ class Asked:
     def query(self, text):
         if text == "SHOW META":
             return Rows([], [["total_found", str(self.told)]], 2)
-        most = int(re.search(r"LIMIT (\d+)", text)[1])
-        return Rows([], [[str(number), "1"] for number in self.found[:most]], 2)
+        first, most = (int(number or 0) for number in re.search(r"LIMIT (?:(\d+), )?(\d+)", text).groups())
+        return Rows([], [[str(number), "1"] for number in self.found[first : first + most]], 2)
 
 
 class RandomQueries(unittest.TestCase):
+    def setUp(self):
+        self.kept, random_queries.GROUPED = random_queries.GROUPED, 0
+
+    def tearDown(self):
+        random_queries.GROUPED = self.kept
+
     def test_what_differs_is_said(self):
         scan, found_some = random_queries.Scan(), 0
         for number in range(1, 40):
@@ -172,11 +178,38 @@ class RandomQueries(unittest.TestCase):
 
             def query(self, text):
                 rows = super().query(text).rows
-                return Rows([], rows[:-1] + [["99", "1"]] if len(rows) < self.told else rows, 2)
+                is_short = text != "SHOW META" and len(rows) < self.told
+                return Rows([], rows[:-1] + [["99", "1"]] if is_short else rows, 2)
 
-        tree = random_queries.query(random.Random(1))
-        for client, is_well in ((Asked, True), (Pages, False)):
+        class Counts(Asked):
+            """A client that tells of one document less behind a short page."""
+
+            def query(self, text):
+                rows = super().query(text).rows
+                return Rows([], [["total_found", "29"]] if text == "SHOW META" else rows, 2)
+
+        class Groups(Asked):
+            """A client with groups and a facet, of which the second one may count another document."""
+
+            more = 0
+
+            def query(self, text):
+                return Rows([], [["1", "2"], ["5", "1"]], 2)
+
+            def queries(self, text):
+                return [Rows([], [["1"]], 2), Rows([], [["1", str(2 + self.more)], ["5", "1"]], 2)]
+
+        class Facets(Groups):
+            more = 1
+
+        tree, scan = random_queries.query(random.Random(1)), random_queries.Scan()
+        for client, is_well in ((Asked, True), (Pages, False), (Counts, False)):
             said = random_queries.ask_page(client(list(range(30)), 30), random.Random(1), tree, 100, 30)
+            self.assertEqual(said is None, is_well, said)
+        for number, group in ((1, 1), (2, 5), (3, 1)):
+            scan.put(number, group, ["", ""])
+        for client, is_well in ((Groups, True), (Facets, False)):
+            said = random_queries.ask_groups(client([], 0), scan, tree, 100, [1, 2, 3])
             self.assertEqual(said is None, is_well, said)
 
 
