@@ -110,6 +110,12 @@ const FEW: &str = r#"
 "red fox" ⇒ 17 9000, calls within 200
 "#;
 
+/// A query over the same documents that all but two match: the page, and fewer calls on the chunk than a tenth of them. Once the page is
+/// full the others are only counted, and for that taken many at a time.
+const COMMON: &str = r#"
+grey ⇒ 1 2 3 4 5 6 7 8 9 10 11 12 13 14 15 16 18 19 20 21, calls within 999
+"#;
+
 /// The words of one of the many documents behind its first two.
 fn pair_of(number: u64) -> &'static str {
     match number {
@@ -179,7 +185,11 @@ const OF_MANY: [(&str, &Asked); 4] = [
 ];
 
 /// The tables over the documents with one word each.
-const OF_GREY: [(&str, &Asked); 2] = [(FEW, &Asked::Calls(Call::Ids)), (FEW, &Asked::Shown)];
+const OF_GREY: [(&str, &Asked); 3] = [
+    (FEW, &Asked::Calls(Call::Ids)),
+    (FEW, &Asked::Shown),
+    (COMMON, &Asked::Shown),
+];
 
 /// The first query over the documents of its set that finds something else.
 fn first_of_sets(alloc: Global, found: &mut String) -> Option<&'static str> {

@@ -140,6 +140,11 @@ impl<C: Chunk> Chunk for Watched<C> {
         self.chunk.seek(cursor, row)
     }
 
+    fn take_rows(&self, cursor: &mut Cursor, into: &mut [u32]) -> usize {
+        count_one(&self.counting.calls);
+        self.chunk.take_rows(cursor, into)
+    }
+
     fn lasts(&self, row: u32, into: &mut Vec<u32>) -> Result<(), NoMemory> {
         count_one(&self.counting.calls);
         self.chunk.lasts(row, into)
