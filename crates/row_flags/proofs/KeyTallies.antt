@@ -57,7 +57,7 @@ either_bit a b low few = grind (arith, nat_tests)
 both_bits : (a b : ℕ) → a < 2 → b < 2 → (min a b == 1) ≡ ((a == 1) && (b == 1))
 both_bits a b low few = grind (arith, nat_tests)
 
-bits_either : (a b field : ℕ) → has_field (bit_or a b) field ≡ (has_field a field || has_field b field)
+pub bits_either : (a b field : ℕ) → has_field (bit_or a b) field ≡ (has_field a field || has_field b field)
 bits_either a b field = ap (λ n. n == 1) (bit_at_or a b field) ∙ either_bit (bit_at a field) (bit_at b field) (bit_at-lt a field) (bit_at-lt b field)
 
 bits_both : (a b field : ℕ) → has_field (bit_and a b) field ≡ (has_field a field && has_field b field)

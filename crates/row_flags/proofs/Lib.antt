@@ -10,5 +10,7 @@ pub mod Counted
 pub mod TakenRows
 -- what is told of a row by its keywords
 pub mod KeyTallies
+-- the fields that are told of a row
+pub mod ToldFields
 -- what is known of rows
 pub mod ToldRows

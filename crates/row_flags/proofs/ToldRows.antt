@@ -14,17 +14,21 @@ use Rattle.query_tree.specs.declared.query.Node.{Node}
 use Rattle.query_tree.specs.declared.query.Query.{Query}
 use Rattle.query_tree.specs.TreeKeys.{node_keys, query_keys}
 use Rattle.word_rows.specs.Keywords.{has_field, key_places, present_in}
+use Rattle.word_rows.proofs.PlacedRows.{IsPlacedRow, at_one, placed_rows}
+use Rattle.op_eval.specs.Fields.{AreFieldsOf, GoesByFields}
 use Rattle.op_eval.specs.Hits.{AreHits}
+use Rattle.op_eval.specs.Matching.{query_finds}
 use Rattle.op_eval.specs.Numbered.{IsWordAt}
 use Rattle.op_eval.specs.steps.Wanted.{is_wanted}
 use Rattle.op_eval.proofs.KeywordHits.{hits_keyed}
 use Rattle.op_eval.proofs.NextMatches.{tree_matches}
 use Rattle.op_eval.proofs.NumberedHits.{words_stand}
 use Rattle.row_flags.specs.declared.windows.Told.{Told}
-use Rattle.row_flags.specs.Windows.{AreTold, IsTold}
+use Rattle.row_flags.specs.Windows.{AreFieldsTold, AreTold, IsTold}
 use Rattle.row_flags.specs.steps.Flags.{AreLivingFlags}
 use Rattle.row_flags.specs.steps.Tallies.{AreTallied, first_told, tally_all}
 use Rattle.row_flags.proofs.KeyTallies.{all_bits, all_found, all_kept, all_words, field_told, place_bit, place_word}
+use Rattle.row_flags.proofs.ToldFields.{fields_told}
 
 -- rows have few fields
 few_fields : (rows : List DocRow) → ∥ IsContent rows ∥₁ → (number : ℕ) (row : DocRow) → slice_get rows number ≡ Some row → length row.doc.fields ≤ 32
@@ -52,21 +56,34 @@ module _ (query : Query) (root : Node) (is : query.root ≡ Some root) (dead : L
   tree_keys : node_keys root ≡ query_keys query
   tree_keys = sym (ap (λ tree. query_keys (record query { root = tree })) is)
 
-  pub are_told : (by_fields : Bool) (from : ℕ) (flags : List Bool) (told : List Told) → from + length flags ≤ length rows → AreLivingFlags root dead rows from flags → length told ≡ length flags → AreTallied by_fields (node_keys root) rows from (map (first_told by_fields) flags) told → AreTold query dead rows from told
-  are_told by_fields from flags told inside living long tallied = record {
-    within = omega (arith, inside, long);
-    each = λ i row its here at.
+  module _ (by_fields : Bool) (from : ℕ) (flags : List Bool) (told : List Told) (long : length told ≡ length flags) (tallied : AreTallied by_fields (node_keys root) rows from (map (first_told by_fields) flags) told) where
+    -- what is told of a row is what its keywords tell
+    its_tally : (i : ℕ) (row : DocRow) (its : Told) → slice_get rows (from + i) ≡ Some row → slice_get told i ≡ Some its → its ≡ tally_all by_fields row (node_keys root) (first_told by_fields (get_or flags i false))
+    its_tally i row its here at =
         let low : i < length flags = omega (arith, slice_get_within told i its at, long) in
-        let found = get_or flags i false in
-        let wanted : found ≡ is_wanted root dead (from + i, row) = living i row false low here in
-        let now : its ≡ tally_all by_fields row (query_keys query) (first_told by_fields found) =
         sym (get_or_from_slice_get told i its its at)
         ∙ tallied i row its (omega (arith, low, length-map flags (first_told by_fields))) here
         ∙ ap (λ first. tally_all by_fields row (node_keys root) first) (get_or-map (first_told by_fields) flags i false its low)
-        ∙ ap (λ keys. tally_all by_fields row keys (first_told by_fields found)) tree_keys in
-        subst (λ its. IsTold query dead (from + i) row its) (sym now) (record {
-          found = all_found by_fields row (query_keys query) (first_told by_fields found) ∙ wanted ∙ ap (λ passes. passes (from + i, row)) (tree_matches query root dead is);
-          words = all_words by_fields row (query_keys query) (first_told by_fields found) (omega arith) ∙ ap (λ n. min n 65535) (zero-add (present_in row (query_keys query)));
-          fields = hits_told query row (few_fields rows content (from + i) row here) found by_fields;
-        });
-  }
+
+    pub are_told : from + length flags ≤ length rows → AreLivingFlags root dead rows from flags → AreTold query dead rows from told
+    are_told inside living = record {
+      within = omega (arith, inside, long);
+      each = λ i row its here at.
+          let low : i < length flags = omega (arith, slice_get_within told i its at, long) in
+          let found = get_or flags i false in
+          let wanted : found ≡ is_wanted root dead (from + i, row) = living i row false low here in
+          let now : its ≡ tally_all by_fields row (query_keys query) (first_told by_fields found) =
+          its_tally i row its here at ∙ ap (λ keys. tally_all by_fields row keys (first_told by_fields found)) tree_keys in
+          subst (λ its. IsTold query dead (from + i) row its) (sym now) (record {
+            found = all_found by_fields row (query_keys query) (first_told by_fields found) ∙ wanted ∙ ap (λ passes. passes (from + i, row)) (tree_matches query root dead is);
+            words = all_words by_fields row (query_keys query) (first_told by_fields found) (omega arith) ∙ ap (λ n. min n 65535) (zero-add (present_in row (query_keys query)));
+            fields = hits_told query row (few_fields rows content (from + i) row here) found by_fields;
+          });
+    }
+
+    pub are_exact : by_fields ≡ true → GoesByFields query → AreFieldsTold query rows from told
+    are_exact asked goes i row its here at =
+        let found = get_or flags i false in
+        let now : its ≡ tally_all true row (node_keys root) (first_told true found) =
+        its_tally i row its here at ∙ ap (λ b. tally_all b row (node_keys root) (first_told b found)) asked in
+        subst (λ (its : Told). AreFieldsOf (query_finds query row) its.fields) (sym now) (fields_told row (at_one IsPlacedRow rows (placed_rows rows content) (from + i) row here) query root found is goes)

@@ -6,8 +6,9 @@ use Rattle.doc_types.specs.declared.hits.Hit.{Hit}
 use Rattle.query_tree.specs.declared.query.Query.{Query}
 use Rattle.query_tree.specs.TreeKeys.{query_keys}
 use Rattle.word_rows.specs.Keywords.{has_field, present_in}
+use Rattle.op_eval.specs.Fields.{AreFieldsOf}
 use Rattle.op_eval.specs.Hits.{AreHits}
-use Rattle.op_eval.specs.Matching.{matches}
+use Rattle.op_eval.specs.Matching.{matches, query_finds}
 use Rattle.row_flags.specs.declared.windows.Told.{Told}
 
 -- It is told of the row of this number whether the query matches it and it isn't dead; how many of the keywords have their word in it,
@@ -21,3 +22,8 @@ pub record IsTold (query : Query) (dead : List ℕ) (number : ℕ) (row : DocRow
 pub record AreTold (query : Query) (dead : List ℕ) (rows : List DocRow) (from : ℕ) (told : List Told) : Type 0 where
   pub within : from + length told ≤ length rows
   pub each : (i : ℕ) (row : DocRow) (its : Told) → slice_get rows (from + i) ≡ Some row → slice_get told i ≡ Some its → IsTold query dead (from + i) row its
+
+-- the fields that are told of each of them are those that have a hit
+abbrev pub AreFieldsTold : Query → List DocRow → ℕ → List Told → Type 0
+AreFieldsTold query rows from told =
+    (i : ℕ) (row : DocRow) (its : Told) → slice_get rows (from + i) ≡ Some row → slice_get told i ≡ Some its → AreFieldsOf (query_finds query row) its.fields

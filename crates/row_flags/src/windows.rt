@@ -1,8 +1,9 @@
 //! What is known of many rows at a time by the words of a query alone: which of them match, how many of its keywords have their words
 //! in each, and in which fields its hits lie.
-ghost use Rattle.std.specs.Prelude.{◌≡◌, ◌+◌, ◌≤◌, Some, IfOk, IfSome, length, map};
+ghost use Rattle.std.specs.Prelude.{◌≡◌, ◌+◌, ◌≤◌, Some, IfOk, IfSome, length, map, true};
 ghost use Rattle.query_tree.specs.declared.query.Query.{Query as QueryValue};
-ghost use Rattle.row_flags.specs.Windows.{AreTold};
+ghost use Rattle.op_eval.specs.Fields.{GoesByFields};
+ghost use Rattle.row_flags.specs.Windows.{AreFieldsTold, AreTold};
 ghost use Rattle.row_flags.specs.steps.Tallies.{first_told};
 
 use crate::combining::new_flags;
@@ -25,7 +26,8 @@ pub struct Told {
 }
 
 /// What is known of so many rows from one on, where words and their fields decide which of them match; None where more does, and of a
-/// query without a word. Where `by_fields` doesn't ask for it, no fields are looked for, and all stand for them.
+/// query without a word. Where `by_fields` doesn't ask for it, no fields are looked for, and all stand for them. Where it does, and the
+/// query is one keyword that goes by its fields, they are exactly those that have a hit.
 pub fn told_rows<C: CountedLists>(
     alloc: Global,
     query: &Query,
@@ -38,6 +40,7 @@ pub fn told_rows<C: CountedLists>(
 ) -> Result<Option<Vec<Told>>, NoMemory>
     requires { from + size ≤ length (C.content chunk.now) }
     ensures told { IfOk result (λ told. IfSome told (λ rows. AreTold query.now dead.now (C.content chunk.now) from rows.items)) }
+    ensures exact { by_fields ≡ true → GoesByFields query.now → IfOk result (λ told. IfSome told (λ rows. AreFieldsTold query.now (C.content chunk.now) from rows.items)) }
     ensures long { IfOk result (λ told. IfSome told (λ rows. length rows.items ≡ size)) }
 {
     match &query.root {
@@ -59,6 +62,7 @@ fn told_by_tree<C: CountedLists>(
 ) -> Result<Option<Vec<Told>>, NoMemory>
     requires { from + size ≤ length (C.content chunk.now) }
     ensures told { (query : QueryValue) → query.root ≡ Some root.now → IfOk result (λ told. IfSome told (λ rows. AreTold query dead.now (C.content chunk.now) from rows.items)) }
+    ensures exact { (query : QueryValue) → query.root ≡ Some root.now → by_fields ≡ true → GoesByFields query → IfOk result (λ told. IfSome told (λ rows. AreFieldsTold query (C.content chunk.now) from rows.items)) }
     ensures long { IfOk result (λ told. IfSome told (λ rows. length rows.items ≡ size)) }
 {
     let mut flags = new_flags(alloc, size as usize)?;
@@ -78,6 +82,7 @@ fn told_by_flags<C: CountedLists>(
 ) -> Result<Option<Vec<Told>>, NoMemory>
     requires { from + length flags.old ≤ length (C.content chunk.now) }
     ensures told { (query : QueryValue) → query.root ≡ Some root.now → IfOk result (λ told. IfSome told (λ rows. AreTold query dead.now (C.content chunk.now) from rows.items)) }
+    ensures exact { (query : QueryValue) → query.root ≡ Some root.now → by_fields ≡ true → GoesByFields query → IfOk result (λ told. IfSome told (λ rows. AreFieldsTold query (C.content chunk.now) from rows.items)) }
     ensures long { IfOk result (λ told. IfSome told (λ rows. length rows.items ≡ length flags.old)) }
 {
     if !flag_living(alloc, root, chunk, dead, from, flags, steps)? {
