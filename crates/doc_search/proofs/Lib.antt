@@ -34,3 +34,5 @@ pub mod MostOfAll
 pub mod LayerRest
 -- rows that are gone over many at a time
 pub mod ManyRows
+-- what a row weighs by what is told of it
+pub mod ToldWeights

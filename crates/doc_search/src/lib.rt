@@ -14,6 +14,7 @@ mod rest;
 mod room;
 mod scanning;
 mod searching;
+mod told_weights;
 mod windows;
 
 pub use laws::{a_search_ends_in_one_way, a_search_shows_one_list};

@@ -1,14 +1,16 @@
-//! How a search goes over a layer: row by row, or many rows at a time once rows are found close together and the sink needs no more than
-//! the number of some of them. Speed alone rests on which.
+//! How a search goes over a layer: row by row, or many rows at a time once rows are found close together, where what is told of a row
+//! tells what it weighs, or the sink needs no more than the number of some of them. Speed alone rests on which.
 ghost use Rattle.std.specs.Prelude.{◌≡◌, ◌<◌, ◌≤◌, ◌==◌, AllPairs, IfOk, false, length};
 ghost use Rattle.std.specs.List.{list_any};
 ghost use Rattle.doc_search.specs.steps.Gathering.{IsAskedOfDocs};
 ghost use Rattle.doc_search.specs.steps.Windows.{Carries, StopsIn, standing};
 
 use crate::lacking::NoWeight;
+use crate::ranking::Ranking;
 use crate::ready::ReadyQuestion;
 use crate::room::Room;
 use crate::searching::collect_row;
+use crate::told_weights::ToldWeight;
 use crate::windows::collect_window;
 use doc_types::{Chunk, CountedLists};
 use op_eval::Matches;
@@ -25,8 +27,8 @@ const APART: u32 = 16;
 /// How a search goes over a layer.
 #[derive(Clone, Copy)]
 pub(crate) enum Pace {
-    /// Row by row, of which so many were looked at.
-    Rows { looked_at: u32 },
+    /// Row by row, of which so many were looked at; and whether what is told of a row tells what it weighs.
+    Rows { looked_at: u32, weighed: bool },
     /// Many rows at a time.
     Windows,
     /// Row by row to the end.
@@ -35,20 +37,23 @@ pub(crate) enum Pace {
 
 impl Pace {
     /// How a search begins. Where conditions are asked, most rows fail them at less cost than a window is.
-    pub(crate) fn of(asked: &ReadyQuestion<'_>) -> Pace {
+    pub(crate) fn of<C: Chunk>(asked: &ReadyQuestion<'_>, stream: &Matches<'_, C>) -> Pace {
         let question = asked.question;
-        let is_bounded = match question.ranker.plain() {
-            Some(ranker) => has_bounds(ranker),
-            None => false,
-        };
-        if question.query.keywords == 0 || !is_bounded || !question.filters.is_empty() {
-            Pace::RowsAlone
+        if question.query.keywords == 0 || !question.filters.is_empty() {
+            return Pace::RowsAlone;
+        }
+        let weighed = ToldWeight::of(asked, stream).is_exact();
+        if weighed || is_bounded(&question.ranker) {
+            Pace::Rows {
+                looked_at: 0,
+                weighed,
+            }
         } else {
-            Pace::Rows { looked_at: 0 }
+            Pace::RowsAlone
         }
     }
 
-    /// Whether to go over many rows from this one on: where some of them are only counted.
+    /// Whether to go over many rows from this one on: where they are weighed by what is told of them, or some are only counted.
     #[inline(always)]
     fn is_by_windows<C: Chunk, S: Sink>(&mut self, chunk: &C, number: u32, sink: &S) -> bool
         requires { number < length (C.content chunk.now) }
@@ -56,13 +61,13 @@ impl Pace {
         match *self {
             Pace::Windows => true,
             Pace::RowsAlone => false,
-            Pace::Rows { looked_at } => {
+            Pace::Rows { looked_at, weighed } => {
                 let looked_at = looked_at.saturating_add(1);
-                *self = Pace::Rows { looked_at };
+                *self = Pace::Rows { looked_at, weighed };
                 if looked_at % TRIED != 0 || number / APART > looked_at {
                     return false;
                 }
-                if !sink.only_counts(0, chunk.id(number)) {
+                if !weighed && !sink.only_counts(0, chunk.id(number)) {
                     return false;
                 }
                 *self = Pace::Windows;
@@ -73,10 +78,10 @@ impl Pace {
 }
 
 /// Whether something is known of what a row weighs at most by its words.
-fn has_bounds(ranker: Ranker) -> bool {
-    match ranker {
-        Ranker::None | Ranker::Proximity | Ranker::FieldMask => true,
-        Ranker::MatchAny | Ranker::WordCount => false,
+fn is_bounded(ranking: &Ranking) -> bool {
+    match ranking.plain() {
+        Some(Ranker::None | Ranker::Proximity | Ranker::FieldMask) => true,
+        Some(Ranker::MatchAny | Ranker::WordCount) | None => false,
     }
 }
 

@@ -134,7 +134,7 @@ fn collect_layer<L: Ledger, C: HitLists, S: Sink>(
     let mut stream = Matches::over(asked.alloc, &asked.question.query, &counted, dead)?;
     let mut listed = ListedRows::over(&counted, &asked.conditions);
     let mut most = most_of_all(asked);
-    let mut pace = Pace::of(asked);
+    let mut pace = Pace::of(asked, &stream);
     let mut at = 0;
     'rows: while let Some(number) = next_row(asked, &mut stream, &mut listed, &counted, at) {
         let done = count_rest(asked, &counted, dead, number, &mut most, sink, steps)?;
@@ -307,7 +307,7 @@ fn weight_by_fields<C: CountedLists>(
 
 /// Whether each document that matches weighs 1, whatever hits it has: by the ranker that looks at none, or since the query has no
 /// keyword.
-fn gives_one(asked: &ReadyQuestion<'_>) -> bool
+pub(crate) fn gives_one(asked: &ReadyQuestion<'_>) -> bool
     ensures { result ≡ true → GivesOne asked.now }
 {
     let question = asked.question;

@@ -1,20 +1,21 @@
 //! Rows that are looked at many at a time. Where the rows that a query finds lie close together, its words are gone over list by list for
 //! thousands of rows at once, which tells of each row whether it matches, how many of the keywords it has and in which fields: and so
-//! what it weighs at most. Rows of which the sink needs no more than their number are counted, others are asked the conditions and
-//! offered by that; a row's places are read only where its weight may matter.
-ghost use Rattle.std.specs.Prelude.{◌≡◌, ◌+◌, ◌<◌, ◌≤◌, ◌^◌, ℕ, List, AllPairs, IfOk, IfSome, OnOk, Some, None, true, false, length, slice_get};
+//! what it weighs at most, or what it weighs (`told_weights.rt`). Rows of which the sink needs no more than their number are counted,
+//! others are asked the conditions and offered by that; a row's places are read only where more than a bound of its weight matters.
+ghost use Rattle.std.specs.Prelude.{◌≡◌, ◌+◌, ◌<◌, ◌≤◌, ◌^◌, ℕ, List, [], AllPairs, IfOk, IfSome, OnOk, Some, None, true, false, length, slice_get};
 ghost use Rattle.doc_types.specs.declared.documents.DocRow.{DocRow};
 ghost use Rattle.row_flags.specs.Windows.{AreTold, IsTold};
 ghost use Rattle.row_flags.specs.declared.windows.Told.{Told as ToldValue};
-ghost use Rattle.doc_search.specs.steps.Gathering.{IsAskedOfDocs, WeighsUpTo};
-ghost use Rattle.doc_search.specs.steps.Windows.{Carries, IsRun, StopsIn, standing};
+ghost use Rattle.doc_search.specs.steps.Gathering.{IsAskedOfDocs, IsWeighed, WeighsUpTo};
+ghost use Rattle.doc_search.specs.steps.Windows.{Carries, IsRun, StopsIn, TellWeights, standing};
 
 use crate::by_words::{offer_at_most, positions_at_most};
 use crate::lacking::NoWeight;
 use crate::ready::ReadyQuestion;
 use crate::room::Room;
 use crate::scanning::passes;
-use crate::searching::{collect_row, lead};
+use crate::searching::{collect_row, lead, offer};
+use crate::told_weights::{ToldWeight, weight_told};
 use doc_types::{Chunk, CountedLists};
 use op_eval::Matches;
 use rankers::most_within;
@@ -49,10 +50,23 @@ pub(crate) fn collect_window<C: CountedLists, S: Sink>(
 {
     let size = (chunk.rows() - from).min(WINDOW);
     let query = &asked.question.query;
-    match told_rows(asked.alloc, query, chunk, dead, from, size, true, steps)? {
+    let weighs = ToldWeight::of(asked, stream);
+    let by_fields = weighs.looks_at_fields();
+    match told_rows(
+        asked.alloc,
+        query,
+        chunk,
+        dead,
+        from,
+        size,
+        by_fields,
+        steps,
+    )? {
         None => Ok(None),
         Some(told) => {
-            collect_told(asked, chunk, dead, from, &told, stream, room, sink, steps)?;
+            collect_told(
+                asked, chunk, dead, from, &told, weighs, stream, room, sink, steps,
+            )?;
             Ok(Some(from + size))
         }
     }
@@ -65,6 +79,7 @@ fn collect_told<C: CountedLists, S: Sink>(
     dead: &[u32],
     from: u32,
     told: &[Told],
+    weighs: ToldWeight,
     stream: &mut Matches<'_, C>,
     room: &mut Room,
     sink: &mut S,
@@ -74,6 +89,7 @@ fn collect_told<C: CountedLists, S: Sink>(
     requires rows { AllPairs (λ row later. row.doc.id < later.doc.id) (C.content chunk.now) }
     requires few { length (C.content chunk.now) < 2 ^ 32 }
     requires told { AreTold asked.now.query dead.now (C.content chunk.now) from told.now }
+    requires tells { TellWeights asked.now weighs (C.content chunk.now) from told.now }
     requires stands { stream.old ≡ standing asked.now (C.content chunk.now) dead.now from }
     ensures stands { OnOk result (stream.new ≡ standing asked.now (C.content chunk.now) dead.now (from + length told.now)) }
     ensures carries { OnOk result (Carries S.Took asked.now (C.content chunk.now) dead.now from (from + length told.now) sink.old sink.new) }
@@ -83,7 +99,7 @@ fn collect_told<C: CountedLists, S: Sink>(
     let mut stood = from;
     'told: while index < told.len() {
         index = collect_next(
-            asked, chunk, dead, from, told, index, &mut stood, stream, room, sink, steps,
+            asked, chunk, dead, from, told, index, weighs, &mut stood, stream, room, sink, steps,
         )?;
     }
     lead(stream, stood, from + told.len() as u32);
@@ -99,6 +115,7 @@ fn collect_next<C: CountedLists, S: Sink>(
     from: u32,
     told: &[Told],
     index: usize,
+    weighs: ToldWeight,
     stood: &mut u32,
     stream: &mut Matches<'_, C>,
     room: &mut Room,
@@ -109,6 +126,7 @@ fn collect_next<C: CountedLists, S: Sink>(
     requires rows { AllPairs (λ row later. row.doc.id < later.doc.id) (C.content chunk.now) }
     requires few { length (C.content chunk.now) < 2 ^ 32 }
     requires told { AreTold asked.now.query dead.now (C.content chunk.now) from told.now }
+    requires tells { TellWeights asked.now weighs (C.content chunk.now) from told.now }
     requires index { index < length told.now }
     requires before { stood.old ≤ from + index }
     requires stands { stream.old ≡ standing asked.now (C.content chunk.now) dead.now stood.old }
@@ -121,7 +139,7 @@ fn collect_next<C: CountedLists, S: Sink>(
     if !its.found {
         return Ok(index + 1);
     }
-    let offered = offer_told(asked, chunk, from, told, index, sink)?;
+    let offered = offer_told(asked, chunk, from, told, index, weighs, room, sink)?;
     match offered {
         Some(next) => Ok(next),
         None => {
@@ -134,9 +152,76 @@ fn collect_next<C: CountedLists, S: Sink>(
     }
 }
 
-/// Offers the row of this index, which is found, by the most that it weighs, or counts it with those behind it that weigh no more, and
-/// tells which row comes next. None where it matters what the row weighs: then nothing was done.
+/// Offers the row of this index, which is found, by what is told of it, or counts it with those behind it that weigh no more, and tells
+/// which row comes next. None where more matters of what the row weighs: then nothing was done.
 fn offer_told<C: Chunk, S: Sink>(
+    asked: &ReadyQuestion<'_>,
+    chunk: &C,
+    from: u32,
+    told: &[Told],
+    index: usize,
+    weighs: ToldWeight,
+    room: &mut Room,
+    sink: &mut S,
+) -> Result<Option<usize>, NoMemory>
+    requires asked { IsAskedOfDocs asked.now (C.content chunk.now) }
+    requires rows { AllPairs (λ row later. row.doc.id < later.doc.id) (C.content chunk.now) }
+    requires few { length (C.content chunk.now) < 2 ^ 32 }
+    requires told { (dead : List ℕ) × AreTold asked.now.query dead (C.content chunk.now) from told.now }
+    requires found { (its : ToldValue) → slice_get told.now index ≡ Some its → its.found ≡ true }
+    requires index { index < length told.now }
+    requires tells { TellWeights asked.now weighs (C.content chunk.now) from told.now }
+    ensures on { IfOk result (λ done. IfSome done (λ next. (index < next) × (next ≤ length told.now))) }
+    ensures carries { (dead : List ℕ) → AreTold asked.now.query dead (C.content chunk.now) from told.now → IfOk result (λ done. IfSome done (λ next. Carries S.Took asked.now (C.content chunk.now) dead (from + index) (from + next) sink.old sink.new)) }
+    ensures kept { IfOk result (λ done. done ≡ None → sink.new ≡ sink.old) }
+{
+    let number = from + index as u32;
+    let weight = weight_told(asked, chunk, number, weighs, told_at(told, index), room)?;
+    match weight {
+        Some(weight) => {
+            let next = offer_weighed(asked, chunk, from, told, index, weight, sink)?;
+            Ok(Some(next))
+        }
+        None => offer_bounded(asked, chunk, from, told, index, sink),
+    }
+}
+
+/// The same by the weight of the row.
+fn offer_weighed<C: Chunk, S: Sink>(
+    asked: &ReadyQuestion<'_>,
+    chunk: &C,
+    from: u32,
+    told: &[Told],
+    index: usize,
+    weight: u64,
+    sink: &mut S,
+) -> Result<usize, NoMemory>
+    requires asked { IsAskedOfDocs asked.now (C.content chunk.now) }
+    requires rows { AllPairs (λ row later. row.doc.id < later.doc.id) (C.content chunk.now) }
+    requires few { length (C.content chunk.now) < 2 ^ 32 }
+    requires told { (dead : List ℕ) × AreTold asked.now.query dead (C.content chunk.now) from told.now }
+    requires found { (its : ToldValue) → slice_get told.now index ≡ Some its → its.found ≡ true }
+    requires index { index < length told.now }
+    requires weighs { (doc : DocRow) → slice_get (C.content chunk.now) (from + index) ≡ Some doc → IsWeighed asked.now doc (Some (Some weight)) }
+    ensures on { IfOk result (λ next. (index < next) × (next ≤ length told.now)) }
+    ensures carries { (dead : List ℕ) → AreTold asked.now.query dead (C.content chunk.now) from told.now → IfOk result (λ next. Carries S.Took asked.now (C.content chunk.now) dead (from + index) (from + next) sink.old sink.new) }
+{
+    let counted = count_run(asked, chunk, from, told, index, weight, sink)?;
+    match counted {
+        Some(next) => Ok(next),
+        None => {
+            let number = from + index as u32;
+            if !passes(asked, chunk, number) {
+                return Ok(index + 1);
+            }
+            offer(asked, chunk, number, weight, sink)?;
+            Ok(index + 1)
+        }
+    }
+}
+
+/// The same by the most that the row weighs, if that is known.
+fn offer_bounded<C: Chunk, S: Sink>(
     asked: &ReadyQuestion<'_>,
     chunk: &C,
     from: u32,
@@ -154,15 +239,38 @@ fn offer_told<C: Chunk, S: Sink>(
     ensures carries { (dead : List ℕ) → AreTold asked.now.query dead (C.content chunk.now) from told.now → IfOk result (λ done. IfSome done (λ next. Carries S.Took asked.now (C.content chunk.now) dead (from + index) (from + next) sink.old sink.new)) }
     ensures kept { IfOk result (λ done. done ≡ None → sink.new ≡ sink.old) }
 {
-    let number = from + index as u32;
     match most_of(asked, told_at(told, index)) {
         None => Ok(None),
-        Some(most) => {
-            if asked.question.filters.is_empty() && sink.only_counts(most, chunk.id(number)) {
-                let (next, rows) = run_of(asked, told, index, most);
-                sink.count(rows)?;
-                return Ok(Some(next));
-            }
+        Some(most) => offer_within(asked, chunk, from, told, index, most, sink),
+    }
+}
+
+/// The same where the row weighs so much at most.
+fn offer_within<C: Chunk, S: Sink>(
+    asked: &ReadyQuestion<'_>,
+    chunk: &C,
+    from: u32,
+    told: &[Told],
+    index: usize,
+    most: u64,
+    sink: &mut S,
+) -> Result<Option<usize>, NoMemory>
+    requires asked { IsAskedOfDocs asked.now (C.content chunk.now) }
+    requires rows { AllPairs (λ row later. row.doc.id < later.doc.id) (C.content chunk.now) }
+    requires few { length (C.content chunk.now) < 2 ^ 32 }
+    requires told { (dead : List ℕ) × AreTold asked.now.query dead (C.content chunk.now) from told.now }
+    requires found { (its : ToldValue) → slice_get told.now index ≡ Some its → its.found ≡ true }
+    requires index { index < length told.now }
+    requires weighs { (doc : DocRow) → slice_get (C.content chunk.now) (from + index) ≡ Some doc → WeighsUpTo asked.now doc most }
+    ensures on { IfOk result (λ done. IfSome done (λ next. (index < next) × (next ≤ length told.now))) }
+    ensures carries { (dead : List ℕ) → AreTold asked.now.query dead (C.content chunk.now) from told.now → IfOk result (λ done. IfSome done (λ next. Carries S.Took asked.now (C.content chunk.now) dead (from + index) (from + next) sink.old sink.new)) }
+    ensures kept { IfOk result (λ done. done ≡ None → sink.new ≡ sink.old) }
+{
+    let counted = count_run(asked, chunk, from, told, index, most, sink)?;
+    match counted {
+        Some(next) => Ok(Some(next)),
+        None => {
+            let number = from + index as u32;
             if !passes(asked, chunk, number) {
                 return Ok(Some(index + 1));
             }
@@ -170,6 +278,37 @@ fn offer_told<C: Chunk, S: Sink>(
             Ok(if offered { Some(index + 1) } else { None })
         }
     }
+}
+
+/// Counts the row of this index, which is found and weighs no more than that, with those behind it that weigh no more either, where the
+/// sink needs only their number and no condition is asked; and tells which row comes next.
+fn count_run<C: Chunk, S: Sink>(
+    asked: &ReadyQuestion<'_>,
+    chunk: &C,
+    from: u32,
+    told: &[Told],
+    index: usize,
+    most: u64,
+    sink: &mut S,
+) -> Result<Option<usize>, NoMemory>
+    requires asked { IsAskedOfDocs asked.now (C.content chunk.now) }
+    requires rows { AllPairs (λ row later. row.doc.id < later.doc.id) (C.content chunk.now) }
+    requires few { length (C.content chunk.now) < 2 ^ 32 }
+    requires told { (dead : List ℕ) × AreTold asked.now.query dead (C.content chunk.now) from told.now }
+    requires found { (its : ToldValue) → slice_get told.now index ≡ Some its → its.found ≡ true }
+    requires index { index < length told.now }
+    requires weighs { asked.now.filters ≡ [] → (doc : DocRow) → slice_get (C.content chunk.now) (from + index) ≡ Some doc → WeighsUpTo asked.now doc most }
+    ensures on { IfOk result (λ done. IfSome done (λ next. (index < next) × (next ≤ length told.now))) }
+    ensures carries { (dead : List ℕ) → AreTold asked.now.query dead (C.content chunk.now) from told.now → IfOk result (λ done. IfSome done (λ next. Carries S.Took asked.now (C.content chunk.now) dead (from + index) (from + next) sink.old sink.new)) }
+    ensures kept { IfOk result (λ done. done ≡ None → sink.new ≡ sink.old) }
+{
+    let number = from + index as u32;
+    if asked.question.filters.is_empty() && sink.only_counts(most, chunk.id(number)) {
+        let (next, rows) = run_of(asked, told, index, most);
+        sink.count(rows)?;
+        return Ok(Some(next));
+    }
+    Ok(None)
 }
 
 /// The most that a row weighs that is found, by what is told of it. None where that isn't known, or a condition is on the weight.
