@@ -1,4 +1,4 @@
-use Rattle.std.proofs.Common.{◌≡◌, List, refl, sym, subst}
+use Rattle.std.proofs.Common.{List, refl, sym, subst}
 use Rattle.doc_types.specs.declared.schema.Value.{Value}
 use Rattle.word_rows.proofs.Opening.{row_there}
 use Rattle.doc_search.specs.declared.told_weights.ToldWeight.TheVariants as told_weights
@@ -6,7 +6,7 @@ use Rattle.doc_search.specs.declared.told_weights.ToldWeight.{ToldWeight}
 use Rattle.doc_search.specs.steps.Gathering.{AreValuesFor}
 use Rattle.doc_search.specs.steps.Windows.{TellsWeight}
 use Rattle.doc_search.proofs.ToldWeights.{if_weighed, some_field}
-use Rattle.doc_search.proofs.Weighing.{are_few, fields_weigh, weighs_one}
+use Rattle.doc_search.proofs.Weighing.{fields_weigh, weighs_one}
 use Rattle.doc_search.proofs.told_weights.weight_told.Goals as goal
 
 pub weigh_by_fields-requires-clause-looks : goal.weigh_by_fields-requires-clause-looks
