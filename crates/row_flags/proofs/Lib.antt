@@ -14,3 +14,5 @@ pub mod KeyTallies
 pub mod ToldFields
 -- what is known of rows
 pub mod ToldRows
+-- dead rows, which ascend, cut where a row would stand among them
+mod Ascending

@@ -1,5 +1,5 @@
 //! Flags joined with others, row by row, and how many are set.
-ghost use Rattle.std.specs.Prelude.{◌≡◌, ◌+◌, ◌<◌, ◌==◌, ℕ, Bool, ◌&&◌, ◌||◌, not, if◌then◌else◌, IfOk, length, slice_index_or};
+ghost use Rattle.std.specs.Prelude.{◌≡◌, ◌+◌, ◌<◌, ◌≤◌, ◌==◌, ℕ, Bool, ◌&&◌, ◌||◌, not, if◌then◌else◌, AllPairs, IfOk, length, slice_index_or};
 ghost use Rattle.std.specs.List.{count_by};
 ghost use Rattle.row_flags.specs.steps.Flags.{is_dead};
 
@@ -39,14 +39,35 @@ pub(crate) fn add(flags: &mut [bool], others: &[bool])
     }
 }
 
-/// Takes the flags of dead rows away, from those of the rows from one on.
+/// Takes the flags of dead rows away, from those of the rows from one on. Only the dead rows that lie there are gone over.
 pub(crate) fn bury(dead: &[u32], from: u32, flags: &mut [bool])
+    requires { AllPairs (λ row later. row < later) dead.now }
     ensures long { length flags.new ≡ length flags.old }
     ensures each { (i : ℕ) (d : Bool) → i < length flags.old → slice_index_or flags.new i d ≡ (slice_index_or flags.old i d && not (is_dead dead.now (from + i))) }
 {
-    for row in dead {
+    let end = u64::from(from) + flags.len() as u64;
+    for row in dead_before(dead_from(dead, from), end) {
         bury_one(*row, from, flags);
     }
+}
+
+/// The dead rows from one on, of those that ascend.
+fn dead_from(dead: &[u32], from: u32) -> &[u32]
+    requires { AllPairs (λ row later. row < later) dead.now }
+    ensures ascend { AllPairs (λ row later. row < later) result.now }
+    ensures same { (row : ℕ) → from ≤ row → is_dead result.now row ≡ is_dead dead.now row }
+{
+    let first = dead.partition_point(|row| *row < from);
+    &dead[first..]
+}
+
+/// The dead rows before one, of those that ascend.
+fn dead_before(dead: &[u32], end: u64) -> &[u32]
+    requires { AllPairs (λ row later. row < later) dead.now }
+    ensures { (row : ℕ) → row < end → is_dead result.now row ≡ is_dead dead.now row }
+{
+    let count = dead.partition_point(|row| u64::from(*row) < end);
+    &dead[..count]
 }
 
 /// Takes the flag of one row away.

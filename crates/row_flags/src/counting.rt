@@ -1,5 +1,5 @@
 //! How many rows match, by the flags of many rows at a time.
-ghost use Rattle.std.specs.Prelude.{◌≡◌, ◌+◌, ◌<◌, ◌≤◌, ◌^◌, IfOk, IfSome, length, true};
+ghost use Rattle.std.specs.Prelude.{◌≡◌, ◌+◌, ◌<◌, ◌≤◌, ◌^◌, AllPairs, IfOk, IfSome, length, true};
 ghost use Rattle.op_eval.specs.Streams.{matching_from};
 ghost use Rattle.op_eval.specs.steps.Wanted.{is_wanted, numbers_from};
 ghost use Rattle.row_flags.specs.steps.Flags.{AreLivingFlags};
@@ -24,7 +24,8 @@ pub fn count_from<C: CountedLists>(
     from: u32,
     steps: &mut Steps<C::Book>,
 ) -> Result<Option<u32>, NoMemory>
-    requires { from ≤ length (C.content chunk.now) }
+    requires within { from ≤ length (C.content chunk.now) }
+    requires ascend { AllPairs (λ row later. row < later) dead.now }
     ensures { IfOk result (λ told. IfSome told (λ count. count ≡ length (matching_from from query.now (C.content chunk.now) dead.now))) }
 {
     match &query.root {
@@ -42,7 +43,8 @@ fn count_rows<C: CountedLists>(
     from: u32,
     steps: &mut Steps<C::Book>,
 ) -> Result<Option<u32>, NoMemory>
-    requires { from ≤ length (C.content chunk.now) }
+    requires within { from ≤ length (C.content chunk.now) }
+    requires ascend { AllPairs (λ row later. row < later) dead.now }
     ensures { IfOk result (λ told. IfSome told (λ count. count ≡ length (numbers_from (is_wanted root.now dead.now) from (C.content chunk.now)))) }
 {
     let rows = chunk.rows();
@@ -69,7 +71,8 @@ fn count_window<C: CountedLists>(
     size: u32,
     steps: &mut Steps<C::Book>,
 ) -> Result<Option<u32>, NoMemory>
-    requires { from + size ≤ length (C.content chunk.now) }
+    requires within { from + size ≤ length (C.content chunk.now) }
+    requires ascend { AllPairs (λ row later. row < later) dead.now }
     ensures { IfOk result (λ told. IfSome told (λ count. count + length (numbers_from (is_wanted root.now dead.now) (from + size) (C.content chunk.now)) ≡ length (numbers_from (is_wanted root.now dead.now) from (C.content chunk.now)))) }
 {
     let mut flags = new_flags(alloc, size as usize)?;
@@ -88,6 +91,7 @@ fn count_flagged<C: CountedLists>(
 ) -> Result<Option<u32>, NoMemory>
     requires within { from + length flags.old ≤ length (C.content chunk.now) }
     requires few { length flags.old < 2 ^ 32 }
+    requires ascend { AllPairs (λ row later. row < later) dead.now }
     ensures { IfOk result (λ told. IfSome told (λ count. count + length (numbers_from (is_wanted root.now dead.now) (from + length flags.old) (C.content chunk.now)) ≡ length (numbers_from (is_wanted root.now dead.now) from (C.content chunk.now)))) }
 {
     if !flag_living(alloc, root, chunk, dead, from, flags, steps)? {
@@ -107,7 +111,8 @@ pub(crate) fn flag_living<C: CountedLists>(
     into: &mut [bool],
     steps: &mut Steps<C::Book>,
 ) -> Result<bool, NoMemory>
-    requires { from + length into.old ≤ length (C.content chunk.now) }
+    requires within { from + length into.old ≤ length (C.content chunk.now) }
+    requires ascend { AllPairs (λ row later. row < later) dead.now }
     ensures long { length into.new ≡ length into.old }
     ensures flags { IfOk result (λ told. told ≡ true → AreLivingFlags root.now dead.now (C.content chunk.now) from into.new) }
 {

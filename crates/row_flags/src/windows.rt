@@ -1,6 +1,6 @@
 //! What is known of many rows at a time by the words of a query alone: which of them match, how many of its keywords have their words
 //! in each, and in which fields its hits lie.
-ghost use Rattle.std.specs.Prelude.{◌≡◌, ◌+◌, ◌≤◌, Some, IfOk, IfSome, length, map, true};
+ghost use Rattle.std.specs.Prelude.{◌≡◌, ◌+◌, ◌<◌, ◌≤◌, Some, AllPairs, IfOk, IfSome, length, map, true};
 ghost use Rattle.query_tree.specs.declared.query.Query.{Query as QueryValue};
 ghost use Rattle.op_eval.specs.Fields.{GoesByFields};
 ghost use Rattle.row_flags.specs.Windows.{AreFieldsTold, AreTold};
@@ -38,7 +38,8 @@ pub fn told_rows<C: CountedLists>(
     by_fields: bool,
     steps: &mut Steps<C::Book>,
 ) -> Result<Option<Vec<Told>>, NoMemory>
-    requires { from + size ≤ length (C.content chunk.now) }
+    requires within { from + size ≤ length (C.content chunk.now) }
+    requires ascend { AllPairs (λ row later. row < later) dead.now }
     ensures told { IfOk result (λ told. IfSome told (λ rows. AreTold query.now dead.now (C.content chunk.now) from rows.items)) }
     ensures exact { by_fields ≡ true → GoesByFields query.now → IfOk result (λ told. IfSome told (λ rows. AreFieldsTold query.now (C.content chunk.now) from rows.items)) }
     ensures long { IfOk result (λ told. IfSome told (λ rows. length rows.items ≡ size)) }
@@ -60,7 +61,8 @@ fn told_by_tree<C: CountedLists>(
     by_fields: bool,
     steps: &mut Steps<C::Book>,
 ) -> Result<Option<Vec<Told>>, NoMemory>
-    requires { from + size ≤ length (C.content chunk.now) }
+    requires within { from + size ≤ length (C.content chunk.now) }
+    requires ascend { AllPairs (λ row later. row < later) dead.now }
     ensures told { (query : QueryValue) → query.root ≡ Some root.now → IfOk result (λ told. IfSome told (λ rows. AreTold query dead.now (C.content chunk.now) from rows.items)) }
     ensures exact { (query : QueryValue) → query.root ≡ Some root.now → by_fields ≡ true → GoesByFields query → IfOk result (λ told. IfSome told (λ rows. AreFieldsTold query (C.content chunk.now) from rows.items)) }
     ensures long { IfOk result (λ told. IfSome told (λ rows. length rows.items ≡ size)) }
@@ -80,7 +82,8 @@ fn told_by_flags<C: CountedLists>(
     flags: &mut [bool],
     steps: &mut Steps<C::Book>,
 ) -> Result<Option<Vec<Told>>, NoMemory>
-    requires { from + length flags.old ≤ length (C.content chunk.now) }
+    requires within { from + length flags.old ≤ length (C.content chunk.now) }
+    requires ascend { AllPairs (λ row later. row < later) dead.now }
     ensures told { (query : QueryValue) → query.root ≡ Some root.now → IfOk result (λ told. IfSome told (λ rows. AreTold query dead.now (C.content chunk.now) from rows.items)) }
     ensures exact { (query : QueryValue) → query.root ≡ Some root.now → by_fields ≡ true → GoesByFields query → IfOk result (λ told. IfSome told (λ rows. AreFieldsTold query (C.content chunk.now) from rows.items)) }
     ensures long { IfOk result (λ told. IfSome told (λ rows. length rows.items ≡ length flags.old)) }

@@ -27,7 +27,7 @@ returns-clause-told g c = λ query is.
     (are_told query root is c.args.dead.now rows (g.met.C.Chunk.whole c.args.chunk.now) by_fields from flags after
     (long ∙ ap length first ∙ length-map flags (first_told by_fields))
     (subst (λ (told : List Told). AreTallied by_fields (node_keys root) rows from told after) first c.in_ok-tally_tree.ensures.tallied)
-    (omega (arith, c.in_ok-flag_living.ensures.long, c.requires))
+    (omega (arith, c.in_ok-flag_living.ensures.long, c.requires.within))
     (c.in_ok-flag_living.ensures.flags c.if-not-branch.false))
 
 pub returns-clause-exact : goal.returns-clause-exact
