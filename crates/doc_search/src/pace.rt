@@ -100,6 +100,7 @@ pub(crate) fn collect_some<C: CountedLists, S: Sink>(
 ) -> Result<u32, Or<NoWeight>>
     requires asked { IsAskedOfDocs asked.now (C.content chunk.now) }
     requires rows { AllPairs (λ row later. row.doc.id < later.doc.id) (C.content chunk.now) }
+    requires ascend { AllPairs (λ row later. row < later) dead.now }
     requires number { number < length (C.content chunk.now) }
     requires lives { list_any (λ d. d == number) dead.now ≡ false }
     requires stands { stream.old ≡ standing asked.now (C.content chunk.now) dead.now number }

@@ -83,6 +83,7 @@ pub(crate) fn count_rest<C: CountedLists, S: Sink>(
     requires asked { IsAskedOfDocs asked.now (C.content chunk.now) }
     requires number { number < length (C.content chunk.now) }
     requires rows { AllPairs (λ row later. row.doc.id < later.doc.id) (C.content chunk.now) }
+    requires ascend { AllPairs (λ row later. row < later) dead.now }
     requires most { IfSome most.old (WeighNoMore asked.now (C.content chunk.now)) }
     ensures most { IfSome most.new (WeighNoMore asked.now (C.content chunk.now)) }
     ensures counted { (first : S) (before left : List DocRow) → AllZip (λ n doc. slice_get (C.content chunk.now) n ≡ Some doc) (matching_from number asked.now.query (C.content chunk.now) dead.now) left → All (λ doc. matches asked.now.query doc ≡ true) left → Gathers S.Took asked.now first before sink.old → IfOk result (λ counted. counted ≡ true → Gathers S.Took asked.now first (before ++ left) sink.new) }

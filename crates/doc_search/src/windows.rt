@@ -40,6 +40,7 @@ pub(crate) fn collect_window<C: CountedLists, S: Sink>(
 ) -> Result<Option<u32>, Or<NoWeight>>
     requires asked { IsAskedOfDocs asked.now (C.content chunk.now) }
     requires rows { AllPairs (λ row later. row.doc.id < later.doc.id) (C.content chunk.now) }
+    requires ascend { AllPairs (λ row later. row < later) dead.now }
     requires from { from < length (C.content chunk.now) }
     requires stands { stream.old ≡ standing asked.now (C.content chunk.now) dead.now from }
     ensures none { IfOk result (λ told. told ≡ None → (stream.new ≡ stream.old) × (sink.new ≡ sink.old)) }

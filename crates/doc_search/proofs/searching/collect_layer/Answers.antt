@@ -2,7 +2,7 @@ use Rattle.std.proofs.Common.{◌≡◌, ◌∙◌, ◌<◌, ℕ, List, IfSome, 
 use Rattle.std.specs.List.{AllZip}
 use Rattle.std.specs.Prelude.{AllPairs}
 use Rattle.doc_types.specs.declared.documents.DocRow.{DocRow}
-use Rattle.doc_types.specs.Snapshots.{LayerValue, living}
+use Rattle.doc_types.specs.Snapshots.{IsLayer, LayerValue, living}
 use Rattle.op_eval.specs.Streams.{Stream, matching_from}
 use Rattle.doc_search.specs.declared.question.Question.{Question}
 use Rattle.doc_search.specs.steps.Gathering.{IsAskedOfDocs, IsOnWay, WeighNoMore}
@@ -55,6 +55,18 @@ next_row-requires-clause-rows g c =
     let docs : g.C.Chunk.content c.over-counted.result.chunk.now ≡ c.args.layer.now.rows =
     ap g.C.Chunk.content (c.over-counted.ensures ∙ c.deref-chunk.ensures) ∙ ap (λ (its : LayerValue). its.rows) c.layer.view_is in
     subst (λ (rows : List DocRow). AllPairs (λ row later. row.doc.id < later.doc.id) rows) (sym docs) c.requires.rows.ids
+
+pub count_rest-requires-clause-ascend : goal.count_rest-requires-clause-ascend
+count_rest-requires-clause-ascend g c =
+    let dead : c.as_slice-dead.result.now ≡ c.args.layer.now.dead = c.as_slice-dead.ensures ∙ c.deref.ensures ∙ ap (λ (its : LayerValue). its.dead) c.layer.view_is in
+    let is : IsLayer c.args.layer.now = subst IsLayer c.layer.view_is c.layer.invariant in
+    subst (λ (gone : List ℕ). AllPairs (λ row later. row < later) gone) (sym dead) is.ascend
+
+pub collect_some-requires-clause-ascend : goal.collect_some-requires-clause-ascend
+collect_some-requires-clause-ascend g c =
+    let dead : c.as_slice-dead.result.now ≡ c.args.layer.now.dead = c.as_slice-dead.ensures ∙ c.deref.ensures ∙ ap (λ (its : LayerValue). its.dead) c.layer.view_is in
+    let is : IsLayer c.args.layer.now = subst IsLayer c.layer.view_is c.layer.invariant in
+    subst (λ (gone : List ℕ). AllPairs (λ row later. row < later) gone) (sym dead) is.ascend
 
 pub collect_some-requires-clause-number : goal.collect_some-requires-clause-number
 collect_some-requires-clause-number g c =
